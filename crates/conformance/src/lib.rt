@@ -1,0 +1,17 @@
+//! Tests over all the libraries: texts, charts and what is written of them.
+#![tactic(auto)]
+
+#[cfg(test)]
+mod broken_reader;
+#[cfg(test)]
+mod broken_writer;
+#[cfg(test)]
+mod devices;
+#[cfg(test)]
+mod reader;
+#[cfg(test)]
+mod rows;
+#[cfg(test)]
+mod texts;
+#[cfg(test)]
+mod times;

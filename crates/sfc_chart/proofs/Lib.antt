@@ -1,0 +1,3 @@
+pub mod TableLemmas
+pub mod Checks
+pub mod Soundness

@@ -1,0 +1,9 @@
+pub mod Names
+pub mod Values
+pub mod Meaning
+pub mod PlantView
+pub mod Finding
+pub mod Loading
+pub mod Built
+pub mod Parts
+pub mod Chart

@@ -1,0 +1,68 @@
+//! Names in declared order, found by their capitals.
+
+use indexmap::IndexSet;
+use std::alloc::{AllocError, Global};
+use std::marker::Model;
+
+/// The names of one name space in capitals, in the order in which they were declared. No name stands twice.
+#[derive(Drop)]
+pub struct NameTable {
+    names: IndexSet<Vec<u8>>,
+}
+
+impl Model for NameTable {
+    ghost use Rattle.std.specs.Prelude.{List, ℕ, map};
+
+    ghost Value = { List (List ℕ) };
+
+    ghost view = { λ table. map (λ name. name.items) table.names.keys };
+}
+
+ghost use Rattle.std.specs.Prelude.{◌≡◌, ◌<◌, ◌++◌, ◌∷◌, [], not, length, IfOk, IfSome, OnErr, if◌then◌else◌};
+ghost use Rattle.sfc_chart.specs.Names.{upper, place_of, has};
+
+impl NameTable {
+    /// A table without names. It takes no memory yet.
+    pub fn new(alloc: Global) -> NameTable
+        ensures { result ≡ [] }
+    {
+        NameTable {
+            names: IndexSet::new(alloc),
+        }
+    }
+
+    /// Puts a name in capitals last, and answers true; or leaves the table as it was where the name is there, and
+    /// answers false. After want of memory the table is as it was.
+    pub fn add(&mut self, name: Vec<u8>) -> Result<bool, AllocError>
+        ensures added { IfOk result (λ added. added ≡ not (has self.old name.items)) }
+        ensures names { IfOk result (λ added. self.new ≡ (if added then self.old ++ name.items ∷ [] else self.old)) }
+        ensures err { OnErr result (self.new ≡ self.old) }
+    {
+        let (_, added) = self.names.insert_full(name)?;
+        Ok(added)
+    }
+
+    /// The place of a name, which is given in capitals, counted from 0. It takes no memory.
+    pub fn find(&self, name: &[u8]) -> Option<usize>
+        ensures place { result ≡ place_of name.now self.now }
+        ensures within { IfSome result (λ place. place < length self.now) }
+    {
+        self.names.get_index_of(name)
+    }
+
+    /// How many names there are.
+    pub fn len(&self) -> usize
+        ensures { result ≡ length self.now }
+    {
+        self.names.len()
+    }
+}
+
+/// A name in capitals.
+pub fn upper_case(alloc: Global, name: &[u8]) -> Result<Vec<u8>, AllocError>
+    ensures { IfOk result (λ capitals. capitals.items ≡ upper name.now) }
+{
+    name.iter()
+        .map(|byte| byte.to_ascii_uppercase())
+        .collect(alloc)
+}

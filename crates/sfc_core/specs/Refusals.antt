@@ -1,0 +1,26 @@
+-- The numbers and names of refusals (our choice).
+use Rattle.std.specs.Prelude.{ℕ, List, codes}
+use Rattle.sfc_core.specs.declared.refusal.Refusal.{Refusal}
+use Rattle.sfc_core.specs.declared.refusal.Refusal.TheVariants.{InstantRange, ClockBack, UnknownTask, UnknownProgram, UnknownVar, ValueType, NotInput, NotDue, Yield}
+
+abbrev pub number_of : Refusal → ℕ
+number_of UnknownVar = 24
+number_of ValueType = 25
+number_of NotInput = 26
+number_of ClockBack = 28
+number_of (NotDue next) = 29
+number_of (Yield task) = 30
+number_of UnknownTask = 31
+number_of UnknownProgram = 32
+number_of InstantRange = 33
+
+abbrev pub name_of : Refusal → List ℕ
+name_of UnknownVar = codes "UnknownVar"
+name_of ValueType = codes "ValueType"
+name_of NotInput = codes "NotInput"
+name_of ClockBack = codes "ClockBack"
+name_of (NotDue next) = codes "NotDue"
+name_of (Yield task) = codes "Yield"
+name_of UnknownTask = codes "UnknownTask"
+name_of UnknownProgram = codes "UnknownProgram"
+name_of InstantRange = codes "InstantRange"

@@ -1,0 +1,75 @@
+//! Why an event is refused.
+
+ghost use Rattle.std.specs.Prelude.{◌≡◌};
+ghost use Rattle.sfc_core.specs.Refusals.{number_of, name_of};
+
+use sfc_chart::ids::TaskId;
+use thiserror::Error;
+
+/// Why an event is refused, in the order in which the reasons are looked for (our choice).
+#[derive(Clone, Copy, Debug, PartialEq, Eq, Error)]
+pub enum Refusal {
+    /// The instant is below 0 or above 2^62 microseconds.
+    #[error("refused 33 InstantRange")]
+    InstantRange,
+    /// The instant is before that of the latest accepted event.
+    #[error("refused 28 ClockBack")]
+    ClockBack,
+    /// There is no such task.
+    #[error("refused 31 UnknownTask")]
+    UnknownTask,
+    /// There is no such program instance.
+    #[error("refused 32 UnknownProgram")]
+    UnknownProgram,
+    /// There is no such variable.
+    #[error("refused 24 UnknownVar")]
+    UnknownVar,
+    /// The value is not of the variable's type.
+    #[error("refused 25 ValueType")]
+    ValueType,
+    /// The variable is not located at an input.
+    #[error("refused 26 NotInput")]
+    NotInput,
+    /// No release of the task waits for a scan. The next one by its interval is at this instant, if there is one.
+    #[error("refused 29 NotDue")]
+    NotDue(Option<i64>),
+    /// This other task goes first.
+    #[error("refused 30 Yield")]
+    Yield(TaskId),
+}
+
+impl Refusal {
+    /// The number that stands for it in messages.
+    pub fn number(self) -> u8
+        ensures { result ≡ number_of self }
+    {
+        match self {
+            Refusal::UnknownVar => 24,
+            Refusal::ValueType => 25,
+            Refusal::NotInput => 26,
+            Refusal::ClockBack => 28,
+            Refusal::NotDue(_) => 29,
+            Refusal::Yield(_) => 30,
+            Refusal::UnknownTask => 31,
+            Refusal::UnknownProgram => 32,
+            Refusal::InstantRange => 33,
+        }
+    }
+
+    /// The name that stands for it in messages.
+    pub fn name(self) -> &'static str
+        ensures { result.now ≡ name_of self }
+    {
+        match self {
+            Refusal::UnknownVar => "UnknownVar",
+            Refusal::ValueType => "ValueType",
+            Refusal::NotInput => "NotInput",
+            Refusal::ClockBack => "ClockBack",
+            Refusal::NotDue(_) => "NotDue",
+            Refusal::Yield(_) => "Yield",
+            Refusal::UnknownTask => "UnknownTask",
+            Refusal::UnknownProgram => "UnknownProgram",
+            Refusal::InstantRange => "InstantRange",
+        }
+    }
+}

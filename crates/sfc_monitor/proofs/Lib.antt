@@ -1,0 +1,8 @@
+pub mod Appended
+pub mod Splits
+pub mod Said
+pub mod Playing
+pub mod Taken
+pub mod Single
+pub mod Refused
+pub mod Replayed

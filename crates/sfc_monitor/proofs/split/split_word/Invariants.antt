@@ -1,0 +1,10 @@
+use Rattle.std.proofs.Common.{◌≡◌, ◌++◌, take, drop}
+use Rattle.sfc_monitor.specs.Script.{is_blank}
+use Rattle.sfc_monitor.specs.Splitting.{split_before}
+use Rattle.sfc_monitor.proofs.split.split_word.Given as goal
+
+abbrev pub invariant-all : goal.invariant-all
+invariant-all l = record {
+  place : l.count ≡ l.byte-index;
+  split : split_before is_blank l.bytes ≡ (take l.count l.bytes ++ (split_before is_blank (drop l.count l.bytes)).0, (split_before is_blank (drop l.count l.bytes)).1);
+}

@@ -1,0 +1,10 @@
+pub mod Lists
+pub mod Script
+pub mod ScriptReading
+pub mod Playing
+pub mod Reading
+pub mod Replay
+pub mod Faults
+pub mod MonitorErrors
+pub mod Splitting
+pub mod Output

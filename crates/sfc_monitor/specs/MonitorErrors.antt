@@ -1,0 +1,35 @@
+-- What each fault becomes, and the exit status of each (our choice).
+use Rattle.std.specs.Prelude.{ℕ}
+use Rattle.sfc_text.specs.declared.read_error.ReadError.{ReadError}
+use Rattle.sfc_text.specs.declared.read_error.ReadErrorKind.{ReadErrorKind}
+use Rattle.sfc_text.specs.declared.read_error.ReadErrorKind.TheVariants as kind
+use Rattle.sfc_chart.specs.declared.load_error.LoadError.{LoadError}
+use Rattle.sfc_chart.specs.declared.load_error.LoadError.TheVariants as load
+use Rattle.sfc_monitor.specs.declared.script.ScriptError.{ScriptError}
+use Rattle.sfc_monitor.specs.declared.script.ScriptError.TheVariants as script
+use Rattle.sfc_monitor.specs.declared.monitor_error.ChartError.TheVariants as chart
+use Rattle.sfc_monitor.specs.declared.monitor_error.MonitorError.{MonitorError}
+use Rattle.sfc_monitor.specs.declared.monitor_error.MonitorError.TheVariants.{Chart, Script, Read, Write, Memory}
+
+abbrev pub of_script : ScriptError → MonitorError
+of_script (script.Faulty line) = Script line
+of_script script.Memory = Memory
+
+abbrev pub of_kind : ReadErrorKind → ReadError → MonitorError
+of_kind kind.Memory error = Memory
+of_kind _ error = Chart (chart.Read error)
+
+abbrev pub of_read : ReadError → MonitorError
+of_read error = of_kind error.kind error
+
+abbrev pub of_load : LoadError → MonitorError
+of_load load.Memory = Memory
+of_load error = Chart (chart.Load error)
+
+-- 1 where the input is refused, 3 where a device failed, 4 without memory
+abbrev pub status_of : MonitorError → ℕ
+status_of (Chart error) = 1
+status_of (Script line) = 1
+status_of Read = 3
+status_of Write = 3
+status_of Memory = 4

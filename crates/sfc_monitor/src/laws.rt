@@ -1,0 +1,13 @@
+//! What holds of the output itself.
+
+ghost use Rattle.std.specs.Prelude.{◌≡◌, ℕ, List};
+ghost use Rattle.sfc_monitor.specs.Replay.{IsOutput};
+
+use sfc_text::laws::one_reading;
+
+/// A chart and a script have one output.
+pub fn one_output()
+    ensures { (text script output other : List ℕ) → IsOutput text script output → IsOutput text script other → output ≡ other }
+{
+    one_reading();
+}

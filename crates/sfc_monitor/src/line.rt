@@ -1,0 +1,213 @@
+//! One line of a script.
+
+ghost use Rattle.std.specs.Prelude.{◌≡◌, IfOk};
+
+use crate::split::next_word;
+use sfc_chart::ids::{TaskId, VarId};
+use sfc_chart::name_table::upper_case;
+use sfc_chart::plant::Plant;
+use sfc_chart::value::Value;
+use sfc_core::Event;
+use sfc_text::duration::duration;
+use sfc_text::var_type::VarType;
+use std::alloc::{AllocError, Global};
+
+/// What a line of a script is.
+#[derive(Clone, Copy, Debug, PartialEq, Eq)]
+pub enum Line {
+    /// It has no words, or begins with a semicolon.
+    Skipped,
+    /// An event, and its instant in microseconds.
+    Command(Event, i64),
+    /// It is no command.
+    Faulty,
+}
+
+ghost use Rattle.sfc_monitor.specs.Script as script;
+
+// Whether the word is the keyword, in any case.
+fn is_word(alloc: Global, word: &[u8], keyword: &[u8]) -> Result<bool, AllocError>
+    ensures { IfOk result (λ same. same ≡ script.is_word word.now keyword.now) }
+{
+    let capitals = upper_case(alloc, word)?;
+    Ok(capitals.as_slice() == keyword)
+}
+
+// The task with this name; else a number that no plant has.
+fn task_of(alloc: Global, plant: &Plant, word: &[u8]) -> Result<TaskId, AllocError>
+    ensures { IfOk result (λ task. task ≡ script.task_of plant.now word.now) }
+{
+    let capitals = upper_case(alloc, word)?;
+    match plant.find_task(&capitals) {
+        Some(task) => Ok(task),
+        None => Ok(TaskId(255)),
+    }
+}
+
+// The variable with this name; else a number that no plant has.
+fn variable_of(alloc: Global, plant: &Plant, word: &[u8]) -> Result<VarId, AllocError>
+    ensures { IfOk result (λ id. id ≡ script.variable_of plant.now word.now) }
+{
+    let capitals = upper_case(alloc, word)?;
+    match plant.find_variable(&capitals) {
+        Some(id) => Ok(id),
+        None => Ok(VarId(65535)),
+    }
+}
+
+// The type of a variable, if there is one.
+fn type_of(plant: &Plant, id: VarId) -> Option<VarType>
+    ensures { result ≡ script.type_of plant.now id }
+{
+    match plant.variables().get(id.0 as usize) {
+        Some(variable) => Some(variable.var_type),
+        None => None,
+    }
+}
+
+// 0 or 1 as a value of this type; as a DINT where it is none of its values.
+fn bit_value(var_type: Option<VarType>, bit: bool) -> Value
+    ensures { result ≡ script.bit_value var_type bit }
+{
+    match var_type {
+        Some(VarType::Bool) => Value::Bool(bit),
+        Some(VarType::Int) => Value::Int(if bit { 1 } else { 0 }),
+        _ => Value::Dint(if bit { 1 } else { 0 }),
+    }
+}
+
+// 0 or 1, in decimal digits.
+fn bit_of(digits: &[u8]) -> Option<bool>
+    ensures { result ≡ script.bit_of digits.now }
+{
+    let mut rest = digits;
+    'digits: while let Some((digit, after)) = rest.split_first() {
+        if after.is_empty() {
+            return match digit {
+                b'0' => Some(false),
+                b'1' => Some(true),
+                _ => None,
+            };
+        }
+        if *digit != b'0' {
+            return None;
+        }
+        rest = after;
+    }
+    None
+}
+
+// 0 or 1, in decimal digits and with a minus or without.
+fn signed_bit_of(word: &[u8]) -> Option<bool>
+    ensures { result ≡ script.signed_bit_of word.now }
+{
+    let Some((sign, digits)) = word.split_first() else {
+        return None;
+    };
+    if *sign != b'-' {
+        return bit_of(word);
+    }
+    match bit_of(digits) {
+        Some(false) => Some(false),
+        _ => None,
+    }
+}
+
+// The value that the word is for a variable of this type: TRUE, FALSE, 0 or 1.
+fn value_said(
+    alloc: Global,
+    var_type: Option<VarType>,
+    word: &[u8],
+) -> Result<Option<Value>, AllocError>
+    ensures { IfOk result (λ value. value ≡ script.value_said var_type word.now) }
+{
+    if is_word(alloc, word, b"TRUE")? {
+        return Ok(Some(Value::Bool(true)));
+    }
+    if is_word(alloc, word, b"FALSE")? {
+        return Ok(Some(Value::Bool(false)));
+    }
+    match signed_bit_of(word) {
+        Some(bit) => Ok(Some(bit_value(var_type, bit))),
+        None => Ok(None),
+    }
+}
+
+fn scan_said(
+    alloc: Global,
+    plant: &Plant,
+    keyword: &[u8],
+    name: &[u8],
+) -> Result<Option<Event>, AllocError>
+    ensures { IfOk result (λ event. event ≡ script.scan_said plant.now keyword.now name.now) }
+{
+    if !is_word(alloc, keyword, b"SCAN")? {
+        return Ok(None);
+    }
+    let task = task_of(alloc, plant, name)?;
+    Ok(Some(Event::Scan(task)))
+}
+
+fn input_said(
+    alloc: Global,
+    plant: &Plant,
+    keyword: &[u8],
+    name: &[u8],
+    value: &[u8],
+) -> Result<Option<Event>, AllocError>
+    ensures { IfOk result (λ event. event ≡ script.input_said plant.now keyword.now name.now value.now) }
+{
+    if !is_word(alloc, keyword, b"INPUT")? {
+        return Ok(None);
+    }
+    let id = variable_of(alloc, plant, name)?;
+    match value_said(alloc, type_of(plant, id), value)? {
+        Some(value) => Ok(Some(Event::Input(id, value))),
+        None => Ok(None),
+    }
+}
+
+// The event that the words say: SCAN task, or INPUT variable value.
+fn event_said(alloc: Global, plant: &Plant, words: &[u8]) -> Result<Option<Event>, AllocError>
+    ensures { IfOk result (λ event. event ≡ script.event_said plant.now (script.words_of words.now)) }
+{
+    let Some((keyword, rest)) = next_word(words) else {
+        return Ok(None);
+    };
+    let Some((name, rest)) = next_word(rest) else {
+        return Ok(None);
+    };
+    let Some((value, rest)) = next_word(rest) else {
+        return scan_said(alloc, plant, keyword, name);
+    };
+    if next_word(rest).is_some() {
+        return Ok(None);
+    }
+    input_said(alloc, plant, keyword, name, value)
+}
+
+/// What a line of a script is, without its end.
+pub fn read_line(alloc: Global, plant: &Plant, line: &[u8]) -> Result<Line, AllocError>
+    ensures { IfOk result (λ read. read ≡ script.line_said plant.now (script.words_of line.now)) }
+{
+    let Some((instant, rest)) = next_word(line) else {
+        return Ok(Line::Skipped);
+    };
+    if begins_comment(instant) {
+        return Ok(Line::Skipped);
+    }
+    let event = event_said(alloc, plant, rest)?;
+    match (duration(instant), event) {
+        (Some(t), Some(event)) => Ok(Line::Command(event, t)),
+        _ => Ok(Line::Faulty),
+    }
+}
+
+fn begins_comment(word: &[u8]) -> bool
+    ensures { result ≡ script.begins_comment word.now }
+{
+    match word.first() {
+        Some(byte) => *byte == b';',
+        None => false,
+    }
+}

@@ -1,0 +1,104 @@
+//! Why a chart and a script were not played to their end.
+
+ghost use Rattle.std.specs.Prelude.{◌≡◌};
+ghost use Rattle.sfc_monitor.specs.declared.monitor_error.MonitorError.TheVariants.{Memory, Write as WriteVariant};
+ghost use Rattle.sfc_monitor.specs.MonitorErrors.{of_script, of_read, of_load, status_of};
+
+use crate::script::ScriptError;
+use sfc_chart::load_error::LoadError;
+use sfc_text::read_error::{ReadError, ReadErrorKind};
+use sfc_text::write_fault::WriteFault;
+use std::alloc::AllocError;
+use thiserror::Error;
+
+/// Why a chart was refused: by the reader, or by the loader.
+#[derive(Clone, Copy, Debug, PartialEq, Eq, Error)]
+pub enum ChartError {
+    #[error("{0}")]
+    Read(ReadError),
+    #[error("{0}")]
+    Load(LoadError),
+}
+
+/// Why a chart and a script were not played to their end. The text is the one for standard error.
+#[derive(Clone, Copy, Debug, PartialEq, Eq, Error)]
+pub enum MonitorError {
+    /// The chart is refused. Nothing was written.
+    #[error("{0}")]
+    Chart(ChartError),
+    /// The script is refused at this line, counted from 1, or for its length at 0. Nothing was written.
+    #[error("script line {0}")]
+    Script(usize),
+    /// A reader failed. Nothing was written.
+    #[error("read fault")]
+    Read,
+    /// The writer failed or took no byte. A front of the output was written.
+    #[error("write fault")]
+    Write,
+    /// Memory was refused. A front of the output was written.
+    #[error("out of memory")]
+    Memory,
+}
+
+impl MonitorError {
+    /// The exit status of a program that ends with it: 1 where chart or script is refused, 3 where a reader or the
+    /// writer failed, 4 where memory was refused.
+    pub fn status(self) -> u8
+        ensures { result ≡ status_of self }
+    {
+        match self {
+            MonitorError::Chart(_) | MonitorError::Script(_) => 1,
+            MonitorError::Read | MonitorError::Write => 3,
+            MonitorError::Memory => 4,
+        }
+    }
+}
+
+impl From<AllocError> for MonitorError {
+    ghost from_gives = { λ _ error. error ≡ Memory };
+
+    fn from(_error: AllocError) -> MonitorError {
+        MonitorError::Memory
+    }
+}
+
+impl From<WriteFault> for MonitorError {
+    ghost from_gives = { λ _ error. error ≡ WriteVariant };
+
+    fn from(_error: WriteFault) -> MonitorError {
+        MonitorError::Write
+    }
+}
+
+impl From<ScriptError> for MonitorError {
+    ghost from_gives = { λ error given. given ≡ of_script error };
+
+    fn from(error: ScriptError) -> MonitorError {
+        match error {
+            ScriptError::Faulty(line) => MonitorError::Script(line),
+            ScriptError::Memory => MonitorError::Memory,
+        }
+    }
+}
+
+impl From<ReadError> for MonitorError {
+    ghost from_gives = { λ error given. given ≡ of_read error };
+
+    fn from(error: ReadError) -> MonitorError {
+        match error.kind {
+            ReadErrorKind::Memory => MonitorError::Memory,
+            _ => MonitorError::Chart(ChartError::Read(error)),
+        }
+    }
+}
+
+impl From<LoadError> for MonitorError {
+    ghost from_gives = { λ error given. given ≡ of_load error };
+
+    fn from(error: LoadError) -> MonitorError {
+        match error {
+            LoadError::Memory => MonitorError::Memory,
+            _ => MonitorError::Chart(ChartError::Load(error)),
+        }
+    }
+}

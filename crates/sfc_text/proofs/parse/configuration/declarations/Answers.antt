@@ -1,0 +1,30 @@
+use Rattle.std.proofs.Common.{arith}
+use Rattle.std.proofs.lemmas.Result.{err_from_is_err_and}
+use Rattle.sfc_text.specs.Tokens.{kinds}
+use Rattle.sfc_text.specs.Reading.{all}
+use Rattle.sfc_text.specs.ConfigurationReading.{declaration}
+use Rattle.sfc_text.proofs.Lists.{starts, goes_on, fails, ends, length_kinds}
+use Rattle.sfc_text.proofs.Configurations.{declaration_shrinks}
+use Rattle.sfc_text.proofs.parse.configuration.declarations.Goals as goal
+
+pub all-init : goal.all-init
+all-init c = rw c.new-found.ensures.items (starts (all declaration (kinds c.args.tokens.now)))
+
+pub returns-in_err-declaration : goal.returns-in_err-declaration
+returns-in_err-declaration c =
+    let p = err_from_is_err_and c.from_residual.result c.from_residual.ensures.1 in
+    rw (p.1, p.2) (fails c.in_err-declaration.field-0.0 declaration c.all.found.items (kinds c.all.rest.now) (all declaration (kinds c.args.tokens.now)) c.in_err-declaration.ensures c.all.invariant)
+
+pub all-smaller : goal.all-smaller
+all-smaller c =
+    let lt = declaration_shrinks (kinds c.all.rest.now) (c.in-Some.declaration, kinds c.in-Some.behind.now) (rw c.in-Some.is at c.in_ok-declaration.ensures) in
+    let a = length_kinds c.all.rest.now in
+    let b = length_kinds c.in-Some.behind.now in
+    omega (arith, lt, a, b)
+
+pub all-preserved : goal.all-preserved
+all-preserved c =
+    rw c.in_ok-push.ensures.items (goes_on declaration declaration_shrinks c.all.found.items (kinds c.all.rest.now) (c.in-Some.declaration, kinds c.in-Some.behind.now) (all declaration (kinds c.args.tokens.now)) (rw c.in-Some.is at c.in_ok-declaration.ensures) c.all.invariant)
+
+pub returns : goal.returns
+returns c = ends declaration c.all.found.items (kinds c.all.rest.now) (all declaration (kinds c.args.tokens.now)) (rw c.in_default.is at c.in_ok-declaration.ensures) c.all.invariant

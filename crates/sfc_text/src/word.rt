@@ -1,0 +1,225 @@
+//! Words, in any case of their letters.
+
+ghost use Rattle.std.specs.Prelude.{◌≡◌, Option, Some, None};
+ghost use Rattle.sfc_text.specs.Names as names;
+ghost use Rattle.sfc_text.specs.Words as words;
+
+use crate::keyword::Keyword;
+
+/// The byte, as a capital letter where it is a letter.
+pub fn upper_byte(byte: u8) -> u8
+    ensures { result ≡ names.upper_byte byte }
+{
+    match byte {
+        b'a'..=b'z' => byte - 32,
+        _ => byte,
+    }
+}
+
+/// Whether the two are one word, but for case.
+#[tactic(auto, unfolding(crate::specs::Names::same_word))]
+pub fn is_same_word(left: &[u8], right: &[u8]) -> bool
+    ensures { result ≡ names.same_word left.now right.now }
+{
+    let mut left_rest = left;
+    let mut right_rest = right;
+    'all: while let Some((a, left_after)) = left_rest.split_first() {
+        let Some((b, right_after)) = right_rest.split_first() else {
+            return false;
+        };
+        if upper_byte(*a) != upper_byte(*b) {
+            return false;
+        }
+        left_rest = left_after;
+        right_rest = right_after;
+    }
+    right_rest.is_empty()
+}
+
+// The reserved word from ACTION to ELSE that the word is.
+#[tactic(auto, unfolding(crate::specs::Words::keyword_action_to_else))]
+fn keyword_action_to_else(word: &[u8]) -> Option<Keyword>
+    ensures { result ≡ words.keyword_action_to_else word.now }
+{
+    if is_same_word(word, b"ACTION") {
+        return Some(Keyword::Action);
+    }
+    if is_same_word(word, b"AND") {
+        return Some(Keyword::And);
+    }
+    if is_same_word(word, b"AT") {
+        return Some(Keyword::At);
+    }
+    if is_same_word(word, b"BOOL") {
+        return Some(Keyword::Bool);
+    }
+    if is_same_word(word, b"CONFIGURATION") {
+        return Some(Keyword::Configuration);
+    }
+    if is_same_word(word, b"DINT") {
+        return Some(Keyword::Dint);
+    }
+    if is_same_word(word, b"ELSE") {
+        return Some(Keyword::Else);
+    }
+    None
+}
+
+// The reserved word from ELSIF to END_STEP that the word is.
+#[tactic(auto, unfolding(crate::specs::Words::keyword_elsif_to_end_step))]
+fn keyword_elsif_to_end_step(word: &[u8]) -> Option<Keyword>
+    ensures { result ≡ words.keyword_elsif_to_end_step word.now }
+{
+    if is_same_word(word, b"ELSIF") {
+        return Some(Keyword::Elsif);
+    }
+    if is_same_word(word, b"END_ACTION") {
+        return Some(Keyword::EndAction);
+    }
+    if is_same_word(word, b"END_CONFIGURATION") {
+        return Some(Keyword::EndConfiguration);
+    }
+    if is_same_word(word, b"END_IF") {
+        return Some(Keyword::EndIf);
+    }
+    if is_same_word(word, b"END_PROGRAM") {
+        return Some(Keyword::EndProgram);
+    }
+    if is_same_word(word, b"END_RESOURCE") {
+        return Some(Keyword::EndResource);
+    }
+    if is_same_word(word, b"END_STEP") {
+        return Some(Keyword::EndStep);
+    }
+    None
+}
+
+// The reserved word from END_TRANSITION to INT that the word is.
+#[tactic(auto, unfolding(crate::specs::Words::keyword_end_transition_to_int))]
+fn keyword_end_transition_to_int(word: &[u8]) -> Option<Keyword>
+    ensures { result ≡ words.keyword_end_transition_to_int word.now }
+{
+    if is_same_word(word, b"END_TRANSITION") {
+        return Some(Keyword::EndTransition);
+    }
+    if is_same_word(word, b"END_VAR") {
+        return Some(Keyword::EndVar);
+    }
+    if is_same_word(word, b"FALSE") {
+        return Some(Keyword::False);
+    }
+    if is_same_word(word, b"FROM") {
+        return Some(Keyword::From);
+    }
+    if is_same_word(word, b"IF") {
+        return Some(Keyword::If);
+    }
+    if is_same_word(word, b"INITIAL_STEP") {
+        return Some(Keyword::InitialStep);
+    }
+    if is_same_word(word, b"INT") {
+        return Some(Keyword::Int);
+    }
+    None
+}
+
+// The reserved word from MOD to STEP that the word is.
+#[tactic(auto, unfolding(crate::specs::Words::keyword_mod_to_step))]
+fn keyword_mod_to_step(word: &[u8]) -> Option<Keyword>
+    ensures { result ≡ words.keyword_mod_to_step word.now }
+{
+    if is_same_word(word, b"MOD") {
+        return Some(Keyword::Mod);
+    }
+    if is_same_word(word, b"NOT") {
+        return Some(Keyword::Not);
+    }
+    if is_same_word(word, b"ON") {
+        return Some(Keyword::On);
+    }
+    if is_same_word(word, b"OR") {
+        return Some(Keyword::Or);
+    }
+    if is_same_word(word, b"PROGRAM") {
+        return Some(Keyword::Program);
+    }
+    if is_same_word(word, b"RESOURCE") {
+        return Some(Keyword::Resource);
+    }
+    if is_same_word(word, b"STEP") {
+        return Some(Keyword::Step);
+    }
+    None
+}
+
+// The reserved word from TASK to VAR that the word is.
+#[tactic(auto, unfolding(crate::specs::Words::keyword_task_to_var))]
+fn keyword_task_to_var(word: &[u8]) -> Option<Keyword>
+    ensures { result ≡ words.keyword_task_to_var word.now }
+{
+    if is_same_word(word, b"TASK") {
+        return Some(Keyword::Task);
+    }
+    if is_same_word(word, b"THEN") {
+        return Some(Keyword::Then);
+    }
+    if is_same_word(word, b"TIME") {
+        return Some(Keyword::Time);
+    }
+    if is_same_word(word, b"TO") {
+        return Some(Keyword::To);
+    }
+    if is_same_word(word, b"TRANSITION") {
+        return Some(Keyword::Transition);
+    }
+    if is_same_word(word, b"TRUE") {
+        return Some(Keyword::True);
+    }
+    if is_same_word(word, b"VAR") {
+        return Some(Keyword::Var);
+    }
+    None
+}
+
+// The reserved word from VAR_EXTERNAL to XOR that the word is.
+#[tactic(auto, unfolding(crate::specs::Words::keyword_var_external_to_xor))]
+fn keyword_var_external_to_xor(word: &[u8]) -> Option<Keyword>
+    ensures { result ≡ words.keyword_var_external_to_xor word.now }
+{
+    if is_same_word(word, b"VAR_EXTERNAL") {
+        return Some(Keyword::VarExternal);
+    }
+    if is_same_word(word, b"VAR_GLOBAL") {
+        return Some(Keyword::VarGlobal);
+    }
+    if is_same_word(word, b"WITH") {
+        return Some(Keyword::With);
+    }
+    if is_same_word(word, b"XOR") {
+        return Some(Keyword::Xor);
+    }
+    None
+}
+
+/// The reserved word that the word is, if it is one.
+#[tactic(auto, unfolding(crate::specs::Words::keyword_of))]
+pub fn keyword_of(word: &[u8]) -> Option<Keyword>
+    ensures { result ≡ words.keyword_of word.now }
+{
+    if let Some(keyword) = keyword_action_to_else(word) {
+        return Some(keyword);
+    }
+    if let Some(keyword) = keyword_elsif_to_end_step(word) {
+        return Some(keyword);
+    }
+    if let Some(keyword) = keyword_end_transition_to_int(word) {
+        return Some(keyword);
+    }
+    if let Some(keyword) = keyword_mod_to_step(word) {
+        return Some(keyword);
+    }
+    if let Some(keyword) = keyword_task_to_var(word) {
+        return Some(keyword);
+    }
+    keyword_var_external_to_xor(word)
+}

@@ -1,0 +1,78 @@
+//! The command line.
+
+use crate::files::end_with;
+use clap::error::ErrorKind;
+use clap::{Arg, Command, Error};
+use sfc_monitor::monitor_error::MonitorError;
+use std::alloc::{AllocError, Global};
+
+/// What the words ask for.
+#[derive(Drop)]
+pub enum Request {
+    /// A script to be played on a chart, by the names of their files.
+    Replay { chart: String, script: String },
+    /// The words were answered already: help, the version, or what is wrong with them. This exit status is left.
+    Answered(u8),
+}
+
+fn replay_command<'a>(alloc: Global) -> Result<Command<'a>, AllocError> {
+    let chart = Arg::new(alloc, "FILE")
+        .required(true)
+        .help("The chart, a text of IEC 61131-3");
+    let script = Arg::new(alloc, "SCRIPT").required(true).help(
+        "The script, lines of an instant and a command such as T#10ms SCAN Main",
+    );
+    Command::new(alloc, "replay")
+        .about("Plays a script on a chart and prints what each command answers")
+        .arg(chart)?
+        .arg(script)
+}
+
+fn sfcmon_command<'a>(alloc: Global) -> Result<Command<'a>, AllocError> {
+    let replay = replay_command(alloc)?;
+    Command::new(alloc, "sfcmon")
+        .version("0.1.0")
+        .about(
+            "Runs Sequential Function Charts (IEC 61131-3:2003) exactly as their definitions say",
+        )
+        .subcommand_required(true)
+        .arg_required_else_help(true)
+        .subcommand(replay)
+}
+
+fn parsed(alloc: Global, words: &[String]) -> Result<Option<(String, String)>, Error> {
+    let command = sfcmon_command(alloc)?;
+    let matches = command.try_get_matches_from(words)?;
+    let Some(replay) = matches.subcommand_matches("replay") else {
+        return Ok(None);
+    };
+    match (replay.get_str("FILE"), replay.get_str("SCRIPT")) {
+        (Some(chart), Some(script)) => {
+            let chart = String::from_str(alloc, chart)?;
+            let script = String::from_str(alloc, script)?;
+            Ok(Some((chart, script)))
+        }
+        _ => Ok(None),
+    }
+}
+
+// Prints what clap has to say; the exit status.
+fn answer<R: Print + Eprint>(rt: &R, error: &Error) -> u8 {
+    if error.kind() == ErrorKind::OutOfMemory {
+        return end_with(rt, MonitorError::Memory);
+    }
+    match error.print(rt) {
+        Ok(()) if error.use_stderr() => 2,
+        Ok(()) => 0,
+        Err(_) => 3,
+    }
+}
+
+/// What the words ask for; clap's text and status where they ask for help or the version, or are wrong.
+pub fn read_words<R: Print + Eprint + AllocGlobal>(rt: &R, words: &[String]) -> Request {
+    match parsed(rt.alloc(), words) {
+        Ok(Some((chart, script))) => Request::Replay { chart, script },
+        Ok(None) => Request::Answered(2),
+        Err(error) => Request::Answered(answer(rt, &error)),
+    }
+}

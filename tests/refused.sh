@@ -1,0 +1,47 @@
+#!/usr/bin/env bash
+# Runs the built sfcmon with its allocations, reads and writes failing one by one, and says what is not as it should be:
+# a refused allocation gives status 4, `out of memory` and a front of the output, or the undisturbed run; a refused read
+# status 3, `read fault` and no output; writes that fail after k bytes status 3, `write fault` and exactly those k bytes;
+# reads and writes of one byte change nothing. The last line is 'N passed, M failed'.
+set -u
+here=$(cd "$(dirname "${BASH_SOURCE[0]}")" && pwd)
+top=$(dirname "$here")
+"$top/sfcmon" --version >/dev/null || exit 1
+program=$top/crates/sfcmon/out/sfcmon
+work=$(mktemp -d)
+trap 'rm -rf "$work"' EXIT
+cc -O1 -shared -fPIC -o "$work/refuse.so" "$here/refuse.c" -ldl || exit 1
+chart=$top/examples/pump.chart script=$top/examples/pump.script whole=$top/examples/pump.expect
+passed=0 failed=0
+
+# run WORD..: the program with these settings; leaves out, err and status
+run() { env "$@" LD_PRELOAD="$work/refuse.so" "$program" replay "$chart" "$script" >"$work/out" 2>"$work/err"; status=$?; }
+is_front() { cmp -s -n "$(stat -c %s "$work/out")" "$work/out" "$whole"; }
+is_whole() { [ "$status" = 0 ] && cmp -s "$work/out" "$whole" && [ ! -s "$work/err" ]; }
+says() { [ "$(cat "$work/err")" = "$1" ]; }
+note() { if [ "$1" = 0 ]; then passed=$((passed + 1)); else failed=$((failed + 1)); echo "not as it should be: $2 (status $status)"; fi; }
+
+run SFC_COUNTS="$work/counts"
+is_whole; note $? "the undisturbed run"
+read -r allocations reads <"$work/counts"
+bytes=$(stat -c %s "$whole")
+
+for ((n = 1; n <= allocations; n++)); do
+  run SFC_REFUSE=alloc:$n
+  is_whole || { [ "$status" = 4 ] && says "out of memory" && is_front; }
+  note $? "allocation $n of $allocations refused"
+done
+for ((n = 1; n <= reads; n++)); do
+  run SFC_REFUSE=read:$n
+  [ "$status" = 3 ] && says "read fault" && [ ! -s "$work/out" ]
+  note $? "read $n of $reads refused"
+done
+for ((k = 0; k < bytes; k++)); do
+  run SFC_REFUSE=write:$k
+  [ "$status" = 3 ] && says "write fault" && [ "$(stat -c %s "$work/out")" = "$k" ] && is_front
+  note $? "writes that fail after $k of $bytes bytes"
+done
+run SFC_SHORT=1
+is_whole; note $? "reads and writes of one byte"
+echo "$passed passed, $failed failed"
+[ "$failed" = 0 ]
