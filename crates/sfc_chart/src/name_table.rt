@@ -19,7 +19,7 @@ impl Model for NameTable {
 }
 
 ghost use Rattle.std.specs.Prelude.{◌≡◌, ◌<◌, ◌++◌, ◌∷◌, [], not, length, IfOk, IfSome, OnErr, if◌then◌else◌};
-ghost use Rattle.sfc_chart.specs.Names.{upper, place_of, has};
+ghost use Rattle.sfc_chart.specs.Names.{place_of, has};
 
 impl NameTable {
     /// A table without names. It takes no memory yet.
@@ -56,13 +56,4 @@ impl NameTable {
     {
         self.names.len()
     }
-}
-
-/// A name in capitals.
-pub fn upper_case(alloc: Global, name: &[u8]) -> Result<Vec<u8>, AllocError>
-    ensures { IfOk result (λ capitals. capitals.items ≡ upper name.now) }
-{
-    name.iter()
-        .map(|byte| byte.to_ascii_uppercase())
-        .collect(alloc)
 }

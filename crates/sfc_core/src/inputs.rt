@@ -1,7 +1,7 @@
 //! Which values for variables are refused.
 
 ghost use Rattle.std.specs.Prelude.{◌≡◌, ◌<◌, length, None};
-ghost use Rattle.sfc_core.specs.Verdict.{is_input as is_input_location, input_refusal as refusal_of_input, same_type as is_same_type};
+ghost use Rattle.sfc_core.specs.Verdict.{is_input as is_input_location, input_refusal as refusal_of_input};
 ghost use Rattle.sfc_chart.specs.Values.{type_of};
 
 use crate::refusal::Refusal;
@@ -9,7 +9,6 @@ use sfc_chart::ids::VarId;
 use sfc_chart::plant::Variable;
 use sfc_chart::value::Value;
 use sfc_text::location::{Area, Location};
-use sfc_text::var_type::VarType;
 
 // Whether it is a location at %I.
 fn is_input(location: &Option<Location>) -> bool
@@ -21,19 +20,6 @@ fn is_input(location: &Option<Location>) -> bool
     }
 }
 
-// Whether the types are the same.
-fn same_type(a: VarType, b: VarType) -> bool
-    ensures { result ≡ is_same_type a b }
-{
-    matches!(
-        (a, b),
-        (VarType::Bool, VarType::Bool)
-            | (VarType::Int, VarType::Int)
-            | (VarType::Dint, VarType::Dint)
-            | (VarType::Time, VarType::Time)
-    )
-}
-
 // Why a value for a variable is refused: it is not there, of another type, or no input.
 pub fn input_refusal(variables: &[Variable], id: VarId, value: Value) -> Option<Refusal>
     ensures value { result ≡ refusal_of_input variables.now id value }
@@ -43,7 +29,7 @@ pub fn input_refusal(variables: &[Variable], id: VarId, value: Value) -> Option<
         return Some(Refusal::UnknownVar);
     }
     let variable = &variables[id.0 as usize];
-    if !same_type(value.var_type(), variable.var_type) {
+    if value.var_type() != variable.var_type {
         Some(Refusal::ValueType)
     } else if !is_input(&variable.location) {
         Some(Refusal::NotInput)

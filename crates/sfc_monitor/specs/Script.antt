@@ -3,6 +3,7 @@ use Rattle.std.specs.Prelude.{ℕ, suc, nat_lt, ◌==◌, Bool, true, false, ◌
 use Rattle.std.specs.Option.{option_map}
 use Rattle.sfc_text.specs.declared.var_type.VarType.{VarType}
 use Rattle.sfc_text.specs.declared.var_type.VarType.TheVariants as types
+use Rattle.sfc_text.specs.Case.{same_word}
 use Rattle.sfc_text.specs.DurationWord.{duration_value}
 use Rattle.sfc_chart.specs.declared.ids.VarId.{VarId}
 use Rattle.sfc_chart.specs.declared.ids.TaskId.{TaskId}
@@ -10,7 +11,7 @@ use Rattle.sfc_chart.specs.declared.value.Value.{Value}
 use Rattle.sfc_chart.specs.declared.value.Value.TheVariants as value
 use Rattle.sfc_chart.specs.Chart.{PlantData}
 use Rattle.sfc_chart.specs.Finding.{task_named, variable_named}
-use Rattle.sfc_chart.specs.Names.{upper, is_same}
+use Rattle.sfc_chart.specs.Names.{upper}
 use Rattle.sfc_core.specs.declared.event.Event.{Event}
 use Rattle.sfc_core.specs.declared.event.Event.TheVariants.{Scan, Input}
 use Rattle.sfc_core.specs.History.{Entry}
@@ -57,10 +58,6 @@ words_of (b ∷ bytes) = if is_blank b then words_of bytes else in_word b (begin
 
 -- ---- commands
 
--- the word is the keyword, in any case
-abbrev pub is_word : List ℕ → List ℕ → Bool
-is_word word keyword = is_same (upper word) keyword
-
 -- the task with this name; else a number that no plant has
 abbrev pub task_of : PlantData → List ℕ → TaskId
 task_of plant word = unwrap_or (task_named plant (upper word)) (record { 0 = 255 })
@@ -103,16 +100,16 @@ signed_bit_of (b ∷ digits) = if b == 45 then negated_bit (bit_of digits) else 
 -- TRUE, FALSE, 0 or 1 for a variable of this type
 abbrev pub value_said : Option VarType → List ℕ → Option Value
 value_said t word =
-    if is_word word (codes "TRUE") then Some (value.Bool true) else
-    if is_word word (codes "FALSE") then Some (value.Bool false) else
+    if same_word word (codes "TRUE") then Some (value.Bool true) else
+    if same_word word (codes "FALSE") then Some (value.Bool false) else
     option_map (bit_value t) (signed_bit_of word)
 
 abbrev pub scan_said : PlantData → List ℕ → List ℕ → Option Event
-scan_said plant keyword name = if is_word keyword (codes "SCAN") then Some (Scan (task_of plant name)) else None
+scan_said plant keyword name = if same_word keyword (codes "SCAN") then Some (Scan (task_of plant name)) else None
 
 abbrev pub input_said : PlantData → List ℕ → List ℕ → List ℕ → Option Event
 input_said plant keyword name value =
-    if is_word keyword (codes "INPUT")
+    if same_word keyword (codes "INPUT")
     then option_map (Input (variable_of plant name)) (value_said (type_of plant (variable_of plant name)) value)
     else None
 

@@ -4,10 +4,10 @@ ghost use Rattle.std.specs.Prelude.{◌≡◌, IfOk};
 
 use crate::split::next_word;
 use sfc_chart::ids::{TaskId, VarId};
-use sfc_chart::name_table::upper_case;
 use sfc_chart::plant::Plant;
 use sfc_chart::value::Value;
 use sfc_core::Event;
+use sfc_text::case::is_same_word;
 use sfc_text::duration::duration;
 use sfc_text::var_type::VarType;
 use std::alloc::{AllocError, Global};
@@ -25,19 +25,11 @@ pub enum Line {
 
 ghost use Rattle.sfc_monitor.specs.Script as script;
 
-// Whether the word is the keyword, in any case.
-fn is_word(alloc: Global, word: &[u8], keyword: &[u8]) -> Result<bool, AllocError>
-    ensures { IfOk result (λ same. same ≡ script.is_word word.now keyword.now) }
-{
-    let capitals = upper_case(alloc, word)?;
-    Ok(capitals.as_slice() == keyword)
-}
-
 // The task with this name; else a number that no plant has.
 fn task_of(alloc: Global, plant: &Plant, word: &[u8]) -> Result<TaskId, AllocError>
     ensures { IfOk result (λ task. task ≡ script.task_of plant.now word.now) }
 {
-    let capitals = upper_case(alloc, word)?;
+    let capitals = word.to_ascii_uppercase(alloc)?;
     match plant.find_task(&capitals) {
         Some(task) => Ok(task),
         None => Ok(TaskId(255)),
@@ -48,7 +40,7 @@ fn task_of(alloc: Global, plant: &Plant, word: &[u8]) -> Result<TaskId, AllocErr
 fn variable_of(alloc: Global, plant: &Plant, word: &[u8]) -> Result<VarId, AllocError>
     ensures { IfOk result (λ id. id ≡ script.variable_of plant.now word.now) }
 {
-    let capitals = upper_case(alloc, word)?;
+    let capitals = word.to_ascii_uppercase(alloc)?;
     match plant.find_variable(&capitals) {
         Some(id) => Ok(id),
         None => Ok(VarId(65535)),
@@ -114,25 +106,22 @@ fn signed_bit_of(word: &[u8]) -> Option<bool>
 }
 
 // The value that the word is for a variable of this type: TRUE, FALSE, 0 or 1.
-fn value_said(
-    alloc: Global,
-    var_type: Option<VarType>,
-    word: &[u8],
-) -> Result<Option<Value>, AllocError>
-    ensures { IfOk result (λ value. value ≡ script.value_said var_type word.now) }
+fn value_said(var_type: Option<VarType>, word: &[u8]) -> Option<Value>
+    ensures { result ≡ script.value_said var_type word.now }
 {
-    if is_word(alloc, word, b"TRUE")? {
-        return Ok(Some(Value::Bool(true)));
+    if is_same_word(word, b"TRUE") {
+        return Some(Value::Bool(true));
     }
-    if is_word(alloc, word, b"FALSE")? {
-        return Ok(Some(Value::Bool(false)));
+    if is_same_word(word, b"FALSE") {
+        return Some(Value::Bool(false));
     }
     match signed_bit_of(word) {
-        Some(bit) => Ok(Some(bit_value(var_type, bit))),
-        None => Ok(None),
+        Some(bit) => Some(bit_value(var_type, bit)),
+        None => None,
     }
 }
 
+// The scan that the words say, if the keyword is SCAN.
 fn scan_said(
     alloc: Global,
     plant: &Plant,
@@ -141,13 +130,14 @@ fn scan_said(
 ) -> Result<Option<Event>, AllocError>
     ensures { IfOk result (λ event. event ≡ script.scan_said plant.now keyword.now name.now) }
 {
-    if !is_word(alloc, keyword, b"SCAN")? {
+    if !is_same_word(keyword, b"SCAN") {
         return Ok(None);
     }
     let task = task_of(alloc, plant, name)?;
     Ok(Some(Event::Scan(task)))
 }
 
+// The input that the words say, if the keyword is INPUT.
 fn input_said(
     alloc: Global,
     plant: &Plant,
@@ -157,11 +147,11 @@ fn input_said(
 ) -> Result<Option<Event>, AllocError>
     ensures { IfOk result (λ event. event ≡ script.input_said plant.now keyword.now name.now value.now) }
 {
-    if !is_word(alloc, keyword, b"INPUT")? {
+    if !is_same_word(keyword, b"INPUT") {
         return Ok(None);
     }
     let id = variable_of(alloc, plant, name)?;
-    match value_said(alloc, type_of(plant, id), value)? {
+    match value_said(type_of(plant, id), value) {
         Some(value) => Ok(Some(Event::Input(id, value))),
         None => Ok(None),
     }
@@ -203,6 +193,7 @@ pub fn read_line(alloc: Global, plant: &Plant, line: &[u8]) -> Result<Line, Allo
     }
 }
 
+// Whether the word begins with a semicolon.
 fn begins_comment(word: &[u8]) -> bool
     ensures { result ≡ script.begins_comment word.now }
 {

@@ -9,7 +9,7 @@ use Rattle.sfc_text.specs.declared.tree.Declaration.{Declaration}
 use Rattle.sfc_text.specs.declared.tree.Instance.{Instance}
 use Rattle.sfc_text.specs.declared.tree.Task.{Task}
 use Rattle.sfc_text.specs.declared.var_type.VarType.TheVariants as types
-use Rattle.sfc_text.specs.Names.{same_word}
+use Rattle.sfc_text.specs.Case.{same_word}
 use Rattle.sfc_text.specs.Tokens.{Kinds}
 use Rattle.sfc_text.specs.Grammar as grammar
 use Rattle.sfc_text.specs.Grammar.{Many, Terminated, IsFurtherName, IsDeclaration, AreGlobals, IsTask, IsInstance, IsConfiguration}

@@ -1,5 +1,5 @@
 -- A word that is one duration.
-use Rattle.std.proofs.Common.{◌≡◌, ℕ, ℤ, ◌≤◌, Bool, true, false, cond, eqb, ◌&&◌, ◌||◌, List, [], ◌∷◌, ◌++◌, Option, Some, None, MatchOption, Ok, refl, sym, ap, subst, ◌∙◌, arith, codes, append_assoc}
+use Rattle.std.proofs.Common.{◌≡◌, ℕ, ℤ, ◌≤◌, Bool, true, false, cond, eqb, ◌==◌, ◌&&◌, ◌||◌, List, [], ◌∷◌, ◌++◌, Option, Some, None, MatchOption, Ok, refl, sym, ap, subst, ◌∙◌, arith, codes, append_assoc}
 use Rattle.std.proofs.lemmas.Bool.{eqb-true, ne_eqb}
 use Rattle.std.proofs.lemmas.Bool.Decides.{nat_tests}
 use Rattle.std.proofs.lemmas.List.{append-nil}
@@ -8,8 +8,9 @@ use Rattle.sfc_text.specs.declared.run.Alphabet.TheVariants as alphabet
 use Rattle.sfc_text.specs.declared.literal.LiteralKind.{LiteralKind}
 use Rattle.sfc_text.specs.declared.literal.LiteralKind.TheVariants as kind
 use Rattle.sfc_text.specs.declared.token.TokenKind.TheVariants as token
-use Rattle.sfc_text.specs.Classes.{class_of}
-use Rattle.sfc_text.specs.Names.{upper_byte, same_word}
+use Rattle.sfc_text.specs.Classes.{between, class_of}
+use Rattle.std.specs.Char.{to_ascii_uppercase}
+use Rattle.sfc_text.specs.Case.{same_word}
 use Rattle.sfc_text.specs.Runs.{is_in, has, AllIn, IsRun, run}
 use Rattle.sfc_text.specs.Durations as durations
 use Rattle.sfc_text.specs.Durations.{units, IsUnit, Interval, IsInterval}
@@ -27,9 +28,18 @@ use Rattle.sfc_text.proofs.WholeIntervals.{duration_again}
 
 -- ---- a prefix is letters
 
-letter_of : (b c : ℕ) → upper_byte b ≡ c → 65 ≤ c → c ≤ 90 → class_of b ≡ class.Letter
+small_or_capital : (b c : ℕ) → to_ascii_uppercase b ≡ c → 65 ≤ c → c ≤ 90 → (between 65 90 b || between 97 122 b) ≡ true
+small_or_capital b c e low high = grind (arith, nat_tests)
+
+spaced : (b : ℕ) → (between 65 90 b || between 97 122 b) ≡ true → (b == 32 || b == 9 || b == 13 || b == 10) ≡ false
+spaced b e = grind (arith, nat_tests)
+
+letter_at : (b : ℕ) → (between 65 90 b || between 97 122 b) ≡ true → class_of b ≡ class.Letter
 unfolding class_of
-letter_of b c e low high = grind (arith, nat_tests)
+letter_at b e = rw (spaced b e, e) refl
+
+letter_of : (b c : ℕ) → to_ascii_uppercase b ≡ c → 65 ≤ c → c ≤ 90 → class_of b ≡ class.Letter
+letter_of b c e low high = letter_at b (small_or_capital b c e low high)
 
 letter_in : (b : ℕ) → class_of b ≡ class.Letter → (has alphabet.Word b ≡ true) × (has alphabet.Interval b ≡ true)
 letter_in b e = (rw e refl, rw e refl)
@@ -38,11 +48,11 @@ abbrev AreCapital : List ℕ → Type 0
 AreCapital [] = Unit {0}
 AreCapital (c ∷ w) = (65 ≤ c) × (c ≤ 90) × AreCapital w
 
-head_same : (t : Bool) (b c : ℕ) (w v : List ℕ) → eqb (upper_byte b) (upper_byte c) ≡ t → t && same_word w v ≡ true → (upper_byte b ≡ upper_byte c) × (same_word w v ≡ true)
-head_same true b c w v h e = (eqb-true (upper_byte b) (upper_byte c) h, e)
+head_same : (t : Bool) (b c : ℕ) (w v : List ℕ) → eqb (to_ascii_uppercase b) (to_ascii_uppercase c) ≡ t → t && same_word w v ≡ true → (to_ascii_uppercase b ≡ to_ascii_uppercase c) × (same_word w v ≡ true)
+head_same true b c w v h e = (eqb-true (to_ascii_uppercase b) (to_ascii_uppercase c) h, e)
 head_same false b c w v h e = absurd cc
 
-capital_upper : (c : ℕ) → 65 ≤ c → c ≤ 90 → upper_byte c ≡ c
+capital_upper : (c : ℕ) → 65 ≤ c → c ≤ 90 → to_ascii_uppercase c ≡ c
 capital_upper c low high = grind (arith, nat_tests)
 
 spelled_letters : (w v : List ℕ) → same_word w v ≡ true → AreCapital v → AllIn alphabet.Word w
@@ -50,7 +60,7 @@ unfolding same_word
 spelled_letters [] v e cs = tt
 spelled_letters (b ∷ w) [] e cs = absurd cc
 spelled_letters (b ∷ w) (c ∷ v) e cs =
-    let h = head_same (eqb (upper_byte b) (upper_byte c)) b c w v refl e in
+    let h = head_same (eqb (to_ascii_uppercase b) (to_ascii_uppercase c)) b c w v refl e in
     let k = letter_of b c (h.0 ∙ capital_upper c cs.0 cs.1) cs.0 cs.1 in
     ((letter_in b k).0, spelled_letters w v h.1 cs.2)
 
@@ -58,7 +68,7 @@ spelled_starts : (w : List ℕ) (c : ℕ) (v : List ℕ) → same_word w (c ∷ 
 unfolding same_word
 spelled_starts [] c v e low high = absurd cc
 spelled_starts (b ∷ w) c v e low high =
-    let h = head_same (eqb (upper_byte b) (upper_byte c)) b c w v refl e in
+    let h = head_same (eqb (to_ascii_uppercase b) (to_ascii_uppercase c)) b c w v refl e in
     let k = letter_of b c (h.0 ∙ capital_upper c low high) low high in
     record { head = b; tail = w; is = refl; holds = rw k tt }
 

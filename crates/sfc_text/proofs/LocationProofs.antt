@@ -8,7 +8,7 @@ use Rattle.sfc_text.specs.declared.location.Area.{Area}
 use Rattle.sfc_text.specs.declared.location.Size.{Size}
 use Rattle.sfc_text.specs.declared.location.Size.TheVariants.{Bit}
 use Rattle.sfc_text.specs.declared.location.Location.{Location}
-use Rattle.sfc_text.specs.Names.{upper_byte}
+use Rattle.std.specs.Char.{to_ascii_uppercase}
 use Rattle.sfc_text.specs.Numbers as numbers
 use Rattle.sfc_text.specs.Numbers.{Digits, IsInteger}
 use Rattle.sfc_text.specs.NumberScan.{◌>>=◌, integer}
@@ -111,7 +111,7 @@ numbers_head : {w ns : List ℕ} → Numbers w ns → Begins IsFigure w
 numbers_head (locations.last i lt) = integer_head i
 numbers_head (locations.more {rest = rest} i lt others) = let b = integer_head i in record { head = b.head; tail = b.tail ++ 46 ∷ rest; is = ap (λ (x : List ℕ). x ++ 46 ∷ rest) b.is; holds = b.holds }
 
-upper_figure : (b : ℕ) → 48 ≤ b → b ≤ 57 → upper_byte b ≡ b
+upper_figure : (b : ℕ) → 48 ≤ b → b ≤ 57 → to_ascii_uppercase b ≡ b
 upper_figure b low high = grind (arith, nat_tests)
 
 no_size : (b : ℕ) → 48 ≤ b → b ≤ 57 → size_of b ≡ None

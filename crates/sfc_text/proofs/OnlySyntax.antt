@@ -8,7 +8,7 @@ use Rattle.sfc_text.specs.declared.read_error.ReadErrorKind.{ReadErrorKind}
 use Rattle.sfc_text.specs.declared.read_error.ReadErrorKind.TheVariants.{Syntax}
 use Rattle.sfc_text.specs.declared.token.TokenKind.TheVariants as token
 use Rattle.sfc_text.specs.declared.tree.Source.{Source}
-use Rattle.sfc_text.specs.Names.{same_word}
+use Rattle.sfc_text.specs.Case.{same_word}
 use Rattle.sfc_text.specs.Terminals.{same_keyword, same_delimiter}
 use Rattle.sfc_text.specs.Results.{Read, ◌>>=◌}
 use Rattle.sfc_text.specs.Tokens.{Kinds}

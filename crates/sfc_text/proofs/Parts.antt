@@ -9,7 +9,7 @@ use Rattle.sfc_text.specs.declared.class.Class.TheVariants as class
 use Rattle.sfc_text.specs.declared.delimiter.Delimiter.TheVariants as sign
 use Rattle.sfc_text.specs.declared.run.Alphabet.TheVariants.{Letters, Figures, Fraction}
 use Rattle.sfc_text.specs.Classes.{class_of}
-use Rattle.sfc_text.specs.Names.{same_word}
+use Rattle.sfc_text.specs.Case.{same_word}
 use Rattle.sfc_text.specs.Numbers as numbers
 use Rattle.sfc_text.specs.Numbers.{digit_of, Digits, IsInteger}
 use Rattle.sfc_text.specs.NumberScan.{◌>>=◌, at_most, integer}

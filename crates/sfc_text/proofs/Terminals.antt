@@ -3,7 +3,7 @@ use Rattle.std.proofs.Common.{◌≡◌, ℕ, zero, suc, ◌<◌, Bool, true, fa
 use Rattle.sfc_text.specs.declared.keyword.Keyword.{Keyword}
 use Rattle.sfc_text.specs.declared.delimiter.Delimiter.{Delimiter}
 use Rattle.sfc_text.specs.declared.token.TokenKind.TheVariants as token
-use Rattle.sfc_text.specs.Names.{same_word}
+use Rattle.sfc_text.specs.Case.{same_word}
 use Rattle.sfc_text.specs.Terminals.{same_keyword, same_delimiter}
 use Rattle.sfc_text.specs.Results.{Read}
 use Rattle.sfc_text.specs.Tokens.{Kinds}

@@ -9,7 +9,7 @@ use Rattle.sfc_text.specs.declared.unit.Unit.{Unit as TimeUnit}
 use Rattle.sfc_text.specs.declared.unit.Unit.TheVariants.{Day, Hour, Minute, Second, Millisecond}
 use Rattle.sfc_text.specs.declared.literal.LiteralKind.TheVariants as kind
 use Rattle.sfc_text.specs.Classes.{class_of}
-use Rattle.sfc_text.specs.Names.{same_word}
+use Rattle.sfc_text.specs.Case.{same_word}
 use Rattle.sfc_text.specs.Numbers as numbers
 use Rattle.sfc_text.specs.Numbers.{digit_of, Digits, IsInteger}
 use Rattle.sfc_text.specs.Durations as durations

@@ -5,7 +5,8 @@ use Rattle.sfc_text.specs.declared.unit.Unit.{Unit as TimeUnit}
 use Rattle.sfc_text.specs.declared.unit.Unit.TheVariants.{Day, Hour, Minute, Second, Millisecond}
 use Rattle.sfc_text.specs.declared.class.Class.TheVariants as class
 use Rattle.sfc_text.specs.Classes.{class_of}
-use Rattle.sfc_text.specs.Names.{same_word, upper_byte}
+use Rattle.std.specs.Char.{to_ascii_uppercase}
+use Rattle.sfc_text.specs.Case.{same_word}
 use Rattle.sfc_text.specs.Numbers.{IsInteger}
 use Rattle.sfc_text.specs.Durations as durations
 use Rattle.sfc_text.specs.Durations.{micros_of, spelling_of, units, IsUnit, IsFraction, Interval, greatest, IsInterval}
@@ -32,16 +33,16 @@ Falling [] = Unit {0}
 Falling (u ∷ us) = Below (rank u) us × Falling us
 
 -- one text spells one unit
-same_second : (t : Bool) (x y z : ℕ) (w v u : List ℕ) → upper_byte x ≡ upper_byte y → eqb (upper_byte x) (upper_byte z) ≡ t → same_word w v ≡ true → t && same_word w u ≡ true → (same_word w v ≡ true → same_word w u ≡ true → same_word v u ≡ true) → eqb (upper_byte y) (upper_byte z) && same_word v u ≡ true
+same_second : (t : Bool) (x y z : ℕ) (w v u : List ℕ) → to_ascii_uppercase x ≡ to_ascii_uppercase y → eqb (to_ascii_uppercase x) (to_ascii_uppercase z) ≡ t → same_word w v ≡ true → t && same_word w u ≡ true → (same_word w v ≡ true → same_word w u ≡ true → same_word v u ≡ true) → eqb (to_ascii_uppercase y) (to_ascii_uppercase z) && same_word v u ≡ true
 same_second false x y z w v u h g e f more = absurd cc
 same_second true x y z w v u h g e f more =
-    let s = eq-eqb (upper_byte y) (upper_byte z) (sym h ∙ eqb-true (upper_byte x) (upper_byte z) g) in
+    let s = eq-eqb (to_ascii_uppercase y) (to_ascii_uppercase z) (sym h ∙ eqb-true (to_ascii_uppercase x) (to_ascii_uppercase z) g) in
     let m = more e f in
     rw (s, m) refl
 
-same_first : (t : Bool) (x y z : ℕ) (w v u : List ℕ) → eqb (upper_byte x) (upper_byte y) ≡ t → t && same_word w v ≡ true → eqb (upper_byte x) (upper_byte z) && same_word w u ≡ true → (same_word w v ≡ true → same_word w u ≡ true → same_word v u ≡ true) → eqb (upper_byte y) (upper_byte z) && same_word v u ≡ true
+same_first : (t : Bool) (x y z : ℕ) (w v u : List ℕ) → eqb (to_ascii_uppercase x) (to_ascii_uppercase y) ≡ t → t && same_word w v ≡ true → eqb (to_ascii_uppercase x) (to_ascii_uppercase z) && same_word w u ≡ true → (same_word w v ≡ true → same_word w u ≡ true → same_word v u ≡ true) → eqb (to_ascii_uppercase y) (to_ascii_uppercase z) && same_word v u ≡ true
 same_first false x y z w v u h e f more = absurd cc
-same_first true x y z w v u h e f more = same_second (eqb (upper_byte x) (upper_byte z)) x y z w v u (eqb-true (upper_byte x) (upper_byte y) h) refl e f more
+same_first true x y z w v u h e f more = same_second (eqb (to_ascii_uppercase x) (to_ascii_uppercase z)) x y z w v u (eqb-true (to_ascii_uppercase x) (to_ascii_uppercase y) h) refl e f more
 
 both_same : (w v u : List ℕ) → same_word w v ≡ true → same_word w u ≡ true → same_word v u ≡ true
 unfolding same_word
@@ -50,7 +51,7 @@ both_same [] [] (z ∷ u) e f = absurd cc
 both_same [] (y ∷ v) u e f = absurd cc
 both_same (x ∷ w) [] u e f = absurd cc
 both_same (x ∷ w) (y ∷ v) [] e f = absurd cc
-both_same (x ∷ w) (y ∷ v) (z ∷ u) e f = same_first (eqb (upper_byte x) (upper_byte y)) x y z w v u refl e f (both_same w v u)
+both_same (x ∷ w) (y ∷ v) (z ∷ u) e f = same_first (eqb (to_ascii_uppercase x) (to_ascii_uppercase y)) x y z w v u refl e f (both_same w v u)
 
 one_spelling : (u v : TimeUnit) → same_word (spelling_of u) (spelling_of v) ≡ true → rank u ≡ rank v
 unfolding same_word

@@ -2,7 +2,7 @@
 use Rattle.std.specs.Prelude.{ℕ, ◌+◌, ◌*◌, ◌/◌, ◌%◌, List, [], ◌∷◌, Bool, true, false, ◌==◌, ◌&&◌, is_some, if◌then◌else◌, Option, Some, None}
 use Rattle.sfc_text.specs.declared.unit.Unit.{Unit}
 use Rattle.sfc_text.specs.declared.run.Alphabet.TheVariants as alphabet
-use Rattle.sfc_text.specs.Names.{same_word}
+use Rattle.sfc_text.specs.Case.{same_word}
 use Rattle.sfc_text.specs.Numbers.{digit_of}
 use Rattle.sfc_text.specs.NumberScan.{◌>>=◌, at_most, integer}
 use Rattle.sfc_text.specs.Runs.{run}

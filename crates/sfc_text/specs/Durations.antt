@@ -4,7 +4,7 @@ use Rattle.sfc_text.specs.declared.unit.Unit.{Unit}
 use Rattle.sfc_text.specs.declared.unit.Unit.TheVariants.{Day, Hour, Minute, Second, Millisecond}
 use Rattle.sfc_text.specs.declared.run.Alphabet.TheVariants.{Letters}
 use Rattle.sfc_text.specs.Runs.{AllIn}
-use Rattle.sfc_text.specs.Names.{same_word}
+use Rattle.sfc_text.specs.Case.{same_word}
 use Rattle.sfc_text.specs.Numbers.{digit_of, IsInteger}
 
 abbrev pub micros_of : Unit → ℕ

@@ -20,7 +20,7 @@ use Rattle.sfc_text.specs.declared.tree.Step.{Step}
 use Rattle.sfc_text.specs.declared.tree.Task.{Task}
 use Rattle.sfc_text.specs.declared.tree.Transition.{Transition}
 use Rattle.sfc_text.specs.declared.var_type.VarType.TheVariants as types
-use Rattle.sfc_text.specs.Names.{same_word}
+use Rattle.sfc_text.specs.Case.{same_word}
 use Rattle.sfc_text.specs.Tokens.{Kinds}
 
 -- {item}

@@ -1,7 +1,7 @@
 pub mod ReadErrors
 pub mod Classes
 pub mod Runs
-pub mod Names
+pub mod Case
 pub mod Words
 pub mod Numbers
 pub mod NumberScan

@@ -9,7 +9,7 @@ use Rattle.sfc_text.specs.declared.run.Alphabet.TheVariants as alphabet
 use Rattle.sfc_text.specs.declared.token.TokenKind.{TokenKind}
 use Rattle.sfc_text.specs.declared.token.TokenKind.TheVariants as token
 use Rattle.sfc_text.specs.declared.location.Location.{Location as Place}
-use Rattle.sfc_text.specs.Names.{same_word}
+use Rattle.sfc_text.specs.Case.{same_word}
 use Rattle.sfc_text.specs.Numbers.{IsInteger, IsBased}
 use Rattle.sfc_text.specs.Durations.{IsInterval}
 use Rattle.sfc_text.specs.Locations.{IsLocation}

@@ -5,7 +5,7 @@ use Rattle.sfc_text.specs.declared.location.Area.TheVariants.{Input, Output, Mem
 use Rattle.sfc_text.specs.declared.location.Size.{Size}
 use Rattle.sfc_text.specs.declared.location.Size.TheVariants.{Bit, Byte, Word, DoubleWord, LongWord}
 use Rattle.sfc_text.specs.declared.location.Location.{Location}
-use Rattle.sfc_text.specs.Names.{upper_byte}
+use Rattle.std.specs.Char.{to_ascii_uppercase}
 use Rattle.sfc_text.specs.Numbers.{IsInteger}
 
 -- I, Q, M
@@ -25,10 +25,10 @@ size_of_capital b =
     if b == 76 then Some LongWord else None
 
 abbrev pub area_of : ℕ → Option Area
-area_of b = area_of_capital (upper_byte b)
+area_of b = area_of_capital (to_ascii_uppercase b)
 
 abbrev pub size_of : ℕ → Option Size
-size_of b = size_of_capital (upper_byte b)
+size_of b = size_of_capital (to_ascii_uppercase b)
 
 -- integers of 32 bits joined by points
 pub data Numbers : List ℕ → List ℕ → Type 0 where

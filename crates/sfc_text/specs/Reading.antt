@@ -8,7 +8,7 @@ use Rattle.sfc_text.specs.declared.parse.fault.ParseFault.{ParseFault}
 use Rattle.sfc_text.specs.declared.parse.fault.ParseFault.TheVariants.{Memory, Wrong}
 use Rattle.sfc_text.specs.declared.read_error.ReadErrorKind.TheVariants.{Syntax}
 use Rattle.sfc_text.specs.declared.token.TokenKind.TheVariants as token
-use Rattle.sfc_text.specs.Names.{same_word}
+use Rattle.sfc_text.specs.Case.{same_word}
 use Rattle.sfc_text.specs.Results.{Read, ◌>>=◌}
 use Rattle.sfc_text.specs.Terminals.{same_keyword, same_delimiter}
 use Rattle.sfc_text.specs.Tokens.{Kinds, kinds}

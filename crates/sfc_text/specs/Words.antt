@@ -2,7 +2,7 @@
 use Rattle.std.specs.Prelude.{ℕ, List, if◌then◌else◌, Option, Some, None, codes}
 use Rattle.sfc_text.specs.declared.keyword.Keyword.{Keyword}
 use Rattle.sfc_text.specs.declared.keyword.Keyword.TheVariants as keyword
-use Rattle.sfc_text.specs.Names.{same_word}
+use Rattle.sfc_text.specs.Case.{same_word}
 
 abbrev pub or_else : Option Keyword → Option Keyword → Option Keyword
 or_else (Some k) other = Some k

@@ -9,7 +9,6 @@ use crate::items::Items;
 use crate::location::{Area, Location, Size};
 use crate::number::integer;
 use crate::run::{Alphabet, run};
-use crate::word::upper_byte;
 use std::alloc::{AllocError, Global};
 
 /// How many numbers a location may have (our choice).
@@ -19,7 +18,7 @@ const NUMBERS: u8 = 8;
 fn area_of(byte: u8) -> Option<Area>
     ensures { result ≡ locations.area_of byte }
 {
-    match upper_byte(byte) {
+    match byte.to_ascii_uppercase() {
         b'I' => Some(Area::Input),
         b'Q' => Some(Area::Output),
         b'M' => Some(Area::Memory),
@@ -31,7 +30,7 @@ fn area_of(byte: u8) -> Option<Area>
 fn size_of(byte: u8) -> Option<Size>
     ensures { result ≡ locations.size_of byte }
 {
-    match upper_byte(byte) {
+    match byte.to_ascii_uppercase() {
         b'X' => Some(Size::Bit),
         b'B' => Some(Size::Byte),
         b'W' => Some(Size::Word),

@@ -4,10 +4,10 @@ ghost use Rattle.std.specs.Prelude.{◌≡◌, ◌≤◌, ◌<◌, ◌*◌, ◌+
 ghost use Rattle.sfc_text.specs.DurationScan as scan;
 ghost use Rattle.sfc_text.specs.Durations as durations;
 
+use crate::case::is_same_word;
 use crate::number::{digit_of, integer};
 use crate::run::{Alphabet, run};
 use crate::unit::Unit;
-use crate::word::is_same_word;
 
 /// The greatest magnitude of a TIME value, in microseconds (our choice).
 pub const GREATEST: u64 = 0x4000_0000_0000_0000;

@@ -3,6 +3,7 @@
 #![tactic(auto)]
 
 mod address;
+pub mod case;
 mod class;
 pub mod delimiter;
 pub mod duration;

@@ -6,12 +6,12 @@ ghost use Rattle.sfc_text.specs.LiteralScan as scan;
 ghost use Rattle.sfc_text.specs.LocationScan.{Gives};
 
 use crate::address::location;
+use crate::case::is_same_word;
 use crate::interval::interval;
 use crate::number::{base_at, integer};
 use crate::read_error::ReadErrorKind;
 use crate::run::Alphabet;
 use crate::token::TokenKind;
-use crate::word::is_same_word;
 use std::alloc::{AllocError, Global};
 
 /// What a literal is, by what stands in front of it.

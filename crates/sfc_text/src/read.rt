@@ -7,7 +7,7 @@ ghost use Rattle.sfc_text.specs.Texts.{Finds};
 
 use crate::parse::fault::ParseFault;
 use crate::parse::source::source;
-use crate::read_error::{ReadError, ReadErrorKind};
+use crate::read_error::{OUT_OF_MEMORY, ReadError};
 use crate::scan::{last_line, tokens};
 use crate::token::Token;
 use crate::tree::Source;
@@ -33,10 +33,7 @@ pub fn read(alloc: Global, text: &[u8]) -> Result<Source, ReadError>
     let tokens = tokens(alloc, text)?;
     match source(alloc, tokens.as_slice()) {
         Ok(source) => Ok(source),
-        Err(ParseFault::Memory) => Err(ReadError {
-            kind: ReadErrorKind::Memory,
-            line: 1,
-        }),
+        Err(ParseFault::Memory) => Err(OUT_OF_MEMORY),
         Err(ParseFault::Wrong { kind, left }) => {
             let line = line_at(text, tokens.as_slice(), left);
             Err(ReadError { kind, line })

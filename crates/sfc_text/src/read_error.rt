@@ -62,6 +62,12 @@ pub struct ReadError {
     pub line: u32,
 }
 
+/// Want of memory, which has line 1.
+pub(crate) const OUT_OF_MEMORY: ReadError = ReadError {
+    kind: ReadErrorKind::Memory,
+    line: 1,
+};
+
 impl fmt::Display for ReadError {
     fn fmt<W: fmt::Write>(&self, f: &mut fmt::Formatter<W>) -> fmt::Result {
         let kind = self.kind;
@@ -83,10 +89,7 @@ impl From<AllocError> for ReadError {
     ghost from_gives = { λ _ error. error ≡ out_of_memory };
 
     fn from(_error: AllocError) -> ReadError {
-        ReadError {
-            kind: ReadErrorKind::Memory,
-            line: 1,
-        }
+        OUT_OF_MEMORY
     }
 }
 
@@ -97,9 +100,6 @@ impl<T: Drop> From<AllocFailed<T>> for ReadError {
     ghost from_gives = { λ _ error. error ≡ out_of_memory };
 
     fn from(_error: AllocFailed<T>) -> ReadError {
-        ReadError {
-            kind: ReadErrorKind::Memory,
-            line: 1,
-        }
+        OUT_OF_MEMORY
     }
 }

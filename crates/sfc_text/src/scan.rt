@@ -16,7 +16,7 @@ use crate::delimiter::Delimiter;
 use crate::fault::Fault;
 use crate::literal::{LiteralKind, literal};
 use crate::name::Name;
-use crate::read_error::{ReadError, ReadErrorKind};
+use crate::read_error::{OUT_OF_MEMORY, ReadError, ReadErrorKind};
 use crate::run::{Alphabet, run};
 use crate::token::{Token, TokenKind};
 use crate::word::keyword_of;
@@ -235,10 +235,7 @@ fn error_at(line: u32, fault: Fault) -> ReadError
     ensures { result.kind ≡ kind_of fault }
 {
     match fault {
-        Fault::Memory => ReadError {
-            kind: ReadErrorKind::Memory,
-            line: 1,
-        },
+        Fault::Memory => OUT_OF_MEMORY,
         Fault::Wrong(kind) => ReadError { kind, line },
     }
 }

@@ -1,40 +1,10 @@
-//! Words, in any case of their letters.
+//! Reserved words (2.1.3).
 
 ghost use Rattle.std.specs.Prelude.{◌≡◌, Option, Some, None};
-ghost use Rattle.sfc_text.specs.Names as names;
 ghost use Rattle.sfc_text.specs.Words as words;
 
+use crate::case::is_same_word;
 use crate::keyword::Keyword;
-
-/// The byte, as a capital letter where it is a letter.
-pub fn upper_byte(byte: u8) -> u8
-    ensures { result ≡ names.upper_byte byte }
-{
-    match byte {
-        b'a'..=b'z' => byte - 32,
-        _ => byte,
-    }
-}
-
-/// Whether the two are one word, but for case.
-#[tactic(auto, unfolding(crate::specs::Names::same_word))]
-pub fn is_same_word(left: &[u8], right: &[u8]) -> bool
-    ensures { result ≡ names.same_word left.now right.now }
-{
-    let mut left_rest = left;
-    let mut right_rest = right;
-    'all: while let Some((a, left_after)) = left_rest.split_first() {
-        let Some((b, right_after)) = right_rest.split_first() else {
-            return false;
-        };
-        if upper_byte(*a) != upper_byte(*b) {
-            return false;
-        }
-        left_rest = left_after;
-        right_rest = right_after;
-    }
-    right_rest.is_empty()
-}
 
 // The reserved word from ACTION to ELSE that the word is.
 #[tactic(auto, unfolding(crate::specs::Words::keyword_action_to_else))]

@@ -11,7 +11,7 @@ use crate::chart::{Association, Chart, Step, Target, Transition};
 use crate::expr::Expr;
 use crate::ids::VarId;
 use crate::load_error::{Limit, LoadError};
-use crate::name_table::{NameTable, upper_case};
+use crate::name_table::NameTable;
 use crate::value::Value;
 use sfc_text::items::Items;
 use sfc_text::name::Name;
@@ -90,7 +90,7 @@ fn load_step_names(alloc: Global, elements: &[Element]) -> Result<NameTable, Loa
     let mut rest = elements;
     'elements: while let Some((element, after)) = rest.split_first() {
         if let Element::Step(step) = element {
-            let capitals = upper_case(alloc, step.name.spelling())?;
+            let capitals = step.name.spelling().to_ascii_uppercase(alloc)?;
             if !names.add(capitals)? {
                 return Err(LoadError::Duplicate);
             }
@@ -194,7 +194,7 @@ fn load_side_step(
     ensures loads { Loads (λ step. step) result (side_step_check steps.now seen.old name.now) (step_number steps.now name.now) }
     ensures named { OnOk result (seen.new ≡ seen.old ++ upper name.now ∷ []) }
 {
-    let capitals = upper_case(alloc, name.spelling())?;
+    let capitals = name.spelling().to_ascii_uppercase(alloc)?;
     let Some(step) = steps.find(&capitals) else {
         return Err(LoadError::UnknownStep);
     };

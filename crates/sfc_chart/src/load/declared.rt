@@ -5,24 +5,12 @@ ghost use Rattle.sfc_chart.specs.Loading.{declared_as, declared_by, variables_of
 
 use crate::plant::Variable;
 use crate::value::default_value;
-use sfc_text::items::Items;
 use sfc_text::location::Location;
 use sfc_text::name::Name;
 use sfc_text::tree::Declaration;
 use std::alloc::{AllocError, Global};
 
-// The same location once more.
-fn copy_location(alloc: Global, location: &Location) -> Result<Location, AllocError>
-    ensures { IfOk result (λ copy. copy ≡ location.now) }
-{
-    let numbers = Vec::from_slice(alloc, location.numbers.as_slice())?;
-    Ok(Location {
-        area: location.area,
-        size: location.size,
-        numbers: Items::from_vec(numbers),
-    })
-}
-
+// The same location once more, if there is one.
 fn copy_some_location(
     alloc: Global,
     location: &Option<Location>,
@@ -32,7 +20,7 @@ fn copy_some_location(
     match location {
         None => Ok(None),
         Some(location) => {
-            let copy = copy_location(alloc, location)?;
+            let copy = location.copy(alloc)?;
             Ok(Some(copy))
         }
     }

@@ -7,7 +7,7 @@ ghost use Rattle.sfc_chart.specs.Built.{Loads, instance_of};
 
 use crate::ids::TaskId;
 use crate::load_error::{Limit, LoadError};
-use crate::name_table::{NameTable, upper_case};
+use crate::name_table::NameTable;
 use crate::plant::Instance;
 use sfc_text::name::Name;
 use sfc_text::tree;
@@ -27,7 +27,7 @@ fn number_of_task(
     match name {
         None => Ok(None),
         Some(name) => {
-            let capitals = upper_case(alloc, name.spelling())?;
+            let capitals = name.spelling().to_ascii_uppercase(alloc)?;
             Ok(tasks.find(&capitals))
         }
     }
@@ -44,14 +44,14 @@ fn load_instance(
     ensures loads { Loads (λ loaded. loaded) result (instance_check tasks.now types.now names.old instance.now) (instance_of tasks.now types.now instance.now) }
     ensures named { OnOk result (names.new ≡ names.old ++ upper instance.now.name ∷ []) }
 {
-    let capitals = upper_case(alloc, instance.name.spelling())?;
+    let capitals = instance.name.spelling().to_ascii_uppercase(alloc)?;
     if !names.add(capitals)? {
         return Err(LoadError::Duplicate);
     }
     let Some(task) = number_of_task(alloc, &instance.task, tasks)? else {
         return Err(LoadError::NoTask);
     };
-    let program = upper_case(alloc, instance.program.spelling())?;
+    let program = instance.program.spelling().to_ascii_uppercase(alloc)?;
     let Some(program) = types.find(&program) else {
         return Err(LoadError::UnknownType);
     };

@@ -9,7 +9,7 @@ use super::chart::load_chart;
 use super::scope::Scope;
 use crate::chart::ProgramType;
 use crate::load_error::LoadError;
-use crate::name_table::{NameTable, upper_case};
+use crate::name_table::NameTable;
 use sfc_text::tree::Program;
 use std::alloc::Global;
 
@@ -22,7 +22,7 @@ fn load_program(
     ensures loads { Loads (λ loaded. loaded) result (program_check scope.now.variables.items names.old program.now) (type_of scope.now.variables.items program.now) }
     ensures named { OnOk result (names.new ≡ names.old ++ upper program.now.name ∷ []) }
 {
-    let capitals = upper_case(alloc, program.name.spelling())?;
+    let capitals = program.name.spelling().to_ascii_uppercase(alloc)?;
     if !names.add(capitals)? {
         return Err(LoadError::Duplicate);
     }

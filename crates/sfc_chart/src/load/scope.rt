@@ -8,7 +8,7 @@ ghost use Rattle.sfc_chart.specs.Built.{Loads};
 
 use super::declared::declared_variables;
 use crate::load_error::{Limit, LoadError};
-use crate::name_table::{NameTable, upper_case};
+use crate::name_table::NameTable;
 use crate::plant::Variable;
 use sfc_text::location::{Location, Size};
 use sfc_text::name::Name;
@@ -32,7 +32,7 @@ impl Scope {
     pub fn number_of(&self, alloc: Global, name: &Name) -> Result<Option<usize>, AllocError>
         ensures { IfOk result (λ number. number ≡ loading.number_of self.now.variables.items name.now) }
     {
-        let capitals = upper_case(alloc, name.spelling())?;
+        let capitals = name.spelling().to_ascii_uppercase(alloc)?;
         Ok(self.names.find(&capitals))
     }
 
@@ -75,7 +75,7 @@ fn check_variables(alloc: Global, variables: &[Variable]) -> Result<NameTable, L
     let mut names = NameTable::new(alloc);
     let mut rest = variables;
     'variables: while let Some((variable, after)) = rest.split_first() {
-        let capitals = upper_case(alloc, variable.name.spelling())?;
+        let capitals = variable.name.spelling().to_ascii_uppercase(alloc)?;
         if !names.add(capitals)? {
             return Err(LoadError::Duplicate);
         }

@@ -7,7 +7,7 @@ ghost use Rattle.sfc_chart.specs.Loading.{in_turn, task_name, task_check, task_n
 ghost use Rattle.sfc_chart.specs.Built.{Loads, task_of};
 
 use crate::load_error::{Limit, LoadError};
-use crate::name_table::{NameTable, upper_case};
+use crate::name_table::NameTable;
 use crate::plant::Task;
 use sfc_text::tree;
 use std::alloc::Global;
@@ -29,7 +29,7 @@ fn load_task(alloc: Global, task: &tree::Task, names: &mut NameTable) -> Result<
     ensures loads { Loads (λ loaded. loaded) result (task_check names.old task.now) (task_of task.now) }
     ensures named { OnOk result (names.new ≡ names.old ++ upper task.now.name ∷ []) }
 {
-    let capitals = upper_case(alloc, task.name.spelling())?;
+    let capitals = task.name.spelling().to_ascii_uppercase(alloc)?;
     if !names.add(capitals)? {
         return Err(LoadError::Duplicate);
     }

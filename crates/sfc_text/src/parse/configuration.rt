@@ -1,6 +1,6 @@
 //! The configuration: variables, tasks and instances (2.7, B.1.7).
 
-ghost use Rattle.std.specs.Prelude.{◌≡◌, ◌∷◌, [], Some, IfOk};
+ghost use Rattle.std.specs.Prelude.{◌≡◌, Some};
 ghost use Rattle.sfc_text.specs.Tokens.{kinds};
 ghost use Rattle.sfc_text.specs.ConfigurationReading as reading;
 ghost use Rattle.sfc_text.specs.Reading.{Gives, all, view, view_list, view_found};
@@ -15,7 +15,7 @@ use crate::parse::terminal::{delimiter, keyword, name, syntax, word};
 use crate::token::{Token, TokenKind};
 use crate::tree::{Configuration, Declaration, Instance, Task};
 use crate::var_type::VarType;
-use std::alloc::{AllocError, Global};
+use std::alloc::Global;
 
 // A comma and a name, if a comma stands there.
 #[tactic(auto, unfolding(crate::specs::ConfigurationReading::further_name))]
@@ -73,15 +73,6 @@ fn location(alloc: Global, tokens: &[Token]) -> Result<(Location, &[Token]), Par
     }
 }
 
-// The list of an element and others.
-fn list_of<T: Drop>(alloc: Global, element: T) -> Result<Items<T>, AllocError>
-    ensures { IfOk result (λ list. list ≡ element ∷ []) }
-{
-    let mut list = Vec::new(alloc);
-    list.push(element)?;
-    Ok(Items::from_vec(list))
-}
-
 // A variable with a location, behind AT.
 fn located(
     alloc: Global,
@@ -92,7 +83,7 @@ fn located(
 {
     let (location, tokens) = location(alloc, tokens)?;
     let tokens = bool_type(tokens)?;
-    let names = list_of(alloc, name)?;
+    let names = Items::one(alloc, name)?;
     let declaration = Declaration {
         names,
         location: Some(location),
@@ -320,8 +311,8 @@ pub fn configuration(
     let (instance, tokens) = instance(alloc, tokens)?;
     let tokens = keyword(tokens, Keyword::EndResource)?;
     let tokens = keyword(tokens, Keyword::EndConfiguration)?;
-    let tasks = list_of(alloc, task)?;
-    let instances = list_of(alloc, instance)?;
+    let tasks = Items::one(alloc, task)?;
+    let instances = Items::one(alloc, instance)?;
     let configuration = Configuration {
         name,
         resource,

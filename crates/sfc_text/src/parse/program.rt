@@ -1,6 +1,6 @@
 //! Program types: steps, associations and transitions (2.6, B.1.6).
 
-ghost use Rattle.std.specs.Prelude.{◌≡◌, ◌∷◌, [], true, false, Some, IfOk};
+ghost use Rattle.std.specs.Prelude.{◌≡◌, true, false, Some};
 ghost use Rattle.sfc_text.specs.Tokens.{kinds};
 ghost use Rattle.sfc_text.specs.ProgramReading as reading;
 ghost use Rattle.sfc_text.specs.Reading.{Gives, all, view, view_list, view_found};
@@ -13,7 +13,7 @@ use crate::parse::fault::ParseFault;
 use crate::parse::terminal::{delimiter, keyword, name, syntax, word};
 use crate::token::{Token, TokenKind};
 use crate::tree::{Association, Element, Expression, Program, Qualifier, Step, Transition};
-use std::alloc::{AllocError, Global};
+use std::alloc::Global;
 
 // The qualifier, which is N where it is left out.
 #[tactic(auto, unfolding(crate::specs::ProgramReading::qualifier))]
@@ -127,15 +127,6 @@ fn expression(alloc: Global, tokens: &[Token]) -> Result<(Expression, &[Token]),
     }
 }
 
-// The list of one name.
-fn one(alloc: Global, name: Name) -> Result<Items<Name>, AllocError>
-    ensures { IfOk result (λ names. names ≡ name ∷ []) }
-{
-    let mut names = Vec::new(alloc);
-    names.push(name)?;
-    Ok(Items::from_vec(names))
-}
-
 // A transition behind its first word.
 fn transition(alloc: Global, tokens: &[Token]) -> Result<(Transition, &[Token]), ParseFault>
     ensures { Gives view result (reading.transition (kinds tokens.now)) }
@@ -148,8 +139,8 @@ fn transition(alloc: Global, tokens: &[Token]) -> Result<(Transition, &[Token]),
     let (condition, tokens) = expression(alloc, tokens)?;
     let tokens = delimiter(tokens, Delimiter::Semicolon)?;
     let tokens = keyword(tokens, Keyword::EndTransition)?;
-    let preceding = one(alloc, from)?;
-    let following = one(alloc, to)?;
+    let preceding = Items::one(alloc, from)?;
+    let following = Items::one(alloc, to)?;
     let transition = Transition {
         preceding,
         following,

@@ -26,10 +26,9 @@ fn ended(
     if !tokens.is_empty() {
         return Err(syntax(tokens));
     }
-    let mut programs = Vec::new(alloc);
-    programs.push(program)?;
+    let programs = Items::one(alloc, program)?;
     Ok(Source {
-        programs: Items::from_vec(programs),
+        programs,
         configuration,
     })
 }

@@ -6,13 +6,13 @@ ghost use Rattle.sfc_text.specs.Reading as reading;
 ghost use Rattle.sfc_text.specs.Reading.{Gives};
 ghost use Rattle.sfc_text.specs.Terminals as terminals;
 
+use crate::case::is_same_word;
 use crate::delimiter::Delimiter;
 use crate::keyword::Keyword;
 use crate::name::Name;
 use crate::parse::fault::ParseFault;
 use crate::read_error::ReadErrorKind;
 use crate::token::{Token, TokenKind};
-use crate::word::is_same_word;
 use std::alloc::Global;
 
 /// The token at the front of these can't stand there.

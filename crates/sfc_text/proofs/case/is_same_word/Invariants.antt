@@ -1,6 +1,6 @@
 use Rattle.std.proofs.Common.{◌≡◌, length}
-use Rattle.sfc_text.specs.Names as names
-use Rattle.sfc_text.proofs.word.is_same_word.Given as goal
+use Rattle.sfc_text.specs.Case as names
+use Rattle.sfc_text.proofs.case.is_same_word.Given as goal
 
 abbrev pub invariant-all : goal.invariant-all
 invariant-all l = names.same_word l.left_rest l.right_rest ≡ names.same_word l.left l.right
