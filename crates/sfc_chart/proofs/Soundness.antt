@@ -1,10 +1,11 @@
 -- Where no check fails, the plant is sound.
-use Rattle.std.proofs.Common.{◌≡◌, ℕ, ◌<◌, ◌≤◌, ◌^◌, ℤ, pos, ◌≤ℤ◌, int_le, nat_lt, min, Bool, true, false, not, ◌&&◌, ◌||◌, List, [], ◌∷◌, ◌++◌, length, map, All, Any, Option, Some, None, unwrap_or, is_none, refl, sym, subst, ◌∙◌, arith, rules}
+use Rattle.std.proofs.Common.{◌≡◌, ℕ, ◌+◌, ◌<◌, ◌≤◌, ◌^◌, ℤ, pos, ◌≤ℤ◌, int_le, nat_lt, min, Bool, true, false, not, ◌&&◌, ◌||◌, List, [], ◌∷◌, ◌++◌, length, map, sum_by, All, Any, Option, Some, None, unwrap_or, is_none, refl, sym, subst, ◌∙◌, arith, rules}
 use Rattle.std.specs.List.{list_any}
 use Rattle.std.proofs.lemmas.List.{length-map}
 use Rattle.std.proofs.lemmas.List.Elements.{All-nil, All-cons, All-map}
 use Rattle.std.proofs.lemmas.List.Folds.{Any-from_list_any}
 use Rattle.std.proofs.lemmas.List.Quantifiers.{position-Some}
+use Rattle.std.proofs.lemmas.List.Sums.{sum_by-cons}
 use Rattle.std.proofs.lemmas.Grind.{common_steps}
 use Rattle.sfc_text.specs.declared.tree.Source.{Source}
 use Rattle.sfc_text.specs.declared.tree.Program.{Program}
@@ -22,7 +23,7 @@ use Rattle.sfc_chart.specs.declared.plant.Variable.{Variable}
 use Rattle.sfc_chart.specs.Chart.{IsTarget, IsStep, IsTransition, IsChart, IsTask, IsInstance, IsPlant}
 use Rattle.sfc_chart.specs.Meaning.{IsOver}
 use Rattle.sfc_chart.specs.Names.{upper, has, place_of, is_same}
-use Rattle.sfc_chart.specs.Loading.{Check, ◌then◌, when, in_turn, each, is_empty, bool_check, number_of, variable_names, association_check, step_associations_check, condition_check, step_name, step_check, task_name, program_name, instance_name, variables_check, tasks_check, programs_check, instances_check, image_check, side_step_check, side_check, transition_check, limits_check, chart_check, program_check, task_check, instance_check, steps_of, transitions_of, step_names, program_names, task_names, task_number, variables_of, source_check, is_interval}
+use Rattle.sfc_chart.specs.Loading.{Check, ◌then◌, when, in_turn, each, is_empty, bool_check, number_of, variable_names, association_check, step_associations_check, condition_check, step_name, step_check, task_name, program_name, instance_name, variables_check, tasks_check, programs_check, instances_check, image_check, side_step_check, side_check, transition_check, association_count, limits_check, chart_check, program_check, task_check, instance_check, steps_of, transitions_of, step_names, program_names, task_names, task_number, variables_of, source_check, is_interval}
 use Rattle.sfc_chart.specs.Built.{association_of, step_of, step_number, step_numbers, condition_of, transition_of, chart_of, type_of, task_of, instance_of, plant_of}
 
 pub then_first : (a b : Check) → (a then b) ≡ None → a ≡ None
@@ -112,6 +113,13 @@ list_any-map_same f p q same (x ∷ xs) = λ i. same x i || list_any-map_same f 
 Any_map : {A B : Type 0} (f : A → B) (p : B → Bool) (q : A → Bool) → ((x : A) → p (f x) ≡ q x) → (xs : List A) → list_any q xs ≡ true → Any (λ y. p y ≡ true) (map f xs)
 Any_map f p q same xs e = Any-from_list_any p (map f xs) (list_any-map_same f p q same xs ∙ e)
 
+association_count_kept : (vs : List Variable) (steps : List StepText) → sum_by (λ step. length step.associations) (map (step_of vs) steps) ≡ association_count steps
+association_count_kept vs [] = refl
+association_count_kept vs (s ∷ steps) =
+    sum_by-cons (λ step. length step.associations) (step_of vs s) (map (step_of vs) steps)
+    ∙ (λ i. length-map s.associations (association_of vs) i + association_count_kept vs steps i)
+    ∙ sym (sum_by-cons (λ step. length step.associations) s steps)
+
 chart_sound : (vs : List Variable) (elements : List Element) → chart_check vs elements ≡ None → IsChart (length vs) (chart_of vs elements)
 chart_sound vs elements e =
     let steps = steps_of elements in
@@ -124,6 +132,8 @@ chart_sound vs elements e =
     let step_count : length steps ≤ 1024 = not_above 1024 (length steps) (when_none (nat_lt 1024 (length steps)) _ (then_first _ _ limits)) in
     let more_limits = then_second (when (nat_lt 1024 (length steps)) (fault.Limit limit.Steps)) _ limits in
     let transition_count : length transitions ≤ 2048 = not_above 2048 (length transitions) (when_none (nat_lt 2048 (length transitions)) _ (then_first _ _ more_limits)) in
+    let last_limit = then_second (when (nat_lt 2048 (length transitions)) (fault.Limit limit.Transitions)) _ more_limits in
+    let few_associations : association_count steps ≤ 4096 = not_above 4096 (association_count steps) (when_none (nat_lt 4096 (association_count steps)) _ last_limit) in
     let count_same : length (step_names elements) ≡ length (map (step_of vs) steps) = length-map steps (λ s. upper s.name) ∙ sym (length-map steps (step_of vs)) in
     record {
       steps = All-map (IsStep (length vs)) (step_of vs) steps (each_passes (step_associations_check vs) (λ s. IsStep (length vs) (step_of vs s)) (associations_sound vs) steps (then_first (each (step_associations_check vs) steps) _ after_initial));
@@ -134,6 +144,7 @@ chart_sound vs elements e =
       initial = Any_map (step_of vs) (λ step. step.is_initial) (λ s. s.is_initial) (λ s. refl) steps (not_false (list_any (λ s. s.is_initial) steps) (when_none (not (list_any (λ s. s.is_initial) steps)) fault.NoInitial some_initial));
       step_limit = rw (length-map steps (step_of vs)) step_count;
       transition_limit = rw (length-map transitions (transition_of vs (step_names elements))) transition_count;
+      association_limit = rw (association_count_kept vs steps) few_associations;
     }
 
 both_first : (a b : Bool) → (a && b) ≡ true → a ≡ true

@@ -1,5 +1,5 @@
 -- Plants and charts as values, and what holds of each one that was loaded (2.6.2, 2.6.3, 2.7.1, 2.7.2).
-use Rattle.std.specs.Prelude.{◌≡◌, ℕ, ◌<◌, ◌≤◌, ◌^◌, pos, ◌≤ℤ◌, true, List, All, Any, length}
+use Rattle.std.specs.Prelude.{◌≡◌, ℕ, ◌<◌, ◌≤◌, ◌^◌, pos, ◌≤ℤ◌, true, List, All, Any, length, sum_by}
 use Rattle.sfc_chart.specs.declared.chart.Target.{Target}
 use Rattle.sfc_chart.specs.declared.chart.Target.TheVariants.{Boolean}
 use Rattle.sfc_chart.specs.declared.chart.Step.{Step}
@@ -44,6 +44,7 @@ pub record IsChart (n : ℕ) (chart : Chart) : Type 0 where
   pub initial : Any (λ step. step.is_initial ≡ true) chart.steps
   pub step_limit : length chart.steps ≤ 1024
   pub transition_limit : length chart.transitions ≤ 2048
+  pub association_limit : sum_by (λ step. length step.associations) chart.steps ≤ 4096
 
 pub record IsTask (task : Task) : Type 0 where
   pub low : pos 0 ≤ℤ task.interval
