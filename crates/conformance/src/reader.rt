@@ -1,13 +1,15 @@
 //! Texts that are read, and texts that are refused: for what, and at which line.
 
 use crate::texts;
+use sfc_text::case::is_same_word;
 use sfc_text::delimiter::Delimiter;
+use sfc_text::items::Items;
 use sfc_text::keyword::Keyword;
 use sfc_text::location::{Area, Location, Size};
 use sfc_text::name::Name;
 use sfc_text::read::read;
 use sfc_text::read_error::ReadErrorKind;
-use sfc_text::scan::{last_line, tokens};
+use sfc_text::scan::tokens;
 use sfc_text::token::{Token, TokenKind};
 use sfc_text::tree::{Configuration, Element, Expression, Program, Qualifier, Step, Transition};
 use sfc_text::var_type::VarType;
@@ -202,7 +204,6 @@ fn a_text_has_at_most_1_048_576_bytes(rt: HostRuntime) -> Result<(), Fail> {
         refused(alloc, &lines),
         Some((ReadErrorKind::Syntax, 1_048_577))
     );
-    assert_eq!(rt; last_line(&lines), 1_048_577);
     let faulty = filled(alloc, b'#', 1_048_577)?;
     assert_eq!(rt; refused(alloc, &faulty), Some((ReadErrorKind::TooLong, 1)));
     Ok(())
@@ -387,11 +388,31 @@ fn names_keep_their_spelling(rt: HostRuntime) -> Result<(), Fail> {
     assert_eq!(rt; name.spelling(), b"Start_Up2".as_slice());
     let copy = name.copy(alloc)?;
     assert_eq!(rt; copy.spelling(), b"Start_Up2".as_slice());
-    let upper = name.upper(alloc)?;
-    assert_eq!(rt; upper.spelling(), b"START_UP2".as_slice());
-    assert!(rt; name.is_same(&upper) && copy.is_same(&name));
-    let other = Name::new(alloc, b"Start_Up3")?;
-    assert!(rt; !name.is_same(&other));
+    Ok(())
+}
+
+#[test]
+fn words_are_the_same_in_any_case(rt: HostRuntime) {
+    assert!(rt; is_same_word(b"Start_Up2", b"sTART_uP2"));
+    assert!(rt; is_same_word(b"", b""));
+    assert!(rt; !is_same_word(b"Start_Up2", b"Start_Up3"));
+    assert!(rt; !is_same_word(b"Start", b"Start_Up"));
+    assert!(rt; !is_same_word(b"Start_Up", b"Start"));
+    assert!(rt; !is_same_word(b"[", b"{"));
+}
+
+#[test]
+fn items_are_a_list(rt: HostRuntime) -> Result<(), Fail> {
+    let alloc = rt.alloc();
+    let one = Items::one(alloc, 7)?;
+    assert_eq!(rt; one.as_slice(), [7].as_slice());
+    assert!(rt; one.len() == 1 && !one.is_empty());
+    let mut elements = one.into_vec();
+    elements.push(8)?;
+    let two = Items::from_vec(elements);
+    assert_eq!(rt; two.as_slice(), [7, 8].as_slice());
+    let none: Items<i32> = Items::from_vec(Vec::new(alloc));
+    assert!(rt; none.len() == 0 && none.is_empty());
     Ok(())
 }
 

@@ -7,3 +7,4 @@ pub mod Loading
 pub mod Built
 pub mod Parts
 pub mod Chart
+pub mod LoadErrors

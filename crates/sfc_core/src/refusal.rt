@@ -8,33 +8,25 @@ use thiserror::Error;
 
 /// Why an event is refused, in the order in which the reasons are looked for (our choice).
 #[derive(Clone, Copy, Debug, PartialEq, Eq, Error)]
+#[error("refused {} {}", self.number(), self.name())]
 pub enum Refusal {
     /// The instant is below 0 or above 2^62 microseconds.
-    #[error("refused 33 InstantRange")]
     InstantRange,
     /// The instant is before that of the latest accepted event.
-    #[error("refused 28 ClockBack")]
     ClockBack,
     /// There is no such task.
-    #[error("refused 31 UnknownTask")]
     UnknownTask,
     /// There is no such program instance.
-    #[error("refused 32 UnknownProgram")]
     UnknownProgram,
     /// There is no such variable.
-    #[error("refused 24 UnknownVar")]
     UnknownVar,
     /// The value is not of the variable's type.
-    #[error("refused 25 ValueType")]
     ValueType,
     /// The variable is not located at an input.
-    #[error("refused 26 NotInput")]
     NotInput,
     /// No release of the task waits for a scan. The next one by its interval is at this instant, if there is one.
-    #[error("refused 29 NotDue")]
     NotDue(Option<i64>),
     /// This other task goes first.
-    #[error("refused 30 Yield")]
     Yield(TaskId),
 }
 

@@ -1,12 +1,16 @@
--- What each fault becomes, and the exit status of each (our choice).
-use Rattle.std.specs.Prelude.{ℕ}
+-- What each fault becomes, and the exit status and the text of each (our choice).
+use Rattle.std.specs.Prelude.{ℕ, List, ◌++◌, codes}
+use Rattle.std.specs.Fmt.{decimal}
 use Rattle.sfc_text.specs.declared.read_error.ReadError.{ReadError}
 use Rattle.sfc_text.specs.declared.read_error.ReadErrorKind.{ReadErrorKind}
 use Rattle.sfc_text.specs.declared.read_error.ReadErrorKind.TheVariants as kind
+use Rattle.sfc_text.specs.ReadErrors as reading
+use Rattle.sfc_chart.specs.LoadErrors as loading
 use Rattle.sfc_chart.specs.declared.load_error.LoadError.{LoadError}
 use Rattle.sfc_chart.specs.declared.load_error.LoadError.TheVariants as load
 use Rattle.sfc_monitor.specs.declared.script.ScriptError.{ScriptError}
 use Rattle.sfc_monitor.specs.declared.script.ScriptError.TheVariants as script
+use Rattle.sfc_monitor.specs.declared.monitor_error.ChartError.{ChartError}
 use Rattle.sfc_monitor.specs.declared.monitor_error.ChartError.TheVariants as chart
 use Rattle.sfc_monitor.specs.declared.monitor_error.MonitorError.{MonitorError}
 use Rattle.sfc_monitor.specs.declared.monitor_error.MonitorError.TheVariants.{Chart, Script, Read, Write, Memory}
@@ -33,3 +37,15 @@ status_of (Script line) = 1
 status_of Read = 3
 status_of Write = 3
 status_of Memory = 4
+
+-- what a refused chart is told as: the reader's text, or the loader's
+abbrev pub chart_text : ChartError → List ℕ
+chart_text (chart.Read error) = reading.error_text error
+chart_text (chart.Load error) = loading.error_text error
+
+abbrev pub error_text : MonitorError → List ℕ
+error_text (Chart error) = chart_text error
+error_text (Script line) = codes "script line " ++ decimal line
+error_text Read = codes "read fault"
+error_text Write = codes "write fault"
+error_text Memory = codes "out of memory"

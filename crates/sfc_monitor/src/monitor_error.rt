@@ -9,36 +9,66 @@ use sfc_chart::load_error::LoadError;
 use sfc_text::read_error::{ReadError, ReadErrorKind};
 use sfc_text::write_fault::WriteFault;
 use std::alloc::AllocError;
-use thiserror::Error;
+use std::error::Error;
+use std::fmt;
 
 /// Why a chart was refused: by the reader, or by the loader.
-#[derive(Clone, Copy, Debug, PartialEq, Eq, Error)]
+#[derive(Clone, Copy, Debug, PartialEq, Eq)]
 pub enum ChartError {
-    #[error("{0}")]
     Read(ReadError),
-    #[error("{0}")]
     Load(LoadError),
 }
 
-/// Why a chart and a script were not played to their end. The text is the one for standard error.
-#[derive(Clone, Copy, Debug, PartialEq, Eq, Error)]
+impl fmt::Display for ChartError {
+    ghost use Rattle.std.specs.Prelude.{Some};
+    ghost use Rattle.sfc_monitor.specs.MonitorErrors.{chart_text};
+
+    ghost output = { λ error. Some (chart_text error) };
+
+    fn fmt<W: fmt::Write>(&self, f: &mut fmt::Formatter<W>) -> fmt::Result {
+        match self {
+            ChartError::Read(error) => write!(f, "{error}"),
+            ChartError::Load(error) => write!(f, "{error}"),
+        }
+    }
+}
+
+impl Error for ChartError {}
+
+/// Why a chart and a script were not played to their end.
+#[derive(Clone, Copy, Debug, PartialEq, Eq)]
 pub enum MonitorError {
     /// The chart is refused. Nothing was written.
-    #[error("{0}")]
     Chart(ChartError),
     /// The script is refused at this line, counted from 1, or for its length at 0. Nothing was written.
-    #[error("script line {0}")]
     Script(usize),
     /// A reader failed. Nothing was written.
-    #[error("read fault")]
     Read,
     /// The writer failed or took no byte. A front of the output was written.
-    #[error("write fault")]
     Write,
     /// Memory was refused. A front of the output was written.
-    #[error("out of memory")]
     Memory,
 }
+
+/// The text for standard error.
+impl fmt::Display for MonitorError {
+    ghost use Rattle.std.specs.Prelude.{Some};
+    ghost use Rattle.sfc_monitor.specs.MonitorErrors.{error_text};
+
+    ghost output = { λ error. Some (error_text error) };
+
+    fn fmt<W: fmt::Write>(&self, f: &mut fmt::Formatter<W>) -> fmt::Result {
+        match self {
+            MonitorError::Chart(error) => write!(f, "{error}"),
+            MonitorError::Script(line) => write!(f, "script line {line}"),
+            MonitorError::Read => f.write_str("read fault"),
+            MonitorError::Write => f.write_str("write fault"),
+            MonitorError::Memory => f.write_str("out of memory"),
+        }
+    }
+}
+
+impl Error for MonitorError {}
 
 impl MonitorError {
     /// The exit status of a program that ends with it: 1 where chart or script is refused, 3 where a reader or the

@@ -1,38 +1,30 @@
 //! Why a text was refused.
 
 ghost use Rattle.std.specs.Prelude.{◌≡◌};
-ghost use Rattle.sfc_text.specs.ReadErrors.{number_of};
+ghost use Rattle.sfc_text.specs.ReadErrors.{number_of, name_of};
 
 use std::alloc::{AllocError, AllocFailed};
+use std::error::Error;
 use std::fmt;
-use thiserror::Error;
 
 /// What is wrong with a text.
-#[derive(Clone, Copy, Debug, PartialEq, Eq, Error)]
+#[derive(Clone, Copy, Debug, PartialEq, Eq)]
 pub enum ReadErrorKind {
     /// The text is longer than 1,048,576 bytes.
-    #[error("TooLong")]
     TooLong,
     /// A byte over 127 stands outside comments and pragmas.
-    #[error("NotAscii")]
     NotAscii,
     /// What stands there begins no token, or is none.
-    #[error("BadToken")]
     BadToken,
     /// The token can't stand there.
-    #[error("Syntax")]
     Syntax,
     /// Parentheses, prefix operators and IF statements are nested too deep.
-    #[error("TooDeep")]
     TooDeep,
     /// It is no duration, not whole microseconds, or beyond 2^62 of them.
-    #[error("BadDuration")]
     BadDuration,
     /// It is no integer, or beyond 4,294,967,295.
-    #[error("BadNumber")]
     BadNumber,
     /// Memory was refused.
-    #[error("Memory")]
     Memory,
 }
 
@@ -52,6 +44,22 @@ impl ReadErrorKind {
             ReadErrorKind::Memory => 8,
         }
     }
+
+    /// The name that stands for it in messages.
+    pub fn name(self) -> &'static str
+        ensures { result.now ≡ name_of self }
+    {
+        match self {
+            ReadErrorKind::TooLong => "TooLong",
+            ReadErrorKind::NotAscii => "NotAscii",
+            ReadErrorKind::BadToken => "BadToken",
+            ReadErrorKind::Syntax => "Syntax",
+            ReadErrorKind::TooDeep => "TooDeep",
+            ReadErrorKind::BadDuration => "BadDuration",
+            ReadErrorKind::BadNumber => "BadNumber",
+            ReadErrorKind::Memory => "Memory",
+        }
+    }
 }
 
 /// Why a text was refused, and the line: one more than the number of LF bytes before the faulty place;
@@ -69,18 +77,23 @@ pub(crate) const OUT_OF_MEMORY: ReadError = ReadError {
 };
 
 impl fmt::Display for ReadError {
+    ghost use Rattle.std.specs.Prelude.{Some};
+    ghost use Rattle.sfc_text.specs.ReadErrors.{error_text};
+
+    ghost output = { λ error. Some (error_text error) };
+
     fn fmt<W: fmt::Write>(&self, f: &mut fmt::Formatter<W>) -> fmt::Result {
-        let kind = self.kind;
-        let number = kind.number();
+        let number = self.kind.number();
+        let name = self.kind.name();
         let line = self.line;
-        match kind {
-            ReadErrorKind::Memory => write!(f, "out of memory"),
-            _ => write!(f, "refused {number} {kind} line {line}"),
+        match self.kind {
+            ReadErrorKind::Memory => f.write_str("out of memory"),
+            _ => write!(f, "refused {number} {name} line {line}"),
         }
     }
 }
 
-impl std::error::Error for ReadError {}
+impl Error for ReadError {}
 
 impl From<AllocError> for ReadError {
     ghost use Rattle.std.specs.Prelude.{◌≡◌};
