@@ -1,5 +1,7 @@
 //! Charts, scripts and what they print.
 
+use std::alloc::{AllocError, Global};
+
 /// A lamp that is lit by the one step.
 pub const ONE_STEP: &[u8] =
     b"PROGRAM Mix INITIAL_STEP S: Lamp(N); END_STEP END_PROGRAM CONFIGURATION C RESOURCE R ON Plc VAR_GLOBAL Lamp : BOOL; END_VAR TASK Main(INTERVAL := T#10ms, PRIORITY := 1); PROGRAM P WITH Main : Mix; END_RESOURCE END_CONFIGURATION\n";
@@ -61,3 +63,42 @@ pub const FAULTY_SCRIPT: &[u8] = b"\
 T#0s SCAN Main
 T#0s JUMP
 ";
+
+// What stands before the body of the program type.
+const HEAD: &[u8] = b"PROGRAM Mix ";
+
+// What stands between it and the global variables.
+const MIDDLE: &[u8] = b" END_PROGRAM CONFIGURATION C RESOURCE R ON Plc VAR_GLOBAL ";
+
+// What stands between the variables and the task.
+const BEHIND: &[u8] = b" END_VAR ";
+
+// A task and an instance.
+const TASK: &[u8] = b"TASK Main(INTERVAL := T#10ms, PRIORITY := 1); PROGRAM P WITH Main : Mix;";
+
+// What stands behind the instance.
+const END: &[u8] = b" END_RESOURCE END_CONFIGURATION\n";
+
+/// The parts, one behind the other.
+pub fn joined(alloc: Global, parts: &[&[u8]]) -> Result<Vec<u8>, AllocError> {
+    let mut text = Vec::new(alloc);
+    for part in parts {
+        text.extend_from_slice(part)?;
+    }
+    Ok(text)
+}
+
+/// The chart with these global variables, this body, and this task and instance.
+pub fn configured(
+    alloc: Global,
+    globals: &[u8],
+    body: &[u8],
+    task: &[u8],
+) -> Result<Vec<u8>, AllocError> {
+    joined(alloc, &[HEAD, body, MIDDLE, globals, BEHIND, task, END])
+}
+
+/// The chart with these global variables and this body.
+pub fn framed(alloc: Global, globals: &[u8], body: &[u8]) -> Result<Vec<u8>, AllocError> {
+    configured(alloc, globals, body, TASK)
+}
