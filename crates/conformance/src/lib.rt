@@ -2,6 +2,8 @@
 #![tactic(auto)]
 
 #[cfg(test)]
+mod bench;
+#[cfg(test)]
 mod broken_reader;
 #[cfg(test)]
 mod broken_writer;
@@ -14,13 +16,21 @@ mod limits;
 #[cfg(test)]
 mod loader;
 #[cfg(test)]
+mod mesh;
+#[cfg(test)]
+mod plain;
+#[cfg(test)]
 mod reader;
 #[cfg(test)]
 mod refusals;
 #[cfg(test)]
+mod resource;
+#[cfg(test)]
 mod rows;
 #[cfg(test)]
 mod scripts;
+#[cfg(test)]
+mod shown;
 #[cfg(test)]
 mod texts;
 #[cfg(test)]

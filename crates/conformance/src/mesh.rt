@@ -1,0 +1,250 @@
+//! A mesh of five steps, each joined with each other one both ways, against a plain body over many scans.
+
+use crate::bench::Bench;
+use crate::plain::Plain;
+use crate::shown;
+use sfc_core::{Outcome, ProgramView};
+use std::alloc::{AllocError, Global};
+use std::process::Abort;
+use std::test::Fail;
+
+// Three initial steps of five, an action for each step, and an input for each transition.
+const MESH: &[u8] = b"\
+PROGRAM Mesh
+INITIAL_STEP S0: A0(N); END_STEP
+STEP S1: A1(N); END_STEP
+TRANSITION FROM S4 TO S1 := I0; END_TRANSITION
+TRANSITION FROM S3 TO S4 := I1; END_TRANSITION
+TRANSITION FROM S2 TO S4 := I2; END_TRANSITION
+TRANSITION FROM S4 TO S2 := I3; END_TRANSITION
+TRANSITION FROM S1 TO S4 := I4; END_TRANSITION
+TRANSITION FROM S1 TO S3 := I5; END_TRANSITION
+TRANSITION FROM S4 TO S3 := I6; END_TRANSITION
+INITIAL_STEP S2: A2(N); END_STEP
+INITIAL_STEP S3: A3(N); END_STEP
+TRANSITION FROM S0 TO S4 := I7; END_TRANSITION
+TRANSITION FROM S3 TO S2 := I8; END_TRANSITION
+TRANSITION FROM S0 TO S1 := I9; END_TRANSITION
+TRANSITION FROM S2 TO S1 := I10; END_TRANSITION
+TRANSITION FROM S1 TO S2 := I11; END_TRANSITION
+TRANSITION FROM S4 TO S0 := I12; END_TRANSITION
+TRANSITION FROM S2 TO S0 := I13; END_TRANSITION
+TRANSITION FROM S3 TO S1 := I14; END_TRANSITION
+STEP S4: A4(N); END_STEP
+TRANSITION FROM S0 TO S3 := I15; END_TRANSITION
+TRANSITION FROM S0 TO S2 := I16; END_TRANSITION
+TRANSITION FROM S3 TO S0 := I17; END_TRANSITION
+TRANSITION FROM S1 TO S0 := I18; END_TRANSITION
+TRANSITION FROM S2 TO S3 := I19; END_TRANSITION
+END_PROGRAM
+CONFIGURATION C RESOURCE R ON Plc VAR_GLOBAL
+A0, A1, A2, A3, A4 : BOOL;
+I0 AT %IX0.0 : BOOL; I1 AT %IX0.1 : BOOL; I2 AT %IX0.2 : BOOL; I3 AT %IX0.3 : BOOL; I4 AT %IX0.4 : BOOL;
+I5 AT %IX0.5 : BOOL; I6 AT %IX0.6 : BOOL; I7 AT %IX0.7 : BOOL; I8 AT %IX0.8 : BOOL; I9 AT %IX0.9 : BOOL;
+I10 AT %IX0.10 : BOOL; I11 AT %IX0.11 : BOOL; I12 AT %IX0.12 : BOOL; I13 AT %IX0.13 : BOOL; I14 AT %IX0.14 : BOOL;
+I15 AT %IX0.15 : BOOL; I16 AT %IX0.16 : BOOL; I17 AT %IX0.17 : BOOL; I18 AT %IX0.18 : BOOL; I19 AT %IX0.19 : BOOL;
+END_VAR TASK Main(INTERVAL := T#10ms, PRIORITY := 1);
+PROGRAM P WITH Main : Mesh; END_RESOURCE END_CONFIGURATION
+";
+
+// The transitions in the order of the text.
+const TRANSITIONS: [(usize, usize); 20] = [
+    (4, 1),
+    (3, 4),
+    (2, 4),
+    (4, 2),
+    (1, 4),
+    (1, 3),
+    (4, 3),
+    (0, 4),
+    (3, 2),
+    (0, 1),
+    (2, 1),
+    (1, 2),
+    (4, 0),
+    (2, 0),
+    (3, 1),
+    (0, 3),
+    (0, 2),
+    (3, 0),
+    (1, 0),
+    (2, 3),
+];
+
+// The initial steps.
+const INITIAL: [usize; 3] = [0, 2, 3];
+
+// How many scans a run has.
+const SCANS: i64 = 200;
+
+// A small source of numbers.
+#[derive(Drop)]
+struct Dice {
+    seed: u32,
+}
+
+impl Dice {
+    // True about once in four times.
+    fn throw(&mut self) -> bool {
+        let next = self.seed.wrapping_mul(1_664_525);
+        self.seed = next.wrapping_add(1_013_904_223);
+        self.seed >> 30 == 0
+    }
+
+    // One throw for each transition.
+    fn throws(&mut self, alloc: Global) -> Result<Vec<bool>, AllocError> {
+        let mut holds = Vec::new(alloc);
+        for _ in 0..TRANSITIONS.len() {
+            holds.push(self.throw())?;
+        }
+        Ok(holds)
+    }
+}
+
+// Gives the inputs these values.
+fn set_inputs(rt: &impl Abort, bench: &mut Bench, holds: &[bool], t: i64) {
+    let mut id: u16 = 5;
+    for value in holds {
+        let answer = bench.input(id, *value, t);
+        assert_eq!(rt; answer, Ok(Outcome::Done), "of {id} at {t}");
+        id = id.wrapping_add(1);
+    }
+}
+
+// Scans the bench at this instant, on time.
+fn scan(rt: &impl Abort, bench: &mut Bench, t: i64) {
+    let wanted = Outcome::Scanned {
+        ran: 1,
+        faulted: 0,
+        skipped: 0,
+        overruns: 0,
+    };
+    let answer = bench.scan(t);
+    assert_eq!(rt; answer, Ok(wanted), "at {t}");
+}
+
+// Asks that the bench shows the steps and transitions of the plain body.
+fn check_steps(rt: &impl Abort, alloc: Global, view: &ProgramView<'_>, plain: &Plain<'_>) {
+    let found = shown::active(alloc, view).expect(rt, "memory");
+    let wanted = plain.active(alloc).expect(rt, "memory");
+    assert_eq!(rt; found.as_slice(), wanted.as_slice());
+    let found = shown::activated(alloc, view).expect(rt, "memory");
+    let wanted = plain.activated(alloc).expect(rt, "memory");
+    assert_eq!(rt; found.as_slice(), wanted.as_slice());
+    let found = shown::cleared(alloc, view).expect(rt, "memory");
+    assert_eq!(rt; found.as_slice(), plain.cleared());
+}
+
+// Asks that the bench shows the step times of the plain body.
+fn check_times(rt: &impl Abort, alloc: Global, view: &ProgramView<'_>, plain: &Plain<'_>) {
+    let found = shown::elapsed(alloc, view).expect(rt, "memory");
+    let wanted = plain.elapsed(alloc).expect(rt, "memory");
+    assert_eq!(rt; found.as_slice(), wanted.as_slice());
+}
+
+// Asks for these numbers.
+fn check_numbers(rt: &impl Abort, found: &[u16], wanted: &[usize]) {
+    assert_eq!(rt; found.len(), wanted.len());
+    for (found, wanted) in found.iter().zip(wanted) {
+        assert_eq!(rt; *found as usize, *wanted);
+    }
+}
+
+// Asks that the bench shows the actions of the plain body.
+fn check_actions(rt: &impl Abort, alloc: Global, view: &ProgramView<'_>, plain: &Plain<'_>) {
+    let found = shown::q(alloc, view).expect(rt, "memory");
+    let wanted = plain.active(alloc).expect(rt, "memory");
+    check_numbers(rt, &found, &wanted);
+    let found = shown::executed(alloc, view).expect(rt, "memory");
+    let wanted = plain.executed(alloc).expect(rt, "memory");
+    check_numbers(rt, &found, &wanted);
+}
+
+// Whether the variable is there and TRUE.
+fn is_lit(bench: &Bench, id: u16) -> bool {
+    match bench.value(id) {
+        Some(value) => value.is_true(),
+        None => false,
+    }
+}
+
+// The actions whose variables are TRUE.
+fn lit(alloc: Global, bench: &Bench) -> Result<Vec<u16>, AllocError> {
+    let mut found = Vec::new(alloc);
+    for id in 0..5u16 {
+        if is_lit(bench, id) {
+            found.push(id)?;
+        }
+    }
+    Ok(found)
+}
+
+// Asks that the variables of the bench are those of the plain body.
+fn check_values(rt: &impl Abort, alloc: Global, bench: &Bench, plain: &Plain<'_>) {
+    let found = lit(alloc, bench).expect(rt, "memory");
+    let wanted = plain.active(alloc).expect(rt, "memory");
+    check_numbers(rt, &found, &wanted);
+}
+
+// Asks that the bench is as the plain body.
+fn check(rt: &impl Abort, alloc: Global, bench: &Bench, plain: &Plain<'_>) {
+    let view = bench.view().expect(rt, "a program");
+    check_steps(rt, alloc, &view, plain);
+    check_times(rt, alloc, &view, plain);
+    check_actions(rt, alloc, &view, plain);
+    check_values(rt, alloc, bench, plain);
+}
+
+// The instant of a scan: up to two milliseconds behind its release.
+fn instant(number: i64) -> i64 {
+    let release = number.wrapping_mul(10_000);
+    release.wrapping_add(number.wrapping_rem(3).wrapping_mul(1_000))
+}
+
+// One scan of both over the same inputs, and the comparison. It tells how many transitions were cleared.
+fn check_scan(
+    rt: &impl Abort,
+    alloc: Global,
+    bench: &mut Bench,
+    plain: &mut Plain<'_>,
+    holds: &[bool],
+    t: i64,
+) -> usize {
+    set_inputs(rt, bench, holds, t);
+    scan(rt, bench, t);
+    plain.scan(alloc, holds, t).expect(rt, "memory");
+    check(rt, alloc, bench, plain);
+    plain.cleared().len()
+}
+
+// A run from a seed, compared after each scan. It tells how many transitions were cleared.
+fn check_run(rt: &impl Abort, alloc: Global, bench: &mut Bench, seed: u32) -> usize {
+    let mut plain = Plain::new(alloc, &TRANSITIONS, &INITIAL);
+    let mut dice = Dice { seed };
+    let mut count: usize = 0;
+    check(rt, alloc, bench, &plain);
+    for number in 0..SCANS {
+        let holds = dice.throws(alloc).expect(rt, "memory");
+        let cleared = check_scan(rt, alloc, bench, &mut plain, &holds, instant(number));
+        count = count.wrapping_add(cleared);
+    }
+    count
+}
+
+// A run of a new bench from a seed.
+fn check_seed(rt: &impl Abort, alloc: Global, seed: u32) -> Result<usize, Fail> {
+    let mut bench = Bench::open(alloc, MESH)?;
+    Ok(check_run(rt, alloc, &mut bench, seed))
+}
+
+#[test]
+fn the_mesh_does_what_the_rows_say(rt: HostRuntime) -> Result<(), Fail> {
+    for seed in 1..=3 {
+        let count = check_seed(&rt, rt.alloc(), seed)?;
+        assert!(rt;
+            count >= 100,
+            "{count} transitions were cleared from {seed}"
+        );
+    }
+    Ok(())
+}
