@@ -10,7 +10,7 @@ use sfc_chart::ids::VarId;
 use sfc_chart::value::Value;
 use std::alloc::{AllocError, Global};
 
-// Of each Boolean action its variable, its Q and its A. The rest is room for a scan: a flag for each variable.
+/// Of each Boolean action its variable, its Q and its A. The rest is room for a scan: a flag for each variable.
 #[derive(Drop)]
 pub struct Actions {
     variables: Vec<VarId>,
@@ -30,7 +30,7 @@ impl Actions {
     ghost use Rattle.sfc_core.specs.Flags.{flag};
     ghost use Rattle.sfc_core.specs.ActionsAgree.{ActionsAgree, action_places, variable_room};
 
-    // Before the first scan of a life.
+    /// Before the first scan of a life.
     pub fn new(alloc: Global, chart: &Chart, variables: usize) -> Result<Self, AllocError>
         requires { IsChart variables chart.now }
         ensures { IfOk result (λ actions. (variable_room actions ≡ variables) × ActionsAgree chart.now actions []) }
@@ -47,7 +47,7 @@ impl Actions {
         })
     }
 
-    // Q and A after a scan that left these steps active.
+    /// Q and A after a scan that left these steps active.
     pub fn update(&mut self, chart: &Chart, active: &[bool])
         requires steps { All (IsStep (variable_room self.old)) chart.now.steps }
         requires same_steps { length active.now ≡ step_count chart.now }
@@ -62,7 +62,7 @@ impl Actions {
         update_outputs(&self.variables, &self.named, &mut self.q);
     }
 
-    // Each action's variable is assigned its Q.
+    /// Each action's variable is assigned its Q.
     pub fn assign(&self, values: &mut [Value])
         requires { length values.old ≡ variable_room self.now }
         ensures { (chart : Chart) (rows : List Row) → ActionsAgree chart self.now rows →
@@ -71,7 +71,7 @@ impl Actions {
         assign_outputs(&self.variables, &self.q, values);
     }
 
-    // The variables of the actions, in their order.
+    /// The variables of the actions, in their order.
     pub fn variables(&self) -> &[VarId]
         ensures value { (chart : Chart) (rows : List Row) → ActionsAgree chart self.now rows → result.now ≡ boolean_actions chart }
         ensures len { length result.now ≡ action_places self.now }
@@ -79,7 +79,7 @@ impl Actions {
         self.variables.as_slice()
     }
 
-    // The action's Q after the latest scan.
+    /// The action's Q after the latest scan.
     pub fn q(&self, action: usize) -> bool
         requires { action < action_places self.now }
         ensures { (chart : Chart) (rows : List Row) → ActionsAgree chart self.now rows →
@@ -88,7 +88,7 @@ impl Actions {
         self.q[action]
     }
 
-    // The action's A after the latest scan: whether it was executed in it.
+    /// The action's A after the latest scan: whether it was executed in it.
     pub fn executed(&self, action: usize) -> bool
         requires { action < action_places self.now }
         ensures { (chart : Chart) (rows : List Row) → ActionsAgree chart self.now rows →

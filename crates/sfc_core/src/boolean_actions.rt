@@ -41,7 +41,7 @@ fn add_all(ids: &mut Vec<VarId>, associations: &[Association]) -> Result<(), All
     Ok(())
 }
 
-// The Boolean actions of these steps.
+/// The Boolean actions of these steps.
 pub fn list_actions(alloc: Global, steps: &[Step]) -> Result<Vec<VarId>, AllocError>
     ensures { IfOk result (λ ids. ids.items ≡ with_steps [] steps.now) }
 {

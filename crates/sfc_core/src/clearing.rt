@@ -27,7 +27,7 @@ fn clear_one(transition: &Transition, values: &[Value], active: &[bool], used: &
     go
 }
 
-// Which transitions are cleared, from the first rank to the last.
+/// Which transitions are cleared, from the first rank to the last.
 pub fn clear_in_order(
     transitions: &[Transition],
     values: &[Value],

@@ -54,7 +54,7 @@ fn clear(
     mark_following(transitions, cleared, on);
 }
 
-// One scan, over what is kept of each step and transition.
+/// One scan, over what is kept of each step and transition.
 pub fn scan(
     chart: &Chart,
     values: &[Value],

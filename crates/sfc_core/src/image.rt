@@ -6,7 +6,7 @@ use sfc_chart::plant::Variable;
 use sfc_chart::value::Value;
 use std::alloc::{AllocError, Global};
 
-// What the variables begin with (2.4.2).
+/// What the variables begin with (2.4.2).
 pub fn initial_values(alloc: Global, variables: &[Variable]) -> Result<Vec<Value>, AllocError>
     ensures { IfOk result (λ values. values.items ≡ map (λ variable. variable.initial) variables.now) }
 {

@@ -20,7 +20,7 @@ fn is_input(location: &Option<Location>) -> bool
     }
 }
 
-// Why a value for a variable is refused: it is not there, of another type, or no input.
+/// Why a value for a variable is refused: it is not there, of another type, or no input.
 pub fn input_refusal(variables: &[Variable], id: VarId, value: Value) -> Option<Refusal>
     ensures value { result ≡ refusal_of_input variables.now id value }
     ensures known { result ≡ None → id.0 < length variables.now }

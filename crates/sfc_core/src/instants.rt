@@ -1,4 +1,4 @@
 //! Instants, in microseconds.
 
-// The last instant.
+/// The last instant.
 pub const LATEST: i64 = 1 << 62;

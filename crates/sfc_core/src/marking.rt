@@ -7,7 +7,7 @@ ghost use Rattle.sfc_core.specs.Marking.{marked_by};
 use crate::flags::mark_if;
 use sfc_chart::chart::Transition;
 
-// Marks the preceding steps of the cleared transitions.
+/// Marks the preceding steps of the cleared transitions.
 pub fn mark_preceding(transitions: &[Transition], cleared: &[bool], flags: &mut [bool])
     requires within { All (λ transition. AllBelow (length flags.old) transition.preceding) transitions.now }
     requires cleared_len { length cleared.now ≡ length transitions.now }
@@ -18,7 +18,7 @@ pub fn mark_preceding(transitions: &[Transition], cleared: &[bool], flags: &mut 
     }
 }
 
-// Marks the following steps of the cleared transitions.
+/// Marks the following steps of the cleared transitions.
 pub fn mark_following(transitions: &[Transition], cleared: &[bool], flags: &mut [bool])
     requires within { All (λ transition. AllBelow (length flags.old) transition.following) transitions.now }
     requires cleared_len { length cleared.now ≡ length transitions.now }

@@ -42,7 +42,7 @@ fn mark_step(step: &Step, active: bool, named: &mut [bool])
     }
 }
 
-// Marks the variables that the active steps name.
+/// Marks the variables that the active steps name.
 pub fn mark_active(steps: &[Step], active: &[bool], named: &mut [bool])
     requires same_steps { length active.now ≡ length steps.now }
     requires within { All (IsStep (length named.old)) steps.now }
@@ -60,7 +60,7 @@ fn is_executed(was: bool, now: bool) -> bool
     now || (was && !now)
 }
 
-// A of each action, where `q` still has Q of the scan before.
+/// A of each action, where `q` still has Q of the scan before.
 pub fn update_executions(variables: &[VarId], named: &[bool], q: &[bool], a: &mut [bool])
     requires within { AreVariables (length named.now) variables.now }
     requires q_len { length q.now ≡ length variables.now }
@@ -72,7 +72,7 @@ pub fn update_executions(variables: &[VarId], named: &[bool], q: &[bool], a: &mu
     }
 }
 
-// Q of each action.
+/// Q of each action.
 pub fn update_outputs(variables: &[VarId], named: &[bool], q: &mut [bool])
     requires within { AreVariables (length named.now) variables.now }
     requires q_len { length q.old ≡ length variables.now }
@@ -83,7 +83,7 @@ pub fn update_outputs(variables: &[VarId], named: &[bool], q: &mut [bool])
     }
 }
 
-// Each action's variable is assigned its Q, in the order of the actions.
+/// Each action's variable is assigned its Q, in the order of the actions.
 pub fn assign_outputs(variables: &[VarId], q: &[bool], values: &mut [Value])
     requires within { AreVariables (length values.old) variables.now }
     requires q_len { length q.now ≡ length variables.now }

@@ -8,7 +8,7 @@ use sfc_chart::chart::Chart;
 use sfc_chart::value::Value;
 use std::alloc::{AllocError, Global};
 
-// The steps and actions of a program instance, and the number of scans of its life.
+/// The steps and actions of a program instance, and the number of scans of its life.
 #[derive(Drop)]
 pub struct Program {
     pub steps: Steps,
@@ -23,7 +23,7 @@ impl Program {
     ghost use Rattle.sfc_core.specs.Image.{is_condition_true, with_outputs};
     ghost use Rattle.sfc_core.specs.ProgramAgrees.{HasRoom, ProgramAgrees};
 
-    // Before the first scan of a life, among so many variables.
+    /// Before the first scan of a life, among so many variables.
     pub fn new(alloc: Global, chart: &Chart, variables: usize) -> Result<Self, AllocError>
         requires { IsChart variables chart.now }
         ensures room { IfOk result (λ program. HasRoom variables chart.now program) }
@@ -38,7 +38,7 @@ impl Program {
         })
     }
 
-    // One scan at t over these values, which gives the actions' variables their new values.
+    /// One scan at t over these values, which gives the actions' variables their new values.
     pub fn scan(&mut self, chart: &Chart, values: &mut [Value], t: i64)
         requires chart { IsChart (length values.old) chart.now }
         requires room { HasRoom (length values.old) chart.now self.old }

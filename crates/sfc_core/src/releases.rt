@@ -16,14 +16,14 @@ fn releases_to(interval: i64, t: i64) -> u64
     }
 }
 
-// How many releases there are after `last` and up to t.
+/// How many releases there are after `last` and up to t.
 pub fn releases_between(interval: i64, last: i64, t: i64) -> u64
     ensures { result ≡ count_between interval last t }
 {
     releases_to(interval, t).saturating_sub(releases_to(interval, last))
 }
 
-// The next release after t, if it is not after the last instant.
+/// The next release after t, if it is not after the last instant.
 pub fn next_release(interval: i64, t: i64) -> Option<i64>
     ensures { result ≡ next_after interval t }
 {

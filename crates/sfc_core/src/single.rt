@@ -7,7 +7,7 @@ ghost use Rattle.sfc_core.specs.Single.{single_chart as the_chart};
 use sfc_chart::chart::Chart;
 use sfc_chart::plant::Plant;
 
-// The chart of the plant's only program instance.
+/// The chart of the plant's only program instance.
 pub fn single_chart(plant: &Plant) -> &Chart
     requires { IsSingle plant.now }
     ensures value { result.now ≡ the_chart plant.now }

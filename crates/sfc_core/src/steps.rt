@@ -8,8 +8,8 @@ use sfc_chart::chart::Chart;
 use sfc_chart::value::Value;
 use std::alloc::{AllocError, Global};
 
-// Of each step whether it is active, when it was last activated and what time it kept when it was left; of each
-// transition whether the latest scan cleared it. The rest is room for a scan.
+/// Of each step whether it is active, when it was last activated and what time it kept when it was left; of each
+/// transition whether the latest scan cleared it. The rest is room for a scan.
 #[derive(Drop)]
 pub struct Steps {
     begun: bool,
@@ -37,7 +37,7 @@ impl Steps {
     ghost use Rattle.sfc_core.specs.Image.{is_condition_true};
     ghost use Rattle.sfc_core.specs.StepsAgree.{IsFor, StepsAgree, step_places, transition_places};
 
-    // Before the first scan of a life.
+    /// Before the first scan of a life.
     pub fn new(alloc: Global, chart: &Chart) -> Result<Self, AllocError>
         ensures { IfOk result (λ steps. IsFor chart.now steps × StepsAgree chart.now steps []) }
     {
@@ -56,7 +56,7 @@ impl Steps {
         })
     }
 
-    // One scan at t, whose conditions see these values.
+    /// One scan at t, whose conditions see these values.
     pub fn advance(&mut self, chart: &Chart, values: &[Value], t: i64)
         requires chart { IsChart (length values.now) chart.now }
         requires sizes { IsFor chart.now self.old }
@@ -83,28 +83,28 @@ impl Steps {
         self.at = t;
     }
 
-    // How many steps there are.
+    /// How many steps there are.
     pub fn step_count(&self) -> usize
         ensures { result ≡ step_places self.now }
     {
         self.active.len()
     }
 
-    // How many transitions there are.
+    /// How many transitions there are.
     pub fn transition_count(&self) -> usize
         ensures { result ≡ transition_places self.now }
     {
         self.cleared.len()
     }
 
-    // Which steps are active.
+    /// Which steps are active.
     pub fn active_flags(&self) -> &[bool]
         ensures { result.now ≡ self.now.active.items }
     {
         self.active.as_slice()
     }
 
-    // Whether the step is active.
+    /// Whether the step is active.
     pub fn active(&self, s: usize) -> bool
         requires { s < step_places self.now }
         ensures { (chart : Chart) (rows : List Row) → StepsAgree chart self.now rows → result ≡ is_active chart rows s }
@@ -112,7 +112,7 @@ impl Steps {
         self.active[s]
     }
 
-    // The step's time, up to the latest scan where it is active.
+    /// The step's time, up to the latest scan where it is active.
     pub fn elapsed(&self, s: usize) -> i64
         requires { s < step_places self.now }
         ensures { (chart : Chart) (rows : List Row) → StepsAgree chart self.now rows → result ≡ step_time chart rows s (scan_instant rows) }
@@ -124,7 +124,7 @@ impl Steps {
         }
     }
 
-    // Whether the latest scan activated the step.
+    /// Whether the latest scan activated the step.
     pub fn activated(&self, s: usize) -> bool
         requires { s < step_places self.now }
         ensures { (chart : Chart) (rows : List Row) → StepsAgree chart self.now rows → result ≡ was_activated chart rows s }
@@ -132,7 +132,7 @@ impl Steps {
         self.on[s]
     }
 
-    // Whether the latest scan cleared the transition.
+    /// Whether the latest scan cleared the transition.
     pub fn cleared(&self, tr: usize) -> bool
         requires { tr < transition_places self.now }
         ensures { (chart : Chart) (rows : List Row) → StepsAgree chart self.now rows → result ≡ was_cleared rows tr }

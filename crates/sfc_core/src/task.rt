@@ -5,7 +5,7 @@ ghost use Rattle.sfc_core.specs.Releases.{capped, releases_between as count_betw
 
 use crate::releases::releases_between;
 
-// The releases of a task that wait after the latest event, and its overruns since the opening.
+/// The releases of a task that wait after the latest event, and its overruns since the opening.
 #[derive(Drop)]
 pub struct TaskState {
     pub interval: i64,
@@ -14,7 +14,7 @@ pub struct TaskState {
 }
 
 impl TaskState {
-    // The releases that wait at t, where the latest event was at `last`.
+    /// The releases that wait at t, where the latest event was at `last`.
     pub fn waiting_at(&self, last: i64, t: i64) -> u64
         ensures { result ≡ capped (self.now.waiting + count_between self.now.interval last t) }
     {
@@ -22,14 +22,14 @@ impl TaskState {
             .saturating_add(releases_between(self.interval, last, t))
     }
 
-    // An event at t that is no scan of the task.
+    /// An event at t that is no scan of the task.
     pub fn elapse(&mut self, last: i64, t: i64)
         ensures { self.new ≡ record self.old { waiting = capped (self.old.waiting + count_between self.old.interval last t) } }
     {
         self.waiting = self.waiting_at(last, t);
     }
 
-    // A scan of the task at t, which serves all releases that wait; each one beyond the first is an overrun.
+    /// A scan of the task at t, which serves all releases that wait; each one beyond the first is an overrun.
     pub fn serve(&mut self, last: i64, t: i64)
         ensures { self.new ≡ record self.old {
           waiting = 0;

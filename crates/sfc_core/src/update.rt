@@ -22,7 +22,7 @@ fn since_after(on: bool, t: i64, since: i64) -> i64
     if on { t } else { since }
 }
 
-// A step that is left keeps its time.
+/// A step that is left keeps its time.
 pub fn update_kept(kept: &mut [i64], active: &[bool], since: &[i64], off: &[bool], t: i64)
     requires low { pos 0 ≤ℤ t }
     requires high { t ≤ℤ pos (2 ^ 62) }
@@ -38,7 +38,7 @@ pub fn update_kept(kept: &mut [i64], active: &[bool], since: &[i64], off: &[bool
     }
 }
 
-// A step that is activated begins anew.
+/// A step that is activated begins anew.
 pub fn update_since(since: &mut [i64], on: &[bool], t: i64)
     requires low { pos 0 ≤ℤ t }
     requires high { t ≤ℤ pos (2 ^ 62) }
@@ -52,7 +52,7 @@ pub fn update_since(since: &mut [i64], on: &[bool], t: i64)
     }
 }
 
-// The steps are active that are activated, or were active and are not left.
+/// The steps are active that are activated, or were active and are not left.
 pub fn update_active(active: &mut [bool], on: &[bool], off: &[bool])
     requires on_len { length on.now ≡ length active.old }
     requires off_len { length off.now ≡ length active.old }

@@ -20,7 +20,7 @@ impl<'a> ProgramView<'a> {
     ghost use Rattle.sfc_core.specs.Answers.{scan_count, is_step_active, step_elapsed, is_step_activated, is_transition_cleared, actions_of, action_q, is_action_executed};
     ghost use Rattle.sfc_core.specs.ViewAgrees.{IsViewOf, shown_steps, shown_transitions, shown_actions};
 
-    // The view of this program.
+    /// The view of this program.
     pub(crate) fn new(program: &'a Program) -> ProgramView<'a>
         ensures { result.program.now ≡ program.now }
     {
