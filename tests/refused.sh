@@ -6,7 +6,7 @@
 set -u
 here=$(cd "$(dirname "${BASH_SOURCE[0]}")" && pwd)
 top=$(dirname "$here")
-"$top/sfcmon" --version >/dev/null || exit 1
+"$top/sfcmon" --prove || exit 1
 program=$top/crates/sfcmon/out/sfcmon
 work=$(mktemp -d)
 trap 'rm -rf "$work"' EXIT

@@ -1,5 +1,6 @@
 -- The numbers and names of refusals (our choice).
-use Rattle.std.specs.Prelude.{ℕ, List, codes}
+use Rattle.std.specs.Prelude.{ℕ, List, ◌++◌, codes}
+use Rattle.std.specs.Fmt.{decimal}
 use Rattle.sfc_core.specs.declared.refusal.Refusal.{Refusal}
 use Rattle.sfc_core.specs.declared.refusal.Refusal.TheVariants.{InstantRange, ClockBack, UnknownTask, UnknownProgram, UnknownVar, ValueType, NotInput, NotDue, Yield}
 
@@ -24,3 +25,7 @@ name_of (Yield task) = codes "Yield"
 name_of UnknownTask = codes "UnknownTask"
 name_of UnknownProgram = codes "UnknownProgram"
 name_of InstantRange = codes "InstantRange"
+
+-- what a refusal is told as
+abbrev pub refusal_text : Refusal → List ℕ
+refusal_text refusal = codes "refused " ++ decimal (number_of refusal) ++ codes " " ++ name_of refusal

@@ -4,11 +4,11 @@ ghost use Rattle.std.specs.Prelude.{◌≡◌};
 ghost use Rattle.sfc_core.specs.Refusals.{number_of, name_of};
 
 use sfc_chart::ids::TaskId;
-use thiserror::Error;
+use std::error::Error;
+use std::fmt;
 
 /// Why an event is refused, in the order in which the reasons are looked for (our choice).
-#[derive(Clone, Copy, Debug, PartialEq, Eq, Error)]
-#[error("refused {} {}", self.number(), self.name())]
+#[derive(Clone, Copy, Debug, PartialEq, Eq)]
 pub enum Refusal {
     /// The instant is below 0 or above 2^62 microseconds.
     InstantRange,
@@ -65,3 +65,19 @@ impl Refusal {
         }
     }
 }
+
+/// `refused`, the number and the name.
+impl fmt::Display for Refusal {
+    ghost use Rattle.std.specs.Prelude.{Some};
+    ghost use Rattle.sfc_core.specs.Refusals.{refusal_text};
+
+    ghost output = { λ refusal. Some (refusal_text refusal) };
+
+    fn fmt<W: fmt::Write>(&self, f: &mut fmt::Formatter<W>) -> fmt::Result {
+        let number = self.number();
+        let name = self.name();
+        write!(f, "refused {number} {name}")
+    }
+}
+
+impl Error for Refusal {}

@@ -1,12 +1,12 @@
 -- Where replay ends.
 use Rattle.std.proofs.Common.{◌≡◌, ℕ, List, [], Option, Some, None, Result, Ok, Err, refl, inl, inr}
 use Rattle.std.specs.Result.{IfErr}
-use Rattle.std.specs.Io.KnownBytes.{Keeps}
-use Rattle.sfc_text.specs.Writing.{Writes}
+use Rattle.std.specs.Io.KnownBytes.{Appends, Keeps}
+use Rattle.sfc_text.specs.Writing.{Writes, AppendsFront}
 use Rattle.sfc_chart.specs.Chart.{PlantData}
 use Rattle.sfc_core.specs.History.{Entry}
 use Rattle.sfc_monitor.specs.declared.script.ScriptError.{ScriptError}
-use Rattle.sfc_monitor.specs.declared.script.ScriptError.TheVariants as script
+use Rattle.sfc_monitor.specs.declared.script.ScriptError.TheVariants as script_error
 use Rattle.sfc_monitor.specs.declared.monitor_error.MonitorError.{MonitorError}
 use Rattle.sfc_monitor.specs.declared.monitor_error.MonitorError.TheVariants.{Chart, Script, Read, Write, Memory}
 use Rattle.sfc_monitor.specs.MonitorErrors.{of_script}
@@ -14,44 +14,68 @@ use Rattle.sfc_monitor.specs.Faults.{IsInputFault, IsOutputFault}
 use Rattle.sfc_monitor.specs.Script.{script_said}
 use Rattle.sfc_monitor.specs.ScriptReading.{ReadsScript}
 use Rattle.sfc_monitor.specs.Playing.{lines_of_play}
-use Rattle.sfc_monitor.specs.Reading.{TakesAtMost}
-use Rattle.sfc_monitor.specs.Replay.{IsPlantOf, LoadsText, most, Replays}
+use Rattle.sfc_monitor.specs.Reading.{Device, IsUntouched, TakesAtMost, LosesAtMost}
+use Rattle.sfc_monitor.specs.Replay.{IsPlantOf, IsOutput, LoadsText, most, Outputs, Replays}
 
 pub Keeps-same : (known : Option (List ℕ)) → Keeps known known
 Keeps-same None = tt
 Keeps-same (Some xs) = refl
 
-module _ (text_left script_left old : Option (List ℕ)) where
-  pub input_stopped : (error : MonitorError) → IsInputFault error → Replays text_left script_left old old {X = Unit {0}} (Err error)
-  input_stopped (Chart e) h = absurd h
-  input_stopped (Script n) h = absurd h
-  input_stopped Read h = Keeps-same old
-  input_stopped Write h = absurd h
-  input_stopped Memory h = inl (Keeps-same old)
+module _ (chart script w : Device) where
+  -- the chart wasn't taken whole
+  pub chart_unread : (error : MonitorError) → IsInputFault error → LosesAtMost most chart → IsUntouched script → IsUntouched w
+      → Replays chart script w {X = Unit {0}} (Err error)
+  chart_unread (Chart e) h lost kept unwritten = absurd h
+  chart_unread (Script n) h lost kept unwritten = absurd h
+  chart_unread Read h lost kept unwritten = (inl (lost, kept), unwritten)
+  chart_unread Write h lost kept unwritten = absurd h
+  chart_unread Memory h lost kept unwritten = inl (inl (lost, kept), unwritten)
 
-  pub memory_stopped : Replays text_left script_left old old {X = Unit {0}} (Err Memory)
-  memory_stopped = inl (Keeps-same old)
+  -- the chart was taken, and isn't a plant
+  pub chart_stopped : (text : List ℕ) (error : MonitorError) → TakesAtMost most chart text → LosesAtMost most chart → IsUntouched script
+      → IsUntouched w → LoadsText text (Err error) → Replays chart script w {X = Unit {0}} (Err error)
+  chart_stopped text (Chart e) taken lost kept unwritten h = ((text, taken, h), kept, unwritten)
+  chart_stopped text (Script n) taken lost kept unwritten h = absurd h
+  chart_stopped text Read taken lost kept unwritten h = absurd h
+  chart_stopped text Write taken lost kept unwritten h = absurd h
+  chart_stopped text Memory taken lost kept unwritten h = inl (inl (lost, kept), unwritten)
 
-  pub chart_stopped : (text : List ℕ) (error : MonitorError) → TakesAtMost most text_left text → LoadsText text (Err error) → Replays text_left script_left old old {X = Unit {0}} (Err error)
-  chart_stopped text (Chart e) taken h = ((text, taken, h), Keeps-same old)
-  chart_stopped text (Script n) taken h = absurd h
-  chart_stopped text Read taken h = absurd h
-  chart_stopped text Write taken h = absurd h
-  chart_stopped text Memory taken h = inl (Keeps-same old)
+  -- the chart is a plant, and no memory is left to open it
+  pub memory_stopped : LosesAtMost most chart → IsUntouched script → IsUntouched w → Replays chart script w {X = Unit {0}} (Err Memory)
+  memory_stopped lost kept unwritten = inl (inl (lost, kept), unwritten)
 
-  pub script_stopped : (text commands : List ℕ) (plant : PlantData) (error : ScriptError) → TakesAtMost most text_left text → TakesAtMost most script_left commands → IsPlantOf text plant
-      → ReadsScript (Err error) (script_said plant commands) → Replays text_left script_left old old {X = Unit {0}} (Err (of_script error))
-  script_stopped text commands plant (script.Faulty n) taken taken' loaded said = ((text, commands, taken, taken', record { plant = plant; loaded = loaded; said = said }), Keeps-same old)
-  script_stopped text commands plant script.Memory taken taken' loaded said = inl (Keeps-same old)
+  module _ (text : List ℕ) (plant : PlantData) (taken : TakesAtMost most chart text) (loaded : IsPlantOf text plant) where
+    -- the script wasn't taken whole
+    pub script_unread : (error : MonitorError) → IsInputFault error → LosesAtMost most script → IsUntouched w
+        → Replays chart script w {X = Unit {0}} (Err error)
+    script_unread (Chart e) h lost unwritten = absurd h
+    script_unread (Script n) h lost unwritten = absurd h
+    script_unread Read h lost unwritten = (inr ((text, taken, (plant, loaded)), lost), unwritten)
+    script_unread Write h lost unwritten = absurd h
+    script_unread Memory h lost unwritten = inl (inr ((text, taken, (plant, loaded)), lost), unwritten)
 
-  pub played : (new : Option (List ℕ)) (text commands : List ℕ) (plant : PlantData) (entries : List Entry) (result : Result (Unit {0}) MonitorError) → TakesAtMost most text_left text → TakesAtMost most script_left commands → IsPlantOf text plant
-      → script_said plant commands ≡ Ok entries → IfErr result IsOutputFault → Writes old new result (lines_of_play plant [] entries) → Replays text_left script_left old new result
-  played new text commands plant entries (Ok x) taken taken' loaded said faults writes =
-      (text, commands, taken, taken', (lines_of_play plant [] entries, record { plant = plant; loaded = loaded; commands = entries; said = said; lines = refl }, writes))
-  played new text commands plant entries (Err (Chart e)) taken taken' loaded said faults writes = absurd faults
-  played new text commands plant entries (Err (Script n)) taken taken' loaded said faults writes = absurd faults
-  played new text commands plant entries (Err Read) taken taken' loaded said faults writes = absurd faults
-  played new text commands plant entries (Err Write) taken taken' loaded said faults writes =
-      (text, commands, taken, taken', (lines_of_play plant [] entries, record { plant = plant; loaded = loaded; commands = entries; said = said; lines = refl }, writes))
-  played new text commands plant entries (Err Memory) taken taken' loaded said faults writes =
-      inr (text, commands, taken, taken', (lines_of_play plant [] entries, record { plant = plant; loaded = loaded; commands = entries; said = said; lines = refl }, writes))
+    -- the script was taken, and has a faulty line
+    pub script_stopped : (commands : List ℕ) (error : ScriptError) → TakesAtMost most script commands → LosesAtMost most script → IsUntouched w
+        → ReadsScript (Err error) (script_said plant commands) → Replays chart script w {X = Unit {0}} (Err (of_script error))
+    script_stopped commands (script_error.Faulty n) taken' lost unwritten said =
+        ((text, taken, (commands, taken', record { plant = plant; loaded = loaded; said = said })), unwritten)
+    script_stopped commands script_error.Memory taken' lost unwritten said = inl (inr ((text, taken, (plant, loaded)), lost), unwritten)
+
+    -- the commands were played, to the end or to a fault of the writer
+    pub played : (commands : List ℕ) (entries : List Entry) (result : Result (Unit {0}) MonitorError) → TakesAtMost most script commands
+        → script_said plant commands ≡ Ok entries → IfErr result IsOutputFault → Writes w.0 w.1 result (lines_of_play plant [] entries)
+        → Replays chart script w result
+    played commands entries result taken' said faults writes =
+        let output : IsOutput text commands (lines_of_play plant [] entries) =
+            record { plant = plant; loaded = loaded; commands = entries; said = said; lines = refl } in
+        written result faults (λ Given given. (text, taken, (commands, taken', (lines_of_play plant [] entries, output, given)))) writes
+      where
+        written : (result : Result (Unit {0}) MonitorError) → IfErr result IsOutputFault
+            → ((Given : List ℕ → Type 0) → Given (lines_of_play plant [] entries) → Outputs chart script Given)
+            → Writes w.0 w.1 result (lines_of_play plant [] entries) → Replays chart script w result
+        written (Ok x) faults outputs writes = outputs (Appends w.0 w.1) writes
+        written (Err (Chart e)) faults outputs writes = absurd faults
+        written (Err (Script n)) faults outputs writes = absurd faults
+        written (Err Read) faults outputs writes = absurd faults
+        written (Err Write) faults outputs writes = outputs (AppendsFront w.0 w.1) writes
+        written (Err Memory) faults outputs writes = inr (outputs (AppendsFront w.0 w.1) writes)

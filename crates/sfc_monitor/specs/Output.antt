@@ -18,7 +18,7 @@ use Rattle.sfc_core.specs.declared.event.Outcome.{Outcome}
 use Rattle.sfc_core.specs.declared.event.Outcome.TheVariants.{Done, Scanned}
 use Rattle.sfc_core.specs.declared.refusal.Refusal.{Refusal}
 use Rattle.sfc_core.specs.declared.refusal.Refusal.TheVariants.{NotDue, Yield}
-use Rattle.sfc_core.specs.Refusals.{number_of, name_of}
+use Rattle.sfc_core.specs.Refusals.{refusal_text}
 use Rattle.sfc_core.specs.History.{History, Entry}
 use Rattle.sfc_core.specs.Verdict.{verdict, after, no_task, no_variable}
 use Rattle.sfc_core.specs.Answers.{chart_of_program, scan_count, is_step_active, step_elapsed, is_transition_cleared, actions_of, is_action_executed, value_of}
@@ -109,8 +109,7 @@ refusal_detail plant (Yield task) = codes " " ++ task_name plant task
 refusal_detail plant _ = []
 
 abbrev pub refusal_line : PlantData → Refusal → List ℕ
-refusal_line plant refusal =
-    codes "refused " ++ decimal (number_of refusal) ++ codes " " ++ name_of refusal ++ refusal_detail plant refusal ++ line_end
+refusal_line plant refusal = refusal_text refusal ++ refusal_detail plant refusal ++ line_end
 
 -- the task's overruns, of a scan's answer
 abbrev pub overruns_in : Outcome → ℕ

@@ -1,6 +1,6 @@
 -- What a chart and a script write: a stated function of the bytes that were read.
-use Rattle.std.specs.Prelude.{◌≡◌, ◌⊎◌, ℕ, List, [], Option, None, Some, Result, Ok, Err}
-use Rattle.std.specs.Io.KnownBytes.{Appends, Keeps}
+use Rattle.std.specs.Prelude.{◌≡◌, ◌⊎◌, ℕ, List, [], None, Some, Result, Ok, Err}
+use Rattle.std.specs.Io.KnownBytes.{Appends}
 use Rattle.sfc_text.specs.declared.tree.Source.{Source}
 use Rattle.sfc_text.specs.Reads.{TextReads}
 use Rattle.sfc_text.specs.Writing.{AppendsFront}
@@ -14,7 +14,7 @@ use Rattle.sfc_monitor.specs.declared.monitor_error.MonitorError.{MonitorError}
 use Rattle.sfc_monitor.specs.declared.monitor_error.MonitorError.TheVariants.{Chart, Script, Read, Write, Memory}
 use Rattle.sfc_monitor.specs.Script.{script_said}
 use Rattle.sfc_monitor.specs.Playing.{lines_of_play}
-use Rattle.sfc_monitor.specs.Reading.{TakesAtMost}
+use Rattle.sfc_monitor.specs.Reading.{Device, IsUntouched, TakesAtMost, LosesAtMost}
 
 -- The text is read as trees in which no check fails, and the plant is theirs.
 pub record IsPlantOf (text : List ℕ) (plant : PlantData) : Type 0 where
@@ -53,19 +53,34 @@ pub record IsScriptRefused (text script : List ℕ) (line : ℕ) : Type 0 where
 abbrev pub most : ℕ
 most = 1048577
 
--- bytes that were taken from two readers, and a fact of them
-abbrev pub OfTaken : Option (List ℕ) → Option (List ℕ) → (List ℕ → List ℕ → Type 0) → Type 0
-OfTaken chart script P = (text : List ℕ) × (commands : List ℕ) × TakesAtMost most chart text × TakesAtMost most script commands × P text commands
+-- the text is a plant
+abbrev pub IsPlantText : List ℕ → Type 0
+IsPlantText text = (plant : PlantData) × IsPlantOf text plant
+
+-- the bytes that were taken of the chart, and a fact of them
+abbrev pub OfChart : Device → (List ℕ → Type 0) → Type 0
+OfChart chart P = (text : List ℕ) × TakesAtMost most chart text × P text
+
+-- the bytes that were taken of the chart and of the script, and a fact of them
+abbrev pub OfBoth : Device → Device → (List ℕ → List ℕ → Type 0) → Type 0
+OfBoth chart script P = OfChart chart (λ text. (commands : List ℕ) × TakesAtMost most script commands × P text commands)
+
+-- The chart was taken in part, and nothing of the script; or the chart is a plant, and the script was taken in part.
+abbrev pub StopsReading : Device → Device → Type 0
+StopsReading chart script =
+    (LosesAtMost most chart × IsUntouched script) ⊎ (OfChart chart IsPlantText × LosesAtMost most script)
 
 -- the output, of which the writer was given so much
-abbrev pub Outputs : Option (List ℕ) → Option (List ℕ) → (List ℕ → Type 0) → Type 0
-Outputs chart script Given = OfTaken chart script (λ text commands. (output : List ℕ) × IsOutput text commands output × Given output)
+abbrev pub Outputs : Device → Device → (List ℕ → Type 0) → Type 0
+Outputs chart script Given = OfBoth chart script (λ text commands. (output : List ℕ) × IsOutput text commands output × Given output)
 
--- What replay answers and has written, over what the readers have left and what the writer holds before and after it.
-abbrev pub Replays : Option (List ℕ) → Option (List ℕ) → Option (List ℕ) → Option (List ℕ) → {X : Type 0} → Result X MonitorError → Type 0
-Replays chart script old new (Ok done) = Outputs chart script (Appends old new)
-Replays chart script old new (Err (Chart error)) = ((text : List ℕ) × TakesAtMost most chart text × IsRefusedFor text error) × Keeps old new
-Replays chart script old new (Err (Script line)) = OfTaken chart script (λ text commands. IsScriptRefused text commands line) × Keeps old new
-Replays chart script old new (Err Read) = Keeps old new
-Replays chart script old new (Err Write) = Outputs chart script (AppendsFront old new)
-Replays chart script old new (Err Memory) = Keeps old new ⊎ Outputs chart script (AppendsFront old new)
+-- What replay answers, what it has taken from the readers of chart and script, and what it has written.
+abbrev pub Replays : Device → Device → Device → {X : Type 0} → Result X MonitorError → Type 0
+Replays chart script w (Ok done) = Outputs chart script (Appends w.0 w.1)
+Replays chart script w (Err (Chart error)) =
+    OfChart chart (λ text. IsRefusedFor text error) × IsUntouched script × IsUntouched w
+Replays chart script w (Err (Script line)) =
+    OfBoth chart script (λ text commands. IsScriptRefused text commands line) × IsUntouched w
+Replays chart script w (Err Read) = StopsReading chart script × IsUntouched w
+Replays chart script w (Err Write) = Outputs chart script (AppendsFront w.0 w.1)
+Replays chart script w (Err Memory) = (StopsReading chart script × IsUntouched w) ⊎ Outputs chart script (AppendsFront w.0 w.1)

@@ -91,10 +91,8 @@ fn append_refusal(
 ) -> Result<(), AllocError>
     ensures { OnOk result (out.new.items ≡ out.old.items ++ output.refusal_line plant.now refusal) }
 {
-    append(out, b"refused ")?;
-    append_number(alloc, out, u64::from(refusal.number()))?;
-    append(out, b" ")?;
-    append(out, refusal.name().as_bytes())?;
+    let text = refusal.to_string(alloc)?;
+    append(out, text.as_bytes())?;
     append_detail(out, plant, refusal)?;
     append(out, b"\n")
 }

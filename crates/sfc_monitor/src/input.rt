@@ -1,8 +1,8 @@
 //! Reading a device to its end.
 
-ghost use Rattle.std.specs.Prelude.{◌≤◌, IfOk, IfErr, length};
+ghost use Rattle.std.specs.Prelude.{IfOk, IfErr, OnErr};
 ghost use Rattle.sfc_monitor.specs.Faults.{IsInputFault};
-ghost use Rattle.sfc_monitor.specs.Reading.{TakesAtMost};
+ghost use Rattle.sfc_monitor.specs.Reading.{TakesAtMost, LosesAtMost};
 
 use crate::monitor_error::MonitorError;
 use std::alloc::Global;
@@ -14,13 +14,14 @@ pub const MOST: usize = 1_048_577;
 /// How many bytes are asked for at a time.
 const PIECE: usize = 4096;
 
-/// The bytes that a reader gives up to its end, but at most 1,048,577. A read that gives no byte is the end.
+/// The bytes that a reader gives up to its end, but at most 1,048,577: these are taken from it, and no more. A read
+/// that gives no byte is the end.
 ///
-/// `Read` is answered where the reader failed, `Memory` where memory was refused.
+/// `Read` is answered where the reader failed, `Memory` where memory was refused; then at most as many were taken.
 pub fn read_to_end<R: Read>(alloc: Global, reader: &mut R) -> Result<Vec<u8>, MonitorError>
-    ensures few { IfOk result (λ bytes. length bytes.items ≤ 1048577) }
     ensures faults { IfErr result IsInputFault }
-    ensures bytes { IfOk result (λ bytes. TakesAtMost 1048577 (R.remaining reader.old) bytes.items) }
+    ensures taken { IfOk result (λ bytes. TakesAtMost 1048577 (R.remaining reader.old, R.remaining reader.new) bytes.items) }
+    ensures lost { OnErr result (LosesAtMost 1048577 (R.remaining reader.old, R.remaining reader.new)) }
 {
     let mut bytes = Vec::new(alloc);
     let mut buffer = [0u8; PIECE];

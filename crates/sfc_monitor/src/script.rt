@@ -10,19 +10,16 @@ use crate::split::next_line;
 use sfc_chart::plant::Plant;
 use sfc_core::Event;
 use std::alloc::{AllocError, AllocFailed, Global};
-use thiserror::Error;
 
 /// The most bytes of a script.
 const LONGEST: usize = 1_048_576;
 
 /// Why a script was refused.
-#[derive(Clone, Copy, Debug, PartialEq, Eq, Error)]
+#[derive(Clone, Copy, Debug, PartialEq, Eq)]
 pub enum ScriptError {
     /// The first line that is no command, counted from 1; 0 where the script is longer than 1,048,576 bytes.
-    #[error("script line {0}")]
     Faulty(usize),
     /// Memory was refused.
-    #[error("out of memory")]
     Memory,
 }
 

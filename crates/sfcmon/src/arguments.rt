@@ -15,6 +15,24 @@ pub enum Request {
     Answered(u8),
 }
 
+// What stands at the end of the help on `replay`.
+const REPLAY_NOTES: &str = "\
+Exit status:
+  0  all commands were played; one that was refused has a line that begins with 'refused'
+  1  the chart or the script is refused
+  2  the words of the command line are wrong
+  3  a file can't be read, or the output can't be written
+  4  memory was refused
+
+Example:
+  sfcmon replay examples/lamp.chart examples/lamp.script
+
+docs/LANGUAGE.md describes the text of charts, docs/FORMATS.md scripts and output.";
+
+// What stands at the end of the help on the program.
+const NOTES: &str = "\
+'sfcmon replay --help' tells the exit statuses, an example, and where the formats are described.";
+
 fn replay_command<'a>(alloc: Global) -> Result<Command<'a>, AllocError> {
     let chart = Arg::new(alloc, "FILE")
         .required(true)
@@ -24,6 +42,7 @@ fn replay_command<'a>(alloc: Global) -> Result<Command<'a>, AllocError> {
     );
     Command::new(alloc, "replay")
         .about("Plays a script on a chart and prints what each command answers")
+        .after_help(REPLAY_NOTES)
         .arg(chart)?
         .arg(script)
 }
@@ -31,10 +50,12 @@ fn replay_command<'a>(alloc: Global) -> Result<Command<'a>, AllocError> {
 fn sfcmon_command<'a>(alloc: Global) -> Result<Command<'a>, AllocError> {
     let replay = replay_command(alloc)?;
     Command::new(alloc, "sfcmon")
+        .bin_name("sfcmon")?
         .version("0.1.0")
         .about(
             "Runs Sequential Function Charts (IEC 61131-3:2003) exactly as their definitions say",
         )
+        .after_help(NOTES)
         .subcommand_required(true)
         .arg_required_else_help(true)
         .subcommand(replay)
@@ -65,6 +86,22 @@ fn answer<R: Print + Eprint>(rt: &R, error: &Error) -> u8 {
         Ok(()) if error.use_stderr() => 2,
         Ok(()) => 0,
         Err(_) => 3,
+    }
+}
+
+fn invalid_words(alloc: Global) -> Result<Error, AllocError> {
+    let mut command = sfcmon_command(alloc)?;
+    command.error(
+        ErrorKind::InvalidValue,
+        "invalid UTF-8 was detected in one or more arguments",
+    )
+}
+
+/// Tells that a word of the command line isn't UTF-8, in clap's form: the exit status.
+pub fn refuse_words<R: Print + Eprint + AllocGlobal>(rt: &R) -> u8 {
+    match invalid_words(rt.alloc()) {
+        Ok(error) => answer(rt, &error),
+        Err(_) => end_with(rt, MonitorError::Memory),
     }
 }
 

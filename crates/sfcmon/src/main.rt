@@ -4,29 +4,36 @@
 mod arguments;
 mod files;
 
-use arguments::{Request, read_words};
+use arguments::{Request, read_words, refuse_words};
 use sfc_monitor::monitor_error::MonitorError;
-use std::env;
 use std::process::ExitCode;
+use std::{env, io};
 
-// The words of the command line, unless memory was refused.
-fn words_of(rt: &HostRuntime) -> Option<Vec<String>> {
-    let words = env::args(rt).ok()?;
-    words.collect(rt.alloc()).ok()
+// The words of the command line. The error is `InvalidData` where one of them isn't UTF-8, and else `OutOfMemory`.
+fn words_of(rt: &HostRuntime) -> io::Result<Vec<String>> {
+    let words = env::args(rt)?;
+    let words = words.collect(rt.alloc())?;
+    Ok(words)
 }
 
-// Answers the words of the command line: the exit status.
-fn run(rt: &HostRuntime) -> u8 {
-    let Some(words) = words_of(rt) else {
-        return files::end_with(rt, MonitorError::Memory);
-    };
-    match read_words(rt, words.as_slice()) {
+// Does what the words ask for: the exit status.
+fn answer(rt: &HostRuntime, words: &[String]) -> u8 {
+    match read_words(rt, words) {
         Request::Replay { chart, script } => files::replay_files(
             rt,
             chart.as_str(),
             script.as_str(),
         ),
         Request::Answered(status) => status,
+    }
+}
+
+// Answers the words of the command line: the exit status.
+fn run(rt: &HostRuntime) -> u8 {
+    match words_of(rt) {
+        Ok(words) => answer(rt, words.as_slice()),
+        Err(error) if error.kind() == io::ErrorKind::InvalidData => refuse_words(rt),
+        Err(_) => files::end_with(rt, MonitorError::Memory),
     }
 }
 

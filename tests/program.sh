@@ -1,0 +1,78 @@
+#!/usr/bin/env bash
+# Runs the built sfcmon on what only the program can show: the words of the command line, files, the text on standard
+# error and the exit status. The last line is 'N passed, M failed'.
+set -u
+here=$(cd "$(dirname "${BASH_SOURCE[0]}")" && pwd)
+top=$(dirname "$here")
+"$top/sfcmon" --prove || exit 1
+program=$top/crates/sfcmon/out/sfcmon
+examples=$top/examples
+work=$(mktemp -d)
+trap 'rm -rf "$work"' EXIT
+passed=0 failed=0
+
+# run WORD..: the program with these words; leaves out, err and status
+run() { "$program" "$@" >"$work/out" 2>"$work/err" </dev/null; status=$?; }
+note() { if [ "$1" = 0 ]; then passed=$((passed + 1)); else failed=$((failed + 1)); echo "not as it should be: $2 (status $status)"; fi; }
+ends() { [ "$status" = "$1" ]; }
+is_silent() { [ ! -s "$work/out" ]; }
+says() { [ "$(cat "$work/err")" = "$1" ]; }
+mentions() { grep -qF -- "$1" "$work/$2"; }
+# usage TITLE TEXT WORD..: these words are wrong, and the text on standard error says so
+usage() { local title=$1 text=$2; shift 2; run "$@"; ends 2 && is_silent && mentions "$text" err; note $? "$title"; }
+# fails TITLE STATUS TEXT WORD..: nothing is written, and the whole of standard error is the text
+fails() { local title=$1 wanted=$2 text=$3; shift 3; run "$@"; ends "$wanted" && is_silent && says "$text"; note $? "$title"; }
+
+chart=$examples/lamp.chart script=$examples/lamp.script
+printf 'PROGRAM Mix\n1' >"$work/faulty.chart"
+sed 's/INITIAL_STEP/STEP/' "$chart" >"$work/dark.chart"
+printf 'T#0s SCAN Main\nT#0s JUMP\n' >"$work/faulty.script"
+printf 'T#0s SCAN Main\nT#1ms SCAN Main\n' >"$work/early.script"
+
+for example in "$examples"/*.chart; do
+  run replay "$example" "${example%.chart}.script"
+  ends 0 && cmp -s "$work/out" "${example%.chart}.expect" && says ""
+  note $? "$(basename "$example")"
+done
+
+usage "no words" "Usage: sfcmon"
+usage "no such command" "unrecognized subcommand" play "$chart" "$script"
+usage "no files" "<FILE>" replay
+usage "no script" "<SCRIPT>" replay "$chart"
+usage "a third file" "unexpected argument" replay "$chart" "$script" "$script"
+usage "no such option" "unexpected argument" replay --fast "$chart" "$script"
+usage "a name that isn't UTF-8" "invalid UTF-8" replay $'caf\xe9.chart' "$script"
+
+run --version
+ends 0 && [[ $(cat "$work/out") =~ ^sfcmon\ [0-9.]+$ ]] && says ""
+note $? "the version"
+run --help
+ends 0 && mentions "replay" out && says ""
+note $? "the help"
+run replay --help
+ends 0 && mentions "Exit status:" out && mentions "docs/FORMATS.md" out && mentions "Example:" out && says ""
+note $? "the help on replay"
+
+fails "a chart that the reader refuses" 1 "refused 4 Syntax line 2" replay "$work/faulty.chart" "$script"
+fails "a chart that the loader refuses" 1 "refused 14 NoInitial" replay "$work/dark.chart" "$script"
+fails "a script that is refused" 1 "script line 2" replay "$chart" "$work/faulty.script"
+fails "a chart that isn't there" 3 "read fault" replay "$work/no.chart" "$script"
+fails "a script that isn't there" 3 "read fault" replay "$chart" "$work/no.script"
+fails "a script that isn't there, with a chart that is refused" 3 "read fault" replay "$work/dark.chart" "$work/no.script"
+fails "a folder" 3 "read fault" replay "$work" "$script"
+
+run replay "$chart" "$work/early.script"
+ends 0 && mentions "refused 29 NotDue" out && says ""
+note $? "a command that is refused leaves status 0"
+if [ -e /dev/full ]; then
+  "$program" replay "$chart" "$script" >/dev/full 2>"$work/err"
+  status=$?
+  ends 3 && says "write fault"
+  note $? "output that can't be written"
+  "$program" replay "$work/dark.chart" "$script" >"$work/out" 2>/dev/full
+  status=$?
+  ends 1 && is_silent
+  note $? "a fault text that can't be written"
+fi
+echo "$passed passed, $failed failed"
+[ "$failed" = 0 ]
