@@ -1,0 +1,2 @@
+-- bounds on counted work
+pub mod Ticks

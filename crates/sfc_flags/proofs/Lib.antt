@@ -1,0 +1,4 @@
+mod Tables
+mod Views
+mod Nexts
+mod Passed

@@ -1,0 +1,16 @@
+use Rattle.std.proofs.Common.{◌≡◌, length, ◌∙◌, ap, sym, arith, rules, List, ℕ}
+use Rattle.std.specs.Prelude.{replicate}
+use Rattle.std.specs.Int.{div_ceil}
+use Rattle.sfc_flags.specs.Private.Bits.{flags_of, IsTable}
+use Rattle.sfc_flags.proofs.Views.{length_of, blank_table, zeros}
+use Rattle.sfc_flags.proofs.flags.Flags.new.Goals as goal
+
+pub invariant_of-result : goal.invariant_of-result
+invariant_of-result c =
+    let e : c.in_ok-vec.field-0.items ≡ replicate (div_ceil c.args.places 64) 0 = search rules in
+    (zeros c.args.places c.in_ok-vec.field-0.items e).0
+
+pub returns : goal.returns
+returns c =
+    let e : c.in_ok-vec.field-0.items ≡ replicate (div_ceil c.args.places 64) 0 = search rules in
+    (zeros c.args.places c.in_ok-vec.field-0.items e).1

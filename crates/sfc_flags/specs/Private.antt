@@ -1,0 +1,2 @@
+-- how words hold flags
+pub mod Bits

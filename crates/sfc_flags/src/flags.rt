@@ -1,0 +1,126 @@
+//! A table of flags, one bit each.
+
+ghost use Rattle.std.specs.Prelude.{◌≡◌, ◌<◌, ◌≤◌, ◌^◌, ◌||◌, ◌&&◌, ◌↔◌, ◌∷◌, ◌+◌, ◌-◌, [], ℕ, List, Bool, not, true, false, length, replicate, slice_set, IfOk, IfSome, None};
+ghost use Rattle.sfc_expr.specs.Ticks.{Within};
+ghost use Rattle.sfc_flags.specs.Flags.{flag, places_from, places_passed};
+ghost use Rattle.sfc_flags.specs.Private.Bits.{flags_of, IsTable};
+
+use crate::words;
+use sfc_expr::ticks::Ticks;
+use std::alloc::{AllocError, Global};
+use std::marker::Model;
+
+/// Flags of a fixed number of places, from place 0 on: a set of places. Clauses see them as a list.
+///
+/// Work by words counts a tick for each word of 64 flags, which is told as at most one for each place.
+#[derive(Drop)]
+pub struct Flags {
+    places: usize,
+    words: Vec<u64>,
+}
+
+impl Model for Flags {
+    ghost Value = { List Bool };
+
+    ghost view = { λ f. flags_of f.places f.words.items };
+
+    ghost invariant = { λ f. IsTable f.places f.words.items };
+}
+
+impl Flags {
+    /// A table of so many places, none of which is set.
+    pub fn new(alloc: Global, places: usize) -> Result<Self, AllocError>
+        ensures { IfOk result (λ flags. flags ≡ replicate places false) }
+    {
+        Ok(Flags {
+            places,
+            words: vec![in alloc; 0; places.div_ceil(64)]?,
+        })
+    }
+
+    /// The number of places.
+    pub fn places(&self) -> usize
+        ensures { result ≡ length self.now }
+    {
+        self.places
+    }
+
+    /// The flag of this place.
+    pub fn get(&self, place: usize) -> bool
+        requires { place < length self.now }
+        ensures { result ≡ flag self.now place }
+    {
+        words::get(&self.words, place)
+    }
+
+    /// Sets or clears the flag of this place.
+    pub fn set(&mut self, place: usize, value: bool)
+        requires { place < length self.old }
+        ensures { self.new ≡ slice_set self.old place value }
+    {
+        words::put(&mut self.words, place, value);
+    }
+
+    /// Clears all flags.
+    pub fn clear_all(&mut self, ticks: &mut Ticks)
+        ensures flags { self.new ≡ replicate (length self.old) false }
+        ensures ticks { Within (length self.old) ticks.old ticks.new }
+    {
+        words::clear(&mut self.words, ticks);
+    }
+
+    /// Takes over the other's flags.
+    pub fn copy_from(&mut self, other: &Flags, ticks: &mut Ticks)
+        requires { length other.now ≡ length self.old }
+        ensures flags { self.new ≡ other.now }
+        ensures ticks { Within (length self.old) ticks.old ticks.new }
+    {
+        words::copy(&mut self.words, &other.words, ticks);
+    }
+
+    /// Adds the other's flags.
+    pub fn union_with(&mut self, other: &Flags, ticks: &mut Ticks)
+        requires { length other.now ≡ length self.old }
+        ensures len { length self.new ≡ length self.old }
+        ensures flags { (i : ℕ) → flag self.new i ≡ (flag self.old i || flag other.now i) }
+        ensures ticks { Within (length self.old) ticks.old ticks.new }
+    {
+        words::unite(&mut self.words, &other.words, ticks);
+    }
+
+    /// Takes away the other's flags.
+    pub fn subtract(&mut self, other: &Flags, ticks: &mut Ticks)
+        requires { length other.now ≡ length self.old }
+        ensures len { length self.new ≡ length self.old }
+        ensures flags { (i : ℕ) → flag self.new i ≡ (flag self.old i && not (flag other.now i)) }
+        ensures ticks { Within (length self.old) ticks.old ticks.new }
+    {
+        words::take_away(&mut self.words, &other.words, ticks);
+    }
+
+    /// Whether the other has each flag of these.
+    pub fn is_subset(&self, other: &Flags, ticks: &mut Ticks) -> bool
+        requires { length other.now ≡ length self.now }
+        ensures subset { (result ≡ true) ↔ ((i : ℕ) → flag self.now i ≡ true → flag other.now i ≡ true) }
+        ensures ticks { Within (length self.now) ticks.old ticks.new }
+    {
+        words::is_within(&self.words, &other.words, ticks)
+    }
+
+    /// The first set place from `from` on. A walk over all set places, each time from the place behind the last one,
+    /// makes at most a tick for each place of the table.
+    pub fn next_set(&self, from: usize, ticks: &mut Ticks) -> Option<usize>
+        ensures some { IfSome result (λ i. (from ≤ i) × (i < length self.now)
+            × (places_from self.now from ≡ i ∷ places_from self.now (i + 1))) }
+        ensures none { result ≡ None → places_from self.now from ≡ [] }
+        ensures len { length self.now < 2 ^ 64 }
+        ensures ticks { Within (places_passed (length self.now) from result) ticks.old ticks.new }
+    {
+        let places = self.places;
+        if from < places {
+            words::next(&self.words, from, ticks)
+        } else {
+            None
+        }
+    }
+}

@@ -1,0 +1,120 @@
+//! Bits in a slice of words.
+
+ghost use Rattle.std.specs.Prelude.{◌≡◌, ◌==◌, ◌/◌, ◌<◌, ◌≤◌, ◌^◌, ◌-◌, ◌||◌, ◌&&◌, ◌↔◌, ℕ, not, true, false, length, cond, IfSome, None};
+ghost use Rattle.sfc_expr.specs.Ticks.{Within};
+ghost use Rattle.sfc_flags.specs.Private.Bits.{bit, IsNext, words_passed};
+
+use sfc_expr::ticks::Ticks;
+
+/// The bit of place i.
+pub fn get(words: &[u64], i: usize) -> bool
+    requires { i / 64 < length words.now }
+    ensures { result ≡ bit words.now i }
+{
+    (words[i / 64] >> (i % 64)) & 1 == 1
+}
+
+/// Sets or clears the bit of place i.
+pub fn put(words: &mut [u64], i: usize, value: bool)
+    requires { i / 64 < length words.old }
+    ensures len { length words.new ≡ length words.old }
+    ensures bits { (j : ℕ) → bit words.new j ≡ cond (j == i) value (bit words.old j) }
+{
+    let mask = 1u64 << (i % 64);
+    if value {
+        words[i / 64] |= mask;
+    } else {
+        words[i / 64] &= !mask;
+    }
+}
+
+/// Adds the bits of the other words.
+pub fn unite(words: &mut [u64], other: &[u64], ticks: &mut Ticks)
+    requires { length other.now ≡ length words.old }
+    ensures len { length words.new ≡ length words.old }
+    ensures bits { (j : ℕ) → bit words.new j ≡ (bit words.old j || bit other.now j) }
+    ensures ticks { Within (length words.old) ticks.old ticks.new }
+{
+    for k in 0..words.len() {
+        words[k] |= other[k];
+        ticks.tick();
+    }
+}
+
+/// Takes away the bits of the other words.
+pub fn take_away(words: &mut [u64], other: &[u64], ticks: &mut Ticks)
+    requires { length other.now ≡ length words.old }
+    ensures len { length words.new ≡ length words.old }
+    ensures bits { (j : ℕ) → bit words.new j ≡ (bit words.old j && not (bit other.now j)) }
+    ensures ticks { Within (length words.old) ticks.old ticks.new }
+{
+    for k in 0..words.len() {
+        words[k] &= !other[k];
+        ticks.tick();
+    }
+}
+
+/// Takes over the other words.
+pub fn copy(words: &mut [u64], other: &[u64], ticks: &mut Ticks)
+    requires { length other.now ≡ length words.old }
+    ensures len { length words.new ≡ length words.old }
+    ensures words { words.new ≡ other.now }
+    ensures ticks { Within (length words.old) ticks.old ticks.new }
+{
+    for k in 0..words.len() {
+        words[k] = other[k];
+        ticks.tick();
+    }
+}
+
+/// Clears all bits.
+pub fn clear(words: &mut [u64], ticks: &mut Ticks)
+    ensures len { length words.new ≡ length words.old }
+    ensures bits { (j : ℕ) → bit words.new j ≡ false }
+    ensures ticks { Within (length words.old) ticks.old ticks.new }
+{
+    for k in 0..words.len() {
+        words[k] = 0;
+        ticks.tick();
+    }
+}
+
+/// Whether the other words have each bit of these.
+pub fn is_within(words: &[u64], other: &[u64], ticks: &mut Ticks) -> bool
+    requires { length other.now ≡ length words.now }
+    ensures within { (result ≡ true) ↔ ((j : ℕ) → bit words.now j ≡ true → bit other.now j ≡ true) }
+    ensures ticks { Within (length words.now) ticks.old ticks.new }
+{
+    for k in 0..words.len() {
+        ticks.tick();
+        if words[k] & !other[k] != 0 {
+            return false;
+        }
+    }
+    true
+}
+
+/// The first set place from `from` on.
+pub fn next(words: &[u64], from: usize, ticks: &mut Ticks) -> Option<usize>
+    requires { length words.now ≤ 2 ^ 58 }
+    ensures some { IfSome result (λ i. IsNext words.now from i) }
+    ensures none { result ≡ None → (j : ℕ) → from ≤ j → bit words.now j ≡ false }
+    ensures ticks { Within (words_passed words.now from result) ticks.old ticks.new }
+{
+    let first = from / 64;
+    if first >= words.len() {
+        return None;
+    }
+    ticks.tick();
+    let rest = words[first] >> (from % 64);
+    if rest != 0 {
+        return Some(from + rest.trailing_zeros() as usize);
+    }
+    for k in first + 1..words.len() {
+        ticks.tick();
+        if words[k] != 0 {
+            return Some(k * 64 + words[k].trailing_zeros() as usize);
+        }
+    }
+    None
+}

@@ -1,0 +1,6 @@
+-- the answers of the blocks, as look-backs
+pub mod Timers
+-- the same by the numbers of scans
+pub mod Numbered
+-- what a block has seen; opaque to the crates above
+pub mod Agreement
