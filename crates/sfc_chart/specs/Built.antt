@@ -26,7 +26,7 @@ use Rattle.sfc_chart.specs.declared.plant.Instance.{Instance}
 use Rattle.sfc_chart.specs.declared.load_error.LoadError.{LoadError}
 use Rattle.sfc_chart.specs.declared.load_error.LoadError.TheVariants as fault
 use Rattle.sfc_chart.specs.Chart.{PlantData}
-use Rattle.sfc_chart.specs.Names.{upper, place_of}
+use Rattle.sfc_chart.specs.Names.{place_of}
 use Rattle.sfc_chart.specs.Loading.{Check, variables_of, number_of, steps_of, transitions_of, step_names, program_names, task_names, task_number}
 
 -- the variable at this place; places that no number has are refused by the limit on variables
@@ -45,7 +45,7 @@ condition_of vs (expression.Truth b) = Literal (Bool b)
 
 -- the number of a named step
 abbrev pub step_number : List (List ℕ) → List ℕ → ℕ
-step_number steps name = unwrap_or (place_of (upper name) steps) 0
+step_number steps name = unwrap_or (place_of name steps) 0
 
 abbrev pub step_numbers : List (List ℕ) → List (List ℕ) → List ℕ
 step_numbers steps names = map (step_number steps) names
@@ -69,7 +69,7 @@ abbrev pub instance_of : List (List ℕ) → List (List ℕ) → InstanceText �
 instance_of tasks programs i = record {
   name = i.name;
   task = record { 0 = unwrap_or (task_number tasks i.task) 0 };
-  program = unwrap_or (place_of (upper i.program) programs) 0;
+  program = unwrap_or (place_of i.program programs) 0;
 }
 
 abbrev pub plant_of : Source → PlantData

@@ -2,7 +2,6 @@
 use Rattle.std.specs.Prelude.{◌≡◌, map}
 use Rattle.sfc_chart.specs.declared.plant.Plant.TheInside.{Inside}
 use Rattle.sfc_chart.specs.Chart.{PlantData, IsPlant}
-use Rattle.sfc_chart.specs.Names.{upper}
 
 abbrev pub plant_data : Inside → PlantData
 plant_data p = record {
@@ -18,6 +17,6 @@ plant_data p = record {
 -- it is sound, and each table has the names of its list
 pub record IsLoaded (p : Inside) : Type 0 where
   pub sound : IsPlant (plant_data p)
-  pub variable_table : p.variable_names ≡ map (λ v. upper v.name) p.variables
-  pub task_table : p.task_names ≡ map (λ t. upper t.name) p.tasks
-  pub instance_table : p.instance_names ≡ map (λ i. upper i.name) p.instances
+  pub variable_table : p.variable_names ≡ map (λ v. v.name) p.variables
+  pub task_table : p.task_names ≡ map (λ t. t.name) p.tasks
+  pub instance_table : p.instance_names ≡ map (λ i. i.name) p.instances

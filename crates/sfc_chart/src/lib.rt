@@ -7,6 +7,7 @@ pub mod expr;
 pub mod ids;
 pub mod load;
 pub mod load_error;
+pub mod name_key;
 pub mod name_table;
 pub mod plant;
 pub mod value;

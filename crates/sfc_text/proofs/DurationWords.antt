@@ -20,7 +20,8 @@ use Rattle.sfc_text.specs.Literals.{kind_of_prefix, signed, IsLiteral}
 use Rattle.std.specs.Option.{option_map}
 use Rattle.sfc_text.specs.DurationWord.{parts_value, signed_value, value_behind, value_after, duration_value}
 use Rattle.sfc_text.specs.Lexemes as lexemes
-use Rattle.sfc_text.specs.Lexemes.{StartsWord, Prefix, minus, is_minus, Body, Piece, Scans, IsDuration}
+use Rattle.sfc_text.specs.Names.{StartsWord}
+use Rattle.sfc_text.specs.Lexemes.{Prefix, minus, is_minus, Body, Piece, Scans, IsDuration}
 use Rattle.sfc_text.proofs.Digits.{figures, sharp_class, underscore_class}
 use Rattle.sfc_text.proofs.Runs.{run_cuts, run_again}
 use Rattle.sfc_text.proofs.Parts.{Begins, interval_sound, interval_begins, tenths_figures, dot_class}
@@ -70,7 +71,7 @@ spelled_starts [] c v e low high = absurd cc
 spelled_starts (b ∷ w) c v e low high =
     let h = head_same (eqb (to_ascii_uppercase b) (to_ascii_uppercase c)) b c w v refl e in
     let k = letter_of b c (h.0 ∙ capital_upper c low high) low high in
-    record { head = b; tail = w; is = refl; holds = rw k tt }
+    record { head = b; tail = w; is = refl; holds = rw k refl }
 
 -- the prefix of a duration
 record PrefixSound (front : List ℕ) : Type 0 where
@@ -159,7 +160,7 @@ at_sound : (front rest : List ℕ) (z : ℤ) → value_after front rest ≡ Some
 at_sound front [] z f = absurd cc
 at_sound front (b ∷ w) z f = sharp_by (eqb b 35) front b w z refl f
 
-word_sound : (w : List ℕ) (z : ℤ) → duration_value w ≡ Some z → IsDuration w z
+pub word_sound : (w : List ℕ) (z : ℤ) → duration_value w ≡ Some z → IsDuration w z
 unfolding duration_value
 word_sound w z f =
     let c = run_cuts alphabet.Word w in

@@ -1,5 +1,5 @@
 -- Durations (B.1.2.3.1): parts in falling order of unit. The value is in microseconds.
-use Rattle.std.specs.Prelude.{◌≡◌, ℕ, ◌+◌, ◌*◌, ◌^◌, ◌≤◌, List, [], ◌∷◌, ◌++◌, Bool, true, false, codes, Some}
+use Rattle.std.specs.Prelude.{◌≡◌, ℕ, ℤ, pos, neg_ℤ, ◌≤ℤ◌, ◌+◌, ◌*◌, ◌^◌, ◌≤◌, List, [], ◌∷◌, ◌++◌, Bool, true, false, codes, Some}
 use Rattle.sfc_text.specs.declared.unit.Unit.{Unit}
 use Rattle.sfc_text.specs.declared.unit.Unit.TheVariants.{Day, Hour, Minute, Second, Millisecond}
 use Rattle.sfc_text.specs.declared.run.Alphabet.TheVariants.{Letters}
@@ -56,6 +56,11 @@ pub data Interval : List Unit → List ℕ → ℕ → Type 0 where
 -- the greatest magnitude of a TIME value (our choice)
 abbrev pub greatest : ℕ
 greatest = 2 ^ 62
+
+-- microseconds that are a value of type TIME
+pub record IsTimeValue (z : ℤ) : Type 0 where
+  pub low : neg_ℤ (pos greatest) ≤ℤ z
+  pub high : z ≤ℤ pos greatest
 
 pub record IsInterval (w : List ℕ) (v : ℕ) : Type 0 where
   pub parts : Interval units w v

@@ -1,6 +1,6 @@
 -- The grammar, by its productions (Annex B). Each relation says what a tree is derived from: from the tokens ts, before
 -- the tokens rest. What the productions leave out of the standard's is not there yet.
-use Rattle.std.specs.Prelude.{◌≡◌, ℕ, ℤ, List, [], ◌∷◌, true, false, Some, None, codes}
+use Rattle.std.specs.Prelude.{◌≡◌, ℕ, ℤ, List, [], ◌∷◌, true, false, Some, None, codes, refl}
 use Rattle.sfc_text.specs.declared.keyword.Keyword.TheVariants as keyword
 use Rattle.sfc_text.specs.declared.delimiter.Delimiter.TheVariants as sign
 use Rattle.sfc_text.specs.declared.location.Location.{Location}
@@ -52,7 +52,7 @@ pub data IsExpression : Kinds → Expression → Kinds → Type 0 where
 
 -- transition ::= TRANSITION FROM name TO name ':=' expr ';' END_TRANSITION
 pub data IsTransition : Kinds → Transition → Kinds → Type 0 where
-  between : {p f : List ℕ} {ts rest : Kinds} {c : Expression} → IsExpression ts c (Delimiter sign.Semicolon ∷ Keyword keyword.EndTransition ∷ rest) → IsTransition (Keyword keyword.Transition ∷ Keyword keyword.From ∷ Name p ∷ Keyword keyword.To ∷ Name f ∷ Delimiter sign.Assign ∷ ts) (record { preceding = p ∷ []; following = f ∷ []; condition = c }) rest
+  between : {p f : List ℕ} {ts rest : Kinds} {c : Expression} → IsExpression ts c (Delimiter sign.Semicolon ∷ Keyword keyword.EndTransition ∷ rest) → IsTransition (Keyword keyword.Transition ∷ Keyword keyword.From ∷ Name p ∷ Keyword keyword.To ∷ Name f ∷ Delimiter sign.Assign ∷ ts) (record { preceding = p ∷ []; following = f ∷ []; condition = c; some_preceding = refl; some_following = refl }) rest
 
 -- element ::= step | transition
 pub data IsElement : Kinds → Element → Kinds → Type 0 where

@@ -17,16 +17,11 @@ use Rattle.sfc_text.specs.declared.token.TokenKind.TheVariants as token
 use Rattle.sfc_text.specs.Classes.{class_of, first_class}
 use Rattle.sfc_text.specs.Runs.{IsRun}
 use Rattle.sfc_text.specs.Words.{keyword_of}
+use Rattle.sfc_text.specs.Names.{StartsWord, is_spaced}
 use Rattle.sfc_text.specs.Literals.{kind_of_prefix, alphabet_of, fault_of, signed, IsLiteral}
 use Rattle.sfc_text.specs.Durations.{IsInterval}
 
 -- ---- words
-
--- underscores stand single and inside
-unfoldable pub is_spaced : List ℕ → Bool
-is_spaced [] = true
-is_spaced (b ∷ []) = not (b == 95)
-is_spaced (b ∷ c ∷ w) = not (b == 95 && c == 95) && is_spaced (c ∷ w)
 
 abbrev pub reserved_or_name : Option Keyword → List ℕ → TokenKind
 reserved_or_name (Some k) w = token.Keyword k
@@ -35,11 +30,6 @@ reserved_or_name None w = token.Name w
 -- a reserved word in any case, or a name
 abbrev pub word_token : List ℕ → TokenKind
 word_token w = reserved_or_name (keyword_of w) w
-
-abbrev pub StartsWord : Class → Type 0
-StartsWord class.Letter = Unit {0}
-StartsWord class.Underscore = Unit {0}
-StartsWord _ = ⊥
 
 -- a `#` stands behind the prefix of a literal
 abbrev pub is_sharp_first : List ℕ → Bool

@@ -3,6 +3,7 @@ pub mod Classes
 pub mod Runs
 pub mod Case
 pub mod Words
+pub mod Names
 pub mod Numbers
 pub mod NumberScan
 pub mod Durations
@@ -18,6 +19,7 @@ pub mod Scanning
 pub mod Writing
 pub mod TimeText
 pub mod Tokens
+pub mod Trees
 pub mod Terminals
 pub mod Reading
 pub mod ProgramReading

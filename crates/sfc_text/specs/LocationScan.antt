@@ -4,10 +4,9 @@ use Rattle.std.specs.Borrow.{Bor}
 use Rattle.sfc_text.specs.declared.run.Alphabet.TheVariants.{Figures}
 use Rattle.sfc_text.specs.declared.location.Size.{Size}
 use Rattle.sfc_text.specs.declared.location.Size.TheVariants.{Bit}
-use Rattle.sfc_text.specs.declared.location.Location.{Location}
 use Rattle.sfc_text.specs.Runs.{run}
 use Rattle.sfc_text.specs.NumberScan.{◌>>=◌, integer}
-use Rattle.sfc_text.specs.Locations.{area_of, size_of}
+use Rattle.sfc_text.specs.Locations.{LocationData, area_of, size_of}
 
 -- behind a number: the end, or a point and further numbers
 abbrev pub pointed : ℕ → List ℕ → (List ℕ → Option (List ℕ)) → Option (List ℕ)
@@ -39,7 +38,7 @@ abbrev pub size_at : List ℕ → Size × List ℕ
 size_at [] = (Bit, [])
 size_at (b ∷ w) = sized (size_of b) w (b ∷ w)
 
-unfoldable pub location : List ℕ → Option Location
+unfoldable pub location : List ℕ → Option LocationData
 location [] = None
 location (b ∷ w) = area_of b >>= λ area. numbers 8 (size_at w).1 >>= λ ns. Some (record { area = area; size = (size_at w).0; numbers = ns })
 

@@ -1,5 +1,5 @@
 -- Reading program types.
-use Rattle.std.specs.Prelude.{ℕ, List, [], ◌∷◌, Bool, true, false, Some, None, Ok, Err, codes}
+use Rattle.std.specs.Prelude.{ℕ, List, [], ◌∷◌, Bool, true, false, Some, None, Ok, Err, codes, refl}
 use Rattle.sfc_text.specs.declared.keyword.Keyword.TheVariants as keyword
 use Rattle.sfc_text.specs.declared.delimiter.Delimiter.TheVariants as sign
 use Rattle.sfc_text.specs.declared.read_error.ReadErrorKind.TheVariants.{Syntax}
@@ -51,6 +51,9 @@ expression (token.Keyword keyword.True ∷ ts) = Ok (expressions.Truth true, ts)
 expression (token.Keyword keyword.False ∷ ts) = Ok (expressions.Truth false, ts)
 expression _ = Err Syntax
 
+unfoldable pub transition_between : List ℕ → List ℕ → Expression → Transition
+transition_between p f c = record { preceding = p ∷ []; following = f ∷ []; condition = c; some_preceding = refl; some_following = refl }
+
 abbrev pub transition : Kinds → Read (Transition × Kinds)
 transition ts =
     reading.keyword keyword.From ts >>= λ us.
@@ -61,7 +64,7 @@ transition ts =
     expression ws >>= λ c.
     reading.delimiter sign.Semicolon c.1 >>= λ xs.
     reading.keyword keyword.EndTransition xs >>= λ ys.
-    Ok (record { preceding = p.0 ∷ []; following = f.0 ∷ []; condition = c.0 }, ys)
+    Ok (transition_between p.0 f.0 c.0, ys)
 
 abbrev pub a_step : Read (Step × Kinds) → Found Element
 a_step r = r >>= λ x. Ok (Some (elements.Step x.0, x.1))

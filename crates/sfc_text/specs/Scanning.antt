@@ -18,7 +18,8 @@ use Rattle.sfc_text.specs.Results.{◌>>=◌}
 use Rattle.sfc_text.specs.Runs.{run}
 use Rattle.sfc_text.specs.Literals.{kind_of_prefix, alphabet_of, fault_of}
 use Rattle.sfc_text.specs.LiteralScan.{literal}
-use Rattle.sfc_text.specs.Lexemes.{is_spaced, word_token, is_minus, look_ahead, Tokens}
+use Rattle.sfc_text.specs.Names.{is_spaced}
+use Rattle.sfc_text.specs.Lexemes.{word_token, is_minus, look_ahead, Tokens}
 
 -- what stands behind the end of a comment
 unfoldable pub after_comment : List ℕ → Option (List ℕ)

@@ -88,7 +88,7 @@ fn numbers(alloc: Global, text: &[u8]) -> Result<Option<Vec<u32>>, AllocError>
 }
 
 /// The location that the text behind `%` is, if it is one.
-#[tactic(auto, unfolding(crate::specs::LocationScan::location))]
+#[tactic(auto, unfolding(crate::specs::LocationScan::location), using(crate::proofs::LocationProofs::counted))]
 pub fn location(alloc: Global, text: &[u8]) -> Result<Option<Location>, AllocError>
     ensures { Gives (λ o. o) result (scan.location text.now) }
 {
@@ -102,10 +102,5 @@ pub fn location(alloc: Global, text: &[u8]) -> Result<Option<Location>, AllocErr
     let Some(numbers) = numbers(alloc, digits)? else {
         return Ok(None);
     };
-    let numbers = Items::from_vec(numbers);
-    Ok(Some(Location {
-        area,
-        size,
-        numbers,
-    }))
+    Ok(Some(Location::new(area, size, Items::from_vec(numbers))))
 }

@@ -22,6 +22,7 @@ pub mod read_error;
 mod run;
 pub mod scan;
 pub mod time_text;
+pub mod time_value;
 pub mod token;
 pub mod tree;
 mod unit;

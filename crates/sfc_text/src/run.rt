@@ -25,8 +25,8 @@ pub enum Alphabet {
     Location,
 }
 
-// Whether the byte belongs to the alphabet.
-fn has(alphabet: Alphabet, byte: u8) -> bool
+/// Whether the byte belongs to the alphabet.
+pub fn has(alphabet: Alphabet, byte: u8) -> bool
     ensures { result ≡ runs.has alphabet byte }
 {
     let class = class_of(byte);

@@ -1,8 +1,10 @@
 //! Bytes to tokens (2.1, 2.2).
 
-ghost use Rattle.std.specs.Prelude.{◌≡◌, ◌∷◌, Option, Some, None, IfOk, length};
+ghost use Rattle.std.specs.Prelude.{◌≡◌, ◌∷◌, Option, Some, None, IfOk, IsTrue, length};
 ghost use Rattle.sfc_text.specs.Classes as classes;
 ghost use Rattle.sfc_text.specs.Lexemes as lexemes;
+ghost use Rattle.sfc_text.specs.Names as names;
+ghost use Rattle.sfc_text.specs.Names.{IsWord};
 ghost use Rattle.sfc_text.specs.NumberScan.{view_slice};
 ghost use Rattle.sfc_text.specs.Results.{Gives, Answers, kind_of};
 ghost use Rattle.sfc_text.specs.Scanning as scanning;
@@ -15,7 +17,7 @@ use crate::class::{Class, class_of, first_class};
 use crate::delimiter::Delimiter;
 use crate::fault::Fault;
 use crate::literal::{LiteralKind, literal};
-use crate::name::Name;
+use crate::name::{Name, is_spaced};
 use crate::read_error::{OUT_OF_MEMORY, ReadError, ReadErrorKind};
 use crate::run::{Alphabet, run};
 use crate::token::{Token, TokenKind};
@@ -50,26 +52,6 @@ fn look_ahead(first: Delimiter, second: Class) -> Ahead
         }
         _ => Ahead::Alone,
     }
-}
-
-// Whether underscores stand single and inside.
-#[tactic(auto, unfolding(crate::specs::Lexemes::is_spaced))]
-fn is_spaced(word: &[u8]) -> bool
-    ensures { result ≡ lexemes.is_spaced word.now }
-{
-    let mut rest = word;
-    'all: while let Some((first, after)) = rest.split_first() {
-        match after.first() {
-            None => return *first != b'_',
-            Some(second) => {
-                if *first == b'_' && *second == b'_' {
-                    return false;
-                }
-            }
-        }
-        rest = after;
-    }
-    true
 }
 
 // What stands behind the end of a comment.
@@ -124,6 +106,7 @@ fn literal_at(
 
 // The token that a word is: reserved, or a name.
 fn word_token(alloc: Global, word: &[u8]) -> Result<TokenKind, AllocError>
+    requires { IsWord word.now }
     ensures { IfOk result (λ token. token ≡ lexemes.word_token word.now) }
 {
     if let Some(keyword) = keyword_of(word) {
@@ -135,6 +118,7 @@ fn word_token(alloc: Global, word: &[u8]) -> Result<TokenKind, AllocError>
 
 // The word at the front, or the literal of which it is the prefix.
 fn word_at(alloc: Global, bytes: &[u8]) -> Result<(Option<TokenKind>, &[u8]), Fault>
+    requires { IsTrue (names.starts_word (classes.first_class bytes.now)) }
     ensures { Gives view_next result (scanning.word_at bytes.now) }
 {
     let (word, rest) = run(Alphabet::Word, bytes);

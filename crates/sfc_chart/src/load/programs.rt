@@ -1,7 +1,6 @@
 //! Program types (2.5.3).
 
 ghost use Rattle.std.specs.Prelude.{◌≡◌, ◌++◌, ◌∷◌, [], map, OnOk, IfOk};
-ghost use Rattle.sfc_chart.specs.Names.{upper};
 ghost use Rattle.sfc_chart.specs.Loading.{program_names, program_check, programs_check};
 ghost use Rattle.sfc_chart.specs.Built.{Loads, type_of};
 
@@ -9,6 +8,7 @@ use super::chart::load_chart;
 use super::scope::Scope;
 use crate::chart::ProgramType;
 use crate::load_error::LoadError;
+use crate::name_key::NameKey;
 use crate::name_table::NameTable;
 use sfc_text::tree::Program;
 use std::alloc::Global;
@@ -20,10 +20,10 @@ fn load_program(
     names: &mut NameTable,
 ) -> Result<ProgramType, LoadError>
     ensures loads { Loads (λ loaded. loaded) result (program_check scope.now.variables.items names.old program.now) (type_of scope.now.variables.items program.now) }
-    ensures named { OnOk result (names.new ≡ names.old ++ upper program.now.name ∷ []) }
+    ensures named { OnOk result (names.new ≡ names.old ++ program.now.name ∷ []) }
 {
-    let capitals = program.name.spelling().to_ascii_uppercase(alloc)?;
-    if !names.add(capitals)? {
+    let key = NameKey::new(alloc, program.name.spelling())?;
+    if !names.add(key)? {
         return Err(LoadError::Duplicate);
     }
     let chart = load_chart(alloc, program.elements.as_slice(), scope)?;

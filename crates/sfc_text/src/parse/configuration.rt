@@ -1,6 +1,7 @@
 //! The configuration: variables, tasks and instances (2.7, B.1.7).
 
-ghost use Rattle.std.specs.Prelude.{◌≡◌, Some};
+ghost use Rattle.std.specs.Prelude.{◌≡◌, Some, IfOk};
+ghost use Rattle.sfc_text.specs.Durations.{IsTimeValue};
 ghost use Rattle.sfc_text.specs.Tokens.{kinds};
 ghost use Rattle.sfc_text.specs.ConfigurationReading as reading;
 ghost use Rattle.sfc_text.specs.Reading.{Gives, all, view, view_list, view_found};
@@ -12,6 +13,7 @@ use crate::location::Location;
 use crate::name::Name;
 use crate::parse::fault::ParseFault;
 use crate::parse::terminal::{delimiter, keyword, name, syntax, word};
+use crate::time_value::TimeValue;
 use crate::token::{Token, TokenKind};
 use crate::tree::{Configuration, Declaration, Instance, Task};
 use crate::var_type::VarType;
@@ -181,7 +183,8 @@ fn globals(alloc: Global, tokens: &[Token]) -> Result<(Items<Declaration>, &[Tok
 // A duration.
 #[tactic(auto, unfolding(crate::specs::ConfigurationReading::duration))]
 fn duration(tokens: &[Token]) -> Result<(i64, &[Token]), ParseFault>
-    ensures { Gives view result (reading.duration (kinds tokens.now)) }
+    ensures value { Gives view result (reading.duration (kinds tokens.now)) }
+    ensures limited { IfOk result (λ found. IsTimeValue found.0) }
 {
     match tokens {
         [
@@ -190,7 +193,7 @@ fn duration(tokens: &[Token]) -> Result<(i64, &[Token]), ParseFault>
                 ..
             },
             rest @ ..,
-        ] => Ok((*found, rest)),
+        ] => Ok((found.micros(), rest)),
         _ => Err(syntax(tokens)),
     }
 }
@@ -214,7 +217,8 @@ fn integer(tokens: &[Token]) -> Result<(u32, &[Token]), ParseFault>
 
 // The interval of a task.
 fn interval(tokens: &[Token]) -> Result<(i64, &[Token]), ParseFault>
-    ensures { Gives view result (reading.interval (kinds tokens.now)) }
+    ensures value { Gives view result (reading.interval (kinds tokens.now)) }
+    ensures limited { IfOk result (λ found. IsTimeValue found.0) }
 {
     let tokens = word(tokens, b"INTERVAL")?;
     let tokens = delimiter(tokens, Delimiter::Assign)?;
@@ -232,7 +236,8 @@ fn priority(tokens: &[Token]) -> Result<(u32, &[Token]), ParseFault>
 
 // What stands in the parentheses of a task.
 fn task_parts(tokens: &[Token]) -> Result<((i64, u32), &[Token]), ParseFault>
-    ensures { Gives view result (reading.task_parts (kinds tokens.now)) }
+    ensures value { Gives view result (reading.task_parts (kinds tokens.now)) }
+    ensures limited { IfOk result (λ found. IsTimeValue found.0.0) }
 {
     let tokens = delimiter(tokens, Delimiter::Open)?;
     let (interval, tokens) = interval(tokens)?;
@@ -252,7 +257,7 @@ fn task(alloc: Global, tokens: &[Token]) -> Result<(Task, &[Token]), ParseFault>
     let tokens = delimiter(tokens, Delimiter::Semicolon)?;
     let task = Task {
         name,
-        interval,
+        interval: TimeValue::new(interval),
         priority,
     };
     Ok((task, tokens))
