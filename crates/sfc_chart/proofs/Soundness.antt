@@ -1,5 +1,5 @@
 -- Where no check fails, the plant is sound.
-use Rattle.std.proofs.Common.{◌≡◌, ℕ, ◌+◌, ◌<◌, ◌≤◌, ◌^◌, ℤ, pos, ◌≤ℤ◌, int_le, nat_lt, min, Bool, true, false, not, ◌&&◌, ◌||◌, List, [], ◌∷◌, ◌++◌, length, map, sum_by, All, Any, Option, Some, None, unwrap_or, is_none, refl, sym, subst, ◌∙◌, arith, rules}
+use Rattle.std.proofs.Common.{◌≡◌, ℕ, ◌+◌, ◌<◌, ◌≤◌, ◌^◌, ℤ, pos, ◌≤ℤ◌, int_lt, nat_lt, min, Bool, true, false, not, ◌&&◌, ◌||◌, List, [], ◌∷◌, ◌++◌, length, map, sum_by, All, Any, Option, Some, None, unwrap_or, is_none, refl, sym, subst, ◌∙◌, arith, rules}
 use Rattle.std.specs.List.{list_any}
 use Rattle.std.proofs.lemmas.List.{length-map}
 use Rattle.std.proofs.lemmas.List.Elements.{All-nil, All-cons, All-head, All-tail, All-map}
@@ -24,7 +24,8 @@ use Rattle.sfc_chart.specs.declared.plant.Variable.{Variable}
 use Rattle.sfc_chart.specs.Chart.{IsTarget, IsStep, IsTransition, IsChart, IsTask, IsInstance, IsPlant}
 use Rattle.sfc_chart.specs.Meaning.{IsOver}
 use Rattle.sfc_chart.specs.Parts.{IsLimited}
-use Rattle.sfc_chart.specs.Names.{has, place_of, is_same}
+use Rattle.sfc_chart.specs.Names.{has, place_of}
+use Rattle.sfc_text.specs.Case.{same_word}
 use Rattle.sfc_chart.specs.Loading.{Check, ◌then◌, when, in_turn, each, bool_check, number_of, variable_names, association_check, step_associations_check, condition_check, step_name, step_check, task_name, program_name, instance_name, variables_check, tasks_check, programs_check, instances_check, image_check, side_step_check, side_check, transition_check, association_count, limits_check, chart_check, program_check, task_check, instance_check, steps_of, transitions_of, step_names, program_names, task_names, task_number, variables_of, source_check}
 use Rattle.sfc_chart.specs.Built.{association_of, step_of, step_number, step_numbers, condition_of, transition_of, chart_of, type_of, task_of, instance_of, plant_of}
 
@@ -57,7 +58,7 @@ in_turn_passes name check P says before (x ∷ xs) e =
 
 -- a name that is found has a number below the length
 place_below : (name : List ℕ) (names : List (List ℕ)) (i : ℕ) → place_of name names ≡ Some i → i < length names
-place_below name names i e = (position-Some (is_same name) names i [] e).0
+place_below name names i e = (position-Some (same_word name) names i [] e).0
 
 found_below : (n : ℕ) (place : Option ℕ) → ((i : ℕ) → place ≡ Some i → i < n) → is_none place ≡ false → unwrap_or place 0 < n
 found_below n None says e = cc
