@@ -23,11 +23,11 @@ use Rattle.sfc_chart.specs.declared.load_error.Limit.TheVariants as limit
 use Rattle.sfc_chart.specs.declared.plant.Variable.{Variable}
 use Rattle.sfc_chart.specs.Chart.{IsTarget, IsStep, IsTransition, IsChart, IsTask, IsInstance, IsPlant}
 use Rattle.sfc_chart.specs.Meaning.{IsOver}
-use Rattle.sfc_chart.specs.Parts.{IsLimited}
+use Rattle.sfc_chart.specs.Assembly.Parts.{IsLimited}
 use Rattle.sfc_chart.specs.Names.{has, place_of}
 use Rattle.sfc_text.specs.Case.{same_word}
-use Rattle.sfc_chart.specs.Loading.{Check, ◌then◌, when, in_turn, each, bool_check, number_of, variable_names, association_check, step_associations_check, condition_check, step_name, step_check, task_name, program_name, instance_name, variables_check, tasks_check, programs_check, instances_check, image_check, side_step_check, side_check, transition_check, association_count, limits_check, chart_check, program_check, task_check, instance_check, steps_of, transitions_of, step_names, program_names, task_names, task_number, variables_of, source_check}
-use Rattle.sfc_chart.specs.Built.{association_of, step_of, step_number, step_numbers, condition_of, transition_of, chart_of, type_of, task_of, instance_of, plant_of}
+use Rattle.sfc_chart.specs.Loading.{Check, ◌then◌, when, in_turn, each, bool_check, variable_number, variable_names, association_check, step_associations_check, condition_check, step_name, step_check, task_name, program_name, instance_name, variables_check, tasks_check, programs_check, instances_check, image_check, side_step_check, side_check, transition_check, association_count, limits_check, chart_check, program_check, task_check, instance_check, steps_of, transitions_of, step_names, program_names, task_names, task_number, variables_of, source_check}
+use Rattle.sfc_chart.specs.Built.{association_of, step_of, step_number, step_numbers, condition_of, transition_of, chart_of, program_type_of, task_of, instance_of, plant_of}
 
 pub then_first : (a b : Check) → (a then b) ≡ None → a ≡ None
 then_first None b e = refl
@@ -69,17 +69,17 @@ checked_below : (vs : List Variable) (missing wrong : LoadError) (place : Option
 checked_below vs missing wrong None says e = cc
 checked_below vs missing wrong (Some i) says e = let below : i < length vs = says i refl in omega arith
 
-number_below : (vs : List Variable) (name : List ℕ) (i : ℕ) → number_of vs name ≡ Some i → i < length vs
+number_below : (vs : List Variable) (name : List ℕ) (i : ℕ) → variable_number vs name ≡ Some i → i < length vs
 number_below vs name i e = subst (λ n. i < n) (length-map vs (λ v. v.name)) (place_below name (variable_names vs) i e)
 
 associations_sound : (vs : List Variable) (s : StepText) → step_associations_check vs s ≡ None → IsStep (length vs) (step_of vs s)
 associations_sound vs s e = record {
   targets = All-map (λ a. IsTarget (length vs) a.target) (association_of vs) s.associations
-      (each_passes (association_check vs) (λ a. IsTarget (length vs) (association_of vs a).target) (λ a e. checked_below vs _ _ (number_of vs a.action) (number_below vs a.action) e) s.associations e);
+      (each_passes (association_check vs) (λ a. IsTarget (length vs) (association_of vs a).target) (λ a e. checked_below vs _ _ (variable_number vs a.action) (number_below vs a.action) e) s.associations e);
 }
 
 condition_sound : (vs : List Variable) (c : Expression) → condition_check vs c ≡ None → IsOver (length vs) (condition_of vs c)
-condition_sound vs (expression.Name name) e = checked_below vs _ _ (number_of vs name) (number_below vs name) e
+condition_sound vs (expression.Name name) e = checked_below vs _ _ (variable_number vs name) (number_below vs name) e
 condition_sound vs (expression.Truth b) e = tt
 
 side_sound : (steps names : List (List ℕ)) → side_check steps names ≡ None → All (λ s. s < length steps) (step_numbers steps names)
@@ -183,11 +183,11 @@ tasks_sound tasks limited e =
       rw (length-map tasks task_of) few,
     )
 
-programs_sound : (vs : List Variable) (programs : List Program) → programs_check vs programs ≡ None → All (λ t. IsChart (length vs) t.chart) (map (type_of vs) programs)
+programs_sound : (vs : List Variable) (programs : List Program) → programs_check vs programs ≡ None → All (λ t. IsChart (length vs) t.chart) (map (program_type_of vs) programs)
 unfolding programs_check
 programs_sound vs programs e =
-    All-map (λ t. IsChart (length vs) t.chart) (type_of vs) programs
-    (in_turn_passes program_name (program_check vs) (λ p. IsChart (length vs) (type_of vs p).chart) (λ before p e. chart_sound vs p.elements (then_second (when (has before p.name) fault.Duplicate) _ e)) [] programs e)
+    All-map (λ t. IsChart (length vs) t.chart) (program_type_of vs) programs
+    (in_turn_passes program_name (program_check vs) (λ p. IsChart (length vs) (program_type_of vs p).chart) (λ before p e. chart_sound vs p.elements (then_second (when (has before p.name) fault.Duplicate) _ e)) [] programs e)
 
 instances_sound : (tasks programs : List (List ℕ)) (instances : List InstanceText) → instances_check tasks programs instances ≡ None
     → All (IsInstance (length tasks) (length programs)) (map (instance_of tasks programs) instances) × (length (map (instance_of tasks programs) instances) ≤ 64)
@@ -214,11 +214,11 @@ plant_sound s limited e =
     let after_programs = then_second (programs_check vs s.programs) _ after_tasks in
     let instances_ok = instances_sound (task_names tasks) (program_names s.programs) s.configuration.instances (then_first (instances_check (task_names tasks) (program_names s.programs) s.configuration.instances) _ after_programs) in
     let same_tasks : length (task_names tasks) ≡ length (map task_of tasks) = length-map tasks (λ t. t.name) ∙ sym (length-map tasks task_of) in
-    let same_programs : length (program_names s.programs) ≡ length (map (type_of vs) s.programs) = length-map s.programs (λ p. p.name) ∙ sym (length-map s.programs (type_of vs)) in
+    let same_programs : length (program_names s.programs) ≡ length (map (program_type_of vs) s.programs) = length-map s.programs (λ p. p.name) ∙ sym (length-map s.programs (program_type_of vs)) in
     record {
       tasks = tasks_ok.0;
       types = programs_sound vs s.programs (then_first (programs_check vs s.programs) _ after_tasks);
-      instances = subst (λ n. All (IsInstance n (length (map (type_of vs) s.programs))) (map (instance_of (task_names tasks) (program_names s.programs)) s.configuration.instances)) same_tasks
+      instances = subst (λ n. All (IsInstance n (length (map (program_type_of vs) s.programs))) (map (instance_of (task_names tasks) (program_names s.programs)) s.configuration.instances)) same_tasks
           (subst (λ n. All (IsInstance (length (task_names tasks)) n) (map (instance_of (task_names tasks) (program_names s.programs)) s.configuration.instances)) same_programs instances_ok.0);
       variable_limit = image_sound vs (then_second (instances_check (task_names tasks) (program_names s.programs) s.configuration.instances) _ after_programs);
       task_limit = tasks_ok.1;

@@ -95,8 +95,8 @@ abbrev pub variable_names : List Variable → List (List ℕ)
 variable_names vs = map (λ v. v.name) vs
 
 -- the number of the variable with this name
-abbrev pub number_of : List Variable → List ℕ → Option ℕ
-number_of vs name = place_of name (variable_names vs)
+abbrev pub variable_number : List Variable → List ℕ → Option ℕ
+variable_number vs name = place_of name (variable_names vs)
 
 abbrev pub is_bool_type : VarType → Bool
 is_bool_type types.Bool = true
@@ -143,14 +143,14 @@ each check (x ∷ xs) = check x then each check xs
 
 -- an association names a BOOL variable (2.6.4.1)
 abbrev pub association_check : List Variable → Association → Check
-association_check vs a = bool_check vs fault.UnknownAction fault.NotBool (number_of vs a.action)
+association_check vs a = bool_check vs fault.UnknownAction fault.NotBool (variable_number vs a.action)
 
 abbrev pub step_associations_check : List Variable → Step → Check
 step_associations_check vs s = each (association_check vs) s.associations
 
 -- a condition is BOOL (2.6.3)
 abbrev pub condition_check : List Variable → Expression → Check
-condition_check vs (expression.Name name) = bool_check vs fault.Unknown fault.WrongType (number_of vs name)
+condition_check vs (expression.Name name) = bool_check vs fault.Unknown fault.WrongType (variable_number vs name)
 condition_check vs (expression.Truth b) = None
 
 -- a list of step names: each is a step, and none stands twice
@@ -250,7 +250,8 @@ programs_check vs programs = in_turn program_name (program_check vs) [] programs
 
 unfoldable pub instances_check : List (List ℕ) → List (List ℕ) → List Instance → Check
 instances_check tasks programs instances =
-    when (nat_lt 64 (length instances)) (fault.Limit limit.Instances) then in_turn instance_name (instance_check tasks programs) [] instances
+    when (nat_lt 64 (length instances)) (fault.Limit limit.Instances)
+    then in_turn instance_name (instance_check tasks programs) [] instances
 
 unfoldable pub image_check : List Variable → Check
 image_check vs = when (nat_lt 4096 (length vs)) (fault.Limit limit.Variables) then when (repeats_location vs) fault.SameLocation

@@ -56,7 +56,7 @@ impl Model for Plant {
 
     ghost Value = { PlantData };
 
-    ghost use Rattle.sfc_chart.specs.PlantView.{plant_data, IsLoaded};
+    ghost use Rattle.sfc_chart.specs.Assembly.PlantView.{plant_data, IsLoaded};
 
     ghost view = { plant_data };
 

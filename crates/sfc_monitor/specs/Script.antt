@@ -4,7 +4,7 @@ use Rattle.std.specs.Option.{option_map}
 use Rattle.sfc_text.specs.declared.var_type.VarType.{VarType}
 use Rattle.sfc_text.specs.declared.var_type.VarType.TheVariants as types
 use Rattle.sfc_text.specs.Case.{same_word}
-use Rattle.sfc_text.specs.DurationWord.{duration_value}
+use Rattle.sfc_text.specs.Scanning.DurationWords.{duration_value}
 use Rattle.sfc_chart.specs.declared.ids.VarId.{VarId}
 use Rattle.sfc_chart.specs.declared.ids.TaskId.{TaskId}
 use Rattle.sfc_chart.specs.declared.value.Value.{Value}

@@ -11,14 +11,15 @@ use Rattle.sfc_text.specs.declared.token.TokenKind.TheVariants as token
 use Rattle.sfc_text.specs.Classes.{between, class_of}
 use Rattle.std.specs.Char.{to_ascii_uppercase}
 use Rattle.sfc_text.specs.Case.{same_word}
-use Rattle.sfc_text.specs.Runs.{is_in, has, AllIn, IsRun, run}
+use Rattle.sfc_text.specs.Runs.{is_in, has, AllIn, IsRun}
+use Rattle.sfc_text.specs.Scanning.Runs.{run}
 use Rattle.sfc_text.specs.Durations as durations
 use Rattle.sfc_text.specs.Durations.{units, IsUnit, Interval, IsInterval}
-use Rattle.sfc_text.specs.DurationScan.{interval}
+use Rattle.sfc_text.specs.Scanning.Durations.{interval}
 use Rattle.sfc_text.specs.Literals as literals
 use Rattle.sfc_text.specs.Literals.{kind_of_prefix, signed, IsLiteral}
 use Rattle.std.specs.Option.{option_map}
-use Rattle.sfc_text.specs.DurationWord.{parts_value, signed_value, value_behind, value_after, duration_value}
+use Rattle.sfc_text.specs.Scanning.DurationWords.{parts_value, signed_value, value_behind, value_after, duration_value}
 use Rattle.sfc_text.specs.Lexemes as lexemes
 use Rattle.sfc_text.specs.Names.{StartsWord}
 use Rattle.sfc_text.specs.Lexemes.{Prefix, minus, is_minus, Body, Piece, Scans, IsDuration}

@@ -1,4 +1,5 @@
 pub mod SameWords
+pub mod ReservedWords
 pub mod Tenths
 pub mod Addresses
 pub mod Shorter

@@ -10,12 +10,13 @@ use Rattle.sfc_text.specs.declared.location.Size.TheVariants.{Bit}
 use Rattle.std.specs.Char.{to_ascii_uppercase}
 use Rattle.sfc_text.specs.Numbers as numbers
 use Rattle.sfc_text.specs.Numbers.{Digits, IsInteger}
-use Rattle.sfc_text.specs.NumberScan.{◌>>=◌, integer}
-use Rattle.sfc_text.specs.Runs.{Ends, run}
+use Rattle.sfc_text.specs.Scanning.Integers.{◌>>=◌, integer}
+use Rattle.sfc_text.specs.Runs.{Ends}
+use Rattle.sfc_text.specs.Scanning.Runs.{run}
 use Rattle.sfc_text.specs.Locations as locations
 use Rattle.sfc_text.specs.Locations.{LocationData, AreNumbers, area_of, size_of_capital, size_of, Numbers, IsLocation}
-use Rattle.sfc_text.specs.LocationScan.{number_of, number_at, pointed, numbers as taken_numbers, sized, size_at, location}
-use Rattle.sfc_text.specs.LiteralScan.{limit}
+use Rattle.sfc_text.specs.Scanning.Locations.{number_and_rest, number_at, pointed, numbers as taken_numbers, sized, size_at, location}
+use Rattle.sfc_text.specs.Scanning.Literals.{limit}
 use Rattle.sfc_text.proofs.Digits.{bind_some, decimal_sound, decimal_again, figures, decimal_bounds}
 use Rattle.sfc_text.proofs.Runs.{run_cuts, run_again}
 use Rattle.sfc_text.proofs.Parts.{Begins, dot_class}
@@ -92,7 +93,7 @@ number_again : (digits rest : List ℕ) (n : ℕ) → IsInteger 10 digits n → 
 number_again digits rest n i lt ends =
     let r = run_again Figures digits rest (record { all = figures i; longest = ends }) in
     let d = decimal_again digits n i lt in
-    ap number_of r ∙ rw d refl
+    ap number_and_rest r ∙ rw d refl
 
 numbers_again : {w ns : List ℕ} → Numbers w ns → (left : ℕ) → length ns ≤ left → taken_numbers left w ≡ Some ns
 unfolding taken_numbers

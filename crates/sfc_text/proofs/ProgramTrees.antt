@@ -13,13 +13,13 @@ use Rattle.sfc_text.specs.declared.tree.Qualifier.{Qualifier}
 use Rattle.sfc_text.specs.declared.tree.Qualifier.TheVariants.{NonStored}
 use Rattle.sfc_text.specs.declared.tree.Step.{Step}
 use Rattle.sfc_text.specs.declared.tree.Transition.{Transition}
-use Rattle.sfc_text.specs.Results.{Read}
+use Rattle.sfc_text.specs.ReadErrors.{Read}
 use Rattle.sfc_text.specs.Tokens.{Kinds}
 use Rattle.sfc_text.specs.Grammar as grammar
 use Rattle.sfc_text.specs.Grammar.{Many, Terminated, IsAssociation, IsStep, IsExpression, IsTransition, IsElement, IsProgram}
-use Rattle.sfc_text.specs.Reading as reading
-use Rattle.sfc_text.specs.Reading.{Found, some, all, many}
-use Rattle.sfc_text.specs.ProgramReading.{qualifier, indicated, association, step, expression, transition_between, transition, a_step, a_transition, element, program}
+use Rattle.sfc_text.specs.Parsing.Reading as reading
+use Rattle.sfc_text.specs.Parsing.Reading.{Found, some, all, many}
+use Rattle.sfc_text.specs.Parsing.Programs.{qualifier, indicated, association, step, expression, transition_between, transition, a_step, a_transition, element, program}
 use Rattle.sfc_text.proofs.Lists.{bind_ok, ok_is, some_is}
 use Rattle.sfc_text.proofs.Programs.{association_shrinks, element_shrinks}
 use Rattle.sfc_text.proofs.Terminals.{keyword_ok, delimiter_ok, word_ok, name_ok, many_sound, many_again}

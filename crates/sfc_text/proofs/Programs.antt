@@ -8,11 +8,11 @@ use Rattle.sfc_text.specs.declared.tree.Expression.TheVariants as expressions
 use Rattle.sfc_text.specs.declared.tree.Qualifier.TheVariants.{NonStored}
 use Rattle.sfc_text.specs.declared.tree.Step.{Step}
 use Rattle.sfc_text.specs.declared.tree.Transition.{Transition}
-use Rattle.sfc_text.specs.Results.{Read}
+use Rattle.sfc_text.specs.ReadErrors.{Read}
 use Rattle.sfc_text.specs.Tokens.{Kinds}
-use Rattle.sfc_text.specs.Reading as reading
-use Rattle.sfc_text.specs.Reading.{Found, some, all}
-use Rattle.sfc_text.specs.ProgramReading.{qualifier, indicated, association, step, expression, transition_between, transition, a_step, a_transition, element}
+use Rattle.sfc_text.specs.Parsing.Reading as reading
+use Rattle.sfc_text.specs.Parsing.Reading.{Found, some, all}
+use Rattle.sfc_text.specs.Parsing.Programs.{qualifier, indicated, association, step, expression, transition_between, transition, a_step, a_transition, element}
 use Rattle.sfc_text.proofs.Lists.{Within, left, bind_within, ok_within, keyword_within, delimiter_within, word_within, name_within, Shrinks, many_within, some_is}
 
 qualifier_within : (ts : Kinds) → Within left (length ts) (qualifier ts)

@@ -1,5 +1,5 @@
 -- Transitions with the same steps and the same condition are one transition.
-use Rattle.std.proofs.Common.{◌≡◌, ℕ, false, List, refl, subst}
+use Rattle.std.proofs.Common.{◌≡◌, ℕ, false, List, subst}
 use Rattle.std.proofs.Props.{props}
 use Rattle.sfc_text.specs.Trees.{is_empty}
 use Rattle.sfc_text.specs.declared.tree.Expression.{Expression}

@@ -1,13 +1,14 @@
 -- The longest run of letters, digits and underscores at a letter or an underscore is a word, if it is spaced.
-use Rattle.std.proofs.Common.{◌≡◌, ℕ, true, ◌&&◌, List, [], ◌∷◌, refl, ap, ◌∙◌}
+use Rattle.std.proofs.Common.{◌≡◌, ℕ, true, List, [], ◌∷◌, refl, ap}
 use Rattle.std.specs.List.{list_all}
 use Rattle.sfc_text.specs.declared.class.Class.{Class}
 use Rattle.sfc_text.specs.declared.class.Class.TheVariants as class
 use Rattle.sfc_text.specs.declared.run.Alphabet.{Alphabet}
 use Rattle.sfc_text.specs.declared.run.Alphabet.TheVariants.{Word}
 use Rattle.sfc_text.specs.Classes.{class_of, first_class}
-use Rattle.sfc_text.specs.Runs.{has, is_in, AllIn, run}
-use Rattle.sfc_text.specs.Names.{starts_word, StartsWord, is_spaced, IsWord}
+use Rattle.sfc_text.specs.Runs.{has, is_in, AllIn}
+use Rattle.sfc_text.specs.Scanning.Runs.{run}
+use Rattle.sfc_text.specs.Names.{StartsWord, is_spaced, IsWord}
 use Rattle.sfc_text.proofs.Runs.{run_in, run_cuts}
 
 all_listed : (a : Alphabet) (w : List ℕ) → AllIn a w → list_all (has a) w ≡ true

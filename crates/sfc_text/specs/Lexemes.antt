@@ -1,5 +1,5 @@
 -- Texts and their tokens (2.1, 2.2): pieces of text, each as long as it can be, and the first fault.
-use Rattle.std.specs.Prelude.{◌≡◌, ℕ, ℤ, List, [], ◌∷◌, ◌++◌, Bool, true, false, not, ◌&&◌, ◌==◌, Option, Some, None, Result, Ok, Err}
+use Rattle.std.specs.Prelude.{◌≡◌, ℕ, ℤ, List, [], ◌∷◌, ◌++◌, Bool, true, false, ◌&&◌, ◌==◌, Option, Some, None, Result, Ok, Err}
 use Rattle.sfc_text.specs.declared.delimiter.Delimiter.{Delimiter}
 use Rattle.sfc_text.specs.declared.delimiter.Delimiter.TheVariants as sign
 use Rattle.sfc_text.specs.declared.class.Class.{Class}

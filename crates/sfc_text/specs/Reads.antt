@@ -3,7 +3,7 @@ use Rattle.std.specs.Prelude.{List, ℕ, Ok, Err}
 use Rattle.sfc_text.specs.declared.read_error.ReadErrorKind.{ReadErrorKind}
 use Rattle.sfc_text.specs.declared.read_error.ReadErrorKind.TheVariants.{Syntax}
 use Rattle.sfc_text.specs.declared.tree.Source.{Source}
-use Rattle.sfc_text.specs.Results.{Read}
+use Rattle.sfc_text.specs.ReadErrors.{Read}
 use Rattle.sfc_text.specs.Tokens.{Kinds}
 use Rattle.sfc_text.specs.Texts.{TextScans}
 use Rattle.sfc_text.specs.Grammar.{IsSource}

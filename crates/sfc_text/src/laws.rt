@@ -5,7 +5,7 @@ ghost use Rattle.std.specs.Cmp.Lexicographic.{pointwise};
 ghost use Rattle.std.specs.Str.{str_to_ascii_uppercase};
 ghost use Rattle.sfc_text.specs.Case.{same_word};
 ghost use Rattle.sfc_text.specs.Durations.{greatest};
-ghost use Rattle.sfc_text.specs.DurationWord.{duration_value};
+ghost use Rattle.sfc_text.specs.Scanning.DurationWords.{duration_value};
 ghost use Rattle.sfc_text.specs.TimeText.{time_text};
 ghost use Rattle.sfc_text.specs.Lexemes.{Tokens, Scans, IsDuration};
 ghost use Rattle.sfc_text.specs.declared.token.TokenKind.{TokenKind};
@@ -14,7 +14,7 @@ ghost use Rattle.sfc_text.specs.Tokens.{Kinds};
 ghost use Rattle.sfc_text.specs.declared.tree.Source.{Source};
 ghost use Rattle.sfc_text.specs.Grammar.{IsSource};
 ghost use Rattle.sfc_text.specs.Reads.{TextReads};
-ghost use Rattle.sfc_text.specs.Results.{Read};
+ghost use Rattle.sfc_text.specs.ReadErrors.{Read};
 
 /// Two words are one but for case where their capitals are byte for byte the same.
 pub fn same_by_capitals()

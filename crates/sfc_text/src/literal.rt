@@ -1,14 +1,13 @@
 //! Literals (2.2): what stands behind their prefix.
 
-ghost use Rattle.std.specs.Prelude.{◌≡◌, ◌≤◌, ◌^◌, Option, Some, None, IfSome};
+ghost use Rattle.std.specs.Prelude.{◌≡◌, ◌≤◌, ◌^◌, Option, Some, None, IfSome, IfOk};
 ghost use Rattle.sfc_text.specs.Durations.{IsTimeValue};
 ghost use Rattle.sfc_text.specs.Literals as literals;
-ghost use Rattle.sfc_text.specs.LiteralScan as scan;
-ghost use Rattle.sfc_text.specs.LocationScan.{Gives};
+ghost use Rattle.sfc_text.specs.Scanning.Literals as scan;
 
-use crate::address::location;
 use crate::case::is_same_word;
-use crate::interval::interval;
+use crate::duration_scan::interval;
+use crate::location_scan::location;
 use crate::number::{base_at, integer};
 use crate::read_error::ReadErrorKind;
 use crate::run::Alphabet;
@@ -133,7 +132,7 @@ fn truth(word: &[u8]) -> Option<bool>
 }
 
 // The literal that the word is, with a minus before it or without one; locations apart.
-#[tactic(auto, unfolding(crate::specs::LiteralScan::value_of))]
+#[tactic(auto, unfolding(crate::specs::Scanning::Literals::value_of))]
 fn value_of(kind: LiteralKind, is_negative: bool, word: &[u8]) -> Option<TokenKind>
     ensures { result ≡ scan.value_of kind is_negative word.now }
 {
@@ -148,14 +147,14 @@ fn value_of(kind: LiteralKind, is_negative: bool, word: &[u8]) -> Option<TokenKi
 }
 
 /// The literal that the word is, with a minus before it or without one, if it is one.
-#[tactic(auto, unfolding(crate::specs::LiteralScan::literal))]
+#[tactic(auto, unfolding(crate::specs::Scanning::Literals::literal))]
 pub fn literal(
     alloc: Global,
     kind: LiteralKind,
     is_negative: bool,
     word: &[u8],
 ) -> Result<Option<TokenKind>, AllocError>
-    ensures { Gives (λ o. o) result (scan.literal kind is_negative word.now) }
+    ensures { IfOk result (λ found. scan.literal kind is_negative word.now ≡ found) }
 {
     match kind {
         LiteralKind::Location if !is_negative => match location(alloc, word)? {

@@ -4,7 +4,7 @@ ghost use Rattle.std.specs.Prelude.{◌≡◌, OnOk, IfOk, All};
 ghost use Rattle.sfc_chart.specs.Chart.{IsPlant};
 ghost use Rattle.sfc_chart.specs.Loading.{source_check};
 ghost use Rattle.sfc_chart.specs.Built.{Loads, plant_of};
-ghost use Rattle.sfc_chart.specs.Parts.{plant_from, AreNamed, IsLimited};
+ghost use Rattle.sfc_chart.specs.Assembly.Parts.{plant_from, AreNamed, IsLimited};
 
 use super::instances::load_instances;
 use super::programs::load_programs;

@@ -2,7 +2,7 @@
 
 ghost use Rattle.std.specs.Prelude.{◌≡◌, ◌++◌, ◌∷◌, [], map, OnOk, IfOk};
 ghost use Rattle.sfc_chart.specs.Loading.{program_names, program_check, programs_check};
-ghost use Rattle.sfc_chart.specs.Built.{Loads, type_of};
+ghost use Rattle.sfc_chart.specs.Built.{Loads, program_type_of};
 
 use super::chart::load_chart;
 use super::scope::Scope;
@@ -19,7 +19,7 @@ fn load_program(
     scope: &Scope,
     names: &mut NameTable,
 ) -> Result<ProgramType, LoadError>
-    ensures loads { Loads (λ loaded. loaded) result (program_check scope.now.variables.items names.old program.now) (type_of scope.now.variables.items program.now) }
+    ensures loads { Loads (λ loaded. loaded) result (program_check scope.now.variables.items names.old program.now) (program_type_of scope.now.variables.items program.now) }
     ensures named { OnOk result (names.new ≡ names.old ++ program.now.name ∷ []) }
 {
     let key = NameKey::new(alloc, program.name.spelling())?;
@@ -42,7 +42,7 @@ pub fn load_programs(
 ) -> Result<(Vec<ProgramType>, NameTable), LoadError>
     ensures loads { Loads (λ loaded. loaded.0.items) result
         (programs_check scope.now.variables.items programs.now)
-        (map (type_of scope.now.variables.items) programs.now) }
+        (map (program_type_of scope.now.variables.items) programs.now) }
     ensures named { IfOk result (λ loaded. loaded.1 ≡ program_names programs.now) }
 {
     let mut loaded = Vec::new(alloc);

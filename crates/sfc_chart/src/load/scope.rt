@@ -31,7 +31,7 @@ pub struct Scope {
 impl Scope {
     /// The number of the variable with this name.
     pub fn number_of(&self, alloc: Global, name: &Name) -> Result<Option<usize>, AllocError>
-        ensures { IfOk result (λ number. number ≡ loading.number_of self.now.variables.items name.now) }
+        ensures { IfOk result (λ number. number ≡ loading.variable_number self.now.variables.items name.now) }
     {
         let key = NameKey::new(alloc, name.spelling())?;
         Ok(self.names.find(&key))

@@ -3,7 +3,7 @@
 ghost use Rattle.std.specs.Prelude.{◌≡◌, ◌≤◌, ◌++◌, ◌∷◌, [], length, map, OnOk, IfOk, All};
 ghost use Rattle.sfc_chart.specs.Loading.{in_turn, task_name, task_check, task_names, tasks_check};
 ghost use Rattle.sfc_chart.specs.Built.{Loads, task_of};
-ghost use Rattle.sfc_chart.specs.Parts.{IsLimited};
+ghost use Rattle.sfc_chart.specs.Assembly.Parts.{IsLimited};
 
 use crate::load_error::{Limit, LoadError};
 use crate::name_key::NameKey;

@@ -3,8 +3,8 @@
 ghost use Rattle.std.specs.Prelude.{◌≡◌, Some, IfOk};
 ghost use Rattle.sfc_text.specs.Durations.{IsTimeValue};
 ghost use Rattle.sfc_text.specs.Tokens.{kinds};
-ghost use Rattle.sfc_text.specs.ConfigurationReading as reading;
-ghost use Rattle.sfc_text.specs.Reading.{Gives, all, view, view_list, view_found};
+ghost use Rattle.sfc_text.specs.Parsing.Configurations as reading;
+ghost use Rattle.sfc_text.specs.Parsing.Reading.{Gives, all, view, view_list, view_found};
 
 use crate::delimiter::Delimiter;
 use crate::items::Items;
@@ -20,7 +20,7 @@ use crate::var_type::VarType;
 use std::alloc::Global;
 
 // A comma and a name, if a comma stands there.
-#[tactic(auto, unfolding(crate::specs::ConfigurationReading::further_name))]
+#[tactic(auto, unfolding(crate::specs::Parsing::Configurations::further_name))]
 fn further_name(alloc: Global, tokens: &[Token]) -> Result<Option<(Name, &[Token])>, ParseFault>
     ensures { Gives view_found result (reading.further_name (kinds tokens.now)) }
 {
@@ -59,7 +59,7 @@ fn bool_type(tokens: &[Token]) -> Result<&[Token], ParseFault>
 }
 
 // A location.
-#[tactic(auto, unfolding(crate::specs::ConfigurationReading::location))]
+#[tactic(auto, unfolding(crate::specs::Parsing::Configurations::location))]
 fn location(alloc: Global, tokens: &[Token]) -> Result<(Location, &[Token]), ParseFault>
     ensures { Gives view result (reading.location (kinds tokens.now)) }
 {
@@ -114,7 +114,7 @@ fn listed(
 }
 
 // A declaration behind its first name.
-#[tactic(auto, unfolding(crate::specs::ConfigurationReading::declared))]
+#[tactic(auto, unfolding(crate::specs::Parsing::Configurations::declared))]
 fn declared(
     alloc: Global,
     name: Name,
@@ -135,7 +135,7 @@ fn declared(
 }
 
 // A declaration, if a name stands there.
-#[tactic(auto, unfolding(crate::specs::ConfigurationReading::declaration))]
+#[tactic(auto, unfolding(crate::specs::Parsing::Configurations::declaration))]
 fn declaration(
     alloc: Global,
     tokens: &[Token],
@@ -181,7 +181,7 @@ fn globals(alloc: Global, tokens: &[Token]) -> Result<(Items<Declaration>, &[Tok
 }
 
 // A duration.
-#[tactic(auto, unfolding(crate::specs::ConfigurationReading::duration))]
+#[tactic(auto, unfolding(crate::specs::Parsing::Configurations::duration))]
 fn duration(tokens: &[Token]) -> Result<(i64, &[Token]), ParseFault>
     ensures value { Gives view result (reading.duration (kinds tokens.now)) }
     ensures limited { IfOk result (λ found. IsTimeValue found.0) }
@@ -199,7 +199,7 @@ fn duration(tokens: &[Token]) -> Result<(i64, &[Token]), ParseFault>
 }
 
 // An integer without base and type.
-#[tactic(auto, unfolding(crate::specs::ConfigurationReading::integer))]
+#[tactic(auto, unfolding(crate::specs::Parsing::Configurations::integer))]
 fn integer(tokens: &[Token]) -> Result<(u32, &[Token]), ParseFault>
     ensures { Gives view result (reading.integer (kinds tokens.now)) }
 {

@@ -2,8 +2,8 @@
 
 ghost use Rattle.std.specs.Prelude.{◌≡◌, true, false, Some, IfOk};
 ghost use Rattle.sfc_text.specs.Tokens.{kinds};
-ghost use Rattle.sfc_text.specs.ProgramReading as reading;
-ghost use Rattle.sfc_text.specs.Reading.{Gives, all, view, view_list, view_found};
+ghost use Rattle.sfc_text.specs.Parsing.Programs as reading;
+ghost use Rattle.sfc_text.specs.Parsing.Reading.{Gives, all, view, view_list, view_found};
 
 use crate::delimiter::Delimiter;
 use crate::items::Items;
@@ -16,7 +16,7 @@ use crate::tree::{Association, Element, Expression, Program, Qualifier, Step, Tr
 use std::alloc::{AllocError, Global};
 
 // The qualifier, which is N where it is left out.
-#[tactic(auto, unfolding(crate::specs::ProgramReading::qualifier))]
+#[tactic(auto, unfolding(crate::specs::Parsing::Programs::qualifier))]
 fn qualifier(tokens: &[Token]) -> Result<(Qualifier, &[Token]), ParseFault>
     ensures { Gives view result (reading.qualifier (kinds tokens.now)) }
 {
@@ -44,7 +44,7 @@ fn indicated(action: Name, tokens: &[Token]) -> Result<(Association, &[Token]), 
 }
 
 // An association with its semicolon, if a name stands there.
-#[tactic(auto, unfolding(crate::specs::ProgramReading::association))]
+#[tactic(auto, unfolding(crate::specs::Parsing::Programs::association))]
 fn association(
     alloc: Global,
     tokens: &[Token],
@@ -97,7 +97,7 @@ fn step(alloc: Global, is_initial: bool, tokens: &[Token]) -> Result<(Step, &[To
 }
 
 // An expression.
-#[tactic(auto, unfolding(crate::specs::ProgramReading::expression))]
+#[tactic(auto, unfolding(crate::specs::Parsing::Programs::expression))]
 fn expression(alloc: Global, tokens: &[Token]) -> Result<(Expression, &[Token]), ParseFault>
     ensures { Gives view result (reading.expression (kinds tokens.now)) }
 {
@@ -162,7 +162,7 @@ fn transition(alloc: Global, tokens: &[Token]) -> Result<(Transition, &[Token]),
 }
 
 // A step or a transition, if one begins there.
-#[tactic(auto, unfolding(crate::specs::ProgramReading::element))]
+#[tactic(auto, unfolding(crate::specs::Parsing::Programs::element))]
 fn element(alloc: Global, tokens: &[Token]) -> Result<Option<(Element, &[Token])>, ParseFault>
     ensures { Gives view_found result (reading.element (kinds tokens.now)) }
 {

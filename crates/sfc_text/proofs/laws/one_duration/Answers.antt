@@ -1,5 +1,5 @@
 use Rattle.std.proofs.Common.{◌≡◌, Some}
-use Rattle.sfc_text.specs.DurationWord.{duration_value}
+use Rattle.sfc_text.specs.Scanning.DurationWords.{duration_value}
 use Rattle.sfc_text.proofs.DurationWords.{word_again}
 use Rattle.sfc_text.proofs.laws.one_duration.Goals as goal
 

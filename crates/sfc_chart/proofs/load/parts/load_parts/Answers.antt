@@ -2,7 +2,7 @@ use Rattle.std.proofs.Common.{◌≡◌, None, map, ap, refl, sym, ◌∙◌}
 use Rattle.std.proofs.lemmas.Result.{err_from_is_err_and}
 use Rattle.sfc_chart.proofs.Checks.{fails_first, fails_later, passes}
 use Rattle.sfc_chart.specs.Loading.{image_check, variables_of, task_names, program_names}
-use Rattle.sfc_chart.specs.Built.{Fails, task_of, type_of, instance_of}
+use Rattle.sfc_chart.specs.Built.{Fails, task_of, program_type_of, instance_of}
 use Rattle.sfc_chart.proofs.TableLemmas.{map-map}
 use Rattle.sfc_chart.proofs.load.parts.load_parts.Goals as goal
 
@@ -73,8 +73,8 @@ pub returns-clause-loads : goal.returns-clause-loads
 returns-clause-loads c =
     let variables : c.in_ok-scope.scope.variables.items ≡ variables_of c.args.source.now.configuration.globals = c.in_ok-scope.ensures.1 ∙ ap variables_of c.as_slice.ensures in
     let tasks : c.in_ok-tasks.tasks.items ≡ map task_of c.args.source.now.configuration.tasks = c.in_ok-tasks.ensures.loads.1 ∙ ap (map task_of) c.as_slice-2.ensures in
-    let types : c.in_ok-types.types.items ≡ map (type_of (variables_of c.args.source.now.configuration.globals)) c.args.source.now.programs =
-    c.in_ok-types.ensures.loads.1 ∙ (λ i. map (type_of (variables i)) (c.as_slice-3.ensures i)) in
+    let types : c.in_ok-types.types.items ≡ map (program_type_of (variables_of c.args.source.now.configuration.globals)) c.args.source.now.programs =
+    c.in_ok-types.ensures.loads.1 ∙ (λ i. map (program_type_of (variables i)) (c.as_slice-3.ensures i)) in
     let tasks_named : c.in_ok-tasks.task_names ≡ task_names c.args.source.now.configuration.tasks = c.in_ok-tasks.ensures.named ∙ ap task_names c.as_slice-2.ensures in
     let types_named : c.in_ok-types.type_names ≡ program_names c.args.source.now.programs = c.in_ok-types.ensures.named ∙ ap program_names c.as_slice-3.ensures in
     let instances : c.in_ok-instances.instances.items ≡ map (instance_of (task_names c.args.source.now.configuration.tasks) (program_names c.args.source.now.programs)) c.args.source.now.configuration.instances =

@@ -1,7 +1,7 @@
 use Rattle.std.proofs.Common.{◌≡◌, ◌∷◌, All, sym, subst, arith, rules}
 use Rattle.std.proofs.lemmas.Grind.{common_steps}
 use Rattle.std.proofs.lemmas.List.Elements.{All-cons}
-use Rattle.sfc_chart.specs.Parts.{IsLimited}
+use Rattle.sfc_chart.specs.Assembly.Parts.{IsLimited}
 use Rattle.sfc_chart.proofs.load.tasks.load_each.Goals as goal
 
 pub tasks-preserved : goal.tasks-preserved

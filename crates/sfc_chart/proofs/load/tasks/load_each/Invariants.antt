@@ -1,7 +1,7 @@
 use Rattle.std.proofs.Common.{◌≡◌, ◌++◌, [], length, map, All}
 use Rattle.sfc_chart.specs.Loading.{in_turn, task_name, task_check, task_names}
 use Rattle.sfc_chart.specs.Built.{task_of}
-use Rattle.sfc_chart.specs.Parts.{IsLimited}
+use Rattle.sfc_chart.specs.Assembly.Parts.{IsLimited}
 use Rattle.sfc_chart.proofs.load.tasks.load_each.Given as goal
 
 abbrev pub invariant-tasks : goal.invariant-tasks

@@ -1,5 +1,5 @@
 use Rattle.std.proofs.Common.{refl}
-use Rattle.sfc_text.specs.ProgramReading.{transition_between}
+use Rattle.sfc_text.specs.Parsing.Programs.{transition_between}
 use Rattle.sfc_text.proofs.Transitions.{same_transition}
 use Rattle.sfc_text.proofs.parse.program.transition_between.Goals as goal
 
