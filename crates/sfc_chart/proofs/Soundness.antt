@@ -1,12 +1,13 @@
 -- Where no check fails, the plant is sound.
-use Rattle.std.proofs.Common.{◌≡◌, ℕ, ◌+◌, ◌<◌, ◌≤◌, ◌^◌, ℤ, pos, ◌≤ℤ◌, int_le, nat_lt, min, Bool, true, false, not, ◌&&◌, ◌||◌, List, [], ◌∷◌, ◌++◌, length, map, sum_by, All, Any, Option, Some, None, unwrap_or, is_none, refl, sym, subst, ◌∙◌, arith, rules}
+use Rattle.std.proofs.Common.{◌≡◌, ℕ, ◌+◌, ◌<◌, ◌≤◌, ◌^◌, ℤ, pos, ◌≤ℤ◌, int_lt, nat_lt, min, Bool, true, false, not, ◌&&◌, ◌||◌, List, [], ◌∷◌, ◌++◌, length, map, sum_by, All, Any, Option, Some, None, unwrap_or, is_none, refl, sym, subst, ◌∙◌, arith, rules}
 use Rattle.std.specs.List.{list_any}
 use Rattle.std.proofs.lemmas.List.{length-map}
-use Rattle.std.proofs.lemmas.List.Elements.{All-nil, All-cons, All-map}
+use Rattle.std.proofs.lemmas.List.Elements.{All-nil, All-cons, All-head, All-tail, All-map}
 use Rattle.std.proofs.lemmas.List.Folds.{Any-from_list_any}
 use Rattle.std.proofs.lemmas.List.Quantifiers.{position-Some}
 use Rattle.std.proofs.lemmas.List.Sums.{sum_by-cons}
 use Rattle.std.proofs.lemmas.Grind.{common_steps}
+use Rattle.sfc_text.specs.Trees.{is_empty}
 use Rattle.sfc_text.specs.declared.tree.Source.{Source}
 use Rattle.sfc_text.specs.declared.tree.Program.{Program}
 use Rattle.sfc_text.specs.declared.tree.Element.{Element}
@@ -22,9 +23,11 @@ use Rattle.sfc_chart.specs.declared.load_error.Limit.TheVariants as limit
 use Rattle.sfc_chart.specs.declared.plant.Variable.{Variable}
 use Rattle.sfc_chart.specs.Chart.{IsTarget, IsStep, IsTransition, IsChart, IsTask, IsInstance, IsPlant}
 use Rattle.sfc_chart.specs.Meaning.{IsOver}
-use Rattle.sfc_chart.specs.Names.{upper, has, place_of, is_same}
-use Rattle.sfc_chart.specs.Loading.{Check, ◌then◌, when, in_turn, each, is_empty, bool_check, number_of, variable_names, association_check, step_associations_check, condition_check, step_name, step_check, task_name, program_name, instance_name, variables_check, tasks_check, programs_check, instances_check, image_check, side_step_check, side_check, transition_check, association_count, limits_check, chart_check, program_check, task_check, instance_check, steps_of, transitions_of, step_names, program_names, task_names, task_number, variables_of, source_check, is_interval}
-use Rattle.sfc_chart.specs.Built.{association_of, step_of, step_number, step_numbers, condition_of, transition_of, chart_of, type_of, task_of, instance_of, plant_of}
+use Rattle.sfc_chart.specs.Assembly.Parts.{IsLimited}
+use Rattle.sfc_chart.specs.Names.{has, place_of}
+use Rattle.sfc_text.specs.Case.{same_word}
+use Rattle.sfc_chart.specs.Loading.{Check, ◌then◌, when, in_turn, each, bool_check, variable_number, variable_names, association_check, step_associations_check, condition_check, step_name, step_check, task_name, program_name, instance_name, variables_check, tasks_check, programs_check, instances_check, image_check, side_step_check, side_check, transition_check, association_count, limits_check, chart_check, program_check, task_check, instance_check, steps_of, transitions_of, step_names, program_names, task_names, task_number, variables_of, source_check}
+use Rattle.sfc_chart.specs.Built.{association_of, step_of, step_number, step_numbers, condition_of, transition_of, chart_of, program_type_of, task_of, instance_of, plant_of}
 
 pub then_first : (a b : Check) → (a then b) ≡ None → a ≡ None
 then_first None b e = refl
@@ -50,12 +53,12 @@ pub in_turn_passes : {A : Type 0} (name : A → List ℕ) (check : List (List �
     → (before : List (List ℕ)) (xs : List A) → in_turn name check before xs ≡ None → All P xs
 in_turn_passes name check P says before [] e = All-nil P
 in_turn_passes name check P says before (x ∷ xs) e =
-    let rest = in_turn name check (before ++ upper (name x) ∷ []) xs in
-    All-cons P x xs (says before x (then_first (check before x) rest e)) (in_turn_passes name check P says (before ++ upper (name x) ∷ []) xs (then_second (check before x) rest e))
+    let rest = in_turn name check (before ++ name x ∷ []) xs in
+    All-cons P x xs (says before x (then_first (check before x) rest e)) (in_turn_passes name check P says (before ++ name x ∷ []) xs (then_second (check before x) rest e))
 
 -- a name that is found has a number below the length
 place_below : (name : List ℕ) (names : List (List ℕ)) (i : ℕ) → place_of name names ≡ Some i → i < length names
-place_below name names i e = (position-Some (is_same name) names i [] e).0
+place_below name names i e = (position-Some (same_word name) names i [] e).0
 
 found_below : (n : ℕ) (place : Option ℕ) → ((i : ℕ) → place ≡ Some i → i < n) → is_none place ≡ false → unwrap_or place 0 < n
 found_below n None says e = cc
@@ -66,29 +69,29 @@ checked_below : (vs : List Variable) (missing wrong : LoadError) (place : Option
 checked_below vs missing wrong None says e = cc
 checked_below vs missing wrong (Some i) says e = let below : i < length vs = says i refl in omega arith
 
-number_below : (vs : List Variable) (name : List ℕ) (i : ℕ) → number_of vs name ≡ Some i → i < length vs
-number_below vs name i e = subst (λ n. i < n) (length-map vs (λ v. upper v.name)) (place_below (upper name) (variable_names vs) i e)
+number_below : (vs : List Variable) (name : List ℕ) (i : ℕ) → variable_number vs name ≡ Some i → i < length vs
+number_below vs name i e = subst (λ n. i < n) (length-map vs (λ v. v.name)) (place_below name (variable_names vs) i e)
 
 associations_sound : (vs : List Variable) (s : StepText) → step_associations_check vs s ≡ None → IsStep (length vs) (step_of vs s)
 associations_sound vs s e = record {
   targets = All-map (λ a. IsTarget (length vs) a.target) (association_of vs) s.associations
-      (each_passes (association_check vs) (λ a. IsTarget (length vs) (association_of vs a).target) (λ a e. checked_below vs _ _ (number_of vs a.action) (number_below vs a.action) e) s.associations e);
+      (each_passes (association_check vs) (λ a. IsTarget (length vs) (association_of vs a).target) (λ a e. checked_below vs _ _ (variable_number vs a.action) (number_below vs a.action) e) s.associations e);
 }
 
 condition_sound : (vs : List Variable) (c : Expression) → condition_check vs c ≡ None → IsOver (length vs) (condition_of vs c)
-condition_sound vs (expression.Name name) e = checked_below vs _ _ (number_of vs name) (number_below vs name) e
+condition_sound vs (expression.Name name) e = checked_below vs _ _ (variable_number vs name) (number_below vs name) e
 condition_sound vs (expression.Truth b) e = tt
 
 side_sound : (steps names : List (List ℕ)) → side_check steps names ≡ None → All (λ s. s < length steps) (step_numbers steps names)
 side_sound steps names e =
     All-map (λ s. s < length steps) (step_number steps) names
     (in_turn_passes (λ name. name) (side_step_check steps) (λ name. step_number steps name < length steps)
-    (λ before name e. found_below (length steps) (place_of (upper name) steps) (place_below (upper name) steps) (when_none (is_none (place_of (upper name) steps)) _ (then_first _ _ e)))
-    [] names (then_second _ _ e))
+    (λ before name e. found_below (length steps) (place_of name steps) (place_below name steps) (when_none (is_none (place_of name steps)) _ (then_first _ _ e)))
+    [] names e)
 
-nonempty : {A B : Type 0} (f : A → B) (xs : List A) (e : LoadError) → when (is_empty xs) e ≡ None → 0 < length (map f xs)
-nonempty f [] e h = cc
-nonempty f (x ∷ xs) e h = omega arith
+nonempty : {A B : Type 0} (f : A → B) (xs : List A) → is_empty xs ≡ false → 0 < length (map f xs)
+nonempty f [] h = absurd cc
+nonempty f (x ∷ xs) h = omega arith
 
 transition_sound : (vs : List Variable) (steps : List (List ℕ)) (t : TransitionText) → transition_check vs steps t ≡ None → IsTransition (length vs) (length steps) (transition_of vs steps t)
 transition_sound vs steps t e =
@@ -98,8 +101,8 @@ transition_sound vs steps t e =
     record {
       preceding = side_sound steps t.preceding first;
       following = side_sound steps t.following second;
-      some_preceding = nonempty (step_number steps) t.preceding _ (then_first _ _ first);
-      some_following = nonempty (step_number steps) t.following _ (then_first _ _ second);
+      some_preceding = nonempty (step_number steps) t.preceding t.some_preceding;
+      some_following = nonempty (step_number steps) t.following t.some_following;
       condition = condition_sound vs t.condition (then_second (side_check steps t.following) _ rest);
     }
 
@@ -134,7 +137,7 @@ chart_sound vs elements e =
     let transition_count : length transitions ≤ 2048 = not_above 2048 (length transitions) (when_none (nat_lt 2048 (length transitions)) _ (then_first _ _ more_limits)) in
     let last_limit = then_second (when (nat_lt 2048 (length transitions)) (fault.Limit limit.Transitions)) _ more_limits in
     let few_associations : association_count steps ≤ 4096 = not_above 4096 (association_count steps) (when_none (nat_lt 4096 (association_count steps)) _ last_limit) in
-    let count_same : length (step_names elements) ≡ length (map (step_of vs) steps) = length-map steps (λ s. upper s.name) ∙ sym (length-map steps (step_of vs)) in
+    let count_same : length (step_names elements) ≡ length (map (step_of vs) steps) = length-map steps (λ s. s.name) ∙ sym (length-map steps (step_of vs)) in
     record {
       steps = All-map (IsStep (length vs)) (step_of vs) steps (each_passes (step_associations_check vs) (λ s. IsStep (length vs) (step_of vs s)) (associations_sound vs) steps (then_first (each (step_associations_check vs) steps) _ after_initial));
       transitions = subst (λ m. All (IsTransition (length vs) m) (map (transition_of vs (step_names elements)) transitions)) count_same
@@ -147,50 +150,44 @@ chart_sound vs elements e =
       association_limit = rw (association_count_kept vs steps) few_associations;
     }
 
-both_first : (a b : Bool) → (a && b) ≡ true → a ≡ true
-both_first true b e = refl
-both_first false b e = cc
+not_negative : (t : ℤ) → int_lt t (pos 0) ≡ false → pos 0 ≤ℤ t
+not_negative t e = search rules
 
-both_second : (a b : Bool) → (a && b) ≡ true → b ≡ true
-both_second true b e = e
-both_second false b e = cc
-
-interval_low : (t : ℤ) → is_interval t ≡ true → pos 0 ≤ℤ t
-interval_low t e = let h : int_le (pos 0) t ≡ true = both_first (int_le (pos 0) t) (int_le t (pos (2 ^ 62))) e in search rules
-
-interval_high : (t : ℤ) → is_interval t ≡ true → t ≤ℤ pos (2 ^ 62)
-interval_high t e = let h : int_le t (pos (2 ^ 62)) ≡ true = both_second (int_le (pos 0) t) (int_le t (pos (2 ^ 62))) e in search rules
-
-task_sound : (before : List (List ℕ)) (t : TaskText) → task_check before t ≡ None → IsTask (task_of t)
-task_sound before t e =
-    let good = not_false (is_interval t.interval) (when_none (not (is_interval t.interval)) fault.LiteralRange (then_second (when (has before (upper t.name)) fault.Duplicate) _ e)) in
-    record { low = interval_low t.interval good; high = interval_high t.interval good }
+task_sound : (before : List (List ℕ)) (t : TaskText) → IsLimited t → task_check before t ≡ None → IsTask (task_of t)
+task_sound before t limited e =
+    record { low = not_negative t.interval (when_none (int_lt t.interval (pos 0)) fault.LiteralRange (then_second (when (has before t.name) fault.Duplicate) _ e)); high = limited }
 
 task_below : (tasks : List (List ℕ)) (name : Option (List ℕ)) (i : ℕ) → task_number tasks name ≡ Some i → i < length tasks
 task_below tasks None i e = cc
-task_below tasks (Some name) i e = place_below (upper name) tasks i e
+task_below tasks (Some name) i e = place_below name tasks i e
 
 instance_sound : (tasks programs before : List (List ℕ)) (i : InstanceText) → instance_check tasks programs before i ≡ None → IsInstance (length tasks) (length programs) (instance_of tasks programs i)
 instance_sound tasks programs before i e =
-    let named = then_second (when (has before (upper i.name)) fault.Duplicate) _ e in
+    let named = then_second (when (has before i.name) fault.Duplicate) _ e in
     record {
       task = found_below (length tasks) (task_number tasks i.task) (task_below tasks i.task) (when_none (is_none (task_number tasks i.task)) fault.NoTask (then_first _ _ named));
-      program = found_below (length programs) (place_of (upper i.program) programs) (place_below (upper i.program) programs) (when_none (is_none (place_of (upper i.program) programs)) fault.UnknownType (then_second (when (is_none (task_number tasks i.task)) fault.NoTask) _ named));
+      program = found_below (length programs) (place_of i.program programs) (place_below i.program programs) (when_none (is_none (place_of i.program programs)) fault.UnknownType (then_second (when (is_none (task_number tasks i.task)) fault.NoTask) _ named));
     }
 
-tasks_sound : (tasks : List TaskText) → tasks_check tasks ≡ None → All IsTask (map task_of tasks) × (length (map task_of tasks) ≤ 16)
+-- what holds of each element, and follows from its check where it is so
+both : {A : Type 0} (P Q R : A → Type 0) → ((x : A) → P x → Q x → R x) → (xs : List A) → All P xs → All Q xs → All R xs
+both P Q R says [] p q = All-nil R
+both P Q R says (x ∷ xs) p q = All-cons R x xs (says x (All-head P x xs p) (All-head Q x xs q)) (both P Q R says xs (All-tail P x xs p) (All-tail Q x xs q))
+
+tasks_sound : (tasks : List TaskText) → All IsLimited tasks → tasks_check tasks ≡ None → All IsTask (map task_of tasks) × (length (map task_of tasks) ≤ 16)
 unfolding tasks_check
-tasks_sound tasks e =
+tasks_sound tasks limited e =
     let few : length tasks ≤ 16 = not_above 16 (length tasks) (when_none (nat_lt 16 (length tasks)) _ (then_first _ _ e)) in (
-      All-map IsTask task_of tasks (in_turn_passes task_name task_check (λ t. IsTask (task_of t)) task_sound [] tasks (then_second (when (nat_lt 16 (length tasks)) (fault.Limit limit.Tasks)) _ e)),
+      All-map IsTask task_of tasks (both IsLimited (λ t. IsLimited t → IsTask (task_of t)) (λ t. IsTask (task_of t)) (λ t h f. f h) tasks limited
+          (in_turn_passes task_name task_check (λ t. IsLimited t → IsTask (task_of t)) (λ before t f h. task_sound before t h f) [] tasks (then_second (when (nat_lt 16 (length tasks)) (fault.Limit limit.Tasks)) _ e))),
       rw (length-map tasks task_of) few,
     )
 
-programs_sound : (vs : List Variable) (programs : List Program) → programs_check vs programs ≡ None → All (λ t. IsChart (length vs) t.chart) (map (type_of vs) programs)
+programs_sound : (vs : List Variable) (programs : List Program) → programs_check vs programs ≡ None → All (λ t. IsChart (length vs) t.chart) (map (program_type_of vs) programs)
 unfolding programs_check
 programs_sound vs programs e =
-    All-map (λ t. IsChart (length vs) t.chart) (type_of vs) programs
-    (in_turn_passes program_name (program_check vs) (λ p. IsChart (length vs) (type_of vs p).chart) (λ before p e. chart_sound vs p.elements (then_second (when (has before (upper p.name)) fault.Duplicate) _ e)) [] programs e)
+    All-map (λ t. IsChart (length vs) t.chart) (program_type_of vs) programs
+    (in_turn_passes program_name (program_check vs) (λ p. IsChart (length vs) (program_type_of vs p).chart) (λ before p e. chart_sound vs p.elements (then_second (when (has before p.name) fault.Duplicate) _ e)) [] programs e)
 
 instances_sound : (tasks programs : List (List ℕ)) (instances : List InstanceText) → instances_check tasks programs instances ≡ None
     → All (IsInstance (length tasks) (length programs)) (map (instance_of tasks programs) instances) × (length (map (instance_of tasks programs) instances) ≤ 64)
@@ -207,21 +204,21 @@ image_sound : (vs : List Variable) → image_check vs ≡ None → length vs ≤
 unfolding image_check
 image_sound vs e = not_above 4096 (length vs) (when_none (nat_lt 4096 (length vs)) _ (then_first _ _ e))
 
-pub plant_sound : (s : Source) → source_check s ≡ None → IsPlant (plant_of s)
-plant_sound s e =
+pub plant_sound : (s : Source) → All IsLimited s.configuration.tasks → source_check s ≡ None → IsPlant (plant_of s)
+plant_sound s limited e =
     let vs = variables_of s.configuration.globals in
     let tasks = s.configuration.tasks in
     let after_variables = then_second (variables_check s.configuration.globals) _ e in
-    let tasks_ok = tasks_sound tasks (then_first (tasks_check tasks) _ after_variables) in
+    let tasks_ok = tasks_sound tasks limited (then_first (tasks_check tasks) _ after_variables) in
     let after_tasks = then_second (tasks_check tasks) _ after_variables in
     let after_programs = then_second (programs_check vs s.programs) _ after_tasks in
     let instances_ok = instances_sound (task_names tasks) (program_names s.programs) s.configuration.instances (then_first (instances_check (task_names tasks) (program_names s.programs) s.configuration.instances) _ after_programs) in
-    let same_tasks : length (task_names tasks) ≡ length (map task_of tasks) = length-map tasks (λ t. upper t.name) ∙ sym (length-map tasks task_of) in
-    let same_programs : length (program_names s.programs) ≡ length (map (type_of vs) s.programs) = length-map s.programs (λ p. upper p.name) ∙ sym (length-map s.programs (type_of vs)) in
+    let same_tasks : length (task_names tasks) ≡ length (map task_of tasks) = length-map tasks (λ t. t.name) ∙ sym (length-map tasks task_of) in
+    let same_programs : length (program_names s.programs) ≡ length (map (program_type_of vs) s.programs) = length-map s.programs (λ p. p.name) ∙ sym (length-map s.programs (program_type_of vs)) in
     record {
       tasks = tasks_ok.0;
       types = programs_sound vs s.programs (then_first (programs_check vs s.programs) _ after_tasks);
-      instances = subst (λ n. All (IsInstance n (length (map (type_of vs) s.programs))) (map (instance_of (task_names tasks) (program_names s.programs)) s.configuration.instances)) same_tasks
+      instances = subst (λ n. All (IsInstance n (length (map (program_type_of vs) s.programs))) (map (instance_of (task_names tasks) (program_names s.programs)) s.configuration.instances)) same_tasks
           (subst (λ n. All (IsInstance (length (task_names tasks)) n) (map (instance_of (task_names tasks) (program_names s.programs)) s.configuration.instances)) same_programs instances_ok.0);
       variable_limit = image_sound vs (then_second (instances_check (task_names tasks) (program_names s.programs) s.configuration.instances) _ after_programs);
       task_limit = tasks_ok.1;

@@ -26,32 +26,34 @@ use Rattle.sfc_chart.specs.declared.plant.Instance.{Instance}
 use Rattle.sfc_chart.specs.declared.load_error.LoadError.{LoadError}
 use Rattle.sfc_chart.specs.declared.load_error.LoadError.TheVariants as fault
 use Rattle.sfc_chart.specs.Chart.{PlantData}
-use Rattle.sfc_chart.specs.Names.{upper, place_of}
-use Rattle.sfc_chart.specs.Loading.{Check, variables_of, number_of, steps_of, transitions_of, step_names, program_names, task_names, task_number}
+use Rattle.sfc_chart.specs.Names.{place_of}
+use Rattle.sfc_chart.specs.Loading.{Check, variables_of, variable_number, steps_of, transitions_of, step_names, program_names, task_names, task_number}
 
 -- the variable at this place; places that no number has are refused by the limit on variables
 abbrev pub variable_at : Option ℕ → VarId
 variable_at place = record { 0 = min (unwrap_or place 0) 65535 }
 
 abbrev pub association_of : List PlantVariable → AssociationText → Association
-association_of vs a = record { qualifier = a.qualifier; target = Boolean (variable_at (number_of vs a.action)) }
+association_of vs a = record { qualifier = a.qualifier; target = Boolean (variable_at (variable_number vs a.action)) }
 
 abbrev pub step_of : List PlantVariable → StepText → Step
 step_of vs s = record { name = s.name; is_initial = s.is_initial; associations = map (association_of vs) s.associations }
 
 abbrev pub condition_of : List PlantVariable → Expression → Expr
-condition_of vs (expression.Name name) = Variable (variable_at (number_of vs name))
+condition_of vs (expression.Name name) = Variable (variable_at (variable_number vs name))
 condition_of vs (expression.Truth b) = Literal (Bool b)
 
 -- the number of a named step
 abbrev pub step_number : List (List ℕ) → List ℕ → ℕ
-step_number steps name = unwrap_or (place_of (upper name) steps) 0
+step_number steps name = unwrap_or (place_of name steps) 0
 
 abbrev pub step_numbers : List (List ℕ) → List (List ℕ) → List ℕ
 step_numbers steps names = map (step_number steps) names
 
 abbrev pub transition_of : List PlantVariable → List (List ℕ) → TransitionText → Transition
-transition_of vs steps t = record { preceding = step_numbers steps t.preceding; following = step_numbers steps t.following; condition = condition_of vs t.condition }
+transition_of vs steps t =
+    record { preceding = step_numbers steps t.preceding; following = step_numbers steps t.following;
+      condition = condition_of vs t.condition }
 
 abbrev pub chart_of : List PlantVariable → List Element → Chart
 chart_of vs elements = record {
@@ -59,8 +61,8 @@ chart_of vs elements = record {
   transitions = map (transition_of vs (step_names elements)) (transitions_of elements);
 }
 
-abbrev pub type_of : List PlantVariable → Program → ProgramType
-type_of vs p = record { name = p.name; chart = chart_of vs p.elements }
+abbrev pub program_type_of : List PlantVariable → Program → ProgramType
+program_type_of vs p = record { name = p.name; chart = chart_of vs p.elements }
 
 abbrev pub task_of : TaskText → Task
 task_of t = record { name = t.name; interval = t.interval; priority = t.priority }
@@ -69,7 +71,7 @@ abbrev pub instance_of : List (List ℕ) → List (List ℕ) → InstanceText �
 instance_of tasks programs i = record {
   name = i.name;
   task = record { 0 = unwrap_or (task_number tasks i.task) 0 };
-  program = unwrap_or (place_of (upper i.program) programs) 0;
+  program = unwrap_or (place_of i.program programs) 0;
 }
 
 abbrev pub plant_of : Source → PlantData
@@ -79,7 +81,7 @@ plant_of s = record {
   processor = s.configuration.processor;
   variables = variables_of s.configuration.globals;
   tasks = map task_of s.configuration.tasks;
-  types = map (type_of (variables_of s.configuration.globals)) s.programs;
+  types = map (program_type_of (variables_of s.configuration.globals)) s.programs;
   instances = map (instance_of (task_names s.configuration.tasks) (program_names s.programs)) s.configuration.instances;
 }
 

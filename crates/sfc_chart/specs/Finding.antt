@@ -1,17 +1,17 @@
--- What a name in capitals stands for in a plant.
+-- What a name stands for in a plant.
 use Rattle.std.specs.Prelude.{ℕ, List, map, Option}
 use Rattle.std.specs.Option.{option_map}
 use Rattle.sfc_chart.specs.declared.ids.VarId.{VarId}
 use Rattle.sfc_chart.specs.declared.ids.TaskId.{TaskId}
 use Rattle.sfc_chart.specs.declared.ids.ProgId.{ProgId}
 use Rattle.sfc_chart.specs.Chart.{PlantData}
-use Rattle.sfc_chart.specs.Names.{upper, place_of}
+use Rattle.sfc_chart.specs.Names.{place_of}
 
 abbrev pub variable_named : PlantData → List ℕ → Option VarId
-variable_named plant name = option_map (λ place. record { 0 = place }) (place_of name (map (λ v. upper v.name) plant.variables))
+variable_named plant name = option_map (λ place. record { 0 = place }) (place_of name (map (λ v. v.name) plant.variables))
 
 abbrev pub task_named : PlantData → List ℕ → Option TaskId
-task_named plant name = option_map (λ place. record { 0 = place }) (place_of name (map (λ t. upper t.name) plant.tasks))
+task_named plant name = option_map (λ place. record { 0 = place }) (place_of name (map (λ t. t.name) plant.tasks))
 
 abbrev pub instance_named : PlantData → List ℕ → Option ProgId
-instance_named plant name = option_map (λ place. record { 0 = place }) (place_of name (map (λ i. upper i.name) plant.instances))
+instance_named plant name = option_map (λ place. record { 0 = place }) (place_of name (map (λ i. i.name) plant.instances))

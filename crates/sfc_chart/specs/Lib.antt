@@ -1,10 +1,21 @@
+-- The rules, in reading order.
+
+-- names among names
 pub mod Names
+-- values and their types
 pub mod Values
+-- what an expression means
 pub mod Meaning
-pub mod PlantView
-pub mod Finding
-pub mod Loading
-pub mod Built
-pub mod Parts
+-- plants and charts as values, and what holds of each one that was loaded
 pub mod Chart
+-- what loading accepts: the checks, in the order in which they are made
+pub mod Loading
+-- the plant that a text without fault is
+pub mod Built
+-- what a name stands for in a plant
+pub mod Finding
+-- the numbers, names and texts of what loading refuses
 pub mod LoadErrors
+
+-- What private clauses cite.
+pub mod Assembly

@@ -51,5 +51,6 @@ name_of Memory = codes "Memory"
 -- its number and its name, and of a limit what there is too much of; want of memory has none of them
 abbrev pub error_text : LoadError → List ℕ
 error_text Memory = codes "out of memory"
-error_text (Limit what) = codes "refused " ++ decimal (number_of (Limit what)) ++ codes " " ++ name_of (Limit what) ++ codes " " ++ name_of_limit what
+error_text (Limit what) =
+    codes "refused " ++ decimal (number_of (Limit what)) ++ codes " " ++ name_of (Limit what) ++ codes " " ++ name_of_limit what
 error_text error = codes "refused " ++ decimal (number_of error) ++ codes " " ++ name_of error

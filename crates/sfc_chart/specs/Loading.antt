@@ -1,6 +1,6 @@
 -- What loading accepts (2.4, 2.6.2, 2.6.3, 2.6.4, 2.7.2): the checks, each a fact about the text's trees, in the order in which
 -- they are made, and the plant that a text without fault is. The order of the checks is our choice.
-use Rattle.std.specs.Prelude.{ℕ, nat_lt, ◌^◌, nat_eq, ℤ, pos, int_le, Bool, true, false, not, ◌&&◌, ◌||◌, List, [], ◌∷◌, ◌++◌, length, map, sum_by, Option, Some, None, is_none, slice_get}
+use Rattle.std.specs.Prelude.{ℕ, nat_lt, ◌^◌, nat_eq, pos, int_lt, Bool, true, false, not, ◌&&◌, ◌||◌, List, [], ◌∷◌, ◌++◌, length, map, sum_by, Option, Some, None, is_none, slice_get}
 use Rattle.std.specs.List.{list_any, filter_map, flat_map}
 use Rattle.std.specs.Cmp.Lexicographic.{pointwise}
 use Rattle.sfc_text.specs.declared.location.Location.{Location}
@@ -26,7 +26,7 @@ use Rattle.sfc_chart.specs.declared.load_error.LoadError.{LoadError}
 use Rattle.sfc_chart.specs.declared.load_error.LoadError.TheVariants as fault
 use Rattle.sfc_chart.specs.declared.load_error.Limit.TheVariants as limit
 use Rattle.sfc_chart.specs.declared.plant.Variable.{Variable}
-use Rattle.sfc_chart.specs.Names.{upper, has, place_of}
+use Rattle.sfc_chart.specs.Names.{has, place_of}
 use Rattle.sfc_chart.specs.Values.{default_value}
 
 -- ---- checks, one after the other
@@ -45,10 +45,10 @@ abbrev pub when : Bool → LoadError → Check
 when true f = Some f
 when false f = None
 
--- each element in turn, with the names in capitals of those before it
+-- each element in turn, with the names of those before it
 abbrev pub in_turn : {A : Type 0} → (A → List ℕ) → (List (List ℕ) → A → Check) → List (List ℕ) → List A → Check
 in_turn name check before [] = None
-in_turn name check before (x ∷ xs) = check before x then in_turn name check (before ++ upper (name x) ∷ []) xs
+in_turn name check before (x ∷ xs) = check before x then in_turn name check (before ++ name x ∷ []) xs
 
 -- ---- variables (2.4.3)
 
@@ -75,19 +75,16 @@ fits_location t None = true
 fits_location t (Some location) = is_size_of location.size t
 
 abbrev pub variable_check : List (List ℕ) → Variable → Check
-variable_check before v = when (has before (upper v.name)) fault.Duplicate then when (not (fits_location v.var_type v.location)) fault.WrongType
+variable_check before v = when (has before v.name) fault.Duplicate then when (not (fits_location v.var_type v.location)) fault.WrongType
 
 abbrev pub variable_name : Variable → List ℕ
 variable_name v = v.name
 
 -- ---- tasks (2.7.2)
 
--- a duration from 0 to 2^62 microseconds
-abbrev pub is_interval : ℤ → Bool
-is_interval t = int_le (pos 0) t && int_le t (pos (2 ^ 62))
-
+-- no name twice, and no negative interval
 abbrev pub task_check : List (List ℕ) → Task → Check
-task_check before t = when (has before (upper t.name)) fault.Duplicate then when (not (is_interval t.interval)) fault.LiteralRange
+task_check before t = when (has before t.name) fault.Duplicate then when (int_lt t.interval (pos 0)) fault.LiteralRange
 
 abbrev pub task_name : Task → List ℕ
 task_name t = t.name
@@ -95,11 +92,11 @@ task_name t = t.name
 -- ---- names of variables
 
 abbrev pub variable_names : List Variable → List (List ℕ)
-variable_names vs = map (λ v. upper v.name) vs
+variable_names vs = map (λ v. v.name) vs
 
 -- the number of the variable with this name
-abbrev pub number_of : List Variable → List ℕ → Option ℕ
-number_of vs name = place_of (upper name) (variable_names vs)
+abbrev pub variable_number : List Variable → List ℕ → Option ℕ
+variable_number vs name = place_of name (variable_names vs)
 
 abbrev pub is_bool_type : VarType → Bool
 is_bool_type types.Bool = true
@@ -134,10 +131,10 @@ abbrev pub step_name : Step → List ℕ
 step_name s = s.name
 
 abbrev pub step_names : List Element → List (List ℕ)
-step_names elements = map (λ s. upper s.name) (steps_of elements)
+step_names elements = map (λ s. s.name) (steps_of elements)
 
 abbrev pub step_check : List (List ℕ) → Step → Check
-step_check before s = when (has before (upper s.name)) fault.Duplicate
+step_check before s = when (has before s.name) fault.Duplicate
 
 -- each element in turn
 abbrev pub each : {A : Type 0} → (A → Check) → List A → Check
@@ -146,26 +143,22 @@ each check (x ∷ xs) = check x then each check xs
 
 -- an association names a BOOL variable (2.6.4.1)
 abbrev pub association_check : List Variable → Association → Check
-association_check vs a = bool_check vs fault.UnknownAction fault.NotBool (number_of vs a.action)
+association_check vs a = bool_check vs fault.UnknownAction fault.NotBool (variable_number vs a.action)
 
 abbrev pub step_associations_check : List Variable → Step → Check
 step_associations_check vs s = each (association_check vs) s.associations
 
 -- a condition is BOOL (2.6.3)
 abbrev pub condition_check : List Variable → Expression → Check
-condition_check vs (expression.Name name) = bool_check vs fault.Unknown fault.WrongType (number_of vs name)
+condition_check vs (expression.Name name) = bool_check vs fault.Unknown fault.WrongType (variable_number vs name)
 condition_check vs (expression.Truth b) = None
 
-abbrev pub is_empty : {A : Type 0} → List A → Bool
-is_empty [] = true
-is_empty (x ∷ xs) = false
-
--- a list of step names: each is a step, and none stands twice. (An empty list, which no text has, names no step.)
+-- a list of step names: each is a step, and none stands twice
 abbrev pub side_step_check : List (List ℕ) → List (List ℕ) → List ℕ → Check
-side_step_check steps before name = when (is_none (place_of (upper name) steps)) fault.UnknownStep then when (has before (upper name)) fault.Duplicate
+side_step_check steps before name = when (is_none (place_of name steps)) fault.UnknownStep then when (has before name) fault.Duplicate
 
 abbrev pub side_check : List (List ℕ) → List (List ℕ) → Check
-side_check steps names = when (is_empty names) fault.UnknownStep then in_turn (λ name. name) (side_step_check steps) [] names
+side_check steps names = in_turn (λ name. name) (side_step_check steps) [] names
 
 abbrev pub transition_check : List Variable → List (List ℕ) → Transition → Check
 transition_check vs steps t = side_check steps t.preceding then side_check steps t.following then condition_check vs t.condition
@@ -192,32 +185,32 @@ abbrev pub program_name : Program → List ℕ
 program_name p = p.name
 
 abbrev pub program_names : List Program → List (List ℕ)
-program_names programs = map (λ p. upper p.name) programs
+program_names programs = map (λ p. p.name) programs
 
 abbrev pub program_check : List Variable → List (List ℕ) → Program → Check
-program_check vs before p = when (has before (upper p.name)) fault.Duplicate then chart_check vs p.elements
+program_check vs before p = when (has before p.name) fault.Duplicate then chart_check vs p.elements
 
 -- ---- instances (2.7.2)
 
 abbrev pub task_names : List Task → List (List ℕ)
-task_names tasks = map (λ t. upper t.name) tasks
+task_names tasks = map (λ t. t.name) tasks
 
 -- the number of the task, if one is named that is there
 abbrev pub task_number : List (List ℕ) → Option (List ℕ) → Option ℕ
 task_number tasks None = None
-task_number tasks (Some name) = place_of (upper name) tasks
+task_number tasks (Some name) = place_of name tasks
 
 abbrev pub instance_name : Instance → List ℕ
 instance_name i = i.name
 
 abbrev pub instance_names : List Instance → List (List ℕ)
-instance_names instances = map (λ i. upper i.name) instances
+instance_names instances = map (λ i. i.name) instances
 
 abbrev pub instance_check : List (List ℕ) → List (List ℕ) → List (List ℕ) → Instance → Check
 instance_check tasks programs before i =
-    when (has before (upper i.name)) fault.Duplicate
+    when (has before i.name) fault.Duplicate
     then when (is_none (task_number tasks i.task)) fault.NoTask
-    then when (is_none (place_of (upper i.program) programs)) fault.UnknownType
+    then when (is_none (place_of i.program programs)) fault.UnknownType
 
 -- ---- locations (2.4.1.1)
 
@@ -257,7 +250,8 @@ programs_check vs programs = in_turn program_name (program_check vs) [] programs
 
 unfoldable pub instances_check : List (List ℕ) → List (List ℕ) → List Instance → Check
 instances_check tasks programs instances =
-    when (nat_lt 64 (length instances)) (fault.Limit limit.Instances) then in_turn instance_name (instance_check tasks programs) [] instances
+    when (nat_lt 64 (length instances)) (fault.Limit limit.Instances)
+    then in_turn instance_name (instance_check tasks programs) [] instances
 
 unfoldable pub image_check : List Variable → Check
 image_check vs = when (nat_lt 4096 (length vs)) (fault.Limit limit.Variables) then when (repeats_location vs) fault.SameLocation

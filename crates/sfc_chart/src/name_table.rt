@@ -1,21 +1,23 @@
-//! Names in declared order, found by their capitals.
+//! The names of one name space, in declared order.
 
+use crate::name_key::NameKey;
 use indexmap::IndexSet;
 use std::alloc::{AllocError, Global};
 use std::marker::Model;
 
-/// The names of one name space in capitals, in the order in which they were declared. No name stands twice.
+/// The names of one name space, in the order in which they were declared. No two are one name but for case. Contracts
+/// see the list of them.
 #[derive(Drop)]
 pub struct NameTable {
-    names: IndexSet<Vec<u8>>,
+    names: IndexSet<NameKey>,
 }
 
 impl Model for NameTable {
-    ghost use Rattle.std.specs.Prelude.{List, ℕ, map};
+    ghost use Rattle.std.specs.Prelude.{List, ℕ};
 
     ghost Value = { List (List ℕ) };
 
-    ghost view = { λ table. map (λ name. name.items) table.names.keys };
+    ghost view = { λ table. table.names.keys };
 }
 
 ghost use Rattle.std.specs.Prelude.{◌≡◌, ◌<◌, ◌++◌, ◌∷◌, [], not, length, IfOk, IfSome, OnErr, if◌then◌else◌};
@@ -31,19 +33,19 @@ impl NameTable {
         }
     }
 
-    /// Puts a name in capitals last, and answers true; or leaves the table as it was where the name is there, and
+    /// Puts a name last, and answers true; or leaves the table as it was where the name is there but for case, and
     /// answers false. After want of memory the table is as it was.
-    pub fn add(&mut self, name: Vec<u8>) -> Result<bool, AllocError>
-        ensures added { IfOk result (λ added. added ≡ not (has self.old name.items)) }
-        ensures names { IfOk result (λ added. self.new ≡ (if added then self.old ++ name.items ∷ [] else self.old)) }
+    pub fn add(&mut self, name: NameKey) -> Result<bool, AllocError>
+        ensures added { IfOk result (λ added. added ≡ not (has self.old name)) }
+        ensures names { IfOk result (λ added. self.new ≡ (if added then self.old ++ name ∷ [] else self.old)) }
         ensures err { OnErr result (self.new ≡ self.old) }
     {
         let (_, added) = self.names.insert_full(name)?;
         Ok(added)
     }
 
-    /// The place of a name, which is given in capitals, counted from 0. It takes no memory.
-    pub fn find(&self, name: &[u8]) -> Option<usize>
+    /// The place of a name, counted from 0; case is not significant. It takes no memory.
+    pub fn find(&self, name: &NameKey) -> Option<usize>
         ensures place { result ≡ place_of name.now self.now }
         ensures within { IfSome result (λ place. place < length self.now) }
     {

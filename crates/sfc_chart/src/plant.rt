@@ -2,6 +2,7 @@
 
 use crate::chart::ProgramType;
 use crate::ids::{ProgId, TaskId, VarId};
+use crate::name_key::NameKey;
 use crate::name_table::NameTable;
 use crate::value::Value;
 use sfc_text::items::Items;
@@ -55,7 +56,7 @@ impl Model for Plant {
 
     ghost Value = { PlantData };
 
-    ghost use Rattle.sfc_chart.specs.PlantView.{plant_data, IsLoaded};
+    ghost use Rattle.sfc_chart.specs.Assembly.PlantView.{plant_data, IsLoaded};
 
     ghost view = { plant_data };
 
@@ -121,24 +122,24 @@ impl Plant {
         self.instances.as_slice()
     }
 
-    /// The variable with this name, which is given in capitals. It takes no memory.
-    pub fn find_variable(&self, name: &[u8]) -> Option<VarId>
+    /// The variable with this name; case is not significant. It takes no memory.
+    pub fn find_variable(&self, name: &NameKey) -> Option<VarId>
         ensures { result ≡ variable_named self.now name.now }
     {
         let place = self.variable_names.find(name)?;
         Some(VarId(place as u16))
     }
 
-    /// The task with this name, which is given in capitals. It takes no memory.
-    pub fn find_task(&self, name: &[u8]) -> Option<TaskId>
+    /// The task with this name; case is not significant. It takes no memory.
+    pub fn find_task(&self, name: &NameKey) -> Option<TaskId>
         ensures { result ≡ task_named self.now name.now }
     {
         let place = self.task_names.find(name)?;
         Some(TaskId(place as u8))
     }
 
-    /// The program instance with this name, which is given in capitals. It takes no memory.
-    pub fn find_instance(&self, name: &[u8]) -> Option<ProgId>
+    /// The program instance with this name; case is not significant. It takes no memory.
+    pub fn find_instance(&self, name: &NameKey) -> Option<ProgId>
         ensures { result ≡ instance_named self.now name.now }
     {
         let place = self.instance_names.find(name)?;

@@ -15,7 +15,7 @@ fn is_input(location: &Option<Location>) -> bool
     ensures { result ≡ is_input_location location.now }
 {
     match location {
-        Some(location) => matches!(location.area, Area::Input),
+        Some(location) => matches!(location.area(), Area::Input),
         None => false,
     }
 }

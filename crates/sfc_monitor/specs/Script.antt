@@ -4,14 +4,13 @@ use Rattle.std.specs.Option.{option_map}
 use Rattle.sfc_text.specs.declared.var_type.VarType.{VarType}
 use Rattle.sfc_text.specs.declared.var_type.VarType.TheVariants as types
 use Rattle.sfc_text.specs.Case.{same_word}
-use Rattle.sfc_text.specs.DurationWord.{duration_value}
+use Rattle.sfc_text.specs.Scanning.DurationWords.{duration_value}
 use Rattle.sfc_chart.specs.declared.ids.VarId.{VarId}
 use Rattle.sfc_chart.specs.declared.ids.TaskId.{TaskId}
 use Rattle.sfc_chart.specs.declared.value.Value.{Value}
 use Rattle.sfc_chart.specs.declared.value.Value.TheVariants as value
 use Rattle.sfc_chart.specs.Chart.{PlantData}
 use Rattle.sfc_chart.specs.Finding.{task_named, variable_named}
-use Rattle.sfc_chart.specs.Names.{upper}
 use Rattle.sfc_core.specs.declared.event.Event.{Event}
 use Rattle.sfc_core.specs.declared.event.Event.TheVariants.{Scan, Input}
 use Rattle.sfc_core.specs.History.{Entry}
@@ -60,11 +59,11 @@ words_of (b ∷ bytes) = if is_blank b then words_of bytes else in_word b (begin
 
 -- the task with this name; else a number that no plant has
 abbrev pub task_of : PlantData → List ℕ → TaskId
-task_of plant word = unwrap_or (task_named plant (upper word)) (record { 0 = 255 })
+task_of plant word = unwrap_or (task_named plant word) (record { 0 = 255 })
 
 -- the variable with this name; else a number that no plant has
 abbrev pub variable_of : PlantData → List ℕ → VarId
-variable_of plant word = unwrap_or (variable_named plant (upper word)) (record { 0 = 65535 })
+variable_of plant word = unwrap_or (variable_named plant word) (record { 0 = 65535 })
 
 abbrev pub type_of : PlantData → VarId → Option VarType
 type_of plant id = option_map (λ v. v.var_type) (slice_get plant.variables id.0)

@@ -4,6 +4,7 @@ ghost use Rattle.std.specs.Prelude.{◌≡◌, IfOk};
 
 use crate::split::next_word;
 use sfc_chart::ids::{TaskId, VarId};
+use sfc_chart::name_key::NameKey;
 use sfc_chart::plant::Plant;
 use sfc_chart::value::Value;
 use sfc_core::Event;
@@ -29,8 +30,8 @@ ghost use Rattle.sfc_monitor.specs.Script as script;
 fn task_of(alloc: Global, plant: &Plant, word: &[u8]) -> Result<TaskId, AllocError>
     ensures { IfOk result (λ task. task ≡ script.task_of plant.now word.now) }
 {
-    let capitals = word.to_ascii_uppercase(alloc)?;
-    match plant.find_task(&capitals) {
+    let key = NameKey::new(alloc, word)?;
+    match plant.find_task(&key) {
         Some(task) => Ok(task),
         None => Ok(TaskId(255)),
     }
@@ -40,8 +41,8 @@ fn task_of(alloc: Global, plant: &Plant, word: &[u8]) -> Result<TaskId, AllocErr
 fn variable_of(alloc: Global, plant: &Plant, word: &[u8]) -> Result<VarId, AllocError>
     ensures { IfOk result (λ id. id ≡ script.variable_of plant.now word.now) }
 {
-    let capitals = word.to_ascii_uppercase(alloc)?;
-    match plant.find_variable(&capitals) {
+    let key = NameKey::new(alloc, word)?;
+    match plant.find_variable(&key) {
         Some(id) => Ok(id),
         None => Ok(VarId(65535)),
     }

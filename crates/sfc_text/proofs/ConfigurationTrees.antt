@@ -13,9 +13,9 @@ use Rattle.sfc_text.specs.Case.{same_word}
 use Rattle.sfc_text.specs.Tokens.{Kinds}
 use Rattle.sfc_text.specs.Grammar as grammar
 use Rattle.sfc_text.specs.Grammar.{Many, Terminated, IsFurtherName, IsDeclaration, AreGlobals, IsTask, IsInstance, IsConfiguration}
-use Rattle.sfc_text.specs.Reading as reading
-use Rattle.sfc_text.specs.Reading.{Found, some, all, many}
-use Rattle.sfc_text.specs.ConfigurationReading.{further_name, bool_type, location, located, listed, declared, declaration, globals, duration, integer, interval, priority, task_parts, task, assigned, instance, Names, header, configuration}
+use Rattle.sfc_text.specs.Parsing.Reading as reading
+use Rattle.sfc_text.specs.Parsing.Reading.{Found, some, all, many}
+use Rattle.sfc_text.specs.Parsing.Configurations.{further_name, bool_type, location, located, listed, declared, declaration, globals, duration, integer, interval, priority, task_parts, task, assigned, instance, Names, header, configuration}
 use Rattle.sfc_text.proofs.Lists.{bind_ok, ok_is, some_is}
 use Rattle.sfc_text.proofs.Configurations.{further_name_shrinks, declaration_shrinks}
 use Rattle.sfc_text.proofs.Terminals.{keyword_ok, delimiter_ok, word_ok, name_ok, many_sound, many_again}

@@ -5,9 +5,9 @@ use Rattle.sfc_text.specs.declared.delimiter.Delimiter.TheVariants as sign
 use Rattle.sfc_text.specs.declared.token.TokenKind.TheVariants as token
 use Rattle.sfc_text.specs.declared.var_type.VarType.TheVariants as types
 use Rattle.sfc_text.specs.Tokens.{Kinds}
-use Rattle.sfc_text.specs.Reading as reading
-use Rattle.sfc_text.specs.Reading.{Found, some, all}
-use Rattle.sfc_text.specs.ConfigurationReading.{further_name, bool_type, location, located, listed, declared, declaration}
+use Rattle.sfc_text.specs.Parsing.Reading as reading
+use Rattle.sfc_text.specs.Parsing.Reading.{Found, some, all}
+use Rattle.sfc_text.specs.Parsing.Configurations.{further_name, bool_type, location, located, listed, declared, declaration}
 use Rattle.sfc_text.proofs.Lists.{Within, left, bind_within, ok_within, keyword_within, delimiter_within, name_within, Shrinks, many_within, some_is}
 
 pub further_name_shrinks : Shrinks further_name

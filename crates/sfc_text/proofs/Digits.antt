@@ -9,10 +9,10 @@ use Rattle.sfc_text.specs.Classes.{between, class_of}
 use Rattle.sfc_text.specs.Runs.{is_in, has, AllIn}
 use Rattle.sfc_text.specs.Numbers as numbers
 use Rattle.sfc_text.specs.Numbers.{below, digit_of, Digits, IsInteger, IsBased}
-use Rattle.sfc_text.specs.NumberScan.{◌>>=◌, at_most, one_more, digits, integer, after, or_else, with_base, base_at}
+use Rattle.sfc_text.specs.Scanning.Integers.{◌>>=◌, at_most, one_more, digits, integer, after, or_else, with_base, base_at}
 use Rattle.sfc_text.specs.Literals as literals
 use Rattle.sfc_text.specs.Literals.{Magnitude}
-use Rattle.sfc_text.specs.LiteralScan.{limit, magnitude_at, magnitude}
+use Rattle.sfc_text.specs.Scanning.Literals.{limit, magnitude_at, magnitude}
 
 pub bind_some : {A B : Type 0} (o : Option A) (f : A → Option B) (y : B) → (o >>= f) ≡ Some y → (x : A) × (o ≡ Some x) × (f x ≡ Some y)
 bind_some None f y e = absurd cc

@@ -11,16 +11,18 @@ use Rattle.sfc_text.specs.declared.token.TokenKind.TheVariants as token
 use Rattle.sfc_text.specs.Classes.{between, class_of}
 use Rattle.std.specs.Char.{to_ascii_uppercase}
 use Rattle.sfc_text.specs.Case.{same_word}
-use Rattle.sfc_text.specs.Runs.{is_in, has, AllIn, IsRun, run}
+use Rattle.sfc_text.specs.Runs.{is_in, has, AllIn, IsRun}
+use Rattle.sfc_text.specs.Scanning.Runs.{run}
 use Rattle.sfc_text.specs.Durations as durations
 use Rattle.sfc_text.specs.Durations.{units, IsUnit, Interval, IsInterval}
-use Rattle.sfc_text.specs.DurationScan.{interval}
+use Rattle.sfc_text.specs.Scanning.Durations.{interval}
 use Rattle.sfc_text.specs.Literals as literals
 use Rattle.sfc_text.specs.Literals.{kind_of_prefix, signed, IsLiteral}
 use Rattle.std.specs.Option.{option_map}
-use Rattle.sfc_text.specs.DurationWord.{parts_value, signed_value, value_behind, value_after, duration_value}
+use Rattle.sfc_text.specs.Scanning.DurationWords.{parts_value, signed_value, value_behind, value_after, duration_value}
 use Rattle.sfc_text.specs.Lexemes as lexemes
-use Rattle.sfc_text.specs.Lexemes.{StartsWord, Prefix, minus, is_minus, Body, Piece, Scans, IsDuration}
+use Rattle.sfc_text.specs.Names.{StartsWord}
+use Rattle.sfc_text.specs.Lexemes.{Prefix, minus, is_minus, Body, Piece, Scans, IsDuration}
 use Rattle.sfc_text.proofs.Digits.{figures, sharp_class, underscore_class}
 use Rattle.sfc_text.proofs.Runs.{run_cuts, run_again}
 use Rattle.sfc_text.proofs.Parts.{Begins, interval_sound, interval_begins, tenths_figures, dot_class}
@@ -70,7 +72,7 @@ spelled_starts [] c v e low high = absurd cc
 spelled_starts (b ∷ w) c v e low high =
     let h = head_same (eqb (to_ascii_uppercase b) (to_ascii_uppercase c)) b c w v refl e in
     let k = letter_of b c (h.0 ∙ capital_upper c low high) low high in
-    record { head = b; tail = w; is = refl; holds = rw k tt }
+    record { head = b; tail = w; is = refl; holds = rw k refl }
 
 -- the prefix of a duration
 record PrefixSound (front : List ℕ) : Type 0 where
@@ -159,7 +161,7 @@ at_sound : (front rest : List ℕ) (z : ℤ) → value_after front rest ≡ Some
 at_sound front [] z f = absurd cc
 at_sound front (b ∷ w) z f = sharp_by (eqb b 35) front b w z refl f
 
-word_sound : (w : List ℕ) (z : ℤ) → duration_value w ≡ Some z → IsDuration w z
+pub word_sound : (w : List ℕ) (z : ℤ) → duration_value w ≡ Some z → IsDuration w z
 unfolding duration_value
 word_sound w z f =
     let c = run_cuts alphabet.Word w in

@@ -4,7 +4,7 @@ use Rattle.std.proofs.lemmas.Bool.{eqb-true}
 use Rattle.sfc_text.specs.Numbers.{digit_of}
 use Rattle.sfc_text.specs.Durations as durations
 use Rattle.sfc_text.specs.Durations.{micros_of, spelling_of, units, IsUnit, Tenths, IsFraction, Interval, greatest, IsInterval}
-use Rattle.sfc_text.specs.DurationScan.{are_digits, exact_tenth, tenth_more, tenths, fraction}
+use Rattle.sfc_text.specs.Scanning.Durations.{are_digits, exact_tenth, tenth_more, tenths, fraction}
 use Rattle.sfc_text.proofs.Digits.{bind_some, digit_apart}
 
 -- ---- fractions

@@ -1,3 +1,5 @@
+pub mod SameWords
+pub mod ReservedWords
 pub mod Tenths
 pub mod Addresses
 pub mod Shorter
@@ -10,6 +12,7 @@ pub mod Configurations
 pub mod Loop
 pub mod Digits
 pub mod Runs
+pub mod Words
 pub mod Intervals
 pub mod Parts
 pub mod WholeIntervals
@@ -20,6 +23,7 @@ pub mod Pieces
 pub mod Scans
 pub mod Outcomes
 pub mod Terminals
+pub mod Transitions
 pub mod ProgramTrees
 pub mod ConfigurationTrees
 pub mod SourceTrees

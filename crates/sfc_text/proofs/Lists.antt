@@ -8,10 +8,11 @@ use Rattle.sfc_text.specs.declared.parse.fault.ParseFault.TheVariants.{Memory, W
 use Rattle.sfc_text.specs.declared.token.Token.{Token}
 use Rattle.sfc_text.specs.declared.token.TokenKind.TheVariants as token
 use Rattle.sfc_text.specs.Case.{same_word}
-use Rattle.sfc_text.specs.Terminals.{same_keyword, same_delimiter}
-use Rattle.sfc_text.specs.Results.{Read, ◌>>=◌}
+use Rattle.sfc_text.specs.Parsing.Terminals.{same_keyword, same_delimiter}
+use Rattle.sfc_text.specs.Scanning.Results.{◌>>=◌}
+use Rattle.sfc_text.specs.ReadErrors.{Read}
 use Rattle.sfc_text.specs.Tokens.{Kinds, kinds}
-use Rattle.sfc_text.specs.Reading.{Fails, taken_if, keyword, delimiter, word, name, Found, some, and_more, many, all}
+use Rattle.sfc_text.specs.Parsing.Reading.{Fails, taken_if, keyword, delimiter, word, name, Found, some, and_more, many, all}
 
 -- the value of a step that did not fail
 pub bind_ok : {A B : Type 0} (r : Read A) (f : A → Read B) (y : B) → (r >>= f) ≡ Ok y → (x : A) × (r ≡ Ok x) × (f x ≡ Ok y)

@@ -4,13 +4,13 @@ use Rattle.sfc_text.specs.declared.literal.LiteralKind.{LiteralKind}
 use Rattle.sfc_text.specs.declared.literal.LiteralKind.TheVariants.{Number, Int, Dint, Truth, Duration, Location}
 use Rattle.sfc_text.specs.declared.token.TokenKind.{TokenKind}
 use Rattle.sfc_text.specs.declared.token.TokenKind.TheVariants as token
-use Rattle.sfc_text.specs.NumberScan.{◌>>=◌, integer, base_at}
+use Rattle.sfc_text.specs.Scanning.Integers.{◌>>=◌, integer, base_at}
 use Rattle.sfc_text.specs.Durations.{units}
-use Rattle.sfc_text.specs.DurationScan.{interval}
-use Rattle.sfc_text.specs.LocationScan.{location}
+use Rattle.sfc_text.specs.Scanning.Durations.{interval}
+use Rattle.sfc_text.specs.Scanning.Locations.{location}
 use Rattle.sfc_text.specs.Literals as literals
 use Rattle.sfc_text.specs.Literals.{signed, truth_of, IsLiteral}
-use Rattle.sfc_text.specs.LiteralScan.{limit, magnitude, untyped_at, value_of, literal}
+use Rattle.sfc_text.specs.Scanning.Literals.{limit, magnitude, untyped_at, value_of, literal}
 use Rattle.sfc_text.proofs.Digits.{bind_some, based_sound, decimal_sound, decimal_again, integer_base, based_again, magnitude_sound, magnitude_again}
 use Rattle.sfc_text.proofs.Parts.{interval_sound}
 use Rattle.sfc_text.proofs.WholeIntervals.{duration_again}

@@ -7,16 +7,16 @@ use Rattle.sfc_text.specs.declared.run.Alphabet.TheVariants.{Figures}
 use Rattle.sfc_text.specs.declared.location.Area.{Area}
 use Rattle.sfc_text.specs.declared.location.Size.{Size}
 use Rattle.sfc_text.specs.declared.location.Size.TheVariants.{Bit}
-use Rattle.sfc_text.specs.declared.location.Location.{Location}
 use Rattle.std.specs.Char.{to_ascii_uppercase}
 use Rattle.sfc_text.specs.Numbers as numbers
 use Rattle.sfc_text.specs.Numbers.{Digits, IsInteger}
-use Rattle.sfc_text.specs.NumberScan.{◌>>=◌, integer}
-use Rattle.sfc_text.specs.Runs.{Ends, run}
+use Rattle.sfc_text.specs.Scanning.Integers.{◌>>=◌, integer}
+use Rattle.sfc_text.specs.Runs.{Ends}
+use Rattle.sfc_text.specs.Scanning.Runs.{run}
 use Rattle.sfc_text.specs.Locations as locations
-use Rattle.sfc_text.specs.Locations.{area_of, size_of_capital, size_of, Numbers, IsLocation}
-use Rattle.sfc_text.specs.LocationScan.{number_of, number_at, pointed, numbers as taken_numbers, sized, size_at, location}
-use Rattle.sfc_text.specs.LiteralScan.{limit}
+use Rattle.sfc_text.specs.Locations.{LocationData, AreNumbers, area_of, size_of_capital, size_of, Numbers, IsLocation}
+use Rattle.sfc_text.specs.Scanning.Locations.{number_and_rest, number_at, pointed, numbers as taken_numbers, sized, size_at, location}
+use Rattle.sfc_text.specs.Scanning.Literals.{limit}
 use Rattle.sfc_text.proofs.Digits.{bind_some, decimal_sound, decimal_again, figures, decimal_bounds}
 use Rattle.sfc_text.proofs.Runs.{run_cuts, run_again}
 use Rattle.sfc_text.proofs.Parts.{Begins, dot_class}
@@ -63,6 +63,13 @@ numbers_sound (suc left) w ns e =
     let n = number_sound w s.0 s.1 in
     subst (λ (y : List ℕ). NumbersSound (suc left) y ns) (sym n.parts) (pointed_sound left s.0.0 n.digits s.0.1 (taken_numbers left) ns n.integer n.fits s.2 (λ r ms g. numbers_sound left r ms g))
 
+some_numbers : {w ns : List ℕ} → Numbers w ns → 0 < length ns
+some_numbers (locations.last i lt) = omega arith
+some_numbers (locations.more i lt others) = omega arith
+
+pub counted : (w ns : List ℕ) → taken_numbers 8 w ≡ Some ns → AreNumbers ns
+counted w ns e = let s = numbers_sound 8 w ns e in record { some = some_numbers s.numbers; few = s.count }
+
 sized_by : (o : Option Size) (a b : ℕ) (w : List ℕ) (area : Area) (ns : List ℕ) → area_of a ≡ Some area → size_of b ≡ o → taken_numbers 8 (sized o w (b ∷ w)).1 ≡ Some ns → IsLocation (a ∷ b ∷ w) (record { area = area; size = (sized o w (b ∷ w)).0; numbers = ns })
 sized_by None a b w area ns e f g = let n = numbers_sound 8 (b ∷ w) ns g in locations.unsized e n.numbers n.count
 sized_by (Some s) a b w area ns e f g = let n = numbers_sound 8 w ns g in locations.sized e f n.numbers n.count
@@ -71,7 +78,7 @@ located_sound : (a : ℕ) (w : List ℕ) (area : Area) (ns : List ℕ) → area_
 located_sound a [] area ns e g = let n = numbers_sound 8 [] ns g in locations.unsized e n.numbers n.count
 located_sound a (b ∷ w) area ns e g = sized_by (size_of b) a b w area ns e refl g
 
-pub location_sound : (w : List ℕ) (l : Location) → location w ≡ Some l → IsLocation w l
+pub location_sound : (w : List ℕ) (l : LocationData) → location w ≡ Some l → IsLocation w l
 unfolding location
 location_sound [] l e = absurd cc
 location_sound (a ∷ w) l e =
@@ -86,7 +93,7 @@ number_again : (digits rest : List ℕ) (n : ℕ) → IsInteger 10 digits n → 
 number_again digits rest n i lt ends =
     let r = run_again Figures digits rest (record { all = figures i; longest = ends }) in
     let d = decimal_again digits n i lt in
-    ap number_of r ∙ rw d refl
+    ap number_and_rest r ∙ rw d refl
 
 numbers_again : {w ns : List ℕ} → Numbers w ns → (left : ℕ) → length ns ≤ left → taken_numbers left w ≡ Some ns
 unfolding taken_numbers
@@ -131,7 +138,7 @@ unsized_at w b =
     let e = no_size b.head h.0 h.1 in
     subst P (sym b.is) (rw e refl)
 
-pub location_again : {w : List ℕ} {l : Location} → IsLocation w l → location w ≡ Some l
+pub location_again : {w : List ℕ} {l : LocationData} → IsLocation w l → location w ≡ Some l
 unfolding location
 location_again (locations.sized {a = a} {s = s} {w = w} {area = area} {size = size} {ns = ns} e f n le) = let m = numbers_again n 8 le in rw (e, f, m) refl
 location_again (locations.unsized {a = a} {w = w} {area = area} {ns = ns} e n le) =

@@ -1,17 +1,17 @@
 -- The loop over tokens.
 use Rattle.std.proofs.Common.{◌≡◌, ℕ, zero, suc, ◌≤◌, List, [], ◌∷◌, ◌++◌, length, Option, Some, None, Result, Ok, Err, refl, sym, ap, ◌∙◌, arith, append_assoc}
 use Rattle.std.proofs.lemmas.List.{append-nil}
-use Rattle.sfc_text.specs.declared.fault.Fault.{Fault}
-use Rattle.sfc_text.specs.declared.fault.Fault.TheVariants.{Memory, Wrong}
+use Rattle.sfc_text.specs.declared.scan_fault.ScanFault.{ScanFault}
+use Rattle.sfc_text.specs.declared.scan_fault.ScanFault.TheVariants.{Memory, Wrong}
 use Rattle.sfc_text.specs.declared.read_error.ReadErrorKind.{ReadErrorKind}
 use Rattle.sfc_text.specs.declared.read_error.ReadErrorKind.TheVariants as kind
 use Rattle.sfc_text.specs.declared.token.Token.{Token}
 use Rattle.sfc_text.specs.declared.token.TokenKind.{TokenKind}
 use Rattle.sfc_text.specs.Classes.{class_of}
-use Rattle.sfc_text.specs.Results.{◌>>=◌, Fails, FailsAs, kind_of}
+use Rattle.sfc_text.specs.Scanning.Results.{◌>>=◌, Fails, FailsAs, kind_of}
 use Rattle.sfc_text.specs.Tokens.{kinds}
 use Rattle.sfc_text.specs.Lexemes.{Tokens}
-use Rattle.sfc_text.specs.Scanning.{Next, next_by, add, scan}
+use Rattle.sfc_text.specs.Scanning.Tokens.{Next, next_by, add, scan}
 use Rattle.sfc_text.proofs.Shorter.{next_shorter}
 
 -- what was read before, and what is still read
@@ -56,7 +56,7 @@ fails_as : {Y : Type 0} (k : ReadErrorKind) (read : Result Y ReadErrorKind) → 
 fails_as kind.Memory read e = tt
 fails_as _ read e = e
 
-pub fails : (fault : Fault) (front : List TokenKind) (bytes : List ℕ) (b : ℕ) (bs : List ℕ) (total : Tokens) → bytes ≡ b ∷ bs → Fails fault (next_by (class_of b) b bs) → with_front front (scan (length bytes) bytes) ≡ total → FailsAs (kind_of fault) total
+pub fails : (fault : ScanFault) (front : List TokenKind) (bytes : List ℕ) (b : ℕ) (bs : List ℕ) (total : Tokens) → bytes ≡ b ∷ bs → Fails fault (next_by (class_of b) b bs) → with_front front (scan (length bytes) bytes) ≡ total → FailsAs (kind_of fault) total
 fails Memory front bytes b bs total is h so_far = tt
 fails (Wrong f) front bytes b bs total is h so_far =
     let one : scan (length bytes) bytes ≡ Err f = ap (λ (x : List ℕ). scan (length x) x) is ∙ turn b bs ∙ rw h refl in

@@ -9,14 +9,15 @@ use Rattle.sfc_text.specs.declared.read_error.ReadErrorKind.TheVariants.{Syntax}
 use Rattle.sfc_text.specs.declared.token.TokenKind.TheVariants as token
 use Rattle.sfc_text.specs.declared.tree.Source.{Source}
 use Rattle.sfc_text.specs.Case.{same_word}
-use Rattle.sfc_text.specs.Terminals.{same_keyword, same_delimiter}
-use Rattle.sfc_text.specs.Results.{Read, ◌>>=◌}
+use Rattle.sfc_text.specs.Parsing.Terminals.{same_keyword, same_delimiter}
+use Rattle.sfc_text.specs.Scanning.Results.{◌>>=◌}
+use Rattle.sfc_text.specs.ReadErrors.{Read}
 use Rattle.sfc_text.specs.Tokens.{Kinds}
-use Rattle.sfc_text.specs.Reading as reading
-use Rattle.sfc_text.specs.Reading.{taken_if, Found, some, and_more, all, many}
-use Rattle.sfc_text.specs.ProgramReading.{qualifier, indicated, association, step, expression, transition, element, program}
-use Rattle.sfc_text.specs.ConfigurationReading.{further_name, bool_type, location, located, listed, declared, declaration, globals, duration, integer, interval, priority, task_parts, task, assigned, instance, header, configuration}
-use Rattle.sfc_text.specs.SourceReading.{ended, source}
+use Rattle.sfc_text.specs.Parsing.Reading as reading
+use Rattle.sfc_text.specs.Parsing.Reading.{taken_if, Found, some, and_more, all, many}
+use Rattle.sfc_text.specs.Parsing.Programs.{qualifier, indicated, association, step, expression, transition, element, program}
+use Rattle.sfc_text.specs.Parsing.Configurations.{further_name, bool_type, location, located, listed, declared, declaration, globals, duration, integer, interval, priority, task_parts, task, assigned, instance, header, configuration}
+use Rattle.sfc_text.specs.Parsing.Sources.{ended, source}
 
 abbrev Only : {A : Type 0} → Read A → Type 0
 Only r = (k : ReadErrorKind) → r ≡ Err k → k ≡ Syntax

@@ -4,9 +4,10 @@ use Rattle.sfc_text.specs.declared.read_error.ReadError.{ReadError}
 use Rattle.sfc_text.specs.declared.read_error.ReadErrorKind.{ReadErrorKind}
 use Rattle.sfc_text.specs.declared.read_error.ReadErrorKind.TheVariants as kind
 use Rattle.sfc_text.specs.declared.token.TokenKind.{TokenKind}
-use Rattle.sfc_text.specs.Results.{Read, FailsAs, Answers}
+use Rattle.sfc_text.specs.Scanning.Results.{FailsAs, Answers}
+use Rattle.sfc_text.specs.ReadErrors.{Read}
 use Rattle.sfc_text.specs.Lexemes.{Tokens, Scans}
-use Rattle.sfc_text.specs.Scanning.{scan}
+use Rattle.sfc_text.specs.Scanning.Tokens.{scan}
 use Rattle.sfc_text.specs.Texts as texts
 use Rattle.sfc_text.specs.Texts.{longest, without_mark, TextScans, FindsError, Finds}
 use Rattle.sfc_text.proofs.Scans.{scan_scans, one_result}

@@ -12,11 +12,12 @@ use Rattle.sfc_text.specs.Classes.{class_of}
 use Rattle.sfc_text.specs.Case.{same_word}
 use Rattle.sfc_text.specs.Numbers as numbers
 use Rattle.sfc_text.specs.Numbers.{digit_of, Digits, IsInteger}
-use Rattle.sfc_text.specs.NumberScan.{◌>>=◌, at_most, integer}
-use Rattle.sfc_text.specs.Runs.{is_letter, is_figure, is_in, has, AllIn, Ends, run}
+use Rattle.sfc_text.specs.Scanning.Integers.{◌>>=◌, at_most, integer}
+use Rattle.sfc_text.specs.Runs.{is_letter, is_figure, is_in, has, AllIn, Ends}
+use Rattle.sfc_text.specs.Scanning.Runs.{run}
 use Rattle.sfc_text.specs.Durations as durations
 use Rattle.sfc_text.specs.Durations.{micros_of, spelling_of, units, IsUnit, Tenths, IsFraction, Interval, greatest, IsInterval}
-use Rattle.sfc_text.specs.DurationScan.{fraction, split_unit, split_fraction, split_number, Split, split_part, whole, unspaced, behind, part, is_unit, interval}
+use Rattle.sfc_text.specs.Scanning.Durations.{fraction, split_unit, split_fraction, split_number, Split, split_part, whole, unspaced, behind, part, is_unit, interval}
 use Rattle.sfc_text.proofs.Digits.{bind_some, at_most_some, integer_sound, figures, decimal_class, underscore_class}
 use Rattle.sfc_text.proofs.Runs.{Cuts, run_cuts, run_again}
 use Rattle.sfc_text.proofs.Intervals.{fraction_sound}

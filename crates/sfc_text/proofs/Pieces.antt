@@ -13,12 +13,14 @@ use Rattle.sfc_text.specs.declared.scan.Ahead.{Ahead}
 use Rattle.sfc_text.specs.declared.scan.Ahead.TheVariants.{Alone, Longer, Comment}
 use Rattle.sfc_text.specs.declared.token.TokenKind.{TokenKind}
 use Rattle.sfc_text.specs.Classes.{class_of}
-use Rattle.sfc_text.specs.Runs.{has, IsRun, run}
+use Rattle.sfc_text.specs.Runs.{has, IsRun}
+use Rattle.sfc_text.specs.Scanning.Runs.{run}
 use Rattle.sfc_text.specs.Literals.{kind_of_prefix, alphabet_of, IsLiteral}
-use Rattle.sfc_text.specs.LiteralScan.{literal}
+use Rattle.sfc_text.specs.Scanning.Literals.{literal}
 use Rattle.sfc_text.specs.Lexemes as lexemes
-use Rattle.sfc_text.specs.Lexemes.{is_spaced, word_token, StartsWord, is_sharp_first, Prefix, minus, is_minus, Body, look_ahead, NoClose, NoBrace, Piece, Faulty, Tokens}
-use Rattle.sfc_text.specs.Scanning.{after_comment, after_pragma, Next, literal_found, literal_in, tail, literal_at, prefixed, word_found, word_or_prefix, word_at, skipped, sign_found, sign_at, next_by}
+use Rattle.sfc_text.specs.Names.{StartsWord, is_spaced}
+use Rattle.sfc_text.specs.Lexemes.{word_token, is_sharp_first, Prefix, minus, is_minus, Body, look_ahead, NoClose, NoBrace, Piece, Faulty, Tokens}
+use Rattle.sfc_text.specs.Scanning.Tokens.{after_comment, after_pragma, Next, literal_found, literal_in, tail, literal_at, prefixed, word_found, word_or_prefix, word_at, skipped, sign_found, sign_at, next_by}
 use Rattle.sfc_text.proofs.Runs.{Cuts, run_cuts, run_in}
 use Rattle.sfc_text.proofs.Comments.{after_some, after_none, pragma_some, pragma_none}
 use Rattle.sfc_text.proofs.LiteralProofs.{literal_sound, literal_again}
@@ -128,8 +130,8 @@ sign_says b d (c ∷ bs) p = ahead_says (look_ahead d (class_of c)) b c d bs p r
 pub next_says : (k : Class) (b : ℕ) (bs : List ℕ) → class_of b ≡ k → Says (b ∷ bs) (next_by k b bs)
 unfolding next_by
 next_says class.Space b bs e = record { text = b ∷ []; parts = refl; piece = lexemes.space e }
-next_says class.Letter b bs e = word_says b bs (rw e refl) (rw e tt)
-next_says class.Underscore b bs e = word_says b bs (rw e refl) (rw e tt)
+next_says class.Letter b bs e = word_says b bs (rw e refl) (rw e refl)
+next_says class.Underscore b bs e = word_says b bs (rw e refl) (rw e refl)
 next_says class.Digit b bs e = literal_says kind.Number [] (b ∷ bs) (lexemes.none e)
 next_says class.Percent b bs e = literal_says kind.Location (b ∷ []) bs (lexemes.percent e)
 next_says class.Brace b bs e = pragma_says (after_pragma bs) b bs refl e

@@ -5,7 +5,7 @@ use Rattle.sfc_text.specs.declared.keyword.Keyword.{Keyword}
 use Rattle.sfc_text.specs.declared.keyword.Keyword.TheVariants as keyword
 use Rattle.sfc_text.specs.declared.delimiter.Delimiter.{Delimiter}
 use Rattle.sfc_text.specs.declared.delimiter.Delimiter.TheVariants as sign
-use Rattle.sfc_text.specs.Terminals.{keyword_place, delimiter_place, same_keyword, same_delimiter}
+use Rattle.sfc_text.specs.Parsing.Terminals.{keyword_place, delimiter_place, same_keyword, same_delimiter}
 
 abbrev keywords : List Keyword
 keywords = keyword.Action ∷ keyword.And ∷ keyword.At ∷ keyword.Bool ∷ keyword.Configuration ∷ keyword.Dint ∷ keyword.Else ∷ keyword.Elsif ∷ keyword.EndAction ∷ keyword.EndConfiguration ∷ keyword.EndIf ∷ keyword.EndProgram ∷ keyword.EndResource ∷ keyword.EndStep ∷ keyword.EndTransition ∷ keyword.EndVar ∷ keyword.False ∷ keyword.From ∷ keyword.If ∷ keyword.InitialStep ∷ keyword.Int ∷ keyword.Mod ∷ keyword.Not ∷ keyword.On ∷ keyword.Or ∷ keyword.Program ∷ keyword.Resource ∷ keyword.Step ∷ keyword.Task ∷ keyword.Then ∷ keyword.Time ∷ keyword.To ∷ keyword.Transition ∷ keyword.True ∷ keyword.Var ∷ keyword.VarExternal ∷ keyword.VarGlobal ∷ keyword.With ∷ keyword.Xor ∷ []

@@ -13,13 +13,13 @@ use Rattle.sfc_text.specs.declared.tree.Qualifier.{Qualifier}
 use Rattle.sfc_text.specs.declared.tree.Qualifier.TheVariants.{NonStored}
 use Rattle.sfc_text.specs.declared.tree.Step.{Step}
 use Rattle.sfc_text.specs.declared.tree.Transition.{Transition}
-use Rattle.sfc_text.specs.Results.{Read}
+use Rattle.sfc_text.specs.ReadErrors.{Read}
 use Rattle.sfc_text.specs.Tokens.{Kinds}
 use Rattle.sfc_text.specs.Grammar as grammar
 use Rattle.sfc_text.specs.Grammar.{Many, Terminated, IsAssociation, IsStep, IsExpression, IsTransition, IsElement, IsProgram}
-use Rattle.sfc_text.specs.Reading as reading
-use Rattle.sfc_text.specs.Reading.{Found, some, all, many}
-use Rattle.sfc_text.specs.ProgramReading.{qualifier, indicated, association, step, expression, transition, a_step, a_transition, element, program}
+use Rattle.sfc_text.specs.Parsing.Reading as reading
+use Rattle.sfc_text.specs.Parsing.Reading.{Found, some, all, many}
+use Rattle.sfc_text.specs.Parsing.Programs.{qualifier, indicated, association, step, expression, transition_between, transition, a_step, a_transition, element, program}
 use Rattle.sfc_text.proofs.Lists.{bind_ok, ok_is, some_is}
 use Rattle.sfc_text.proofs.Programs.{association_shrinks, element_shrinks}
 use Rattle.sfc_text.proofs.Terminals.{keyword_ok, delimiter_ok, word_ok, name_ok, many_sound, many_again}
@@ -95,6 +95,7 @@ expression_sound (token.Keyword keyword.False ∷ ts) x e = let same : (expressi
 expression_sound (_ ∷ ts) x e = absurd cc
 
 transition_sound : (ts : Kinds) (x : Transition × Kinds) → transition ts ≡ Ok x → IsTransition (token.Keyword keyword.Transition ∷ ts) x.0 x.1
+unfolding transition_between
 transition_sound ts x e =
     let a = bind_ok (reading.keyword keyword.From ts) _ x e in
     let b = bind_ok (reading.name a.0) _ x a.2 in
@@ -103,15 +104,15 @@ transition_sound ts x e =
     let f = bind_ok (reading.delimiter sign.Assign d.0.1) _ x d.2 in
     let g = bind_ok (expression f.0) _ x f.2 in
     let h = bind_ok (reading.delimiter sign.Semicolon g.0.1) _ x g.2 in
-    let i = bind_ok (reading.keyword keyword.EndTransition h.0) (λ ys. Ok (record { preceding = b.0.0 ∷ []; following = d.0.0 ∷ []; condition = g.0.0 }, ys)) x h.2 in
-    let same = ok_is (record { preceding = b.0.0 ∷ []; following = d.0.0 ∷ []; condition = g.0.0 }, i.0) x i.2 in
+    let i = bind_ok (reading.keyword keyword.EndTransition h.0) (λ ys. Ok (transition_between b.0.0 d.0.0 g.0.0, ys)) x h.2 in
+    let same = ok_is (transition_between b.0.0 d.0.0 g.0.0, i.0) x i.2 in
     let p : ts ≡ token.Keyword keyword.From ∷ token.Name b.0.0 ∷ b.0.1 = keyword_ok keyword.From ts a.0 a.1 ∙ ap (λ (y : Kinds). token.Keyword keyword.From ∷ y) (name_ok a.0 b.0 b.1) in
     let q : b.0.1 ≡ token.Keyword keyword.To ∷ token.Name d.0.0 ∷ token.Delimiter sign.Assign ∷ f.0 = keyword_ok keyword.To b.0.1 c.0 c.1 ∙ ap (λ (y : Kinds). token.Keyword keyword.To ∷ y) (name_ok c.0 d.0 d.1 ∙ ap (λ (y : Kinds). token.Name d.0.0 ∷ y) (delimiter_ok sign.Assign d.0.1 f.0 f.1)) in
     let front : ts ≡ token.Keyword keyword.From ∷ token.Name b.0.0 ∷ token.Keyword keyword.To ∷ token.Name d.0.0 ∷ token.Delimiter sign.Assign ∷ f.0 = p ∙ ap (λ (y : Kinds). token.Keyword keyword.From ∷ token.Name b.0.0 ∷ y) q in
     let behind : g.0.1 ≡ token.Delimiter sign.Semicolon ∷ token.Keyword keyword.EndTransition ∷ i.0 = delimiter_ok sign.Semicolon g.0.1 h.0 h.1 ∙ ap (λ (y : Kinds). token.Delimiter sign.Semicolon ∷ y) (keyword_ok keyword.EndTransition h.0 i.0 i.1) in
     let condition = subst (λ (y : Kinds). IsExpression f.0 g.0.0 y) behind (expression_sound f.0 g.0 g.1) in
     subst (λ y. IsTransition (token.Keyword keyword.Transition ∷ ts) y.0 y.1) same
-    (subst (λ (y : Kinds). IsTransition (token.Keyword keyword.Transition ∷ y) (record { preceding = b.0.0 ∷ []; following = d.0.0 ∷ []; condition = g.0.0 }) i.0) (sym front) (grammar.between condition))
+    (subst (λ (y : Kinds). IsTransition (token.Keyword keyword.Transition ∷ y) (transition_between b.0.0 d.0.0 g.0.0) i.0) (sym front) (grammar.between condition))
 
 step_element : (r : Read (Step × Kinds)) (x : Element × Kinds) → a_step r ≡ Ok (Some x) → (s : Step) × (r ≡ Ok (s, x.1)) × (x.0 ≡ elements.Step s)
 step_element (Ok y) x e = let same : (elements.Step y.0, y.1) ≡ x = cc in (y.0, subst (λ (z : Element × Kinds). ◌≡◌ {A = Read (Step × Kinds)} (Ok y) (Ok (y.0, z.1))) same refl, sym (ap (λ (z : Element × Kinds). z.0) same))
@@ -163,7 +164,7 @@ unfolding reading.name reading.delimiter reading.keyword
 step_again initial n ts rest lines m = let e = associations_again ts rest lines m in rw e refl
 
 transition_again : (ts rest : Kinds) (t : Transition) → IsTransition ts t rest → element ts ≡ Ok (Some (elements.Transition t, rest))
-unfolding element expression reading.name reading.delimiter reading.keyword
+unfolding element expression transition_between reading.name reading.delimiter reading.keyword
 transition_again ts rest t (grammar.between (grammar.name)) = refl
 transition_again ts rest t (grammar.between (grammar.yes)) = refl
 transition_again ts rest t (grammar.between (grammar.no)) = refl

@@ -8,11 +8,11 @@ use Rattle.sfc_text.specs.declared.tree.Expression.TheVariants as expressions
 use Rattle.sfc_text.specs.declared.tree.Qualifier.TheVariants.{NonStored}
 use Rattle.sfc_text.specs.declared.tree.Step.{Step}
 use Rattle.sfc_text.specs.declared.tree.Transition.{Transition}
-use Rattle.sfc_text.specs.Results.{Read}
+use Rattle.sfc_text.specs.ReadErrors.{Read}
 use Rattle.sfc_text.specs.Tokens.{Kinds}
-use Rattle.sfc_text.specs.Reading as reading
-use Rattle.sfc_text.specs.Reading.{Found, some, all}
-use Rattle.sfc_text.specs.ProgramReading.{qualifier, indicated, association, step, expression, transition, a_step, a_transition, element}
+use Rattle.sfc_text.specs.Parsing.Reading as reading
+use Rattle.sfc_text.specs.Parsing.Reading.{Found, some, all}
+use Rattle.sfc_text.specs.Parsing.Programs.{qualifier, indicated, association, step, expression, transition_between, transition, a_step, a_transition, element}
 use Rattle.sfc_text.proofs.Lists.{Within, left, bind_within, ok_within, keyword_within, delimiter_within, word_within, name_within, Shrinks, many_within, some_is}
 
 qualifier_within : (ts : Kinds) → Within left (length ts) (qualifier ts)
@@ -61,7 +61,7 @@ transition_within ts =
     bind_within left left (length ws) (expression ws) _ (expression_within ws) (λ c.
     bind_within length left (length c.1) (reading.delimiter sign.Semicolon c.1) _ (delimiter_within sign.Semicolon c.1) (λ xs.
     bind_within length left (length xs) (reading.keyword keyword.EndTransition xs) _ (keyword_within keyword.EndTransition xs) (λ ys.
-    ok_within left (length ys) (record { preceding = p.0 ∷ []; following = f.0 ∷ []; condition = c.0 }, ys) (omega arith)))))))))
+    ok_within left (length ys) (transition_between p.0 f.0 c.0, ys) (omega arith)))))))))
 
 step_shrinks : (n : ℕ) (r : Read (Step × Kinds)) (x : Element × Kinds) → Within left n r → a_step r ≡ Ok (Some x) → length x.1 ≤ n
 step_shrinks n (Ok y) x h e = let le = h y refl in let same : y.1 ≡ x.1 = cc in rw (← same) le

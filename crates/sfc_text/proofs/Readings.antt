@@ -4,7 +4,7 @@ use Rattle.sfc_text.specs.declared.read_error.ReadErrorKind.{ReadErrorKind}
 use Rattle.sfc_text.specs.declared.read_error.ReadErrorKind.TheVariants as kind
 use Rattle.sfc_text.specs.declared.token.Token.{Token}
 use Rattle.sfc_text.specs.declared.tree.Source.{Source}
-use Rattle.sfc_text.specs.Results.{Read}
+use Rattle.sfc_text.specs.ReadErrors.{Read}
 use Rattle.sfc_text.specs.Tokens.{Kinds, kinds}
 use Rattle.sfc_text.specs.Texts.{TextScans, FindsError}
 use Rattle.sfc_text.specs.declared.tree.Configuration.{Configuration}
@@ -13,7 +13,7 @@ use Rattle.sfc_text.specs.Grammar as grammar
 use Rattle.sfc_text.specs.Grammar.{IsConfiguration, IsSource}
 use Rattle.sfc_text.specs.Reads as reads
 use Rattle.sfc_text.specs.Reads.{TextReads}
-use Rattle.sfc_text.specs.SourceReading.{source}
+use Rattle.sfc_text.specs.Parsing.Sources.{source}
 use Rattle.sfc_text.proofs.Outcomes.{one_outcome}
 use Rattle.sfc_text.proofs.OnlySyntax.{source_only}
 use Rattle.sfc_text.proofs.SourceTrees.{source_sound, one_source, no_tree}

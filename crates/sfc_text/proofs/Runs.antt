@@ -1,7 +1,8 @@
 -- The longest runs.
 use Rattle.std.proofs.Common.{◌≡◌, ℕ, Bool, true, false, List, [], ◌∷◌, ◌++◌, refl, sym, ap, subst, ◌∙◌}
 use Rattle.sfc_text.specs.declared.run.Alphabet.{Alphabet}
-use Rattle.sfc_text.specs.Runs.{has, AllIn, Ends, IsRun, run}
+use Rattle.sfc_text.specs.Runs.{has, AllIn, Ends, IsRun}
+use Rattle.sfc_text.specs.Scanning.Runs.{run}
 
 pub run_in : (a : Alphabet) (b : ℕ) (bs : List ℕ) → has a b ≡ true → run a (b ∷ bs) ≡ (b ∷ (run a bs).0, (run a bs).1)
 unfolding run

@@ -8,13 +8,14 @@ use Rattle.sfc_text.specs.declared.read_error.ReadErrorKind.{ReadErrorKind}
 use Rattle.sfc_text.specs.declared.read_error.ReadErrorKind.TheVariants.{BadToken}
 use Rattle.sfc_text.specs.declared.token.TokenKind.{TokenKind}
 use Rattle.sfc_text.specs.Classes.{class_of}
-use Rattle.sfc_text.specs.Results.{◌>>=◌}
+use Rattle.sfc_text.specs.Scanning.Results.{◌>>=◌}
 use Rattle.sfc_text.specs.Runs.{IsRun}
 use Rattle.sfc_text.specs.Literals.{alphabet_of}
-use Rattle.sfc_text.specs.LiteralScan.{literal}
+use Rattle.sfc_text.specs.Scanning.Literals.{literal}
+use Rattle.sfc_text.specs.Names.{StartsWord}
 use Rattle.sfc_text.specs.Lexemes as lexemes
-use Rattle.sfc_text.specs.Lexemes.{is_spaced, word_token, StartsWord, is_sharp_first, Prefix, minus, is_minus, Body, look_ahead, NoClose, NoBrace, Piece, Faulty, Tokens, first, Scans}
-use Rattle.sfc_text.specs.Scanning.{after_comment, after_pragma, Next, literal_found, literal_in, literal_at, word_found, word_or_prefix, word_at, skipped, next_by, add, scan}
+use Rattle.sfc_text.specs.Lexemes.{word_token, is_sharp_first, Prefix, minus, is_minus, Body, look_ahead, NoClose, NoBrace, Piece, Faulty, Tokens, first, Scans}
+use Rattle.sfc_text.specs.Scanning.Tokens.{after_comment, after_pragma, Next, literal_found, literal_in, literal_at, word_found, word_or_prefix, word_at, skipped, next_by, add, scan}
 use Rattle.sfc_text.proofs.Runs.{run_again}
 use Rattle.sfc_text.proofs.Comments.{none_again, some_again, pragma_none_again, pragma_again}
 use Rattle.sfc_text.proofs.LiteralProofs.{literal_sound, literal_again}
@@ -32,7 +33,7 @@ starts_next : (k : Class) (b : ℕ) (bs : List ℕ) → class_of b ≡ k → Sta
 unfolding next_by
 starts_next class.Letter b bs e h = next_is class.Letter b bs e
 starts_next class.Underscore b bs e h = next_is class.Underscore b bs e
-starts_next _ b bs e h = absurd h
+starts_next _ b bs e h = absurd cc
 
 -- ---- literals
 

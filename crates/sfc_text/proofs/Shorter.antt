@@ -12,11 +12,13 @@ use Rattle.sfc_text.specs.declared.scan.Ahead.{Ahead}
 use Rattle.sfc_text.specs.declared.scan.Ahead.TheVariants.{Alone, Longer, Comment}
 use Rattle.sfc_text.specs.declared.token.TokenKind.{TokenKind}
 use Rattle.sfc_text.specs.Classes.{class_of, first_class}
-use Rattle.sfc_text.specs.Runs.{has, run}
+use Rattle.sfc_text.specs.Runs.{has}
+use Rattle.sfc_text.specs.Scanning.Runs.{run}
 use Rattle.sfc_text.specs.Literals.{kind_of_prefix, alphabet_of}
-use Rattle.sfc_text.specs.LiteralScan.{literal}
-use Rattle.sfc_text.specs.Lexemes.{is_spaced, is_minus, look_ahead}
-use Rattle.sfc_text.specs.Scanning.{after_comment, after_pragma, Next, literal_found, literal_in, tail, literal_at, prefixed, word_found, word_or_prefix, word_at, skipped, sign_found, next_by}
+use Rattle.sfc_text.specs.Scanning.Literals.{literal}
+use Rattle.sfc_text.specs.Names.{is_spaced}
+use Rattle.sfc_text.specs.Lexemes.{is_minus, look_ahead}
+use Rattle.sfc_text.specs.Scanning.Tokens.{after_comment, after_pragma, Next, literal_found, literal_in, tail, literal_at, prefixed, word_found, word_or_prefix, word_at, skipped, sign_found, next_by}
 
 run_at : (t : Bool) (a : Alphabet) (b : ℕ) (bs : List ℕ) → has a b ≡ t → length (run a bs).1 ≤ length bs → length (run a (b ∷ bs)).1 ≤ length (b ∷ bs)
 unfolding run

@@ -9,9 +9,9 @@ use Rattle.sfc_text.specs.declared.tree.Source.{Source}
 use Rattle.sfc_text.specs.Tokens.{Kinds}
 use Rattle.sfc_text.specs.Grammar as grammar
 use Rattle.sfc_text.specs.Grammar.{IsProgram, IsConfiguration, IsSource}
-use Rattle.sfc_text.specs.ProgramReading.{program}
-use Rattle.sfc_text.specs.ConfigurationReading.{configuration}
-use Rattle.sfc_text.specs.SourceReading.{ended, source_of, configuration_first, program_first, source}
+use Rattle.sfc_text.specs.Parsing.Programs.{program}
+use Rattle.sfc_text.specs.Parsing.Configurations.{configuration}
+use Rattle.sfc_text.specs.Parsing.Sources.{ended, source_of, configuration_first, program_first, source}
 use Rattle.sfc_text.proofs.Lists.{bind_ok, ok_is}
 use Rattle.sfc_text.proofs.ProgramTrees.{program_sound, program_again}
 use Rattle.sfc_text.proofs.ConfigurationTrees.{configuration_sound, configuration_again}

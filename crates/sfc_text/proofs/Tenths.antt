@@ -4,8 +4,8 @@ use Rattle.std.proofs.Math.Nat.{mul-le-mul_right}
 use Rattle.sfc_text.specs.declared.unit.Unit.{Unit}
 use Rattle.sfc_text.specs.declared.unit.Unit.TheVariants.{Day, Hour, Minute, Second, Millisecond}
 use Rattle.sfc_text.specs.Durations.{micros_of, greatest}
-use Rattle.sfc_text.specs.NumberScan.{◌>>=◌}
-use Rattle.sfc_text.specs.DurationScan.{tenth_more, tenths}
+use Rattle.sfc_text.specs.Scanning.Integers.{◌>>=◌}
+use Rattle.sfc_text.specs.Scanning.Durations.{tenth_more, tenths}
 
 bind_assoc : (o : Option ℕ) (f g : ℕ → Option ℕ) → ((o >>= f) >>= g) ≡ (o >>= λ x. f x >>= g)
 bind_assoc None f g = refl

@@ -4,12 +4,12 @@ use Rattle.sfc_text.specs.declared.keyword.Keyword.{Keyword}
 use Rattle.sfc_text.specs.declared.delimiter.Delimiter.{Delimiter}
 use Rattle.sfc_text.specs.declared.token.TokenKind.TheVariants as token
 use Rattle.sfc_text.specs.Case.{same_word}
-use Rattle.sfc_text.specs.Terminals.{same_keyword, same_delimiter}
-use Rattle.sfc_text.specs.Results.{Read}
+use Rattle.sfc_text.specs.Parsing.Terminals.{same_keyword, same_delimiter}
+use Rattle.sfc_text.specs.ReadErrors.{Read}
 use Rattle.sfc_text.specs.Tokens.{Kinds}
 use Rattle.sfc_text.specs.Grammar as grammar
 use Rattle.sfc_text.specs.Grammar.{Many}
-use Rattle.sfc_text.specs.Reading.{taken_if, keyword, delimiter, word, name, Found, and_more, many}
+use Rattle.sfc_text.specs.Parsing.Reading.{taken_if, keyword, delimiter, word, name, Found, and_more, many}
 use Rattle.sfc_text.proofs.Places.{one_keyword, one_delimiter}
 use Rattle.sfc_text.proofs.Lists.{bind_ok, Shrinks}
 

@@ -10,7 +10,7 @@ use Rattle.sfc_text.specs.Case.{same_word}
 use Rattle.sfc_text.specs.Numbers.{IsInteger}
 use Rattle.sfc_text.specs.Durations as durations
 use Rattle.sfc_text.specs.Durations.{micros_of, spelling_of, units, IsUnit, IsFraction, Interval, greatest, IsInterval}
-use Rattle.sfc_text.specs.DurationScan.{Split, split_part, whole, behind, part, is_unit, interval}
+use Rattle.sfc_text.specs.Scanning.Durations.{Split, split_part, whole, behind, part, is_unit, interval}
 use Rattle.sfc_text.proofs.Digits.{at_most_again, digits_again, underscore_class}
 use Rattle.sfc_text.proofs.Intervals.{fraction_again}
 use Rattle.sfc_text.proofs.Parts.{interval_begins, interval_ends_letters, split_plain, split_whole, split_point}

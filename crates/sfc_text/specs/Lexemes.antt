@@ -1,5 +1,5 @@
 -- Texts and their tokens (2.1, 2.2): pieces of text, each as long as it can be, and the first fault.
-use Rattle.std.specs.Prelude.{◌≡◌, ℕ, ℤ, List, [], ◌∷◌, ◌++◌, Bool, true, false, not, ◌&&◌, ◌==◌, Option, Some, None, Result, Ok, Err}
+use Rattle.std.specs.Prelude.{◌≡◌, ℕ, ℤ, List, [], ◌∷◌, ◌++◌, Bool, true, false, ◌&&◌, ◌==◌, Option, Some, None, Result, Ok, Err}
 use Rattle.sfc_text.specs.declared.delimiter.Delimiter.{Delimiter}
 use Rattle.sfc_text.specs.declared.delimiter.Delimiter.TheVariants as sign
 use Rattle.sfc_text.specs.declared.class.Class.{Class}
@@ -17,16 +17,11 @@ use Rattle.sfc_text.specs.declared.token.TokenKind.TheVariants as token
 use Rattle.sfc_text.specs.Classes.{class_of, first_class}
 use Rattle.sfc_text.specs.Runs.{IsRun}
 use Rattle.sfc_text.specs.Words.{keyword_of}
+use Rattle.sfc_text.specs.Names.{StartsWord, is_spaced}
 use Rattle.sfc_text.specs.Literals.{kind_of_prefix, alphabet_of, fault_of, signed, IsLiteral}
 use Rattle.sfc_text.specs.Durations.{IsInterval}
 
 -- ---- words
-
--- underscores stand single and inside
-unfoldable pub is_spaced : List ℕ → Bool
-is_spaced [] = true
-is_spaced (b ∷ []) = not (b == 95)
-is_spaced (b ∷ c ∷ w) = not (b == 95 && c == 95) && is_spaced (c ∷ w)
 
 abbrev pub reserved_or_name : Option Keyword → List ℕ → TokenKind
 reserved_or_name (Some k) w = token.Keyword k
@@ -35,11 +30,6 @@ reserved_or_name None w = token.Name w
 -- a reserved word in any case, or a name
 abbrev pub word_token : List ℕ → TokenKind
 word_token w = reserved_or_name (keyword_of w) w
-
-abbrev pub StartsWord : Class → Type 0
-StartsWord class.Letter = Unit {0}
-StartsWord class.Underscore = Unit {0}
-StartsWord _ = ⊥
 
 -- a `#` stands behind the prefix of a literal
 abbrev pub is_sharp_first : List ℕ → Bool
@@ -52,7 +42,8 @@ is_sharp_first (b ∷ bs) = b == 35
 pub data Prefix : LiteralKind → List ℕ → List ℕ → Type 0 where
   none : {b : ℕ} {rest : List ℕ} → class_of b ≡ class.Digit → Prefix kinds.Number [] (b ∷ rest)
   percent : {b : ℕ} {rest : List ℕ} → class_of b ≡ class.Percent → Prefix kinds.Location (b ∷ []) rest
-  word : {b : ℕ} {w rest : List ℕ} {kind : LiteralKind} → StartsWord (class_of b) → IsRun alphabet.Word (b ∷ w) (35 ∷ rest) → kind_of_prefix (b ∷ w) ≡ Some kind → Prefix kind (b ∷ (w ++ 35 ∷ [])) rest
+  word : {b : ℕ} {w rest : List ℕ} {kind : LiteralKind} → StartsWord (class_of b) → IsRun alphabet.Word (b ∷ w) (35 ∷ rest)
+      → kind_of_prefix (b ∷ w) ≡ Some kind → Prefix kind (b ∷ (w ++ 35 ∷ [])) rest
 
 -- a minus or none
 abbrev pub minus : Bool → List ℕ
@@ -94,20 +85,31 @@ NoBrace (b ∷ bs) = ((b == 125) ≡ false) × NoBrace bs
 
 pub data Piece : List ℕ → List ℕ → Option TokenKind → Type 0 where
   space : {b : ℕ} {rest : List ℕ} → class_of b ≡ class.Space → Piece (b ∷ []) rest None
-  comment : {b c : ℕ} {rest : List ℕ} {d : Delimiter} (body : List ℕ) → class_of b ≡ class.Sign d → look_ahead d (class_of c) ≡ Comment → NoClose (body ++ 42 ∷ []) → Piece (b ∷ c ∷ (body ++ 42 ∷ 41 ∷ [])) rest None
+  comment : {b c : ℕ} {rest : List ℕ} {d : Delimiter} (body : List ℕ) → class_of b ≡ class.Sign d → look_ahead d (class_of c) ≡ Comment
+      → NoClose (body ++ 42 ∷ []) → Piece (b ∷ c ∷ (body ++ 42 ∷ 41 ∷ [])) rest None
   pragma : {b : ℕ} {rest : List ℕ} (body : List ℕ) → class_of b ≡ class.Brace → NoBrace body → Piece (b ∷ (body ++ 125 ∷ [])) rest None
-  word : {b : ℕ} {w rest : List ℕ} → StartsWord (class_of b) → IsRun alphabet.Word (b ∷ w) rest → is_sharp_first rest ≡ false → is_spaced (b ∷ w) ≡ true → Piece (b ∷ w) rest (Some (word_token (b ∷ w)))
-  literal : {front rest : List ℕ} {kind : LiteralKind} (negative : Bool) (w : List ℕ) {t : TokenKind} → Prefix kind front (minus negative ++ (w ++ rest)) → Body kind negative w rest → IsLiteral kind negative w t → Piece (front ++ (minus negative ++ w)) rest (Some t)
-  single : {b : ℕ} {rest : List ℕ} {d : Delimiter} → class_of b ≡ class.Sign d → look_ahead d (first_class rest) ≡ Alone → Piece (b ∷ []) rest (Some (token.Delimiter d))
-  double : {b c : ℕ} {rest : List ℕ} {d e : Delimiter} → class_of b ≡ class.Sign d → look_ahead d (class_of c) ≡ Longer e → Piece (b ∷ c ∷ []) rest (Some (token.Delimiter e))
+  word : {b : ℕ} {w rest : List ℕ} → StartsWord (class_of b) → IsRun alphabet.Word (b ∷ w) rest → is_sharp_first rest ≡ false
+      → is_spaced (b ∷ w) ≡ true → Piece (b ∷ w) rest (Some (word_token (b ∷ w)))
+  literal : {front rest : List ℕ} {kind : LiteralKind} (negative : Bool) (w : List ℕ) {t : TokenKind}
+      → Prefix kind front (minus negative ++ (w ++ rest)) → Body kind negative w rest → IsLiteral kind negative w t
+      → Piece (front ++ (minus negative ++ w)) rest (Some t)
+  single : {b : ℕ} {rest : List ℕ} {d : Delimiter} → class_of b ≡ class.Sign d → look_ahead d (first_class rest) ≡ Alone
+      → Piece (b ∷ []) rest (Some (token.Delimiter d))
+  double : {b c : ℕ} {rest : List ℕ} {d e : Delimiter} → class_of b ≡ class.Sign d → look_ahead d (class_of c) ≡ Longer e
+      → Piece (b ∷ c ∷ []) rest (Some (token.Delimiter e))
 
 -- what begins with a fault
 pub data Faulty : List ℕ → ReadErrorKind → Type 0 where
-  comment : {b c : ℕ} {rest : List ℕ} {d : Delimiter} → class_of b ≡ class.Sign d → look_ahead d (class_of c) ≡ Comment → NoClose rest → Faulty (b ∷ c ∷ rest) BadToken
+  comment : {b c : ℕ} {rest : List ℕ} {d : Delimiter} → class_of b ≡ class.Sign d → look_ahead d (class_of c) ≡ Comment → NoClose rest
+      → Faulty (b ∷ c ∷ rest) BadToken
   pragma : {b : ℕ} {rest : List ℕ} → class_of b ≡ class.Brace → NoBrace rest → Faulty (b ∷ rest) BadToken
-  word : {b : ℕ} {w rest : List ℕ} → StartsWord (class_of b) → IsRun alphabet.Word (b ∷ w) rest → is_sharp_first rest ≡ false → is_spaced (b ∷ w) ≡ false → Faulty (b ∷ (w ++ rest)) BadToken
-  prefix : {b : ℕ} {w rest : List ℕ} → StartsWord (class_of b) → IsRun alphabet.Word (b ∷ w) (35 ∷ rest) → kind_of_prefix (b ∷ w) ≡ None → Faulty (b ∷ (w ++ 35 ∷ rest)) BadToken
-  literal : {front rest : List ℕ} {kind : LiteralKind} (negative : Bool) (w : List ℕ) → Prefix kind front (minus negative ++ (w ++ rest)) → Body kind negative w rest → ((t : TokenKind) → IsLiteral kind negative w t → ⊥) → Faulty (front ++ (minus negative ++ (w ++ rest))) (fault_of kind)
+  word : {b : ℕ} {w rest : List ℕ} → StartsWord (class_of b) → IsRun alphabet.Word (b ∷ w) rest → is_sharp_first rest ≡ false
+      → is_spaced (b ∷ w) ≡ false → Faulty (b ∷ (w ++ rest)) BadToken
+  prefix : {b : ℕ} {w rest : List ℕ} → StartsWord (class_of b) → IsRun alphabet.Word (b ∷ w) (35 ∷ rest) → kind_of_prefix (b ∷ w) ≡ None
+      → Faulty (b ∷ (w ++ 35 ∷ rest)) BadToken
+  literal : {front rest : List ℕ} {kind : LiteralKind} (negative : Bool) (w : List ℕ) → Prefix kind front (minus negative ++ (w ++ rest))
+      → Body kind negative w rest → ((t : TokenKind) → IsLiteral kind negative w t → ⊥)
+      → Faulty (front ++ (minus negative ++ (w ++ rest))) (fault_of kind)
   sharp : {b : ℕ} {rest : List ℕ} → class_of b ≡ class.Sharp → Faulty (b ∷ rest) BadToken
   other : {b : ℕ} {rest : List ℕ} → class_of b ≡ class.Other → Faulty (b ∷ rest) BadToken
   high : {b : ℕ} {rest : List ℕ} → class_of b ≡ class.High → Faulty (b ∷ rest) NotAscii
@@ -129,4 +131,5 @@ pub data Scans : List ℕ → Tokens → Type 0 where
 
 -- a word that is one duration: `T#` or `TIME#` in any case, a minus or none, and its parts
 pub data IsDuration : List ℕ → ℤ → Type 0 where
-  duration : (front : List ℕ) (negative : Bool) (w : List ℕ) (v : ℕ) → kind_of_prefix front ≡ Some kinds.Duration → IsInterval w v → IsDuration (front ++ 35 ∷ (minus negative ++ w)) (signed negative v)
+  duration : (front : List ℕ) (negative : Bool) (w : List ℕ) (v : ℕ) → kind_of_prefix front ≡ Some kinds.Duration → IsInterval w v
+      → IsDuration (front ++ 35 ∷ (minus negative ++ w)) (signed negative v)

@@ -1,29 +1,43 @@
-pub mod ReadErrors
-pub mod Classes
-pub mod Runs
+-- The rules, in reading order.
+
+-- words that are one but for the case of their letters
 pub mod Case
+-- what a byte may begin
+pub mod Classes
+-- the longest run of bytes of one alphabet
+pub mod Runs
+-- the reserved words
 pub mod Words
+-- words and names
+pub mod Names
+-- integers
 pub mod Numbers
-pub mod NumberScan
+-- durations, and values of type TIME
 pub mod Durations
-pub mod DurationScan
-pub mod DurationWord
+-- directly represented variables
 pub mod Locations
-pub mod LocationScan
+-- literals, by what stands in front of them
 pub mod Literals
-pub mod LiteralScan
-pub mod Results
+-- tokens: pieces of text, each as long as it can be, and the first fault
 pub mod Lexemes
-pub mod Scanning
-pub mod Writing
-pub mod TimeText
-pub mod Tokens
-pub mod Terminals
-pub mod Reading
-pub mod ProgramReading
-pub mod ConfigurationReading
-pub mod SourceReading
-pub mod SingleSource
+-- whole texts and their tokens
 pub mod Texts
+-- tokens without their lines
+pub mod Tokens
+-- what holds of the parts of every tree
+pub mod Trees
+-- the grammar, by its productions
 pub mod Grammar
+-- what the grammar allows so far
+pub mod SingleSource
+-- what a whole text is read as
 pub mod Reads
+-- the numbers, names and texts of refusals
+pub mod ReadErrors
+-- the text of a TIME value
+pub mod TimeText
+-- what a writer holds after a write
+pub mod Writing
+-- What private clauses cite.
+pub mod Scanning
+pub mod Parsing

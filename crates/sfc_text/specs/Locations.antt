@@ -4,9 +4,19 @@ use Rattle.sfc_text.specs.declared.location.Area.{Area}
 use Rattle.sfc_text.specs.declared.location.Area.TheVariants.{Input, Output, Memory}
 use Rattle.sfc_text.specs.declared.location.Size.{Size}
 use Rattle.sfc_text.specs.declared.location.Size.TheVariants.{Bit, Byte, Word, DoubleWord, LongWord}
-use Rattle.sfc_text.specs.declared.location.Location.{Location}
 use Rattle.std.specs.Char.{to_ascii_uppercase}
 use Rattle.sfc_text.specs.Numbers.{IsInteger}
+
+-- where a variable lies
+pub record LocationData : Type 0 where
+  pub area : Area
+  pub size : Size
+  pub numbers : List ℕ
+
+-- from one to eight
+pub record AreNumbers (numbers : List ℕ) : Type 0 where
+  pub some : 0 < length numbers
+  pub few : length numbers ≤ 8
 
 -- I, Q, M
 abbrev pub area_of_capital : ℕ → Option Area
@@ -36,6 +46,8 @@ pub data Numbers : List ℕ → List ℕ → Type 0 where
   more : {w rest : List ℕ} {n : ℕ} {ns : List ℕ} → IsInteger 10 w n → n < 2 ^ 32 → Numbers rest ns → Numbers (w ++ 46 ∷ rest) (n ∷ ns)
 
 -- what stands behind `%`
-pub data IsLocation : List ℕ → Location → Type 0 where
-  sized : {a s : ℕ} {w : List ℕ} {area : Area} {size : Size} {ns : List ℕ} → area_of a ≡ Some area → size_of s ≡ Some size → Numbers w ns → length ns ≤ 8 → IsLocation (a ∷ s ∷ w) (record { area = area; size = size; numbers = ns })
-  unsized : {a : ℕ} {w : List ℕ} {area : Area} {ns : List ℕ} → area_of a ≡ Some area → Numbers w ns → length ns ≤ 8 → IsLocation (a ∷ w) (record { area = area; size = Bit; numbers = ns })
+pub data IsLocation : List ℕ → LocationData → Type 0 where
+  sized : {a s : ℕ} {w : List ℕ} {area : Area} {size : Size} {ns : List ℕ} → area_of a ≡ Some area → size_of s ≡ Some size → Numbers w ns
+      → length ns ≤ 8 → IsLocation (a ∷ s ∷ w) (record { area = area; size = size; numbers = ns })
+  unsized : {a : ℕ} {w : List ℕ} {area : Area} {ns : List ℕ} → area_of a ≡ Some area → Numbers w ns → length ns ≤ 8
+      → IsLocation (a ∷ w) (record { area = area; size = Bit; numbers = ns })

@@ -15,7 +15,8 @@ digit_of base b =
 -- Digits base wanted n w m: w goes on behind the number n and makes it m; where a digit is wanted, w begins with one.
 pub data Digits : ℕ → Bool → ℕ → List ℕ → ℕ → Type 0 where
   ended : {base n : ℕ} → Digits base false n [] n
-  digit : {base n b d m : ℕ} {wanted : Bool} {w : List ℕ} → digit_of base b ≡ Some d → Digits base false (n * base + d) w m → Digits base wanted n (b ∷ w) m
+  digit : {base n b d m : ℕ} {wanted : Bool} {w : List ℕ} → digit_of base b ≡ Some d → Digits base false (n * base + d) w m
+      → Digits base wanted n (b ∷ w) m
   underscore : {base n m : ℕ} {w : List ℕ} → Digits base true n w m → Digits base false n (95 ∷ w) m
 
 -- integer ::= digit {['_'] digit}

@@ -1,9 +1,13 @@
 -- The numbers and names of what may be wrong with a text, and how a refusal is told (our choice).
-use Rattle.std.specs.Prelude.{ℕ, List, ◌++◌, codes}
+use Rattle.std.specs.Prelude.{ℕ, List, ◌++◌, Result, codes}
 use Rattle.std.specs.Fmt.{decimal}
 use Rattle.sfc_text.specs.declared.read_error.ReadError.{ReadError}
 use Rattle.sfc_text.specs.declared.read_error.ReadErrorKind.{ReadErrorKind}
 use Rattle.sfc_text.specs.declared.read_error.ReadErrorKind.TheVariants.{TooLong, NotAscii, BadToken, Syntax, TooDeep, BadDuration, BadNumber, Memory}
+
+-- what reading gives: a value, or what is wrong
+abbrev pub Read : Type 0 → Type 0
+Read X = Result X ReadErrorKind
 
 abbrev pub number_of : ReadErrorKind → ℕ
 number_of TooLong = 1

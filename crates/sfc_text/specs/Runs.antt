@@ -1,5 +1,5 @@
 -- The longest run of bytes of one alphabet.
-use Rattle.std.specs.Prelude.{◌≡◌, ℕ, List, [], ◌∷◌, Bool, true, false, ◌||◌, if◌then◌else◌}
+use Rattle.std.specs.Prelude.{◌≡◌, ℕ, List, [], ◌∷◌, Bool, true, false, ◌||◌}
 use Rattle.std.specs.List.{AllByRecursion}
 use Rattle.sfc_text.specs.declared.delimiter.Delimiter.TheVariants as sign
 use Rattle.sfc_text.specs.declared.class.Class.{Class}
@@ -49,8 +49,3 @@ Ends a (b ∷ rest) = has a b ≡ false
 pub record IsRun (a : Alphabet) (w rest : List ℕ) : Type 0 where
   pub all : AllIn a w
   pub longest : Ends a rest
-
--- the run at the front, and the rest
-unfoldable pub run : Alphabet → List ℕ → List ℕ × List ℕ
-run a [] = ([], [])
-run a (b ∷ bs) = if has a b then (b ∷ (run a bs).0, (run a bs).1) else ([], b ∷ bs)

@@ -3,7 +3,7 @@ use Rattle.std.specs.Prelude.{ℕ, ◌<◌, ◌≤◌, List, ◌∷◌, length, 
 use Rattle.sfc_text.specs.declared.read_error.ReadError.{ReadError}
 use Rattle.sfc_text.specs.declared.read_error.ReadErrorKind.{ReadErrorKind}
 use Rattle.sfc_text.specs.declared.read_error.ReadErrorKind.TheVariants as kind
-use Rattle.sfc_text.specs.Results.{Read}
+use Rattle.sfc_text.specs.ReadErrors.{Read}
 use Rattle.sfc_text.specs.Lexemes.{Tokens, Scans}
 
 -- the greatest length of a text, in bytes (our choice)

@@ -1,10 +1,10 @@
 //! Durations by themselves (B.1.2.3.1).
 
 ghost use Rattle.std.specs.Prelude.{◌≡◌, ℤ, MatchOption};
-ghost use Rattle.sfc_text.specs.DurationWord as word_value;
+ghost use Rattle.sfc_text.specs.Scanning.DurationWords as word_value;
 ghost use Rattle.sfc_text.specs.Lexemes.{IsDuration};
 
-use crate::interval::interval;
+use crate::duration_scan::interval;
 use crate::literal::{LiteralKind, signed};
 use crate::run::{Alphabet, run};
 
@@ -33,7 +33,7 @@ fn signed_value(text: &[u8]) -> Option<i64>
 }
 
 // The value of the word, if it is a duration.
-#[tactic(auto, unfolding(crate::specs::DurationWord::duration_value))]
+#[tactic(auto, unfolding(crate::specs::Scanning::DurationWords::duration_value))]
 fn value_of(word: &[u8]) -> Option<i64>
     ensures { result ≡ word_value.duration_value word.now }
 {

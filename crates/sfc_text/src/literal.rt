@@ -1,16 +1,17 @@
 //! Literals (2.2): what stands behind their prefix.
 
-ghost use Rattle.std.specs.Prelude.{◌≡◌, ◌≤◌, ◌^◌, Option, Some, None, IfSome};
+ghost use Rattle.std.specs.Prelude.{◌≡◌, ◌≤◌, ◌^◌, Option, Some, None, IfSome, IfOk};
+ghost use Rattle.sfc_text.specs.Durations.{IsTimeValue};
 ghost use Rattle.sfc_text.specs.Literals as literals;
-ghost use Rattle.sfc_text.specs.LiteralScan as scan;
-ghost use Rattle.sfc_text.specs.LocationScan.{Gives};
+ghost use Rattle.sfc_text.specs.Scanning.Literals as scan;
 
-use crate::address::location;
 use crate::case::is_same_word;
-use crate::interval::interval;
+use crate::duration_scan::interval;
+use crate::location_scan::location;
 use crate::number::{base_at, integer};
 use crate::read_error::ReadErrorKind;
 use crate::run::Alphabet;
+use crate::time_value::TimeValue;
 use crate::token::TokenKind;
 use std::alloc::{AllocError, Global};
 
@@ -92,10 +93,19 @@ fn magnitude(word: &[u8]) -> Option<u64>
 /// The number with its sign.
 pub fn signed(is_negative: bool, magnitude: u64) -> i64
     requires { magnitude ≤ 2 ^ 62 }
-    ensures { result ≡ literals.signed is_negative magnitude }
+    ensures value { result ≡ literals.signed is_negative magnitude }
+    ensures limited { IsTimeValue result }
 {
     let value = magnitude as i64;
     if is_negative { -value } else { value }
+}
+
+// The TIME value of so many microseconds with their sign.
+fn time(is_negative: bool, magnitude: u64) -> TimeValue
+    requires { magnitude ≤ 2 ^ 62 }
+    ensures { result ≡ literals.signed is_negative magnitude }
+{
+    TimeValue::new(signed(is_negative, magnitude))
 }
 
 // An integer without a type.
@@ -122,14 +132,14 @@ fn truth(word: &[u8]) -> Option<bool>
 }
 
 // The literal that the word is, with a minus before it or without one; locations apart.
-#[tactic(auto, unfolding(crate::specs::LiteralScan::value_of))]
+#[tactic(auto, unfolding(crate::specs::Scanning::Literals::value_of))]
 fn value_of(kind: LiteralKind, is_negative: bool, word: &[u8]) -> Option<TokenKind>
     ensures { result ≡ scan.value_of kind is_negative word.now }
 {
     match kind {
         LiteralKind::Int => Some(TokenKind::Int(signed(is_negative, magnitude(word)?))),
         LiteralKind::Dint => Some(TokenKind::Dint(signed(is_negative, magnitude(word)?))),
-        LiteralKind::Duration => Some(TokenKind::Duration(signed(is_negative, interval(word)?))),
+        LiteralKind::Duration => Some(TokenKind::Duration(time(is_negative, interval(word)?))),
         LiteralKind::Number if !is_negative => untyped(word),
         LiteralKind::Truth if !is_negative => Some(TokenKind::Truth(truth(word)?)),
         _ => None,
@@ -137,14 +147,14 @@ fn value_of(kind: LiteralKind, is_negative: bool, word: &[u8]) -> Option<TokenKi
 }
 
 /// The literal that the word is, with a minus before it or without one, if it is one.
-#[tactic(auto, unfolding(crate::specs::LiteralScan::literal))]
+#[tactic(auto, unfolding(crate::specs::Scanning::Literals::literal))]
 pub fn literal(
     alloc: Global,
     kind: LiteralKind,
     is_negative: bool,
     word: &[u8],
 ) -> Result<Option<TokenKind>, AllocError>
-    ensures { Gives (λ o. o) result (scan.literal kind is_negative word.now) }
+    ensures { IfOk result (λ found. scan.literal kind is_negative word.now ≡ found) }
 {
     match kind {
         LiteralKind::Location if !is_negative => match location(alloc, word)? {

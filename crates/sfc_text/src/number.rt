@@ -2,7 +2,7 @@
 
 ghost use Rattle.std.specs.Prelude.{◌≡◌, ◌≤◌, ◌<◌, ◌*◌, ◌+◌, ◌^◌, Option, Some, None, IfSome};
 ghost use Rattle.sfc_text.specs.Numbers as numbers;
-ghost use Rattle.sfc_text.specs.NumberScan as scan;
+ghost use Rattle.sfc_text.specs.Scanning.Integers as scan;
 
 /// What the byte stands for as a digit, where that is below the base.
 pub fn digit_of(base: u8, byte: u8) -> Option<u8>
@@ -31,7 +31,7 @@ fn one_more(base: u8, limit: u64, number: u64, byte: u8) -> Option<u64>
 }
 
 /// The number that the word is as an integer of the base, if it is one and not over the limit.
-#[tactic(auto, unfolding(crate::specs::NumberScan::digits))]
+#[tactic(auto, unfolding(crate::specs::Scanning::Integers::digits))]
 pub fn integer(base: u8, limit: u64, word: &[u8]) -> Option<u64>
     requires base_small { base ≤ 16 }
     requires limit_small { limit ≤ 2 ^ 56 }
@@ -54,7 +54,7 @@ pub fn integer(base: u8, limit: u64, word: &[u8]) -> Option<u64>
 }
 
 // What stands behind the given bytes.
-#[tactic(auto, unfolding(crate::specs::NumberScan::after))]
+#[tactic(auto, unfolding(crate::specs::Scanning::Integers::after))]
 fn after<'a>(front: &[u8], word: &'a [u8]) -> Option<&'a [u8]>
     ensures { scan.view_slice result ≡ scan.after front.now word.now }
 {
@@ -72,7 +72,7 @@ fn after<'a>(front: &[u8], word: &'a [u8]) -> Option<&'a [u8]>
 }
 
 /// The base in front of the digits, and the digits.
-#[tactic(auto, unfolding(crate::specs::NumberScan::base_at))]
+#[tactic(auto, unfolding(crate::specs::Scanning::Integers::base_at))]
 pub fn base_at(word: &[u8]) -> Option<(u8, &[u8])>
     ensures value { scan.view_base result ≡ scan.base_at word.now }
     ensures small { IfSome result (λ x. x.0 ≤ 16) }

@@ -2,6 +2,7 @@
 
 ghost use Rattle.std.specs.Prelude.{◌≡◌};
 ghost use Rattle.sfc_text.specs.Runs as runs;
+ghost use Rattle.sfc_text.specs.Scanning.Runs as scanning;
 
 use crate::class::{Class, class_of};
 use crate::delimiter::Delimiter;
@@ -25,8 +26,8 @@ pub enum Alphabet {
     Location,
 }
 
-// Whether the byte belongs to the alphabet.
-fn has(alphabet: Alphabet, byte: u8) -> bool
+/// Whether the byte belongs to the alphabet.
+pub fn has(alphabet: Alphabet, byte: u8) -> bool
     ensures { result ≡ runs.has alphabet byte }
 {
     let class = class_of(byte);
@@ -46,9 +47,9 @@ fn has(alphabet: Alphabet, byte: u8) -> bool
 }
 
 /// The longest run of bytes of the alphabet at the front, and the rest.
-#[tactic(auto, unfolding(crate::specs::Runs::run))]
+#[tactic(auto, unfolding(crate::specs::Scanning::Runs::run))]
 pub fn run(alphabet: Alphabet, bytes: &[u8]) -> (&[u8], &[u8])
-    ensures { (result.0.now, result.1.now) ≡ runs.run alphabet bytes.now }
+    ensures { (result.0.now, result.1.now) ≡ scanning.run alphabet bytes.now }
 {
     let mut count = 0;
     'all: for byte in bytes {

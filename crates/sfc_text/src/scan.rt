@@ -1,25 +1,27 @@
 //! Bytes to tokens (2.1, 2.2).
 
-ghost use Rattle.std.specs.Prelude.{◌≡◌, ◌∷◌, Option, Some, None, IfOk, length};
+ghost use Rattle.std.specs.Prelude.{◌≡◌, ◌∷◌, Option, Some, None, IfOk, IsTrue, length};
 ghost use Rattle.sfc_text.specs.Classes as classes;
 ghost use Rattle.sfc_text.specs.Lexemes as lexemes;
-ghost use Rattle.sfc_text.specs.NumberScan.{view_slice};
-ghost use Rattle.sfc_text.specs.Results.{Gives, Answers, kind_of};
-ghost use Rattle.sfc_text.specs.Scanning as scanning;
-ghost use Rattle.sfc_text.specs.Scanning.{view_next};
+ghost use Rattle.sfc_text.specs.Names as names;
+ghost use Rattle.sfc_text.specs.Names.{IsWord};
+ghost use Rattle.sfc_text.specs.Scanning.Integers.{view_slice};
+ghost use Rattle.sfc_text.specs.Scanning.Results.{Gives, Answers, kind_of};
+ghost use Rattle.sfc_text.specs.Scanning.Tokens as scanning;
+ghost use Rattle.sfc_text.specs.Scanning.Tokens.{view_next};
 ghost use Rattle.sfc_text.specs.Texts as texts;
 ghost use Rattle.sfc_text.specs.Texts.{Finds, TextScans};
 ghost use Rattle.sfc_text.specs.Tokens.{kinds};
 
 use crate::class::{Class, class_of, first_class};
 use crate::delimiter::Delimiter;
-use crate::fault::Fault;
+use crate::keyword::keyword_of;
 use crate::literal::{LiteralKind, literal};
-use crate::name::Name;
+use crate::name::{Name, is_spaced};
 use crate::read_error::{OUT_OF_MEMORY, ReadError, ReadErrorKind};
 use crate::run::{Alphabet, run};
+use crate::scan_fault::ScanFault;
 use crate::token::{Token, TokenKind};
-use crate::word::keyword_of;
 use std::alloc::{AllocError, AllocFailed, Global};
 
 /// The greatest length of a text, in bytes (our choice).
@@ -52,28 +54,8 @@ fn look_ahead(first: Delimiter, second: Class) -> Ahead
     }
 }
 
-// Whether underscores stand single and inside.
-#[tactic(auto, unfolding(crate::specs::Lexemes::is_spaced))]
-fn is_spaced(word: &[u8]) -> bool
-    ensures { result ≡ lexemes.is_spaced word.now }
-{
-    let mut rest = word;
-    'all: while let Some((first, after)) = rest.split_first() {
-        match after.first() {
-            None => return *first != b'_',
-            Some(second) => {
-                if *first == b'_' && *second == b'_' {
-                    return false;
-                }
-            }
-        }
-        rest = after;
-    }
-    true
-}
-
 // What stands behind the end of a comment.
-#[tactic(auto, unfolding(crate::specs::Scanning::after_comment))]
+#[tactic(auto, unfolding(crate::specs::Scanning::Tokens::after_comment))]
 fn after_comment(bytes: &[u8]) -> Option<&[u8]>
     ensures { view_slice result ≡ scanning.after_comment bytes.now }
 {
@@ -89,7 +71,7 @@ fn after_comment(bytes: &[u8]) -> Option<&[u8]>
 }
 
 // What stands behind the end of a pragma.
-#[tactic(auto, unfolding(crate::specs::Scanning::after_pragma))]
+#[tactic(auto, unfolding(crate::specs::Scanning::Tokens::after_pragma))]
 fn after_pragma(bytes: &[u8]) -> Option<&[u8]>
     ensures { view_slice result ≡ scanning.after_pragma bytes.now }
 {
@@ -108,7 +90,7 @@ fn literal_at(
     alloc: Global,
     kind: LiteralKind,
     bytes: &[u8],
-) -> Result<(Option<TokenKind>, &[u8]), Fault>
+) -> Result<(Option<TokenKind>, &[u8]), ScanFault>
     ensures { Gives view_next result (scanning.literal_at kind bytes.now) }
 {
     let (is_negative, unsigned) = match bytes {
@@ -118,12 +100,13 @@ fn literal_at(
     let (word, rest) = run(kind.alphabet(), unsigned);
     match literal(alloc, kind, is_negative, word)? {
         Some(token) => Ok((Some(token), rest)),
-        None => Err(Fault::Wrong(kind.fault())),
+        None => Err(ScanFault::Wrong(kind.fault())),
     }
 }
 
 // The token that a word is: reserved, or a name.
 fn word_token(alloc: Global, word: &[u8]) -> Result<TokenKind, AllocError>
+    requires { IsWord word.now }
     ensures { IfOk result (λ token. token ≡ lexemes.word_token word.now) }
 {
     if let Some(keyword) = keyword_of(word) {
@@ -134,25 +117,26 @@ fn word_token(alloc: Global, word: &[u8]) -> Result<TokenKind, AllocError>
 }
 
 // The word at the front, or the literal of which it is the prefix.
-fn word_at(alloc: Global, bytes: &[u8]) -> Result<(Option<TokenKind>, &[u8]), Fault>
+fn word_at(alloc: Global, bytes: &[u8]) -> Result<(Option<TokenKind>, &[u8]), ScanFault>
+    requires { IsTrue (names.starts_word (classes.first_class bytes.now)) }
     ensures { Gives view_next result (scanning.word_at bytes.now) }
 {
     let (word, rest) = run(Alphabet::Word, bytes);
     if let [b'#', behind @ ..] = rest {
         return match LiteralKind::of_prefix(word) {
             Some(kind) => literal_at(alloc, kind, behind),
-            None => Err(Fault::Wrong(ReadErrorKind::BadToken)),
+            None => Err(ScanFault::Wrong(ReadErrorKind::BadToken)),
         };
     }
     if !is_spaced(word) {
-        return Err(Fault::Wrong(ReadErrorKind::BadToken));
+        return Err(ScanFault::Wrong(ReadErrorKind::BadToken));
     }
     let token = word_token(alloc, word)?;
     Ok((Some(token), rest))
 }
 
 // The comment, or the delimiter of one or two bytes, at the front.
-fn sign_at(first: Delimiter, after: &[u8]) -> Result<(Option<TokenKind>, &[u8]), Fault>
+fn sign_at(first: Delimiter, after: &[u8]) -> Result<(Option<TokenKind>, &[u8]), ScanFault>
     ensures { Gives view_next result (scanning.sign_at first after.now) }
 {
     let behind = match after {
@@ -164,19 +148,19 @@ fn sign_at(first: Delimiter, after: &[u8]) -> Result<(Option<TokenKind>, &[u8]),
         Ahead::Longer(delimiter) => Ok((Some(TokenKind::Delimiter(delimiter)), behind)),
         Ahead::Comment => match after_comment(behind) {
             Some(rest) => Ok((None, rest)),
-            None => Err(Fault::Wrong(ReadErrorKind::BadToken)),
+            None => Err(ScanFault::Wrong(ReadErrorKind::BadToken)),
         },
     }
 }
 
 // The token at the front, or none for what is skipped, and the rest.
-#[tactic(auto, unfolding(crate::specs::Scanning::next_by))]
+#[tactic(auto, unfolding(crate::specs::Scanning::Tokens::next_by))]
 fn next<'a>(
     alloc: Global,
     first: u8,
     after: &'a [u8],
     bytes: &'a [u8],
-) -> Result<(Option<TokenKind>, &'a [u8]), Fault>
+) -> Result<(Option<TokenKind>, &'a [u8]), ScanFault>
     requires { bytes.now ≡ first ∷ after.now }
     ensures { Gives view_next result (scanning.next_by (classes.class_of first) first after.now) }
 {
@@ -187,11 +171,11 @@ fn next<'a>(
         Class::Percent => literal_at(alloc, LiteralKind::Location, after),
         Class::Brace => match after_pragma(after) {
             Some(rest) => Ok((None, rest)),
-            None => Err(Fault::Wrong(ReadErrorKind::BadToken)),
+            None => Err(ScanFault::Wrong(ReadErrorKind::BadToken)),
         },
         Class::Sign(delimiter) => sign_at(delimiter, after),
-        Class::High => Err(Fault::Wrong(ReadErrorKind::NotAscii)),
-        Class::Sharp | Class::Other => Err(Fault::Wrong(ReadErrorKind::BadToken)),
+        Class::High => Err(ScanFault::Wrong(ReadErrorKind::NotAscii)),
+        Class::Sharp | Class::Other => Err(ScanFault::Wrong(ReadErrorKind::BadToken)),
     }
 }
 
@@ -231,12 +215,12 @@ fn line_after(line: u32, before: &[u8], after: &[u8]) -> u32 {
 }
 
 // The fault at a line; want of memory has line 1.
-fn error_at(line: u32, fault: Fault) -> ReadError
+fn error_at(line: u32, fault: ScanFault) -> ReadError
     ensures { result.kind ≡ kind_of fault }
 {
     match fault {
-        Fault::Memory => OUT_OF_MEMORY,
-        Fault::Wrong(kind) => ReadError { kind, line },
+        ScanFault::Memory => OUT_OF_MEMORY,
+        ScanFault::Wrong(kind) => ReadError { kind, line },
     }
 }
 

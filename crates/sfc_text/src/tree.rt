@@ -1,8 +1,12 @@
 //! The trees that a text is read as (Annex B). Nothing is looked up here: a name is what was written.
 
+ghost use Rattle.std.specs.Prelude.{◌≡◌, false};
+ghost use Rattle.sfc_text.specs.Trees.{is_empty};
+
 use crate::items::Items;
 use crate::location::Location;
 use crate::name::Name;
+use crate::time_value::TimeValue;
 use crate::var_type::VarType;
 
 /// A whole text: program types, and a configuration among them.
@@ -48,12 +52,14 @@ pub struct Association {
     pub qualifier: Qualifier,
 }
 
-/// A transition from its preceding to its following steps (2.6.3).
+/// A transition from its preceding to its following steps (2.6.3); there is at least one on each side.
 #[derive(Debug, Drop)]
 pub struct Transition {
     pub preceding: Items<Name>,
     pub following: Items<Name>,
     pub condition: Expression,
+    pub ghost some_preceding: { is_empty preceding ≡ false },
+    pub ghost some_following: { is_empty following ≡ false },
 }
 
 /// An expression (3.3.1).
@@ -71,11 +77,11 @@ pub struct Declaration {
     pub var_type: VarType,
 }
 
-/// A task (2.7.2). The interval is in microseconds; 0 where none was written.
+/// A task (2.7.2). The interval is 0 where none was written.
 #[derive(Debug, Drop)]
 pub struct Task {
     pub name: Name,
-    pub interval: i64,
+    pub interval: TimeValue,
     pub priority: u32,
 }
 

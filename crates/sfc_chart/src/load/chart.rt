@@ -1,7 +1,6 @@
 //! The elements of a program to its chart (2.6.2 to 2.6.4).
 
 ghost use Rattle.std.specs.Prelude.{◌≡◌, ◌++◌, ◌∷◌, [], length, map, nat_lt, Some, OnOk};
-ghost use Rattle.sfc_chart.specs.Names.{upper};
 ghost use Rattle.std.specs.List.{list_any};
 ghost use Rattle.sfc_chart.specs.Loading.{in_turn, each, steps_of, transitions_of, step_name, step_check, step_names, association_count, association_check, step_associations_check, side_check, side_step_check, condition_check, transition_check, limits_check, chart_check};
 ghost use Rattle.sfc_chart.specs.Built.{Loads, association_of, step_of, step_number, step_numbers, condition_of, transition_of, chart_of, variable_at};
@@ -11,6 +10,7 @@ use crate::chart::{Association, Chart, Step, Target, Transition};
 use crate::expr::Expr;
 use crate::ids::VarId;
 use crate::load_error::{Limit, LoadError};
+use crate::name_key::NameKey;
 use crate::name_table::NameTable;
 use crate::value::Value;
 use sfc_text::items::Items;
@@ -90,8 +90,8 @@ fn load_step_names(alloc: Global, elements: &[Element]) -> Result<NameTable, Loa
     let mut rest = elements;
     'elements: while let Some((element, after)) = rest.split_first() {
         if let Element::Step(step) = element {
-            let capitals = step.name.spelling().to_ascii_uppercase(alloc)?;
-            if !names.add(capitals)? {
+            let key = NameKey::new(alloc, step.name.spelling())?;
+            if !names.add(key)? {
                 return Err(LoadError::Duplicate);
             }
         }
@@ -192,13 +192,13 @@ fn load_side_step(
     seen: &mut NameTable,
 ) -> Result<usize, LoadError>
     ensures loads { Loads (λ step. step) result (side_step_check steps.now seen.old name.now) (step_number steps.now name.now) }
-    ensures named { OnOk result (seen.new ≡ seen.old ++ upper name.now ∷ []) }
+    ensures named { OnOk result (seen.new ≡ seen.old ++ name.now ∷ []) }
 {
-    let capitals = name.spelling().to_ascii_uppercase(alloc)?;
-    let Some(step) = steps.find(&capitals) else {
+    let key = NameKey::new(alloc, name.spelling())?;
+    let Some(step) = steps.find(&key) else {
         return Err(LoadError::UnknownStep);
     };
-    if !seen.add(capitals)? {
+    if !seen.add(key)? {
         return Err(LoadError::Duplicate);
     }
     Ok(step)
@@ -208,9 +208,6 @@ fn load_side_step(
 fn load_side(alloc: Global, names: &[Name], steps: &NameTable) -> Result<Vec<usize>, LoadError>
     ensures { Loads (λ loaded. loaded.items) result (side_check steps.now names.now) (step_numbers steps.now names.now) }
 {
-    if names.is_empty() {
-        return Err(LoadError::UnknownStep);
-    }
     let mut seen = NameTable::new(alloc);
     let mut loaded = Vec::new(alloc);
     let mut rest = names;

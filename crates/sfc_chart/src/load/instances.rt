@@ -1,12 +1,12 @@
 //! Program instances (2.7.2).
 
 ghost use Rattle.std.specs.Prelude.{◌≡◌, ◌≤◌, ◌++◌, ◌∷◌, [], length, map, OnOk, IfOk};
-ghost use Rattle.sfc_chart.specs.Names.{upper};
 ghost use Rattle.sfc_chart.specs.Loading.{in_turn, instance_name, instance_check, instance_names, task_number, instances_check};
 ghost use Rattle.sfc_chart.specs.Built.{Loads, instance_of};
 
 use crate::ids::TaskId;
 use crate::load_error::{Limit, LoadError};
+use crate::name_key::NameKey;
 use crate::name_table::NameTable;
 use crate::plant::Instance;
 use sfc_text::name::Name;
@@ -27,8 +27,8 @@ fn number_of_task(
     match name {
         None => Ok(None),
         Some(name) => {
-            let capitals = name.spelling().to_ascii_uppercase(alloc)?;
-            Ok(tasks.find(&capitals))
+            let key = NameKey::new(alloc, name.spelling())?;
+            Ok(tasks.find(&key))
         }
     }
 }
@@ -42,17 +42,17 @@ fn load_instance(
 ) -> Result<Instance, LoadError>
     requires { length tasks.now ≤ 16 }
     ensures loads { Loads (λ loaded. loaded) result (instance_check tasks.now types.now names.old instance.now) (instance_of tasks.now types.now instance.now) }
-    ensures named { OnOk result (names.new ≡ names.old ++ upper instance.now.name ∷ []) }
+    ensures named { OnOk result (names.new ≡ names.old ++ instance.now.name ∷ []) }
 {
-    let capitals = instance.name.spelling().to_ascii_uppercase(alloc)?;
-    if !names.add(capitals)? {
+    let key = NameKey::new(alloc, instance.name.spelling())?;
+    if !names.add(key)? {
         return Err(LoadError::Duplicate);
     }
     let Some(task) = number_of_task(alloc, &instance.task, tasks)? else {
         return Err(LoadError::NoTask);
     };
-    let program = instance.program.spelling().to_ascii_uppercase(alloc)?;
-    let Some(program) = types.find(&program) else {
+    let key = NameKey::new(alloc, instance.program.spelling())?;
+    let Some(program) = types.find(&key) else {
         return Err(LoadError::UnknownType);
     };
     Ok(Instance {

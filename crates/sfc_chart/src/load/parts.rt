@@ -1,10 +1,10 @@
 //! The parts of a plant, in the order of the checks.
 
-ghost use Rattle.std.specs.Prelude.{◌≡◌, OnOk, IfOk};
+ghost use Rattle.std.specs.Prelude.{◌≡◌, OnOk, IfOk, All};
 ghost use Rattle.sfc_chart.specs.Chart.{IsPlant};
 ghost use Rattle.sfc_chart.specs.Loading.{source_check};
 ghost use Rattle.sfc_chart.specs.Built.{Loads, plant_of};
-ghost use Rattle.sfc_chart.specs.Parts.{plant_from, AreNamed};
+ghost use Rattle.sfc_chart.specs.Assembly.Parts.{plant_from, AreNamed, IsLimited};
 
 use super::instances::load_instances;
 use super::programs::load_programs;
@@ -34,6 +34,7 @@ pub struct Parts {
 pub fn load_parts(alloc: Global, source: &Source) -> Result<Parts, LoadError>
     ensures loads { Loads (plant_from source.now) result (source_check source.now) (plant_of source.now) }
     ensures named { IfOk result (AreNamed source.now) }
+    ensures limited { OnOk result (All IsLimited source.now.configuration.tasks) }
 {
     let configuration = &source.configuration;
     let scope = load_scope(alloc, configuration.globals.as_slice())?;

@@ -1,14 +1,14 @@
 //! Program types (2.5.3).
 
 ghost use Rattle.std.specs.Prelude.{◌≡◌, ◌++◌, ◌∷◌, [], map, OnOk, IfOk};
-ghost use Rattle.sfc_chart.specs.Names.{upper};
 ghost use Rattle.sfc_chart.specs.Loading.{program_names, program_check, programs_check};
-ghost use Rattle.sfc_chart.specs.Built.{Loads, type_of};
+ghost use Rattle.sfc_chart.specs.Built.{Loads, program_type_of};
 
 use super::chart::load_chart;
 use super::scope::Scope;
 use crate::chart::ProgramType;
 use crate::load_error::LoadError;
+use crate::name_key::NameKey;
 use crate::name_table::NameTable;
 use sfc_text::tree::Program;
 use std::alloc::Global;
@@ -19,11 +19,11 @@ fn load_program(
     scope: &Scope,
     names: &mut NameTable,
 ) -> Result<ProgramType, LoadError>
-    ensures loads { Loads (λ loaded. loaded) result (program_check scope.now.variables.items names.old program.now) (type_of scope.now.variables.items program.now) }
-    ensures named { OnOk result (names.new ≡ names.old ++ upper program.now.name ∷ []) }
+    ensures loads { Loads (λ loaded. loaded) result (program_check scope.now.variables.items names.old program.now) (program_type_of scope.now.variables.items program.now) }
+    ensures named { OnOk result (names.new ≡ names.old ++ program.now.name ∷ []) }
 {
-    let capitals = program.name.spelling().to_ascii_uppercase(alloc)?;
-    if !names.add(capitals)? {
+    let key = NameKey::new(alloc, program.name.spelling())?;
+    if !names.add(key)? {
         return Err(LoadError::Duplicate);
     }
     let chart = load_chart(alloc, program.elements.as_slice(), scope)?;
@@ -42,7 +42,7 @@ pub fn load_programs(
 ) -> Result<(Vec<ProgramType>, NameTable), LoadError>
     ensures loads { Loads (λ loaded. loaded.0.items) result
         (programs_check scope.now.variables.items programs.now)
-        (map (type_of scope.now.variables.items) programs.now) }
+        (map (program_type_of scope.now.variables.items) programs.now) }
     ensures named { IfOk result (λ loaded. loaded.1 ≡ program_names programs.now) }
 {
     let mut loaded = Vec::new(alloc);

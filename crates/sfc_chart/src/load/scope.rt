@@ -8,6 +8,7 @@ ghost use Rattle.sfc_chart.specs.Built.{Loads};
 
 use super::declared::declared_variables;
 use crate::load_error::{Limit, LoadError};
+use crate::name_key::NameKey;
 use crate::name_table::NameTable;
 use crate::plant::Variable;
 use sfc_text::location::{Location, Size};
@@ -30,10 +31,10 @@ pub struct Scope {
 impl Scope {
     /// The number of the variable with this name.
     pub fn number_of(&self, alloc: Global, name: &Name) -> Result<Option<usize>, AllocError>
-        ensures { IfOk result (λ number. number ≡ loading.number_of self.now.variables.items name.now) }
+        ensures { IfOk result (λ number. number ≡ loading.variable_number self.now.variables.items name.now) }
     {
-        let capitals = name.spelling().to_ascii_uppercase(alloc)?;
-        Ok(self.names.find(&capitals))
+        let key = NameKey::new(alloc, name.spelling())?;
+        Ok(self.names.find(&key))
     }
 
     /// Whether the variable of this number is BOOL; false where there is none.
@@ -64,7 +65,7 @@ fn fits_location(var_type: VarType, location: &Option<Location>) -> bool
 {
     match location {
         None => true,
-        Some(location) => is_size_of(location.size, var_type),
+        Some(location) => is_size_of(location.size(), var_type),
     }
 }
 
@@ -75,8 +76,8 @@ fn check_variables(alloc: Global, variables: &[Variable]) -> Result<NameTable, L
     let mut names = NameTable::new(alloc);
     let mut rest = variables;
     'variables: while let Some((variable, after)) = rest.split_first() {
-        let capitals = variable.name.spelling().to_ascii_uppercase(alloc)?;
-        if !names.add(capitals)? {
+        let key = NameKey::new(alloc, variable.name.spelling())?;
+        if !names.add(key)? {
             return Err(LoadError::Duplicate);
         }
         if !fits_location(variable.var_type, &variable.location) {
@@ -102,9 +103,9 @@ fn same_location(first: &Option<Location>, second: &Option<Location>) -> bool
 {
     match (first, second) {
         (Some(first), Some(second)) => {
-            first.area == second.area
-                && first.size == second.size
-                && first.numbers.as_slice() == second.numbers.as_slice()
+            first.area() == second.area()
+                && first.size() == second.size()
+                && first.numbers() == second.numbers()
         }
         _ => false,
     }

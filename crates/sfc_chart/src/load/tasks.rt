@@ -1,12 +1,12 @@
 //! Tasks (2.7.2).
 
-ghost use Rattle.std.specs.Prelude.{◌≡◌, ◌≤◌, ◌++◌, ◌∷◌, [], length, map, OnOk, IfOk};
-ghost use Rattle.sfc_chart.specs.Names.{upper};
-ghost use Rattle.sfc_chart.specs.Loading as loading;
+ghost use Rattle.std.specs.Prelude.{◌≡◌, ◌≤◌, ◌++◌, ◌∷◌, [], length, map, OnOk, IfOk, All};
 ghost use Rattle.sfc_chart.specs.Loading.{in_turn, task_name, task_check, task_names, tasks_check};
 ghost use Rattle.sfc_chart.specs.Built.{Loads, task_of};
+ghost use Rattle.sfc_chart.specs.Assembly.Parts.{IsLimited};
 
 use crate::load_error::{Limit, LoadError};
+use crate::name_key::NameKey;
 use crate::name_table::NameTable;
 use crate::plant::Task;
 use sfc_text::tree;
@@ -15,30 +15,23 @@ use std::alloc::Global;
 /// The most tasks.
 const TASKS: usize = 16;
 
-/// The longest interval, in microseconds.
-const LONGEST: i64 = 1 << 62;
-
-fn is_interval(micros: i64) -> bool
-    ensures { result ≡ loading.is_interval micros }
-{
-    0 <= micros && micros <= LONGEST
-}
-
 // A task, and its place in the table of names.
 fn load_task(alloc: Global, task: &tree::Task, names: &mut NameTable) -> Result<Task, LoadError>
     ensures loads { Loads (λ loaded. loaded) result (task_check names.old task.now) (task_of task.now) }
-    ensures named { OnOk result (names.new ≡ names.old ++ upper task.now.name ∷ []) }
+    ensures named { OnOk result (names.new ≡ names.old ++ task.now.name ∷ []) }
+    ensures limited { OnOk result (IsLimited task.now) }
 {
-    let capitals = task.name.spelling().to_ascii_uppercase(alloc)?;
-    if !names.add(capitals)? {
+    let key = NameKey::new(alloc, task.name.spelling())?;
+    if !names.add(key)? {
         return Err(LoadError::Duplicate);
     }
-    if !is_interval(task.interval) {
+    let interval = task.interval.micros();
+    if interval < 0 {
         return Err(LoadError::LiteralRange);
     }
     Ok(Task {
         name: task.name.copy(alloc)?,
-        interval: task.interval,
+        interval,
         priority: task.priority,
     })
 }
@@ -47,6 +40,7 @@ fn load_task(alloc: Global, task: &tree::Task, names: &mut NameTable) -> Result<
 fn load_each(alloc: Global, tasks: &[tree::Task]) -> Result<(Vec<Task>, NameTable), LoadError>
     ensures loads { Loads (λ loaded. loaded.0.items) result (in_turn task_name task_check [] tasks.now) (map task_of tasks.now) }
     ensures named { IfOk result (λ loaded. loaded.1 ≡ task_names tasks.now) }
+    ensures limited { OnOk result (All IsLimited tasks.now) }
 {
     let mut loaded = Vec::new(alloc);
     let mut names = NameTable::new(alloc);
@@ -65,6 +59,7 @@ pub fn load_tasks(alloc: Global, tasks: &[tree::Task]) -> Result<(Vec<Task>, Nam
     ensures loads { Loads (λ loaded. loaded.0.items) result (tasks_check tasks.now) (map task_of tasks.now) }
     ensures named { IfOk result (λ loaded. loaded.1 ≡ task_names tasks.now) }
     ensures few { IfOk result (λ loaded. length loaded.1 ≤ 16) }
+    ensures limited { OnOk result (All IsLimited tasks.now) }
 {
     if tasks.len() > TASKS {
         return Err(LoadError::Limit(Limit::Tasks));

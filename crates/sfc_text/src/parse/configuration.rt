@@ -1,9 +1,10 @@
 //! The configuration: variables, tasks and instances (2.7, B.1.7).
 
-ghost use Rattle.std.specs.Prelude.{◌≡◌, Some};
+ghost use Rattle.std.specs.Prelude.{◌≡◌, Some, IfOk};
+ghost use Rattle.sfc_text.specs.Durations.{IsTimeValue};
 ghost use Rattle.sfc_text.specs.Tokens.{kinds};
-ghost use Rattle.sfc_text.specs.ConfigurationReading as reading;
-ghost use Rattle.sfc_text.specs.Reading.{Gives, all, view, view_list, view_found};
+ghost use Rattle.sfc_text.specs.Parsing.Configurations as reading;
+ghost use Rattle.sfc_text.specs.Parsing.Reading.{Gives, all, view, view_list, view_found};
 
 use crate::delimiter::Delimiter;
 use crate::items::Items;
@@ -12,13 +13,14 @@ use crate::location::Location;
 use crate::name::Name;
 use crate::parse::fault::ParseFault;
 use crate::parse::terminal::{delimiter, keyword, name, syntax, word};
+use crate::time_value::TimeValue;
 use crate::token::{Token, TokenKind};
 use crate::tree::{Configuration, Declaration, Instance, Task};
 use crate::var_type::VarType;
 use std::alloc::Global;
 
 // A comma and a name, if a comma stands there.
-#[tactic(auto, unfolding(crate::specs::ConfigurationReading::further_name))]
+#[tactic(auto, unfolding(crate::specs::Parsing::Configurations::further_name))]
 fn further_name(alloc: Global, tokens: &[Token]) -> Result<Option<(Name, &[Token])>, ParseFault>
     ensures { Gives view_found result (reading.further_name (kinds tokens.now)) }
 {
@@ -57,7 +59,7 @@ fn bool_type(tokens: &[Token]) -> Result<&[Token], ParseFault>
 }
 
 // A location.
-#[tactic(auto, unfolding(crate::specs::ConfigurationReading::location))]
+#[tactic(auto, unfolding(crate::specs::Parsing::Configurations::location))]
 fn location(alloc: Global, tokens: &[Token]) -> Result<(Location, &[Token]), ParseFault>
     ensures { Gives view result (reading.location (kinds tokens.now)) }
 {
@@ -112,7 +114,7 @@ fn listed(
 }
 
 // A declaration behind its first name.
-#[tactic(auto, unfolding(crate::specs::ConfigurationReading::declared))]
+#[tactic(auto, unfolding(crate::specs::Parsing::Configurations::declared))]
 fn declared(
     alloc: Global,
     name: Name,
@@ -133,7 +135,7 @@ fn declared(
 }
 
 // A declaration, if a name stands there.
-#[tactic(auto, unfolding(crate::specs::ConfigurationReading::declaration))]
+#[tactic(auto, unfolding(crate::specs::Parsing::Configurations::declaration))]
 fn declaration(
     alloc: Global,
     tokens: &[Token],
@@ -179,9 +181,10 @@ fn globals(alloc: Global, tokens: &[Token]) -> Result<(Items<Declaration>, &[Tok
 }
 
 // A duration.
-#[tactic(auto, unfolding(crate::specs::ConfigurationReading::duration))]
+#[tactic(auto, unfolding(crate::specs::Parsing::Configurations::duration))]
 fn duration(tokens: &[Token]) -> Result<(i64, &[Token]), ParseFault>
-    ensures { Gives view result (reading.duration (kinds tokens.now)) }
+    ensures value { Gives view result (reading.duration (kinds tokens.now)) }
+    ensures limited { IfOk result (λ found. IsTimeValue found.0) }
 {
     match tokens {
         [
@@ -190,13 +193,13 @@ fn duration(tokens: &[Token]) -> Result<(i64, &[Token]), ParseFault>
                 ..
             },
             rest @ ..,
-        ] => Ok((*found, rest)),
+        ] => Ok((found.micros(), rest)),
         _ => Err(syntax(tokens)),
     }
 }
 
 // An integer without base and type.
-#[tactic(auto, unfolding(crate::specs::ConfigurationReading::integer))]
+#[tactic(auto, unfolding(crate::specs::Parsing::Configurations::integer))]
 fn integer(tokens: &[Token]) -> Result<(u32, &[Token]), ParseFault>
     ensures { Gives view result (reading.integer (kinds tokens.now)) }
 {
@@ -214,7 +217,8 @@ fn integer(tokens: &[Token]) -> Result<(u32, &[Token]), ParseFault>
 
 // The interval of a task.
 fn interval(tokens: &[Token]) -> Result<(i64, &[Token]), ParseFault>
-    ensures { Gives view result (reading.interval (kinds tokens.now)) }
+    ensures value { Gives view result (reading.interval (kinds tokens.now)) }
+    ensures limited { IfOk result (λ found. IsTimeValue found.0) }
 {
     let tokens = word(tokens, b"INTERVAL")?;
     let tokens = delimiter(tokens, Delimiter::Assign)?;
@@ -232,7 +236,8 @@ fn priority(tokens: &[Token]) -> Result<(u32, &[Token]), ParseFault>
 
 // What stands in the parentheses of a task.
 fn task_parts(tokens: &[Token]) -> Result<((i64, u32), &[Token]), ParseFault>
-    ensures { Gives view result (reading.task_parts (kinds tokens.now)) }
+    ensures value { Gives view result (reading.task_parts (kinds tokens.now)) }
+    ensures limited { IfOk result (λ found. IsTimeValue found.0.0) }
 {
     let tokens = delimiter(tokens, Delimiter::Open)?;
     let (interval, tokens) = interval(tokens)?;
@@ -252,7 +257,7 @@ fn task(alloc: Global, tokens: &[Token]) -> Result<(Task, &[Token]), ParseFault>
     let tokens = delimiter(tokens, Delimiter::Semicolon)?;
     let task = Task {
         name,
-        interval,
+        interval: TimeValue::new(interval),
         priority,
     };
     Ok((task, tokens))

@@ -1,9 +1,9 @@
 //! Program types: steps, associations and transitions (2.6, B.1.6).
 
-ghost use Rattle.std.specs.Prelude.{◌≡◌, true, false, Some};
+ghost use Rattle.std.specs.Prelude.{◌≡◌, true, false, Some, IfOk};
 ghost use Rattle.sfc_text.specs.Tokens.{kinds};
-ghost use Rattle.sfc_text.specs.ProgramReading as reading;
-ghost use Rattle.sfc_text.specs.Reading.{Gives, all, view, view_list, view_found};
+ghost use Rattle.sfc_text.specs.Parsing.Programs as reading;
+ghost use Rattle.sfc_text.specs.Parsing.Reading.{Gives, all, view, view_list, view_found};
 
 use crate::delimiter::Delimiter;
 use crate::items::Items;
@@ -13,10 +13,10 @@ use crate::parse::fault::ParseFault;
 use crate::parse::terminal::{delimiter, keyword, name, syntax, word};
 use crate::token::{Token, TokenKind};
 use crate::tree::{Association, Element, Expression, Program, Qualifier, Step, Transition};
-use std::alloc::Global;
+use std::alloc::{AllocError, Global};
 
 // The qualifier, which is N where it is left out.
-#[tactic(auto, unfolding(crate::specs::ProgramReading::qualifier))]
+#[tactic(auto, unfolding(crate::specs::Parsing::Programs::qualifier))]
 fn qualifier(tokens: &[Token]) -> Result<(Qualifier, &[Token]), ParseFault>
     ensures { Gives view result (reading.qualifier (kinds tokens.now)) }
 {
@@ -44,7 +44,7 @@ fn indicated(action: Name, tokens: &[Token]) -> Result<(Association, &[Token]), 
 }
 
 // An association with its semicolon, if a name stands there.
-#[tactic(auto, unfolding(crate::specs::ProgramReading::association))]
+#[tactic(auto, unfolding(crate::specs::Parsing::Programs::association))]
 fn association(
     alloc: Global,
     tokens: &[Token],
@@ -97,7 +97,7 @@ fn step(alloc: Global, is_initial: bool, tokens: &[Token]) -> Result<(Step, &[To
 }
 
 // An expression.
-#[tactic(auto, unfolding(crate::specs::ProgramReading::expression))]
+#[tactic(auto, unfolding(crate::specs::Parsing::Programs::expression))]
 fn expression(alloc: Global, tokens: &[Token]) -> Result<(Expression, &[Token]), ParseFault>
     ensures { Gives view result (reading.expression (kinds tokens.now)) }
 {
@@ -127,6 +127,24 @@ fn expression(alloc: Global, tokens: &[Token]) -> Result<(Expression, &[Token]),
     }
 }
 
+// The transition between these two steps.
+fn transition_between(
+    alloc: Global,
+    from: Name,
+    to: Name,
+    condition: Expression,
+) -> Result<Transition, AllocError>
+    ensures { IfOk result (λ t. t ≡ reading.transition_between from to condition) }
+{
+    let preceding = Items::one(alloc, from)?;
+    let following = Items::one(alloc, to)?;
+    Ok(Transition {
+        preceding,
+        following,
+        condition,
+    })
+}
+
 // A transition behind its first word.
 fn transition(alloc: Global, tokens: &[Token]) -> Result<(Transition, &[Token]), ParseFault>
     ensures { Gives view result (reading.transition (kinds tokens.now)) }
@@ -139,18 +157,12 @@ fn transition(alloc: Global, tokens: &[Token]) -> Result<(Transition, &[Token]),
     let (condition, tokens) = expression(alloc, tokens)?;
     let tokens = delimiter(tokens, Delimiter::Semicolon)?;
     let tokens = keyword(tokens, Keyword::EndTransition)?;
-    let preceding = Items::one(alloc, from)?;
-    let following = Items::one(alloc, to)?;
-    let transition = Transition {
-        preceding,
-        following,
-        condition,
-    };
+    let transition = transition_between(alloc, from, to, condition)?;
     Ok((transition, tokens))
 }
 
 // A step or a transition, if one begins there.
-#[tactic(auto, unfolding(crate::specs::ProgramReading::element))]
+#[tactic(auto, unfolding(crate::specs::Parsing::Programs::element))]
 fn element(alloc: Global, tokens: &[Token]) -> Result<Option<(Element, &[Token])>, ParseFault>
     ensures { Gives view_found result (reading.element (kinds tokens.now)) }
 {

@@ -1,8 +1,8 @@
 //! Whole texts (B.0).
 
 ghost use Rattle.sfc_text.specs.Tokens.{kinds};
-ghost use Rattle.sfc_text.specs.SourceReading as reading;
-ghost use Rattle.sfc_text.specs.Reading.{Gives};
+ghost use Rattle.sfc_text.specs.Parsing.Sources as reading;
+ghost use Rattle.sfc_text.specs.Parsing.Reading.{Gives};
 
 use crate::items::Items;
 use crate::keyword::Keyword;
@@ -52,7 +52,7 @@ fn program_first(alloc: Global, tokens: &[Token]) -> Result<Source, ParseFault>
 }
 
 /// The tree that the tokens are.
-#[tactic(auto, unfolding(crate::specs::SourceReading::source))]
+#[tactic(auto, unfolding(crate::specs::Parsing::Sources::source))]
 pub fn source(alloc: Global, tokens: &[Token]) -> Result<Source, ParseFault>
     ensures { Gives (λ x. x) result (reading.source (kinds tokens.now)) }
 {

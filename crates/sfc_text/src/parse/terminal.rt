@@ -2,9 +2,9 @@
 
 ghost use Rattle.std.specs.Prelude.{◌≡◌};
 ghost use Rattle.sfc_text.specs.Tokens.{kinds};
-ghost use Rattle.sfc_text.specs.Reading as reading;
-ghost use Rattle.sfc_text.specs.Reading.{Gives};
-ghost use Rattle.sfc_text.specs.Terminals as terminals;
+ghost use Rattle.sfc_text.specs.Parsing.Reading as reading;
+ghost use Rattle.sfc_text.specs.Parsing.Reading.{Gives};
+ghost use Rattle.sfc_text.specs.Parsing.Terminals as terminals;
 
 use crate::case::is_same_word;
 use crate::delimiter::Delimiter;
@@ -40,7 +40,7 @@ fn is_same_delimiter(left: Delimiter, right: Delimiter) -> bool
 }
 
 /// What follows the reserved word.
-#[tactic(auto, unfolding(crate::specs::Reading::keyword))]
+#[tactic(auto, unfolding(crate::specs::Parsing::Reading::keyword))]
 pub fn keyword(tokens: &[Token], wanted: Keyword) -> Result<&[Token], ParseFault>
     ensures { Gives (λ rest. kinds rest.now) result (reading.keyword wanted (kinds tokens.now)) }
 {
@@ -57,7 +57,7 @@ pub fn keyword(tokens: &[Token], wanted: Keyword) -> Result<&[Token], ParseFault
 }
 
 /// What follows the delimiter.
-#[tactic(auto, unfolding(crate::specs::Reading::delimiter))]
+#[tactic(auto, unfolding(crate::specs::Parsing::Reading::delimiter))]
 pub fn delimiter(tokens: &[Token], wanted: Delimiter) -> Result<&[Token], ParseFault>
     ensures { Gives (λ rest. kinds rest.now) result (reading.delimiter wanted (kinds tokens.now)) }
 {
@@ -74,7 +74,7 @@ pub fn delimiter(tokens: &[Token], wanted: Delimiter) -> Result<&[Token], ParseF
 }
 
 /// What follows a word that is reserved in its place only, given in capital letters.
-#[tactic(auto, unfolding(crate::specs::Reading::word))]
+#[tactic(auto, unfolding(crate::specs::Parsing::Reading::word))]
 pub fn word<'a>(tokens: &'a [Token], wanted: &[u8]) -> Result<&'a [Token], ParseFault>
     ensures { Gives (λ rest. kinds rest.now) result (reading.word wanted.now (kinds tokens.now)) }
 {
@@ -91,7 +91,7 @@ pub fn word<'a>(tokens: &'a [Token], wanted: &[u8]) -> Result<&'a [Token], Parse
 }
 
 /// A name, and what follows it.
-#[tactic(auto, unfolding(crate::specs::Reading::name))]
+#[tactic(auto, unfolding(crate::specs::Parsing::Reading::name))]
 pub fn name(alloc: Global, tokens: &[Token]) -> Result<(Name, &[Token]), ParseFault>
     ensures { Gives (λ x. (x.0, kinds x.1.now)) result (reading.name (kinds tokens.now)) }
 {

@@ -10,7 +10,7 @@ returns-in_err-parts c =
     rw (p.1, p.2) c.in_err-parts.ensures.loads
 
 pub assemble-requires-clause-sound : goal.assemble-requires-clause-sound
-assemble-requires-clause-sound c = subst IsPlant (sym c.in_ok-parts.ensures.loads.1) (plant_sound c.args.source.now c.in_ok-parts.ensures.loads.0)
+assemble-requires-clause-sound c = subst IsPlant (sym c.in_ok-parts.ensures.loads.1) (plant_sound c.args.source.now c.in_ok-parts.ensures.limited c.in_ok-parts.ensures.loads.0)
 
 pub assemble-requires-clause-named : goal.assemble-requires-clause-named
 assemble-requires-clause-named c = c.in_ok-parts.ensures.named

@@ -1,5 +1,5 @@
 use Rattle.std.proofs.Common.{◌≡◌, length}
-use Rattle.sfc_text.specs.NumberScan.{after}
+use Rattle.sfc_text.specs.Scanning.Integers.{after}
 use Rattle.sfc_text.proofs.number.after.Given as goal
 
 abbrev pub invariant-all : goal.invariant-all

@@ -1,5 +1,5 @@
 use Rattle.std.proofs.Common.{◌≡◌, ◌≤◌, true, length}
-use Rattle.sfc_text.specs.NumberScan.{digits}
+use Rattle.sfc_text.specs.Scanning.Integers.{digits}
 use Rattle.sfc_text.proofs.number.integer.Given as goal
 
 abbrev pub invariant-all : goal.invariant-all

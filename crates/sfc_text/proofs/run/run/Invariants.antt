@@ -1,5 +1,5 @@
 use Rattle.std.proofs.Common.{◌≡◌, ◌++◌, take, drop}
-use Rattle.sfc_text.specs.Runs as runs
+use Rattle.sfc_text.specs.Scanning.Runs as runs
 use Rattle.sfc_text.proofs.run.run.Given as goal
 
 abbrev pub invariant-all : goal.invariant-all

@@ -1,5 +1,5 @@
 use Rattle.std.proofs.Common.{◌≡◌, length}
-use Rattle.sfc_text.specs.Scanning.{after_comment}
+use Rattle.sfc_text.specs.Scanning.Tokens.{after_comment}
 use Rattle.sfc_text.proofs.scan.after_comment.Given as goal
 
 abbrev pub invariant-all : goal.invariant-all

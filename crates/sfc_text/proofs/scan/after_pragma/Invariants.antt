@@ -1,5 +1,5 @@
 use Rattle.std.proofs.Common.{◌≡◌, length}
-use Rattle.sfc_text.specs.Scanning.{after_pragma}
+use Rattle.sfc_text.specs.Scanning.Tokens.{after_pragma}
 use Rattle.sfc_text.proofs.scan.after_pragma.Given as goal
 
 abbrev pub invariant-all : goal.invariant-all

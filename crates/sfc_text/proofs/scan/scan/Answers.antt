@@ -1,5 +1,5 @@
 use Rattle.std.proofs.Common.{length, Some, None, arith}
-use Rattle.sfc_text.specs.Scanning.{view_next, scan}
+use Rattle.sfc_text.specs.Scanning.Tokens.{view_next, scan}
 use Rattle.sfc_text.specs.Tokens.{kinds}
 use Rattle.sfc_text.proofs.Shorter.{next_shorter}
 use Rattle.sfc_text.proofs.Loop.{starts, goes_on, fails, ends, kinds_push}

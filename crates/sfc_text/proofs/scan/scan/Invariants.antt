@@ -1,5 +1,5 @@
 use Rattle.std.proofs.Common.{◌≡◌, length}
-use Rattle.sfc_text.specs.Scanning.{scan}
+use Rattle.sfc_text.specs.Scanning.Tokens.{scan}
 use Rattle.sfc_text.specs.Tokens.{kinds}
 use Rattle.sfc_text.proofs.Loop.{with_front}
 use Rattle.sfc_text.proofs.scan.scan.Given as goal

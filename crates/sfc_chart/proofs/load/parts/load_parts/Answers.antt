@@ -2,8 +2,7 @@ use Rattle.std.proofs.Common.{◌≡◌, None, map, ap, refl, sym, ◌∙◌}
 use Rattle.std.proofs.lemmas.Result.{err_from_is_err_and}
 use Rattle.sfc_chart.proofs.Checks.{fails_first, fails_later, passes}
 use Rattle.sfc_chart.specs.Loading.{image_check, variables_of, task_names, program_names}
-use Rattle.sfc_chart.specs.Names.{upper}
-use Rattle.sfc_chart.specs.Built.{Fails, task_of, type_of, instance_of}
+use Rattle.sfc_chart.specs.Built.{Fails, task_of, program_type_of, instance_of}
 use Rattle.sfc_chart.proofs.TableLemmas.{map-map}
 use Rattle.sfc_chart.proofs.load.parts.load_parts.Goals as goal
 
@@ -74,8 +73,8 @@ pub returns-clause-loads : goal.returns-clause-loads
 returns-clause-loads c =
     let variables : c.in_ok-scope.scope.variables.items ≡ variables_of c.args.source.now.configuration.globals = c.in_ok-scope.ensures.1 ∙ ap variables_of c.as_slice.ensures in
     let tasks : c.in_ok-tasks.tasks.items ≡ map task_of c.args.source.now.configuration.tasks = c.in_ok-tasks.ensures.loads.1 ∙ ap (map task_of) c.as_slice-2.ensures in
-    let types : c.in_ok-types.types.items ≡ map (type_of (variables_of c.args.source.now.configuration.globals)) c.args.source.now.programs =
-    c.in_ok-types.ensures.loads.1 ∙ (λ i. map (type_of (variables i)) (c.as_slice-3.ensures i)) in
+    let types : c.in_ok-types.types.items ≡ map (program_type_of (variables_of c.args.source.now.configuration.globals)) c.args.source.now.programs =
+    c.in_ok-types.ensures.loads.1 ∙ (λ i. map (program_type_of (variables i)) (c.as_slice-3.ensures i)) in
     let tasks_named : c.in_ok-tasks.task_names ≡ task_names c.args.source.now.configuration.tasks = c.in_ok-tasks.ensures.named ∙ ap task_names c.as_slice-2.ensures in
     let types_named : c.in_ok-types.type_names ≡ program_names c.args.source.now.programs = c.in_ok-types.ensures.named ∙ ap program_names c.as_slice-3.ensures in
     let instances : c.in_ok-instances.instances.items ≡ map (instance_of (task_names c.args.source.now.configuration.tasks) (program_names c.args.source.now.programs)) c.args.source.now.configuration.instances =
@@ -96,6 +95,34 @@ returns-clause-loads c =
 
 pub returns-clause-named : goal.returns-clause-named
 returns-clause-named c = record {
-  tasks = c.in_ok-tasks.ensures.named ∙ sym (map-map task_of (λ t. upper t.name) c.as_slice-2.result.now) ∙ ap (map (λ t. upper t.name)) (sym c.in_ok-tasks.ensures.loads.1);
-  instances = c.in_ok-instances.ensures.named ∙ sym (map-map (instance_of c.in_ok-tasks.task_names c.in_ok-types.type_names) (λ t. upper t.name) c.as_slice-4.result.now) ∙ ap (map (λ t. upper t.name)) (sym c.in_ok-instances.ensures.loads.1);
+  tasks = c.in_ok-tasks.ensures.named ∙ sym (map-map task_of (λ t. t.name) c.as_slice-2.result.now) ∙ ap (map (λ t. t.name)) (sym c.in_ok-tasks.ensures.loads.1);
+  instances = c.in_ok-instances.ensures.named ∙ sym (map-map (instance_of c.in_ok-tasks.task_names c.in_ok-types.type_names) (λ t. t.name) c.as_slice-4.result.now) ∙ ap (map (λ t. t.name)) (sym c.in_ok-instances.ensures.loads.1);
 }
+
+pub returns-in_err-scope-clause-limited : goal.returns-in_err-scope-clause-limited
+returns-in_err-scope-clause-limited c =
+    let p = err_from_is_err_and c.from_residual.result c.from_residual.ensures.1 in
+    rw p.1 tt
+
+pub returns-in_err-tasks-clause-limited : goal.returns-in_err-tasks-clause-limited
+returns-in_err-tasks-clause-limited c =
+    let p = err_from_is_err_and c.from_residual-in_err-tasks.result c.from_residual-in_err-tasks.ensures.1 in
+    rw p.1 tt
+
+pub returns-in_err-types-clause-limited : goal.returns-in_err-types-clause-limited
+returns-in_err-types-clause-limited c =
+    let p = err_from_is_err_and c.from_residual-in_err-types.result c.from_residual-in_err-types.ensures.1 in
+    rw p.1 tt
+
+pub returns-in_err-instances-clause-limited : goal.returns-in_err-instances-clause-limited
+returns-in_err-instances-clause-limited c =
+    let p = err_from_is_err_and c.from_residual-in_err-instances.result c.from_residual-in_err-instances.ensures.1 in
+    rw p.1 tt
+
+pub returns-in_err-check_image-clause-limited : goal.returns-in_err-check_image-clause-limited
+returns-in_err-check_image-clause-limited c =
+    let p = err_from_is_err_and c.from_residual-in_err-check_image.result c.from_residual-in_err-check_image.ensures.1 in
+    rw p.1 tt
+
+pub returns-clause-limited : goal.returns-clause-limited
+returns-clause-limited c = rw (← c.as_slice-2.ensures) c.in_ok-tasks.ensures.limited

@@ -1,7 +1,7 @@
 use Rattle.std.proofs.Common.{◌≡◌, length}
 use Rattle.sfc_text.specs.Tokens.{kinds}
-use Rattle.sfc_text.specs.Reading.{all}
-use Rattle.sfc_text.specs.ConfigurationReading.{declaration}
+use Rattle.sfc_text.specs.Parsing.Reading.{all}
+use Rattle.sfc_text.specs.Parsing.Configurations.{declaration}
 use Rattle.sfc_text.proofs.Lists.{with_front}
 use Rattle.sfc_text.proofs.parse.configuration.declarations.Given as goal
 

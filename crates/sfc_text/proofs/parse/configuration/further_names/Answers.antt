@@ -1,8 +1,8 @@
 use Rattle.std.proofs.Common.{arith}
 use Rattle.std.proofs.lemmas.Result.{err_from_is_err_and}
 use Rattle.sfc_text.specs.Tokens.{kinds}
-use Rattle.sfc_text.specs.Reading.{all}
-use Rattle.sfc_text.specs.ConfigurationReading.{further_name}
+use Rattle.sfc_text.specs.Parsing.Reading.{all}
+use Rattle.sfc_text.specs.Parsing.Configurations.{further_name}
 use Rattle.sfc_text.proofs.Lists.{starts, goes_on, fails, ends, length_kinds}
 use Rattle.sfc_text.proofs.Configurations.{further_name_shrinks}
 use Rattle.sfc_text.proofs.parse.configuration.further_names.Goals as goal

@@ -1,8 +1,8 @@
 use Rattle.std.proofs.Common.{arith}
 use Rattle.std.proofs.lemmas.Result.{err_from_is_err_and}
 use Rattle.sfc_text.specs.Tokens.{kinds}
-use Rattle.sfc_text.specs.Reading.{all}
-use Rattle.sfc_text.specs.ProgramReading.{association}
+use Rattle.sfc_text.specs.Parsing.Reading.{all}
+use Rattle.sfc_text.specs.Parsing.Programs.{association}
 use Rattle.sfc_text.proofs.Lists.{starts, goes_on, fails, ends, length_kinds}
 use Rattle.sfc_text.proofs.Programs.{association_shrinks}
 use Rattle.sfc_text.proofs.parse.program.associations.Goals as goal
