@@ -6,7 +6,7 @@ use Rattle.sfc_core.specs.declared.event.Outcome.{Outcome}
 use Rattle.sfc_core.specs.declared.refusal.Refusal.{Refusal}
 use Rattle.sfc_core.specs.History.{Entry, History, last_instant}
 use Rattle.sfc_core.specs.Verdict.{is_out_of_range, verdict, verdict_by, history_by, after, after_all}
-use Rattle.sfc_core.specs.Order.{AreInOrder}
+use Rattle.sfc_core.specs.EventOrder.{AreInOrder}
 
 -- of a chain of refusals, the first two do not stand where the answer is Ok
 two_fail : (a b : Bool) (r s : Refusal) (rest : Option Refusal) (answer o : Outcome) → verdict_by (cond a (Some r) (cond b (Some s) rest)) answer ≡ Ok o → (a ≡ false) × (b ≡ false)

@@ -22,8 +22,8 @@ use Rattle.sfc_core.specs.ProgramScan.{Table, scanned}
 use Rattle.sfc_core.specs.Table.{table_of, chart_of, all_scanned, after_event}
 use Rattle.sfc_core.specs.Verdict.{interval_of, no_task, scan_refusal, bits_of}
 use Rattle.sfc_core.specs.Answers.{life_of, no_instance}
-use Rattle.sfc_core.specs.Single.{single_chart, IsMain}
-use Rattle.sfc_core.specs.ProgramAgrees.{ProgramAgrees}
+use Rattle.sfc_core.specs.Keeping.SingleInstance.{single_chart, IsMain}
+use Rattle.sfc_core.specs.Keeping.ProgramAgrees.{ProgramAgrees}
 
 one_element : {A : Type 0} (xs : List A) (d : A) → length xs ≡ 1 → xs ≡ get_or xs 0 d ∷ []
 one_element [] d e = absurd (omega arith)

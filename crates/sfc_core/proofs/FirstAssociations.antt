@@ -10,7 +10,7 @@ use Rattle.sfc_chart.specs.declared.chart.Step.{Step}
 use Rattle.sfc_chart.specs.declared.chart.Association.{Association}
 use Rattle.sfc_chart.specs.declared.ids.VarId.{VarId}
 use Rattle.sfc_core.specs.ActionControl.{boolean_action, distinct, boolean_actions}
-use Rattle.sfc_core.specs.Outputs.{AreVariables, is_listed, with_action, with_actions, with_steps}
+use Rattle.sfc_core.specs.Keeping.Outputs.{AreVariables, is_listed, with_action, with_actions, with_steps}
 use Rattle.sfc_core.proofs.Looks.{bool_cases}
 use Rattle.sfc_core.proofs.Targets.{target_below}
 

@@ -9,7 +9,7 @@ use Rattle.sfc_chart.specs.declared.chart.Transition.{Transition}
 use Rattle.sfc_core.specs.Flags.{flag, has, AllBelow, marked}
 use Rattle.sfc_chart.specs.Chart.{IsTransition}
 use Rattle.sfc_core.specs.Evolution.{some_cleared}
-use Rattle.sfc_core.specs.Marking.{marked_by}
+use Rattle.sfc_core.specs.Keeping.Marking.{marked_by}
 
 pub length-marked : (places : List ℕ) (flags : List Bool) → length (marked places flags) ≡ length flags
 length-marked [] flags = refl

@@ -15,8 +15,8 @@ use Rattle.sfc_chart.specs.declared.ids.VarId.{VarId}
 use Rattle.sfc_core.specs.Flags.{flag, has, AllBelow, marked}
 use Rattle.sfc_core.specs.Evolution.{Row, step_count, is_active}
 use Rattle.sfc_core.specs.ActionControl.{same_qualifier, boolean_actions, names, some_active, q_of, a_of, is_fall}
-use Rattle.sfc_core.specs.Marking.{places, marked_active}
-use Rattle.sfc_core.specs.Outputs.{executions, with_flags}
+use Rattle.sfc_core.specs.Keeping.Marking.{places, marked_active}
+use Rattle.sfc_core.specs.Keeping.Outputs.{executions, with_flags}
 use Rattle.sfc_core.specs.Image.{Image, assigned, with_outputs}
 use Rattle.sfc_chart.specs.declared.value.Value.TheVariants as value
 use Rattle.sfc_core.proofs.Marks.{flag-marked, length-marked, or_false}

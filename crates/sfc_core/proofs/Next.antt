@@ -6,11 +6,11 @@ use Rattle.std.proofs.lemmas.List.Elements.{All-head, All-tail}
 use Rattle.sfc_chart.specs.declared.chart.Chart.{Chart}
 use Rattle.sfc_chart.specs.declared.chart.Transition.{Transition}
 use Rattle.sfc_core.specs.Flags.{flag, AllBelow, marked}
-use Rattle.sfc_core.specs.Instants.{number}
+use Rattle.sfc_core.specs.Keeping.Instants.{number}
 use Rattle.sfc_chart.specs.Chart.{IsTransition}
 use Rattle.sfc_core.specs.Lookback.{is_empty}
 use Rattle.sfc_core.specs.Evolution.{step_count, is_cleared, cleared_from, Row, activates, leaves, is_activated, is_deactivated, is_active, step_time, row_after}
-use Rattle.sfc_core.specs.Kept.{AreKept}
+use Rattle.sfc_core.specs.Keeping.Kept.{AreKept}
 use Rattle.sfc_core.proofs.Looks.{is_in_on, is_in_off, is_in_kept, time_on, time_kept, time_off_in, time_off_out}
 
 module _ (x y : ℕ → Bool) (n : ℕ) (same : (s : ℕ) → s < n → x s ≡ y s) where

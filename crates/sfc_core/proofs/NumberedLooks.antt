@@ -2,7 +2,7 @@
 use Rattle.std.proofs.Common.{◌≡◌, ◌⊎◌, inl, inr, ℕ, suc, ◌<◌, ◌≤◌, ◌==◌, Bool, true, false, List, [], ◌∷◌, length, arith, refl, sym, ◌∙◌, ap, ℤ, ◌-ℤ◌, pos}
 use Rattle.std.proofs.lemmas.Bool.Decides.{nat_tests}
 use Rattle.sfc_core.specs.Lookback.{is_in, time_in}
-use Rattle.sfc_core.specs.Numbered.{passes_at, instant_at, IsLatest, NoneBetween}
+use Rattle.sfc_core.specs.ScanNumbers.{passes_at, instant_at, IsLatest, NoneBetween}
 use Rattle.sfc_core.proofs.Looks.{bool_cases, is_in_on, is_in_off, is_in_kept, time_on, time_kept, time_off}
 
 equal_or_below : (i n : ℕ) → i ≤ suc n → (i ≡ suc n) ⊎ (i ≤ n)

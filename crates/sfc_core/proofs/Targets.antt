@@ -8,7 +8,7 @@ use Rattle.sfc_chart.specs.declared.chart.Association.{Association}
 use Rattle.sfc_chart.specs.declared.chart.Target.{Target}
 use Rattle.sfc_chart.specs.declared.chart.Target.TheVariants.{Boolean}
 use Rattle.sfc_core.specs.Flags.{AllBelow}
-use Rattle.sfc_core.specs.Marking.{places}
+use Rattle.sfc_core.specs.Keeping.Marking.{places}
 use Rattle.sfc_core.specs.ActionControl.{boolean_action}
 
 pub target_below : (n : ℕ) (target : Target) → IsTarget n target → (boolean_action target).0 < n

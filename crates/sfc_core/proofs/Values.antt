@@ -24,8 +24,8 @@ use Rattle.sfc_core.specs.ProgramScan.{Table, scanned, scanned_row}
 use Rattle.sfc_core.specs.Table.{chart_of, table_of, all_scanned, after_event}
 use Rattle.sfc_core.specs.Verdict.{variable_of, no_variable}
 use Rattle.sfc_core.specs.Answers.{value_of}
-use Rattle.sfc_core.specs.Outputs.{is_listed}
-use Rattle.sfc_core.specs.Writes.{output_to, scan_writes, written, latest_write}
+use Rattle.sfc_core.specs.Keeping.Outputs.{is_listed}
+use Rattle.sfc_core.specs.LatestWrite.{output_to, scan_writes, written, latest_write}
 use Rattle.sfc_core.proofs.Looks.{bool_cases}
 
 read_after : (image : Image) (i n : ℕ) (v d : Value) → n < length image → slice_index_or (slice_set image i v) n d ≡ cond (i == n) v (slice_index_or image n d)

@@ -7,7 +7,7 @@ use Rattle.sfc_chart.specs.declared.ids.TaskId.{TaskId}
 use Rattle.sfc_core.specs.declared.event.Event.TheVariants.{Scan, Input}
 use Rattle.sfc_core.specs.Releases.{releases_to, releases_between, capped}
 use Rattle.sfc_core.specs.History.{History, last_instant, waiting, waiting_at}
-use Rattle.sfc_core.specs.Order.{AreInOrder, last_scan}
+use Rattle.sfc_core.specs.EventOrder.{AreInOrder, last_scan}
 use Rattle.sfc_core.proofs.Looks.{bool_cases}
 use Rattle.sfc_core.proofs.Multiples.{count_is, none_before, up_to, up_to_back}
 

@@ -3,7 +3,7 @@ use Rattle.std.proofs.Common.{◌≡◌, ℕ, List, ℤ, pos, arith}
 use Rattle.std.specs.Prelude.{replicate}
 use Rattle.std.proofs.lemmas.Int.{ints}
 use Rattle.std.proofs.lemmas.Grind.{common_steps}
-use Rattle.sfc_core.specs.Instants.{number, AreInstants}
+use Rattle.sfc_core.specs.Keeping.Instants.{number, AreInstants}
 
 zero_at : (n s : ℕ) → number (replicate n (pos 0)) s ≡ pos 0
 zero_at n s = grind (arith, common_steps)

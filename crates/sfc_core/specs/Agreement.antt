@@ -7,8 +7,8 @@ use Rattle.sfc_core.specs.History.{History, last_instant, waiting, overruns}
 use Rattle.sfc_core.specs.Table.{table_of}
 use Rattle.sfc_core.specs.Verdict.{interval_of}
 use Rattle.sfc_core.specs.Answers.{life_of}
-use Rattle.sfc_core.specs.Single.{single_chart}
-use Rattle.sfc_core.specs.ProgramAgrees.{ProgramAgrees}
+use Rattle.sfc_core.specs.Keeping.SingleInstance.{single_chart}
+use Rattle.sfc_core.specs.Keeping.ProgramAgrees.{ProgramAgrees}
 
 -- the plant that it runs
 unfoldable pub plant_of : Resource → PlantData

@@ -5,9 +5,9 @@ use Rattle.sfc_chart.specs.Chart.{PlantData}
 use Rattle.sfc_core.specs.declared.view.ProgramView.{ProgramView}
 use Rattle.sfc_core.specs.History.{History}
 use Rattle.sfc_core.specs.Answers.{chart_of_program, life_of}
-use Rattle.sfc_core.specs.ProgramAgrees.{ProgramAgrees}
-use Rattle.sfc_core.specs.StepsAgree.{step_places, transition_places}
-use Rattle.sfc_core.specs.ActionsAgree.{action_places}
+use Rattle.sfc_core.specs.Keeping.ProgramAgrees.{ProgramAgrees}
+use Rattle.sfc_core.specs.Keeping.StepsAgree.{step_places, transition_places}
+use Rattle.sfc_core.specs.Keeping.ActionsAgree.{action_places}
 
 -- each answer that the view gives is the definition's over the history
 unfoldable pub IsViewOf : PlantData → History → ProgId → ProgramView → Type 0

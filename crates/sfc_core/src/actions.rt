@@ -1,7 +1,7 @@
 //! The Boolean actions of a program instance, in running form.
 
 ghost use Rattle.std.specs.Prelude.{◌≡◌, ◌<◌, ◌∷◌, [], List, ℕ, All, length, IfOk, map};
-ghost use Rattle.sfc_core.specs.Outputs.{AreVariables};
+ghost use Rattle.sfc_core.specs.Keeping.Outputs.{AreVariables};
 
 use crate::boolean_actions::list_actions;
 use crate::outputs::{assign_outputs, mark_active, update_executions, update_outputs};
@@ -28,7 +28,7 @@ impl Actions {
     ghost use Rattle.sfc_core.specs.ActionControl.{q_of, a_of, boolean_actions};
     ghost use Rattle.sfc_core.specs.Image.{with_outputs};
     ghost use Rattle.sfc_core.specs.Flags.{flag};
-    ghost use Rattle.sfc_core.specs.ActionsAgree.{ActionsAgree, action_places, variable_room};
+    ghost use Rattle.sfc_core.specs.Keeping.ActionsAgree.{ActionsAgree, action_places, variable_room};
 
     /// Before the first scan of a life.
     pub fn new(alloc: Global, chart: &Chart, variables: usize) -> Result<Self, AllocError>

@@ -1,7 +1,7 @@
 //! The Boolean actions of a chart, in the order of their first association (2.6.4.1).
 
 ghost use Rattle.std.specs.Prelude.{◌≡◌, [], IfOk, OnOk};
-ghost use Rattle.sfc_core.specs.Outputs.{is_listed, with_action, with_actions, with_steps};
+ghost use Rattle.sfc_core.specs.Keeping.Outputs.{is_listed, with_action, with_actions, with_steps};
 
 use sfc_chart::chart::{Association, Step, Target};
 use sfc_chart::ids::VarId;

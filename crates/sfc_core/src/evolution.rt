@@ -3,8 +3,8 @@
 ghost use Rattle.std.specs.Prelude.{◌≡◌, ◌<◌, ◌≤ℤ◌, ◌^◌, ◌||◌, ◌&&◌, ◌∷◌, ℕ, List, pos, length, map, replicate, false, true};
 ghost use Rattle.sfc_chart.specs.Chart.{IsChart};
 ghost use Rattle.sfc_core.specs.Flags.{flag};
-ghost use Rattle.sfc_core.specs.Instants.{AreInstants};
-ghost use Rattle.sfc_core.specs.Kept.{AreKept};
+ghost use Rattle.sfc_core.specs.Keeping.Instants.{AreInstants};
+ghost use Rattle.sfc_core.specs.Keeping.Kept.{AreKept};
 ghost use Rattle.sfc_core.specs.Evolution.{Row, step_count, is_initial, cleared_from, activates, leaves, row_after};
 ghost use Rattle.sfc_core.specs.Image.{is_condition_true};
 

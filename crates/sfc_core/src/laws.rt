@@ -12,11 +12,11 @@ ghost use Rattle.sfc_core.specs.ActionControl.{q_of, a_of};
 ghost use Rattle.sfc_core.specs.History.{Entry, History, last_instant, waiting_at};
 ghost use Rattle.sfc_core.specs.Verdict.{variable_of, after_all};
 ghost use Rattle.sfc_core.specs.Answers.{value_of};
-ghost use Rattle.sfc_core.specs.Writes.{latest_write};
+ghost use Rattle.sfc_core.specs.LatestWrite.{latest_write};
 ghost use Rattle.sfc_core.specs.Clearing.{IsClearedSet};
-ghost use Rattle.sfc_core.specs.Numbered.{IsActiveSince, IsLatest, NoneBetween, activated_at, deactivated_at, scan_instant_at};
+ghost use Rattle.sfc_core.specs.ScanNumbers.{IsActiveSince, IsLatest, NoneBetween, activated_at, deactivated_at, scan_instant_at};
 ghost use Rattle.sfc_core.specs.Releases.{releases_to, releases_between, next_release};
-ghost use Rattle.sfc_core.specs.Order.{AreInOrder, last_scan};
+ghost use Rattle.sfc_core.specs.EventOrder.{AreInOrder, last_scan};
 ghost use Rattle.sfc_core.specs.Multiples.{multiple, IsNext};
 
 /// The pass over the transitions in rank order gives the one set in which a transition stands exactly when it may

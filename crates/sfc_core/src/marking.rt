@@ -2,7 +2,7 @@
 
 ghost use Rattle.std.specs.Prelude.{◌≡◌, length, All};
 ghost use Rattle.sfc_core.specs.Flags.{AllBelow};
-ghost use Rattle.sfc_core.specs.Marking.{marked_by};
+ghost use Rattle.sfc_core.specs.Keeping.Marking.{marked_by};
 
 use crate::flags::mark_if;
 use sfc_chart::chart::Transition;

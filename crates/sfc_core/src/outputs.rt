@@ -2,9 +2,9 @@
 
 ghost use Rattle.std.specs.Prelude.{◌≡◌, ◌||◌, All, length, map, if◌then◌else◌};
 ghost use Rattle.sfc_core.specs.Flags.{flag, marked};
-ghost use Rattle.sfc_core.specs.Marking.{places, marked_active};
+ghost use Rattle.sfc_core.specs.Keeping.Marking.{places, marked_active};
 ghost use Rattle.sfc_core.specs.ActionControl.{is_fall, boolean_action};
-ghost use Rattle.sfc_core.specs.Outputs.{AreVariables, executions, with_flags};
+ghost use Rattle.sfc_core.specs.Keeping.Outputs.{AreVariables, executions, with_flags};
 ghost use Rattle.sfc_chart.specs.Chart.{IsStep, IsTarget};
 
 use sfc_chart::chart::{Association, Step, Target};

@@ -21,7 +21,7 @@ impl Program {
     ghost use Rattle.sfc_core.specs.Evolution.{Row, row_after};
     ghost use Rattle.sfc_core.specs.ActionControl.{q_of, boolean_actions};
     ghost use Rattle.sfc_core.specs.Image.{is_condition_true, with_outputs};
-    ghost use Rattle.sfc_core.specs.ProgramAgrees.{HasRoom, ProgramAgrees};
+    ghost use Rattle.sfc_core.specs.Keeping.ProgramAgrees.{HasRoom, ProgramAgrees};
 
     /// Before the first scan of a life, among so many variables.
     pub fn new(alloc: Global, chart: &Chart, variables: usize) -> Result<Self, AllocError>

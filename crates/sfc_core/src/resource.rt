@@ -2,8 +2,8 @@
 
 ghost use Rattle.std.specs.Prelude.{◌≡◌, ◌<◌, ◌≤ℤ◌, ◌^◌, length, pos, negsuc};
 ghost use Rattle.sfc_chart.specs.Chart.{IsSingle};
-ghost use Rattle.sfc_core.specs.Single.{single_chart as the_chart, IsInterval, IsMain};
-ghost use Rattle.sfc_core.specs.ProgramAgrees.{HasRoom};
+ghost use Rattle.sfc_core.specs.Keeping.SingleInstance.{single_chart as the_chart, IsInterval, IsMain};
+ghost use Rattle.sfc_core.specs.Keeping.ProgramAgrees.{HasRoom};
 
 use crate::event::{Event, Outcome};
 use crate::image::initial_values;
@@ -45,7 +45,7 @@ impl Resource {
     ghost use Rattle.sfc_core.specs.History.{Entry, History};
     ghost use Rattle.sfc_core.specs.Verdict.{first_refusal, scan_refusal as refusal_of_scan, answer, verdict, after, after_all, accepted};
     ghost use Rattle.sfc_core.specs.Answers.{value_of, overruns_of};
-    ghost use Rattle.sfc_core.specs.Known.{IsKnown};
+    ghost use Rattle.sfc_core.specs.Keeping.KnownEvents.{IsKnown};
     ghost use Rattle.sfc_core.specs.Agreement.{Agrees, plant_of};
     ghost use Rattle.sfc_core.specs.ViewAgrees.{IsViewOf, HasRoomFor};
     ghost use Rattle.sfc_chart.specs.declared.ids.TaskId.{TaskId};

@@ -2,7 +2,7 @@
 
 ghost use Rattle.std.specs.Prelude.{◌≡◌, length};
 ghost use Rattle.sfc_chart.specs.Chart.{IsSingle, IsChart};
-ghost use Rattle.sfc_core.specs.Single.{single_chart as the_chart};
+ghost use Rattle.sfc_core.specs.Keeping.SingleInstance.{single_chart as the_chart};
 
 use sfc_chart::chart::Chart;
 use sfc_chart::plant::Plant;

@@ -1,7 +1,7 @@
 //! The steps of a program instance, in running form.
 
 ghost use Rattle.std.specs.Prelude.{◌≡◌, ◌<◌, ◌≤ℤ◌, ◌^◌, ◌∷◌, [], List, ℕ, pos, length, IfOk};
-ghost use Rattle.sfc_core.specs.Instants.{AreInstants};
+ghost use Rattle.sfc_core.specs.Keeping.Instants.{AreInstants};
 
 use crate::evolution::scan;
 use sfc_chart::chart::Chart;
@@ -35,7 +35,7 @@ impl Steps {
     ghost use Rattle.sfc_chart.specs.Chart.{IsChart};
     ghost use Rattle.sfc_core.specs.Evolution.{Row, row_after, is_active, step_time, scan_instant, was_cleared, was_activated};
     ghost use Rattle.sfc_core.specs.Image.{is_condition_true};
-    ghost use Rattle.sfc_core.specs.StepsAgree.{IsFor, StepsAgree, step_places, transition_places};
+    ghost use Rattle.sfc_core.specs.Keeping.StepsAgree.{IsFor, StepsAgree, step_places, transition_places};
 
     /// Before the first scan of a life.
     pub fn new(alloc: Global, chart: &Chart) -> Result<Self, AllocError>

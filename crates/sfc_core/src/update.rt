@@ -2,7 +2,7 @@
 
 ghost use Rattle.std.specs.Prelude.{◌≡◌, ◌<◌, ◌-ℤ◌, ◌≤ℤ◌, ◌^◌, ◌||◌, ◌&&◌, not, ℕ, pos, length, cond};
 ghost use Rattle.sfc_core.specs.Flags.{flag};
-ghost use Rattle.sfc_core.specs.Instants.{AreInstants, number};
+ghost use Rattle.sfc_core.specs.Keeping.Instants.{AreInstants, number};
 
 // What a step keeps as its time, where it is left or not.
 fn kept_after(off: bool, active: bool, t: i64, since: i64, kept: i64) -> i64

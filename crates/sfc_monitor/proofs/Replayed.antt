@@ -10,10 +10,10 @@ use Rattle.sfc_monitor.specs.declared.script.ScriptError.TheVariants as script_e
 use Rattle.sfc_monitor.specs.declared.monitor_error.MonitorError.{MonitorError}
 use Rattle.sfc_monitor.specs.declared.monitor_error.MonitorError.TheVariants.{Chart, Script, Read, Write, Memory}
 use Rattle.sfc_monitor.specs.MonitorErrors.{of_script}
-use Rattle.sfc_monitor.specs.Faults.{IsInputFault, IsOutputFault}
-use Rattle.sfc_monitor.specs.Script.{script_said}
-use Rattle.sfc_monitor.specs.ScriptReading.{ReadsScript}
-use Rattle.sfc_monitor.specs.Playing.{lines_of_play}
+use Rattle.sfc_monitor.specs.Working.Faults.{IsInputFault, IsOutputFault}
+use Rattle.sfc_monitor.specs.Script.{commands_of_script}
+use Rattle.sfc_monitor.specs.Working.ScriptReading.{ReadsScript}
+use Rattle.sfc_monitor.specs.Output.{lines_of_play}
 use Rattle.sfc_monitor.specs.Reading.{Device, IsUntouched, TakesAtMost, LosesAtMost}
 use Rattle.sfc_monitor.specs.Replay.{IsPlantOf, IsOutput, LoadsText, most, Outputs, Replays}
 
@@ -56,18 +56,18 @@ module _ (chart script w : Device) where
 
     -- the script was taken, and has a faulty line
     pub script_stopped : (commands : List ℕ) (error : ScriptError) → TakesAtMost most script commands → LosesAtMost most script → IsUntouched w
-        → ReadsScript (Err error) (script_said plant commands) → Replays chart script w {X = Unit {0}} (Err (of_script error))
+        → ReadsScript (Err error) (commands_of_script plant commands) → Replays chart script w {X = Unit {0}} (Err (of_script error))
     script_stopped commands (script_error.Faulty n) taken' lost unwritten said =
-        ((text, taken, (commands, taken', record { plant = plant; loaded = loaded; said = said })), unwritten)
+        ((text, taken, (commands, taken', record { plant = plant; loaded = loaded; parsed = said })), unwritten)
     script_stopped commands script_error.Memory taken' lost unwritten said = inl (inr ((text, taken, (plant, loaded)), lost), unwritten)
 
     -- the commands were played, to the end or to a fault of the writer
     pub played : (commands : List ℕ) (entries : List Entry) (result : Result (Unit {0}) MonitorError) → TakesAtMost most script commands
-        → script_said plant commands ≡ Ok entries → IfErr result IsOutputFault → Writes w.0 w.1 result (lines_of_play plant [] entries)
+        → commands_of_script plant commands ≡ Ok entries → IfErr result IsOutputFault → Writes w.0 w.1 result (lines_of_play plant [] entries)
         → Replays chart script w result
     played commands entries result taken' said faults writes =
         let output : IsOutput text commands (lines_of_play plant [] entries) =
-            record { plant = plant; loaded = loaded; commands = entries; said = said; lines = refl } in
+            record { plant = plant; loaded = loaded; commands = entries; parsed = said; lines = refl } in
         written result faults (λ Given given. (text, taken, (commands, taken', (lines_of_play plant [] entries, output, given)))) writes
       where
         written : (result : Result (Unit {0}) MonitorError) → IfErr result IsOutputFault

@@ -3,7 +3,7 @@ use Rattle.std.proofs.Common.{◌≡◌, ℕ, suc, ◌<◌, ◌≤◌, ◌==◌,
 use Rattle.std.proofs.Math.Bool.{and-false}
 use Rattle.std.proofs.lemmas.Bool.Decides.{nat_tests}
 use Rattle.sfc_monitor.specs.Script.{is_blank, begins_blank, in_word, words_of, in_line, begins_with_lf, lines_of}
-use Rattle.sfc_monitor.specs.Splitting.{split_before, without_cr, is_lf, IsWordStart}
+use Rattle.sfc_monitor.specs.Working.Splitting.{split_before, without_cr, is_lf, IsWordStart}
 
 split_more : (p : ℕ → Bool) (b : ℕ) (bytes : List ℕ) → p b ≡ false → split_before p (b ∷ bytes) ≡ (b ∷ (split_before p bytes).0, (split_before p bytes).1)
 unfolding split_before

@@ -1,10 +1,17 @@
-pub mod Lists
+-- The rules, in reading order.
+
+-- the commands that a script has, or its first faulty line
 pub mod Script
-pub mod ScriptReading
-pub mod Playing
-pub mod Reading
-pub mod Replay
-pub mod Faults
-pub mod MonitorErrors
-pub mod Splitting
+-- lists in a line of text
+pub mod Lists
+-- the lines of commands, of their answers and of the image
 pub mod Output
+-- what is taken from a reader
+pub mod Reading
+-- what replay answers and writes
+pub mod Replay
+-- what each fault becomes; exit statuses and texts
+pub mod MonitorErrors
+
+-- What private clauses cite.
+pub mod Working

@@ -20,7 +20,7 @@ use Rattle.sfc_core.specs.declared.refusal.Refusal.{Refusal}
 use Rattle.sfc_core.specs.declared.refusal.Refusal.TheVariants.{NotDue, Yield}
 use Rattle.sfc_core.specs.Refusals.{refusal_text}
 use Rattle.sfc_core.specs.History.{History, Entry}
-use Rattle.sfc_core.specs.Verdict.{verdict, after, no_task, no_variable}
+use Rattle.sfc_core.specs.Verdict.{verdict, after, after_all, no_task, no_variable}
 use Rattle.sfc_core.specs.Answers.{chart_of_program, scan_count, is_step_active, step_elapsed, is_transition_cleared, actions_of, is_action_executed, value_of}
 use Rattle.sfc_monitor.specs.Lists.{listed, wanted}
 
@@ -154,3 +154,9 @@ image_line plant h id variable = codes "image " ++ variable.name ++ codes " " ++
 abbrev pub image_lines : PlantData → History → ℕ → List Variable → List ℕ
 image_lines plant h v [] = []
 image_lines plant h v (variable ∷ variables) = image_line plant h (record { 0 = v }) variable ++ image_lines plant h (suc v) variables
+
+-- ---- all of it
+
+-- the lines of the commands, and of the image after them
+abbrev pub lines_of_play : PlantData → History → List Entry → List ℕ
+lines_of_play plant h entries = commands_lines plant h entries ++ image_lines plant (after_all plant h entries) 0 plant.variables

@@ -12,8 +12,8 @@ use Rattle.sfc_monitor.specs.declared.monitor_error.ChartError.{ChartError}
 use Rattle.sfc_monitor.specs.declared.monitor_error.ChartError.TheVariants as chart
 use Rattle.sfc_monitor.specs.declared.monitor_error.MonitorError.{MonitorError}
 use Rattle.sfc_monitor.specs.declared.monitor_error.MonitorError.TheVariants.{Chart, Script, Read, Write, Memory}
-use Rattle.sfc_monitor.specs.Script.{script_said}
-use Rattle.sfc_monitor.specs.Playing.{lines_of_play}
+use Rattle.sfc_monitor.specs.Script.{commands_of_script}
+use Rattle.sfc_monitor.specs.Output.{lines_of_play}
 use Rattle.sfc_monitor.specs.Reading.{Device, IsUntouched, TakesAtMost, LosesAtMost}
 
 -- The text is read as trees in which no check fails, and the plant is theirs.
@@ -40,14 +40,14 @@ pub record IsOutput (text script output : List ℕ) : Type 0 where
   pub plant : PlantData
   pub loaded : IsPlantOf text plant
   pub commands : List Entry
-  pub said : script_said plant script ≡ Ok commands
+  pub parsed : commands_of_script plant script ≡ Ok commands
   pub lines : output ≡ lines_of_play plant [] commands
 
 -- the chart is a plant over which the script has this faulty line
 pub record IsScriptRefused (text script : List ℕ) (line : ℕ) : Type 0 where
   pub plant : PlantData
   pub loaded : IsPlantOf text plant
-  pub said : script_said plant script ≡ Err line
+  pub parsed : commands_of_script plant script ≡ Err line
 
 -- the most bytes that are taken from a reader
 abbrev pub most : ℕ

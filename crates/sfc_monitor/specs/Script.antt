@@ -97,31 +97,31 @@ signed_bit_of [] = None
 signed_bit_of (b ∷ digits) = if b == 45 then negated_bit (bit_of digits) else bit_of (b ∷ digits)
 
 -- TRUE, FALSE, 0 or 1 for a variable of this type
-abbrev pub value_said : Option VarType → List ℕ → Option Value
-value_said t word =
+abbrev pub value_of_word : Option VarType → List ℕ → Option Value
+value_of_word t word =
     if same_word word (codes "TRUE") then Some (value.Bool true) else
     if same_word word (codes "FALSE") then Some (value.Bool false) else
     option_map (bit_value t) (signed_bit_of word)
 
-abbrev pub scan_said : PlantData → List ℕ → List ℕ → Option Event
-scan_said plant keyword name = if same_word keyword (codes "SCAN") then Some (Scan (task_of plant name)) else None
+abbrev pub scan_of_words : PlantData → List ℕ → List ℕ → Option Event
+scan_of_words plant keyword name = if same_word keyword (codes "SCAN") then Some (Scan (task_of plant name)) else None
 
-abbrev pub input_said : PlantData → List ℕ → List ℕ → List ℕ → Option Event
-input_said plant keyword name value =
+abbrev pub input_of_words : PlantData → List ℕ → List ℕ → List ℕ → Option Event
+input_of_words plant keyword name value =
     if same_word keyword (codes "INPUT")
-    then option_map (Input (variable_of plant name)) (value_said (type_of plant (variable_of plant name)) value)
+    then option_map (Input (variable_of plant name)) (value_of_word (type_of plant (variable_of plant name)) value)
     else None
 
 -- SCAN task, or INPUT variable value
-abbrev pub event_said : PlantData → List (List ℕ) → Option Event
-event_said plant (keyword ∷ name ∷ []) = scan_said plant keyword name
-event_said plant (keyword ∷ name ∷ value ∷ []) = input_said plant keyword name value
-event_said plant _ = None
+abbrev pub event_of_words : PlantData → List (List ℕ) → Option Event
+event_of_words plant (keyword ∷ name ∷ []) = scan_of_words plant keyword name
+event_of_words plant (keyword ∷ name ∷ value ∷ []) = input_of_words plant keyword name value
+event_of_words plant _ = None
 
 -- an instant and an event
-abbrev pub command_said : Option ℤ → Option Event → Line
-command_said (Some t) (Some event) = Command event t
-command_said _ _ = Faulty
+abbrev pub command_of : Option ℤ → Option Event → Line
+command_of (Some t) (Some event) = Command event t
+command_of _ _ = Faulty
 
 -- 59 is a semicolon
 abbrev pub begins_comment : List ℕ → Bool
@@ -129,10 +129,10 @@ begins_comment [] = false
 begins_comment (b ∷ word) = b == 59
 
 -- A line without words, and one whose first word begins with a semicolon, is skipped. Any other is an instant and a command.
-abbrev pub line_said : PlantData → List (List ℕ) → Line
-line_said plant [] = Skipped
-line_said plant (word ∷ words) =
-    if begins_comment word then Skipped else command_said (duration_value word) (event_said plant words)
+abbrev pub line_of_words : PlantData → List (List ℕ) → Line
+line_of_words plant [] = Skipped
+line_of_words plant (word ∷ words) =
+    if begins_comment word then Skipped else command_of (duration_value word) (event_of_words plant words)
 
 -- ---- scripts
 
@@ -143,10 +143,10 @@ and_then (Command event t) n (Ok entries) = Ok ((event, t) ∷ entries)
 and_then (Command event t) n (Err m) = Err m
 
 -- the commands of these lines, which are counted from n on, or the number of the first that is none
-abbrev pub lines_said : PlantData → ℕ → List (List ℕ) → Result (List Entry) ℕ
-lines_said plant n [] = Ok []
-lines_said plant n (line ∷ lines) = and_then (line_said plant (words_of line)) n (lines_said plant (suc n) lines)
+abbrev pub commands_of_lines : PlantData → ℕ → List (List ℕ) → Result (List Entry) ℕ
+commands_of_lines plant n [] = Ok []
+commands_of_lines plant n (line ∷ lines) = and_then (line_of_words plant (words_of line)) n (commands_of_lines plant (suc n) lines)
 
 -- the commands of a script; 0 where it has more than 1,048,576 bytes
-abbrev pub script_said : PlantData → List ℕ → Result (List Entry) ℕ
-script_said plant bytes = if nat_lt 1048576 (length bytes) then Err 0 else lines_said plant 1 (lines_of bytes)
+abbrev pub commands_of_script : PlantData → List ℕ → Result (List Entry) ℕ
+commands_of_script plant bytes = if nat_lt 1048576 (length bytes) then Err 0 else commands_of_lines plant 1 (lines_of bytes)

@@ -1,7 +1,7 @@
 //! Reading a device to its end.
 
 ghost use Rattle.std.specs.Prelude.{IfOk, IfErr, OnErr};
-ghost use Rattle.sfc_monitor.specs.Faults.{IsInputFault};
+ghost use Rattle.sfc_monitor.specs.Working.Faults.{IsInputFault};
 ghost use Rattle.sfc_monitor.specs.Reading.{TakesAtMost, LosesAtMost};
 
 use crate::monitor_error::MonitorError;

@@ -107,8 +107,8 @@ fn signed_bit_of(word: &[u8]) -> Option<bool>
 }
 
 // The value that the word is for a variable of this type: TRUE, FALSE, 0 or 1.
-fn value_said(var_type: Option<VarType>, word: &[u8]) -> Option<Value>
-    ensures { result ≡ script.value_said var_type word.now }
+fn value_of_word(var_type: Option<VarType>, word: &[u8]) -> Option<Value>
+    ensures { result ≡ script.value_of_word var_type word.now }
 {
     if is_same_word(word, b"TRUE") {
         return Some(Value::Bool(true));
@@ -123,13 +123,13 @@ fn value_said(var_type: Option<VarType>, word: &[u8]) -> Option<Value>
 }
 
 // The scan that the words say, if the keyword is SCAN.
-fn scan_said(
+fn scan_of_words(
     alloc: Global,
     plant: &Plant,
     keyword: &[u8],
     name: &[u8],
 ) -> Result<Option<Event>, AllocError>
-    ensures { IfOk result (λ event. event ≡ script.scan_said plant.now keyword.now name.now) }
+    ensures { IfOk result (λ event. event ≡ script.scan_of_words plant.now keyword.now name.now) }
 {
     if !is_same_word(keyword, b"SCAN") {
         return Ok(None);
@@ -139,28 +139,28 @@ fn scan_said(
 }
 
 // The input that the words say, if the keyword is INPUT.
-fn input_said(
+fn input_of_words(
     alloc: Global,
     plant: &Plant,
     keyword: &[u8],
     name: &[u8],
     value: &[u8],
 ) -> Result<Option<Event>, AllocError>
-    ensures { IfOk result (λ event. event ≡ script.input_said plant.now keyword.now name.now value.now) }
+    ensures { IfOk result (λ event. event ≡ script.input_of_words plant.now keyword.now name.now value.now) }
 {
     if !is_same_word(keyword, b"INPUT") {
         return Ok(None);
     }
     let id = variable_of(alloc, plant, name)?;
-    match value_said(type_of(plant, id), value) {
+    match value_of_word(type_of(plant, id), value) {
         Some(value) => Ok(Some(Event::Input(id, value))),
         None => Ok(None),
     }
 }
 
 // The event that the words say: SCAN task, or INPUT variable value.
-fn event_said(alloc: Global, plant: &Plant, words: &[u8]) -> Result<Option<Event>, AllocError>
-    ensures { IfOk result (λ event. event ≡ script.event_said plant.now (script.words_of words.now)) }
+fn event_of_words(alloc: Global, plant: &Plant, words: &[u8]) -> Result<Option<Event>, AllocError>
+    ensures { IfOk result (λ event. event ≡ script.event_of_words plant.now (script.words_of words.now)) }
 {
     let Some((keyword, rest)) = next_word(words) else {
         return Ok(None);
@@ -169,17 +169,17 @@ fn event_said(alloc: Global, plant: &Plant, words: &[u8]) -> Result<Option<Event
         return Ok(None);
     };
     let Some((value, rest)) = next_word(rest) else {
-        return scan_said(alloc, plant, keyword, name);
+        return scan_of_words(alloc, plant, keyword, name);
     };
     if next_word(rest).is_some() {
         return Ok(None);
     }
-    input_said(alloc, plant, keyword, name, value)
+    input_of_words(alloc, plant, keyword, name, value)
 }
 
 /// What a line of a script is, without its end.
 pub fn read_line(alloc: Global, plant: &Plant, line: &[u8]) -> Result<Line, AllocError>
-    ensures { IfOk result (λ read. read ≡ script.line_said plant.now (script.words_of line.now)) }
+    ensures { IfOk result (λ read. read ≡ script.line_of_words plant.now (script.words_of line.now)) }
 {
     let Some((instant, rest)) = next_word(line) else {
         return Ok(Line::Skipped);
@@ -187,7 +187,7 @@ pub fn read_line(alloc: Global, plant: &Plant, line: &[u8]) -> Result<Line, Allo
     if begins_comment(instant) {
         return Ok(Line::Skipped);
     }
-    let event = event_said(alloc, plant, rest)?;
+    let event = event_of_words(alloc, plant, rest)?;
     match (duration(instant), event) {
         (Some(t), Some(event)) => Ok(Line::Command(event, t)),
         _ => Ok(Line::Faulty),

@@ -7,7 +7,8 @@ ghost use Rattle.sfc_chart.specs.Chart.{PlantData};
 ghost use Rattle.sfc_core.specs.History.{History};
 ghost use Rattle.sfc_core.specs.Answers.{is_step_active, is_transition_cleared, is_action_executed, actions_of};
 ghost use Rattle.sfc_core.specs.ViewAgrees.{IsViewOf, shown_steps, shown_transitions, shown_actions};
-ghost use Rattle.sfc_monitor.specs.Lists.{listed, continued, separator, wanted};
+ghost use Rattle.sfc_monitor.specs.Lists.{listed, wanted};
+ghost use Rattle.sfc_monitor.specs.Working.ListParts.{continued, separator};
 ghost use Rattle.sfc_monitor.specs.Output.{step_text, step_texts, cleared_texts, executed_texts, variable_name as name_of};
 
 use crate::append::{append, append_number, append_time};

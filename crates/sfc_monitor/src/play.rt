@@ -6,8 +6,9 @@ ghost use Rattle.sfc_core.specs.History.{History};
 ghost use Rattle.sfc_core.specs.Agreement.{Agrees, plant_of};
 ghost use Rattle.sfc_core.specs.Verdict.{after};
 ghost use Rattle.sfc_monitor.specs.Output.{command_lines, image_lines};
-ghost use Rattle.sfc_monitor.specs.Faults.{IsOutputFault};
-ghost use Rattle.sfc_monitor.specs.Playing.{IsPlayed, lines_of_play};
+ghost use Rattle.sfc_monitor.specs.Working.Faults.{IsOutputFault};
+ghost use Rattle.sfc_monitor.specs.Output.{lines_of_play};
+ghost use Rattle.sfc_monitor.specs.Working.Playing.{IsPlayed};
 
 use crate::answers::{append_answer, append_image};
 use crate::monitor_error::MonitorError;

@@ -1,7 +1,7 @@
 //! Scripts.
 
-ghost use Rattle.sfc_monitor.specs.Script.{lines_of, lines_said, script_said};
-ghost use Rattle.sfc_monitor.specs.ScriptReading.{ReadsScript};
+ghost use Rattle.sfc_monitor.specs.Script.{lines_of, commands_of_lines, commands_of_script};
+ghost use Rattle.sfc_monitor.specs.Working.ScriptReading.{ReadsScript};
 ghost use Rattle.sfc_monitor.specs.declared.script.ScriptError.TheVariants.{Memory};
 ghost use Rattle.std.specs.Prelude.{◌≡◌};
 
@@ -41,7 +41,7 @@ impl<T: Drop> From<AllocFailed<T>> for ScriptError {
 
 // The commands of the lines.
 fn read_lines(alloc: Global, plant: &Plant, bytes: &[u8]) -> Result<Vec<(Event, i64)>, ScriptError>
-    ensures { ReadsScript result (lines_said plant.now 1 (lines_of bytes.now)) }
+    ensures { ReadsScript result (commands_of_lines plant.now 1 (lines_of bytes.now)) }
 {
     let mut entries = Vec::new(alloc);
     let mut number = 1;
@@ -66,7 +66,7 @@ pub fn read_script(
     plant: &Plant,
     bytes: &[u8],
 ) -> Result<Vec<(Event, i64)>, ScriptError>
-    ensures { ReadsScript result (script_said plant.now bytes.now) }
+    ensures { ReadsScript result (commands_of_script plant.now bytes.now) }
 {
     if bytes.len() > LONGEST {
         return Err(ScriptError::Faulty(0));

@@ -2,7 +2,7 @@
 
 ghost use Rattle.std.specs.Prelude.{◌≡◌, ◌∷◌, ◌<◌, [], length, MatchOption};
 ghost use Rattle.sfc_monitor.specs.Script as script;
-ghost use Rattle.sfc_monitor.specs.Splitting.{split_before, without_cr as trimmed, is_lf, IsWordStart};
+ghost use Rattle.sfc_monitor.specs.Working.Splitting.{split_before, without_cr as trimmed, is_lf, IsWordStart};
 
 fn is_blank(byte: u8) -> bool
     ensures { result ≡ script.is_blank byte }
@@ -11,7 +11,7 @@ fn is_blank(byte: u8) -> bool
 }
 
 // The bytes before the first blank, and the rest.
-#[tactic(auto, unfolding(crate::specs::Splitting::split_before))]
+#[tactic(auto, unfolding(crate::specs::Working::Splitting::split_before))]
 fn split_word(bytes: &[u8]) -> (&[u8], &[u8])
     ensures { (result.0.now, result.1.now) ≡ split_before script.is_blank bytes.now }
 {
@@ -26,7 +26,7 @@ fn split_word(bytes: &[u8]) -> (&[u8], &[u8])
 }
 
 // The bytes before the first LF, and the rest.
-#[tactic(auto, unfolding(crate::specs::Splitting::split_before))]
+#[tactic(auto, unfolding(crate::specs::Working::Splitting::split_before))]
 fn split_line(bytes: &[u8]) -> (&[u8], &[u8])
     ensures { (result.0.now, result.1.now) ≡ split_before is_lf bytes.now }
 {

@@ -1,5 +1,5 @@
 use Rattle.std.proofs.Common.{◌≡◌, drop}
-use Rattle.sfc_core.specs.Outputs.{with_actions}
+use Rattle.sfc_core.specs.Keeping.Outputs.{with_actions}
 use Rattle.sfc_core.proofs.boolean_actions.add_all.Given as goal
 
 abbrev pub invariant-loop-association : goal.invariant-loop-association

@@ -1,5 +1,5 @@
 use Rattle.std.proofs.Common.{◌≡◌, drop}
-use Rattle.sfc_core.specs.Outputs.{is_listed}
+use Rattle.sfc_core.specs.Keeping.Outputs.{is_listed}
 use Rattle.sfc_core.proofs.boolean_actions.is_among.Given as goal
 
 abbrev pub invariant-loop-other : goal.invariant-loop-other

@@ -1,5 +1,5 @@
 use Rattle.std.proofs.Common.{◌≡◌, drop, []}
-use Rattle.sfc_core.specs.Outputs.{with_steps}
+use Rattle.sfc_core.specs.Keeping.Outputs.{with_steps}
 use Rattle.sfc_core.proofs.boolean_actions.list_actions.Given as goal
 
 abbrev pub invariant-loop-step : goal.invariant-loop-step

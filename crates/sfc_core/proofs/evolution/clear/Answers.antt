@@ -3,7 +3,7 @@ use Rattle.std.specs.Prelude.{All}
 use Rattle.sfc_chart.specs.Chart.{IsTransition}
 use Rattle.sfc_core.specs.Flags.{flag}
 use Rattle.sfc_core.specs.Evolution.{some_cleared}
-use Rattle.sfc_core.specs.Marking.{marked_by}
+use Rattle.sfc_core.specs.Keeping.Marking.{marked_by}
 use Rattle.sfc_core.proofs.Marks.{marked_following, marked_preceding, or_false}
 use Rattle.sfc_core.proofs.evolution.clear.Goals as goal
 

@@ -1,5 +1,5 @@
 use Rattle.std.proofs.Common.{◌≡◌, drop}
-use Rattle.sfc_core.specs.Marking.{marked_by}
+use Rattle.sfc_core.specs.Keeping.Marking.{marked_by}
 use Rattle.sfc_core.proofs.marking.mark_preceding.Given as goal
 
 abbrev pub invariant-loop-i : goal.invariant-loop-i

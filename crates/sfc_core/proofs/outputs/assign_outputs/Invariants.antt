@@ -1,5 +1,5 @@
 use Rattle.std.proofs.Common.{◌≡◌, drop}
-use Rattle.sfc_core.specs.Outputs.{with_flags}
+use Rattle.sfc_core.specs.Keeping.Outputs.{with_flags}
 use Rattle.sfc_core.proofs.outputs.assign_outputs.Given as goal
 
 abbrev pub invariant-loop-i : goal.invariant-loop-i

@@ -1,5 +1,5 @@
 use Rattle.std.proofs.Common.{◌≡◌, drop}
-use Rattle.sfc_core.specs.Marking.{marked_active}
+use Rattle.sfc_core.specs.Keeping.Marking.{marked_active}
 use Rattle.sfc_core.proofs.outputs.mark_active.Given as goal
 
 abbrev pub invariant-loop-s : goal.invariant-loop-s

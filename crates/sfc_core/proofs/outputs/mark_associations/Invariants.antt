@@ -1,6 +1,6 @@
 use Rattle.std.proofs.Common.{◌≡◌, drop}
 use Rattle.sfc_core.specs.Flags.{marked}
-use Rattle.sfc_core.specs.Marking.{places}
+use Rattle.sfc_core.specs.Keeping.Marking.{places}
 use Rattle.sfc_core.proofs.outputs.mark_associations.Given as goal
 
 abbrev pub invariant-loop-association : goal.invariant-loop-association

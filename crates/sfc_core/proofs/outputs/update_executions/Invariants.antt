@@ -1,6 +1,6 @@
 use Rattle.std.proofs.Common.{◌≡◌, ◌++◌, drop, take}
 use Rattle.sfc_core.specs.Flags.{flag}
-use Rattle.sfc_core.specs.Outputs.{executions}
+use Rattle.sfc_core.specs.Keeping.Outputs.{executions}
 use Rattle.sfc_core.proofs.outputs.update_executions.Given as goal
 
 abbrev pub invariant-loop-i : goal.invariant-loop-i

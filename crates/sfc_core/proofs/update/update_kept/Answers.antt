@@ -1,7 +1,7 @@
 use Rattle.std.proofs.Common.{◌≡◌, ◌≢◌, ◌<◌, ℤ, ◌-ℤ◌, ◌&&◌, cond, length, arith, rules, below_more, get_or-set_other, get_or-set_same, to_z, of_z, w64, ◌∙◌, SFits}
 use Rattle.std.proofs.lemmas.Int.{to_z-of_z}
 use Rattle.sfc_core.specs.Flags.{flag}
-use Rattle.sfc_core.specs.Instants.{number}
+use Rattle.sfc_core.specs.Keeping.Instants.{number}
 use Rattle.sfc_core.proofs.update.update_kept.Goals as goal
 
 pub loop-i-preserved : goal.loop-i-preserved

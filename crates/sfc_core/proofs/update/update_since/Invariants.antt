@@ -1,6 +1,6 @@
 use Rattle.std.proofs.Common.{◌≡◌, ℕ, ◌<◌, ◌≤◌, cond}
 use Rattle.sfc_core.specs.Flags.{flag}
-use Rattle.sfc_core.specs.Instants.{AreInstants, number}
+use Rattle.sfc_core.specs.Keeping.Instants.{AreInstants, number}
 use Rattle.sfc_core.proofs.update.update_since.Given as goal
 
 abbrev pub invariant-loop-i : goal.invariant-loop-i

@@ -3,8 +3,8 @@ use Rattle.sfc_text.specs.declared.tree.Source.{Source}
 use Rattle.sfc_text.specs.declared.read_error.ReadErrorKind.{ReadErrorKind}
 use Rattle.sfc_chart.specs.Built.{plant_of}
 use Rattle.sfc_core.specs.History.{Entry}
-use Rattle.sfc_monitor.specs.Script.{script_said}
-use Rattle.sfc_monitor.specs.Playing.{lines_of_play}
+use Rattle.sfc_monitor.specs.Script.{commands_of_script}
+use Rattle.sfc_monitor.specs.Output.{lines_of_play}
 use Rattle.sfc_monitor.proofs.laws.one_output.Goals as goal
 
 same_source : (s t : Source) (x y : Result Source ReadErrorKind) → x ≡ Ok s → y ≡ Ok t → x ≡ y → s ≡ t
@@ -17,5 +17,5 @@ pub returns : goal.returns
 returns c = λ text script output other first second.
     let source : first.loaded.source ≡ second.loaded.source = same_source first.loaded.source second.loaded.source (Ok first.loaded.source) (Ok second.loaded.source) refl refl (c.one_reading.ensures text (Ok first.loaded.source) (Ok second.loaded.source) first.loaded.read second.loaded.read) in
     let plant : first.plant ≡ second.plant = first.loaded.built ∙ ap plant_of source ∙ sym second.loaded.built in
-    let commands : first.commands ≡ second.commands = same_commands first.commands second.commands (script_said first.plant script) (script_said second.plant script) first.said second.said (ap (λ p. script_said p script) plant) in
+    let commands : first.commands ≡ second.commands = same_commands first.commands second.commands (commands_of_script first.plant script) (commands_of_script second.plant script) first.parsed second.parsed (ap (λ p. commands_of_script p script) plant) in
     first.lines ∙ (λ i. lines_of_play (plant i) [] (commands i)) ∙ sym second.lines

@@ -3,7 +3,8 @@ use Rattle.sfc_chart.specs.declared.ids.ProgId.{ProgId}
 use Rattle.sfc_chart.specs.Chart.{PlantData}
 use Rattle.sfc_core.specs.History.{History}
 use Rattle.sfc_core.specs.ViewAgrees.{IsViewOf, shown_transitions}
-use Rattle.sfc_monitor.specs.Lists.{listed, continued}
+use Rattle.sfc_monitor.specs.Lists.{listed}
+use Rattle.sfc_monitor.specs.Working.ListParts.{continued}
 use Rattle.sfc_monitor.specs.Output.{cleared_texts}
 use Rattle.sfc_monitor.proofs.lists.append_cleared.Given as goal
 

@@ -2,7 +2,8 @@ use Rattle.std.proofs.Common.{◌≡◌, ◌+◌, ◌++◌, length}
 use Rattle.sfc_chart.specs.declared.ids.ProgId.{ProgId}
 use Rattle.sfc_core.specs.History.{History}
 use Rattle.sfc_core.specs.ViewAgrees.{IsViewOf, shown_actions}
-use Rattle.sfc_monitor.specs.Lists.{listed, continued}
+use Rattle.sfc_monitor.specs.Lists.{listed}
+use Rattle.sfc_monitor.specs.Working.ListParts.{continued}
 use Rattle.sfc_monitor.specs.Output.{executed_texts}
 use Rattle.sfc_monitor.proofs.lists.append_executed.Given as goal
 

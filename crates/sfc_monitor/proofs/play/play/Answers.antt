@@ -5,7 +5,7 @@ use Rattle.sfc_text.proofs.Written.{front_first, then_writes}
 use Rattle.sfc_core.specs.Agreement.{plant_of}
 use Rattle.sfc_core.specs.Verdict.{after_all}
 use Rattle.sfc_monitor.specs.Output.{commands_lines, image_lines}
-use Rattle.sfc_monitor.specs.Playing.{lines_of_play}
+use Rattle.sfc_monitor.specs.Output.{lines_of_play}
 use Rattle.sfc_monitor.proofs.play.play.Goals as goal
 
 pub returns-in_err-play_commands-clause-lines : goal.returns-in_err-play_commands-clause-lines

@@ -2,8 +2,8 @@ use Rattle.std.proofs.Common.{◌≡◌, ◌≤◌, List, ℕ, [], length, Ok, E
 use Rattle.std.proofs.lemmas.Result.{err_from_is_err_and}
 use Rattle.sfc_text.specs.Writing.{Writes}
 use Rattle.sfc_core.specs.Agreement.{plant_of}
-use Rattle.sfc_monitor.specs.Script.{script_said}
-use Rattle.sfc_monitor.specs.Playing.{lines_of_play}
+use Rattle.sfc_monitor.specs.Script.{commands_of_script}
+use Rattle.sfc_monitor.specs.Output.{lines_of_play}
 use Rattle.sfc_monitor.specs.Reading.{Device, LosesAtMost}
 use Rattle.sfc_monitor.specs.Replay.{IsPlantOf, LoadsText, most}
 use Rattle.sfc_monitor.proofs.Taken.{lost}
@@ -67,7 +67,7 @@ returns g c =
     let script : Device = (g.S.Read.remaining c.args.script.now, g.S.Read.remaining c.read_to_end-2.new.reader) in
     let w : Device = (g.W.Write.contents c.args.w.now, g.W.Write.contents c.play.new.w) in
     let loaded : IsPlantOf c.in_ok-text.text.items c.in_ok-plant.plant = rw c.deref.ensures.value at c.in_ok-plant.ensures.loads in
-    let said : script_said c.in_ok-plant.plant c.in_ok-commands.commands.items ≡ Ok c.in_ok-entries.entries.items =
+    let said : commands_of_script c.in_ok-plant.plant c.in_ok-commands.commands.items ≡ Ok c.in_ok-entries.entries.items =
         rw (c.plant.ensures, c.in_ok-resource.ensures.plant, c.deref-2.ensures.value) at c.in_ok-entries.ensures in
     played chart script w c.in_ok-text.text.items c.in_ok-plant.plant c.in_ok-text.ensures.taken loaded
     c.in_ok-commands.commands.items c.in_ok-entries.entries.items c.play.result c.in_ok-commands.ensures.taken said c.play.ensures.faults

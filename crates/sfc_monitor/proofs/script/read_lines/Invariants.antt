@@ -1,12 +1,12 @@
 use Rattle.std.proofs.Common.{◌≡◌, ◌+◌, ◌≤◌, length}
-use Rattle.sfc_monitor.specs.Script.{lines_of, lines_said}
+use Rattle.sfc_monitor.specs.Script.{lines_of, commands_of_lines}
 use Rattle.sfc_monitor.proofs.Said.{behind}
 use Rattle.sfc_monitor.proofs.script.read_lines.Given as goal
 
 abbrev pub invariant-lines : goal.invariant-lines
 invariant-lines l = record {
   counted : l.number + length l.rest ≤ length l.bytes + 1;
-  said : lines_said l.plant 1 (lines_of l.bytes) ≡ behind l.entries.items (lines_said l.plant l.number (lines_of l.rest));
+  said : commands_of_lines l.plant 1 (lines_of l.bytes) ≡ behind l.entries.items (commands_of_lines l.plant l.number (lines_of l.rest));
 }
 
 abbrev pub decreases-lines : goal.decreases-lines

@@ -1,5 +1,5 @@
 use Rattle.std.proofs.Common.{◌≡◌, ◌++◌, take, drop}
-use Rattle.sfc_monitor.specs.Splitting.{split_before, is_lf}
+use Rattle.sfc_monitor.specs.Working.Splitting.{split_before, is_lf}
 use Rattle.sfc_monitor.proofs.split.split_line.Given as goal
 
 abbrev pub invariant-all : goal.invariant-all

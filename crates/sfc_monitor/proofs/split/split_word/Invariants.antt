@@ -1,6 +1,6 @@
 use Rattle.std.proofs.Common.{◌≡◌, ◌++◌, take, drop}
 use Rattle.sfc_monitor.specs.Script.{is_blank}
-use Rattle.sfc_monitor.specs.Splitting.{split_before}
+use Rattle.sfc_monitor.specs.Working.Splitting.{split_before}
 use Rattle.sfc_monitor.proofs.split.split_word.Given as goal
 
 abbrev pub invariant-all : goal.invariant-all

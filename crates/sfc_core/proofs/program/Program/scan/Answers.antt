@@ -2,7 +2,7 @@ use Rattle.std.proofs.Common.{◌∷◌, arith, SFits, w64}
 use Rattle.std.proofs.lemmas.Int.{to_z-of_z}
 use Rattle.sfc_core.specs.Evolution.{row_after}
 use Rattle.sfc_core.specs.Image.{is_condition_true}
-use Rattle.sfc_core.specs.StepsAgree.{StepsAgree}
+use Rattle.sfc_core.specs.Keeping.StepsAgree.{StepsAgree}
 use Rattle.sfc_core.proofs.program.Program.scan.Goals as goal
 
 pub update-requires-clause-steps : goal.update-requires-clause-steps

@@ -1,7 +1,7 @@
 use Rattle.std.proofs.Common.{◌≡◌, length, arith, ap, ◌∙◌, SFits, w64}
 use Rattle.std.proofs.lemmas.Int.{to_z-of_z}
 use Rattle.std.proofs.lemmas.List.{with_items_is}
-use Rattle.sfc_core.specs.Kept.{AreKept}
+use Rattle.sfc_core.specs.Keeping.Kept.{AreKept}
 use Rattle.sfc_core.specs.Evolution.{step_count}
 use Rattle.sfc_core.proofs.Next.{kept_at}
 use Rattle.sfc_core.proofs.steps.Steps.advance.Goals as goal

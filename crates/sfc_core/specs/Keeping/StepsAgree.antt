@@ -3,7 +3,7 @@ use Rattle.std.specs.Prelude.{ℕ, ◌≡◌, List, length}
 use Rattle.sfc_chart.specs.declared.chart.Chart.{Chart}
 use Rattle.sfc_core.specs.declared.steps.Steps.{Steps}
 use Rattle.sfc_core.specs.Evolution.{Row, step_count, scan_instant}
-use Rattle.sfc_core.specs.Kept.{AreKept}
+use Rattle.sfc_core.specs.Keeping.Kept.{AreKept}
 
 -- how many steps and transitions it has room for
 abbrev pub step_places : Steps → ℕ

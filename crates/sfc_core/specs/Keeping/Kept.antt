@@ -3,7 +3,7 @@ use Rattle.std.specs.Prelude.{ℕ, ◌≡◌, ◌<◌, Bool, not, cond, List, �
 use Rattle.sfc_chart.specs.declared.chart.Chart.{Chart}
 use Rattle.sfc_core.specs.Lookback.{is_empty}
 use Rattle.sfc_core.specs.Flags.{flag}
-use Rattle.sfc_core.specs.Instants.{number}
+use Rattle.sfc_core.specs.Keeping.Instants.{number}
 use Rattle.sfc_core.specs.Evolution.{Row, step_count, is_active, step_time, was_cleared, was_activated}
 
 -- of each step: whether it is active, when it was last activated, the time that it kept when it was left, and

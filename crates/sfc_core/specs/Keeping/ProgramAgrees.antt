@@ -4,8 +4,8 @@ use Rattle.sfc_chart.specs.declared.chart.Chart.{Chart}
 use Rattle.sfc_core.specs.declared.program.Program.{Program}
 use Rattle.sfc_core.specs.Evolution.{Row}
 use Rattle.sfc_core.specs.Releases.{capped}
-use Rattle.sfc_core.specs.StepsAgree.{IsFor, StepsAgree}
-use Rattle.sfc_core.specs.ActionsAgree.{ActionsAgree, variable_room}
+use Rattle.sfc_core.specs.Keeping.StepsAgree.{IsFor, StepsAgree}
+use Rattle.sfc_core.specs.Keeping.ActionsAgree.{ActionsAgree, variable_room}
 
 -- it has room for the chart and for so many variables
 pub record HasRoom (count : ℕ) (chart : Chart) (program : Program) : Type 0 where

@@ -1,17 +1,12 @@
 -- Playing a script on a resource.
-use Rattle.std.specs.Prelude.{ℕ, List, ◌++◌, Option, Result, Ok, Err}
+use Rattle.std.specs.Prelude.{ℕ, List, Option, Result, Ok, Err}
 use Rattle.std.specs.Io.KnownBytes.{Appends}
 use Rattle.sfc_text.specs.Writing.{AppendsFront}
-use Rattle.sfc_chart.specs.Chart.{PlantData}
 use Rattle.sfc_core.specs.declared.resource.Resource.{Resource}
 use Rattle.sfc_core.specs.History.{History, Entry}
 use Rattle.sfc_core.specs.Agreement.{Agrees, plant_of}
 use Rattle.sfc_core.specs.Verdict.{after_all}
-use Rattle.sfc_monitor.specs.Output.{commands_lines, image_lines}
-
--- the lines of the commands, and of the image after them
-abbrev pub lines_of_play : PlantData → History → List Entry → List ℕ
-lines_of_play plant h entries = commands_lines plant h entries ++ image_lines plant (after_all plant h entries) 0 plant.variables
+use Rattle.sfc_monitor.specs.Output.{commands_lines}
 
 -- all commands were played and their lines written; or a front of the lines before a fault
 abbrev pub IsPlayed : {X E : Type 0} → Option (List ℕ) → Option (List ℕ) → Resource → History → List Entry → Result X E → Type 0

@@ -1,0 +1,6 @@
+-- What private functions answer.
+pub mod Faults
+pub mod Splitting
+pub mod ScriptReading
+pub mod ListParts
+pub mod Playing
