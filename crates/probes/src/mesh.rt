@@ -1,0 +1,149 @@
+//! A mesh of five steps, each joined with each other one both ways, against a plain body over many scans.
+
+use crate::bench::Bench;
+use crate::plain::Plain;
+use sfc_chart::ids::{TaskId, VarId};
+use sfc_chart::value::Value;
+use sfc_core::Event;
+use std::alloc::{AllocError, Global};
+use std::process::Abort;
+use std::test::Fail;
+
+// Three initial steps of five, an action for each step, and an input for each transition.
+const MESH: &[u8] = b"\
+PROGRAM Mesh
+INITIAL_STEP S0: A0(N); END_STEP
+STEP S1: A1(N); END_STEP
+TRANSITION FROM S4 TO S1 := I0; END_TRANSITION
+TRANSITION FROM S3 TO S4 := I1; END_TRANSITION
+TRANSITION FROM S2 TO S4 := I2; END_TRANSITION
+TRANSITION FROM S4 TO S2 := I3; END_TRANSITION
+TRANSITION FROM S1 TO S4 := I4; END_TRANSITION
+TRANSITION FROM S1 TO S3 := I5; END_TRANSITION
+TRANSITION FROM S4 TO S3 := I6; END_TRANSITION
+INITIAL_STEP S2: A2(N); END_STEP
+INITIAL_STEP S3: A3(N); END_STEP
+TRANSITION FROM S0 TO S4 := I7; END_TRANSITION
+TRANSITION FROM S3 TO S2 := I8; END_TRANSITION
+TRANSITION FROM S0 TO S1 := I9; END_TRANSITION
+TRANSITION FROM S2 TO S1 := I10; END_TRANSITION
+TRANSITION FROM S1 TO S2 := I11; END_TRANSITION
+TRANSITION FROM S4 TO S0 := I12; END_TRANSITION
+TRANSITION FROM S2 TO S0 := I13; END_TRANSITION
+TRANSITION FROM S3 TO S1 := I14; END_TRANSITION
+STEP S4: A4(N); END_STEP
+TRANSITION FROM S0 TO S3 := I15; END_TRANSITION
+TRANSITION FROM S0 TO S2 := I16; END_TRANSITION
+TRANSITION FROM S3 TO S0 := I17; END_TRANSITION
+TRANSITION FROM S1 TO S0 := I18; END_TRANSITION
+TRANSITION FROM S2 TO S3 := I19; END_TRANSITION
+END_PROGRAM
+CONFIGURATION C RESOURCE R ON Plc VAR_GLOBAL
+A0, A1, A2, A3, A4 : BOOL;
+I0 AT %IX0.0 : BOOL; I1 AT %IX0.1 : BOOL; I2 AT %IX0.2 : BOOL; I3 AT %IX0.3 : BOOL; I4 AT %IX0.4 : BOOL;
+I5 AT %IX0.5 : BOOL; I6 AT %IX0.6 : BOOL; I7 AT %IX0.7 : BOOL; I8 AT %IX0.8 : BOOL; I9 AT %IX0.9 : BOOL;
+I10 AT %IX0.10 : BOOL; I11 AT %IX0.11 : BOOL; I12 AT %IX0.12 : BOOL; I13 AT %IX0.13 : BOOL; I14 AT %IX0.14 : BOOL;
+I15 AT %IX0.15 : BOOL; I16 AT %IX0.16 : BOOL; I17 AT %IX0.17 : BOOL; I18 AT %IX0.18 : BOOL; I19 AT %IX0.19 : BOOL;
+END_VAR TASK Main(INTERVAL := T#10ms, PRIORITY := 1);
+PROGRAM P WITH Main : Mesh; END_RESOURCE END_CONFIGURATION
+";
+
+// The transitions in the order of the text.
+const TRANSITIONS: [(usize, usize); 20] = [
+    (4, 1),
+    (3, 4),
+    (2, 4),
+    (4, 2),
+    (1, 4),
+    (1, 3),
+    (4, 3),
+    (0, 4),
+    (3, 2),
+    (0, 1),
+    (2, 1),
+    (1, 2),
+    (4, 0),
+    (2, 0),
+    (3, 1),
+    (0, 3),
+    (0, 2),
+    (3, 0),
+    (1, 0),
+    (2, 3),
+];
+
+// The initial steps.
+const INITIAL: [usize; 3] = [0, 2, 3];
+
+// How many scans a run has.
+const SCANS: i64 = 200;
+
+// A small source of numbers.
+#[derive(Drop)]
+struct Dice {
+    seed: u32,
+}
+
+impl Dice {
+    // True about once in four times.
+    fn throw(&mut self) -> bool {
+        let next = self.seed.wrapping_mul(1_664_525);
+        self.seed = next.wrapping_add(1_013_904_223);
+        self.seed >> 30 == 0
+    }
+
+    // One throw for each transition.
+    fn throws(&mut self, alloc: Global) -> Result<Vec<bool>, AllocError> {
+        let mut holds = Vec::new(alloc);
+        for _ in 0..TRANSITIONS.len() {
+            holds.push(self.throw())?;
+        }
+        Ok(holds)
+    }
+}
+
+// Gives the inputs these values, and scans.
+fn scan(rt: &impl Abort, bench: &mut Bench, holds: &[bool], t: i64) {
+    let mut id: u16 = 5;
+    for value in holds {
+        let event = Event::Input(VarId(id), Value::Bool(*value));
+        assert!(rt; bench.apply(event, t).is_ok(), "of {id} at {t}");
+        id = id.wrapping_add(1);
+    }
+    assert!(rt; bench.apply(Event::Scan(TaskId(0)), t).is_ok(), "at {t}");
+}
+
+// A run of a new bench and of a new plain body from a seed, compared after each scan: up to two milliseconds behind
+// each release. It tells how many transitions were cleared.
+fn check_run(rt: &impl Abort, alloc: Global, seed: u32) -> Result<usize, Fail> {
+    let mut bench = Bench::open(alloc, MESH)?;
+    let mut plain = Plain::new(alloc, &TRANSITIONS, &INITIAL);
+    let mut dice = Dice { seed };
+    let mut count: usize = 0;
+    assert_eq!(rt; bench.shown(alloc)?.as_str(), plain.shown(alloc)?.as_str());
+    for number in 0..SCANS {
+        let t = number * 10_000 + number % 3 * 1_000;
+        let holds = dice.throws(alloc)?;
+        scan(rt, &mut bench, &holds, t);
+        count = count.wrapping_add(plain.scan(alloc, &holds, t)?);
+        assert_eq!(rt;
+            bench.shown(alloc)?.as_str(),
+            plain.shown(alloc)?.as_str(),
+            "at {t}"
+        );
+    }
+    assert_eq!(rt; bench.overruns(), Some(0));
+    Ok(count)
+}
+
+#[test]
+fn the_mesh_does_what_the_rows_say(rt: HostRuntime) -> Result<(), Fail> {
+    for seed in 1..=3 {
+        let count = check_run(&rt, rt.alloc(), seed)?;
+        assert!(rt;
+            count >= 100,
+            "{count} transitions were cleared from {seed}"
+        );
+    }
+    Ok(())
+}

@@ -1,0 +1,72 @@
+//! Values, expressions, tables and lists on their own.
+
+use sfc_chart::expr::Expr;
+use sfc_chart::ids::VarId;
+use sfc_chart::name_table::NameTable;
+use sfc_chart::value::{Value, default_value};
+use sfc_text::case::is_same_word;
+use sfc_text::items::Items;
+use sfc_text::var_type::VarType;
+use std::test::Fail;
+
+#[test]
+fn an_expression_has_a_value(rt: HostRuntime) {
+    let values = [Value::Bool(true), Value::Dint(-7), Value::Time(1_500)];
+    assert_eq!(rt; Expr::Variable(VarId(0)).eval(&values), Value::Bool(true));
+    assert_eq!(rt; Expr::Variable(VarId(1)).eval(&values), Value::Dint(-7));
+    assert_eq!(rt; Expr::Variable(VarId(2)).eval(&values), Value::Time(1_500));
+    assert_eq!(rt; Expr::Literal(Value::Int(3)).eval(&[]), Value::Int(3));
+}
+
+#[test]
+fn a_value_has_a_type_and_each_type_a_first_value(rt: HostRuntime) {
+    let table = [
+        (VarType::Bool, Value::Bool(false), Value::Bool(true)),
+        (VarType::Int, Value::Int(0), Value::Int(1)),
+        (VarType::Dint, Value::Dint(0), Value::Dint(1)),
+        (VarType::Time, Value::Time(0), Value::Time(1)),
+    ];
+    for (var_type, first, other) in table {
+        assert_eq!(rt; default_value(var_type), first);
+        assert_eq!(rt; first.var_type(), var_type);
+        assert_eq!(rt; other.var_type(), var_type);
+        assert!(rt; !first.is_true(), "of {var_type:?}");
+        assert_eq!(rt; other.is_true(), var_type == VarType::Bool);
+    }
+}
+
+#[test]
+fn a_table_has_each_name_once(rt: HostRuntime) -> Result<(), Fail> {
+    let mut table = NameTable::new(rt.alloc());
+    assert_eq!(rt; (table.len(), table.find(b"B")), (0, None));
+    assert!(rt; table.add(b"B".to_vec(rt.alloc())?)?);
+    assert!(rt; table.add(b"A".to_vec(rt.alloc())?)?);
+    assert!(rt; !table.add(b"B".to_vec(rt.alloc())?)?);
+    assert_eq!(rt; (table.len(), table.find(b"B")), (2, Some(0)));
+    assert_eq!(rt; (table.find(b"A"), table.find(b"")), (Some(1), None));
+    Ok(())
+}
+
+#[test]
+fn words_are_the_same_in_any_case(rt: HostRuntime) {
+    assert!(rt; is_same_word(b"Start_Up2", b"sTART_uP2"));
+    assert!(rt; is_same_word(b"", b""));
+    assert!(rt; !is_same_word(b"Start_Up2", b"Start_Up3"));
+    assert!(rt; !is_same_word(b"Start", b"Start_Up"));
+    assert!(rt; !is_same_word(b"Start_Up", b"Start"));
+    assert!(rt; !is_same_word(b"[", b"{"));
+}
+
+#[test]
+fn items_are_a_list(rt: HostRuntime) -> Result<(), Fail> {
+    let one = Items::one(rt.alloc(), 7)?;
+    assert_eq!(rt; one.as_slice(), [7].as_slice());
+    assert!(rt; one.len() == 1 && !one.is_empty());
+    let mut elements = one.into_vec();
+    elements.push(8)?;
+    let two = Items::from_vec(elements);
+    assert_eq!(rt; two.as_slice(), [7, 8].as_slice());
+    let none: Items<i32> = Items::from_vec(Vec::new(rt.alloc()));
+    assert!(rt; none.len() == 0 && none.is_empty());
+    Ok(())
+}
