@@ -1,7 +1,7 @@
 //! The core's own calls: what is shown beside the output of a replay, and commands that no script gives.
 
 use crate::bench::Bench;
-use crate::texts::GO_ALONG;
+use crate::texts::{GO_ALONG, ONE_STEP};
 use sfc_chart::ids::{TaskId, VarId};
 use sfc_chart::value::Value;
 use sfc_core::{Event, Outcome, Refusal};
@@ -47,6 +47,20 @@ fn nothing_is_active_before_the_first_scan(rt: HostRuntime) -> Result<(), Fail> 
     );
     assert_eq!(rt; bench.overruns(), Some(0));
     assert_eq!(rt; bench.plant().resource().spelling(), b"R".as_slice());
+    Ok(())
+}
+
+#[test]
+fn a_lamp_is_lit_from_the_first_scan_on(rt: HostRuntime) -> Result<(), Fail> {
+    let mut bench = Bench::open(rt.alloc(), ONE_STEP)?;
+    let wanted = [
+        "1 active [0] activated [0] elapsed [0] cleared [] q [0] executed [0] true [0]",
+        "2 active [0] activated [] elapsed [10000] cleared [] q [0] executed [0] true [0]",
+        "3 active [0] activated [] elapsed [20000] cleared [] q [0] executed [0] true [0]",
+    ];
+    for (t, wanted) in [0, 10_000, 20_000].into_iter().zip(wanted) {
+        check_scan(&rt, rt.alloc(), &mut bench, t, wanted)?;
+    }
     Ok(())
 }
 

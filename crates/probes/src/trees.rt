@@ -7,7 +7,7 @@ use sfc_text::name::Name;
 use sfc_text::read::read;
 use sfc_text::scan::tokens;
 use sfc_text::token::TokenKind;
-use sfc_text::tree::{Element, Program, Source, Transition};
+use sfc_text::tree::{Configuration, Declaration, Element, Instance, Program, Source, Transition};
 use sfc_text::var_type::VarType;
 use std::alloc::{AllocError, Global};
 use std::test::Fail;
@@ -34,12 +34,17 @@ fn chart(
     Ok(read(alloc, text.as_bytes())?)
 }
 
-// A list of a configuration.
-#[derive(Clone, Copy, PartialEq, Eq)]
-enum List {
-    Tasks,
-    ProgramTypes,
-    Instances,
+// Why these trees are refused.
+fn parts_refusal(
+    alloc: Global,
+    programs: Items<Program>,
+    configuration: Configuration,
+) -> Option<LoadError> {
+    let source = Source {
+        programs,
+        configuration,
+    };
+    refusal_of(alloc, &source)
 }
 
 // The elements of the first list, and behind them those of the second one.
@@ -50,87 +55,123 @@ fn chained<T: Drop>(first: Items<T>, second: Items<T>) -> Result<Items<T>, Alloc
     Ok(Items::from_vec(elements))
 }
 
-// The trees, with one list made longer by that of another chart.
-fn with_more(source: Source, list: List, other: Source) -> Result<Source, AllocError> {
-    let Source {
-        mut programs,
-        mut configuration,
-    } = source;
-    match list {
-        List::Tasks => {
-            configuration.tasks = chained(configuration.tasks, other.configuration.tasks)?;
-        }
-        List::ProgramTypes => programs = chained(programs, other.programs)?,
-        List::Instances => {
-            configuration.instances = chained(
-                configuration.instances,
-                other.configuration.instances,
-            )?;
-        }
-    }
-    Ok(Source {
-        programs,
-        configuration,
-    })
-}
-
 // A body without a fault.
 const STEP: &str = "INITIAL_STEP S: END_STEP";
 
-// Why a chart with so many tasks or instances is refused.
-fn of_many(alloc: Global, list: List, count: usize) -> Result<Option<LoadError>, Fail> {
-    let mut source = chart(alloc, "", STEP, (0, 0))?;
+// The configuration of a chart with these numbers.
+fn configuration(alloc: Global, task: usize, instance: usize) -> Result<Configuration, Fail> {
+    Ok(chart(alloc, "", STEP, (task, instance))?.configuration)
+}
+
+// Why a chart with so many tasks is refused.
+fn of_tasks(alloc: Global, count: usize) -> Result<Option<LoadError>, Fail> {
+    let Source {
+        programs,
+        configuration: mut whole,
+    } = chart(alloc, "", STEP, (0, 0))?;
     for number in 1..count {
-        let numbers = if list == List::Tasks {
-            (number, 0)
-        } else {
-            (0, number)
-        };
-        let other = chart(alloc, "", STEP, numbers)?;
-        source = with_more(source, list, other)?;
+        let other = configuration(alloc, number, 0)?;
+        whole.tasks = chained(whole.tasks, other.tasks)?;
     }
-    Ok(refusal_of(alloc, &source))
+    Ok(parts_refusal(alloc, programs, whole))
+}
+
+// Why a chart with so many instances is refused.
+fn of_instances(alloc: Global, count: usize) -> Result<Option<LoadError>, Fail> {
+    let Source {
+        programs,
+        configuration: mut whole,
+    } = chart(alloc, "", STEP, (0, 0))?;
+    for number in 1..count {
+        let other = configuration(alloc, 0, number)?;
+        whole.instances = chained(whole.instances, other.instances)?;
+    }
+    Ok(parts_refusal(alloc, programs, whole))
 }
 
 #[test]
-fn a_plant_has_at_most_16_tasks_and_64_instances(rt: HostRuntime) -> Result<(), Fail> {
-    let table = [
-        (List::Tasks, 16, None),
-        (List::Tasks, 17, Some(LoadError::Limit(Limit::Tasks))),
-        (List::Instances, 64, None),
-        (
-            List::Instances,
-            65,
-            Some(LoadError::Limit(Limit::Instances)),
-        ),
-    ];
-    for (list, count, wanted) in table {
-        assert_eq!(rt; of_many(rt.alloc(), list, count)?, wanted, "of {count}");
-    }
+fn a_plant_has_at_most_16_tasks(rt: HostRuntime) -> Result<(), Fail> {
+    let limit = Some(LoadError::Limit(Limit::Tasks));
+    assert_eq!(rt; of_tasks(rt.alloc(), 16)?, None);
+    assert_eq!(rt; of_tasks(rt.alloc(), 17)?, limit);
     Ok(())
 }
 
 #[test]
-fn two_of_a_list_have_two_names(rt: HostRuntime) -> Result<(), Fail> {
-    for list in [List::Tasks, List::ProgramTypes, List::Instances] {
-        let first = chart(rt.alloc(), "", STEP, (0, 0))?;
-        let second = chart(rt.alloc(), "", STEP, (0, 0))?;
-        let source = with_more(first, list, second)?;
-        assert_eq!(rt; refusal_of(rt.alloc(), &source), Some(LoadError::Duplicate));
-    }
+fn a_plant_has_at_most_64_instances(rt: HostRuntime) -> Result<(), Fail> {
+    let limit = Some(LoadError::Limit(Limit::Instances));
+    assert_eq!(rt; of_instances(rt.alloc(), 64)?, None);
+    assert_eq!(rt; of_instances(rt.alloc(), 65)?, limit);
     Ok(())
+}
+
+#[test]
+fn two_tasks_have_two_names(rt: HostRuntime) -> Result<(), Fail> {
+    let Source {
+        programs,
+        configuration: mut whole,
+    } = chart(rt.alloc(), "", STEP, (0, 0))?;
+    let other = configuration(rt.alloc(), 0, 0)?;
+    whole.tasks = chained(whole.tasks, other.tasks)?;
+    let found = parts_refusal(rt.alloc(), programs, whole);
+    assert_eq!(rt; found, Some(LoadError::Duplicate));
+    Ok(())
+}
+
+#[test]
+fn two_program_types_have_two_names(rt: HostRuntime) -> Result<(), Fail> {
+    let Source {
+        programs,
+        configuration,
+    } = chart(rt.alloc(), "", STEP, (0, 0))?;
+    let other = chart(rt.alloc(), "", STEP, (0, 0))?.programs;
+    let programs = chained(programs, other)?;
+    let found = parts_refusal(rt.alloc(), programs, configuration);
+    assert_eq!(rt; found, Some(LoadError::Duplicate));
+    Ok(())
+}
+
+#[test]
+fn two_instances_have_two_names(rt: HostRuntime) -> Result<(), Fail> {
+    let Source {
+        programs,
+        configuration: mut whole,
+    } = chart(rt.alloc(), "", STEP, (0, 0))?;
+    let other = configuration(rt.alloc(), 0, 0)?;
+    whole.instances = chained(whole.instances, other.instances)?;
+    let found = parts_refusal(rt.alloc(), programs, whole);
+    assert_eq!(rt; found, Some(LoadError::Duplicate));
+    Ok(())
+}
+
+// The instances, none of which has a task.
+fn without_tasks(instances: Items<Instance>) -> Items<Instance> {
+    let mut instances = instances.into_vec();
+    for instance in instances.iter_mut() {
+        instance.task = None;
+    }
+    Items::from_vec(instances)
 }
 
 #[test]
 fn an_instance_needs_a_task(rt: HostRuntime) -> Result<(), Fail> {
-    let mut source = chart(rt.alloc(), "", STEP, (0, 0))?;
-    let mut instances = source.configuration.instances.into_vec();
-    for instance in instances.iter_mut() {
-        instance.task = None;
-    }
-    source.configuration.instances = Items::from_vec(instances);
-    assert_eq!(rt; refusal_of(rt.alloc(), &source), Some(LoadError::NoTask));
+    let Source {
+        programs,
+        mut configuration,
+    } = chart(rt.alloc(), "", STEP, (0, 0))?;
+    configuration.instances = without_tasks(configuration.instances);
+    let found = parts_refusal(rt.alloc(), programs, configuration);
+    assert_eq!(rt; found, Some(LoadError::NoTask));
     Ok(())
+}
+
+// The declarations, each of which has this type.
+fn with_type(declarations: Items<Declaration>, var_type: VarType) -> Items<Declaration> {
+    let mut declarations = declarations.into_vec();
+    for declaration in declarations.iter_mut() {
+        declaration.var_type = var_type;
+    }
+    Items::from_vec(declarations)
 }
 
 // Why the chart is refused once all its variables have this type.
@@ -140,13 +181,12 @@ fn typed_refusal(
     body: &str,
     var_type: VarType,
 ) -> Result<Option<LoadError>, Fail> {
-    let mut source = chart(alloc, globals, body, (0, 0))?;
-    let mut declarations = source.configuration.globals.into_vec();
-    for declaration in declarations.iter_mut() {
-        declaration.var_type = var_type;
-    }
-    source.configuration.globals = Items::from_vec(declarations);
-    Ok(refusal_of(alloc, &source))
+    let Source {
+        programs,
+        mut configuration,
+    } = chart(alloc, globals, body, (0, 0))?;
+    configuration.globals = with_type(configuration.globals, var_type);
+    Ok(parts_refusal(alloc, programs, configuration))
 }
 
 #[test]
@@ -194,21 +234,69 @@ fn names(alloc: Global, text: &str) -> Result<Items<Name>, Fail> {
     Ok(Items::from_vec(names))
 }
 
-// The element, and where it is a transition with steps of these names on its sides, of which none may be empty.
-fn with_sides(alloc: Global, element: Element, from: &str, to: &str) -> Result<Element, Fail> {
+// The transition with the steps of these names on its sides; as it was where a side has none.
+fn with_sides(
+    alloc: Global,
+    transition: Transition,
+    from: &str,
+    to: &str,
+) -> Result<Transition, Fail> {
     let preceding = names(alloc, from)?;
     let following = names(alloc, to)?;
-    match element {
-        Element::Transition(Transition { condition, .. })
-            if !preceding.is_empty() && !following.is_empty() => {
-            Ok(Element::Transition(Transition {
-                preceding,
-                following,
-                condition,
-            }))
-        }
-        other => Ok(other),
+    if preceding.is_empty() || following.is_empty() {
+        return Ok(transition);
     }
+    Ok(Transition {
+        preceding,
+        following,
+        condition: transition.condition,
+    })
+}
+
+// The element, and with these sides where it is a transition.
+fn element_with_sides(
+    alloc: Global,
+    element: Element,
+    from: &str,
+    to: &str,
+) -> Result<Element, Fail> {
+    match element {
+        Element::Step(step) => Ok(Element::Step(step)),
+        Element::Transition(transition) => {
+            let changed = with_sides(alloc, transition, from, to)?;
+            Ok(Element::Transition(changed))
+        }
+    }
+}
+
+// The elements, with these sides of the last one.
+fn elements_with_sides(
+    alloc: Global,
+    elements: Items<Element>,
+    from: &str,
+    to: &str,
+) -> Result<Items<Element>, Fail> {
+    let mut elements = elements.into_vec();
+    if let Some(last) = elements.pop() {
+        let changed = element_with_sides(alloc, last, from, to)?;
+        elements.push(changed)?;
+    }
+    Ok(Items::from_vec(elements))
+}
+
+// The programs, with these sides of the last one's transition.
+fn programs_with_sides(
+    alloc: Global,
+    programs: Items<Program>,
+    from: &str,
+    to: &str,
+) -> Result<Items<Program>, Fail> {
+    let mut programs = programs.into_vec();
+    if let Some(mut program) = programs.pop() {
+        program.elements = elements_with_sides(alloc, program.elements, from, to)?;
+        programs.push(program)?;
+    }
+    Ok(Items::from_vec(programs))
 }
 
 // Steps S and T, and a transition.
@@ -221,18 +309,8 @@ fn sides_refusal(alloc: Global, from: &str, to: &str) -> Result<Option<LoadError
         programs,
         configuration,
     } = chart(alloc, "", TWO_STEPS, (0, 0))?;
-    let mut programs = programs.into_vec();
-    let Program { name, elements } = programs.pop().ok_or("no program type")?;
-    let mut elements = elements.into_vec();
-    let last = elements.pop().ok_or("no transition")?;
-    elements.push(with_sides(alloc, last, from, to)?)?;
-    let elements = Items::from_vec(elements);
-    programs.push(Program { name, elements })?;
-    let source = Source {
-        programs: Items::from_vec(programs),
-        configuration,
-    };
-    Ok(refusal_of(alloc, &source))
+    let programs = programs_with_sides(alloc, programs, from, to)?;
+    Ok(parts_refusal(alloc, programs, configuration))
 }
 
 #[test]
