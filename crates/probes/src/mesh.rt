@@ -4,7 +4,7 @@ use crate::bench::Bench;
 use crate::plain::Plain;
 use sfc_chart::ids::{TaskId, VarId};
 use sfc_chart::value::Value;
-use sfc_core::Event;
+use sfc_core::{Event, Outcome};
 use std::alloc::{AllocError, Global};
 use std::process::Abort;
 use std::test::Fail;
@@ -102,37 +102,64 @@ impl Dice {
     }
 }
 
-// Gives the inputs these values, and scans.
-fn scan(rt: &impl Abort, bench: &mut Bench, holds: &[bool], t: i64) {
+// Gives the inputs these values.
+fn set_inputs(rt: &impl Abort, bench: &mut Bench, holds: &[bool], t: i64) {
     let mut id: u16 = 5;
     for value in holds {
         let event = Event::Input(VarId(id), Value::Bool(*value));
-        assert!(rt; bench.apply(event, t).is_ok(), "of {id} at {t}");
+        let answer = bench.apply(event, t);
+        assert_eq!(rt; answer, Ok(Outcome::Done), "of {id} at {t}");
         id = id.wrapping_add(1);
     }
-    assert!(rt; bench.apply(Event::Scan(TaskId(0)), t).is_ok(), "at {t}");
 }
 
-// A run of a new bench and of a new plain body from a seed, compared after each scan: up to two milliseconds behind
-// each release. It tells how many transitions were cleared.
+// Scans the bench at this instant, on time.
+fn scan(rt: &impl Abort, bench: &mut Bench, t: i64) {
+    let wanted = Outcome::Scanned {
+        ran: 1,
+        faulted: 0,
+        skipped: 0,
+        overruns: 0,
+    };
+    let answer = bench.apply(Event::Scan(TaskId(0)), t);
+    assert_eq!(rt; answer, Ok(wanted), "at {t}");
+}
+
+// A bench of the mesh.
+fn mesh(alloc: Global) -> Result<Bench, Fail> {
+    Bench::open(alloc, MESH)
+}
+
+// The instant of a scan: up to two milliseconds behind its release.
+fn instant(number: i64) -> i64 {
+    let release = number.wrapping_mul(10_000);
+    release.wrapping_add(number.wrapping_rem(3).wrapping_mul(1_000))
+}
+
+// Asks that the bench shows what the plain body shows.
+fn check(rt: &impl Abort, alloc: Global, bench: &Bench, plain: &Plain<'_>) -> Result<(), Fail> {
+    let found = bench.shown(alloc)?;
+    let wanted = plain.shown(alloc)?;
+    assert_eq!(rt; found.as_str(), wanted.as_str());
+    Ok(())
+}
+
+// A run of a new bench and of a new plain body from a seed, compared after each scan. It tells how many transitions
+// were cleared.
 fn check_run(rt: &impl Abort, alloc: Global, seed: u32) -> Result<usize, Fail> {
-    let mut bench = Bench::open(alloc, MESH)?;
+    let mut bench = mesh(alloc)?;
     let mut plain = Plain::new(alloc, &TRANSITIONS, &INITIAL);
     let mut dice = Dice { seed };
     let mut count: usize = 0;
-    assert_eq!(rt; bench.shown(alloc)?.as_str(), plain.shown(alloc)?.as_str());
+    check(rt, alloc, &bench, &plain)?;
     for number in 0..SCANS {
-        let t = number * 10_000 + number % 3 * 1_000;
         let holds = dice.throws(alloc)?;
-        scan(rt, &mut bench, &holds, t);
-        count = count.wrapping_add(plain.scan(alloc, &holds, t)?);
-        assert_eq!(rt;
-            bench.shown(alloc)?.as_str(),
-            plain.shown(alloc)?.as_str(),
-            "at {t}"
-        );
+        set_inputs(rt, &mut bench, &holds, instant(number));
+        scan(rt, &mut bench, instant(number));
+        let cleared = plain.scan(alloc, &holds, instant(number))?;
+        count = count.wrapping_add(cleared);
+        check(rt, alloc, &bench, &plain)?;
     }
-    assert_eq!(rt; bench.overruns(), Some(0));
     Ok(count)
 }
 

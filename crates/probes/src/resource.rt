@@ -9,14 +9,16 @@ use std::alloc::Global;
 use std::process::Abort;
 use std::test::Fail;
 
-// A scan of a task.
-fn scan_of(task: u8) -> Event {
-    Event::Scan(TaskId(task))
+// A bench of the chart that goes along.
+fn going(alloc: Global) -> Result<Bench, Fail> {
+    Bench::open(alloc, GO_ALONG)
 }
 
-// A value for a variable.
-fn input_of(id: u16, value: Value) -> Event {
-    Event::Input(VarId(id), value)
+// Asks that the bench shows this.
+fn check(rt: &impl Abort, alloc: Global, bench: &Bench, wanted: &str) -> Result<(), Fail> {
+    let found = bench.shown(alloc)?;
+    assert_eq!(rt; found.as_str(), wanted);
+    Ok(())
 }
 
 // Asks for a scan at this instant without an overrun, and for what it shows.
@@ -33,18 +35,23 @@ fn check_scan(
         skipped: 0,
         overruns: 0,
     };
-    assert_eq!(rt; bench.apply(scan_of(0), t), Ok(scanned), "at {t}");
-    assert_eq!(rt; bench.shown(alloc)?.as_str(), wanted, "at {t}");
-    Ok(())
+    assert_eq!(rt;
+        bench.apply(Event::Scan(TaskId(0)), t),
+        Ok(scanned),
+        "at {t}"
+    );
+    check(rt, alloc, bench, wanted)
 }
 
 #[test]
 fn nothing_is_active_before_the_first_scan(rt: HostRuntime) -> Result<(), Fail> {
-    let bench = Bench::open(rt.alloc(), GO_ALONG)?;
-    assert_eq!(rt;
-        bench.shown(rt.alloc())?.as_str(),
-        "0 active [] activated [] elapsed [0, 0] cleared [] q [] executed [] true []"
-    );
+    let bench = going(rt.alloc())?;
+    check(
+        &rt,
+        rt.alloc(),
+        &bench,
+        "0 active [] activated [] elapsed [0, 0] cleared [] q [] executed [] true []",
+    )?;
     assert_eq!(rt; bench.overruns(), Some(0));
     assert_eq!(rt; bench.plant().resource().spelling(), b"R".as_slice());
     Ok(())
@@ -70,7 +77,7 @@ const ABOUT_TO_GO: &str =
 
 // The chart that goes along, after two scans and the input.
 fn about_to_go(rt: &impl Abort, alloc: Global) -> Result<Bench, Fail> {
-    let mut bench = Bench::open(alloc, GO_ALONG)?;
+    let mut bench = going(alloc)?;
     check_scan(
         rt,
         alloc,
@@ -85,9 +92,9 @@ fn about_to_go(rt: &impl Abort, alloc: Global) -> Result<Bench, Fail> {
         10_000,
         "2 active [0] activated [] elapsed [10000, 0] cleared [] q [1] executed [1] true [1]",
     )?;
-    let answer = bench.apply(input_of(0, Value::Bool(true)), 15_000);
+    let answer = bench.apply(Event::Input(VarId(0), Value::Bool(true)), 15_000);
     assert_eq!(rt; answer, Ok(Outcome::Done));
-    assert_eq!(rt; bench.shown(alloc)?.as_str(), ABOUT_TO_GO);
+    check(rt, alloc, &bench, ABOUT_TO_GO)?;
     Ok(bench)
 }
 
@@ -149,67 +156,118 @@ PROGRAM P WITH Main : Mix; END_RESOURCE END_CONFIGURATION";
     Ok(())
 }
 
+// Events that the chart that goes along refuses then, each with its instant.
+const REFUSED: [(Event, i64, Refusal); 17] = [
+    (Event::Scan(TaskId(0)), -1, Refusal::InstantRange),
+    (Event::Scan(TaskId(0)), i64::MIN, Refusal::InstantRange),
+    (
+        Event::Scan(TaskId(9)),
+        4_611_686_018_427_387_905,
+        Refusal::InstantRange,
+    ),
+    (
+        Event::Input(VarId(9), Value::Int(1)),
+        i64::MAX,
+        Refusal::InstantRange,
+    ),
+    (Event::Scan(TaskId(0)), 14_999, Refusal::ClockBack),
+    (Event::Scan(TaskId(9)), 0, Refusal::ClockBack),
+    (
+        Event::Input(VarId(9), Value::Int(1)),
+        14_999,
+        Refusal::ClockBack,
+    ),
+    (Event::Scan(TaskId(1)), 20_000, Refusal::UnknownTask),
+    (Event::Scan(TaskId(255)), 15_000, Refusal::UnknownTask),
+    (
+        Event::Input(VarId(2), Value::Bool(true)),
+        20_000,
+        Refusal::UnknownVar,
+    ),
+    (
+        Event::Input(VarId(65_535), Value::Int(1)),
+        15_000,
+        Refusal::UnknownVar,
+    ),
+    (
+        Event::Input(VarId(0), Value::Int(0)),
+        20_000,
+        Refusal::ValueType,
+    ),
+    (
+        Event::Input(VarId(0), Value::Dint(1)),
+        20_000,
+        Refusal::ValueType,
+    ),
+    (
+        Event::Input(VarId(1), Value::Time(0)),
+        20_000,
+        Refusal::ValueType,
+    ),
+    (
+        Event::Input(VarId(1), Value::Bool(false)),
+        20_000,
+        Refusal::NotInput,
+    ),
+    (
+        Event::Scan(TaskId(0)),
+        15_000,
+        Refusal::NotDue(Some(20_000)),
+    ),
+    (
+        Event::Scan(TaskId(0)),
+        19_999,
+        Refusal::NotDue(Some(20_000)),
+    ),
+];
+
+// Asks for this refusal, after which the bench shows what it showed before.
+fn check_refused(
+    rt: &impl Abort,
+    alloc: Global,
+    bench: &mut Bench,
+    refused: &(Event, i64, Refusal),
+) -> Result<(), Fail> {
+    let (event, t, refusal) = *refused;
+    let answer = bench.apply(event, t);
+    assert_eq!(rt; answer, Err(refusal), "of {event:?} at {t}");
+    assert_eq!(rt; bench.overruns(), Some(0));
+    check(rt, alloc, bench, ABOUT_TO_GO)
+}
+
 #[test]
 fn a_refused_event_leaves_all_as_it_was(rt: HostRuntime) -> Result<(), Fail> {
     let mut bench = about_to_go(&rt, rt.alloc())?;
-    let table = [
-        (scan_of(0), -1, Refusal::InstantRange),
-        (scan_of(0), i64::MIN, Refusal::InstantRange),
-        (scan_of(9), 4_611_686_018_427_387_905, Refusal::InstantRange),
-        (input_of(9, Value::Int(1)), i64::MAX, Refusal::InstantRange),
-        (scan_of(0), 14_999, Refusal::ClockBack),
-        (scan_of(9), 0, Refusal::ClockBack),
-        (input_of(9, Value::Int(1)), 14_999, Refusal::ClockBack),
-        (scan_of(1), 20_000, Refusal::UnknownTask),
-        (scan_of(255), 15_000, Refusal::UnknownTask),
-        (input_of(2, Value::Bool(true)), 20_000, Refusal::UnknownVar),
-        (input_of(65_535, Value::Int(1)), 15_000, Refusal::UnknownVar),
-        (input_of(0, Value::Int(0)), 20_000, Refusal::ValueType),
-        (input_of(0, Value::Dint(1)), 20_000, Refusal::ValueType),
-        (input_of(1, Value::Time(0)), 20_000, Refusal::ValueType),
-        (input_of(1, Value::Bool(false)), 20_000, Refusal::NotInput),
-        (scan_of(0), 15_000, Refusal::NotDue(Some(20_000))),
-        (scan_of(0), 19_999, Refusal::NotDue(Some(20_000))),
-    ];
-    for (event, t, refusal) in table {
-        assert_eq!(rt; bench.apply(event, t), Err(refusal), "of {event:?} at {t}");
-        assert_eq!(rt;
-            bench.shown(rt.alloc())?.as_str(),
-            ABOUT_TO_GO,
-            "of {event:?}"
-        );
-        assert_eq!(rt; bench.overruns(), Some(0), "of {event:?}");
+    for refused in &REFUSED {
+        check_refused(&rt, rt.alloc(), &mut bench, refused)?;
     }
     Ok(())
 }
 
+// Events of which four are accepted.
+const EVENTS: [(Event, i64); 8] = [
+    (Event::Scan(TaskId(0)), 0),
+    (Event::Scan(TaskId(1)), 5_000),
+    (Event::Scan(TaskId(0)), 10_000),
+    (Event::Input(VarId(0), Value::Bool(true)), 15_000),
+    (Event::Input(VarId(1), Value::Bool(true)), 15_000),
+    (Event::Scan(TaskId(0)), 14_000),
+    (Event::Scan(TaskId(0)), 20_000),
+    (Event::Scan(TaskId(0)), 20_000),
+];
+
 #[test]
 fn a_list_of_events_goes_on_after_refusals(rt: HostRuntime) -> Result<(), Fail> {
-    let mut bench = Bench::open(rt.alloc(), GO_ALONG)?;
-    let events = [
-        (scan_of(0), 0),
-        (scan_of(1), 5_000),
-        (scan_of(0), 10_000),
-        (input_of(0, Value::Bool(true)), 15_000),
-        (input_of(1, Value::Bool(true)), 15_000),
-        (scan_of(0), 14_000),
-        (scan_of(0), 20_000),
-        (scan_of(0), 20_000),
-    ];
-    assert_eq!(rt; bench.run(&events), 4);
-    assert_eq!(rt;
-        bench.shown(rt.alloc())?.as_str(),
-        "3 active [1] activated [1] elapsed [20000, 0] cleared [0] q [] executed [1] true [0]"
-    );
-    assert_eq!(rt;
-        bench.apply(scan_of(0), 55_000),
-        Ok(Outcome::Scanned {
-            ran: 1,
-            faulted: 0,
-            skipped: 0,
-            overruns: 2,
-        })
-    );
+    let mut bench = going(rt.alloc())?;
+    assert_eq!(rt; bench.run(&EVENTS), 4);
+    check(
+        &rt,
+        rt.alloc(),
+        &bench,
+        "3 active [1] activated [1] elapsed [20000, 0] cleared [0] q [] executed [1] true [0]",
+    )?;
+    let late = bench.apply(Event::Scan(TaskId(0)), 55_000);
+    assert!(rt; late.is_ok());
     assert_eq!(rt; bench.overruns(), Some(2));
     Ok(())
 }

@@ -32,12 +32,8 @@ fn a_value_has_one_text(rt: HostRuntime) -> Result<(), Fail> {
         ),
     ];
     for (micros, text) in texts {
-        assert_eq!(rt;
-            text_of(rt.alloc(), micros)?.as_slice(),
-            text,
-            "of {micros}"
-        );
-        assert_eq!(rt; duration(text), Some(micros), "of {text:?}");
+        assert!(rt; text_of(rt.alloc(), micros)?.as_slice() == text);
+        assert!(rt; duration(text) == Some(micros));
     }
     Ok(())
 }
@@ -54,20 +50,16 @@ fn a_value_that_no_duration_gives_has_a_text(rt: HostRuntime) -> Result<(), Fail
         (i64::MIN, b"T#-106751991d_4h_54s_775.808ms"),
     ];
     for (micros, text) in texts {
-        assert_eq!(rt;
-            text_of(rt.alloc(), micros)?.as_slice(),
-            text,
-            "of {micros}"
-        );
-        assert_eq!(rt; duration(text), None, "of {text:?}");
+        assert!(rt; text_of(rt.alloc(), micros)?.as_slice() == text);
+        assert!(rt; duration(text) == None);
     }
     Ok(())
 }
 
 #[test]
 fn a_duration_is_the_whole_of_a_word(rt: HostRuntime) {
-    assert_eq!(rt; duration(b"T#1s"), Some(1_000_000));
-    assert_eq!(rt; duration(b""), None);
-    assert_eq!(rt; duration(b"T#1s "), None);
-    assert_eq!(rt; duration(b" T#1s"), None);
+    assert!(rt; duration(b"T#1s") == Some(1_000_000));
+    assert!(rt; duration(b"") == None);
+    assert!(rt; duration(b"T#1s ") == None);
+    assert!(rt; duration(b" T#1s") == None);
 }

@@ -112,6 +112,11 @@ fn tokens_have_the_lines_on_which_they_begin(rt: HostRuntime) -> Result<(), Fail
     Ok(())
 }
 
+// The lamp's chart.
+fn lamp() -> &'static [u8] {
+    ONE_STEP
+}
+
 // Whether the text is refused, and not for want of memory.
 fn is_refused(alloc: Global, text: &[u8]) -> bool {
     match read(alloc, text) {
@@ -122,28 +127,36 @@ fn is_refused(alloc: Global, text: &[u8]) -> bool {
 
 #[test]
 fn each_front_of_a_chart_is_refused(rt: HostRuntime) {
-    assert!(rt; !is_refused(rt.alloc(), ONE_STEP));
-    for count in 0..ONE_STEP.len() {
-        assert!(rt;
-            is_refused(rt.alloc(), &ONE_STEP[..count]),
-            "of {count} bytes"
-        );
+    let text = lamp();
+    assert!(rt; !is_refused(rt.alloc(), text));
+    for count in 0..text.len() {
+        assert!(rt; is_refused(rt.alloc(), &text[..count]), "of {count} bytes");
     }
+}
+
+// The lamp's chart with another byte at a place.
+fn altered(alloc: Global, place: usize, byte: u8) -> Result<Vec<u8>, AllocError> {
+    let mut text = lamp().to_vec(alloc)?;
+    if let Some(found) = text.get_mut(place) {
+        *found = byte;
+    }
+    Ok(text)
+}
+
+// Asks that the chart is refused with this byte at any place where another one stood.
+fn check_altered(rt: &impl Abort, alloc: Global, byte: u8) -> Result<(), Fail> {
+    for (place, old) in lamp().iter().enumerate() {
+        let text = altered(alloc, place, byte)?;
+        let wanted = *old != byte;
+        assert_eq!(rt; is_refused(alloc, &text), wanted, "of {byte} at {place}");
+    }
+    Ok(())
 }
 
 #[test]
 fn a_chart_with_one_wrong_byte_is_refused(rt: HostRuntime) -> Result<(), Fail> {
     for byte in [0x00, b'(', b'{', b'#', 0xff] {
-        for place in 0..ONE_STEP.len() {
-            let mut text = ONE_STEP.to_vec(rt.alloc())?;
-            text[place] = byte;
-            let wanted = ONE_STEP[place] != byte;
-            assert_eq!(rt;
-                is_refused(rt.alloc(), &text),
-                wanted,
-                "of {byte} at {place}"
-            );
-        }
+        check_altered(&rt, rt.alloc(), byte)?;
     }
     Ok(())
 }
