@@ -3,6 +3,7 @@
 use sfc_text::duration::duration;
 use sfc_text::time_text::put_time;
 use std::alloc::Global;
+use std::process::Abort;
 use std::test::Fail;
 
 // The text of a value.
@@ -10,6 +11,20 @@ fn text_of(alloc: Global, micros: i64) -> Result<Vec<u8>, Fail> {
     let mut written = Vec::new(alloc);
     put_time(micros, &mut written)?;
     Ok(written)
+}
+
+// Asks for this text of a value, and for what duration the text is.
+fn check(
+    rt: &impl Abort,
+    alloc: Global,
+    micros: i64,
+    text: &[u8],
+    read: Option<i64>,
+) -> Result<(), Fail> {
+    let found = text_of(alloc, micros)?;
+    assert!(rt; found.as_slice() == text, "of {micros}");
+    assert!(rt; duration(text) == read, "of {micros}");
+    Ok(())
 }
 
 #[test]
@@ -32,8 +47,7 @@ fn a_value_has_one_text(rt: HostRuntime) -> Result<(), Fail> {
         ),
     ];
     for (micros, text) in texts {
-        assert!(rt; text_of(rt.alloc(), micros)?.as_slice() == text);
-        assert!(rt; duration(text) == Some(micros));
+        check(&rt, rt.alloc(), micros, text, Some(micros))?;
     }
     Ok(())
 }
@@ -50,8 +64,7 @@ fn a_value_that_no_duration_gives_has_a_text(rt: HostRuntime) -> Result<(), Fail
         (i64::MIN, b"T#-106751991d_4h_54s_775.808ms"),
     ];
     for (micros, text) in texts {
-        assert!(rt; text_of(rt.alloc(), micros)?.as_slice() == text);
-        assert!(rt; duration(text) == None);
+        check(&rt, rt.alloc(), micros, text, None)?;
     }
     Ok(())
 }
