@@ -85,19 +85,30 @@ fn variable_text(alloc: Global, variable: &Variable) -> Result<String, AllocErro
     format!(in alloc; "{name} {var_type:?} {initial:?} {location:?}")
 }
 
+// The variables' texts, a line each.
+fn variables_text(alloc: Global, variables: &[Variable]) -> Result<String, AllocError> {
+    let mut text = String::new(alloc);
+    for variable in variables {
+        let line = variable_text(alloc, variable)?;
+        text.push_str(line.as_str())?;
+        text.push('\n')?;
+    }
+    Ok(text)
+}
+
 #[test]
 fn variables_stand_in_the_order_of_the_text(rt: HostRuntime) -> Result<(), Fail> {
     let plant = plant(rt.alloc())?;
-    let wanted = [
-        "Go Bool Bool(false) Some(Location { area: Input, size: Bit, numbers: Items { elements: [0, 1] } })",
-        "a Bool Bool(false) None",
-        "B Bool Bool(false) None",
-        "Out Bool Bool(false) Some(Location { area: Output, size: Bit, numbers: Items { elements: [2] } })",
-    ];
-    assert_eq!(rt; variables(&plant).len(), wanted.len());
-    for (variable, wanted) in variables(&plant).iter().zip(wanted) {
-        assert_eq!(rt; variable_text(rt.alloc(), variable)?.as_str(), wanted);
-    }
+    let found = variables_text(rt.alloc(), variables(&plant))?;
+    assert!(rt;
+        found.as_str()
+            == "\
+Go Bool Bool(false) Some(Location { area: Input, size: Bit, numbers: Items { elements: [0, 1] } })
+a Bool Bool(false) None
+B Bool Bool(false) None
+Out Bool Bool(false) Some(Location { area: Output, size: Bit, numbers: Items { elements: [2] } })
+"
+    );
     Ok(())
 }
 
@@ -149,36 +160,30 @@ fn a_program_type_has_numbers_in_the_place_of_names(rt: HostRuntime) -> Result<(
     Ok(())
 }
 
-// The variable, the task and the instance of a name.
-fn found(plant: &Plant, name: &[u8]) -> (Option<VarId>, Option<TaskId>, Option<ProgId>) {
-    (
-        plant.find_variable(name),
-        plant.find_task(name),
-        plant.find_instance(name),
-    )
+// Asks for the variable, the task and the instance of a name.
+fn check_name(
+    rt: &impl Abort,
+    plant: &Plant,
+    name: &[u8],
+    variable: Option<VarId>,
+    others: (Option<TaskId>, Option<ProgId>),
+) {
+    let (task, instance) = others;
+    assert!(rt; plant.find_variable(name) == variable, "of {name:?}");
+    assert!(rt; plant.find_task(name) == task, "of {name:?}");
+    assert!(rt; plant.find_instance(name) == instance, "of {name:?}");
 }
 
 #[test]
 fn a_name_is_found_by_its_capitals(rt: HostRuntime) -> Result<(), Fail> {
     let plant = plant(rt.alloc())?;
-    let table: [(&[u8], Option<VarId>, Option<TaskId>, Option<ProgId>); 9] = [
-        (b"GO", Some(VarId(0)), None, None),
-        (b"A", Some(VarId(1)), None, None),
-        (b"OUT", Some(VarId(3)), None, None),
-        (b"MAIN", None, Some(TaskId(0)), None),
-        (b"P", None, None, Some(ProgId(0))),
-        (b"a", None, None, None),
-        (b"Main", None, None, None),
-        (b"S1", None, None, None),
-        (b"MIX", None, None, None),
-    ];
-    for (name, variable, task, instance) in table {
-        assert_eq!(rt;
-            found(&plant, name),
-            (variable, task, instance),
-            "of {name:?}"
-        );
+    check_name(&rt, &plant, b"GO", Some(VarId(0)), (None, None));
+    check_name(&rt, &plant, b"A", Some(VarId(1)), (None, None));
+    check_name(&rt, &plant, b"OUT", Some(VarId(3)), (None, None));
+    check_name(&rt, &plant, b"MAIN", None, (Some(TaskId(0)), None));
+    check_name(&rt, &plant, b"P", None, (None, Some(ProgId(0))));
+    for name in [b"a".as_slice(), b"Main", b"S1", b"MIX", b""] {
+        check_name(&rt, &plant, name, None, (None, None));
     }
-    assert_eq!(rt; found(&plant, b""), (None, None, None));
     Ok(())
 }

@@ -10,6 +10,7 @@ use sfc_text::token::TokenKind;
 use sfc_text::tree::{Configuration, Declaration, Element, Instance, Program, Source, Transition};
 use sfc_text::var_type::VarType;
 use std::alloc::{AllocError, Global};
+use std::process::Abort;
 use std::test::Fail;
 
 // Why the trees are refused; none where they are loaded.
@@ -189,16 +190,35 @@ fn typed_refusal(
     Ok(parts_refusal(alloc, programs, configuration))
 }
 
+// Asks that a variable of this type is refused as an action, and as a condition.
+fn check_boolean(rt: &impl Abort, alloc: Global, var_type: VarType) -> Result<(), Fail> {
+    let action = "INITIAL_STEP S: a(N); END_STEP";
+    let found = typed_refusal(alloc, "a : BOOL;", action, var_type)?;
+    assert!(rt; found == Some(LoadError::NotBool), "of {var_type:?}");
+    let condition = "INITIAL_STEP S: END_STEP TRANSITION FROM S TO S := a; END_TRANSITION";
+    let found = typed_refusal(alloc, "a : BOOL;", condition, var_type)?;
+    assert!(rt; found == Some(LoadError::WrongType), "of {var_type:?}");
+    Ok(())
+}
+
 #[test]
 fn actions_and_conditions_are_boolean(rt: HostRuntime) -> Result<(), Fail> {
-    let action = "INITIAL_STEP S: a(N); END_STEP";
-    let condition = "INITIAL_STEP S: END_STEP TRANSITION FROM S TO S := a; END_TRANSITION";
     for var_type in [VarType::Int, VarType::Dint, VarType::Time] {
-        let found = typed_refusal(rt.alloc(), "a : BOOL;", action, var_type)?;
-        assert_eq!(rt; found, Some(LoadError::NotBool));
-        let found = typed_refusal(rt.alloc(), "a : BOOL;", condition, var_type)?;
-        assert_eq!(rt; found, Some(LoadError::WrongType));
+        check_boolean(&rt, rt.alloc(), var_type)?;
     }
+    Ok(())
+}
+
+// Asks for this refusal of a located variable once it has this type.
+fn check_location(
+    rt: &impl Abort,
+    alloc: Global,
+    globals: &str,
+    var_type: VarType,
+    wanted: Option<LoadError>,
+) -> Result<(), Fail> {
+    let found = typed_refusal(alloc, globals, STEP, var_type)?;
+    assert!(rt; found == wanted, "of {globals} as {var_type:?}");
     Ok(())
 }
 
@@ -217,8 +237,7 @@ fn a_location_holds_its_type(rt: HostRuntime) -> Result<(), Fail> {
         ("a AT %ID0 : BOOL;", VarType::Time, wrong),
     ];
     for (globals, var_type, wanted) in table {
-        let found = typed_refusal(rt.alloc(), globals, STEP, var_type)?;
-        assert_eq!(rt; found, wanted, "of {globals} as {var_type:?}");
+        check_location(&rt, rt.alloc(), globals, var_type, wanted)?;
     }
     Ok(())
 }
@@ -313,6 +332,19 @@ fn sides_refusal(alloc: Global, from: &str, to: &str) -> Result<Option<LoadError
     Ok(parts_refusal(alloc, programs, configuration))
 }
 
+// Asks for this refusal of a transition with these sides.
+fn check_sides(
+    rt: &impl Abort,
+    alloc: Global,
+    from: &str,
+    to: &str,
+    wanted: Option<LoadError>,
+) -> Result<(), Fail> {
+    let found = sides_refusal(alloc, from, to)?;
+    assert!(rt; found == wanted, "from {from} to {to}");
+    Ok(())
+}
+
 #[test]
 fn a_side_has_no_step_twice(rt: HostRuntime) -> Result<(), Fail> {
     let table = [
@@ -324,8 +356,7 @@ fn a_side_has_no_step_twice(rt: HostRuntime) -> Result<(), Fail> {
         ("S U S", "T T", Some(LoadError::UnknownStep)),
     ];
     for (from, to, wanted) in table {
-        let found = sides_refusal(rt.alloc(), from, to)?;
-        assert_eq!(rt; found, wanted, "from {from} to {to}");
+        check_sides(&rt, rt.alloc(), from, to, wanted)?;
     }
     Ok(())
 }

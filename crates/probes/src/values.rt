@@ -8,6 +8,7 @@ use sfc_text::case::is_same_word;
 use sfc_text::items::Items;
 use sfc_text::var_type::VarType;
 use std::alloc::{AllocError, Global};
+use std::process::Abort;
 use std::test::Fail;
 
 #[test]
@@ -19,21 +20,21 @@ fn an_expression_has_a_value(rt: HostRuntime) {
     assert!(rt; Expr::Literal(Value::Int(3)).eval(&[]) == Value::Int(3));
 }
 
+// Asks for the first value of a type, and for the type of this one and of another.
+fn check_type(rt: &impl Abort, var_type: VarType, first: Value, other: Value) {
+    assert!(rt; default_value(var_type) == first);
+    assert!(rt; first.var_type() == var_type);
+    assert!(rt; other.var_type() == var_type);
+    assert!(rt; !first.is_true());
+    assert!(rt; other.is_true() == (var_type == VarType::Bool));
+}
+
 #[test]
 fn a_value_has_a_type_and_each_type_a_first_value(rt: HostRuntime) {
-    let table = [
-        (VarType::Bool, Value::Bool(false), Value::Bool(true)),
-        (VarType::Int, Value::Int(0), Value::Int(1)),
-        (VarType::Dint, Value::Dint(0), Value::Dint(1)),
-        (VarType::Time, Value::Time(0), Value::Time(1)),
-    ];
-    for (var_type, first, other) in table {
-        assert!(rt; default_value(var_type) == first);
-        assert!(rt; first.var_type() == var_type);
-        assert!(rt; other.var_type() == var_type);
-        assert!(rt; !first.is_true());
-        assert!(rt; other.is_true() == (var_type == VarType::Bool));
-    }
+    check_type(&rt, VarType::Bool, Value::Bool(false), Value::Bool(true));
+    check_type(&rt, VarType::Int, Value::Int(0), Value::Int(1));
+    check_type(&rt, VarType::Dint, Value::Dint(0), Value::Dint(1));
+    check_type(&rt, VarType::Time, Value::Time(0), Value::Time(1));
 }
 
 // Puts a name last in a table.
