@@ -2,8 +2,9 @@
 
 use crate::bench::Bench;
 use crate::plain::Plain;
-use crate::shown;
-use sfc_core::{Outcome, ProgramView};
+use sfc_chart::ids::{TaskId, VarId};
+use sfc_chart::value::Value;
+use sfc_core::{Event, Outcome};
 use std::alloc::{AllocError, Global};
 use std::process::Abort;
 use std::test::Fail;
@@ -105,7 +106,8 @@ impl Dice {
 fn set_inputs(rt: &impl Abort, bench: &mut Bench, holds: &[bool], t: i64) {
     let mut id: u16 = 5;
     for value in holds {
-        let answer = bench.input(id, *value, t);
+        let event = Event::Input(VarId(id), Value::Bool(*value));
+        let answer = bench.apply(event, t);
         assert_eq!(rt; answer, Ok(Outcome::Done), "of {id} at {t}");
         id = id.wrapping_add(1);
     }
@@ -119,80 +121,13 @@ fn scan(rt: &impl Abort, bench: &mut Bench, t: i64) {
         skipped: 0,
         overruns: 0,
     };
-    let answer = bench.scan(t);
+    let answer = bench.apply(Event::Scan(TaskId(0)), t);
     assert_eq!(rt; answer, Ok(wanted), "at {t}");
 }
 
-// Asks that the bench shows the steps and transitions of the plain body.
-fn check_steps(rt: &impl Abort, alloc: Global, view: &ProgramView<'_>, plain: &Plain<'_>) {
-    let found = shown::active(alloc, view).expect(rt, "memory");
-    let wanted = plain.active(alloc).expect(rt, "memory");
-    assert_eq!(rt; found.as_slice(), wanted.as_slice());
-    let found = shown::activated(alloc, view).expect(rt, "memory");
-    let wanted = plain.activated(alloc).expect(rt, "memory");
-    assert_eq!(rt; found.as_slice(), wanted.as_slice());
-    let found = shown::cleared(alloc, view).expect(rt, "memory");
-    assert_eq!(rt; found.as_slice(), plain.cleared());
-}
-
-// Asks that the bench shows the step times of the plain body.
-fn check_times(rt: &impl Abort, alloc: Global, view: &ProgramView<'_>, plain: &Plain<'_>) {
-    let found = shown::elapsed(alloc, view).expect(rt, "memory");
-    let wanted = plain.elapsed(alloc).expect(rt, "memory");
-    assert_eq!(rt; found.as_slice(), wanted.as_slice());
-}
-
-// Asks for these numbers.
-fn check_numbers(rt: &impl Abort, found: &[u16], wanted: &[usize]) {
-    assert_eq!(rt; found.len(), wanted.len());
-    for (found, wanted) in found.iter().zip(wanted) {
-        assert_eq!(rt; *found as usize, *wanted);
-    }
-}
-
-// Asks that the bench shows the actions of the plain body.
-fn check_actions(rt: &impl Abort, alloc: Global, view: &ProgramView<'_>, plain: &Plain<'_>) {
-    let found = shown::q(alloc, view).expect(rt, "memory");
-    let wanted = plain.active(alloc).expect(rt, "memory");
-    check_numbers(rt, &found, &wanted);
-    let found = shown::executed(alloc, view).expect(rt, "memory");
-    let wanted = plain.executed(alloc).expect(rt, "memory");
-    check_numbers(rt, &found, &wanted);
-}
-
-// Whether the variable is there and TRUE.
-fn is_lit(bench: &Bench, id: u16) -> bool {
-    match bench.value(id) {
-        Some(value) => value.is_true(),
-        None => false,
-    }
-}
-
-// The actions whose variables are TRUE.
-fn lit(alloc: Global, bench: &Bench) -> Result<Vec<u16>, AllocError> {
-    let mut found = Vec::new(alloc);
-    for id in 0..5u16 {
-        if is_lit(bench, id) {
-            found.push(id)?;
-        }
-    }
-    Ok(found)
-}
-
-// Asks that the variables of the bench are those of the plain body.
-fn check_values(rt: &impl Abort, alloc: Global, bench: &Bench, plain: &Plain<'_>) {
-    let found = lit(alloc, bench).expect(rt, "memory");
-    let wanted = plain.active(alloc).expect(rt, "memory");
-    check_numbers(rt, &found, &wanted);
-}
-
-// Asks that the bench is as the plain body.
-fn check(rt: &impl Abort, alloc: Global, bench: &Bench, plain: &Plain<'_>) {
-    let view = bench.view().expect(rt, "a program");
-    check_steps(rt, alloc, &view, plain);
-    check_times(rt, alloc, &view, plain);
-    check_actions(rt, alloc, &view, plain);
-    check_values(rt, alloc, bench, plain);
+// A bench of the mesh.
+fn mesh(alloc: Global) -> Result<Bench, Fail> {
+    Bench::open(alloc, MESH)
 }
 
 // The instant of a scan: up to two milliseconds behind its release.
@@ -201,46 +136,37 @@ fn instant(number: i64) -> i64 {
     release.wrapping_add(number.wrapping_rem(3).wrapping_mul(1_000))
 }
 
-// One scan of both over the same inputs, and the comparison. It tells how many transitions were cleared.
-fn check_scan(
-    rt: &impl Abort,
-    alloc: Global,
-    bench: &mut Bench,
-    plain: &mut Plain<'_>,
-    holds: &[bool],
-    t: i64,
-) -> usize {
-    set_inputs(rt, bench, holds, t);
-    scan(rt, bench, t);
-    plain.scan(alloc, holds, t).expect(rt, "memory");
-    check(rt, alloc, bench, plain);
-    plain.cleared().len()
+// Asks that the bench shows what the plain body shows.
+fn check(rt: &impl Abort, alloc: Global, bench: &Bench, plain: &Plain<'_>) -> Result<(), Fail> {
+    let found = bench.shown(alloc)?;
+    let wanted = plain.shown(alloc)?;
+    assert_eq!(rt; found.as_str(), wanted.as_str());
+    Ok(())
 }
 
-// A run from a seed, compared after each scan. It tells how many transitions were cleared.
-fn check_run(rt: &impl Abort, alloc: Global, bench: &mut Bench, seed: u32) -> usize {
+// A run of a new bench and of a new plain body from a seed, compared after each scan. It tells how many transitions
+// were cleared.
+fn check_run(rt: &impl Abort, alloc: Global, seed: u32) -> Result<usize, Fail> {
+    let mut bench = mesh(alloc)?;
     let mut plain = Plain::new(alloc, &TRANSITIONS, &INITIAL);
     let mut dice = Dice { seed };
     let mut count: usize = 0;
-    check(rt, alloc, bench, &plain);
+    check(rt, alloc, &bench, &plain)?;
     for number in 0..SCANS {
-        let holds = dice.throws(alloc).expect(rt, "memory");
-        let cleared = check_scan(rt, alloc, bench, &mut plain, &holds, instant(number));
+        let holds = dice.throws(alloc)?;
+        set_inputs(rt, &mut bench, &holds, instant(number));
+        scan(rt, &mut bench, instant(number));
+        let cleared = plain.scan(alloc, &holds, instant(number))?;
         count = count.wrapping_add(cleared);
+        check(rt, alloc, &bench, &plain)?;
     }
-    count
-}
-
-// A run of a new bench from a seed.
-fn check_seed(rt: &impl Abort, alloc: Global, seed: u32) -> Result<usize, Fail> {
-    let mut bench = Bench::open(alloc, MESH)?;
-    Ok(check_run(rt, alloc, &mut bench, seed))
+    Ok(count)
 }
 
 #[test]
 fn the_mesh_does_what_the_rows_say(rt: HostRuntime) -> Result<(), Fail> {
     for seed in 1..=3 {
-        let count = check_seed(&rt, rt.alloc(), seed)?;
+        let count = check_run(&rt, rt.alloc(), seed)?;
         assert!(rt;
             count >= 100,
             "{count} transitions were cleared from {seed}"

@@ -1,0 +1,112 @@
+//! A case: what is run, and how it is to end.
+
+use crate::ending::Ending;
+use crate::frame::Frame;
+use anyhow::{Result, bail};
+use sfc_monitor::replay::replay;
+use std::alloc::{AllocError, Global};
+
+/// A command of `sfcmon`.
+#[derive(Clone, Copy)]
+enum Command {
+    /// A script is played on a chart.
+    Replay,
+}
+
+/// What is run, and how it is to end. The chart is the whole of `chart`, or where there is none that of `frame`.
+#[derive(Clone, Drop)]
+pub struct Case {
+    pub title: String,
+    command: Command,
+    chart: Option<Vec<u8>>,
+    frame: Frame,
+    script: Vec<u8>,
+    pub wanted: Ending,
+}
+
+// Adds the bytes to a text that may not have begun.
+fn add_to(alloc: Global, text: &mut Option<Vec<u8>>, bytes: &[u8]) -> Result<(), AllocError> {
+    let mut whole = match text.take() {
+        Some(begun) => begun,
+        None => Vec::new(alloc),
+    };
+    whole.extend_from_slice(bytes)?;
+    *text = Some(whole);
+    Ok(())
+}
+
+impl Case {
+    /// A case with this title, of which nothing else is said: a replay of an empty frame and an empty script that is to
+    /// write nothing and to leave status 0.
+    pub fn new(alloc: Global, title: &str) -> Result<Case, AllocError> {
+        Ok(Case {
+            title: String::from_str(alloc, title)?,
+            command: Command::Replay,
+            chart: None,
+            frame: Frame::new(alloc),
+            script: Vec::new(alloc),
+            wanted: Ending::new(alloc),
+        })
+    }
+
+    /// The case with more of a title.
+    pub fn titled(&self, title: &str) -> Result<Case, AllocError> {
+        let mut case = self.clone()?;
+        case.title.push_str(": ")?;
+        case.title.push_str(title)?;
+        Ok(case)
+    }
+
+    /// Sets the command by its name.
+    pub fn set_command(&mut self, name: &str) -> Result<()> {
+        match name {
+            "replay" => self.command = Command::Replay,
+            _ => bail!("there is no command {name}"),
+        }
+        Ok(())
+    }
+
+    /// Adds bytes to one of the texts, by its name.
+    pub fn add(&mut self, alloc: Global, text: &str, bytes: &[u8]) -> Result<()> {
+        match text {
+            "chart" => add_to(alloc, &mut self.chart, bytes)?,
+            "globals" => self.frame.globals.extend_from_slice(bytes)?,
+            "body" => self.frame.body.extend_from_slice(bytes)?,
+            "task" => self.frame.task.extend_from_slice(bytes)?,
+            "script" => self.script.extend_from_slice(bytes)?,
+            "output" => self.wanted.output.extend_from_slice(bytes)?,
+            _ => bail!("a case has no text {text}"),
+        }
+        Ok(())
+    }
+
+    // Plays the script on the chart.
+    fn replayed(&self, alloc: Global, chart: &[u8]) -> Result<Ending, AllocError> {
+        let mut chart = chart;
+        let mut script = self.script.as_slice();
+        let mut ending = Ending::new(alloc);
+        if let Err(error) = replay(alloc, &mut chart, &mut script, &mut ending.output) {
+            ending.fault = format!(in alloc; "{error}")?;
+            ending.status = error.status();
+        }
+        Ok(ending)
+    }
+
+    // Runs the command on a chart.
+    fn ending_on(&self, alloc: Global, chart: &[u8]) -> Result<Ending, AllocError> {
+        match self.command {
+            Command::Replay => self.replayed(alloc, chart),
+        }
+    }
+
+    /// How the command ends.
+    pub fn ending(&self, alloc: Global) -> Result<Ending, AllocError> {
+        match &self.chart {
+            Some(chart) => self.ending_on(alloc, chart),
+            None => {
+                let chart = self.frame.chart(alloc)?;
+                self.ending_on(alloc, &chart)
+            }
+        }
+    }
+}

@@ -1,0 +1,36 @@
+//! Runs the cases of the folder in which it is started, and tells of each whether it ends as is wanted.
+#![tactic(auto)]
+
+mod case;
+mod case_file;
+mod ending;
+mod folder;
+mod frame;
+mod recipe;
+mod report;
+
+use report::Counts;
+use std::process::ExitCode;
+
+// Runs the cases of the file.
+fn run_file(rt: &HostRuntime, name: &str, counts: &mut Counts) -> anyhow::Result<()> {
+    for case in &case_file::cases_of(rt, name)? {
+        counts.add(report::judge(rt, case)?);
+    }
+    Ok(())
+}
+
+// Runs the cases of all files.
+fn run(rt: &HostRuntime) -> anyhow::Result<Counts> {
+    let mut counts = Counts::new();
+    for name in &folder::case_files(rt)? {
+        run_file(rt, name.as_str(), &mut counts)?;
+    }
+    Ok(counts)
+}
+
+fn main(rt: HostRuntime) -> anyhow::Result<ExitCode> {
+    let Counts { passed, failed } = run(&rt)?;
+    println!(rt; "{passed} passed, {failed} failed")?;
+    Ok(ExitCode::from(if failed == 0 { 0 } else { 1 }))
+}

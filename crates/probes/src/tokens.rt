@@ -1,0 +1,162 @@
+//! The tokens of a text, names, and charts with a fault at any place.
+
+use crate::texts::ONE_STEP;
+use sfc_text::read::read;
+use sfc_text::read_error::ReadErrorKind;
+use sfc_text::scan::tokens;
+use sfc_text::token::{Token, TokenKind};
+use std::alloc::{AllocError, Global};
+use std::process::Abort;
+use std::test::Fail;
+
+// The kind of a token and its value; of a name the spelling of its copy, of a location its copy.
+fn shown(alloc: Global, token: &Token) -> Result<String, AllocError> {
+    let kind = &token.kind;
+    match kind {
+        TokenKind::Name(name) => {
+            let copy = name.copy(alloc)?;
+            let spelling = copy.spelling().escape_ascii();
+            format!(in alloc; "Name({spelling})")
+        }
+        TokenKind::Location(location) => {
+            let copy = location.copy(alloc)?;
+            format!(in alloc; "{copy:?}")
+        }
+        _ => format!(in alloc; "{kind:?}"),
+    }
+}
+
+// Asks for these tokens.
+fn check(rt: &impl Abort, alloc: Global, text: &[u8], wanted: &[&str]) -> Result<(), Fail> {
+    let found = tokens(alloc, text)?;
+    assert_eq!(rt; found.len(), wanted.len());
+    for (token, wanted) in found.iter().zip(wanted) {
+        assert_eq!(rt; shown(alloc, token)?.as_str(), *wanted);
+    }
+    Ok(())
+}
+
+#[test]
+fn the_longest_token_is_taken(rt: HostRuntime) -> Result<(), Fail> {
+    check(
+        &rt,
+        rt.alloc(),
+        b"step Step_s2:=<=>=<>:;,().+-*/&<>==",
+        &[
+            "Keyword(Step)",
+            "Name(Step_s2)",
+            "Delimiter(Assign)",
+            "Delimiter(LessOrEqual)",
+            "Delimiter(GreaterOrEqual)",
+            "Delimiter(NotEqual)",
+            "Delimiter(Colon)",
+            "Delimiter(Semicolon)",
+            "Delimiter(Comma)",
+            "Delimiter(Open)",
+            "Delimiter(Close)",
+            "Delimiter(Dot)",
+            "Delimiter(Plus)",
+            "Delimiter(Minus)",
+            "Delimiter(Star)",
+            "Delimiter(Slash)",
+            "Delimiter(Ampersand)",
+            "Delimiter(NotEqual)",
+            "Delimiter(Equal)",
+            "Delimiter(Equal)",
+        ],
+    )
+}
+
+#[test]
+fn literals_are_values(rt: HostRuntime) -> Result<(), Fail> {
+    check(
+        &rt,
+        rt.alloc(),
+        b"007 1_000 16#fF 2#1_0 INT#-8#17 dint#5 Bool#FALSE bool#1 t#-1.5s time#1h_61m",
+        &[
+            "Integer(7)",
+            "Integer(1000)",
+            "Based(255)",
+            "Based(2)",
+            "Int(-15)",
+            "Dint(5)",
+            "Truth(false)",
+            "Truth(true)",
+            "Duration(-1500000)",
+            "Duration(7260000000)",
+        ],
+    )
+}
+
+#[test]
+fn locations_are_areas_sizes_and_numbers(rt: HostRuntime) -> Result<(), Fail> {
+    check(
+        &rt,
+        rt.alloc(),
+        b"%qw12.0_1 %M4294967295",
+        &[
+            "Location { area: Output, size: Word, numbers: Items { elements: [12, 1] } }",
+            "Location { area: Memory, size: Bit, numbers: Items { elements: [4294967295] } }",
+        ],
+    )
+}
+
+#[test]
+fn tokens_have_the_lines_on_which_they_begin(rt: HostRuntime) -> Result<(), Fail> {
+    let found = tokens(rt.alloc(), b"a (*\n*) b\r\n{\n\n}c\n\n:=\n")?;
+    let mut lines = Vec::new(rt.alloc());
+    for token in &found {
+        lines.push(token.line)?;
+    }
+    assert_eq!(rt; lines.as_slice(), [1, 2, 5, 7].as_slice());
+    Ok(())
+}
+
+// The lamp's chart.
+fn lamp() -> &'static [u8] {
+    ONE_STEP
+}
+
+// Whether the text is refused, and not for want of memory.
+fn is_refused(alloc: Global, text: &[u8]) -> bool {
+    match read(alloc, text) {
+        Ok(_) => false,
+        Err(error) => error.kind != ReadErrorKind::Memory,
+    }
+}
+
+#[test]
+fn each_front_of_a_chart_is_refused(rt: HostRuntime) {
+    let text = lamp();
+    assert!(rt; !is_refused(rt.alloc(), text));
+    for count in 0..text.len() {
+        assert!(rt; is_refused(rt.alloc(), &text[..count]), "of {count} bytes");
+    }
+}
+
+// The lamp's chart with another byte at a place.
+fn altered(alloc: Global, place: usize, byte: u8) -> Result<Vec<u8>, AllocError> {
+    let mut text = lamp().to_vec(alloc)?;
+    if let Some(found) = text.get_mut(place) {
+        *found = byte;
+    }
+    Ok(text)
+}
+
+// Asks that the chart is refused with this byte at any place where another one stood.
+fn check_altered(rt: &impl Abort, alloc: Global, byte: u8) -> Result<(), Fail> {
+    for (place, old) in lamp().iter().enumerate() {
+        let text = altered(alloc, place, byte)?;
+        let wanted = *old != byte;
+        assert_eq!(rt; is_refused(alloc, &text), wanted, "of {byte} at {place}");
+    }
+    Ok(())
+}
+
+#[test]
+fn a_chart_with_one_wrong_byte_is_refused(rt: HostRuntime) -> Result<(), Fail> {
+    for byte in [0x00, b'(', b'{', b'#', 0xff] {
+        check_altered(&rt, rt.alloc(), byte)?;
+    }
+    Ok(())
+}
