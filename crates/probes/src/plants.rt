@@ -3,6 +3,7 @@
 use sfc_chart::chart::ProgramType;
 use sfc_chart::ids::{ProgId, TaskId, VarId};
 use sfc_chart::load::load;
+use sfc_chart::name_key::NameKey;
 use sfc_chart::plant::{Instance, Plant, Task, Variable};
 use sfc_text::read::read;
 use std::alloc::{AllocError, Global};
@@ -160,30 +161,33 @@ fn a_program_type_has_numbers_in_the_place_of_names(rt: HostRuntime) -> Result<(
     Ok(())
 }
 
-// Asks for the variable, the task and the instance of a name.
-fn check_name(
-    rt: &impl Abort,
-    plant: &Plant,
-    name: &[u8],
-    variable: Option<VarId>,
-    others: (Option<TaskId>, Option<ProgId>),
-) {
-    let (task, instance) = others;
-    assert!(rt; plant.find_variable(name) == variable, "of {name:?}");
-    assert!(rt; plant.find_task(name) == task, "of {name:?}");
-    assert!(rt; plant.find_instance(name) == instance, "of {name:?}");
+// The variable, the task and the instance of a name.
+type Found = (Option<VarId>, Option<TaskId>, Option<ProgId>);
+
+// What a name stands for in the plant.
+fn found(alloc: Global, plant: &Plant, name: &[u8]) -> Result<Found, AllocError> {
+    let key = NameKey::new(alloc, name)?;
+    let variable = plant.find_variable(&key);
+    let task = plant.find_task(&key);
+    let instance = plant.find_instance(&key);
+    Ok((variable, task, instance))
 }
 
 #[test]
-fn a_name_is_found_by_its_capitals(rt: HostRuntime) -> Result<(), Fail> {
+fn a_name_is_found_in_any_case(rt: HostRuntime) -> Result<(), Fail> {
     let plant = plant(rt.alloc())?;
-    check_name(&rt, &plant, b"GO", Some(VarId(0)), (None, None));
-    check_name(&rt, &plant, b"A", Some(VarId(1)), (None, None));
-    check_name(&rt, &plant, b"OUT", Some(VarId(3)), (None, None));
-    check_name(&rt, &plant, b"MAIN", None, (Some(TaskId(0)), None));
-    check_name(&rt, &plant, b"P", None, (None, Some(ProgId(0))));
-    for name in [b"a".as_slice(), b"Main", b"S1", b"MIX", b""] {
-        check_name(&rt, &plant, name, None, (None, None));
+    let table = [
+        (b"gO".as_slice(), (Some(VarId(0)), None, None)),
+        (b"a", (Some(VarId(1)), None, None)),
+        (b"OUT", (Some(VarId(3)), None, None)),
+        (b"main", (None, Some(TaskId(0)), None)),
+        (b"p", (None, None, Some(ProgId(0)))),
+        (b"S1", (None, None, None)),
+        (b"MIX", (None, None, None)),
+        (b"", (None, None, None)),
+    ];
+    for (name, wanted) in table {
+        assert!(rt; found(rt.alloc(), &plant, name)? == wanted);
     }
     Ok(())
 }

@@ -86,7 +86,7 @@ fn check_configuration(rt: &impl Abort, configuration: &Configuration) {
         rt.panic("a task and an instance")
     };
     assert_eq!(rt; task.name.spelling(), b"Main".as_slice());
-    assert_eq!(rt; (task.interval, task.priority), (10_000, 1));
+    assert_eq!(rt; (task.interval.micros(), task.priority), (10_000, 1));
     assert_eq!(rt; instance.name.spelling(), b"P".as_slice());
     assert_eq!(rt; instance.program.spelling(), b"Mix".as_slice());
     let Some(given) = &instance.task else {

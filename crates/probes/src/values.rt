@@ -2,6 +2,7 @@
 
 use sfc_chart::expr::Expr;
 use sfc_chart::ids::VarId;
+use sfc_chart::name_key::NameKey;
 use sfc_chart::name_table::NameTable;
 use sfc_chart::value::{Value, default_value};
 use sfc_text::case::is_same_word;
@@ -39,8 +40,14 @@ fn a_value_has_a_type_and_each_type_a_first_value(rt: HostRuntime) {
 
 // Puts a name last in a table.
 fn add(alloc: Global, table: &mut NameTable, name: &[u8]) -> Result<bool, AllocError> {
-    let name = name.to_vec(alloc)?;
-    table.add(name)
+    let key = NameKey::new(alloc, name)?;
+    table.add(key)
+}
+
+// The place of a name in a table.
+fn place(alloc: Global, table: &NameTable, name: &[u8]) -> Result<Option<usize>, AllocError> {
+    let key = NameKey::new(alloc, name)?;
+    Ok(table.find(&key))
 }
 
 #[test]
@@ -48,14 +55,14 @@ fn a_table_has_each_name_once(rt: HostRuntime) -> Result<(), Fail> {
     let alloc = rt.alloc();
     let mut table = NameTable::new(alloc);
     assert!(rt; table.len() == 0);
-    assert!(rt; table.find(b"B") == None);
+    assert!(rt; place(alloc, &table, b"B")? == None);
     assert!(rt; add(alloc, &mut table, b"B")?);
     assert!(rt; add(alloc, &mut table, b"A")?);
-    assert!(rt; !add(alloc, &mut table, b"B")?);
+    assert!(rt; !add(alloc, &mut table, b"b")?);
     assert!(rt; table.len() == 2);
-    assert!(rt; table.find(b"B") == Some(0));
-    assert!(rt; table.find(b"A") == Some(1));
-    assert!(rt; table.find(b"") == None);
+    assert!(rt; place(alloc, &table, b"B")? == Some(0));
+    assert!(rt; place(alloc, &table, b"a")? == Some(1));
+    assert!(rt; place(alloc, &table, b"")? == None);
     Ok(())
 }
 
