@@ -1,7 +1,7 @@
 //! Readers and writers that fail, or that take and give little at a time.
 
 use crate::broken::{BrokenReader, BrokenWriter};
-use crate::texts::{NO_INITIAL_STEP, ONE_STEP, ONE_STEP_OUTPUT, ONE_STEP_SCRIPT};
+use crate::texts::{no_initial_step, one_step, one_step_output, one_step_script};
 use sfc_chart::load_error::LoadError;
 use sfc_monitor::monitor_error::{ChartError, MonitorError};
 use sfc_monitor::replay::replay;
@@ -12,8 +12,8 @@ use std::test::Fail;
 
 // What the replay of the lamp's chart and script answers to a writer.
 fn play_lamp(alloc: Global, writer: &mut BrokenWriter) -> Result<(), MonitorError> {
-    let mut chart = BrokenReader::new(ONE_STEP, false);
-    let mut script = BrokenReader::new(ONE_STEP_SCRIPT, false);
+    let mut chart = BrokenReader::new(one_step(), false);
+    let mut script = BrokenReader::new(one_step_script(), false);
     chart.most = 1;
     script.most = 1;
     replay(alloc, &mut chart, &mut script, writer)
@@ -23,18 +23,18 @@ fn play_lamp(alloc: Global, writer: &mut BrokenWriter) -> Result<(), MonitorErro
 fn keeps_a_front(alloc: Global, count: usize, fails: bool) -> bool {
     let mut writer = BrokenWriter::new(alloc, count, fails);
     let answer = play_lamp(alloc, &mut writer);
-    let wanted = if count < ONE_STEP_OUTPUT.len() {
+    let wanted = if count < one_step_output().len() {
         Err(MonitorError::Write)
     } else {
         Ok(())
     };
-    answer == wanted && ONE_STEP_OUTPUT.get(..count) == Some(writer.taken.as_slice())
+    answer == wanted && one_step_output().get(..count) == Some(writer.taken.as_slice())
 }
 
 #[test]
 fn a_writer_that_fails_or_takes_no_byte_has_a_front_of_the_output(rt: HostRuntime) {
-    assert!(rt; ONE_STEP_OUTPUT.starts_with(b"T#0s SCAN "));
-    for count in 0..=ONE_STEP_OUTPUT.len() {
+    assert!(rt; one_step_output().starts_with(b"T#0s SCAN "));
+    for count in 0..=one_step_output().len() {
         assert!(rt; keeps_a_front(rt.alloc(), count, true), "{count}");
         assert!(rt; keeps_a_front(rt.alloc(), count, false), "{count}");
     }
@@ -45,7 +45,7 @@ fn readers_and_a_writer_may_move_one_byte_a_call(rt: HostRuntime) {
     let mut writer = BrokenWriter::new(rt.alloc(), usize::MAX, true);
     writer.most = 1;
     assert_eq!(rt; play_lamp(rt.alloc(), &mut writer), Ok(()));
-    assert_eq!(rt; writer.taken.as_slice(), ONE_STEP_OUTPUT);
+    assert_eq!(rt; writer.taken.as_slice(), one_step_output());
 }
 
 // What the replay of two readers answers, and whether nothing was written.
@@ -69,8 +69,8 @@ fn cut(text: &[u8], count: usize) -> BrokenReader<'_> {
 
 #[test]
 fn nothing_is_written_where_the_chart_cannot_be_read(rt: HostRuntime) {
-    for count in 0..=ONE_STEP.len() {
-        let mut chart = cut(ONE_STEP, count);
+    for count in 0..=one_step().len() {
+        let mut chart = cut(one_step(), count);
         let mut script = BrokenReader::new(FAULTY_SCRIPT, false);
         let answer = play(rt.alloc(), &mut chart, &mut script);
         assert_eq!(rt; answer, (Err(MonitorError::Read), true), "{count}");
@@ -80,7 +80,7 @@ fn nothing_is_written_where_the_chart_cannot_be_read(rt: HostRuntime) {
 #[test]
 fn nothing_is_written_where_the_script_cannot_be_read(rt: HostRuntime) {
     for count in 0..=FAULTY_SCRIPT.len() {
-        let mut chart = BrokenReader::new(ONE_STEP, false);
+        let mut chart = BrokenReader::new(one_step(), false);
         let mut script = cut(FAULTY_SCRIPT, count);
         let answer = play(rt.alloc(), &mut chart, &mut script);
         assert_eq!(rt; answer, (Err(MonitorError::Read), true), "{count}");
@@ -90,9 +90,9 @@ fn nothing_is_written_where_the_script_cannot_be_read(rt: HostRuntime) {
 #[test]
 fn a_refused_chart_is_told_before_the_script_is_read(rt: HostRuntime) {
     let refused = MonitorError::Chart(ChartError::Load(LoadError::NoInitial));
-    for count in 0..=ONE_STEP_SCRIPT.len() {
-        let mut chart = BrokenReader::new(NO_INITIAL_STEP, false);
-        let mut script = cut(ONE_STEP_SCRIPT, count);
+    for count in 0..=one_step_script().len() {
+        let mut chart = BrokenReader::new(no_initial_step(), false);
+        let mut script = cut(one_step_script(), count);
         let answer = play(rt.alloc(), &mut chart, &mut script);
         assert_eq!(rt; answer, (Err(refused), true), "{count}");
     }

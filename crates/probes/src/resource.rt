@@ -1,7 +1,7 @@
 //! The core's own calls: what is shown beside the output of a replay, and commands that no script gives.
 
 use crate::bench::Bench;
-use crate::texts::{GO_ALONG, ONE_STEP};
+use crate::texts::{go_along, one_step};
 use sfc_chart::ids::{TaskId, VarId};
 use sfc_chart::value::Value;
 use sfc_core::{Event, Outcome, Refusal};
@@ -11,7 +11,7 @@ use std::test::Fail;
 
 // A bench of the chart that goes along.
 fn going(alloc: Global) -> Result<Bench, Fail> {
-    Bench::open(alloc, GO_ALONG)
+    Bench::open(alloc, go_along())
 }
 
 // Asks that the bench shows this.
@@ -59,7 +59,7 @@ fn nothing_is_active_before_the_first_scan(rt: HostRuntime) -> Result<(), Fail> 
 
 #[test]
 fn a_lamp_is_lit_from_the_first_scan_on(rt: HostRuntime) -> Result<(), Fail> {
-    let mut bench = Bench::open(rt.alloc(), ONE_STEP)?;
+    let mut bench = Bench::open(rt.alloc(), one_step())?;
     let wanted = [
         "1 active [0] activated [0] elapsed [0] cleared [] q [0] executed [0] true [0]",
         "2 active [0] activated [] elapsed [10000] cleared [] q [0] executed [0] true [0]",

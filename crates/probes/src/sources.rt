@@ -1,6 +1,6 @@
 //! What is read of a text: each part of the trees.
 
-use crate::texts::GO_ALONG;
+use crate::texts::go_along;
 use sfc_text::read::read;
 use sfc_text::tree::{Configuration, Element, Expression, Program, Qualifier, Step, Transition};
 use sfc_text::var_type::VarType;
@@ -97,7 +97,7 @@ fn check_configuration(rt: &impl Abort, configuration: &Configuration) {
 
 #[test]
 fn a_chart_is_read_as_its_tree(rt: HostRuntime) -> Result<(), Fail> {
-    let source = read(rt.alloc(), GO_ALONG)?;
+    let source = read(rt.alloc(), go_along())?;
     let [program] = source.programs.as_slice() else {
         rt.panic("one program type")
     };

@@ -1,19 +1,19 @@
-//! Two charts, a script for each, and what they print.
+//! Charts, a script and what it prints. A text stands behind a function, so that no proof goes through its bytes.
 
-/// A lamp that is lit by the one step.
-pub const ONE_STEP: &[u8] = b"PROGRAM Mix INITIAL_STEP S: Lamp(N); END_STEP END_PROGRAM \
+// A lamp that is lit by the one step.
+const ONE_STEP: &[u8] = b"PROGRAM Mix INITIAL_STEP S: Lamp(N); END_STEP END_PROGRAM \
 CONFIGURATION C RESOURCE R ON Plc VAR_GLOBAL Lamp : BOOL; END_VAR \
 TASK Main(INTERVAL := T#10ms, PRIORITY := 1); PROGRAM P WITH Main : Mix; END_RESOURCE END_CONFIGURATION";
 
-/// Three scans of it.
-pub const ONE_STEP_SCRIPT: &[u8] = b"\
+// Three scans of it.
+const ONE_STEP_SCRIPT: &[u8] = b"\
 T#0s SCAN Main
 T#10ms SCAN Main
 T#20ms SCAN Main
 ";
 
-/// What they print.
-pub const ONE_STEP_OUTPUT: &[u8] = b"\
+// What they print.
+const ONE_STEP_OUTPUT: &[u8] = b"\
 T#0s SCAN Main overruns 0
   P 1 steps S=T#0s cleared - run Lamp
 T#10ms SCAN Main overruns 0
@@ -23,13 +23,38 @@ T#20ms SCAN Main overruns 0
 image Lamp TRUE
 ";
 
-/// Two steps, and an input that lets the first one go.
-pub const GO_ALONG: &[u8] = b"PROGRAM Mix INITIAL_STEP S1: Lamp(N); END_STEP STEP S2: END_STEP \
+// Two steps, and an input that lets the first one go.
+const GO_ALONG: &[u8] = b"PROGRAM Mix INITIAL_STEP S1: Lamp(N); END_STEP STEP S2: END_STEP \
 TRANSITION FROM S1 TO S2 := Go; END_TRANSITION END_PROGRAM \
 CONFIGURATION C RESOURCE R ON Plc VAR_GLOBAL Go AT %IX0.0 : BOOL; Lamp : BOOL; END_VAR \
 TASK Main(INTERVAL := T#10ms, PRIORITY := 1); PROGRAM P WITH Main : Mix; END_RESOURCE END_CONFIGURATION";
 
-/// A program type whose only step is not an initial one.
-pub const NO_INITIAL_STEP: &[u8] = b"PROGRAM Mix STEP S: END_STEP END_PROGRAM \
+// A program type whose only step is not an initial one.
+const NO_INITIAL_STEP: &[u8] = b"PROGRAM Mix STEP S: END_STEP END_PROGRAM \
 CONFIGURATION C RESOURCE R ON Plc VAR_GLOBAL Lamp : BOOL; END_VAR \
 TASK Main(INTERVAL := T#10ms, PRIORITY := 1); PROGRAM P WITH Main : Mix; END_RESOURCE END_CONFIGURATION";
+
+/// A lamp that is lit by the one step.
+pub fn one_step() -> &'static [u8] {
+    ONE_STEP
+}
+
+/// Three scans of it.
+pub fn one_step_script() -> &'static [u8] {
+    ONE_STEP_SCRIPT
+}
+
+/// What they print.
+pub fn one_step_output() -> &'static [u8] {
+    ONE_STEP_OUTPUT
+}
+
+/// Two steps, and an input that lets the first one go.
+pub fn go_along() -> &'static [u8] {
+    GO_ALONG
+}
+
+/// A program type whose only step is not an initial one.
+pub fn no_initial_step() -> &'static [u8] {
+    NO_INITIAL_STEP
+}

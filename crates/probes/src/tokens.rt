@@ -1,6 +1,6 @@
 //! The tokens of a text, names, and charts with a fault at any place.
 
-use crate::texts::ONE_STEP;
+use crate::texts::one_step;
 use sfc_text::read::read;
 use sfc_text::read_error::ReadErrorKind;
 use sfc_text::scan::tokens;
@@ -21,6 +21,10 @@ fn shown(alloc: Global, token: &Token) -> Result<String, AllocError> {
         TokenKind::Location(location) => {
             let copy = location.copy(alloc)?;
             format!(in alloc; "{copy:?}")
+        }
+        TokenKind::Duration(time) => {
+            let micros = time.micros();
+            format!(in alloc; "Duration({micros})")
         }
         _ => format!(in alloc; "{kind:?}"),
     }
@@ -114,7 +118,7 @@ fn tokens_have_the_lines_on_which_they_begin(rt: HostRuntime) -> Result<(), Fail
 
 // The lamp's chart.
 fn lamp() -> &'static [u8] {
-    ONE_STEP
+    one_step()
 }
 
 // Whether the text is refused, and not for want of memory.

@@ -52,8 +52,11 @@ step_numbers steps names = map (step_number steps) names
 
 abbrev pub transition_of : List PlantVariable → List (List ℕ) → TransitionText → Transition
 transition_of vs steps t =
-    record { preceding = step_numbers steps t.preceding; following = step_numbers steps t.following;
-      condition = condition_of vs t.condition }
+    record {
+      preceding = step_numbers steps t.preceding;
+      following = step_numbers steps t.following;
+      condition = condition_of vs t.condition;
+    }
 
 abbrev pub chart_of : List PlantVariable → List Element → Chart
 chart_of vs elements = record {

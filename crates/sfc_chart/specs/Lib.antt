@@ -16,6 +16,5 @@ pub mod Built
 pub mod Finding
 -- the numbers, names and texts of what loading refuses
 pub mod LoadErrors
-
 -- What private clauses cite.
 pub mod Assembly

@@ -37,6 +37,5 @@ pub mod LatestWrite
 -- which histories a resource, and a view of it, agree with; opaque to the crates above
 pub mod Agreement
 pub mod ViewAgrees
-
 -- What private clauses cite.
 pub mod Keeping

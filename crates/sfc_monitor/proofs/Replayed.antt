@@ -67,7 +67,7 @@ module _ (chart script w : Device) where
         → Replays chart script w result
     played commands entries result taken' said faults writes =
         let output : IsOutput text commands (lines_of_play plant [] entries) =
-            record { plant = plant; loaded = loaded; commands = entries; parsed = said; lines = refl } in
+        record { plant = plant; loaded = loaded; commands = entries; parsed = said; lines = refl } in
         written result faults (λ Given given. (text, taken, (commands, taken', (lines_of_play plant [] entries, output, given)))) writes
       where
         written : (result : Result (Unit {0}) MonitorError) → IfErr result IsOutputFault

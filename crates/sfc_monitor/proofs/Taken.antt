@@ -57,4 +57,3 @@ lost n (Some xs) new bytes taken = (bytes, few n xs bytes taken.0, taken.1)
   where
     few : (n : ℕ) (xs bytes : List ℕ) → bytes ≡ take n xs → length bytes ≤ n
     few n xs bytes e = let l = take_few n xs in rw e l
-

@@ -12,6 +12,5 @@ pub mod Reading
 pub mod Replay
 -- what each fault becomes; exit statuses and texts
 pub mod MonitorErrors
-
 -- What private clauses cite.
 pub mod Working

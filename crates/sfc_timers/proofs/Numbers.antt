@@ -50,12 +50,14 @@ set_since ((s, true) ∷ h) e = absurd (cc)
 set_since ((true, false) ∷ h) e =
     (suc (length h), record { number = omega arith; is_set = ap s_of (at_newest off (true, false) h); unreset = of_newest off r_of false (true, false) h refl })
 set_since ((false, false) ∷ h) e =
-    let (j, since) = set_since h e in
-    (j, record {
-      number = omega (arith, since.number);
-      is_set = ap s_of (at_before off (false, false) h j since.number) ∙ since.is_set;
-      unreset = from_more off r_of false (false, false) h j refl since.unreset;
-    })
+    let (j, since) = set_since h e in (
+      j,
+      record {
+        number = omega (arith, since.number);
+        is_set = ap s_of (at_before off (false, false) h j since.number) ∙ since.is_set;
+        unreset = from_more off r_of false (false, false) h j refl since.unreset;
+      },
+    )
 
 not_both : {b : Bool} → b ≡ true → b ≡ false → ⊥
 not_both e f = let bad : true ≡ false = sym e ∙ f in cc
@@ -68,10 +70,10 @@ on_since ((true, false) ∷ h) j since = refl
 on_since ((false, false) ∷ h) j since = elim (equal_or_below j (length h) since.number) [
   | inl last ↦ absurd (not_both since.is_set (rw last (ap s_of (at_newest off (false, false) h))))
   | inr below ↦ on_since h j record {
-      number = below;
-      is_set = sym (ap s_of (at_before off (false, false) h j below)) ∙ since.is_set;
-      unreset = from_less off r_of false (false, false) h j since.unreset;
-    }
+    number = below;
+    is_set = sym (ap s_of (at_before off (false, false) h j below)) ∙ since.is_set;
+    unreset = from_less off r_of false (false, false) h j since.unreset;
+  }
 ]
 
 -- ---- on-delay
@@ -96,23 +98,33 @@ run_start x [] now =
 run_start x ((false, p, t) ∷ h) now =
     let y : Reading = (false, p, t) in
     let before : input_of (reading_at (x ∷ y ∷ h) (suc (suc (length h)) - 1)) ≡ false =
-        let n : suc (suc (length h)) - 1 ≡ suc (length h) = omega arith in
-        rw n (ap input_of (at_before quiet x (y ∷ h) (suc (length h)) (omega arith)) ∙ newest_input_at y h) in
-    (suc (suc (length h)), (record {
-      after_none = omega arith;
-      number = omega arith;
-      rises = before;
-      runs = of_newest quiet input_of true x (y ∷ h) now;
-    }, at_newest quiet x (y ∷ h)))
+    let n : suc (suc (length h)) - 1 ≡ suc (length h) = omega arith in
+    rw n (ap input_of (at_before quiet x (y ∷ h) (suc (length h)) (omega arith)) ∙ newest_input_at y h) in (
+      suc (suc (length h)),
+      (
+        record {
+          after_none = omega arith;
+          number = omega arith;
+          rises = before;
+          runs = of_newest quiet input_of true x (y ∷ h) now;
+        },
+        at_newest quiet x (y ∷ h),
+      ),
+    )
 run_start x ((true, p, t) ∷ h) now =
     let y : Reading = (true, p, t) in
-    let (m, (run, at)) = run_start y h refl in
-    (m, (record {
-      after_none = run.after_none;
-      number = omega (arith, run.number);
-      rises = ap input_of (at_before quiet x (y ∷ h) (m - 1) (omega (arith, run.number))) ∙ run.rises;
-      runs = from_more quiet input_of true x (y ∷ h) m now run.runs;
-    }, at_before quiet x (y ∷ h) m run.number ∙ at))
+    let (m, (run, at)) = run_start y h refl in (
+      m,
+      (
+        record {
+          after_none = run.after_none;
+          number = omega (arith, run.number);
+          rises = ap input_of (at_before quiet x (y ∷ h) (m - 1) (omega (arith, run.number))) ∙ run.rises;
+          runs = from_more quiet input_of true x (y ∷ h) m now run.runs;
+        },
+        at_before quiet x (y ∷ h) m run.number ∙ at,
+      ),
+    )
 
 run_is : (x : Reading) (h : List Reading) (m : ℕ) → IsRun (x ∷ h) m → reading_at (x ∷ h) m ≡ start_of x (run_of h)
 run_is x [] m run = let one : m ≡ 1 = omega (arith, run.number, run.after_none) in rw one refl
@@ -130,11 +142,11 @@ run_is x ((true, p, t) ∷ h) m run =
           let n : m - 1 ≡ suc (length h) = omega arith in
           absurd (not_both (rw n (ap input_of (at_before quiet x (y ∷ h) (suc (length h)) (omega arith)) ∙ newest_input_at y h)) run.rises)
       | inr below ↦ at_before quiet x (y ∷ h) m below ∙ run_is y h m record {
-          after_none = run.after_none;
-          number = below;
-          rises = sym (ap input_of (at_before quiet x (y ∷ h) (m - 1) (omega arith))) ∙ run.rises;
-          runs = from_less quiet input_of true x (y ∷ h) m run.runs;
-        }
+        after_none = run.after_none;
+        number = below;
+        rises = sym (ap input_of (at_before quiet x (y ∷ h) (m - 1) (omega arith))) ∙ run.rises;
+        runs = from_less quiet input_of true x (y ∷ h) m run.runs;
+      }
     ]
 
 le_from : (a b : ℤ) → int_le a b ≡ true → a ≤ℤ b
@@ -143,20 +155,21 @@ le_from a b e = grind (arith, ints)
 le_to : (a b : ℤ) → a ≤ℤ b → int_le a b ≡ true
 le_to a b e = grind (arith, ints)
 
-
 pub run_since : (h : List Reading) → has_elapsed h ≡ true → (m : ℕ) × HasRunSince h m
 run_since [] e = absurd (cc)
 run_since ((false, p, t) ∷ h) e = absurd (cc)
 run_since ((true, p, t) ∷ h) e =
     let (m, (run, at)) = run_start (true, p, t) h refl in
-    let last = at_newest quiet (true, p, t) h in
-    (m, record {
-      after_none = run.after_none;
-      number = run.number;
-      rises = run.rises;
-      runs = run.runs;
-      lasts = rw (at, last) (le_from _ _ e);
-    })
+    let last = at_newest quiet (true, p, t) h in (
+      m,
+      record {
+        after_none = run.after_none;
+        number = run.number;
+        rises = run.rises;
+        runs = run.runs;
+        lasts = rw (at, last) (le_from _ _ e);
+      },
+    )
 
 pub elapsed_since : (h : List Reading) (m : ℕ) → HasRunSince h m → has_elapsed h ≡ true
 elapsed_since [] m since = absurd (omega (arith, since.number, since.after_none))
@@ -164,6 +177,6 @@ elapsed_since ((false, p, t) ∷ h) m since =
     absurd (not_both (since.runs (suc (length h)) since.number (omega arith)) (newest_input_at (false, p, t) h))
 elapsed_since ((true, p, t) ∷ h) m since =
     let at : reading_at ((true, p, t) ∷ h) m ≡ start_of (true, p, t) (run_of h) =
-        run_is (true, p, t) h m record { after_none = since.after_none; number = since.number; rises = since.rises; runs = since.runs } in
+    run_is (true, p, t) h m record { after_none = since.after_none; number = since.number; rises = since.rises; runs = since.runs } in
     let last = at_newest quiet (true, p, t) h in
     le_to _ _ (rw (at, last) at since.lasts)

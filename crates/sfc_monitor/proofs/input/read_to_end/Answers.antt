@@ -11,9 +11,12 @@ returns-in_err-extend_from_slice-clause-lost g c =
     let p = err_from_is_err_and c.from_residual.result c.from_residual.ensures.1 in
     let piece = take c.in-Ok.count c.read.new.buf in
     let few : length (c.all.bytes.items ++ piece) ≤ 1048577 =
-        omega (arith, length-append c.all.bytes.items piece, length-take c.in-Ok.count c.read.new.buf, length-take c.min-wanted.result c.all.buffer) in
-    rw p.1 (c.all.bytes.items ++ piece, few,
-        consumes_more (g.R.Read.remaining c.args.reader.now) (g.R.Read.remaining c.all.reader) (g.R.Read.remaining c.read.new.self) c.all.bytes.items piece c.all.invariant.taken c.in-Ok.ensures.bytes.0)
+    omega (arith, length-append c.all.bytes.items piece, length-take c.in-Ok.count c.read.new.buf, length-take c.min-wanted.result c.all.buffer) in
+    rw p.1 (
+      c.all.bytes.items ++ piece,
+      few,
+      consumes_more (g.R.Read.remaining c.args.reader.now) (g.R.Read.remaining c.all.reader) (g.R.Read.remaining c.read.new.self) c.all.bytes.items piece c.all.invariant.taken c.in-Ok.ensures.bytes.0,
+    )
 
 pub returns-clause-taken : goal.returns-clause-taken
 returns-clause-taken g c = elim c.all-test.branch [

@@ -25,8 +25,8 @@ returns-in_err-plant g c =
     let script : Device = (g.S.Read.remaining c.args.script.now, g.S.Read.remaining c.args.script.now) in
     let w : Device = (g.W.Write.contents c.args.w.now, g.W.Write.contents c.args.w.now) in
     rw (p.1, p.2) (chart_stopped chart script w c.in_ok-text.text.items c.in_err-plant.field-0.0 c.in_ok-text.ensures.taken
-      (lost most chart.0 chart.1 c.in_ok-text.text.items c.in_ok-text.ensures.taken) (Keeps-same script.0) (Keeps-same w.0)
-      (subst (λ text. LoadsText text (Err c.in_err-plant.field-0.0)) c.deref.ensures.value c.in_err-plant.ensures.loads))
+    (lost most chart.0 chart.1 c.in_ok-text.text.items c.in_ok-text.ensures.taken) (Keeps-same script.0) (Keeps-same w.0)
+    (subst (λ text. LoadsText text (Err c.in_err-plant.field-0.0)) c.deref.ensures.value c.in_err-plant.ensures.loads))
 
 pub open-requires : goal.open-requires
 open-requires g c = c.in_ok-plant.ensures.single
@@ -47,7 +47,7 @@ returns-in_err-commands g c =
     let w : Device = (g.W.Write.contents c.args.w.now, g.W.Write.contents c.args.w.now) in
     let loaded : IsPlantOf c.in_ok-text.text.items c.in_ok-plant.plant = rw c.deref.ensures.value at c.in_ok-plant.ensures.loads in
     rw (p.1, p.2) (script_unread chart script w c.in_ok-text.text.items c.in_ok-plant.plant c.in_ok-text.ensures.taken loaded
-      c.in_err-commands.field-0.0 c.in_err-commands.ensures.faults c.in_err-commands.ensures.lost (Keeps-same w.0))
+    c.in_err-commands.field-0.0 c.in_err-commands.ensures.faults c.in_err-commands.ensures.lost (Keeps-same w.0))
 
 pub returns-in_err-entries : goal.returns-in_err-entries
 returns-in_err-entries g c =
@@ -57,9 +57,9 @@ returns-in_err-entries g c =
     let w : Device = (g.W.Write.contents c.args.w.now, g.W.Write.contents c.args.w.now) in
     let loaded : IsPlantOf c.in_ok-text.text.items c.in_ok-plant.plant = rw c.deref.ensures.value at c.in_ok-plant.ensures.loads in
     rw (p.1, p.2) (script_stopped chart script w c.in_ok-text.text.items c.in_ok-plant.plant c.in_ok-text.ensures.taken loaded
-      c.in_ok-commands.commands.items c.in_err-entries.field-0.0 c.in_ok-commands.ensures.taken
-      (lost most script.0 script.1 c.in_ok-commands.commands.items c.in_ok-commands.ensures.taken) (Keeps-same w.0)
-      (rw (c.plant.ensures, c.in_ok-resource.ensures.plant, c.deref-2.ensures.value) at c.in_err-entries.ensures))
+    c.in_ok-commands.commands.items c.in_err-entries.field-0.0 c.in_ok-commands.ensures.taken
+    (lost most script.0 script.1 c.in_ok-commands.commands.items c.in_ok-commands.ensures.taken) (Keeps-same w.0)
+    (rw (c.plant.ensures, c.in_ok-resource.ensures.plant, c.deref-2.ensures.value) at c.in_err-entries.ensures))
 
 pub returns : goal.returns
 returns g c =
@@ -68,7 +68,7 @@ returns g c =
     let w : Device = (g.W.Write.contents c.args.w.now, g.W.Write.contents c.play.new.w) in
     let loaded : IsPlantOf c.in_ok-text.text.items c.in_ok-plant.plant = rw c.deref.ensures.value at c.in_ok-plant.ensures.loads in
     let said : commands_of_script c.in_ok-plant.plant c.in_ok-commands.commands.items ≡ Ok c.in_ok-entries.entries.items =
-        rw (c.plant.ensures, c.in_ok-resource.ensures.plant, c.deref-2.ensures.value) at c.in_ok-entries.ensures in
+    rw (c.plant.ensures, c.in_ok-resource.ensures.plant, c.deref-2.ensures.value) at c.in_ok-entries.ensures in
     played chart script w c.in_ok-text.text.items c.in_ok-plant.plant c.in_ok-text.ensures.taken loaded
     c.in_ok-commands.commands.items c.in_ok-entries.entries.items c.play.result c.in_ok-commands.ensures.taken said c.play.ensures.faults
     (subst (λ plant. Writes w.0 w.1 c.play.result (lines_of_play plant [] c.in_ok-entries.entries.items)) c.in_ok-resource.ensures.plant

@@ -26,5 +26,5 @@ returns-else-from-places-clause-len c = omega (arith, length_of c.self.inside.pl
 pub returns-then-from-places-clause-ticks : goal.returns-then-from-places-clause-ticks
 returns-then-from-places-clause-ticks c =
     let few = passed c.self.inside.places (length c.args.self.now) c.args.from c.self.inside.words.items c.deref.result.now c.next.result c.self.invariant c.deref.ensures.value
-        (omega (arith, length_of c.self.inside.places c.self.inside.words.items, ap length c.self.view_is)) (omega arith) c.next.ensures.some in
+    (omega (arith, length_of c.self.inside.places c.self.inside.words.items, ap length c.self.view_is)) (omega arith) c.next.ensures.some in
     (omega (arith, c.next.ensures.ticks.0), omega (arith, c.next.ensures.ticks.1, few))
