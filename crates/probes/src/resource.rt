@@ -57,45 +57,92 @@ fn nothing_is_active_before_the_first_scan(rt: HostRuntime) -> Result<(), Fail> 
     Ok(())
 }
 
-#[test]
-fn a_lamp_is_lit_from_the_first_scan_on(rt: HostRuntime) -> Result<(), Fail> {
-    let mut bench = Bench::open(rt.alloc(), one_step())?;
-    let wanted = [
-        "1 active [0] activated [0] elapsed [0] cleared [] q [0] executed [0] true [0]",
-        "2 active [0] activated [] elapsed [10000] cleared [] q [0] executed [0] true [0]",
-        "3 active [0] activated [] elapsed [20000] cleared [] q [0] executed [0] true [0]",
-    ];
-    for (t, wanted) in [0, 10_000, 20_000].into_iter().zip(wanted) {
-        check_scan(&rt, rt.alloc(), &mut bench, t, wanted)?;
+// A scan at its instant, and what it shows.
+type Shown = (i64, &'static str);
+
+// Asks for these scans of the bench.
+fn check_scans(
+    rt: &impl Abort,
+    alloc: Global,
+    bench: &mut Bench,
+    wanted: &[Shown],
+) -> Result<(), Fail> {
+    for (t, wanted) in wanted {
+        check_scan(rt, alloc, bench, *t, wanted)?;
     }
     Ok(())
 }
 
+// Asks for these scans of a new bench of the chart.
+fn check_chart(rt: &impl Abort, alloc: Global, text: &[u8], wanted: &[Shown]) -> Result<(), Fail> {
+    let mut bench = Bench::open(alloc, text)?;
+    check_scans(rt, alloc, &mut bench, wanted)
+}
+
+// What the chart of one step shows.
+fn lit() -> &'static [Shown] {
+    &[
+        (
+            0,
+            "1 active [0] activated [0] elapsed [0] cleared [] q [0] executed [0] true [0]",
+        ),
+        (
+            10_000,
+            "2 active [0] activated [] elapsed [10000] cleared [] q [0] executed [0] true [0]",
+        ),
+        (
+            20_000,
+            "3 active [0] activated [] elapsed [20000] cleared [] q [0] executed [0] true [0]",
+        ),
+    ]
+}
+
+#[test]
+fn a_lamp_is_lit_from_the_first_scan_on(rt: HostRuntime) -> Result<(), Fail> {
+    check_chart(&rt, rt.alloc(), one_step(), lit())
+}
+
 // What the chart that goes along shows after two scans and the input.
-const ABOUT_TO_GO: &str =
-    "2 active [0] activated [] elapsed [10000, 0] cleared [] q [1] executed [1] true [0, 1]";
+fn about_to_go_text() -> &'static str {
+    "2 active [0] activated [] elapsed [10000, 0] cleared [] q [1] executed [1] true [0, 1]"
+}
+
+// What its first two scans show.
+fn waiting() -> &'static [Shown] {
+    &[
+        (
+            0,
+            "1 active [0] activated [0] elapsed [0, 0] cleared [] q [1] executed [1] true [1]",
+        ),
+        (
+            10_000,
+            "2 active [0] activated [] elapsed [10000, 0] cleared [] q [1] executed [1] true [1]",
+        ),
+    ]
+}
 
 // The chart that goes along, after two scans and the input.
 fn about_to_go(rt: &impl Abort, alloc: Global) -> Result<Bench, Fail> {
     let mut bench = going(alloc)?;
-    check_scan(
-        rt,
-        alloc,
-        &mut bench,
-        0,
-        "1 active [0] activated [0] elapsed [0, 0] cleared [] q [1] executed [1] true [1]",
-    )?;
-    check_scan(
-        rt,
-        alloc,
-        &mut bench,
-        10_000,
-        "2 active [0] activated [] elapsed [10000, 0] cleared [] q [1] executed [1] true [1]",
-    )?;
+    check_scans(rt, alloc, &mut bench, waiting())?;
     let answer = bench.apply(Event::Input(VarId(0), Value::Bool(true)), 15_000);
     assert_eq!(rt; answer, Ok(Outcome::Done));
-    check(rt, alloc, &bench, ABOUT_TO_GO)?;
+    check(rt, alloc, &bench, about_to_go_text())?;
     Ok(bench)
+}
+
+// What its next two scans show.
+fn gone() -> &'static [Shown] {
+    &[
+        (
+            20_000,
+            "3 active [1] activated [1] elapsed [20000, 0] cleared [0] q [] executed [1] true [0]",
+        ),
+        (
+            30_000,
+            "4 active [1] activated [] elapsed [20000, 10000] cleared [] q [] executed [] true [0]",
+        ),
+    ]
 }
 
 #[test]
@@ -103,57 +150,70 @@ fn a_step_that_is_left_keeps_its_time_and_its_action_has_a_final_scan(
     rt: HostRuntime,
 ) -> Result<(), Fail> {
     let mut bench = about_to_go(&rt, rt.alloc())?;
-    check_scan(
-        &rt,
-        rt.alloc(),
-        &mut bench,
-        20_000,
-        "3 active [1] activated [1] elapsed [20000, 0] cleared [0] q [] executed [1] true [0]",
-    )?;
-    check_scan(
-        &rt,
-        rt.alloc(),
-        &mut bench,
-        30_000,
-        "4 active [1] activated [] elapsed [20000, 10000] cleared [] q [] executed [] true [0]",
-    )
+    check_scans(&rt, rt.alloc(), &mut bench, gone())
+}
+
+// A step with a transition to itself, and an action that is associated twice.
+fn loop_text() -> &'static [u8] {
+    b"PROGRAM Mix INITIAL_STEP S: B(N); A(N); B(N); END_STEP \
+TRANSITION FROM S TO S := TRUE; END_TRANSITION END_PROGRAM CONFIGURATION C RESOURCE R ON Plc \
+VAR_GLOBAL A, B : BOOL; END_VAR TASK Main(INTERVAL := T#10ms, PRIORITY := 1); \
+PROGRAM P WITH Main : Mix; END_RESOURCE END_CONFIGURATION"
+}
+
+// What it shows.
+fn looped() -> &'static [Shown] {
+    &[
+        (
+            0,
+            "1 active [0] activated [0] elapsed [0] cleared [] q [1, 0] executed [1, 0] true [0, 1]",
+        ),
+        (
+            10_000,
+            "2 active [0] activated [0] elapsed [0] cleared [0] q [1, 0] executed [1, 0] true [0, 1]",
+        ),
+        (
+            20_000,
+            "3 active [0] activated [0] elapsed [0] cleared [0] q [1, 0] executed [1, 0] true [0, 1]",
+        ),
+    ]
 }
 
 #[test]
 fn each_activation_begins_the_time_anew(rt: HostRuntime) -> Result<(), Fail> {
-    let text = b"PROGRAM Mix INITIAL_STEP S: B(N); A(N); B(N); END_STEP \
-TRANSITION FROM S TO S := TRUE; END_TRANSITION END_PROGRAM CONFIGURATION C RESOURCE R ON Plc \
-VAR_GLOBAL A, B : BOOL; END_VAR TASK Main(INTERVAL := T#10ms, PRIORITY := 1); \
-PROGRAM P WITH Main : Mix; END_RESOURCE END_CONFIGURATION";
-    let mut bench = Bench::open(rt.alloc(), text)?;
-    let wanted = [
-        "1 active [0] activated [0] elapsed [0] cleared [] q [1, 0] executed [1, 0] true [0, 1]",
-        "2 active [0] activated [0] elapsed [0] cleared [0] q [1, 0] executed [1, 0] true [0, 1]",
-        "3 active [0] activated [0] elapsed [0] cleared [0] q [1, 0] executed [1, 0] true [0, 1]",
-    ];
-    for (t, wanted) in [0, 10_000, 20_000].into_iter().zip(wanted) {
-        check_scan(&rt, rt.alloc(), &mut bench, t, wanted)?;
-    }
-    Ok(())
+    check_chart(&rt, rt.alloc(), loop_text(), looped())
+}
+
+// Two transitions from one step, and one from the step behind the first.
+fn fork_text() -> &'static [u8] {
+    b"PROGRAM Mix STEP S1: END_STEP INITIAL_STEP S0: END_STEP STEP S2: END_STEP \
+TRANSITION FROM S0 TO S1 := TRUE; END_TRANSITION TRANSITION FROM S1 TO S2 := TRUE; END_TRANSITION \
+TRANSITION FROM S0 TO S2 := TRUE; END_TRANSITION END_PROGRAM CONFIGURATION C RESOURCE R ON Plc \
+VAR_GLOBAL END_VAR TASK Main(INTERVAL := T#10ms, PRIORITY := 1); \
+PROGRAM P WITH Main : Mix; END_RESOURCE END_CONFIGURATION"
+}
+
+// What it shows.
+fn forked() -> &'static [Shown] {
+    &[
+        (
+            0,
+            "1 active [1] activated [1] elapsed [0, 0, 0] cleared [] q [] executed [] true []",
+        ),
+        (
+            10_000,
+            "2 active [0] activated [0] elapsed [0, 10000, 0] cleared [0] q [] executed [] true []",
+        ),
+        (
+            20_000,
+            "3 active [2] activated [2] elapsed [10000, 10000, 0] cleared [1] q [] executed [] true []",
+        ),
+    ]
 }
 
 #[test]
 fn a_scan_goes_one_step_and_the_first_transition_wins(rt: HostRuntime) -> Result<(), Fail> {
-    let text = b"PROGRAM Mix STEP S1: END_STEP INITIAL_STEP S0: END_STEP STEP S2: END_STEP \
-TRANSITION FROM S0 TO S1 := TRUE; END_TRANSITION TRANSITION FROM S1 TO S2 := TRUE; END_TRANSITION \
-TRANSITION FROM S0 TO S2 := TRUE; END_TRANSITION END_PROGRAM CONFIGURATION C RESOURCE R ON Plc \
-VAR_GLOBAL END_VAR TASK Main(INTERVAL := T#10ms, PRIORITY := 1); \
-PROGRAM P WITH Main : Mix; END_RESOURCE END_CONFIGURATION";
-    let mut bench = Bench::open(rt.alloc(), text)?;
-    let wanted = [
-        "1 active [1] activated [1] elapsed [0, 0, 0] cleared [] q [] executed [] true []",
-        "2 active [0] activated [0] elapsed [0, 10000, 0] cleared [0] q [] executed [] true []",
-        "3 active [2] activated [2] elapsed [10000, 10000, 0] cleared [1] q [] executed [] true []",
-    ];
-    for (t, wanted) in [0, 10_000, 20_000].into_iter().zip(wanted) {
-        check_scan(&rt, rt.alloc(), &mut bench, t, wanted)?;
-    }
-    Ok(())
+    check_chart(&rt, rt.alloc(), fork_text(), forked())
 }
 
 // Events that the chart that goes along refuses then, each with its instant.
@@ -221,6 +281,11 @@ const REFUSED: [(Event, i64, Refusal); 17] = [
     ),
 ];
 
+// The same, behind a function, so that no proof goes through them.
+fn refused_events() -> &'static [(Event, i64, Refusal)] {
+    &REFUSED
+}
+
 // Asks for this refusal, after which the bench shows what it showed before.
 fn check_refused(
     rt: &impl Abort,
@@ -232,13 +297,13 @@ fn check_refused(
     let answer = bench.apply(event, t);
     assert_eq!(rt; answer, Err(refusal), "of {event:?} at {t}");
     assert_eq!(rt; bench.overruns(), Some(0));
-    check(rt, alloc, bench, ABOUT_TO_GO)
+    check(rt, alloc, bench, about_to_go_text())
 }
 
 #[test]
 fn a_refused_event_leaves_all_as_it_was(rt: HostRuntime) -> Result<(), Fail> {
     let mut bench = about_to_go(&rt, rt.alloc())?;
-    for refused in &REFUSED {
+    for refused in refused_events() {
         check_refused(&rt, rt.alloc(), &mut bench, refused)?;
     }
     Ok(())
@@ -256,10 +321,15 @@ const EVENTS: [(Event, i64); 8] = [
     (Event::Scan(TaskId(0)), 20_000),
 ];
 
+// The same, behind a function.
+fn some_events() -> &'static [(Event, i64)] {
+    &EVENTS
+}
+
 #[test]
 fn a_list_of_events_goes_on_after_refusals(rt: HostRuntime) -> Result<(), Fail> {
     let mut bench = going(rt.alloc())?;
-    assert_eq!(rt; bench.run(&EVENTS), 4);
+    assert_eq!(rt; bench.run(some_events()), 4);
     check(
         &rt,
         rt.alloc(),
