@@ -149,49 +149,61 @@ fn plain_mesh(alloc: Global) -> Plain<'static> {
     Plain::new(alloc, transitions(), initial())
 }
 
-// One scan of both at this instant, after the inputs have these values, and how many transitions it cleared.
-fn scan_both(
-    rt: &impl Abort,
-    alloc: Global,
-    bodies: (&mut Bench, &mut Plain<'static>),
-    holds: &[bool],
-    t: i64,
-) -> Result<usize, Fail> {
-    let (bench, plain) = bodies;
-    set_inputs(rt, bench, holds, t);
-    scan(rt, bench, t);
-    let cleared = plain.scan(alloc, holds, t)?;
-    check(rt, alloc, bench, plain)?;
-    Ok(cleared)
-}
-
 // The instant of a scan: up to two milliseconds behind its release.
 fn instant(number: i64) -> i64 {
     let release = number.wrapping_mul(10_000);
     release.wrapping_add(number.wrapping_rem(3).wrapping_mul(1_000))
 }
 
-// Asks that the bench shows what the plain body shows.
-fn check(rt: &impl Abort, alloc: Global, bench: &Bench, plain: &Plain<'_>) -> Result<(), Fail> {
-    let found = bench.shown(alloc)?;
-    let wanted = plain.shown(alloc)?;
-    assert_eq!(rt; found.as_str(), wanted.as_str());
-    Ok(())
+// The mesh on the bench and as a plain body.
+#[derive(Drop)]
+struct Both {
+    bench: Bench,
+    plain: Plain<'static>,
+}
+
+impl Both {
+    // Both before the first scan.
+    fn new(alloc: Global) -> Result<Both, Fail> {
+        let bench = mesh(alloc)?;
+        let plain = plain_mesh(alloc);
+        Ok(Both { bench, plain })
+    }
+
+    // Asks that the bench shows what the plain body shows.
+    fn check(&self, rt: &impl Abort, alloc: Global) -> Result<(), Fail> {
+        let found = self.bench.shown(alloc)?;
+        let wanted = self.plain.shown(alloc)?;
+        assert_eq!(rt; found.as_str(), wanted.as_str());
+        Ok(())
+    }
+
+    // Gives both these inputs and scans them at this instant: how many transitions were cleared.
+    fn scan(
+        &mut self,
+        rt: &impl Abort,
+        alloc: Global,
+        holds: &[bool],
+        t: i64,
+    ) -> Result<usize, Fail> {
+        set_inputs(rt, &mut self.bench, holds, t);
+        scan(rt, &mut self.bench, t);
+        Ok(self.plain.scan(alloc, holds, t)?)
+    }
 }
 
 // A run of a new bench and of a new plain body from a seed, compared after each scan. It tells how many transitions
 // were cleared.
 fn check_run(rt: &impl Abort, alloc: Global, seed: u32) -> Result<usize, Fail> {
-    let mut bench = mesh(alloc)?;
-    let mut plain = plain_mesh(alloc);
+    let mut both = Both::new(alloc)?;
     let mut dice = Dice { seed };
     let mut count: usize = 0;
-    check(rt, alloc, &bench, &plain)?;
+    both.check(rt, alloc)?;
     for number in 0..SCANS {
         let holds = dice.throws(alloc)?;
-        let both = (&mut bench, &mut plain);
-        let cleared = scan_both(rt, alloc, both, &holds, instant(number))?;
+        let cleared = both.scan(rt, alloc, &holds, instant(number))?;
         count = count.wrapping_add(cleared);
+        both.check(rt, alloc)?;
     }
     Ok(count)
 }

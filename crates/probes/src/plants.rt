@@ -1,11 +1,16 @@
 //! What is loaded of a text: each part of the plant.
 
-use sfc_chart::chart::ProgramType;
+use sfc_chart::chart::{ProgramType, Step, Target, Transition};
+use sfc_chart::expr::Expr;
 use sfc_chart::ids::{ProgId, TaskId, VarId};
 use sfc_chart::load::load;
 use sfc_chart::name_key::NameKey;
 use sfc_chart::plant::{Instance, Plant, Task, Variable};
+use sfc_chart::value::Value;
+use sfc_text::location::{Area, Size};
 use sfc_text::read::read;
+use sfc_text::tree::Qualifier;
+use sfc_text::var_type::VarType;
 use std::alloc::{AllocError, Global};
 use std::process::Abort;
 use std::test::Fail;
@@ -43,121 +48,124 @@ fn types(plant: &Plant) -> &[ProgramType] {
     plant.types()
 }
 
-// The three names above all else, the task and the instance.
-fn heads(
-    alloc: Global,
-    plant: &Plant,
-    task: &Task,
-    instance: &Instance,
-) -> Result<String, AllocError> {
-    let configuration = plant.configuration().spelling().escape_ascii();
-    let resource = plant.resource().spelling().escape_ascii();
-    let processor = plant.processor().spelling().escape_ascii();
-    let (task_name, interval, priority) = (
-        task.name.spelling().escape_ascii(),
-        task.interval,
-        task.priority,
-    );
-    let (name, given, program) = (
-        instance.name.spelling().escape_ascii(),
-        instance.task,
-        instance.program,
-    );
-    format!(in alloc;
-        "{configuration} {resource} {processor}, {task_name} {interval} {priority}, {name} {given:?} {program}"
-    )
+// Whether configuration, resource and processor have these names.
+fn is_headed(plant: &Plant, configuration: &[u8], resource: &[u8], processor: &[u8]) -> bool {
+    plant.configuration().spelling() == configuration
+        && plant.resource().spelling() == resource
+        && plant.processor().spelling() == processor
+}
+
+// Whether it is the task of the chart.
+fn is_task(task: &Task) -> bool {
+    task.name.spelling() == b"Main".as_slice() && task.interval == 10_000 && task.priority == 1
+}
+
+// Whether it is the instance of the chart.
+fn is_instance(instance: &Instance) -> bool {
+    instance.name.spelling() == b"P".as_slice()
+        && instance.task == TaskId(0)
+        && instance.program == 0
 }
 
 #[test]
 fn names_the_task_and_the_instance_are_kept(rt: HostRuntime) -> Result<(), Fail> {
     let plant = plant(rt.alloc())?;
+    assert!(rt; is_headed(&plant, b"C", b"R", b"Plc"));
     let ([task], [instance]) = (tasks(&plant), instances(&plant)) else {
         rt.panic("a task and an instance")
     };
-    let found = heads(rt.alloc(), &plant, task, instance)?;
-    assert_eq!(rt; found.as_str(), "C R Plc, Main 10000 1, P TaskId(0) 0");
+    assert!(rt; is_task(task));
+    assert!(rt; is_instance(instance));
     Ok(())
 }
 
-// A variable's name, type, first value and location.
-fn variable_text(alloc: Global, variable: &Variable) -> Result<String, AllocError> {
-    let name = variable.name.spelling().escape_ascii();
-    let (var_type, initial, location) = (variable.var_type, variable.initial, &variable.location);
-    format!(in alloc; "{name} {var_type:?} {initial:?} {location:?}")
+// Whether it has this name, is BOOL and begins FALSE.
+fn is_variable(variable: &Variable, name: &[u8]) -> bool {
+    variable.name.spelling() == name
+        && variable.var_type == VarType::Bool
+        && variable.initial == Value::Bool(false)
 }
 
-// The variables' texts, a line each.
-fn variables_text(alloc: Global, variables: &[Variable]) -> Result<String, AllocError> {
-    let mut text = String::new(alloc);
-    for variable in variables {
-        let line = variable_text(alloc, variable)?;
-        text.push_str(line.as_str())?;
-        text.push('\n')?;
+// Whether it lies there.
+fn lies_at(variable: &Variable, area: Area, numbers: &[u32]) -> bool {
+    match &variable.location {
+        Some(location) => {
+            location.area() == area && location.size() == Size::Bit && location.numbers() == numbers
+        }
+        None => false,
     }
-    Ok(text)
 }
 
 #[test]
 fn variables_stand_in_the_order_of_the_text(rt: HostRuntime) -> Result<(), Fail> {
     let plant = plant(rt.alloc())?;
-    let found = variables_text(rt.alloc(), variables(&plant))?;
-    assert!(rt;
-        found.as_str()
-            == "\
-Go Bool Bool(false) Some(Location { area: Input, size: Bit, numbers: Items { elements: [0, 1] } })
-a Bool Bool(false) None
-B Bool Bool(false) None
-Out Bool Bool(false) Some(Location { area: Output, size: Bit, numbers: Items { elements: [2] } })
-"
-    );
+    let [go, a, b, out] = variables(&plant) else {
+        rt.panic("four variables")
+    };
+    assert!(rt; is_variable(go, b"Go") && lies_at(go, Area::Input, &[0, 1]));
+    assert!(rt; is_variable(a, b"a") && a.location.is_none());
+    assert!(rt; is_variable(b, b"B") && b.location.is_none());
+    assert!(rt; is_variable(out, b"Out") && lies_at(out, Area::Output, &[2]));
     Ok(())
 }
 
-// The steps of a program type, each with its associations.
-fn steps_text(alloc: Global, program: &ProgramType) -> Result<String, AllocError> {
-    let mut text = String::new(alloc);
-    for step in program.chart.steps.as_slice() {
-        let (name, is_initial) = (step.name.spelling().escape_ascii(), step.is_initial);
-        let mut targets = Vec::new(alloc);
-        targets.extend_from_slice(step.associations.as_slice())?;
-        write!(text, "{name} {is_initial} {targets:?}\n")?;
+// The numbers of the variables that the step associates, all by N.
+fn targets(alloc: Global, step: &Step) -> Result<Vec<u16>, AllocError> {
+    let mut numbers = Vec::new(alloc);
+    for association in step.associations.as_slice() {
+        let (Qualifier::NonStored, Target::Boolean(id)) = (
+            association.qualifier,
+            association.target,
+        );
+        numbers.push(id.0)?;
     }
-    Ok(text)
+    Ok(numbers)
 }
 
-// The transitions of a program type.
-fn transitions_text(alloc: Global, program: &ProgramType) -> Result<String, AllocError> {
-    let mut text = String::new(alloc);
-    for transition in program.chart.transitions.as_slice() {
-        let (from, to) = (
-            transition.preceding.as_slice(),
-            transition.following.as_slice(),
-        );
-        let condition = transition.condition;
-        write!(text, "{from:?} {to:?} {condition:?}\n")?;
-    }
-    Ok(text)
+// Whether the step has this name, and is initial or not.
+fn is_step(step: &Step, name: &[u8], is_initial: bool) -> bool {
+    step.name.spelling() == name && step.is_initial == is_initial
+}
+
+// The program type of the chart.
+fn program<'a>(rt: &impl Abort, plant: &'a Plant) -> &'a ProgramType {
+    let [program] = types(plant) else {
+        rt.panic("one program type")
+    };
+    program
+}
+
+#[test]
+fn steps_stand_in_the_order_of_the_text(rt: HostRuntime) -> Result<(), Fail> {
+    let plant = plant(rt.alloc())?;
+    let program = program(&rt, &plant);
+    assert!(rt; program.name.spelling() == b"Mix".as_slice());
+    let [first, second, third] = program.chart.steps.as_slice() else {
+        rt.panic("three steps")
+    };
+    assert!(rt; is_step(first, b"S1", false) && first.associations.is_empty());
+    assert!(rt; is_step(second, b"s2", true));
+    assert!(rt; targets(rt.alloc(), second)?.as_slice() == [3, 1, 1].as_slice());
+    assert!(rt; is_step(third, b"S3", false) && third.associations.is_empty());
+    Ok(())
+}
+
+// Whether the transition joins these steps under this condition.
+fn is_transition(transition: &Transition, from: usize, to: usize, condition: Expr) -> bool {
+    transition.preceding.as_slice() == [from].as_slice()
+        && transition.following.as_slice() == [to].as_slice()
+        && transition.condition == condition
 }
 
 #[test]
 fn a_program_type_has_numbers_in_the_place_of_names(rt: HostRuntime) -> Result<(), Fail> {
     let plant = plant(rt.alloc())?;
-    let [program] = types(&plant) else {
-        rt.panic("one program type")
+    let program = program(&rt, &plant);
+    let [first, second] = program.chart.transitions.as_slice() else {
+        rt.panic("two transitions")
     };
-    assert_eq!(rt; program.name.spelling(), b"Mix".as_slice());
-    assert_eq!(rt;
-        steps_text(rt.alloc(), program)?.as_str(),
-        "S1 false []\n\
-         s2 true [Association { qualifier: NonStored, target: Boolean(VarId(3)) }, \
-         Association { qualifier: NonStored, target: Boolean(VarId(1)) }, \
-         Association { qualifier: NonStored, target: Boolean(VarId(1)) }]\n\
-         S3 false []\n"
-    );
-    assert_eq!(rt;
-        transitions_text(rt.alloc(), program)?.as_str(),
-        "[1] [0] Variable(VarId(0))\n[2] [1] Literal(Bool(false))\n"
-    );
+    assert!(rt; is_transition(first, 1, 0, Expr::Variable(VarId(0))));
+    assert!(rt; is_transition(second, 2, 1, Expr::Literal(Value::Bool(false))));
     Ok(())
 }
 
