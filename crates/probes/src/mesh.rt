@@ -192,20 +192,36 @@ impl Both {
     }
 }
 
-// A run of a new bench and of a new plain body from a seed, compared after each scan. It tells how many transitions
-// were cleared.
-fn check_run(rt: &impl Abort, alloc: Global, seed: u32) -> Result<usize, Fail> {
-    let mut both = Both::new(alloc)?;
+// The scan of this number of both, with new inputs, and what they show then. It tells how many transitions were cleared.
+fn check_number(
+    rt: &impl Abort,
+    alloc: Global,
+    both: &mut Both,
+    dice: &mut Dice,
+    number: i64,
+) -> Result<usize, Fail> {
+    let holds = dice.throws(alloc)?;
+    let cleared = both.scan(rt, alloc, &holds, instant(number))?;
+    both.check(rt, alloc)?;
+    Ok(cleared)
+}
+
+// A run of both from a seed, compared after each scan. It tells how many transitions were cleared.
+fn check_scans(rt: &impl Abort, alloc: Global, both: &mut Both, seed: u32) -> Result<usize, Fail> {
     let mut dice = Dice { seed };
     let mut count: usize = 0;
     both.check(rt, alloc)?;
     for number in 0..SCANS {
-        let holds = dice.throws(alloc)?;
-        let cleared = both.scan(rt, alloc, &holds, instant(number))?;
+        let cleared = check_number(rt, alloc, both, &mut dice, number)?;
         count = count.wrapping_add(cleared);
-        both.check(rt, alloc)?;
     }
     Ok(count)
+}
+
+// The same, of both as they are before the first scan.
+fn check_run(rt: &impl Abort, alloc: Global, seed: u32) -> Result<usize, Fail> {
+    let mut both = Both::new(alloc)?;
+    check_scans(rt, alloc, &mut both, seed)
 }
 
 #[test]

@@ -96,16 +96,28 @@ fn lies_at(variable: &Variable, area: Area, numbers: &[u32]) -> bool {
     }
 }
 
+// Asks for the two variables that are located.
+fn check_located(rt: &impl Abort, first: &Variable, last: &Variable) {
+    assert!(rt; is_variable(first, b"Go"));
+    assert!(rt; lies_at(first, Area::Input, &[0, 1]));
+    assert!(rt; is_variable(last, b"Out"));
+    assert!(rt; lies_at(last, Area::Output, &[2]));
+}
+
+// Asks for the variables of the chart.
+fn check_variables(rt: &impl Abort, variables: &[Variable]) {
+    let [go, a, b, out] = variables else {
+        rt.panic("four variables")
+    };
+    check_located(rt, go, out);
+    assert!(rt; is_variable(a, b"a") && a.location.is_none());
+    assert!(rt; is_variable(b, b"B") && b.location.is_none());
+}
+
 #[test]
 fn variables_stand_in_the_order_of_the_text(rt: HostRuntime) -> Result<(), Fail> {
     let plant = plant(rt.alloc())?;
-    let [go, a, b, out] = variables(&plant) else {
-        rt.panic("four variables")
-    };
-    assert!(rt; is_variable(go, b"Go") && lies_at(go, Area::Input, &[0, 1]));
-    assert!(rt; is_variable(a, b"a") && a.location.is_none());
-    assert!(rt; is_variable(b, b"B") && b.location.is_none());
-    assert!(rt; is_variable(out, b"Out") && lies_at(out, Area::Output, &[2]));
+    check_variables(&rt, variables(&plant));
     Ok(())
 }
 
@@ -127,26 +139,15 @@ fn is_step(step: &Step, name: &[u8], is_initial: bool) -> bool {
     step.name.spelling() == name && step.is_initial == is_initial
 }
 
-// The program type of the chart.
-fn program<'a>(rt: &impl Abort, plant: &'a Plant) -> &'a ProgramType {
-    let [program] = types(plant) else {
-        rt.panic("one program type")
-    };
-    program
-}
-
-#[test]
-fn steps_stand_in_the_order_of_the_text(rt: HostRuntime) -> Result<(), Fail> {
-    let plant = plant(rt.alloc())?;
-    let program = program(&rt, &plant);
-    assert!(rt; program.name.spelling() == b"Mix".as_slice());
-    let [first, second, third] = program.chart.steps.as_slice() else {
+// Asks for the steps of the chart.
+fn check_steps(rt: &impl Abort, alloc: Global, steps: &[Step]) -> Result<(), Fail> {
+    let [first, second, third] = steps else {
         rt.panic("three steps")
     };
     assert!(rt; is_step(first, b"S1", false) && first.associations.is_empty());
-    assert!(rt; is_step(second, b"s2", true));
-    assert!(rt; targets(rt.alloc(), second)?.as_slice() == [3, 1, 1].as_slice());
     assert!(rt; is_step(third, b"S3", false) && third.associations.is_empty());
+    assert!(rt; is_step(second, b"s2", true));
+    assert!(rt; targets(alloc, second)?.as_slice() == [3, 1, 1].as_slice());
     Ok(())
 }
 
@@ -157,16 +158,29 @@ fn is_transition(transition: &Transition, from: usize, to: usize, condition: Exp
         && transition.condition == condition
 }
 
-#[test]
-fn a_program_type_has_numbers_in_the_place_of_names(rt: HostRuntime) -> Result<(), Fail> {
-    let plant = plant(rt.alloc())?;
-    let program = program(&rt, &plant);
-    let [first, second] = program.chart.transitions.as_slice() else {
+// Asks for the transitions of the chart.
+fn check_transitions(rt: &impl Abort, transitions: &[Transition]) {
+    let [first, second] = transitions else {
         rt.panic("two transitions")
     };
     assert!(rt; is_transition(first, 1, 0, Expr::Variable(VarId(0))));
     assert!(rt; is_transition(second, 2, 1, Expr::Literal(Value::Bool(false))));
-    Ok(())
+}
+
+// Asks for the program type of the chart.
+fn check_type(rt: &impl Abort, alloc: Global, types: &[ProgramType]) -> Result<(), Fail> {
+    let [program] = types else {
+        rt.panic("one program type")
+    };
+    assert!(rt; program.name.spelling() == b"Mix".as_slice());
+    check_transitions(rt, program.chart.transitions.as_slice());
+    check_steps(rt, alloc, program.chart.steps.as_slice())
+}
+
+#[test]
+fn a_program_type_has_numbers_in_the_place_of_names(rt: HostRuntime) -> Result<(), Fail> {
+    let plant = plant(rt.alloc())?;
+    check_type(&rt, rt.alloc(), types(&plant))
 }
 
 // The variable, the task and the instance of a name.

@@ -43,18 +43,19 @@ fn check_scan(
     check(rt, alloc, bench, wanted)
 }
 
+// Asks that no event has come yet.
+fn check_fresh(rt: &impl Abort, alloc: Global, bench: &Bench) -> Result<(), Fail> {
+    let wanted = "0 active [] activated [] elapsed [0, 0] cleared [] q [] executed [] true []";
+    check(rt, alloc, bench, wanted)?;
+    assert!(rt; bench.overruns() == Some(0));
+    assert!(rt; bench.plant().resource().spelling() == b"R".as_slice());
+    Ok(())
+}
+
 #[test]
 fn nothing_is_active_before_the_first_scan(rt: HostRuntime) -> Result<(), Fail> {
     let bench = going(rt.alloc())?;
-    check(
-        &rt,
-        rt.alloc(),
-        &bench,
-        "0 active [] activated [] elapsed [0, 0] cleared [] q [] executed [] true []",
-    )?;
-    assert_eq!(rt; bench.overruns(), Some(0));
-    assert_eq!(rt; bench.plant().resource().spelling(), b"R".as_slice());
-    Ok(())
+    check_fresh(&rt, rt.alloc(), &bench)
 }
 
 // A scan at its instant, and what it shows.
@@ -121,14 +122,12 @@ fn waiting() -> &'static [Shown] {
     ]
 }
 
-// The chart that goes along, after two scans and the input.
-fn about_to_go(rt: &impl Abort, alloc: Global) -> Result<Bench, Fail> {
-    let mut bench = going(alloc)?;
-    check_scans(rt, alloc, &mut bench, waiting())?;
+// Brings the chart that goes along to where it was scanned twice and has the input.
+fn press(rt: &impl Abort, alloc: Global, bench: &mut Bench) -> Result<(), Fail> {
+    check_scans(rt, alloc, bench, waiting())?;
     let answer = bench.apply(Event::Input(VarId(0), Value::Bool(true)), 15_000);
-    assert_eq!(rt; answer, Ok(Outcome::Done));
-    check(rt, alloc, &bench, about_to_go_text())?;
-    Ok(bench)
+    assert!(rt; answer == Ok(Outcome::Done));
+    check(rt, alloc, bench, about_to_go_text())
 }
 
 // What its next two scans show.
@@ -145,12 +144,18 @@ fn gone() -> &'static [Shown] {
     ]
 }
 
+// Asks for these scans behind the input.
+fn check_gone(rt: &impl Abort, alloc: Global, bench: &mut Bench) -> Result<(), Fail> {
+    press(rt, alloc, bench)?;
+    check_scans(rt, alloc, bench, gone())
+}
+
 #[test]
 fn a_step_that_is_left_keeps_its_time_and_its_action_has_a_final_scan(
     rt: HostRuntime,
 ) -> Result<(), Fail> {
-    let mut bench = about_to_go(&rt, rt.alloc())?;
-    check_scans(&rt, rt.alloc(), &mut bench, gone())
+    let mut bench = going(rt.alloc())?;
+    check_gone(&rt, rt.alloc(), &mut bench)
 }
 
 // A step with a transition to itself, and an action that is associated twice.
@@ -300,13 +305,29 @@ fn check_refused(
     check(rt, alloc, bench, about_to_go_text())
 }
 
-#[test]
-fn a_refused_event_leaves_all_as_it_was(rt: HostRuntime) -> Result<(), Fail> {
-    let mut bench = about_to_go(&rt, rt.alloc())?;
-    for refused in refused_events() {
-        check_refused(&rt, rt.alloc(), &mut bench, refused)?;
+// Asks for these refusals, one after the other.
+fn check_all_refused(
+    rt: &impl Abort,
+    alloc: Global,
+    bench: &mut Bench,
+    events: &[(Event, i64, Refusal)],
+) -> Result<(), Fail> {
+    for refused in events {
+        check_refused(rt, alloc, bench, refused)?;
     }
     Ok(())
+}
+
+// The same behind the input.
+fn check_refusals(rt: &impl Abort, alloc: Global, bench: &mut Bench) -> Result<(), Fail> {
+    press(rt, alloc, bench)?;
+    check_all_refused(rt, alloc, bench, refused_events())
+}
+
+#[test]
+fn a_refused_event_leaves_all_as_it_was(rt: HostRuntime) -> Result<(), Fail> {
+    let mut bench = going(rt.alloc())?;
+    check_refusals(&rt, rt.alloc(), &mut bench)
 }
 
 // Events of which four are accepted.
