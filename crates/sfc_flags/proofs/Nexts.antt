@@ -1,6 +1,5 @@
 -- The first set place.
-use Rattle.std.proofs.Common.{◌≡◌, ℕ, suc, zero, ◌+◌, ◌-◌, ◌*◌, ◌/◌, ◌%◌, ◌^◌, ◌<◌, ◌≤◌, ◌==◌, Bool, true, false, cond, List, [], ◌∷◌, length, drop, get_or, ◌∙◌, ap, refl, sym, inl, inr, arith, w64, subst}
-use mathlib.Core.Logic.{◌⊎◌}
+use Rattle.std.proofs.Common.{◌≡◌, ℕ, suc, zero, ◌+◌, ◌-◌, ◌*◌, ◌/◌, ◌%◌, ◌^◌, ◌<◌, ◌≤◌, ◌==◌, Bool, true, false, List, [], ◌∷◌, length, get_or, ◌∙◌, ap, refl, sym, inl, inr, arith, w64, subst}
 use Rattle.std.proofs.lemmas.Bool.{cases_lt}
 use Rattle.std.proofs.lemmas.List.{drop_all, get_or_past}
 use Rattle.std.proofs.Math.Seq.{drop-cons}
@@ -9,7 +8,7 @@ use Rattle.std.proofs.lemmas.Nat.Bits.{bit_at-trailing_zeros, bit_at_above, bit_
 use native.Mathlib.Nat.{div-one}
 use Rattle.std.specs.Int.{bit_at, trailing_zeros}
 use Rattle.std.specs.Prelude.{Option, Some, None, IfSome}
-use Rattle.sfc_flags.specs.Flags.{flag, set_from, places_from}
+use Rattle.sfc_flags.specs.Flags.{flag, places_from}
 use Rattle.sfc_flags.specs.Private.Bits.{flags_of, bit, IsNext, IsTable}
 use Rattle.sfc_flags.proofs.Views.{shown, below_length}
 

@@ -1,5 +1,5 @@
 -- How many places a pass over words stands for.
-use Rattle.std.proofs.Common.{◌≡◌, ℕ, suc, ◌+◌, ◌-◌, ◌*◌, ◌/◌, ◌%◌, ◌≤◌, ◌<◌, List, length, Option, None, Some, IfSome, ◌∙◌, ap, arith}
+use Rattle.std.proofs.Common.{◌≡◌, ℕ, suc, ◌-◌, ◌/◌, ◌≤◌, ◌<◌, List, length, Option, None, Some, IfSome, arith}
 use Rattle.sfc_flags.specs.Flags.{places_passed}
 use Rattle.sfc_flags.specs.Private.Bits.{IsTable, IsNext, words_passed}
 

@@ -1,9 +1,9 @@
 -- The look-backs agree with their forms by the numbers of scans.
-use Rattle.std.proofs.Common.{◌≡◌, ◌⊎◌, inl, inr, Bool, true, false, List, [], ◌∷◌, ℕ, zero, suc, ◌-◌, ◌<◌, ◌≤◌, ◌==◌, length, arith, refl, ◌∙◌, ℤ, pos, ◌-ℤ◌, ◌≤ℤ◌, int_le, sym, ap}
+use Rattle.std.proofs.Common.{◌≡◌, ◌⊎◌, inl, inr, Bool, true, false, List, [], ◌∷◌, ℕ, suc, ◌-◌, ◌<◌, ◌≤◌, ◌==◌, length, arith, refl, ◌∙◌, ℤ, pos, ◌≤ℤ◌, int_le, sym, ap}
 use Rattle.std.proofs.lemmas.Int.{ints}
 use Rattle.std.proofs.lemmas.Bool.Decides.{nat_tests}
-use Rattle.sfc_timers.specs.Timers.{Bistable, Reading, is_on, s_of, r_of, input_of, preset_of, instant_of, run_of, start_of, has_elapsed}
-use Rattle.sfc_timers.specs.Numbered.{call_at, s_at, r_at, IsSetSince, reading_at, HasRunSince}
+use Rattle.sfc_timers.specs.Timers.{Bistable, Reading, is_on, s_of, r_of, input_of, run_of, start_of, has_elapsed}
+use Rattle.sfc_timers.specs.Numbered.{call_at, IsSetSince, reading_at, HasRunSince}
 
 equal_or_below : (i n : ℕ) → i ≤ suc n → (i ≡ suc n) ⊎ (i ≤ n)
 equal_or_below i n le = search (arith, nat_tests)

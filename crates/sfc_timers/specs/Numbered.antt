@@ -1,5 +1,5 @@
 -- The look-backs by the numbers of scans: a history of n calls has them at the numbers from 1 to n, the newest at n.
-use Rattle.std.specs.Prelude.{ℕ, suc, ◌-◌, ◌<◌, ◌≤◌, ◌≡◌, ◌==◌, Bool, true, false, cond, List, [], ◌∷◌, length, ℤ, pos, ◌≤ℤ◌, ◌-ℤ◌}
+use Rattle.std.specs.Prelude.{ℕ, suc, ◌-◌, ◌<◌, ◌≤◌, ◌≡◌, ◌==◌, Bool, true, false, cond, List, [], ◌∷◌, length, pos, ◌≤ℤ◌, ◌-ℤ◌}
 use Rattle.sfc_timers.specs.Timers.{Bistable, Reading, s_of, r_of, input_of, preset_of, instant_of}
 
 -- the call of this number; `none` where there is none

@@ -1,6 +1,5 @@
-use Rattle.std.proofs.Common.{◌≡◌, ◌<◌, ◌*◌, ◌^◌, ◌/◌, ◌%◌, false, refl, inl, inr, length, arith, get_or}
+use Rattle.std.proofs.Common.{◌*◌, ◌/◌, refl, inl, inr, arith}
 use Rattle.std.proofs.lemmas.Bool.{cases_lt}
-use Rattle.sfc_flags.specs.Private.Bits.{bit}
 use Rattle.sfc_flags.proofs.Nexts.{past, found, whole, none_shown, next_from}
 use Rattle.sfc_flags.proofs.words.next.Goals as goal
 

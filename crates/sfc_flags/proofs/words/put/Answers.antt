@@ -1,4 +1,3 @@
-use Rattle.std.proofs.Common.{ap, arith}
 use Rattle.sfc_flags.proofs.Tables.{put_true, put_false}
 use Rattle.sfc_flags.proofs.words.put.Goals as goal
 

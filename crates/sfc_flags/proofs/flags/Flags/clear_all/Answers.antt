@@ -1,7 +1,6 @@
 use Rattle.std.proofs.Common.{◌≡◌, length, ◌∙◌, ap, sym, arith, subst}
 use Rattle.std.specs.Vec.{with_items}
 use Rattle.std.proofs.lemmas.List.{with_items_is}
-use Rattle.sfc_flags.specs.Flags.{flag}
 use Rattle.sfc_flags.specs.Private.Bits.{flags_of, IsTable}
 use Rattle.sfc_flags.proofs.Views.{length_of, blank_table}
 use Rattle.sfc_flags.proofs.Passed.{words_within}

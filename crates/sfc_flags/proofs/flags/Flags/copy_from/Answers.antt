@@ -1,7 +1,7 @@
-use Rattle.std.proofs.Common.{◌≡◌, length, ◌∙◌, ap, sym, arith, subst, List, ℕ}
+use Rattle.std.proofs.Common.{◌≡◌, length, ◌∙◌, ap, arith}
 use Rattle.std.specs.Vec.{with_items}
 use Rattle.std.proofs.lemmas.List.{with_items_is}
-use Rattle.sfc_flags.specs.Private.Bits.{flags_of, IsTable}
+use Rattle.sfc_flags.specs.Private.Bits.{flags_of}
 use Rattle.sfc_flags.proofs.Views.{length_of}
 use Rattle.sfc_flags.proofs.Passed.{words_within}
 use Rattle.sfc_flags.proofs.flags.Flags.copy_from.Goals as goal

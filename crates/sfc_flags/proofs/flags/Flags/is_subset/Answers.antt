@@ -1,6 +1,4 @@
-use Rattle.std.proofs.Common.{◌≡◌, ℕ, length, ◌∙◌, ap, sym, arith}
-use Rattle.sfc_flags.specs.Flags.{flag}
-use Rattle.sfc_flags.specs.Private.Bits.{bit}
+use Rattle.std.proofs.Common.{length, ◌∙◌, ap, sym, arith}
 use Rattle.sfc_flags.proofs.Views.{length_of, shown}
 use Rattle.sfc_flags.proofs.Passed.{words_within}
 use Rattle.sfc_flags.proofs.flags.Flags.is_subset.Goals as goal

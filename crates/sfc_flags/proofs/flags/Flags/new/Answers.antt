@@ -1,8 +1,7 @@
-use Rattle.std.proofs.Common.{◌≡◌, length, ◌∙◌, ap, sym, arith, rules, List, ℕ}
+use Rattle.std.proofs.Common.{◌≡◌, rules}
 use Rattle.std.specs.Prelude.{replicate}
 use Rattle.std.specs.Int.{div_ceil}
-use Rattle.sfc_flags.specs.Private.Bits.{flags_of, IsTable}
-use Rattle.sfc_flags.proofs.Views.{length_of, blank_table, zeros}
+use Rattle.sfc_flags.proofs.Views.{zeros}
 use Rattle.sfc_flags.proofs.flags.Flags.new.Goals as goal
 
 pub invariant_of-result : goal.invariant_of-result

@@ -1,9 +1,8 @@
-use Rattle.std.proofs.Common.{◌≡◌, length, ◌∙◌, ap, sym, arith, List, ℕ, subst, ◌<◌}
+use Rattle.std.proofs.Common.{◌≡◌, length, ◌∙◌, ap, sym, arith, subst, ◌<◌}
 use Rattle.std.specs.Prelude.{slice_set}
 use Rattle.std.specs.Vec.{with_items}
 use Rattle.std.proofs.lemmas.List.{with_items_is}
-use Rattle.sfc_flags.specs.Flags.{flag}
-use Rattle.sfc_flags.specs.Private.Bits.{bit, flags_of, IsTable}
+use Rattle.sfc_flags.specs.Private.Bits.{flags_of, IsTable}
 use Rattle.sfc_flags.proofs.Views.{length_of, set_table, set_shows}
 use Rattle.sfc_flags.proofs.flags.Flags.set.Goals as goal
 
