@@ -1,5 +1,0 @@
-use Rattle.sfc_text.proofs.DurationWords.{answer}
-use Rattle.sfc_text.proofs.duration.duration.Goals as goal
-
-pub returns-clause-is : goal.returns-clause-is
-returns-clause-is c = answer c.args.word.now c.value_of.result c.value_of.ensures

@@ -1,5 +1,0 @@
-use Rattle.sfc_text.proofs.Readings.{one_read}
-use Rattle.sfc_text.proofs.laws.one_reading.Goals as goal
-
-pub returns : goal.returns
-returns c = one_read

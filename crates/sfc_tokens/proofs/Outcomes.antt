@@ -1,0 +1,42 @@
+-- The outcome of a text.
+use Rattle.std.proofs.Common.{◌≡◌, ℕ, ◌≤◌, List, length, Result, Ok, Err, refl, subst, arith}
+use Rattle.sfc_tokens.specs.declared.read_error.ReadError.{ReadError}
+use Rattle.sfc_tokens.specs.declared.read_error.ReadErrorKind.{ReadErrorKind}
+use Rattle.sfc_tokens.specs.declared.read_error.ReadErrorKind.TheVariants as kind
+use Rattle.sfc_tokens.specs.declared.token.TokenKind.{TokenKind}
+use Rattle.sfc_tokens.specs.Scanning.Results.{FailsAs, Answers}
+use Rattle.sfc_tokens.specs.ReadErrors.{Read}
+use Rattle.sfc_tokens.specs.Lexemes.{Tokens, Scans}
+use Rattle.sfc_tokens.specs.Scanning.Tokens.{scan}
+use Rattle.sfc_tokens.specs.Texts as texts
+use Rattle.sfc_tokens.specs.Texts.{longest, without_mark, TextScans, FindsError, Finds}
+use Rattle.sfc_tokens.proofs.Scans.{scan_scans, one_result}
+
+finds_by : {Y : Type 0} (k : ReadErrorKind) (read : Read Y) (P : Read Y → Type 0) → FailsAs k read → P read → FindsError k P
+finds_by kind.Memory read P e h = tt
+finds_by kind.TooLong read P e h = subst P e h
+finds_by kind.NotAscii read P e h = subst P e h
+finds_by kind.BadToken read P e h = subst P e h
+finds_by kind.Syntax read P e h = subst P e h
+finds_by kind.TooDeep read P e h = subst P e h
+finds_by kind.BadDuration read P e h = subst P e h
+finds_by kind.BadNumber read P e h = subst P e h
+
+pub finds : {X Y : Type 0} (view : X → Y) (r : Result X ReadError) (read : Read Y) (P : Read Y → Type 0) → Answers view r read → P read → Finds view r P
+finds view (Ok x) read P e h = subst P e h
+finds view (Err error) read P e h = finds_by error.kind read P e h
+
+pub found : {V : Type 0} (view : V → List TokenKind) (r : Result V ReadError) (text bytes : List ℕ) → length text ≤ longest → bytes ≡ without_mark text → Answers view r (scan (length bytes) bytes) → Finds view r (λ outcome. TextScans text outcome)
+found view r text bytes le e h =
+    let s : Scans (without_mark text) (scan (length bytes) bytes) = subst (λ (x : List ℕ). Scans x (scan (length bytes) bytes)) e (scan_scans (length bytes) bytes (omega arith)) in
+    finds view r (scan (length bytes) bytes) (λ outcome. TextScans text outcome) h (texts.scanned le s)
+
+-- a text that is too long has no other outcome
+one_by : {text : List ℕ} {r s : Tokens} → TextScans text r → TextScans text s → r ≡ s
+one_by (texts.too_long lt) (texts.too_long lt') = refl
+one_by (texts.too_long lt) (texts.scanned le p) = absurd (omega (arith, lt, le))
+one_by (texts.scanned le p) (texts.too_long lt) = absurd (omega (arith, lt, le))
+one_by (texts.scanned {text = text} {outcome = r} le p) (texts.scanned {outcome = s} le' q) = one_result (without_mark text) r s p q
+
+pub one_outcome : (text : List ℕ) (r s : Tokens) → TextScans text r → TextScans text s → r ≡ s
+one_outcome text r s p q = one_by p q

@@ -1,0 +1,163 @@
+//! Durations (B.1.2.3.1).
+
+ghost use Rattle.std.specs.Prelude.{◌≡◌, ◌≤◌, ◌<◌, ◌*◌, ◌+◌, ◌^◌, true, Option, Some, None, IfSome};
+ghost use Rattle.sfc_tokens.specs.Scanning.Durations as scan;
+ghost use Rattle.sfc_tokens.specs.Durations as durations;
+
+use crate::case::is_same_word;
+use crate::number::{digit_of, integer};
+use crate::run::{Alphabet, run};
+use crate::unit::Unit;
+
+/// The greatest magnitude of a TIME value, in microseconds (our choice).
+pub const GREATEST: u64 = 0x4000_0000_0000_0000;
+
+/// The units, falling.
+const UNITS: [Unit; 5] = [
+    Unit::Day,
+    Unit::Hour,
+    Unit::Minute,
+    Unit::Second,
+    Unit::Millisecond,
+];
+
+// Whether the word is digits with single underscores between them.
+#[tactic(auto, unfolding(crate::specs::Scanning::Durations::are_digits))]
+fn are_digits(word: &[u8]) -> bool
+    ensures { result ≡ scan.are_digits true word.now }
+{
+    let mut is_wanted = true;
+    let mut rest = word;
+    'all: while let Some((byte, after)) = rest.split_first() {
+        if !is_wanted && *byte == b'_' {
+            is_wanted = true;
+        } else {
+            if digit_of(10, *byte).is_none() {
+                return false;
+            }
+            is_wanted = false;
+        }
+        rest = after;
+    }
+    !is_wanted
+}
+
+// One more digit in front of the digits that are so many microseconds.
+fn tenth_more(unit: u64, byte: u8, micros: u64) -> Option<u64>
+    requires unit_small { unit ≤ 86400000000 }
+    requires micros_small { micros ≤ unit }
+    ensures value { result ≡ scan.tenth_more unit byte micros }
+    ensures small { IfSome result (λ n. n ≤ unit) }
+{
+    if byte == b'_' {
+        return Some(micros);
+    }
+    let digit = digit_of(10, byte)?;
+    let sum = micros + u64::from(digit) * unit;
+    if sum % 10 == 0 { Some(sum / 10) } else { None }
+}
+
+// What the digits behind a decimal point are, in microseconds, where the unit has so many.
+#[tactic(auto, unfolding(crate::specs::Scanning::Durations::tenths))]
+fn tenths(unit: u64, word: &[u8]) -> Option<u64>
+    requires { unit ≤ 86400000000 }
+    ensures { result ≡ scan.tenths unit 0 word.now }
+{
+    let mut micros = 0;
+    let mut rest = word;
+    'all: while let Some((byte, before)) = rest.split_last() {
+        micros = tenth_more(unit, *byte, micros)?;
+        rest = before;
+    }
+    Some(micros)
+}
+
+// A fraction of the unit: digits with single underscores, which are whole microseconds.
+fn fraction(unit: u64, word: &[u8]) -> Option<u64>
+    requires { unit ≤ 86400000000 }
+    ensures { result ≡ scan.fraction unit word.now }
+{
+    if are_digits(word) {
+        tenths(unit, word)
+    } else {
+        None
+    }
+}
+
+// The number of a part, its fraction, its unit, and what follows.
+#[tactic(auto, unfolding(crate::specs::Scanning::Durations::split_part))]
+fn split_part(word: &[u8]) -> (&[u8], &[u8], &[u8], &[u8])
+    ensures { (result.0.now, result.1.now, result.2.now, result.3.now) ≡ scan.split_part word.now }
+{
+    let (number, behind) = run(Alphabet::Figures, word);
+    let (fraction, unit_and_rest) = run(Alphabet::Fraction, behind);
+    let (unit, rest) = run(Alphabet::Letters, unit_and_rest);
+    (number, fraction, unit, rest)
+}
+
+// The number of a part, in microseconds, if it is not over the greatest.
+fn whole(unit: Unit, number: &[u8]) -> Option<u64>
+    ensures { result ≡ scan.whole unit number.now }
+{
+    let micros = unit.micros();
+    let count = integer(10, GREATEST / micros, number)?;
+    Some(count * micros)
+}
+
+// Behind a part an underscore may stand.
+fn unspaced(rest: &[u8]) -> &[u8]
+    ensures { result.now ≡ scan.unspaced rest.now }
+{
+    match rest {
+        [b'_', inner @ ..] => inner,
+        _ => rest,
+    }
+}
+
+// The fraction of the last part.
+fn point(unit: Unit, text: &[u8], rest: &[u8]) -> Option<u64>
+    ensures { result ≡ scan.point unit text.now rest.now }
+{
+    match text {
+        [b'.', digits @ ..] if rest.is_empty() => fraction(unit.micros(), digits),
+        _ => None,
+    }
+}
+
+// The parts of the units, in microseconds.
+#[tactic(auto, unfolding(crate::specs::Scanning::Durations::interval))]
+fn parts(units: &[Unit], word: &[u8]) -> Option<u64>
+    ensures value { result ≡ scan.interval units.now word.now }
+    ensures fits { IfSome result (λ v. v ≤ durations.greatest) }
+{
+    let [unit, smaller @ ..] = units else {
+        return None;
+    };
+    let (number, fraction, letters, rest) = split_part(word);
+    if !is_same_word(letters, unit.spelling()) {
+        return parts(smaller, word);
+    }
+    let count = whole(*unit, number)?;
+    let behind = if !fraction.is_empty() {
+        point(*unit, fraction, rest)?
+    } else if rest.is_empty() {
+        0
+    } else {
+        parts(smaller, unspaced(rest))?
+    };
+    let micros = count.checked_add(behind)?;
+    if micros <= GREATEST {
+        Some(micros)
+    } else {
+        None
+    }
+}
+
+/// The duration that the word is, without `T#` and sign, in microseconds: parts in falling order of unit, exactly,
+/// and not over 2^62.
+pub fn interval(word: &[u8]) -> Option<u64>
+    ensures value { result ≡ scan.interval durations.units word.now }
+    ensures fits { IfSome result (λ v. v ≤ durations.greatest) }
+{
+    parts(&UNITS, word)
+}
