@@ -1,26 +1,70 @@
-//! The trees that a text is read as (Annex B). Nothing is looked up here: a name is what was written.
+//! The trees that a text is read as (Annex B). Nothing is looked up here: a name is what was written. Parentheses and
+//! empty statements are not kept.
 
 ghost use Rattle.std.specs.Prelude.{◌≡◌, false};
-ghost use Rattle.sfc_text.specs.Trees.{is_empty};
+ghost use Rattle.sfc_text.specs.Lists.{is_empty};
 
-use crate::items::Items;
-use crate::location::Location;
-use crate::name::Name;
-use crate::time_value::TimeValue;
-use crate::var_type::VarType;
+use crate::expression::Expression;
+use crate::statement::Statement;
+use sfc_tokens::items::Items;
+use sfc_tokens::location::Location;
+use sfc_tokens::name::Name;
+use sfc_tokens::time_value::TimeValue;
+use sfc_tokens::var_type::VarType;
 
-/// A whole text: program types, and a configuration among them.
+/// A whole text: program types, and one configuration among them.
 #[derive(Debug, Drop)]
 pub struct Source {
     pub programs: Items<Program>,
     pub configuration: Configuration,
 }
 
-/// A program type: the steps and transitions of one chart, in text order (2.5.3, 2.6).
+/// A program type (2.5.3): its variables, and the elements of its chart in text order (2.6).
 #[derive(Debug, Drop)]
 pub struct Program {
     pub name: Name,
+    pub variables: Items<Variables>,
     pub elements: Items<Element>,
+}
+
+/// Variables of a program type, declared together (2.4.3).
+#[derive(Debug, Drop)]
+pub enum Variables {
+    /// In a block VAR.
+    Local(Declaration),
+    /// In a block VAR_EXTERNAL.
+    External(External),
+}
+
+/// Variables declared together (2.4.3): with a location there is one name.
+#[derive(Debug, Drop)]
+pub struct Declaration {
+    pub names: Items<Name>,
+    pub location: Option<Location>,
+    pub var_type: VarType,
+    pub initial: Option<Literal>,
+}
+
+/// Global variables that a program type names (2.4.3).
+#[derive(Debug, Drop)]
+pub struct External {
+    pub names: Items<Name>,
+    pub var_type: VarType,
+}
+
+/// A literal (2.2).
+#[derive(Clone, Copy, Debug, PartialEq, Eq)]
+pub enum Literal {
+    /// An integer without a type, with its sign; it is from -4,294,967,295 to 4,294,967,295.
+    Integer(i64),
+    /// `INT#` and an integer.
+    Int(i64),
+    /// `DINT#` and an integer.
+    Dint(i64),
+    /// FALSE and TRUE, however they were written.
+    Bool(bool),
+    /// A duration.
+    Time(TimeValue),
 }
 
 /// One element of a chart.
@@ -28,6 +72,7 @@ pub struct Program {
 pub enum Element {
     Step(Step),
     Transition(Transition),
+    Action(Action),
 }
 
 /// A step with its associations to actions (2.6.2, 2.6.4.3).
@@ -38,23 +83,60 @@ pub struct Step {
     pub associations: Items<Association>,
 }
 
-/// The qualifier of an association (2.6.4.4).
-#[derive(Clone, Copy, Debug, PartialEq, Eq)]
-pub enum Qualifier {
-    /// Not stored: the action goes with the step. It is also what a qualifier left out means.
-    NonStored,
-}
-
-/// An action block's line: which action, and how.
+/// An action block's line (2.6.4.3): which action, how it goes with the step, and its indicator variables.
 #[derive(Debug, Drop)]
 pub struct Association {
     pub action: Name,
     pub qualifier: Qualifier,
+    pub indicators: Items<Name>,
+}
+
+/// The qualifier of an association (2.6.4.4).
+#[derive(Debug, Drop)]
+pub enum Qualifier {
+    /// N, not stored; it is also what a qualifier left out means.
+    NonStored,
+    /// R, overriding reset.
+    Reset,
+    /// S, set and stored.
+    Set,
+    /// P, a pulse.
+    Pulse,
+    /// P1, a pulse at the rising edge.
+    RisingPulse,
+    /// P0, a pulse at the falling edge.
+    FallingPulse,
+    /// One of the qualifiers with a time.
+    Timed(TimedQualifier, AssociationTime),
+}
+
+/// The qualifiers with a time (2.6.4.4).
+#[derive(Clone, Copy, Debug, PartialEq, Eq)]
+pub enum TimedQualifier {
+    /// L, time limited.
+    Limited,
+    /// D, time delayed.
+    Delayed,
+    /// SD, stored and time delayed.
+    StoredDelayed,
+    /// DS, delayed and stored.
+    DelayedStored,
+    /// SL, stored and time limited.
+    StoredLimited,
+}
+
+/// The time of an association: written there, or the value of a variable.
+#[derive(Debug, Drop)]
+pub enum AssociationTime {
+    Literal(TimeValue),
+    Variable(Name),
 }
 
 /// A transition from its preceding to its following steps (2.6.3); there is at least one on each side.
 #[derive(Debug, Drop)]
 pub struct Transition {
+    pub name: Option<Name>,
+    pub priority: Option<u32>,
     pub preceding: Items<Name>,
     pub following: Items<Name>,
     pub condition: Expression,
@@ -62,25 +144,18 @@ pub struct Transition {
     pub ghost some_following: { is_empty following ≡ false },
 }
 
-/// An expression (3.3.1).
+/// An action with its body (2.6.4.1).
 #[derive(Debug, Drop)]
-pub enum Expression {
-    Name(Name),
-    Truth(bool),
+pub struct Action {
+    pub name: Name,
+    pub body: Vec<Statement>,
 }
 
-/// Variables declared together (2.4.3).
-#[derive(Debug, Drop)]
-pub struct Declaration {
-    pub names: Items<Name>,
-    pub location: Option<Location>,
-    pub var_type: VarType,
-}
-
-/// A task (2.7.2). The interval is 0 where none was written.
+/// A task (2.7.2): what starts it once at each rise, its interval, which is 0 where none was written, and its priority.
 #[derive(Debug, Drop)]
 pub struct Task {
     pub name: Name,
+    pub single: Option<Name>,
     pub interval: TimeValue,
     pub priority: u32,
 }
@@ -93,7 +168,7 @@ pub struct Instance {
     pub program: Name,
 }
 
-/// A configuration with its one resource (2.7.1).
+/// A configuration with its one resource (2.7.1): the global variables of both levels, in text order.
 #[derive(Debug, Drop)]
 pub struct Configuration {
     pub name: Name,

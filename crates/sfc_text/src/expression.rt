@@ -1,0 +1,40 @@
+//! Expressions (3.3.1).
+
+use crate::tree::Literal;
+use sfc_tokens::name::Name;
+
+/// A name, with what stands behind its dot: a variable, or what a step or an action has (2.6.2, 2.6.4.5).
+#[derive(Debug, Drop)]
+pub struct Variable {
+    pub name: Name,
+    pub part: Option<Name>,
+}
+
+/// The operators of two operands (3.3.1).
+#[derive(Clone, Copy, Debug, PartialEq, Eq)]
+pub enum Operator {
+    Or,
+    Xor,
+    And,
+    Equal,
+    NotEqual,
+    Less,
+    Greater,
+    LessOrEqual,
+    GreaterOrEqual,
+    Add,
+    Subtract,
+    Multiply,
+    Divide,
+    Modulo,
+}
+
+/// An expression. The sign of an integer without a type belongs to its literal; each other minus is an operator.
+#[derive(Debug, Drop)]
+pub enum Expression {
+    Literal(Literal),
+    Variable(Variable),
+    Not(Box<Expression>),
+    Minus(Box<Expression>),
+    Binary(Operator, Box<Expression>, Box<Expression>),
+}
