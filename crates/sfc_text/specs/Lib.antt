@@ -1,2 +1,23 @@
+-- The rules, in reading order.
+
+-- what holds of the lists in every tree
 pub mod Lists
+-- what a tree says
 pub mod Trees
+-- by what tokens are told apart
+pub mod Places
+pub mod Marks
+-- what the grammar nests
+pub mod Sorts
+-- what a rule derives
+pub mod Rules
+-- the words in which productions are written
+pub mod Terms
+-- what productions make of their parts
+pub mod Building
+-- the grammar: all productions
+pub mod Grammar
+-- deriving within limits
+pub mod Limits
+-- what a whole text is read as
+pub mod Reads

@@ -7,3 +7,4 @@
 pub mod expression;
 pub mod statement;
 pub mod tree;
+pub mod read;
