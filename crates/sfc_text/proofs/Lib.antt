@@ -1,1 +1,9 @@
 pub mod Blocks
+pub mod Places
+pub mod Marks
+pub mod Shorter
+pub mod Sound
+pub mod Complete
+pub mod Deeper
+pub mod Whole
+pub mod Fine

@@ -21,3 +21,5 @@ pub mod Grammar
 pub mod Limits
 -- what a whole text is read as
 pub mod Reads
+-- What private clauses cite.
+pub mod Parsing

@@ -5,6 +5,8 @@
 #![tactic(auto)]
 
 pub mod expression;
+pub mod laws;
+mod parse;
 pub mod statement;
 pub mod tree;
 pub mod read;
