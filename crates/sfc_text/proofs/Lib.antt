@@ -7,3 +7,4 @@ pub mod Complete
 pub mod Deeper
 pub mod Whole
 pub mod Fine
+pub mod Loops

@@ -26,7 +26,7 @@ use Rattle.sfc_text.specs.declared.tree.Step.{Step}
 use Rattle.sfc_text.specs.declared.tree.Task.{Task}
 use Rattle.sfc_text.specs.declared.tree.TimedQualifier.{TimedQualifier}
 use Rattle.sfc_text.specs.declared.tree.TimedQualifier.TheVariants as timed
-use Rattle.sfc_text.specs.declared.tree.Variables.{Variables}
+use Rattle.sfc_text.specs.declared.tree.VariableBlock.{VariableBlock}
 use Rattle.sfc_text.specs.Trees.{Tree, Binary, Block, Nothing, Assign, If, When, Otherwise, append, TransitionTree, ActionTree, ElementTree, ProgramTree, SourceTree}
 use Rattle.sfc_text.specs.Terms.{folded}
 
@@ -145,7 +145,7 @@ joined bs = folded append Nothing bs
 
 -- ---- programs and the configuration
 
-abbrev pub a_program : (List ℕ × List Variables) × List ElementTree → ProgramTree
+abbrev pub a_program : (List ℕ × List VariableBlock) × List ElementTree → ProgramTree
 a_program x = record { name = x.0.0; variables = x.0.1; elements = x.1 }
 
 abbrev pub a_task : ((List ℕ × Option (List ℕ)) × ℤ) × ℕ → Task

@@ -20,8 +20,8 @@ use Rattle.sfc_text.specs.declared.tree.Qualifier.TheVariants.{NonStored, Timed}
 use Rattle.sfc_text.specs.declared.tree.Step.{Step}
 use Rattle.sfc_text.specs.declared.tree.Task.{Task}
 use Rattle.sfc_text.specs.declared.tree.TimedQualifier.{TimedQualifier}
-use Rattle.sfc_text.specs.declared.tree.Variables.{Variables}
-use Rattle.sfc_text.specs.declared.tree.Variables.TheVariants.{Local, External as Outer}
+use Rattle.sfc_text.specs.declared.tree.VariableBlock.{VariableBlock}
+use Rattle.sfc_text.specs.declared.tree.VariableBlock.TheVariants as block
 use Rattle.sfc_text.specs.Trees as trees
 use Rattle.sfc_text.specs.Trees.{Tree, Constant, Block, append, operators, TransitionTree, ActionTree, ElementTree, ProgramTree, SourceTree}
 use Rattle.sfc_text.specs.Marks.{Marks, Word, Sign, AnyName, Named, AnInteger, ABased, AnInt, ADint, ATruth, ADuration, ALocation}
@@ -45,8 +45,8 @@ abbrev pub location : Rule Location
 location = token (ALocation ∷ []) make.location_of
 
 -- type ::= BOOL | INT | DINT | TIME
-unfoldable pub type : Rule VarType
-type = token (Word keyword.Bool ∷ Word keyword.Int ∷ Word keyword.Dint ∷ Word keyword.Time ∷ []) make.type_of
+unfoldable pub data_type : Rule VarType
+data_type = token (Word keyword.Bool ∷ Word keyword.Int ∷ Word keyword.Dint ∷ Word keyword.Time ∷ []) make.type_of
 
 -- literal ::= integer | based | typed | duration | TRUE | FALSE
 unfoldable pub literal : Rule Literal
@@ -158,23 +158,16 @@ place = map make.at_location (word keyword.At ▸ location) or map make.with_nam
 -- decl ::= name (AT location | {',' name}) ':' type [':=' init] ';'
 unfoldable pub declaration : Rule Declaration
 declaration = map make.a_declaration
-    (name & place ◂ sign sign.Colon & type & maybe (sign sign.Assign ▸ initial_value) ◂ sign sign.Semicolon)
-
--- VAR {decl} END_VAR
-unfoldable pub locals : Rule (List Variables)
-locals = word keyword.Var ▸ repeated (map Local declaration) ◂ word keyword.EndVar
+    (name & place ◂ sign sign.Colon & data_type & maybe (sign sign.Assign ▸ initial_value) ◂ sign sign.Semicolon)
 
 -- name {',' name} ':' type ';'
 unfoldable pub external : Rule External
-external = map make.an_external (names ◂ sign sign.Colon & type ◂ sign sign.Semicolon)
+external = map make.an_external (names ◂ sign sign.Colon & data_type ◂ sign sign.Semicolon)
 
--- VAR_EXTERNAL {name {',' name} ':' type ';'} END_VAR
-unfoldable pub externals : Rule (List Variables)
-externals = word keyword.VarExternal ▸ repeated (map Outer external) ◂ word keyword.EndVar
-
--- vars ::= VAR .. | VAR_EXTERNAL ..
-unfoldable pub variables : Rule (List Variables)
-variables = locals or externals
+-- vars ::= VAR {decl} END_VAR | VAR_EXTERNAL {name {',' name} ':' type ';'} END_VAR
+unfoldable pub variables : Rule VariableBlock
+variables = map block.Local (word keyword.Var ▸ repeated declaration ◂ word keyword.EndVar)
+    or map block.External (word keyword.VarExternal ▸ repeated external ◂ word keyword.EndVar)
 
 -- ---- charts (B.1.6)
 
@@ -234,7 +227,7 @@ element = map trees.AStep (step true keyword.InitialStep) or (map trees.AStep (s
 -- program ::= PROGRAM name {vars} {element} END_PROGRAM
 unfoldable pub program : Rule ProgramTree
 program = map make.a_program
-    (word keyword.Program ▸ name & gathered variables & repeated element ◂ word keyword.EndProgram)
+    (word keyword.Program ▸ name & repeated variables & repeated element ◂ word keyword.EndProgram)
 
 -- ---- the configuration (B.1.7)
 

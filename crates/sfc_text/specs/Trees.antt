@@ -18,7 +18,7 @@ use Rattle.sfc_text.specs.declared.tree.Program.{Program}
 use Rattle.sfc_text.specs.declared.tree.Source.{Source}
 use Rattle.sfc_text.specs.declared.tree.Step.{Step}
 use Rattle.sfc_text.specs.declared.tree.Transition.{Transition}
-use Rattle.sfc_text.specs.declared.tree.Variables.{Variables}
+use Rattle.sfc_text.specs.declared.tree.VariableBlock.{VariableBlock}
 
 -- ---- expressions
 
@@ -128,7 +128,7 @@ element_of (element.Action a) = AnAction (action_of a)
 -- a program type (2.5.3)
 pub record ProgramTree : Type 0 where
   pub name : List ℕ
-  pub variables : List Variables
+  pub variables : List VariableBlock
   pub elements : List ElementTree
 
 abbrev pub program_of : Program → ProgramTree

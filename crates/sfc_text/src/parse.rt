@@ -1,7 +1,9 @@
 //! Tokens to trees, by recursive descent (Annex B).
 //!
 //! - `fault`: what keeps a parser from going on.
+//! - `list`: lists of items.
 //! - `terminal`: single tokens.
 
 pub mod fault;
+pub mod list;
 pub mod terminal;

@@ -23,17 +23,17 @@ pub struct Source {
 #[derive(Debug, Drop)]
 pub struct Program {
     pub name: Name,
-    pub variables: Items<Variables>,
+    pub variables: Items<VariableBlock>,
     pub elements: Items<Element>,
 }
 
-/// Variables of a program type, declared together (2.4.3).
+/// A block of variables of a program type (2.4.3).
 #[derive(Debug, Drop)]
-pub enum Variables {
-    /// In a block VAR.
-    Local(Declaration),
-    /// In a block VAR_EXTERNAL.
-    External(External),
+pub enum VariableBlock {
+    /// VAR.
+    Local(Items<Declaration>),
+    /// VAR_EXTERNAL.
+    External(Items<External>),
 }
 
 /// Variables declared together (2.4.3): with a location there is one name.
