@@ -14,7 +14,7 @@ use Rattle.sfc_text.specs.Grammar.{nested}
 use Rattle.sfc_text.specs.Terms.{folded, repeated}
 use Rattle.sfc_text.specs.Parsing.Depth.{inside, at}
 use Rattle.sfc_text.specs.Parsing.Lookahead.{begins, empty, first}
-use Rattle.sfc_text.specs.Parsing.Reading.{◌>>=◌, Fails, Found, some, found, and_more, items, all, pair, read}
+use Rattle.sfc_text.specs.Parsing.Reading.{◌>>=◌, Fails, Found, some, found, and_more, items, all, pair, behind, read}
 use Rattle.sfc_text.proofs.Shorter.{Taking, Shorter, Shrinks, found_shrinks, pair_shorter, read_shorter}
 use Rattle.sfc_text.proofs.Whole.{nested_takes}
 
@@ -107,15 +107,19 @@ folded_pushes : {X : Type 0} (front xs : List X) → folded pushed front xs ≡ 
 folded_pushes front [] = sym (append-nil front)
 folded_pushes front (x ∷ xs) = folded_pushes (front ++ x ∷ []) xs ∙ append_assoc front (x ∷ []) xs
 
-pushes : {X : Type 0} (r : Read (List X × Kinds)) → Folds pushed [] r ≡ (r >>= λ y. Ok (y.0, y.1))
-pushes (Ok y) = ap (λ (zs : List _). Ok (zs, y.1)) (folded_pushes [] y.0)
-pushes (Err d) = refl
+-- what a loop still gives is the list behind what it has found
+pub starts : {X : Type 0} (left : ℕ) (rule : Rule X) (front : List X) (ts : Kinds) → Folding (first rule) (at left rule) pushed front ts ≡ behind front (at left (repeated rule) ts)
+starts left rule front ts = by_result (all (found (first rule) (at left rule)) ts)
+  where
+    by_result : (r : Read (List _ × Kinds)) → Folds pushed front r ≡ behind front (r >>= λ y. Ok (y.0, y.1))
+    by_result (Ok y) = ap (λ (zs : List _). Ok (zs, y.1)) (folded_pushes front y.0)
+    by_result (Err d) = refl
 
--- a list begins with none
-pub starts : {X : Type 0} (left : ℕ) (rule : Rule X) (ts : Kinds) → Folding (first rule) (at left rule) pushed [] ts ≡ at left (repeated rule) ts
-starts left rule ts = pushes (all (found (first rule) (at left rule)) ts)
+pub no_front : {X : Type 0} (r : Read (List X × Kinds)) → behind [] r ≡ r
+no_front (Ok y) = refl
+no_front (Err d) = refl
 
-pub map_push : {V X : Type 0} (view : V → X) (vs : List V) (v : V) → map view (vs ++ v ∷ []) ≡ pushed (map view vs) (view v)
+pub map_push : {V X : Type 0} (view : V → X) (vs : List V) (v : V) → map view (vs ++ v ∷ []) ≡ map view vs ++ view v ∷ []
 map_push view [] v = refl
 map_push view (x ∷ vs) v = ap (λ (ys : List _). view x ∷ ys) (map_push view vs v)
 

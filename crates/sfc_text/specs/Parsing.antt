@@ -3,3 +3,4 @@
 pub mod Lookahead
 pub mod Reading
 pub mod Depth
+pub mod Takes

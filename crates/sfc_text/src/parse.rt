@@ -6,4 +6,5 @@
 
 pub mod fault;
 pub mod list;
+pub mod variables;
 pub mod terminal;

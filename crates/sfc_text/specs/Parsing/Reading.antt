@@ -1,5 +1,5 @@
 -- Reading by rules from left to right, with one token of lookahead.
-use Rattle.std.specs.Prelude.{◌≡◌, ◌⊎◌, ℕ, zero, suc, List, [], ◌∷◌, Bool, true, false, cond, nat_le, Option, Some, None, Result, Ok, Err, length}
+use Rattle.std.specs.Prelude.{◌≡◌, ◌⊎◌, ℕ, zero, suc, List, [], ◌∷◌, ◌++◌, Bool, true, false, cond, nat_le, Option, Some, None, Result, Ok, Err, length}
 use Rattle.std.specs.Borrow.{Bor}
 use Rattle.sfc_tokens.specs.declared.read_error.ReadErrorKind.TheVariants.{Syntax, TooDeep}
 use Rattle.sfc_tokens.specs.declared.token.Token.{Token}
@@ -11,6 +11,7 @@ use Rattle.sfc_text.specs.declared.parse.fault.ParseFault.TheVariants as fault
 use Rattle.sfc_text.specs.Marks.{Marks, is_any}
 use Rattle.sfc_text.specs.Sorts.{Sort, Sorted}
 use Rattle.sfc_text.specs.Rules.{Rule, token, nothing, map, both, either, many, chain, ahead, inner, counted}
+use Rattle.sfc_text.specs.Building.{Place}
 use Rattle.sfc_text.specs.Parsing.Lookahead.{begins, first}
 
 infixl 10 ◌>>=◌
@@ -81,6 +82,18 @@ items item (suc n) ts = item ts >>= λ o. and_more o ts (items item n)
 
 abbrev pub all : {X : Type 0} → (Kinds → Found X) → Kinds → Read (List X × Kinds)
 all item ts = items item (suc (length ts)) ts
+
+-- what f makes of what was read
+abbrev pub made : {A B : Type 0} → (A → B) → Read (A × Kinds) → Read (B × Kinds)
+made f r = r >>= λ y. Ok (f y.0, y.1)
+
+-- a list behind what was found before
+abbrev pub behind : {X : Type 0} → List X → Read (List X × Kinds) → Read (List X × Kinds)
+behind front r = made (λ xs. front ++ xs) r
+
+-- the names of a declaration with the first one before them
+abbrev pub with_first : List ℕ → Place → Place
+with_first first place = (first ∷ place.0, place.1)
 
 -- one after the other
 abbrev pub pair : {A B : Type 0} → (Kinds → Read (A × Kinds)) → (Kinds → Read (B × Kinds)) → Kinds → Read ((A × B) × Kinds)

@@ -1,0 +1,240 @@
+//! Declarations of variables (B.1.4.3).
+
+ghost use Rattle.std.specs.Prelude.{◌≡◌, ◌∷◌, [], List, ℕ, refl};
+ghost use Rattle.sfc_tokens.specs.Tokens.{kinds};
+ghost use Rattle.sfc_text.specs.declared.tree.Declaration.{Declaration as Value};
+ghost use Rattle.sfc_text.specs.declared.tree.External.{External as ExternalValue};
+ghost use Rattle.sfc_text.specs.declared.tree.VariableBlock.{VariableBlock as BlockValue};
+ghost use Rattle.sfc_text.specs.Grammar as grammar;
+ghost use Rattle.sfc_text.specs.Parsing.Depth.{reads};
+ghost use Rattle.sfc_text.specs.Parsing.Reading.{Gives, behind, made, view, view_by, with_first};
+ghost use Rattle.sfc_text.specs.Parsing.Takes.{further_name_takes, declaration_takes, external_takes, variables_takes};
+ghost use Rattle.sfc_text.specs.Terms as terms;
+ghost use Rattle.sfc_text.specs.Terms.{maybe, ◌▸◌};
+ghost use Rattle.sfc_tokens.specs.declared.delimiter.Delimiter.TheVariants as delimiter;
+
+use crate::parse::fault::ParseFault;
+use crate::parse::list::{Item, list, list_behind};
+use crate::parse::terminal::{
+    begins_name, begins_sign, begins_word, literal, location, name, sign, signed, var_type, word,
+};
+use crate::tree::{Declaration, External, Literal, VariableBlock};
+use sfc_tokens::delimiter::Delimiter;
+use sfc_tokens::items::Items;
+use sfc_tokens::keyword::Keyword;
+use sfc_tokens::location::Location;
+use sfc_tokens::name::Name;
+use sfc_tokens::token::Token;
+use std::alloc::Global;
+
+impl Item for Name {
+    ghost Tree = { List ℕ };
+
+    ghost tree = { λ name. name };
+
+    ghost trees = { λ names. names };
+
+    ghost rule = { grammar.further_name };
+
+    #[tactic(auto, unfolding(crate::specs::Grammar::further_name))]
+    fn begins(tokens: &[Token]) -> bool {
+        begins_sign(tokens, Delimiter::Comma)
+    }
+
+    #[tactic(auto, unfolding(crate::specs::Grammar::further_name))]
+    fn read(alloc: Global, tokens: &[Token]) -> Result<(Name, &[Token]), ParseFault> {
+        let tokens = sign(tokens, Delimiter::Comma)?;
+        name(alloc, tokens)
+    }
+
+    ghost takes_a_token = { further_name_takes };
+
+    ghost no_trees = { refl };
+
+    ghost one_more = { λ found item. refl };
+}
+
+// The names behind the first one, in one list with it.
+#[tactic(auto, unfolding(crate::specs::Grammar::further_names))]
+fn names_behind(
+    alloc: Global,
+    first: Name,
+    tokens: &[Token],
+) -> Result<(Items<Name>, &[Token]), ParseFault>
+    ensures { Gives view result (behind (first ∷ []) (reads grammar.further_names (kinds tokens.now))) }
+{
+    let mut found = Vec::new(alloc);
+    found.push(first)?;
+    let (found, tokens) = list_behind(alloc, found, tokens)?;
+    Ok((Items::from_vec(found), tokens))
+}
+
+/// Names with commas between them, one at least.
+#[tactic(auto, unfolding(crate::specs::Grammar::names))]
+pub fn names(alloc: Global, tokens: &[Token]) -> Result<(Items<Name>, &[Token]), ParseFault>
+    ensures { Gives view result (reads grammar.names (kinds tokens.now)) }
+{
+    let (first, tokens) = name(alloc, tokens)?;
+    names_behind(alloc, first, tokens)
+}
+
+// The names of a declaration, and its location.
+struct Placed {
+    names: Items<Name>,
+    location: Option<Location>,
+}
+
+// The names of a declaration behind its first one, in one list with it, or its location.
+#[tactic(auto, unfolding(crate::specs::Grammar::place))]
+fn place(
+    alloc: Global,
+    first: Name,
+    tokens: &[Token],
+) -> Result<(Placed, &[Token]), ParseFault>
+    ensures { Gives (view_by (λ placed. (placed.names, placed.location))) result (made (with_first first) (reads grammar.place (kinds tokens.now))) }
+{
+    if begins_word(tokens, Keyword::At) {
+        let tokens = word(tokens, Keyword::At)?;
+        let (location, tokens) = location(alloc, tokens)?;
+        let names = Items::one(alloc, first)?;
+        let location = Some(location);
+        Ok((Placed { names, location }, tokens))
+    } else {
+        let (names, tokens) = names_behind(alloc, first, tokens)?;
+        let location = None;
+        Ok((Placed { names, location }, tokens))
+    }
+}
+
+// An initial value.
+#[tactic(auto, unfolding(crate::specs::Grammar::initial_value, crate::specs::Grammar::signed, crate::specs::Grammar::literal))]
+fn initial_value(tokens: &[Token]) -> Result<(Literal, &[Token]), ParseFault>
+    ensures { Gives view result (reads grammar.initial_value (kinds tokens.now)) }
+{
+    if begins_sign(tokens, Delimiter::Minus) {
+        signed(tokens)
+    } else {
+        literal(tokens)
+    }
+}
+
+// The initial value, where there is one.
+fn maybe_initial_value(tokens: &[Token]) -> Result<(Option<Literal>, &[Token]), ParseFault>
+    ensures { Gives view result (reads (maybe (terms.sign delimiter.Assign ▸ grammar.initial_value)) (kinds tokens.now)) }
+{
+    if !begins_sign(tokens, Delimiter::Assign) {
+        return Ok((None, tokens));
+    }
+    let tokens = sign(tokens, Delimiter::Assign)?;
+    match initial_value(tokens) {
+        Ok((literal, tokens)) => Ok((Some(literal), tokens)),
+        Err(fault) => Err(fault),
+    }
+}
+
+impl Item for Declaration {
+    ghost Tree = { Value };
+
+    ghost tree = { λ declaration. declaration };
+
+    ghost trees = { λ declarations. declarations };
+
+    ghost rule = { grammar.declaration };
+
+    #[tactic(auto, unfolding(crate::specs::Grammar::declaration))]
+    fn begins(tokens: &[Token]) -> bool {
+        begins_name(tokens)
+    }
+
+    #[tactic(auto, unfolding(crate::specs::Grammar::declaration))]
+    fn read(alloc: Global, tokens: &[Token]) -> Result<(Declaration, &[Token]), ParseFault> {
+        let (first, tokens) = name(alloc, tokens)?;
+        let (Placed { names, location }, tokens) = place(alloc, first, tokens)?;
+        let tokens = sign(tokens, Delimiter::Colon)?;
+        let (var_type, tokens) = var_type(tokens)?;
+        match maybe_initial_value(tokens) {
+            Ok((initial, tokens)) => {
+                let tokens = sign(tokens, Delimiter::Semicolon)?;
+                let declaration = Declaration {
+                    names,
+                    location,
+                    var_type,
+                    initial,
+                };
+                Ok((declaration, tokens))
+            }
+            Err(fault) => Err(fault),
+        }
+    }
+
+    ghost takes_a_token = { declaration_takes };
+
+    ghost no_trees = { refl };
+
+    ghost one_more = { λ found item. refl };
+}
+
+impl Item for External {
+    ghost Tree = { ExternalValue };
+
+    ghost tree = { λ external. external };
+
+    ghost trees = { λ externals. externals };
+
+    ghost rule = { grammar.external };
+
+    #[tactic(auto, unfolding(crate::specs::Grammar::external, crate::specs::Grammar::names))]
+    fn begins(tokens: &[Token]) -> bool {
+        begins_name(tokens)
+    }
+
+    #[tactic(auto, unfolding(crate::specs::Grammar::external))]
+    fn read(alloc: Global, tokens: &[Token]) -> Result<(External, &[Token]), ParseFault> {
+        let (names, tokens) = names(alloc, tokens)?;
+        let tokens = sign(tokens, Delimiter::Colon)?;
+        let (var_type, tokens) = var_type(tokens)?;
+        let tokens = sign(tokens, Delimiter::Semicolon)?;
+        Ok((External { names, var_type }, tokens))
+    }
+
+    ghost takes_a_token = { external_takes };
+
+    ghost no_trees = { refl };
+
+    ghost one_more = { λ found item. refl };
+}
+
+impl Item for VariableBlock {
+    ghost Tree = { BlockValue };
+
+    ghost tree = { λ block. block };
+
+    ghost trees = { λ blocks. blocks };
+
+    ghost rule = { grammar.variables };
+
+    #[tactic(auto, unfolding(crate::specs::Grammar::variables))]
+    fn begins(tokens: &[Token]) -> bool {
+        begins_word(tokens, Keyword::Var) || begins_word(tokens, Keyword::VarExternal)
+    }
+
+    #[tactic(auto, unfolding(crate::specs::Grammar::variables))]
+    fn read(alloc: Global, tokens: &[Token]) -> Result<(VariableBlock, &[Token]), ParseFault> {
+        if begins_word(tokens, Keyword::Var) {
+            let tokens = word(tokens, Keyword::Var)?;
+            let (declarations, tokens) = list(alloc, tokens)?;
+            let tokens = word(tokens, Keyword::EndVar)?;
+            return Ok((VariableBlock::Local(declarations), tokens));
+        }
+        let tokens = word(tokens, Keyword::VarExternal)?;
+        let (externals, tokens) = list(alloc, tokens)?;
+        let tokens = word(tokens, Keyword::EndVar)?;
+        Ok((VariableBlock::External(externals), tokens))
+    }
+
+    ghost takes_a_token = { variables_takes };
+
+    ghost no_trees = { refl };
+
+    ghost one_more = { λ found item. refl };
+}
