@@ -4,7 +4,9 @@
 //! - `list`: lists of items.
 //! - `terminal`: single tokens.
 
+pub mod configuration;
 pub mod fault;
 pub mod list;
+pub mod step;
 pub mod variables;
 pub mod terminal;

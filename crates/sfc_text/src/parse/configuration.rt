@@ -1,0 +1,211 @@
+//! Configurations (B.1.7).
+
+ghost use Rattle.std.specs.Prelude.{◌≡◌, refl, pos, codes};
+ghost use Rattle.sfc_tokens.specs.Tokens.{kinds};
+ghost use Rattle.sfc_text.specs.declared.tree.Instance.{Instance as InstanceValue};
+ghost use Rattle.sfc_text.specs.declared.tree.Task.{Task as TaskValue};
+ghost use Rattle.sfc_text.specs.Grammar as grammar;
+ghost use Rattle.sfc_text.specs.Parsing.Depth.{reads};
+ghost use Rattle.sfc_text.specs.Parsing.Reading.{Gives, behind, view, view_by};
+ghost use Rattle.sfc_text.specs.Parsing.Takes.{task_takes, instance_takes};
+ghost use Rattle.sfc_text.specs.Terms.{else_given, gathered, maybe, some_of, ◌▸◌, ◌◂◌};
+ghost use Rattle.sfc_text.specs.Terms as terms;
+ghost use Rattle.sfc_tokens.specs.declared.delimiter.Delimiter.TheVariants as delimiter;
+ghost use Rattle.sfc_tokens.specs.declared.keyword.Keyword.TheVariants as reserved;
+
+use crate::parse::fault::ParseFault;
+use crate::parse::list::{Item, list, list_behind};
+use crate::parse::terminal::{
+    begins_named, begins_word, duration, integer, name, named, sign, syntax, word,
+};
+use crate::tree::{Configuration, Declaration, Instance, Task};
+use sfc_tokens::delimiter::Delimiter;
+use sfc_tokens::items::Items;
+use sfc_tokens::keyword::Keyword;
+use sfc_tokens::name::Name;
+use sfc_tokens::time_value::TimeValue;
+use sfc_tokens::token::Token;
+use std::alloc::Global;
+
+// The variable that starts a task once at each rise, where there is one.
+#[tactic(auto, unfolding(crate::specs::Grammar::single))]
+fn maybe_single(alloc: Global, tokens: &[Token]) -> Result<(Option<Name>, &[Token]), ParseFault>
+    ensures { Gives view result (reads (maybe grammar.single) (kinds tokens.now)) }
+{
+    if begins_named(tokens, b"SINGLE") {
+        let tokens = named(tokens, b"SINGLE")?;
+        let tokens = sign(tokens, Delimiter::Assign)?;
+        let (name, tokens) = name(alloc, tokens)?;
+        let tokens = sign(tokens, Delimiter::Comma)?;
+        Ok((Some(name), tokens))
+    } else {
+        Ok((None, tokens))
+    }
+}
+
+// The interval of a task, or 0 where it is left out.
+#[tactic(auto, unfolding(crate::specs::Grammar::interval))]
+fn maybe_interval(tokens: &[Token]) -> Result<(TimeValue, &[Token]), ParseFault>
+    ensures { Gives view result (reads (else_given (pos 0) grammar.interval) (kinds tokens.now)) }
+{
+    if !begins_named(tokens, b"INTERVAL") {
+        return Ok((TimeValue::new(0), tokens));
+    }
+    let tokens = named(tokens, b"INTERVAL")?;
+    let tokens = sign(tokens, Delimiter::Assign)?;
+    match duration(tokens) {
+        Ok((interval, tokens)) => {
+            let tokens = sign(tokens, Delimiter::Comma)?;
+            Ok((interval, tokens))
+        }
+        Err(fault) => Err(fault),
+    }
+}
+
+// The priority of a task, and the end of its parentheses.
+fn task_priority(tokens: &[Token]) -> Result<(u32, &[Token]), ParseFault>
+    ensures { Gives view result (reads (terms.named (codes "PRIORITY") ▸ terms.sign delimiter.Assign ▸ grammar.integer ◂ terms.sign delimiter.Close) (kinds tokens.now)) }
+{
+    let tokens = named(tokens, b"PRIORITY")?;
+    let tokens = sign(tokens, Delimiter::Assign)?;
+    let (priority, tokens) = integer(tokens)?;
+    let tokens = sign(tokens, Delimiter::Close)?;
+    Ok((priority, tokens))
+}
+
+// A task.
+#[tactic(auto, unfolding(crate::specs::Grammar::task))]
+fn task(alloc: Global, tokens: &[Token]) -> Result<(Task, &[Token]), ParseFault>
+    ensures { Gives view result (reads grammar.task (kinds tokens.now)) }
+{
+    let tokens = word(tokens, Keyword::Task)?;
+    let (name, tokens) = name(alloc, tokens)?;
+    let tokens = sign(tokens, Delimiter::Open)?;
+    let (single, tokens) = maybe_single(alloc, tokens)?;
+    match maybe_interval(tokens) {
+        Ok((interval, tokens)) => {
+            let (priority, tokens) = task_priority(tokens)?;
+            let task = Task {
+                name,
+                single,
+                interval,
+                priority,
+            };
+            Ok((task, tokens))
+        }
+        Err(fault) => Err(fault),
+    }
+}
+
+impl Item for Task {
+    ghost Tree = { TaskValue };
+
+    ghost tree = { λ task. task };
+
+    ghost trees = { λ tasks. tasks };
+
+    ghost rule = { grammar.task_line };
+
+    #[tactic(auto, unfolding(crate::specs::Grammar::task_line, crate::specs::Grammar::task))]
+    fn begins(tokens: &[Token]) -> bool {
+        begins_word(tokens, Keyword::Task)
+    }
+
+    #[tactic(auto, unfolding(crate::specs::Grammar::task_line))]
+    fn read(alloc: Global, tokens: &[Token]) -> Result<(Task, &[Token]), ParseFault> {
+        let (task, tokens) = task(alloc, tokens)?;
+        let tokens = sign(tokens, Delimiter::Semicolon)?;
+        Ok((task, tokens))
+    }
+
+    ghost takes_a_token = { task_takes };
+
+    ghost no_trees = { refl };
+
+    ghost one_more = { λ found item. refl };
+}
+
+// The task that an instance is given to, where there is one.
+fn maybe_with(alloc: Global, tokens: &[Token]) -> Result<(Option<Name>, &[Token]), ParseFault>
+    ensures { Gives view result (reads (maybe (terms.word reserved.With ▸ grammar.name)) (kinds tokens.now)) }
+{
+    if begins_word(tokens, Keyword::With) {
+        let tokens = word(tokens, Keyword::With)?;
+        let (name, tokens) = name(alloc, tokens)?;
+        Ok((Some(name), tokens))
+    } else {
+        Ok((None, tokens))
+    }
+}
+
+// A program instance.
+#[tactic(auto, unfolding(crate::specs::Grammar::instance))]
+fn instance(alloc: Global, tokens: &[Token]) -> Result<(Instance, &[Token]), ParseFault>
+    ensures { Gives view result (reads grammar.instance (kinds tokens.now)) }
+{
+    let tokens = word(tokens, Keyword::Program)?;
+    let (instance, tokens) = name(alloc, tokens)?;
+    let (task, tokens) = maybe_with(alloc, tokens)?;
+    let tokens = sign(tokens, Delimiter::Colon)?;
+    let (program, tokens) = name(alloc, tokens)?;
+    let instance = Instance {
+        name: instance,
+        task,
+        program,
+    };
+    Ok((instance, tokens))
+}
+
+impl Item for Instance {
+    ghost Tree = { InstanceValue };
+
+    ghost tree = { λ instance. instance };
+
+    ghost trees = { λ instances. instances };
+
+    ghost rule = { grammar.instance_line };
+
+    #[tactic(auto, unfolding(crate::specs::Grammar::instance_line, crate::specs::Grammar::instance))]
+    fn begins(tokens: &[Token]) -> bool {
+        begins_word(tokens, Keyword::Program)
+    }
+
+    #[tactic(auto, unfolding(crate::specs::Grammar::instance_line))]
+    fn read(alloc: Global, tokens: &[Token]) -> Result<(Instance, &[Token]), ParseFault> {
+        let (instance, tokens) = instance(alloc, tokens)?;
+        let tokens = sign(tokens, Delimiter::Semicolon)?;
+        Ok((instance, tokens))
+    }
+
+    ghost takes_a_token = { instance_takes };
+
+    ghost no_trees = { refl };
+
+    ghost one_more = { λ found item. refl };
+}
+
+// Program instances, one at least.
+fn instances(alloc: Global, tokens: &[Token]) -> Result<(Items<Instance>, &[Token]), ParseFault>
+    ensures { Gives view result (reads (some_of grammar.instance_line grammar.instance_line) (kinds tokens.now)) }
+{
+    let (first, tokens) = Instance::read(alloc, tokens)?;
+    let mut found = Vec::new(alloc);
+    found.push(first)?;
+    let (found, tokens) = list_behind(alloc, found, tokens)?;
+    Ok((Items::from_vec(found), tokens))
+}
+
+// A block of global variables, behind those found.
+#[tactic(auto, unfolding(crate::specs::Grammar::globals))]
+fn globals(
+    alloc: Global,
+    found: Vec<Declaration>,
+    tokens: &[Token],
+) -> Result<(Vec<Declaration>, &[Token]), ParseFault>
+    ensures { Gives (view_by (λ v. v.items)) result (behind found.items (reads grammar.globals (kinds tokens.now))) }
+{
+    let tokens = word(tokens, Keyword::VarGlobal)?;
+    let (found, tokens) = list_behind(alloc, found, tokens)?;
+    let tokens = word(tokens, Keyword::EndVar)?;
+    Ok((found, tokens))
+}
