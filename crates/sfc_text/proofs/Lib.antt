@@ -8,3 +8,4 @@ pub mod Deeper
 pub mod Whole
 pub mod Fine
 pub mod Loops
+pub mod Globals

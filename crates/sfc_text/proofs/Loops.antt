@@ -11,7 +11,7 @@ use Rattle.sfc_text.specs.Marks.{Marks}
 use Rattle.sfc_text.specs.Sorts.{Sort}
 use Rattle.sfc_text.specs.Rules.{Rule}
 use Rattle.sfc_text.specs.Grammar.{nested}
-use Rattle.sfc_text.specs.Terms.{folded, repeated}
+use Rattle.sfc_text.specs.Terms.{folded, repeated, gathered}
 use Rattle.sfc_text.specs.Parsing.Depth.{inside, at}
 use Rattle.sfc_text.specs.Parsing.Lookahead.{begins, empty, first}
 use Rattle.sfc_text.specs.Parsing.Reading.{◌>>=◌, Fails, Found, some, found, and_more, items, all, pair, behind, read}
@@ -141,3 +141,33 @@ smaller item shrinks tokens rest x is =
     let p = length_kinds tokens in
     let q = length_kinds rest in
     omega (arith, lt, p, q)
+
+-- ---- lists of lists
+
+abbrev pub gathers : {X : Type 0} → List X → List X → List X
+gathers xs ys = xs ++ ys
+
+folded_gathers : {X : Type 0} (front : List X) (xss : List (List X)) → folded gathers front xss ≡ front ++ folded gathers [] xss
+folded_gathers front [] = sym (append-nil front)
+folded_gathers front (xs ∷ xss) = folded_gathers (front ++ xs) xss ∙ append_assoc front xs (folded gathers [] xss) ∙ ap (λ (ys : List _). front ++ ys) (sym (folded_gathers xs xss))
+
+pub gathering_starts : {X : Type 0} (left : ℕ) (rule : Rule (List X)) (front : List X) (ts : Kinds) → Folding (first rule) (at left rule) gathers front ts ≡ behind front (at left (gathered rule) ts)
+gathering_starts left rule front ts = by_result (all (found (first rule) (at left rule)) ts)
+  where
+    by_result : (r : Read (List (List _) × Kinds)) → Folds gathers front r ≡ behind front (r >>= λ y. Ok (folded gathers [] y.0, y.1))
+    by_result (Ok y) = ap (λ (zs : List _). Ok (zs, y.1)) (folded_gathers front y.0)
+    by_result (Err d) = refl
+
+-- what was read behind a front, and why it was not
+pub behind_ok : {X : Type 0} (front : List X) (r : Read (List X × Kinds)) (y : List X × Kinds) → behind front r ≡ Ok y → (x : List X × Kinds) × (r ≡ Ok x) × (y ≡ (front ++ x.0, x.1))
+behind_ok front (Ok x) y e = (x, refl, cc)
+behind_ok front (Err d) y e = absurd cc
+
+pub behind_fails : {X : Type 0} (wrong : ParseFault) (front : List X) (r : Read (List X × Kinds)) → Fails wrong (behind front r) → Fails wrong r
+behind_fails fault.Memory front r h = tt
+behind_fails (fault.Syntax left) front (Ok x) h = absurd cc
+behind_fails (fault.Syntax left) front (Err d) h = cc
+behind_fails (fault.TooDeep left) front (Ok x) (inl h) = absurd cc
+behind_fails (fault.TooDeep left) front (Ok x) (inr h) = absurd cc
+behind_fails (fault.TooDeep left) front (Err d) (inl h) = inl cc
+behind_fails (fault.TooDeep left) front (Err d) (inr h) = inr cc

@@ -209,3 +209,52 @@ fn globals(
     let tokens = word(tokens, Keyword::EndVar)?;
     Ok((found, tokens))
 }
+
+// The blocks of global variables there, behind those found.
+fn all_globals(
+    alloc: Global,
+    found: Vec<Declaration>,
+    tokens: &[Token],
+) -> Result<(Vec<Declaration>, &[Token]), ParseFault>
+    ensures { Gives (view_by (λ v. v.items)) result (behind found.items (reads (gathered grammar.globals) (kinds tokens.now))) }
+{
+    let mut found = found;
+    let mut rest = tokens;
+    'blocks: while begins_word(rest, Keyword::VarGlobal) {
+        let (longer, behind) = globals(alloc, found, rest)?;
+        found = longer;
+        rest = behind;
+    }
+    Ok((found, rest))
+}
+
+/// The configuration.
+#[tactic(auto, unfolding(crate::specs::Grammar::configuration))]
+pub fn configuration(
+    alloc: Global,
+    tokens: &[Token],
+) -> Result<(Configuration, &[Token]), ParseFault>
+    ensures { Gives view result (reads grammar.configuration (kinds tokens.now)) }
+{
+    let tokens = word(tokens, Keyword::Configuration)?;
+    let (name_of_it, tokens) = name(alloc, tokens)?;
+    let (globals, tokens) = all_globals(alloc, Vec::new(alloc), tokens)?;
+    let tokens = word(tokens, Keyword::Resource)?;
+    let (resource, tokens) = name(alloc, tokens)?;
+    let tokens = word(tokens, Keyword::On)?;
+    let (processor, tokens) = name(alloc, tokens)?;
+    let (globals, tokens) = all_globals(alloc, globals, tokens)?;
+    let (tasks, tokens) = list(alloc, tokens)?;
+    let (instances, tokens) = instances(alloc, tokens)?;
+    let tokens = word(tokens, Keyword::EndResource)?;
+    let tokens = word(tokens, Keyword::EndConfiguration)?;
+    let configuration = Configuration {
+        name: name_of_it,
+        resource,
+        processor,
+        globals: Items::from_vec(globals),
+        tasks,
+        instances,
+    };
+    Ok((configuration, tokens))
+}
