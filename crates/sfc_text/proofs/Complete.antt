@@ -9,8 +9,7 @@ use Rattle.sfc_text.specs.Parsing.Lookahead.{first_of, more_of}
 use Rattle.sfc_text.specs.Rules as rules
 use Rattle.sfc_text.specs.Rules.{Rule, Many, none, next, Both, Inner, Derives}
 use Rattle.sfc_text.specs.Parsing.Lookahead.{empty, first, more, fine}
-use Rattle.sfc_text.specs.Parsing.Reading.{found, items, all, pair, Inside, read}
-use Rattle.sfc_tokens.specs.ReadErrors.{Read}
+use Rattle.sfc_text.specs.Parsing.Reading.{Read, found, items, all, pair, Inside, read}
 use Rattle.sfc_text.proofs.Marks.{and_left, and_right, apart, ends_left, ends_right, begins_left, begins_right}
 
 not_true : (b : Bool) → not b ≡ true → b ≡ false

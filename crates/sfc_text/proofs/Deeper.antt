@@ -1,15 +1,13 @@
 -- What derives derives with more nesting allowed, and reading says the same there, but that it may be too deep.
 use Rattle.std.proofs.Common.{◌≡◌, ◌⊎◌, inl, inr, ℕ, zero, suc, ◌≤◌, Bool, true, false, cond, nat_le, List, ◌∷◌, length, Option, Some, None, Ok, Err, refl, subst, arith}
 use Rattle.std.proofs.lemmas.Bool.{leb-true, le-leb}
-use Rattle.sfc_tokens.specs.declared.read_error.ReadErrorKind.TheVariants.{TooDeep}
 use Rattle.sfc_tokens.specs.Tokens.{Kinds}
 use Rattle.sfc_text.specs.Parsing.Lookahead.{begins}
 use Rattle.sfc_text.specs.Sorts.{Sort}
 use Rattle.sfc_text.specs.Rules as rules
 use Rattle.sfc_text.specs.Rules.{Rule, Many, none, next, Both, Inner, Derives}
 use Rattle.sfc_text.specs.Parsing.Lookahead.{first}
-use Rattle.sfc_text.specs.Parsing.Reading.{◌>>=◌, Found, some, found, and_more, items, all, pair, limited, Inside, read}
-use Rattle.sfc_tokens.specs.ReadErrors.{Read}
+use Rattle.sfc_text.specs.Parsing.Reading.{TooDeep, Read, ◌>>=◌, Found, some, found, and_more, items, all, pair, limited, Inside, read}
 
 abbrev pub Implies : {X : Type 0} → (Kinds → X → Kinds → Type 0) → (Kinds → X → Kinds → Type 0) → Type 0
 Implies {X = X} Holds Holds' = (ts : Kinds) (x : X) (rest : Kinds) → Holds ts x rest → Holds' ts x rest

@@ -9,3 +9,4 @@ pub mod Whole
 pub mod Fine
 pub mod Loops
 pub mod Globals
+pub mod Counting

@@ -1,9 +1,7 @@
 -- Loops that read items: what was read before, and what is still read.
 use Rattle.std.proofs.Common.{◌≡◌, ◌⊎◌, inl, inr, ℕ, zero, suc, ◌<◌, Bool, true, false, cond, List, [], ◌∷◌, ◌++◌, length, map, Option, Some, None, Ok, Err, refl, sym, ap, subst, ◌∙◌, arith, append_assoc}
 use Rattle.std.proofs.lemmas.List.{append-nil}
-use Rattle.sfc_tokens.specs.declared.read_error.ReadErrorKind.TheVariants.{Syntax, TooDeep}
 use Rattle.sfc_tokens.specs.declared.token.Token.{Token}
-use Rattle.sfc_tokens.specs.ReadErrors.{Read}
 use Rattle.sfc_tokens.specs.Tokens.{Kinds, kinds}
 use Rattle.sfc_text.specs.declared.parse.fault.ParseFault.{ParseFault}
 use Rattle.sfc_text.specs.declared.parse.fault.ParseFault.TheVariants as fault
@@ -14,7 +12,7 @@ use Rattle.sfc_text.specs.Grammar.{nested}
 use Rattle.sfc_text.specs.Terms.{folded, repeated, gathered}
 use Rattle.sfc_text.specs.Parsing.Depth.{inside, at}
 use Rattle.sfc_text.specs.Parsing.Lookahead.{begins, empty, first}
-use Rattle.sfc_text.specs.Parsing.Reading.{◌>>=◌, Fails, Found, some, found, and_more, items, all, pair, behind, read}
+use Rattle.sfc_text.specs.Parsing.Reading.{Syntax, TooDeep, Read, ◌>>=◌, Fails, Found, some, found, and_more, items, all, pair, behind, read}
 use Rattle.sfc_text.proofs.Shorter.{Taking, Shorter, Shrinks, found_shrinks, pair_shorter, read_shorter}
 use Rattle.sfc_text.proofs.Whole.{nested_takes}
 
@@ -43,7 +41,7 @@ same_turns item shrinks (suc n) (suc m) ts h g =
 -- ---- one turn
 
 -- all items: the first one, and then the others
-abbrev Turn : {X : Type 0} → Marks → (Kinds → Read (X × Kinds)) → Kinds → Read (List X × Kinds)
+abbrev pub Turn : {X : Type 0} → Marks → (Kinds → Read (X × Kinds)) → Kinds → Read (List X × Kinds)
 Turn marks item ts = cond (begins marks ts) (item ts >>= λ x. all (found marks item) x.1 >>= λ y. Ok (x.0 ∷ y.0, y.1)) (Ok ([], ts))
 
 turn_by : {X : Type 0} (marks : Marks) (item : Kinds → Read (X × Kinds)) (shrinks : Shorter false item) (ts : Kinds) (b : Bool) (r : Read (X × Kinds)) → ((x : X × Kinds) → r ≡ Ok x → length x.1 < length ts)
@@ -58,7 +56,7 @@ turn_is : {X : Type 0} (item : Kinds → Found X) (ts : Kinds) → all item ts �
 unfolding items
 turn_is item ts = refl
 
-turn : {X : Type 0} (marks : Marks) (item : Kinds → Read (X × Kinds)) (shrinks : Shorter false item) (ts : Kinds) → all (found marks item) ts ≡ Turn marks item ts
+pub turn : {X : Type 0} (marks : Marks) (item : Kinds → Read (X × Kinds)) (shrinks : Shorter false item) (ts : Kinds) → all (found marks item) ts ≡ Turn marks item ts
 turn marks item shrinks ts = turn_is (found marks item) ts ∙ turn_by marks item shrinks ts (begins marks ts) (item ts) (λ x is. shrinks ts x is)
 
 -- ---- items are joined from the left

@@ -2,15 +2,13 @@
 use Rattle.std.proofs.Common.{◌≡◌, ℕ, zero, suc, ◌<◌, ◌≤◌, Bool, true, false, cond, ◌&&◌, ◌||◌, nat_le, List, [], ◌∷◌, length, Option, Some, None, Ok, Err, refl, sym, ap, subst, ◌∙◌, arith}
 use Rattle.sfc_tokens.specs.declared.token.TokenKind.{TokenKind}
 use Rattle.sfc_tokens.specs.Tokens.{Kinds}
-use Rattle.sfc_tokens.specs.declared.read_error.ReadErrorKind.TheVariants.{TooDeep}
 use Rattle.sfc_text.specs.Marks.{Marks, is_any}
 use Rattle.sfc_text.specs.Parsing.Lookahead.{begins}
 use Rattle.sfc_text.specs.Sorts.{Sort}
 use Rattle.sfc_text.specs.Rules as rules
 use Rattle.sfc_text.specs.Rules.{Rule}
 use Rattle.sfc_text.specs.Parsing.Lookahead.{empty, first}
-use Rattle.sfc_text.specs.Parsing.Reading.{◌>>=◌, taken, one, Found, some, found, and_more, items, all, pair, limited, Inside, read}
-use Rattle.sfc_tokens.specs.ReadErrors.{Read}
+use Rattle.sfc_text.specs.Parsing.Reading.{TooDeep, Read, ◌>>=◌, taken, one, Found, some, found, and_more, items, all, pair, limited, Inside, read}
 
 -- the value of a step that did not fail
 pub bind_ok : {A B : Type 0} (r : Read A) (f : A → Read B) (y : B) → (r >>= f) ≡ Ok y → (x : A) × (r ≡ Ok x) × (f x ≡ Ok y)

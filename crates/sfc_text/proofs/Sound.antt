@@ -9,8 +9,7 @@ use Rattle.sfc_text.specs.Sorts.{Sort}
 use Rattle.sfc_text.specs.Rules as rules
 use Rattle.sfc_text.specs.Rules.{Rule, Many, none, next, Both, Inner, Derives}
 use Rattle.sfc_text.specs.Parsing.Lookahead.{first}
-use Rattle.sfc_text.specs.Parsing.Reading.{◌>>=◌, taken, one, found, and_more, items, all, pair, Inside, read}
-use Rattle.sfc_tokens.specs.ReadErrors.{Read}
+use Rattle.sfc_text.specs.Parsing.Reading.{Read, ◌>>=◌, taken, one, found, and_more, items, all, pair, Inside, read}
 use Rattle.sfc_text.proofs.Shorter.{bind_ok, mapped, found_is, limited_ok}
 
 abbrev pub Says : {X : Type 0} → (Kinds → X → Kinds → Type 0) → (Kinds → Read (X × Kinds)) → Type 0

@@ -1,15 +1,13 @@
 -- The laws of reading, within any limits and by any rule.
 use Rattle.std.proofs.Common.{◌≡◌, inl, inr, ℕ, zero, suc, ◌+◌, ◌≤◌, true, false, [], Ok, Err, refl, sym, ap, subst, ◌∙◌, arith}
-use Rattle.sfc_tokens.specs.declared.read_error.ReadErrorKind.TheVariants.{Syntax, TooDeep}
-use Rattle.sfc_tokens.specs.ReadErrors.{Read}
 use Rattle.sfc_tokens.specs.Tokens.{Kinds}
 use Rattle.sfc_text.specs.Sorts.{Sort, AnExpression, AnOperand, Branches}
 use Rattle.sfc_text.specs.Rules.{Rule, Derives}
-use Rattle.sfc_text.specs.Grammar.{literal, signed, variable, primary, unary, joined, expression, assignment, conditional, statement, entry, body, branch, other_branch, other_branches, else_branch, branches, nested}
+use Rattle.sfc_text.specs.Grammar.{literal, signed, variable, parenthesized, primary, opposite, negation, unary, joined, expression, assignment, conditional, statement, entry, body, branch, other_branch, other_branches, else_branch, branches, nested}
 use Rattle.sfc_text.specs.Limits.{Limits, Within, Derived}
 use Rattle.sfc_text.specs.Parsing.Depth.{inside}
 use Rattle.sfc_text.specs.Parsing.Lookahead.{begins, fine, first, more, empty, first_of, more_of}
-use Rattle.sfc_text.specs.Parsing.Reading.{read}
+use Rattle.sfc_text.specs.Parsing.Reading.{Syntax, TooDeep, Read, read}
 use Rattle.sfc_text.proofs.Sound.{Says, sound}
 use Rattle.sfc_text.proofs.Complete.{taken_front, InFronts, front, InAgain, complete}
 use Rattle.sfc_text.proofs.Deeper.{Implies, derives_deeper, Agrees, read_agrees}
@@ -18,25 +16,25 @@ use Rattle.sfc_text.proofs.Marks.{covered, covered_begins, covered_ends}
 -- ---- what the table of nested rules keeps, by computing
 
 pub nested_takes : (s : Sort) → empty (nested s) ≡ false
-unfolding joined unary signed primary literal variable branches branch expression
+unfolding joined unary opposite negation signed primary parenthesized literal variable branches branch expression
 nested_takes AnExpression = refl
 nested_takes AnOperand = refl
 nested_takes Branches = refl
 
 nested_fine : (s : Sort) → fine (nested s) ≡ true
-unfolding joined unary signed primary literal variable branches branch expression body entry statement conditional assignment other_branches other_branch else_branch
+unfolding joined unary opposite negation signed primary parenthesized literal variable branches branch expression body entry statement conditional assignment other_branches other_branch else_branch
 nested_fine AnExpression = refl
 nested_fine AnOperand = refl
 nested_fine Branches = refl
 
 nested_first : (s : Sort) → covered (first (nested s)) (first_of s) ≡ true
-unfolding joined unary signed primary literal variable branches branch expression
+unfolding joined unary opposite negation signed primary parenthesized literal variable branches branch expression
 nested_first AnExpression = refl
 nested_first AnOperand = refl
 nested_first Branches = refl
 
 nested_more : (s : Sort) → covered (more (nested s)) (more_of s) ≡ true
-unfolding joined unary signed primary literal variable branches branch expression body entry statement conditional assignment other_branches other_branch else_branch
+unfolding joined unary opposite negation signed primary parenthesized literal variable branches branch expression body entry statement conditional assignment other_branches other_branch else_branch
 nested_more AnExpression = refl
 nested_more AnOperand = refl
 nested_more Branches = refl

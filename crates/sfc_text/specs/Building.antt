@@ -192,7 +192,10 @@ operator_of (token.Delimiter sign.Slash) = Some operator.Divide
 operator_of (token.Keyword keyword.Mod) = Some operator.Modulo
 operator_of _ = None
 
+-- an operator and its right operand behind the left one
+abbrev pub join : Tree → Operator × Tree → Tree
+join a x = Binary x.0 a x.1
+
 -- operators of one level group to the left
 abbrev pub grouped : Tree → List (Operator × Tree) → Tree
-grouped a [] = a
-grouped a (x ∷ xs) = grouped (Binary x.0 a x.1) xs
+grouped a xs = folded join a xs

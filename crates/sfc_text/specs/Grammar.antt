@@ -62,14 +62,25 @@ signed = map make.negative (sign sign.Minus ▸ integer)
 unfoldable pub variable : Rule Variable
 variable = map make.a_variable (name & maybe (sign sign.Dot ▸ name))
 
+-- '(' expr ')'
+unfoldable pub parenthesized : Rule Tree
+parenthesized = sign sign.Open ▸ inner AnExpression (λ e. e) ◂ sign sign.Close
+
 -- primary ::= literal | name ['.' name] | '(' expr ')'
 unfoldable pub primary : Rule Tree
-primary = map Constant literal or (map trees.Named variable or (sign sign.Open ▸ inner AnExpression (λ e. e) ◂ sign sign.Close))
+primary = map Constant literal or (map trees.Named variable or parenthesized)
+
+-- '-' unary
+unfoldable pub opposite : Rule Tree
+opposite = sign sign.Minus ▸ inner AnOperand trees.Minus
+
+-- NOT unary
+unfoldable pub negation : Rule Tree
+negation = word keyword.Not ▸ inner AnOperand trees.Not
 
 -- unary ::= '-' integer | '-' unary | NOT unary | primary
 unfoldable pub unary : Rule Tree
-unary = ahead make.is_signed (map Constant signed)
-    ((sign sign.Minus ▸ inner AnOperand trees.Minus) or ((word keyword.Not ▸ inner AnOperand trees.Not) or primary))
+unary = ahead make.is_signed (map Constant signed) (opposite or (negation or primary))
 
 -- the operators of each level, from the tightest
 abbrev pub operators_at : ℕ → Marks

@@ -3,4 +3,5 @@
 pub mod Lookahead
 pub mod Reading
 pub mod Depth
+pub mod Counting
 pub mod Takes

@@ -5,8 +5,10 @@
 //! - `terminal`: single tokens.
 
 pub mod configuration;
+pub mod expression;
 pub mod fault;
 pub mod list;
+pub mod operator;
 pub mod step;
 pub mod variables;
 pub mod terminal;

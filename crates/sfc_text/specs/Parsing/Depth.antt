@@ -1,12 +1,10 @@
 -- Reading within limits.
 use Rattle.std.specs.Prelude.{ℕ, zero, suc, Err}
-use Rattle.sfc_tokens.specs.declared.read_error.ReadErrorKind.TheVariants.{TooDeep}
-use Rattle.sfc_tokens.specs.ReadErrors.{Read}
 use Rattle.sfc_tokens.specs.Tokens.{Kinds}
 use Rattle.sfc_text.specs.Rules.{Rule}
 use Rattle.sfc_text.specs.Grammar.{nested}
 use Rattle.sfc_text.specs.Sorts.{Sort, Sorted}
-use Rattle.sfc_text.specs.Parsing.Reading.{read}
+use Rattle.sfc_text.specs.Parsing.Reading.{Read, TooDeep, read}
 
 -- one of a sort, with so many levels left, and at most n counted in each expression
 unfoldable pub inside : ℕ → ℕ → (s : Sort) → Kinds → Read (Sorted s × Kinds)

@@ -1,10 +1,8 @@
 -- Reading by rules from left to right, with one token of lookahead.
 use Rattle.std.specs.Prelude.{◌≡◌, ◌⊎◌, ℕ, zero, suc, List, [], ◌∷◌, ◌++◌, Bool, true, false, cond, nat_le, Option, Some, None, Result, Ok, Err, length}
 use Rattle.std.specs.Borrow.{Bor}
-use Rattle.sfc_tokens.specs.declared.read_error.ReadErrorKind.TheVariants.{Syntax, TooDeep}
 use Rattle.sfc_tokens.specs.declared.token.Token.{Token}
 use Rattle.sfc_tokens.specs.declared.token.TokenKind.{TokenKind}
-use Rattle.sfc_tokens.specs.ReadErrors.{Read}
 use Rattle.sfc_tokens.specs.Tokens.{Kinds, kinds}
 use Rattle.sfc_text.specs.declared.parse.fault.ParseFault.{ParseFault}
 use Rattle.sfc_text.specs.declared.parse.fault.ParseFault.TheVariants as fault
@@ -13,6 +11,15 @@ use Rattle.sfc_text.specs.Sorts.{Sort, Sorted}
 use Rattle.sfc_text.specs.Rules.{Rule, token, nothing, map, both, either, many, chain, ahead, inner, counted}
 use Rattle.sfc_text.specs.Building.{Place}
 use Rattle.sfc_text.specs.Parsing.Lookahead.{begins, first}
+
+-- why tokens are refused: they can't go on so, or a limit is passed
+pub data Refusal : Type 0 where
+  Syntax : Refusal
+  TooDeep : Refusal
+
+-- what reading gives: a value, or why there is none
+abbrev pub Read : Type 0 → Type 0
+Read X = Result X Refusal
 
 infixl 10 ◌>>=◌
 abbrev pub ◌>>=◌ : {A B : Type 0} → Read A → (A → Read B) → Read B

@@ -1,0 +1,300 @@
+//! Expressions (B.3.1).
+
+ghost use Rattle.std.specs.Prelude.{◌≡◌, ◌≤◌, ◌<◌, ◌-◌, ◌+◌};
+ghost use Rattle.sfc_tokens.specs.Tokens.{kinds};
+ghost use Rattle.sfc_text.specs.Grammar as grammar;
+ghost use Rattle.sfc_text.specs.Parsing.Counting.{Counts, CountsPair};
+ghost use Rattle.sfc_text.specs.Parsing.Depth.{at, inside, reads};
+ghost use Rattle.sfc_text.specs.Parsing.Reading.{Gives, pair, view, view_by};
+ghost use Rattle.sfc_text.specs.Sorts.{AnExpression, AnOperand};
+ghost use Rattle.sfc_text.specs.Trees.{tree_of, operators};
+
+use crate::expression::{Expression, Operator, Variable};
+use crate::parse::fault::ParseFault;
+use crate::parse::operator::{begins_operator, operator};
+use crate::parse::terminal::{begins_name, begins_sign, literal, name, sign, signed, too_deep, word};
+use sfc_tokens::delimiter::Delimiter;
+use sfc_tokens::keyword::Keyword;
+use sfc_tokens::token::{Token, TokenKind};
+use std::alloc::Global;
+
+/// How many operators one expression has at most (our choice).
+const MOST_OPERATORS: u16 = 256;
+
+/// An expression, and how many operators it has.
+#[derive(Drop)]
+struct Counted {
+    tree: Expression,
+    operators: u16,
+}
+
+/// How many levels may still open, and how many operators may still come.
+#[derive(Clone, Copy)]
+struct Room {
+    levels: u8,
+    operators: u16,
+}
+
+impl Room {
+    // The room that is left behind so many operators.
+    fn after_operators(self, count: u16) -> Room
+        requires { count ≤ self.operators }
+        ensures levels { result.levels ≡ self.levels }
+        ensures operators { result.operators ≡ self.operators - count }
+    {
+        Room {
+            levels: self.levels,
+            operators: self.operators - count,
+        }
+    }
+}
+
+/// A variable, or what a step or an action has, and what follows it.
+#[tactic(auto, unfolding(crate::specs::Grammar::variable))]
+pub fn variable(alloc: Global, tokens: &[Token]) -> Result<(Variable, &[Token]), ParseFault>
+    ensures { Gives view result (reads grammar.variable (kinds tokens.now)) }
+{
+    let (name_of_it, tokens) = name(alloc, tokens)?;
+    if !begins_sign(tokens, Delimiter::Dot) {
+        let variable = Variable {
+            name: name_of_it,
+            part: None,
+        };
+        return Ok((variable, tokens));
+    }
+    let tokens = sign(tokens, Delimiter::Dot)?;
+    let (part, tokens) = name(alloc, tokens)?;
+    let variable = Variable {
+        name: name_of_it,
+        part: Some(part),
+    };
+    Ok((variable, tokens))
+}
+
+// An expression in parentheses, one level of nesting further in.
+#[cycle(expression)]
+#[tactic(auto, unfolding(crate::specs::Parsing::Depth::inside))]
+fn nested_expression(
+    alloc: Global,
+    tokens: &[Token],
+    room: Room,
+) -> Result<(Counted, &[Token]), ParseFault>
+    ensures { Counts room.operators result (inside 256 room.levels AnExpression (kinds tokens.now)) }
+{
+    if room.levels == 0 {
+        return Err(too_deep(tokens));
+    }
+    let inner = Room {
+        levels: room.levels - 1,
+        operators: room.operators,
+    };
+    joined(alloc, tokens, 7, inner)
+}
+
+// The operand of a prefix operator, one level of nesting further in.
+#[cycle(expression)]
+#[tactic(auto, unfolding(crate::specs::Parsing::Depth::inside))]
+fn nested_operand(
+    alloc: Global,
+    tokens: &[Token],
+    room: Room,
+) -> Result<(Counted, &[Token]), ParseFault>
+    ensures { Counts room.operators result (inside 256 room.levels AnOperand (kinds tokens.now)) }
+{
+    if room.levels == 0 {
+        return Err(too_deep(tokens));
+    }
+    let inner = Room {
+        levels: room.levels - 1,
+        operators: room.operators,
+    };
+    unary(alloc, tokens, inner)
+}
+
+// An expression in parentheses.
+#[cycle(expression)]
+#[tactic(auto, unfolding(crate::specs::Grammar::parenthesized))]
+fn parenthesized(
+    alloc: Global,
+    tokens: &[Token],
+    room: Room,
+) -> Result<(Counted, &[Token]), ParseFault>
+    ensures { Counts room.operators result (at room.levels grammar.parenthesized (kinds tokens.now)) }
+{
+    let tokens = sign(tokens, Delimiter::Open)?;
+    let (inner, tokens) = nested_expression(alloc, tokens, room)?;
+    let tokens = sign(tokens, Delimiter::Close)?;
+    Ok((inner, tokens))
+}
+
+// An operand without prefix operators.
+#[cycle(expression)]
+#[tactic(auto, unfolding(crate::specs::Grammar::primary, crate::specs::Grammar::literal, crate::specs::Grammar::variable, crate::specs::Grammar::parenthesized))]
+fn primary(alloc: Global, tokens: &[Token], room: Room) -> Result<(Counted, &[Token]), ParseFault>
+    ensures { Counts room.operators result (at room.levels grammar.primary (kinds tokens.now)) }
+{
+    if begins_sign(tokens, Delimiter::Open) {
+        return parenthesized(alloc, tokens, room);
+    }
+    if begins_name(tokens) {
+        let (variable, tokens) = variable(alloc, tokens)?;
+        let tree = Expression::Variable(variable);
+        return Ok((Counted { tree, operators: 0 }, tokens));
+    }
+    match literal(tokens) {
+        Ok((literal, tokens)) => {
+            let tree = Expression::Literal(literal);
+            Ok((Counted { tree, operators: 0 }, tokens))
+        }
+        Err(fault) => Err(fault),
+    }
+}
+
+// An operand with a minus before it.
+#[cycle(expression)]
+#[tactic(auto, unfolding(crate::specs::Grammar::opposite))]
+fn opposite(alloc: Global, tokens: &[Token], room: Room) -> Result<(Counted, &[Token]), ParseFault>
+    ensures { Counts room.operators result (at room.levels grammar.opposite (kinds tokens.now)) }
+{
+    let rest = sign(tokens, Delimiter::Minus)?;
+    if room.operators == 0 {
+        return Err(too_deep(tokens));
+    }
+    let (inner, rest) = nested_operand(alloc, rest, room.after_operators(1))?;
+    let Counted { tree, operators } = inner;
+    let counted = Counted {
+        tree: Expression::Minus(Box::new(alloc, tree)?),
+        operators: operators + 1,
+    };
+    Ok((counted, rest))
+}
+
+// An operand with NOT before it.
+#[cycle(expression)]
+#[tactic(auto, unfolding(crate::specs::Grammar::negation))]
+fn negation(alloc: Global, tokens: &[Token], room: Room) -> Result<(Counted, &[Token]), ParseFault>
+    ensures { Counts room.operators result (at room.levels grammar.negation (kinds tokens.now)) }
+{
+    let rest = word(tokens, Keyword::Not)?;
+    if room.operators == 0 {
+        return Err(too_deep(tokens));
+    }
+    let (inner, rest) = nested_operand(alloc, rest, room.after_operators(1))?;
+    let Counted { tree, operators } = inner;
+    let counted = Counted {
+        tree: Expression::Not(Box::new(alloc, tree)?),
+        operators: operators + 1,
+    };
+    Ok((counted, rest))
+}
+
+// An operand with its prefix operators.
+#[cycle(expression)]
+#[tactic(auto, unfolding(crate::specs::Grammar::unary, crate::specs::Grammar::opposite, crate::specs::Grammar::negation, crate::specs::Grammar::signed))]
+fn unary(alloc: Global, tokens: &[Token], room: Room) -> Result<(Counted, &[Token]), ParseFault>
+    ensures { Counts room.operators result (at room.levels grammar.unary (kinds tokens.now)) }
+{
+    match tokens {
+        [
+            Token {
+                kind: TokenKind::Delimiter(Delimiter::Minus),
+                ..
+            },
+            Token {
+                kind: TokenKind::Integer(_),
+                ..
+            },
+            ..
+        ] => match signed(tokens) {
+            Ok((literal, tokens)) => {
+                let tree = Expression::Literal(literal);
+                Ok((Counted { tree, operators: 0 }, tokens))
+            }
+            Err(fault) => Err(fault),
+        },
+        [
+            Token {
+                kind: TokenKind::Delimiter(Delimiter::Minus),
+                ..
+            },
+            ..
+        ] => opposite(alloc, tokens, room),
+        [
+            Token {
+                kind: TokenKind::Keyword(Keyword::Not),
+                ..
+            },
+            ..
+        ] => negation(alloc, tokens, room),
+        _ => primary(alloc, tokens, room),
+    }
+}
+
+// An operator of the level and its right operand, which are counted.
+#[cycle(expression)]
+fn operand(
+    alloc: Global,
+    tokens: &[Token],
+    level: u8,
+    room: Room,
+) -> Result<(Operator, Counted, &[Token]), ParseFault>
+    requires some { 1 ≤ level }
+    requires most { level ≤ 7 }
+    ensures { CountsPair room.operators result (pair (at room.levels (grammar.operator level)) (at room.levels (grammar.joined (level - 1))) (kinds tokens.now)) }
+{
+    let (operator, tokens) = operator(tokens, level)?;
+    let (operand, tokens) = joined(alloc, tokens, level - 1, room)?;
+    Ok((operator, operand, tokens))
+}
+
+// An expression without looser operators than those of the level.
+#[cycle(expression)]
+#[tactic(auto, unfolding(crate::specs::Grammar::joined))]
+fn joined(
+    alloc: Global,
+    tokens: &[Token],
+    level: u8,
+    room: Room,
+) -> Result<(Counted, &[Token]), ParseFault>
+    requires { level ≤ 7 }
+    ensures { Counts room.operators result (at room.levels (grammar.joined level) (kinds tokens.now)) }
+{
+    if level == 0 {
+        return unary(alloc, tokens, room);
+    }
+    let (first, mut rest) = joined(alloc, tokens, level - 1, room)?;
+    let Counted {
+        mut tree,
+        mut operators,
+    } = first;
+    'operands: while begins_operator(rest, level) {
+        if operators >= room.operators {
+            return Err(too_deep(rest));
+        }
+        let (operator, second, behind) =
+            operand(alloc, rest, level, room.after_operators(operators + 1))?;
+        let left = Box::new(alloc, tree)?;
+        let right = Box::new(alloc, second.tree)?;
+        tree = Expression::Binary(operator, left, right);
+        operators += second.operators + 1;
+        rest = behind;
+    }
+    Ok((Counted { tree, operators }, rest))
+}
+
+/// An expression, with so many levels of nesting at most, and what follows it.
+#[tactic(auto, unfolding(crate::specs::Grammar::expression))]
+pub fn expression(
+    alloc: Global,
+    tokens: &[Token],
+    levels: u8,
+) -> Result<(Expression, &[Token]), ParseFault>
+    ensures { Gives (view_by tree_of) result (at levels grammar.expression (kinds tokens.now)) }
+{
+    let room = Room {
+        levels,
+        operators: MOST_OPERATORS,
+    };
+    let (Counted { tree, .. }, tokens) = joined(alloc, tokens, 7, room)?;
+    Ok((tree, tokens))
+}
