@@ -23,6 +23,13 @@ append_nothing (If rs a) = ap (If rs) (append_nothing a)
 append_nothing (When e body a) = ap (When e body) (append_nothing a)
 append_nothing (Otherwise body a) = ap (Otherwise body) (append_nothing a)
 
+pub append_append : (a b c : Block) → append (append a b) c ≡ append a (append b c)
+append_append Nothing b c = refl
+append_append (Assign v e a) b c = ap (Assign v e) (append_append a b c)
+append_append (If rs a) b c = ap (If rs) (append_append a b c)
+append_append (When e body a) b c = ap (When e body) (append_append a b c)
+append_append (Otherwise body a) b c = ap (Otherwise body) (append_append a b c)
+
 append_before : (s : Statement) (b c : Block) → append (before s b) c ≡ before s (append b c)
 append_before (statement.Assign v e) b c = refl
 append_before (statement.If' shape branches) b c = refl
@@ -56,7 +63,3 @@ beside_when e v b = ap (λ (x : Block). When (tree_of e) x b) (let row = row_of_
 
 pub beside_otherwise : (v : Vec Statement Global) (b : Block) → beside (branch.Otherwise v) b ≡ Otherwise (block_of v.items) b
 beside_otherwise v b = ap (λ (x : Block). Otherwise x b) (let row = row_of_branch (branch.Otherwise v) in statements_items row.0 row.1 ∙ ap block_of (items_hidden-the_row-Statement-0 v))
-
--- a statement or none behind a block
-pub entry_none : (b : Block) → append b Nothing ≡ b
-entry_none b = append_nothing b

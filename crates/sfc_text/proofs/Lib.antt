@@ -10,3 +10,4 @@ pub mod Fine
 pub mod Loops
 pub mod Globals
 pub mod Counting
+pub mod Appending

@@ -5,6 +5,7 @@ use Rattle.sfc_tokens.specs.declared.token.Token.{Token}
 use Rattle.sfc_tokens.specs.Tokens.{Kinds, kinds}
 use Rattle.sfc_text.specs.declared.parse.fault.ParseFault.{ParseFault}
 use Rattle.sfc_text.specs.declared.parse.fault.ParseFault.TheVariants as fault
+use Rattle.sfc_text.specs.Lists.{is_empty}
 use Rattle.sfc_text.specs.Marks.{Marks}
 use Rattle.sfc_text.specs.Sorts.{Sort}
 use Rattle.sfc_text.specs.Rules.{Rule}
@@ -169,3 +170,6 @@ behind_fails (fault.TooDeep left) front (Ok x) (inl h) = absurd cc
 behind_fails (fault.TooDeep left) front (Ok x) (inr h) = absurd cc
 behind_fails (fault.TooDeep left) front (Err d) (inl h) = inl cc
 behind_fails (fault.TooDeep left) front (Err d) (inr h) = inr cc
+
+pub behind_some : {X : Type 0} (x : X) (r : Read (List X × Kinds)) (y : List X × Kinds) → behind (x ∷ []) r ≡ Ok y → is_empty y.0 ≡ false
+behind_some x r y e = let p = behind_ok (x ∷ []) r y e in subst (λ (z : List _ × Kinds). is_empty z.0 ≡ false) (sym p.2) refl

@@ -144,7 +144,7 @@ else_branch = map make.an_else (word keyword.Else ▸ body)
 
 -- expr THEN {[stmt] ';'} {ELSIF expr THEN {[stmt] ';'}} [ELSE {[stmt] ';'}] END_IF
 unfoldable pub branches : Rule Block
-branches = both append branch (both append other_branches (else_given trees.Nothing else_branch)) ◂ word keyword.EndIf
+branches = both append (both append branch other_branches) (else_given trees.Nothing else_branch) ◂ word keyword.EndIf
 
 -- ---- variables (B.1.4.3)
 

@@ -5,3 +5,4 @@ pub mod Reading
 pub mod Depth
 pub mod Counting
 pub mod Takes
+pub mod Views

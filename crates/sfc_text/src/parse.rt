@@ -4,11 +4,13 @@
 //! - `list`: lists of items.
 //! - `terminal`: single tokens.
 
+pub mod chart;
 pub mod configuration;
 pub mod expression;
 pub mod fault;
 pub mod list;
 pub mod operator;
+pub mod statement;
 pub mod step;
 pub mod variables;
 pub mod terminal;

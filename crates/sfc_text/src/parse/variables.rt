@@ -1,11 +1,12 @@
 //! Declarations of variables (B.1.4.3).
 
-ghost use Rattle.std.specs.Prelude.{◌≡◌, ◌∷◌, [], List, ℕ, refl};
+ghost use Rattle.std.specs.Prelude.{◌≡◌, ◌∷◌, [], IfOk, List, ℕ, false, refl};
 ghost use Rattle.sfc_tokens.specs.Tokens.{kinds};
 ghost use Rattle.sfc_text.specs.declared.tree.Declaration.{Declaration as Value};
 ghost use Rattle.sfc_text.specs.declared.tree.External.{External as ExternalValue};
 ghost use Rattle.sfc_text.specs.declared.tree.VariableBlock.{VariableBlock as BlockValue};
 ghost use Rattle.sfc_text.specs.Grammar as grammar;
+ghost use Rattle.sfc_text.specs.Lists.{is_empty};
 ghost use Rattle.sfc_text.specs.Parsing.Depth.{reads};
 ghost use Rattle.sfc_text.specs.Parsing.Reading.{Gives, behind, made, view, view_by, with_first};
 ghost use Rattle.sfc_text.specs.Parsing.Takes.{further_name_takes, declaration_takes, external_takes, variables_takes};
@@ -55,13 +56,14 @@ impl Item for Name {
 }
 
 // The names behind the first one, in one list with it.
-#[tactic(auto, unfolding(crate::specs::Grammar::further_names))]
+#[tactic(auto, using(crate::proofs::Loops::behind_some), unfolding(crate::specs::Grammar::further_names))]
 fn names_behind(
     alloc: Global,
     first: Name,
     tokens: &[Token],
 ) -> Result<(Items<Name>, &[Token]), ParseFault>
-    ensures { Gives view result (behind (first ∷ []) (reads grammar.further_names (kinds tokens.now))) }
+    ensures value { Gives view result (behind (first ∷ []) (reads grammar.further_names (kinds tokens.now))) }
+    ensures some { IfOk result (λ x. is_empty x.0 ≡ false) }
 {
     let mut found = Vec::new(alloc);
     found.push(first)?;
@@ -72,7 +74,8 @@ fn names_behind(
 /// Names with commas between them, one at least.
 #[tactic(auto, unfolding(crate::specs::Grammar::names))]
 pub fn names(alloc: Global, tokens: &[Token]) -> Result<(Items<Name>, &[Token]), ParseFault>
-    ensures { Gives view result (reads grammar.names (kinds tokens.now)) }
+    ensures value { Gives view result (reads grammar.names (kinds tokens.now)) }
+    ensures some { IfOk result (λ x. is_empty x.0 ≡ false) }
 {
     let (first, tokens) = name(alloc, tokens)?;
     names_behind(alloc, first, tokens)

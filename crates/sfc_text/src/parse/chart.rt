@@ -1,0 +1,157 @@
+//! Transitions, actions and the elements of charts (B.1.6).
+
+ghost use Rattle.std.specs.Prelude.{◌≡◌, ◌∷◌, [], IfOk, false, map, refl};
+ghost use Rattle.sfc_tokens.specs.Tokens.{kinds};
+ghost use Rattle.sfc_text.specs.Grammar as grammar;
+ghost use Rattle.sfc_text.specs.Lists.{is_empty};
+ghost use Rattle.sfc_text.specs.Parsing.Depth.{reads};
+ghost use Rattle.sfc_text.specs.Parsing.Reading.{Gives, view, view_by};
+ghost use Rattle.sfc_text.specs.Parsing.Takes.{element_takes};
+ghost use Rattle.sfc_text.specs.Parsing.Views.{elements_more};
+ghost use Rattle.sfc_text.specs.Terms.{maybe};
+ghost use Rattle.sfc_text.specs.Trees.{ElementTree, action_of, element_of, transition_of};
+
+use crate::parse::expression::expression;
+use crate::parse::fault::ParseFault;
+use crate::parse::list::Item;
+use crate::parse::statement::body;
+use crate::parse::step::step;
+use crate::parse::terminal::{
+    begins_name, begins_sign, begins_word, integer, name, named, sign, word,
+};
+use crate::parse::variables::names;
+use crate::tree::{Action, Element, Transition};
+use sfc_tokens::delimiter::Delimiter;
+use sfc_tokens::items::Items;
+use sfc_tokens::keyword::Keyword;
+use sfc_tokens::name::Name;
+use sfc_tokens::token::Token;
+use std::alloc::Global;
+
+/// How deep parentheses, prefix operators and IF statements may nest (our choice).
+const MOST_LEVELS: u8 = 64;
+
+// The name of a transition, where there is one.
+fn maybe_name(alloc: Global, tokens: &[Token]) -> Result<(Option<Name>, &[Token]), ParseFault>
+    ensures { Gives view result (reads (maybe grammar.name) (kinds tokens.now)) }
+{
+    if begins_name(tokens) {
+        let (name, tokens) = name(alloc, tokens)?;
+        Ok((Some(name), tokens))
+    } else {
+        Ok((None, tokens))
+    }
+}
+
+// The priority of a transition, where there is one.
+#[tactic(auto, unfolding(crate::specs::Grammar::priority))]
+fn maybe_priority(tokens: &[Token]) -> Result<(Option<u32>, &[Token]), ParseFault>
+    ensures { Gives view result (reads (maybe grammar.priority) (kinds tokens.now)) }
+{
+    if !begins_sign(tokens, Delimiter::Open) {
+        return Ok((None, tokens));
+    }
+    let tokens = sign(tokens, Delimiter::Open)?;
+    let tokens = named(tokens, b"PRIORITY")?;
+    let tokens = sign(tokens, Delimiter::Assign)?;
+    let (priority, tokens) = integer(tokens)?;
+    let tokens = sign(tokens, Delimiter::Close)?;
+    Ok((Some(priority), tokens))
+}
+
+// The steps on one side of a transition, one at least.
+#[tactic(auto, unfolding(crate::specs::Grammar::steps))]
+fn steps(alloc: Global, tokens: &[Token]) -> Result<(Items<Name>, &[Token]), ParseFault>
+    ensures value { Gives view result (reads grammar.steps (kinds tokens.now)) }
+    ensures some { IfOk result (λ x. is_empty x.0 ≡ false) }
+{
+    if begins_name(tokens) {
+        let (step, tokens) = name(alloc, tokens)?;
+        return Ok((Items::one(alloc, step)?, tokens));
+    }
+    let tokens = sign(tokens, Delimiter::Open)?;
+    let (steps, tokens) = names(alloc, tokens)?;
+    let tokens = sign(tokens, Delimiter::Close)?;
+    Ok((steps, tokens))
+}
+
+// A transition.
+#[tactic(auto, unfolding(crate::specs::Grammar::transition))]
+fn transition(alloc: Global, tokens: &[Token]) -> Result<(Transition, &[Token]), ParseFault>
+    ensures { Gives (view_by transition_of) result (reads grammar.transition (kinds tokens.now)) }
+{
+    let tokens = word(tokens, Keyword::Transition)?;
+    let (name, tokens) = maybe_name(alloc, tokens)?;
+    let (priority, tokens) = maybe_priority(tokens)?;
+    let tokens = word(tokens, Keyword::From)?;
+    let (preceding, tokens) = steps(alloc, tokens)?;
+    let tokens = word(tokens, Keyword::To)?;
+    let (following, tokens) = steps(alloc, tokens)?;
+    let tokens = sign(tokens, Delimiter::Assign)?;
+    let (condition, tokens) = expression(alloc, tokens, MOST_LEVELS)?;
+    let tokens = sign(tokens, Delimiter::Semicolon)?;
+    let tokens = word(tokens, Keyword::EndTransition)?;
+    let transition = Transition {
+        name,
+        priority,
+        preceding,
+        following,
+        condition,
+    };
+    Ok((transition, tokens))
+}
+
+// An action with its body.
+#[tactic(auto, unfolding(crate::specs::Grammar::action))]
+fn action(alloc: Global, tokens: &[Token]) -> Result<(Action, &[Token]), ParseFault>
+    ensures { Gives (view_by action_of) result (reads grammar.action (kinds tokens.now)) }
+{
+    let tokens = word(tokens, Keyword::Action)?;
+    let (name, tokens) = name(alloc, tokens)?;
+    let tokens = sign(tokens, Delimiter::Colon)?;
+    let (body, tokens) = body(alloc, tokens, MOST_LEVELS)?;
+    let tokens = word(tokens, Keyword::EndAction)?;
+    Ok((Action { name, body }, tokens))
+}
+
+impl Item for Element {
+    ghost Tree = { ElementTree };
+
+    ghost tree = { element_of };
+
+    ghost trees = { map element_of };
+
+    ghost rule = { grammar.element };
+
+    #[tactic(auto, unfolding(crate::specs::Grammar::element, crate::specs::Grammar::step, crate::specs::Grammar::transition, crate::specs::Grammar::action))]
+    fn begins(tokens: &[Token]) -> bool {
+        begins_word(tokens, Keyword::InitialStep)
+            || begins_word(tokens, Keyword::Step)
+            || begins_word(tokens, Keyword::Transition)
+            || begins_word(tokens, Keyword::Action)
+    }
+
+    #[tactic(auto, unfolding(crate::specs::Grammar::element, crate::specs::Grammar::step, crate::specs::Grammar::transition, crate::specs::Grammar::action))]
+    fn read(alloc: Global, tokens: &[Token]) -> Result<(Element, &[Token]), ParseFault> {
+        if begins_word(tokens, Keyword::InitialStep) {
+            let (step, tokens) = step(alloc, true, Keyword::InitialStep, tokens)?;
+            return Ok((Element::Step(step), tokens));
+        }
+        if begins_word(tokens, Keyword::Step) {
+            let (step, tokens) = step(alloc, false, Keyword::Step, tokens)?;
+            return Ok((Element::Step(step), tokens));
+        }
+        if begins_word(tokens, Keyword::Transition) {
+            let (transition, tokens) = transition(alloc, tokens)?;
+            return Ok((Element::Transition(transition), tokens));
+        }
+        let (action, tokens) = action(alloc, tokens)?;
+        Ok((Element::Action(action), tokens))
+    }
+
+    ghost takes_a_token = { element_takes };
+
+    ghost no_trees = { refl };
+
+    ghost one_more = { elements_more };
+}
