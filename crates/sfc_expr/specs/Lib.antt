@@ -4,3 +4,13 @@
 pub mod Ticks
 -- values, their types, and the ranges of types
 pub mod Values
+-- typed trees
+pub mod Trees
+-- what expressions and statements stand in
+pub mod Environment
+-- the value of an expression
+pub mod Meaning
+-- what they have to handle
+pub mod Nodes
+-- the effect of statements
+pub mod Effect

@@ -12,10 +12,15 @@
 //! - `value`: values; `variable`: what names a variable or a step.
 #![tactic(auto)]
 
+pub mod eval;
 pub mod expr;
 pub mod fault;
+mod number;
+mod operate;
 pub mod operator;
+pub mod scratch;
 pub mod statement;
 pub mod ticks;
 pub mod value;
 pub mod variable;
+pub mod view;
