@@ -13,6 +13,7 @@
 #![tactic(auto)]
 
 pub mod eval;
+pub mod exec;
 pub mod expr;
 pub mod fault;
 mod number;
