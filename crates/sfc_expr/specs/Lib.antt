@@ -14,3 +14,7 @@ pub mod Meaning
 pub mod Nodes
 -- the effect of statements
 pub mod Effect
+-- the types of expressions and statements
+pub mod Types
+-- what an expression depends on, and what statements leave alone
+pub mod Dependence

@@ -15,7 +15,11 @@ use crate::ticks::Ticks;
 /// Executes statements in order, up to the first fault; what was written before it stays. A tick is made for each
 /// statement and each node of an expression at most, and no memory is taken.
 #[cycle(exec)]
-pub fn exec<S: Scratch>(statements: &[Statement], scratch: &mut S, ticks: &mut Ticks) -> Result<(), Fault>
+pub fn exec<S: Scratch>(
+    statements: &[Statement],
+    scratch: &mut S,
+    ticks: &mut Ticks,
+) -> Result<(), Fault>
     ensures result { result ≡ (effect (body_of statements.now) (S.environment scratch.old)).result }
     ensures after { S.environment scratch.new ≡ (effect (body_of statements.now) (S.environment scratch.old)).environment }
     ensures ticks { Within (body_nodes (body_of statements.now)) ticks.old ticks.new }
@@ -27,7 +31,11 @@ pub fn exec<S: Scratch>(statements: &[Statement], scratch: &mut S, ticks: &mut T
 }
 
 #[cycle(exec)]
-fn exec_statement<S: Scratch>(statement: &Statement, scratch: &mut S, ticks: &mut Ticks) -> Result<(), Fault>
+fn exec_statement<S: Scratch>(
+    statement: &Statement,
+    scratch: &mut S,
+    ticks: &mut Ticks,
+) -> Result<(), Fault>
     ensures result { result ≡ (effect (before statement.now Nothing) (S.environment scratch.old)).result }
     ensures after { S.environment scratch.new
         ≡ (effect (before statement.now Nothing) (S.environment scratch.old)).environment }
@@ -46,7 +54,11 @@ fn exec_statement<S: Scratch>(statement: &Statement, scratch: &mut S, ticks: &mu
 
 // Executes the first branch that applies.
 #[cycle(exec)]
-fn exec_first<S: Scratch>(branches: &[Branch], scratch: &mut S, ticks: &mut Ticks) -> Result<(), Fault>
+fn exec_first<S: Scratch>(
+    branches: &[Branch],
+    scratch: &mut S,
+    ticks: &mut Ticks,
+) -> Result<(), Fault>
     ensures result { result ≡ (branch_effect (branches_of branches.now) (S.environment scratch.old)).result }
     ensures after { S.environment scratch.new
         ≡ (branch_effect (branches_of branches.now) (S.environment scratch.old)).environment }

@@ -16,6 +16,7 @@ pub mod eval;
 pub mod exec;
 pub mod expr;
 pub mod fault;
+pub mod laws;
 mod number;
 mod operate;
 pub mod operator;

@@ -10,7 +10,12 @@ use crate::value::Value;
 use sfc_tokens::var_type::VarType;
 
 // The value of `left operator right`, both of this type.
-pub(crate) fn operate(operator: Operator, var_type: VarType, left: Value, right: Value) -> Result<Value, Fault>
+pub(crate) fn operate(
+    operator: Operator,
+    var_type: VarType,
+    left: Value,
+    right: Value,
+) -> Result<Value, Fault>
     ensures { result ≡ operated operator var_type left right }
 {
     let (a, b) = (left.number(), right.number());
