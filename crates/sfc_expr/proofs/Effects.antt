@@ -72,8 +72,14 @@ module _ (xs : List Statement) (i : ℕ) (x : Statement) (lt : i < length xs) (i
   pub goes_on : (env env' : Environment) (u : Unit {0}) → Ok u ≡ (first env).result → env' ≡ (first env).environment → effect (body_of (drop (i + 1) xs)) env' ≡ effect (body_of (drop i xs)) env
   goes_on env env' u r e = ap (λ (z : Environment). effect (body_of (drop (i + 1) xs)) z) e ∙ sym (effect_at env ∙ after-ok (first env) u _ r)
 
-  pub stops : (env env' : Environment) (fault : Fault) → Err fault ≡ (first env).result → env' ≡ (first env).environment → ended env' fault ≡ effect (body_of (drop i xs)) env
-  stops env env' fault r e = ap (λ (z : Environment). ended z fault) e ∙ sym (effect_at env ∙ after-err (first env) fault _ r)
+  stops : (env : Environment) (fault : Fault) → Err fault ≡ (first env).result → effect (body_of (drop i xs)) env ≡ ended (first env).environment fault
+  stops env fault r = effect_at env ∙ after-err (first env) fault _ r
+
+  pub stops-result : (env : Environment) (fault : Fault) → Err fault ≡ (first env).result → (effect (body_of (drop i xs)) env).result ≡ Err fault
+  stops-result env fault r = ap (λ (o : Outcome). o.result) (stops env fault r)
+
+  pub stops-environment : (env : Environment) (fault : Fault) → Err fault ≡ (first env).result → (effect (body_of (drop i xs)) env).environment ≡ (effect (before x Nothing) env).environment
+  stops-environment env fault r = ap (λ (o : Outcome). o.environment) (stops env fault r)
 
   pub nodes_at : body_nodes (body_of (drop i xs)) ≡ body_nodes (before x Nothing) + body_nodes (body_of (drop (i + 1) xs))
   nodes_at = ap (λ (s : List Statement). body_nodes (body_of s)) (split xs i x lt is) ∙ body_nodes-before x _
@@ -101,3 +107,9 @@ module _ (xs : List Branch) (i : ℕ) (x : Branch) (lt : i < length xs) (is : x 
 
     pub nodes-otherwise : branch_nodes (branches_of (drop i xs)) ≡ body_nodes (body_of v.items) + branch_nodes (branches_of (drop (i + 1) xs))
     nodes-otherwise = ap branch_nodes otherwise_at
+
+pub ruleset ifs = (effect-if, nodes-if)
+
+pub ruleset sequence = (goes_on, stops-result, stops-environment, nodes_at)
+
+pub ruleset first_branch = (applies, nodes-when, applies_otherwise, nodes-otherwise)

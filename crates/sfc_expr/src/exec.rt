@@ -15,6 +15,7 @@ use crate::ticks::Ticks;
 /// Executes statements in order, up to the first fault; what was written before it stays. A tick is made for each
 /// statement and each node of an expression at most, and no memory is taken.
 #[cycle(exec)]
+#[tactic(auto, using(crate::proofs::Effects::sequence))]
 pub fn exec<S: Scratch>(
     statements: &[Statement],
     scratch: &mut S,
@@ -31,6 +32,7 @@ pub fn exec<S: Scratch>(
 }
 
 #[cycle(exec)]
+#[tactic(auto, using(crate::proofs::Effects::ifs))]
 fn exec_statement<S: Scratch>(
     statement: &Statement,
     scratch: &mut S,
@@ -54,6 +56,7 @@ fn exec_statement<S: Scratch>(
 
 // Executes the first branch that applies.
 #[cycle(exec)]
+#[tactic(auto, using(crate::proofs::Effects::first_branch))]
 fn exec_first<S: Scratch>(
     branches: &[Branch],
     scratch: &mut S,

@@ -1,6 +1,6 @@
 //! Arithmetic within the range of a type (3.3.1, 2.3.1).
 
-ghost use Rattle.std.specs.Prelude.{◌≡◌, ℤ, ◌+ℤ◌, ◌-ℤ◌, ◌*ℤ◌, neg_ℤ, FitsSigned};
+ghost use Rattle.std.specs.Prelude.{◌≡◌, ◌≢◌, ℤ, pos, ◌+ℤ◌, ◌-ℤ◌, ◌*ℤ◌, neg_ℤ, int_div, FitsSigned};
 ghost use Rattle.std.specs.Option.{SomeIff};
 ghost use Rattle.std.specs.Int.{w64};
 ghost use Rattle.sfc_tokens.specs.declared.var_type.VarType.TheVariants as types;
@@ -30,15 +30,26 @@ pub(crate) fn multiply(var_type: VarType, left: i64, right: i64) -> Result<Value
     fit(var_type, left.checked_mul(right))
 }
 
+#[tactic(auto, using(crate::proofs::Division::division))]
 pub(crate) fn divide(var_type: VarType, left: i64, right: i64) -> Result<Value, Fault>
     ensures { result ≡ quotient var_type left right }
 {
     if right == 0 {
         return Err(Fault::DivZero);
     }
-    fit(var_type, left.checked_div(right))
+    fit(var_type, checked_quotient(left, right))
 }
 
+// The quotient, towards zero, where it fits into 64 bits.
+#[tactic(auto, using(crate::proofs::Division::quotients))]
+fn checked_quotient(left: i64, right: i64) -> Option<i64>
+    requires { right ≢ pos 0 }
+    ensures { SomeIff result (FitsSigned w64 (int_div left right)) (int_div left right) }
+{
+    left.checked_div(right)
+}
+
+#[tactic(auto, using(crate::proofs::Division::division))]
 pub(crate) fn modulo(var_type: VarType, left: i64, right: i64) -> Result<Value, Fault>
     ensures { result ≡ remainder var_type left right }
 {
