@@ -6,7 +6,7 @@ use crate::variable::{StepId, Variable};
 use sfc_tokens::var_type::VarType;
 
 /// An expression whose types were checked.
-#[derive(Drop)]
+#[derive(Debug, Drop)]
 pub enum Expr {
     /// A literal, its sign included.
     Literal(Value),

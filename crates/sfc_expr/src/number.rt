@@ -11,6 +11,13 @@ use crate::fault::Fault;
 use crate::value::Value;
 use sfc_tokens::var_type::VarType;
 
+const INT_MIN: i64 = -0x8000;
+const INT_MAX: i64 = 0x7FFF;
+const DINT_MIN: i64 = -0x8000_0000;
+const DINT_MAX: i64 = 0x7FFF_FFFF;
+const TIME_MIN: i64 = -0x4000_0000_0000_0000;
+const TIME_MAX: i64 = 0x4000_0000_0000_0000;
+
 // The sum as a value of the type.
 pub(crate) fn add(var_type: VarType, left: i64, right: i64) -> Result<Value, Fault>
     ensures { result ≡ in_type var_type (left +ℤ right) }
@@ -75,44 +82,14 @@ fn fit(var_type: VarType, computed: Option<i64>) -> Result<Value, Fault>
     }
 }
 
-// The number as a value of the type.
+// The number as a value of the type, or the fault Range.
 fn in_type(var_type: VarType, n: i64) -> Result<Value, Fault>
     ensures { result ≡ in_type var_type n }
 {
     match var_type {
-        VarType::Bool => Err(Fault::Range),
-        VarType::Int => as_int(n),
-        VarType::Dint => as_dint(n),
-        VarType::Time => as_time(n),
-    }
-}
-
-fn as_int(n: i64) -> Result<Value, Fault>
-    ensures { result ≡ in_type types.Int n }
-{
-    if -0x8000 <= n && n <= 0x7FFF {
-        Ok(Value::Int(n as i16))
-    } else {
-        Err(Fault::Range)
-    }
-}
-
-fn as_dint(n: i64) -> Result<Value, Fault>
-    ensures { result ≡ in_type types.Dint n }
-{
-    if -0x8000_0000 <= n && n <= 0x7FFF_FFFF {
-        Ok(Value::Dint(n as i32))
-    } else {
-        Err(Fault::Range)
-    }
-}
-
-fn as_time(n: i64) -> Result<Value, Fault>
-    ensures { result ≡ in_type types.Time n }
-{
-    if -0x4000_0000_0000_0000 <= n && n <= 0x4000_0000_0000_0000 {
-        Ok(Value::Time(n))
-    } else {
-        Err(Fault::Range)
+        VarType::Int if (INT_MIN..=INT_MAX).contains(&n) => Ok(Value::Int(n as i16)),
+        VarType::Dint if (DINT_MIN..=DINT_MAX).contains(&n) => Ok(Value::Dint(n as i32)),
+        VarType::Time if (TIME_MIN..=TIME_MAX).contains(&n) => Ok(Value::Time(n)),
+        VarType::Bool | VarType::Int | VarType::Dint | VarType::Time => Err(Fault::Range),
     }
 }

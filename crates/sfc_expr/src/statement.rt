@@ -5,7 +5,7 @@ use crate::variable::Variable;
 
 /// A statement whose types were checked.
 #[cycle(statement)]
-#[derive(Drop)]
+#[derive(Debug, Drop)]
 pub enum Statement {
     /// An assignment, `target := value` (3.3.2.1).
     Assign { target: Variable, value: Expr },
@@ -15,7 +15,7 @@ pub enum Statement {
 
 /// A branch of an `IF`.
 #[cycle(statement)]
-#[derive(Drop)]
+#[derive(Debug, Drop)]
 pub enum Branch {
     /// `IF` or `ELSIF`, its condition and its statements.
     When(Expr, Vec<Statement>),
