@@ -7,7 +7,7 @@ use Rattle.sfc_expr.specs.Values.{truth}
 use Rattle.sfc_expr.specs.Trees.{Expression, Literal, Read, StepActive, StepTime, ActionQ, Not, Minus, Binary, Body, Nothing, Assign, If, Branches, NoBranch, When, Otherwise}
 use Rattle.sfc_expr.specs.Environment.{Environment, assigned}
 use Rattle.sfc_expr.specs.Meaning.{◌>>=◌, value_of, operated, of_truth}
-use Rattle.sfc_expr.specs.Effect.{Outcome, on_value, and_then, effect, branch_effect}
+use Rattle.sfc_expr.specs.Effect.{Outcome, on_value, on_end, effect, branch_effect}
 use Rattle.sfc_expr.specs.Dependence.{AgreeOn, KeepsAllButValues}
 
 pub value_same : (e : Expression) (one other : Environment) → AgreeOn e one other → value_of one e ≡ value_of other e
@@ -37,9 +37,9 @@ on_value_same : (env : Environment) (r : Result Value Fault) (go : Value → Out
 on_value_same env (Ok x) go k = k x
 on_value_same env (Err fault) go k = same env
 
-and_then_same : (old : Environment) (r : Result (Unit {0}) Fault) (env : Environment) (go : Environment → Outcome) → KeepsAllButValues old env → KeepsAllButValues env (go env).environment → KeepsAllButValues old (and_then r env go).environment
-and_then_same old (Ok x) env go h k = then_same old env _ h k
-and_then_same old (Err fault) env go h k = h
+on_end_same : (old : Environment) (r : Result (Unit {0}) Fault) (env : Environment) (go : Environment → Outcome) → KeepsAllButValues old env → KeepsAllButValues env (go env).environment → KeepsAllButValues old (on_end r env go).environment
+on_end_same old (Ok x) env go h k = then_same old env _ h k
+on_end_same old (Err fault) env go h k = h
 
 either : (env : Environment) (b : Bool) (o p : Outcome) → KeepsAllButValues env o.environment → KeepsAllButValues env p.environment → KeepsAllButValues env (cond b o p).environment
 either env true o p h k = h
@@ -49,7 +49,7 @@ mutual
   pub effect_same : (body : Body) (env : Environment) → KeepsAllButValues env (effect body env).environment
   effect_same Nothing env = same env
   effect_same (Assign v e rest) env = on_value_same env (value_of env e) _ (λ x. then_same env (assigned env v x) _ (record { variables = refl; steps = refl; times = refl; q = refl }) (effect_same rest (assigned env v x)))
-  effect_same (If bs rest) env = and_then_same env (branch_effect bs env).result (branch_effect bs env).environment _ (branches_same bs env) (effect_same rest (branch_effect bs env).environment)
+  effect_same (If bs rest) env = on_end_same env (branch_effect bs env).result (branch_effect bs env).environment _ (branches_same bs env) (effect_same rest (branch_effect bs env).environment)
 
   branches_same : (bs : Branches) (env : Environment) → KeepsAllButValues env (branch_effect bs env).environment
   branches_same NoBranch env = same env

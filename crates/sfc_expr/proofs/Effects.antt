@@ -12,25 +12,21 @@ use Rattle.sfc_expr.specs.Values.{truth}
 use Rattle.sfc_expr.specs.Trees.{Body, Nothing, Branches, When, Otherwise, expression_of, before, tried_before, body_of, branches_of}
 use Rattle.sfc_expr.specs.Environment.{Environment, assigned}
 use Rattle.sfc_expr.specs.Meaning.{value_of}
-use Rattle.sfc_expr.specs.Effect.{Outcome, done, ended, on_value, and_then, effect, branch_effect}
+use Rattle.sfc_expr.specs.Effect.{Outcome, done, ended, on_value, on_end, and_then, effect, branch_effect}
 use Rattle.sfc_expr.specs.Nodes.{nodes, body_nodes, branch_nodes}
 use Rattle.sfc_expr.proofs.Rows.{before-if, tried_before-when, tried_before-otherwise}
 
--- what an outcome goes on to
-abbrev pub after : Outcome → (Environment → Outcome) → Outcome
-after o go = and_then o.result o.environment go
+on_value-value : (env : Environment) (r : Result Value Fault) (f : Value → Environment) (next : Environment → Outcome) → on_value env r (λ x. next (f x)) ≡ and_then (on_value env r (λ x. done (f x))) next
+on_value-value env (Ok x) f next = refl
+on_value-value env (Err fault) f next = refl
 
-after_value : (env : Environment) (r : Result Value Fault) (f : Value → Environment) (go : Environment → Outcome) → on_value env r (λ x. go (f x)) ≡ after (on_value env r (λ x. done (f x))) go
-after_value env (Ok x) f go = refl
-after_value env (Err fault) f go = refl
+on_end-none : (r : Result (Unit {0}) Fault) (env : Environment) (next : Environment → Outcome) → on_end r env next ≡ and_then (on_end r env done) next
+on_end-none (Ok x) env next = refl
+on_end-none (Err fault) env next = refl
 
-after_none : (r : Result (Unit {0}) Fault) (env : Environment) (go : Environment → Outcome) → and_then r env go ≡ after (and_then r env done) go
-after_none (Ok x) env go = refl
-after_none (Err fault) env go = refl
-
-pub effect-before : (s : Statement) (rest : Body) (env : Environment) → effect (before s rest) env ≡ after (effect (before s Nothing) env) (λ env'. effect rest env')
-effect-before (statement.Assign v e) rest env = after_value env _ (λ x. assigned env v x) (λ env'. effect rest env')
-effect-before (statement.If' shape bs) rest env = after_none _ _ (λ env'. effect rest env')
+pub effect-before : (s : Statement) (rest : Body) (env : Environment) → effect (before s rest) env ≡ and_then (effect (before s Nothing) env) (λ env'. effect rest env')
+effect-before (statement.Assign v e) rest env = on_value-value env _ (λ x. assigned env v x) (λ env'. effect rest env')
+effect-before (statement.If' shape bs) rest env = on_end-none _ _ (λ env'. effect rest env')
 
 pub body_nodes-before : (s : Statement) (rest : Body) → body_nodes (before s rest) ≡ body_nodes (before s Nothing) + body_nodes rest
 body_nodes-before (statement.Assign v e) rest = omega arith
@@ -38,10 +34,10 @@ body_nodes-before (statement.If' shape bs) rest = omega arith
 
 -- ---- one IF
 
-alone : (o : Outcome) → and_then o.result o.environment done ≡ o
+alone : (o : Outcome) → and_then o done ≡ o
 alone o = at o.result o.environment
   where
-    at : (r : Result (Unit {0}) Fault) (env : Environment) → and_then r env done ≡ record { result = r; environment = env }
+    at : (r : Result (Unit {0}) Fault) (env : Environment) → on_end r env done ≡ record { result = r; environment = env }
     at (Ok x) env = refl
     at (Err fault) env = refl
 
@@ -56,24 +52,24 @@ nodes-if s v is = let e : body_nodes (before s Nothing) ≡ branch_nodes (branch
 split : {A : Type 0} (xs : List A) (i : ℕ) (x : A) → i < length xs → x ≡ get_or xs i x → drop i xs ≡ x ∷ drop (i + 1) xs
 split {A} xs i x lt is = drop_more xs i x lt ∙ ap (λ (y : A). y ∷ drop (i + 1) xs) (sym is)
 
-after-ok : (o : Outcome) (u : Unit {0}) (go : Environment → Outcome) → Ok u ≡ o.result → after o go ≡ go o.environment
-after-ok o u go r = ap (λ (x : Result (Unit {0}) Fault). and_then x o.environment go) (sym r)
+and_then-ok : (o : Outcome) (u : Unit {0}) (next : Environment → Outcome) → Ok u ≡ o.result → and_then o next ≡ next o.environment
+and_then-ok o u next r = ap (λ (x : Result (Unit {0}) Fault). on_end x o.environment next) (sym r)
 
-after-err : (o : Outcome) (fault : Fault) (go : Environment → Outcome) → Err fault ≡ o.result → after o go ≡ ended o.environment fault
-after-err o fault go r = ap (λ (x : Result (Unit {0}) Fault). and_then x o.environment go) (sym r)
+and_then-err : (o : Outcome) (fault : Fault) (next : Environment → Outcome) → Err fault ≡ o.result → and_then o next ≡ ended o.environment fault
+and_then-err o fault next r = ap (λ (x : Result (Unit {0}) Fault). on_end x o.environment next) (sym r)
 
 module _ (xs : List Statement) (i : ℕ) (x : Statement) (lt : i < length xs) (is : x ≡ get_or xs i x) where
   abbrev first : Environment → Outcome
   first env = effect (before x Nothing) env
 
-  effect_at : (env : Environment) → effect (body_of (drop i xs)) env ≡ after (first env) (λ env'. effect (body_of (drop (i + 1) xs)) env')
+  effect_at : (env : Environment) → effect (body_of (drop i xs)) env ≡ and_then (first env) (λ env'. effect (body_of (drop (i + 1) xs)) env')
   effect_at env = ap (λ (s : List Statement). effect (body_of s) env) (split xs i x lt is) ∙ effect-before x _ env
 
   pub goes_on : (env env' : Environment) (u : Unit {0}) → Ok u ≡ (first env).result → env' ≡ (first env).environment → effect (body_of (drop (i + 1) xs)) env' ≡ effect (body_of (drop i xs)) env
-  goes_on env env' u r e = ap (λ (z : Environment). effect (body_of (drop (i + 1) xs)) z) e ∙ sym (effect_at env ∙ after-ok (first env) u _ r)
+  goes_on env env' u r e = ap (λ (z : Environment). effect (body_of (drop (i + 1) xs)) z) e ∙ sym (effect_at env ∙ and_then-ok (first env) u _ r)
 
   stops : (env : Environment) (fault : Fault) → Err fault ≡ (first env).result → effect (body_of (drop i xs)) env ≡ ended (first env).environment fault
-  stops env fault r = effect_at env ∙ after-err (first env) fault _ r
+  stops env fault r = effect_at env ∙ and_then-err (first env) fault _ r
 
   pub stops-result : (env : Environment) (fault : Fault) → Err fault ≡ (first env).result → (effect (body_of (drop i xs)) env).result ≡ Err fault
   stops-result env fault r = ap (λ (o : Outcome). o.result) (stops env fault r)

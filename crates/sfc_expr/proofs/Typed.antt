@@ -14,9 +14,9 @@ use Rattle.sfc_expr.specs.declared.variable.Variable.{Variable}
 use Rattle.sfc_expr.specs.declared.variable.Variable.TheVariants.{Global, Local}
 use Rattle.sfc_expr.specs.Trees.{Expression, Literal, Read, StepActive, StepTime, ActionQ, Not, Minus, Binary, Body, Nothing, Assign, If, Branches, NoBranch, When, Otherwise}
 use Rattle.sfc_expr.specs.Environment.{Environment, assigned, is_same}
-use Rattle.sfc_expr.specs.Effect.{Outcome, on_value, and_then, effect, branch_effect}
+use Rattle.sfc_expr.specs.Effect.{Outcome, on_value, on_end, effect, branch_effect}
 use Rattle.sfc_expr.specs.Meaning.{◌>>=◌, value_of, operated, quotient, remainder, of_truth}
-use Rattle.sfc_expr.specs.Types.{Declared, IsOf, of_bool, of_integer, of_number, of_ordering, result_type, HasType, IsTyped, AreTyped, GivesTypes}
+use Rattle.sfc_expr.specs.Types.{Declared, IsOf, logical_type, integer_type, sum_type, ordering_type, result_type, HasType, IsTyped, AreTyped, GivesTypes}
 use borrow.Author.Tests.{eqb-true}
 
 -- what holds of a value holds of what follows from it
@@ -51,29 +51,29 @@ quotient_of t a b = at (int_eq b (pos 0))
 
 -- ---- the type of a result is BOOL, or that of its operands
 
-bool-of_bool : (t u : VarType) → of_bool t ≡ Some u → types.Bool ≡ u
-bool-of_bool types.Bool u e = cc
-bool-of_bool types.Int u e = cc
-bool-of_bool types.Dint u e = cc
-bool-of_bool types.Time u e = cc
+bool-logical_type : (t u : VarType) → logical_type t ≡ Some u → types.Bool ≡ u
+bool-logical_type types.Bool u e = cc
+bool-logical_type types.Int u e = cc
+bool-logical_type types.Dint u e = cc
+bool-logical_type types.Time u e = cc
 
-bool-of_ordering : (t u : VarType) → of_ordering t ≡ Some u → types.Bool ≡ u
-bool-of_ordering types.Bool u e = cc
-bool-of_ordering types.Int u e = cc
-bool-of_ordering types.Dint u e = cc
-bool-of_ordering types.Time u e = cc
+bool-ordering_type : (t u : VarType) → ordering_type t ≡ Some u → types.Bool ≡ u
+bool-ordering_type types.Bool u e = cc
+bool-ordering_type types.Int u e = cc
+bool-ordering_type types.Dint u e = cc
+bool-ordering_type types.Time u e = cc
 
-same-of_number : (t u : VarType) → of_number t ≡ Some u → t ≡ u
-same-of_number types.Bool u e = cc
-same-of_number types.Int u e = cc
-same-of_number types.Dint u e = cc
-same-of_number types.Time u e = cc
+same-sum_type : (t u : VarType) → sum_type t ≡ Some u → t ≡ u
+same-sum_type types.Bool u e = cc
+same-sum_type types.Int u e = cc
+same-sum_type types.Dint u e = cc
+same-sum_type types.Time u e = cc
 
-same-of_integer : (t u : VarType) → of_integer t ≡ Some u → t ≡ u
-same-of_integer types.Bool u e = cc
-same-of_integer types.Int u e = cc
-same-of_integer types.Dint u e = cc
-same-of_integer types.Time u e = cc
+same-integer_type : (t u : VarType) → integer_type t ≡ Some u → t ≡ u
+same-integer_type types.Bool u e = cc
+same-integer_type types.Int u e = cc
+same-integer_type types.Dint u e = cc
+same-integer_type types.Time u e = cc
 
 along : (t u : VarType) (r : Result Value Fault) → t ≡ u → IfOk r (IsOf t) → IfOk r (IsOf u)
 along t u r e h = subst (λ (z : VarType). IfOk r (IsOf z)) e h
@@ -82,20 +82,20 @@ some_bool : (u : VarType) → Some types.Bool ≡ Some u → types.Bool ≡ u
 some_bool u e = cc
 
 operated_of : (o : Operator) (t u : VarType) (x y : Value) → result_type o t ≡ Some u → IfOk (operated o t x y) (IsOf u)
-operated_of op.Or t u x y e = (bool-of_bool t u e, refl)
-operated_of op.Xor t u x y e = (bool-of_bool t u e, refl)
-operated_of op.And t u x y e = (bool-of_bool t u e, refl)
+operated_of op.Or t u x y e = (bool-logical_type t u e, refl)
+operated_of op.Xor t u x y e = (bool-logical_type t u e, refl)
+operated_of op.And t u x y e = (bool-logical_type t u e, refl)
 operated_of op.Equal t u x y e = (some_bool u e, refl)
 operated_of op.NotEqual t u x y e = (some_bool u e, refl)
-operated_of op.Less t u x y e = (bool-of_ordering t u e, refl)
-operated_of op.Greater t u x y e = (bool-of_ordering t u e, refl)
-operated_of op.LessOrEqual t u x y e = (bool-of_ordering t u e, refl)
-operated_of op.GreaterOrEqual t u x y e = (bool-of_ordering t u e, refl)
-operated_of op.Add t u x y e = along t u _ (same-of_number t u e) (in_type_of t _)
-operated_of op.Subtract t u x y e = along t u _ (same-of_number t u e) (in_type_of t _)
-operated_of op.Multiply t u x y e = along t u _ (same-of_integer t u e) (in_type_of t _)
-operated_of op.Divide t u x y e = along t u _ (same-of_integer t u e) (quotient_of t (number x) (number y))
-operated_of op.Modulo t u x y e = along t u _ (same-of_integer t u e) (in_type_of t _)
+operated_of op.Less t u x y e = (bool-ordering_type t u e, refl)
+operated_of op.Greater t u x y e = (bool-ordering_type t u e, refl)
+operated_of op.LessOrEqual t u x y e = (bool-ordering_type t u e, refl)
+operated_of op.GreaterOrEqual t u x y e = (bool-ordering_type t u e, refl)
+operated_of op.Add t u x y e = along t u _ (same-sum_type t u e) (in_type_of t _)
+operated_of op.Subtract t u x y e = along t u _ (same-sum_type t u e) (in_type_of t _)
+operated_of op.Multiply t u x y e = along t u _ (same-integer_type t u e) (in_type_of t _)
+operated_of op.Divide t u x y e = along t u _ (same-integer_type t u e) (quotient_of t (number x) (number y))
+operated_of op.Modulo t u x y e = along t u _ (same-integer_type t u e) (in_type_of t _)
 
 -- ---- expressions
 
@@ -107,7 +107,7 @@ module _ (declared : Declared) (env : Environment) (gives : GivesTypes declared 
   value_typed (StepTime s) t h = (sym h, gives.times s)
   value_typed ActionQ t h = (sym h, refl)
   value_typed (Not e) t h = on_values (IsOf types.Bool) (IsOf t) (value_of env e) _ (value_typed e types.Bool h.1) (λ x typed. (sym h.0, refl))
-  value_typed (Minus u e) t h = on_values (IsOf u) (IsOf t) (value_of env e) _ (value_typed e u h.1) (λ x typed. along u t _ (same-of_integer u t h.0) (in_type_of u _))
+  value_typed (Minus u e) t h = on_values (IsOf u) (IsOf t) (value_of env e) _ (value_typed e u h.1) (λ x typed. along u t _ (same-integer_type u t h.0) (in_type_of u _))
   value_typed (Binary o u a b) t h =
       on_values (IsOf u) (IsOf t) (value_of env a) _ (value_typed a u h.1)
       (λ x typed. on_values (IsOf u) (IsOf t) (value_of env b) _ (value_typed b u h.2) (λ y typed'. operated_of o u t x y h.0))
@@ -146,9 +146,9 @@ module _ (declared : Declared) where
   on_value_typed env (Ok x) P go gives typed k = k x typed
   on_value_typed env (Err fault) P go gives typed k = gives
 
-  and_then_typed : (r : Result (Unit {0}) Fault) (env : Environment) (go : Environment → Outcome) → GivesTypes declared env → GivesTypes declared (go env).environment → GivesTypes declared (and_then r env go).environment
-  and_then_typed (Ok x) env go gives k = k
-  and_then_typed (Err fault) env go gives k = gives
+  on_end_typed : (r : Result (Unit {0}) Fault) (env : Environment) (go : Environment → Outcome) → GivesTypes declared env → GivesTypes declared (go env).environment → GivesTypes declared (on_end r env go).environment
+  on_end_typed (Ok x) env go gives k = k
+  on_end_typed (Err fault) env go gives k = gives
 
   either : (b : Bool) (o p : Outcome) → GivesTypes declared o.environment → GivesTypes declared p.environment → GivesTypes declared (cond b o p).environment
   either true o p g h = g
@@ -162,7 +162,7 @@ module _ (declared : Declared) where
         (λ x h. effect_typed rest (assigned env v x) (assigned_typed env v typed.0.0 x gives typed.0.1 h) typed.1)
     effect_typed (If bs rest) env gives typed =
         let after = branches_typed bs env gives typed.0 in
-        and_then_typed (branch_effect bs env).result (branch_effect bs env).environment _ after (effect_typed rest (branch_effect bs env).environment after typed.1)
+        on_end_typed (branch_effect bs env).result (branch_effect bs env).environment _ after (effect_typed rest (branch_effect bs env).environment after typed.1)
 
     branches_typed : (bs : Branches) (env : Environment) → GivesTypes declared env → AreTyped declared bs → GivesTypes declared (branch_effect bs env).environment
     branches_typed NoBranch env gives typed = gives

@@ -1,5 +1,6 @@
 -- The value of an expression, or its first fault (3.3.1).
-use Rattle.std.specs.Prelude.{◌&&◌, ◌||◌, Bool, not, ℤ, pos, ◌+ℤ◌, ◌-ℤ◌, ◌*ℤ◌, neg_ℤ, int_le, int_lt, int_div, int_rem, Result, Ok, Err, if◌then◌else◌}
+use Rattle.std.specs.Prelude.{◌&&◌, ◌||◌, Bool, not, Result, Ok, Err, if◌then◌else◌}
+use Rattle.std.specs.Prelude.{ℤ, pos, ◌+ℤ◌, ◌-ℤ◌, ◌*ℤ◌, neg_ℤ, int_le, int_lt, int_div, int_rem}
 use Rattle.std.specs.Bool.{beq}
 use Rattle.std.specs.Ordering.{int_eq}
 use Rattle.sfc_tokens.specs.declared.var_type.VarType.{VarType}
@@ -36,7 +37,7 @@ quotient t a b = if int_eq b (pos 0) then Err DivZero else in_type t (int_div a 
 abbrev pub remainder : VarType → ℤ → ℤ → Result Value Fault
 remainder t a b = in_type t (if int_eq b (pos 0) then pos 0 else int_rem a b)
 
--- an operator on two values of a type (table 52)
+-- an operator on two values of a type
 abbrev pub operated : Operator → VarType → Value → Value → Result Value Fault
 operated op.Or t x y = of_truth (truth x || truth y)
 operated op.Xor t x y = of_truth (not (beq (truth x) (truth y)))

@@ -1,6 +1,7 @@
 -- What expressions and statements have to handle.
 use Rattle.std.specs.Prelude.{ℕ, suc, ◌+◌}
-use Rattle.sfc_expr.specs.Trees.{Expression, Literal, Read, StepActive, StepTime, ActionQ, Not, Minus, Binary, Body, Nothing, Assign, If, Branches, NoBranch, When, Otherwise}
+use Rattle.sfc_expr.specs.Trees.{Expression, Literal, Read, StepActive, StepTime, ActionQ, Not, Minus, Binary}
+use Rattle.sfc_expr.specs.Trees.{Body, Nothing, Assign, If, Branches, NoBranch, When, Otherwise}
 
 -- the nodes of an expression
 abbrev pub nodes : Expression → ℕ

@@ -9,7 +9,8 @@ use Rattle.sfc_expr.specs.declared.operator.Operator.TheVariants as op
 use Rattle.sfc_expr.specs.declared.variable.Variable.{Variable}
 use Rattle.sfc_expr.specs.declared.variable.StepId.{StepId}
 use Rattle.sfc_expr.specs.Values.{type_of, is_in_range}
-use Rattle.sfc_expr.specs.Trees.{Expression, Literal, Read, StepActive, StepTime, ActionQ, Not, Minus, Binary, Body, Nothing, Assign, If, Branches, NoBranch, When, Otherwise}
+use Rattle.sfc_expr.specs.Trees.{Expression, Literal, Read, StepActive, StepTime, ActionQ, Not, Minus, Binary}
+use Rattle.sfc_expr.specs.Trees.{Body, Nothing, Assign, If, Branches, NoBranch, When, Otherwise}
 use Rattle.sfc_expr.specs.Environment.{Environment}
 
 -- ---- values
@@ -31,43 +32,43 @@ IsOf t x = (type_of x ≡ t) × IsTrue (has_range x)
 abbrev pub Declared : Type 0
 Declared = Variable → Option VarType
 
--- BOOL alone
-abbrev pub of_bool : VarType → Option VarType
-of_bool types.Bool = Some types.Bool
-of_bool _ = None
+-- OR, XOR and AND are for BOOL alone
+abbrev pub logical_type : VarType → Option VarType
+logical_type types.Bool = Some types.Bool
+logical_type _ = None
 
--- INT and DINT
-abbrev pub of_integer : VarType → Option VarType
-of_integer types.Int = Some types.Int
-of_integer types.Dint = Some types.Dint
-of_integer _ = None
+-- `*`, `/`, MOD and the minus of an operand are for INT and DINT
+abbrev pub integer_type : VarType → Option VarType
+integer_type types.Int = Some types.Int
+integer_type types.Dint = Some types.Dint
+integer_type _ = None
 
--- INT, DINT and TIME
-abbrev pub of_number : VarType → Option VarType
-of_number types.Bool = None
-of_number t = Some t
+-- `+` and `-` are for INT, DINT and TIME
+abbrev pub sum_type : VarType → Option VarType
+sum_type types.Bool = None
+sum_type t = Some t
 
--- an ordering, which no BOOL has
-abbrev pub of_ordering : VarType → Option VarType
-of_ordering types.Bool = None
-of_ordering _ = Some types.Bool
+-- orderings are for INT, DINT and TIME, and give a BOOL
+abbrev pub ordering_type : VarType → Option VarType
+ordering_type types.Bool = None
+ordering_type _ = Some types.Bool
 
--- the type of what an operator gives on two operands of a type, where it has a meaning there (table 52)
+-- the type of what an operator gives on two operands of a type; none where it is not for that type. `=` and `<>` are for all
 abbrev pub result_type : Operator → VarType → Option VarType
-result_type op.Or t = of_bool t
-result_type op.Xor t = of_bool t
-result_type op.And t = of_bool t
+result_type op.Or t = logical_type t
+result_type op.Xor t = logical_type t
+result_type op.And t = logical_type t
 result_type op.Equal t = Some types.Bool
 result_type op.NotEqual t = Some types.Bool
-result_type op.Less t = of_ordering t
-result_type op.Greater t = of_ordering t
-result_type op.LessOrEqual t = of_ordering t
-result_type op.GreaterOrEqual t = of_ordering t
-result_type op.Add t = of_number t
-result_type op.Subtract t = of_number t
-result_type op.Multiply t = of_integer t
-result_type op.Divide t = of_integer t
-result_type op.Modulo t = of_integer t
+result_type op.Less t = ordering_type t
+result_type op.Greater t = ordering_type t
+result_type op.LessOrEqual t = ordering_type t
+result_type op.GreaterOrEqual t = ordering_type t
+result_type op.Add t = sum_type t
+result_type op.Subtract t = sum_type t
+result_type op.Multiply t = integer_type t
+result_type op.Divide t = integer_type t
+result_type op.Modulo t = integer_type t
 
 abbrev pub HasType : Declared → Expression → VarType → Type 0
 HasType declared (Literal x) t = IsOf t x
@@ -76,7 +77,7 @@ HasType declared (StepActive s) t = t ≡ types.Bool
 HasType declared (StepTime s) t = t ≡ types.Time
 HasType declared ActionQ t = t ≡ types.Bool
 HasType declared (Not e) t = (t ≡ types.Bool) × HasType declared e types.Bool
-HasType declared (Minus u e) t = (of_integer u ≡ Some t) × HasType declared e u
+HasType declared (Minus u e) t = (integer_type u ≡ Some t) × HasType declared e u
 HasType declared (Binary o u a b) t = (result_type o u ≡ Some t) × HasType declared a u × HasType declared b u
 
 -- ---- statements

@@ -1,5 +1,6 @@
--- Values, their types, and the ranges of types (2.3.1, table 10).
-use Rattle.std.specs.Prelude.{ℕ, ◌^◌, ◌-◌, ◌&&◌, Bool, true, false, ℤ, pos, neg_ℤ, int_le, Result, Ok, Err, if◌then◌else◌}
+-- Values, their types, and the ranges of types (2.3.1).
+use Rattle.std.specs.Prelude.{◌^◌, ◌-◌, ◌&&◌, Bool, true, false, Result, Ok, Err, if◌then◌else◌}
+use Rattle.std.specs.Prelude.{ℤ, pos, neg_ℤ, int_le}
 use Rattle.sfc_tokens.specs.declared.var_type.VarType.{VarType}
 use Rattle.sfc_tokens.specs.declared.var_type.VarType.TheVariants as types
 use Rattle.sfc_expr.specs.declared.value.Value.{Value}

@@ -14,9 +14,9 @@ use crate::ticks::Ticks;
 use crate::value::Value;
 use crate::view::View;
 
-/// The value of an expression over a view, or its first fault, operands from left to right. Both operands are
-/// evaluated always, also those of AND and OR (our choice). A tick is made for each node at most, and no memory is
-/// taken.
+/// The value of an expression over a view, or its first fault: `DivZero` where `/` divides by zero, `Range` where a
+/// result lies outside the range of its type. Operands are evaluated from left to right and always both, also those of
+/// AND and OR (our choice). A tick is made for each node at most, and no memory is taken.
 pub fn eval<V: View>(expr: &Expr, view: &V, ticks: &mut Ticks) -> Result<Value, Fault>
     ensures value { result ≡ value_of (V.environment view.now) (expression_of expr.now) }
     ensures ticks { Within (nodes (expression_of expr.now)) ticks.old ticks.new }

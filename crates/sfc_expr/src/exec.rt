@@ -12,8 +12,8 @@ use crate::scratch::Scratch;
 use crate::statement::{Branch, Statement};
 use crate::ticks::Ticks;
 
-/// Executes statements in order, up to the first fault; what was written before it stays. A tick is made for each
-/// statement and each node of an expression at most, and no memory is taken.
+/// Executes statements in order, up to the first fault of an expression; what was written before it stays. A tick is
+/// made for each statement and each node of an expression at most, and no memory is taken.
 #[cycle(exec)]
 #[tactic(auto, using(crate::proofs::Effects::sequence))]
 pub fn exec<S: Scratch>(
@@ -22,7 +22,8 @@ pub fn exec<S: Scratch>(
     ticks: &mut Ticks,
 ) -> Result<(), Fault>
     ensures result { result ≡ (effect (body_of statements.now) (S.environment scratch.old)).result }
-    ensures after { S.environment scratch.new ≡ (effect (body_of statements.now) (S.environment scratch.old)).environment }
+    ensures after { S.environment scratch.new
+        ≡ (effect (body_of statements.now) (S.environment scratch.old)).environment }
     ensures ticks { Within (body_nodes (body_of statements.now)) ticks.old ticks.new }
 {
     for statement in statements {
@@ -31,6 +32,7 @@ pub fn exec<S: Scratch>(
     Ok(())
 }
 
+// Executes one statement.
 #[cycle(exec)]
 #[tactic(auto, using(crate::proofs::Effects::ifs))]
 fn exec_statement<S: Scratch>(

@@ -17,7 +17,8 @@ pub fn value_has_type()
 
 /// Two environments that agree on what occurs in an expression give it the same result.
 pub fn value_depends_on_what_occurs()
-    ensures { (e : Expression) (one other : Environment) → AgreeOn e one other → value_of one e ≡ value_of other e }
+    ensures { (e : Expression) (one other : Environment) →
+        AgreeOn e one other → value_of one e ≡ value_of other e }
 {}
 
 /// Statements whose types were checked leave each declared variable a value of its type, also where they end by a

@@ -1,9 +1,9 @@
 //! Arithmetic within the range of a type (3.3.1, 2.3.1).
 
-ghost use Rattle.std.specs.Prelude.{◌≡◌, ◌≢◌, ℤ, pos, ◌+ℤ◌, ◌-ℤ◌, ◌*ℤ◌, neg_ℤ, int_div, FitsSigned};
+ghost use Rattle.std.specs.Prelude.{◌≡◌, ◌≢◌, FitsSigned};
+ghost use Rattle.std.specs.Prelude.{ℤ, pos, ◌+ℤ◌, ◌-ℤ◌, ◌*ℤ◌, neg_ℤ, int_div};
 ghost use Rattle.std.specs.Option.{SomeIff};
 ghost use Rattle.std.specs.Int.{w64};
-ghost use Rattle.sfc_tokens.specs.declared.var_type.VarType.TheVariants as types;
 ghost use Rattle.sfc_expr.specs.Values.{in_type};
 ghost use Rattle.sfc_expr.specs.Meaning.{quotient, remainder};
 
@@ -11,11 +11,17 @@ use crate::fault::Fault;
 use crate::value::Value;
 use sfc_tokens::var_type::VarType;
 
+// The ends of INT, DINT and TIME (2.3.1; our choice for TIME).
 const INT_MIN: i64 = -0x8000;
+
 const INT_MAX: i64 = 0x7FFF;
+
 const DINT_MIN: i64 = -0x8000_0000;
+
 const DINT_MAX: i64 = 0x7FFF_FFFF;
+
 const TIME_MIN: i64 = -0x4000_0000_0000_0000;
+
 const TIME_MAX: i64 = 0x4000_0000_0000_0000;
 
 // The sum as a value of the type.
@@ -25,18 +31,21 @@ pub(crate) fn add(var_type: VarType, left: i64, right: i64) -> Result<Value, Fau
     fit(var_type, left.checked_add(right))
 }
 
+// The difference as a value of the type.
 pub(crate) fn subtract(var_type: VarType, left: i64, right: i64) -> Result<Value, Fault>
     ensures { result ≡ in_type var_type (left -ℤ right) }
 {
     fit(var_type, left.checked_sub(right))
 }
 
+// The product as a value of the type.
 pub(crate) fn multiply(var_type: VarType, left: i64, right: i64) -> Result<Value, Fault>
     ensures { result ≡ in_type var_type (left *ℤ right) }
 {
     fit(var_type, left.checked_mul(right))
 }
 
+// The quotient, towards zero, as a value of the type.
 #[tactic(auto, using(crate::proofs::Division::division))]
 pub(crate) fn divide(var_type: VarType, left: i64, right: i64) -> Result<Value, Fault>
     ensures { result ≡ quotient var_type left right }
@@ -56,6 +65,7 @@ fn checked_quotient(left: i64, right: i64) -> Option<i64>
     left.checked_div(right)
 }
 
+// What the division leaves, with the sign of the left operand, as a value of the type; by zero 0 (our choice).
 #[tactic(auto, using(crate::proofs::Division::division))]
 pub(crate) fn modulo(var_type: VarType, left: i64, right: i64) -> Result<Value, Fault>
     ensures { result ≡ remainder var_type left right }
@@ -66,6 +76,7 @@ pub(crate) fn modulo(var_type: VarType, left: i64, right: i64) -> Result<Value, 
     in_type(var_type, left.wrapping_rem(right))
 }
 
+// The number with the other sign as a value of the type.
 pub(crate) fn minus(var_type: VarType, operand: i64) -> Result<Value, Fault>
     ensures { result ≡ in_type var_type (neg_ℤ operand) }
 {

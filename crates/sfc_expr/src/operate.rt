@@ -1,4 +1,4 @@
-//! Operators on values (3.3.1, table 52).
+//! Operators on values (3.3.1).
 
 ghost use Rattle.std.specs.Prelude.{◌≡◌};
 ghost use Rattle.sfc_expr.specs.Meaning.{are_equal, operated};

@@ -1,4 +1,4 @@
-//! Binary operators (3.3.1, table 52).
+//! Binary operators (3.3.1).
 
 /// A binary operator.
 #[derive(Clone, Copy, Debug, PartialEq, Eq)]
