@@ -1,12 +1,12 @@
 -- What an expression depends on, and what statements leave alone.
-use Rattle.std.proofs.Common.{◌≡◌, Bool, true, false, cond, Result, Ok, Err, refl, sym, ap, ◌∙◌}
+use Rattle.std.proofs.Common.{◌≡◌, Bool, true, false, cond, Result, Ok, Err, refl, ap, ◌∙◌}
 use Rattle.sfc_expr.specs.declared.value.Value.{Value}
 use Rattle.sfc_expr.specs.declared.value.Value.TheVariants as value
 use Rattle.sfc_expr.specs.declared.fault.Fault.{Fault}
 use Rattle.sfc_expr.specs.Values.{truth}
 use Rattle.sfc_expr.specs.Trees.{Expression, Literal, Read, StepActive, StepTime, ActionQ, Not, Minus, Binary, Body, Nothing, Assign, If, Branches, NoBranch, When, Otherwise}
 use Rattle.sfc_expr.specs.Environment.{Environment, assigned}
-use Rattle.sfc_expr.specs.Meaning.{◌>>=◌, value_of, operated, of_truth}
+use Rattle.sfc_expr.specs.Meaning.{value_of, of_truth}
 use Rattle.sfc_expr.specs.Effect.{Outcome, on_value, on_end, effect, branch_effect}
 use Rattle.sfc_expr.specs.Dependence.{AgreeOn, KeepsAllButValues}
 

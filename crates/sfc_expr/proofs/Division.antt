@@ -1,5 +1,5 @@
 -- Division by a number that is not 0.
-use Rattle.std.proofs.Common.{◌≡◌, ◌<◌, ◌≢◌, ℕ, Bool, true, false, ℤ, pos, negsuc, Option, Some, None, FitsSigned, of_z, to_z, int_div, int_rem, refl, ap, arith, w64}
+use Rattle.std.proofs.Common.{◌≡◌, ◌<◌, ◌≢◌, false, ℤ, pos, negsuc, Option, Some, None, FitsSigned, of_z, int_div, int_rem, refl, ap, arith, w64}
 use Rattle.std.specs.Ordering.{int_eq}
 use Rattle.std.specs.Option.{SomeIff}
 use Rattle.std.specs.Int.{CanDivide}

@@ -1,5 +1,5 @@
 -- A statement before others, and a branch before others.
-use Rattle.std.proofs.Common.{◌≡◌, ℕ, ◌+◌, ◌<◌, Bool, true, false, List, ◌∷◌, Vec, Global, length, get_or, drop, refl, ap, sym, ◌∙◌, arith, Result, Ok, Err}
+use Rattle.std.proofs.Common.{◌≡◌, ℕ, ◌+◌, ◌<◌, true, List, ◌∷◌, Vec, Global, length, get_or, drop, refl, ap, sym, ◌∙◌, arith, Result, Ok, Err}
 use Rattle.std.proofs.lemmas.List.{drop_more}
 use Rattle.sfc_expr.specs.declared.value.Value.{Value}
 use Rattle.sfc_expr.specs.declared.fault.Fault.{Fault}

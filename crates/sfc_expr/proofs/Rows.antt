@@ -1,5 +1,5 @@
 -- The rows of a tree's pattern are the lists of its Vecs.
-use Rattle.std.proofs.Common.{◌≡◌, List, [], ◌∷◌, Vec, Global, refl, ap, ◌∙◌}
+use Rattle.std.proofs.Common.{◌≡◌, Vec, Global, refl, ap, ◌∙◌}
 use mathlib.Core.Former.{Count}
 use Rattle.sfc_expr.specs.declared.expr.Expr.{Expr}
 use Rattle.sfc_expr.specs.declared.statement.Statement.{Statement, Row_of-Branch, end_of-Branch, more_of-Branch, items-the_row-Branch, items_hidden-the_row-Branch-1}

@@ -1,5 +1,5 @@
 -- Typed trees have values of their types.
-use Rattle.std.proofs.Common.{◌≡◌, ◌&&◌, ℕ, Bool, true, false, cond, Option, Some, None, ℤ, pos, neg_ℤ, ◌+ℤ◌, ◌-ℤ◌, ◌*ℤ◌, int_div, int_rem, Result, Ok, Err, IfOk, IsTrue, nat_eq, refl, sym, ap, subst, ◌∙◌, arith}
+use Rattle.std.proofs.Common.{◌≡◌, ◌&&◌, ℕ, Bool, true, false, cond, Some, ℤ, pos, int_div, Result, Ok, Err, IfOk, refl, sym, ap, subst, ◌∙◌}
 use Rattle.std.specs.Ordering.{int_eq}
 use Rattle.sfc_tokens.specs.declared.var_type.VarType.{VarType}
 use Rattle.sfc_tokens.specs.declared.var_type.VarType.TheVariants as types
@@ -15,7 +15,7 @@ use Rattle.sfc_expr.specs.declared.variable.Variable.TheVariants.{Global, Local}
 use Rattle.sfc_expr.specs.Trees.{Expression, Literal, Read, StepActive, StepTime, ActionQ, Not, Minus, Binary, Body, Nothing, Assign, If, Branches, NoBranch, When, Otherwise}
 use Rattle.sfc_expr.specs.Environment.{Environment, assigned, is_same}
 use Rattle.sfc_expr.specs.Effect.{Outcome, on_value, on_end, effect, branch_effect}
-use Rattle.sfc_expr.specs.Meaning.{◌>>=◌, value_of, operated, quotient, remainder, of_truth}
+use Rattle.sfc_expr.specs.Meaning.{◌>>=◌, value_of, operated, quotient}
 use Rattle.sfc_expr.specs.Types.{Declared, IsOf, logical_type, integer_type, sum_type, ordering_type, result_type, HasType, IsTyped, AreTyped, GivesTypes}
 use borrow.Author.Tests.{eqb-true}
 

@@ -10,10 +10,10 @@ pub mod Trees
 pub mod Environment
 -- the value of an expression
 pub mod Meaning
--- what they have to handle
-pub mod Nodes
 -- the effect of statements
 pub mod Effect
+-- what expressions and statements have to handle
+pub mod Nodes
 -- the types of expressions and statements
 pub mod Types
 -- what an expression depends on, and what statements leave alone

@@ -1,5 +1,5 @@
 -- Values, their types, and the ranges of types (2.3.1).
-use Rattle.std.specs.Prelude.{◌^◌, ◌-◌, ◌&&◌, Bool, true, false, Result, Ok, Err, if◌then◌else◌}
+use Rattle.std.specs.Prelude.{◌^◌, ◌-◌, ◌&&◌, Bool, false, Result, Ok, Err, if◌then◌else◌}
 use Rattle.std.specs.Prelude.{ℤ, pos, neg_ℤ, int_le}
 use Rattle.sfc_tokens.specs.declared.var_type.VarType.{VarType}
 use Rattle.sfc_tokens.specs.declared.var_type.VarType.TheVariants as types

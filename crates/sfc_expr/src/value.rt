@@ -5,12 +5,17 @@ ghost use Rattle.sfc_expr.specs.Values as values;
 
 use sfc_tokens::var_type::VarType;
 
-/// A value. A TIME is in microseconds, from -2^62 to 2^62 (our choice of range).
+/// A value.
 #[derive(Clone, Copy, Debug, PartialEq, Eq)]
 pub enum Value {
+    /// FALSE or TRUE.
     Bool(bool),
+    /// An INT, of 16 bits with a sign.
     Int(i16),
+    /// A DINT, of 32 bits with a sign.
     Dint(i32),
+    /// A TIME in microseconds, from -2^62 to 2^62 (our choice of range). What reads or computes with one that lies
+    /// outside is exact too; no result of an operator does.
     Time(i64),
 }
 
