@@ -8,6 +8,8 @@ pub mod Values
 pub mod Trees
 -- what expressions and statements stand in
 pub mod Environment
+-- what a division gives
+pub mod Division
 -- the value of an expression
 pub mod Meaning
 -- the effect of statements

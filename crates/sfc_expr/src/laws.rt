@@ -1,13 +1,19 @@
 //! What holds of types and meanings themselves. Each law is a function with an empty body, whose contract is the law.
 
-ghost use Rattle.std.specs.Prelude.{◌≡◌, IfOk};
+ghost use Rattle.std.specs.Prelude.{◌≡◌, ◌≢◌, ℤ, pos, int_div, int_rem, IfOk};
 ghost use Rattle.sfc_tokens.specs.declared.var_type.VarType.{VarType};
+ghost use Rattle.sfc_expr.specs.Division.{IsDivision};
 ghost use Rattle.sfc_expr.specs.Trees.{Expression, Body};
 ghost use Rattle.sfc_expr.specs.Environment.{Environment};
 ghost use Rattle.sfc_expr.specs.Meaning.{value_of};
 ghost use Rattle.sfc_expr.specs.Effect.{effect};
 ghost use Rattle.sfc_expr.specs.Types.{Declared, IsOf, HasType, IsTyped, GivesTypes};
 ghost use Rattle.sfc_expr.specs.Dependence.{AgreeOn, KeepsAllButValues};
+
+/// Quotient and remainder by a number other than 0 are those of the division towards zero (2.5.1.5.2).
+pub fn division_towards_zero()
+    ensures { (a b : ℤ) → b ≢ pos 0 → IsDivision a b (int_div a b) (int_rem a b) }
+{}
 
 /// An expression that has a type has a value of that type, or a fault.
 pub fn value_has_type()

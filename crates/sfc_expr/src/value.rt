@@ -14,8 +14,7 @@ pub enum Value {
     Int(i16),
     /// A DINT, of 32 bits with a sign.
     Dint(i32),
-    /// A TIME in microseconds, from -2^62 to 2^62 (our choice of range). What reads or computes with one that lies
-    /// outside is exact too; no result of an operator does.
+    /// A TIME in microseconds, from -2^62 to 2^62 (our choice of range). No operator gives one that lies outside.
     Time(i64),
 }
 
