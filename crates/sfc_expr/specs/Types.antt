@@ -16,15 +16,15 @@ use Rattle.sfc_expr.specs.Environment.{Environment}
 -- ---- values
 
 -- the value lies in the range of its type
-abbrev pub has_range : Value → Bool
-has_range (value.Bool b) = true
-has_range (value.Int n) = is_in_range types.Int n
-has_range (value.Dint n) = is_in_range types.Dint n
-has_range (value.Time t) = is_in_range types.Time t
+abbrev pub lies_in_range : Value → Bool
+lies_in_range (value.Bool b) = true
+lies_in_range (value.Int n) = is_in_range types.Int n
+lies_in_range (value.Dint n) = is_in_range types.Dint n
+lies_in_range (value.Time t) = is_in_range types.Time t
 
 -- a value of this type
 abbrev pub IsOf : VarType → Value → Type 0
-IsOf t x = (type_of x ≡ t) × IsTrue (has_range x)
+IsOf t x = (type_of x ≡ t) × IsTrue (lies_in_range x)
 
 -- ---- expressions
 
@@ -53,7 +53,7 @@ abbrev pub ordering_type : VarType → Option VarType
 ordering_type types.Bool = None
 ordering_type _ = Some types.Bool
 
--- the type of what an operator gives on two operands of a type; none where it is not for that type. `=` and `<>` are for all
+-- the type of what an operator gives on two operands of a type, none where it is not for that type; `=` and `<>` are for all
 abbrev pub result_type : Operator → VarType → Option VarType
 result_type op.Or t = logical_type t
 result_type op.Xor t = logical_type t
@@ -96,7 +96,7 @@ abbrev mutual
 
 -- ---- environments
 
--- each declared variable has a value of its type, and each step a time that is one
+-- each declared variable has a value of its type, and the time of each step lies in the range of TIME
 pub record GivesTypes (declared : Declared) (env : Environment) : Type 0 where
   pub variables : (v : Variable) (t : VarType) → declared v ≡ Some t → IsOf t (env.value_at v)
   pub times : (s : StepId) → IsTrue (is_in_range types.Time (env.time_of s))
