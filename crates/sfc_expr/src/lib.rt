@@ -1,4 +1,28 @@
-//! Expressions and statements of charts (IEC 61131-3:2003, 3.3). So far it has the count of work that a scan is bounded by.
+//! Typed expressions and statements of charts, their meaning, and their evaluation (IEC 61131-3:2003, 3.3).
+//!
+//! - `eval`: the value of an expression.
+//! - `exec`: the effect of statements.
+//! - `expr`: typed expressions; `operator`: their operators; `statement`: typed statements.
+//! - `fault`: why an evaluation ended without a value.
+//! - `laws`: what holds of the definitions themselves.
+//! - `number`: arithmetic within the range of a type.
+//! - `operate`: operators on values.
+//! - `scratch`: what statements write to; `view`: what expressions read.
+//! - `ticks`: counted work.
+//! - `value`: values; `variable`: what names a variable or a step.
 #![tactic(auto)]
 
+pub mod eval;
+pub mod exec;
+pub mod expr;
+pub mod fault;
+pub mod laws;
+mod number;
+mod operate;
+pub mod operator;
+pub mod scratch;
+pub mod statement;
 pub mod ticks;
+pub mod value;
+pub mod variable;
+pub mod view;

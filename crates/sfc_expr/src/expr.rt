@@ -1,0 +1,27 @@
+//! Typed expressions (3.3.1). Nothing is folded: a tree has all that was written but parentheses.
+
+use crate::operator::Operator;
+use crate::value::Value;
+use crate::variable::{StepId, Variable};
+use sfc_tokens::var_type::VarType;
+
+/// An expression whose types were checked.
+#[derive(Debug, Drop)]
+pub enum Expr {
+    /// A literal, its sign included.
+    Literal(Value),
+    /// The value of a variable.
+    Variable(Variable),
+    /// Whether a step is active, `S.X` (2.6.2).
+    StepActive(StepId),
+    /// The time that a step has been active, or was when it was last, `S.T` (2.6.2).
+    StepTime(StepId),
+    /// The output `Q` of the action's control block (2.6.4.5).
+    ActionQ,
+    /// `NOT`.
+    Not(Box<Expr>),
+    /// The minus of an operand of this type.
+    Minus(VarType, Box<Expr>),
+    /// A binary operator on two operands of this type, the left one first.
+    Binary(Operator, VarType, Box<Expr>, Box<Expr>),
+}

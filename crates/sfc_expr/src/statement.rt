@@ -1,0 +1,24 @@
+//! Typed statements (3.3.2).
+
+use crate::expr::Expr;
+use crate::variable::Variable;
+
+/// A statement whose types were checked.
+#[cycle(statement)]
+#[derive(Debug, Drop)]
+pub enum Statement {
+    /// An assignment, `target := value` (3.3.2.1).
+    Assign { target: Variable, value: Expr },
+    /// `IF` with its branches in the order of the text (3.3.2.3).
+    If(Vec<Branch>),
+}
+
+/// A branch of an `IF`.
+#[cycle(statement)]
+#[derive(Debug, Drop)]
+pub enum Branch {
+    /// `IF` or `ELSIF`, its condition and its statements.
+    When(Expr, Vec<Statement>),
+    /// `ELSE` and its statements.
+    Otherwise(Vec<Statement>),
+}

@@ -1,0 +1,29 @@
+//! What expressions read.
+
+ghost use Rattle.std.specs.Prelude.{◌≡◌};
+ghost use Rattle.sfc_expr.specs.Environment.{Environment};
+
+use crate::value::Value;
+use crate::variable::{StepId, Variable};
+
+/// What the expressions of a program read. The member `environment` says which environment it stands for. A view may
+/// give any values: no range is assumed of a TIME or of a step time.
+pub trait View {
+    ghost environment: { Self → Environment };
+
+    /// The value of a variable.
+    fn value_at(&self, variable: Variable) -> Value
+        ensures { result ≡ (environment self.now).value_at variable };
+
+    /// Whether a step is active (2.6.2).
+    fn is_active(&self, step: StepId) -> bool
+        ensures { result ≡ (environment self.now).is_active step };
+
+    /// The time that a step has been active, or was when it was last, in microseconds (2.6.2).
+    fn time_of(&self, step: StepId) -> i64
+        ensures { result ≡ (environment self.now).time_of step };
+
+    /// The output Q of the action whose body it is (2.6.4.5).
+    fn q(&self) -> bool
+        ensures { result ≡ (environment self.now).q };
+}
