@@ -10,6 +10,7 @@ pub mod expression;
 pub mod fault;
 pub mod list;
 pub mod operator;
+pub mod source;
 pub mod statement;
 pub mod step;
 pub mod variables;
