@@ -105,7 +105,12 @@ pub record TransitionTree : Type 0 where
 
 abbrev pub transition_of : Transition → TransitionTree
 transition_of t = record {
-  name = t.name; priority = t.priority; preceding = t.preceding; following = t.following; condition = tree_of t.condition }
+  name = t.name;
+  priority = t.priority;
+  preceding = t.preceding;
+  following = t.following;
+  condition = tree_of t.condition;
+}
 
 -- an action (2.6.4.1)
 pub record ActionTree : Type 0 where

@@ -7,6 +7,6 @@
 pub mod expression;
 pub mod laws;
 mod parse;
+pub mod read;
 pub mod statement;
 pub mod tree;
-pub mod read;

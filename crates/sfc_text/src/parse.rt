@@ -13,5 +13,5 @@ pub mod operator;
 pub mod source;
 pub mod statement;
 pub mod step;
-pub mod variables;
 pub mod terminal;
+pub mod variables;
