@@ -7,7 +7,7 @@ use Rattle.sfc_text.specs.Grammar.{literal, signed, variable, parenthesized, pri
 use Rattle.sfc_text.specs.Limits.{Limits, Within, Derived}
 use Rattle.sfc_text.specs.Parsing.Depth.{inside}
 use Rattle.sfc_text.specs.Parsing.Lookahead.{begins, fine, first, more, empty, first_of, more_of}
-use Rattle.sfc_text.specs.Parsing.Reading.{Syntax, TooDeep, Read, read}
+use Rattle.sfc_text.specs.Parsing.Reading.{Syntax, Read, read}
 use Rattle.sfc_text.proofs.Sound.{Says, sound}
 use Rattle.sfc_text.proofs.Complete.{taken_front, InFronts, front, InAgain, complete}
 use Rattle.sfc_text.proofs.Deeper.{Implies, derives_deeper, Agrees, read_agrees}

@@ -13,7 +13,6 @@ use Rattle.sfc_text.specs.declared.expression.Operator.{Operator}
 use Rattle.sfc_text.specs.declared.expression.Operator.TheVariants as operator
 use Rattle.sfc_text.specs.declared.expression.Variable.{Variable}
 use Rattle.sfc_text.specs.declared.tree.Association.{Association}
-use Rattle.sfc_text.specs.declared.tree.AssociationTime.{AssociationTime}
 use Rattle.sfc_text.specs.declared.tree.Configuration.{Configuration}
 use Rattle.sfc_text.specs.declared.tree.Declaration.{Declaration}
 use Rattle.sfc_text.specs.declared.tree.External.{External}

@@ -1,5 +1,5 @@
 -- The grammar (Annex B): all productions.
-use Rattle.std.specs.Prelude.{ℕ, zero, suc, ℤ, pos, List, [], ◌∷◌, Bool, true, false, cond, nat_eq, Option, Some, None, codes}
+use Rattle.std.specs.Prelude.{ℕ, zero, suc, ℤ, pos, List, [], ◌∷◌, Bool, true, false, cond, nat_eq, codes}
 use Rattle.sfc_tokens.specs.declared.delimiter.Delimiter.TheVariants as sign
 use Rattle.sfc_tokens.specs.declared.keyword.Keyword.{Keyword}
 use Rattle.sfc_tokens.specs.declared.keyword.Keyword.TheVariants as keyword
@@ -26,7 +26,7 @@ use Rattle.sfc_text.specs.Trees as trees
 use Rattle.sfc_text.specs.Trees.{Tree, Constant, Block, append, operators, TransitionTree, ActionTree, ElementTree, ProgramTree, SourceTree}
 use Rattle.sfc_text.specs.Marks.{Marks, Word, Sign, AnyName, Named, AnInteger, ABased, AnInt, ADint, ATruth, ADuration, ALocation}
 use Rattle.sfc_text.specs.Sorts.{Sort, Sorted, AnExpression, AnOperand, Branches}
-use Rattle.sfc_text.specs.Rules.{Rule, token, map, both, either, many, chain, ahead, inner, counted}
+use Rattle.sfc_text.specs.Rules.{Rule, token, map, both, many, chain, ahead, inner, counted}
 use Rattle.sfc_text.specs.Building as make
 use Rattle.sfc_text.specs.Terms.{word, sign, named, ◌▸◌, ◌◂◌, ◌&◌, ◌or◌, maybe, else_given, repeated, gathered, some_of}
 

@@ -1,6 +1,5 @@
 -- What a tree says, apart from where its parts lie in memory.
-use Rattle.std.specs.Prelude.{ℕ, ◌+◌, suc, ◌≤◌, List, [], ◌∷◌, Bool, true, false, Option, map, Vec}
-use Rattle.std.specs.Global.{Global}
+use Rattle.std.specs.Prelude.{ℕ, ◌+◌, List, [], ◌∷◌, Option, map}
 use Rattle.sfc_text.specs.declared.expression.Operator.{Operator}
 use Rattle.sfc_text.specs.declared.expression.Variable.{Variable}
 use Rattle.sfc_text.specs.declared.expression.Expression.{Expression}

@@ -1,4 +1,3 @@
-use Rattle.std.proofs.Common.{◌≡◌}
 use Rattle.std.proofs.lemmas.Result.{err_from_is_err_and}
 use Rattle.sfc_tokens.specs.Tokens.{kinds}
 use Rattle.sfc_text.specs.Trees.{source_of}
