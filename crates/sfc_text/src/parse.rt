@@ -1,8 +1,15 @@
 //! Tokens to trees, by recursive descent (Annex B).
 //!
+//! - `chart`: transitions, actions and the elements of charts.
+//! - `configuration`: the configuration, its tasks and instances.
+//! - `expression`: expressions; `operator`: their operators by levels.
 //! - `fault`: what keeps a parser from going on.
-//! - `list`: lists of items.
+//! - `list`: lists of items, all alike.
+//! - `source`: program types, and whole texts.
+//! - `statement`: the bodies of actions.
+//! - `step`: steps and their associations.
 //! - `terminal`: single tokens.
+//! - `variables`: declarations.
 
 pub mod chart;
 pub mod configuration;
