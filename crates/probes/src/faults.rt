@@ -4,7 +4,7 @@ use sfc_chart::ids::TaskId;
 use sfc_chart::load_error::{Limit, LoadError};
 use sfc_core::Refusal;
 use sfc_monitor::monitor_error::{ChartError, MonitorError};
-use sfc_text::read_error::{ReadError, ReadErrorKind};
+use sfc_tokens::read_error::{ReadError, ReadErrorKind};
 use std::test::Fail;
 
 // A chart that the loader refuses for this.

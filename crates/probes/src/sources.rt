@@ -2,8 +2,8 @@
 
 use crate::texts::go_along;
 use sfc_text::read::read;
-use sfc_text::tree::{Configuration, Element, Expression, Program, Qualifier, Step, Transition};
-use sfc_text::var_type::VarType;
+use sfc_chart::simple::{Configuration, Element, Expression, Program, Qualifier, Step, Transition};
+use sfc_tokens::var_type::VarType;
 use std::alloc::Global;
 use std::process::Abort;
 use std::test::Fail;

@@ -2,13 +2,13 @@
 
 use sfc_chart::load::load;
 use sfc_chart::load_error::{Limit, LoadError};
-use sfc_text::items::Items;
-use sfc_text::name::Name;
+use sfc_tokens::items::Items;
+use sfc_tokens::name::Name;
 use sfc_text::read::read;
-use sfc_text::scan::tokens;
-use sfc_text::token::TokenKind;
-use sfc_text::tree::{Configuration, Declaration, Element, Instance, Program, Source, Transition};
-use sfc_text::var_type::VarType;
+use sfc_tokens::scan::tokens;
+use sfc_tokens::token::TokenKind;
+use sfc_chart::simple::{Configuration, Declaration, Element, Instance, Program, Source, Transition};
+use sfc_tokens::var_type::VarType;
 use std::alloc::{AllocError, Global};
 use std::process::Abort;
 use std::test::Fail;

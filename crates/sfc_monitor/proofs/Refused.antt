@@ -1,11 +1,11 @@
 -- A chart that is refused.
 use Rattle.std.proofs.Common.{◌≡◌, ℕ, List, Ok, Err, refl, sym, subst}
-use Rattle.sfc_text.specs.declared.tree.Source.{Source}
-use Rattle.sfc_text.specs.declared.read_error.ReadError.{ReadError}
-use Rattle.sfc_text.specs.declared.read_error.ReadErrorKind.{ReadErrorKind}
-use Rattle.sfc_text.specs.declared.read_error.ReadErrorKind.TheVariants as kind
+use Rattle.sfc_chart.specs.declared.simple.Source.{Source}
+use Rattle.sfc_tokens.specs.declared.read_error.ReadError.{ReadError}
+use Rattle.sfc_tokens.specs.declared.read_error.ReadErrorKind.{ReadErrorKind}
+use Rattle.sfc_tokens.specs.declared.read_error.ReadErrorKind.TheVariants as kind
 use Rattle.sfc_text.specs.Reads.{TextReads}
-use Rattle.sfc_text.specs.Texts.{FindsError}
+use Rattle.sfc_tokens.specs.Texts.{FindsError}
 use Rattle.sfc_chart.specs.declared.load_error.LoadError.{LoadError}
 use Rattle.sfc_chart.specs.declared.load_error.LoadError.TheVariants as load
 use Rattle.sfc_chart.specs.Loading.{source_check}

@@ -1,8 +1,8 @@
 -- A text with one program type, one task and one instance is a plant with one of each.
 use Rattle.std.proofs.Common.{◌∙◌}
 use Rattle.std.proofs.lemmas.List.{length-map}
-use Rattle.sfc_text.specs.declared.tree.Source.{Source}
-use Rattle.sfc_text.specs.SingleSource.{IsSingleSource}
+use Rattle.sfc_chart.specs.declared.simple.Source.{Source}
+use Rattle.sfc_chart.specs.SingleSource.{IsSingleSource}
 use Rattle.sfc_chart.specs.Chart.{IsSingle}
 use Rattle.sfc_chart.specs.Loading.{variables_of, task_names, program_names}
 use Rattle.sfc_chart.specs.Built.{plant_of, task_of, program_type_of, instance_of}

@@ -1,10 +1,10 @@
 -- What each fault becomes, and the exit status and the text of each (our choice).
 use Rattle.std.specs.Prelude.{ℕ, List, ◌++◌, codes}
 use Rattle.std.specs.Fmt.{decimal}
-use Rattle.sfc_text.specs.declared.read_error.ReadError.{ReadError}
-use Rattle.sfc_text.specs.declared.read_error.ReadErrorKind.{ReadErrorKind}
-use Rattle.sfc_text.specs.declared.read_error.ReadErrorKind.TheVariants as kind
-use Rattle.sfc_text.specs.ReadErrors as reading
+use Rattle.sfc_tokens.specs.declared.read_error.ReadError.{ReadError}
+use Rattle.sfc_tokens.specs.declared.read_error.ReadErrorKind.{ReadErrorKind}
+use Rattle.sfc_tokens.specs.declared.read_error.ReadErrorKind.TheVariants as kind
+use Rattle.sfc_tokens.specs.ReadErrors as reading
 use Rattle.sfc_chart.specs.LoadErrors as loading
 use Rattle.sfc_chart.specs.declared.load_error.LoadError.{LoadError}
 use Rattle.sfc_chart.specs.declared.load_error.LoadError.TheVariants as load

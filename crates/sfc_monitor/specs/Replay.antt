@@ -1,9 +1,9 @@
 -- What a chart and a script write: a stated function of the bytes that were read.
 use Rattle.std.specs.Prelude.{◌≡◌, ◌⊎◌, ℕ, List, [], None, Some, Result, Ok, Err}
 use Rattle.std.specs.Io.KnownBytes.{Appends}
-use Rattle.sfc_text.specs.declared.tree.Source.{Source}
+use Rattle.sfc_chart.specs.declared.simple.Source.{Source}
 use Rattle.sfc_text.specs.Reads.{TextReads}
-use Rattle.sfc_text.specs.Writing.{AppendsFront}
+use Rattle.sfc_tokens.specs.Writing.{AppendsFront}
 use Rattle.sfc_chart.specs.Chart.{PlantData}
 use Rattle.sfc_chart.specs.Loading.{source_check}
 use Rattle.sfc_chart.specs.Built.{plant_of}

@@ -6,8 +6,8 @@ ghost use Rattle.sfc_monitor.specs.MonitorErrors.{of_script, of_read, of_load, s
 
 use crate::script::ScriptError;
 use sfc_chart::load_error::LoadError;
-use sfc_text::read_error::{ReadError, ReadErrorKind};
-use sfc_text::write_fault::WriteFault;
+use sfc_tokens::read_error::{ReadError, ReadErrorKind};
+use sfc_tokens::write_fault::WriteFault;
 use std::alloc::AllocError;
 use std::error::Error;
 use std::fmt;

@@ -1,6 +1,6 @@
 use Rattle.std.proofs.Common.{◌≡◌, ℕ, List, [], Result, Ok, refl, sym, ap, ◌∙◌}
-use Rattle.sfc_text.specs.declared.tree.Source.{Source}
-use Rattle.sfc_text.specs.declared.read_error.ReadErrorKind.{ReadErrorKind}
+use Rattle.sfc_chart.specs.declared.simple.Source.{Source}
+use Rattle.sfc_tokens.specs.declared.read_error.ReadErrorKind.{ReadErrorKind}
 use Rattle.sfc_chart.specs.Built.{plant_of}
 use Rattle.sfc_core.specs.History.{Entry}
 use Rattle.sfc_monitor.specs.Script.{commands_of_script}

@@ -1,6 +1,6 @@
 use Rattle.std.proofs.Common.{◌≡◌, ◌≤◌, List, ℕ, [], length, Ok, Err, Option, subst}
 use Rattle.std.proofs.lemmas.Result.{err_from_is_err_and}
-use Rattle.sfc_text.specs.Writing.{Writes}
+use Rattle.sfc_tokens.specs.Writing.{Writes}
 use Rattle.sfc_core.specs.Agreement.{plant_of}
 use Rattle.sfc_monitor.specs.Script.{commands_of_script}
 use Rattle.sfc_monitor.specs.Output.{lines_of_play}
