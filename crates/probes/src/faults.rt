@@ -21,6 +21,7 @@ const TOO_DEEP: ReadError = ReadError {
 #[test]
 fn each_fault_has_a_text_and_a_status(rt: HostRuntime) -> Result<(), Fail> {
     let table = [
+        (MonitorError::Unsupported, "not supported", 1),
         (MonitorError::Script(3), "script line 3", 1),
         (MonitorError::Read, "read fault", 3),
         (MonitorError::Write, "write fault", 3),
