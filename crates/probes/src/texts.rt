@@ -1,5 +1,11 @@
 //! Charts, a script and what it prints. A text stands behind a function, so that no proof goes through its bytes.
 
+use sfc_chart::narrow::narrow;
+use sfc_chart::simple::Source;
+use sfc_text::read::read;
+use std::alloc::Global;
+use std::test::Fail;
+
 // A lamp that is lit by the one step.
 const ONE_STEP: &[u8] = b"PROGRAM Mix INITIAL_STEP S: Lamp(N); END_STEP END_PROGRAM \
 CONFIGURATION C RESOURCE R ON Plc VAR_GLOBAL Lamp : BOOL; END_VAR \
@@ -57,4 +63,10 @@ pub fn go_along() -> &'static [u8] {
 /// A program type whose only step is not an initial one.
 pub fn no_initial_step() -> &'static [u8] {
     NO_INITIAL_STEP
+}
+
+/// The trees of a chart, as they are loaded.
+pub fn source_of(alloc: Global, text: &[u8]) -> Result<Source, Fail> {
+    let tree = read(alloc, text)?;
+    Ok(narrow(alloc, &tree)?.ok_or("it is not supported")?)
 }

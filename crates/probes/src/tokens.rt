@@ -2,9 +2,9 @@
 
 use crate::texts::one_step;
 use sfc_text::read::read;
-use sfc_text::read_error::ReadErrorKind;
-use sfc_text::scan::tokens;
-use sfc_text::token::{Token, TokenKind};
+use sfc_tokens::read_error::ReadErrorKind;
+use sfc_tokens::scan::tokens;
+use sfc_tokens::token::{Token, TokenKind};
 use std::alloc::{AllocError, Global};
 use std::process::Abort;
 use std::test::Fail;
