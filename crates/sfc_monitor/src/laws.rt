@@ -3,11 +3,11 @@
 ghost use Rattle.std.specs.Prelude.{◌≡◌, ℕ, List};
 ghost use Rattle.sfc_monitor.specs.Replay.{IsOutput};
 
-use sfc_text::laws::one_tree_of_text;
+use sfc_text::laws::one_reading;
 
 /// A chart and a script have one output.
 pub fn one_output()
     ensures { (text script output other : List ℕ) → IsOutput text script output → IsOutput text script other → output ≡ other }
 {
-    one_tree_of_text();
+    one_reading();
 }

@@ -8,11 +8,11 @@ use Rattle.sfc_monitor.proofs.chart.plant_of_text.Goals as goal
 pub returns-in_err-tree-clause-loads : goal.returns-in_err-tree-clause-loads
 returns-in_err-tree-clause-loads c =
     let p = err_from_is_err_and c.from_residual.result c.from_residual.ensures.1 in
-    rw (p.1, p.2) (read_refused c.args.text.now c.in_err-tree.field-0.0 c.in_err-tree.ensures.finds)
+    rw (p.1, p.2) (read_refused c.args.text.now c.in_err-tree.field-0.0 c.in_err-tree.ensures)
 
 pub returns-in_err-plant-clause-loads : goal.returns-in_err-plant-clause-loads
 returns-in_err-plant-clause-loads c =
     let p = err_from_is_err_and c.from_residual-in_err-plant.result c.from_residual-in_err-plant.ensures.1 in
     let source : IsSourceOf c.args.text.now c.in-Some.source =
-    record { tree = source_of c.in_ok-tree.tree; read = c.in_ok-tree.ensures.finds; supported = search rules } in
+    record { tree = source_of c.in_ok-tree.tree; read = c.in_ok-tree.ensures; supported = search rules } in
     rw (p.1, p.2) (load_refused c.args.text.now c.in-Some.source c.in_err-plant.field-0.0 source c.in_err-plant.ensures)

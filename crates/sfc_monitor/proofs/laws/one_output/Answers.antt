@@ -17,7 +17,7 @@ pub returns : goal.returns
 returns c = λ text script output other first second.
     let one = first.loaded.read in
     let two = second.loaded.read in
-    let tree : one.tree ≡ two.tree = c.one_tree_of_text.ensures text one.tree two.tree one.read two.read in
+    let tree : one.tree ≡ two.tree = c.one_reading.ensures text (Ok one.tree) (Ok two.tree) one.read two.read in
     let source : first.loaded.source ≡ second.loaded.source = same_source first.loaded.source second.loaded.source (narrowed one.tree) (narrowed two.tree) one.supported two.supported (ap narrowed tree) in
     let plant : first.plant ≡ second.plant = first.loaded.built ∙ ap plant_of source ∙ sym second.loaded.built in
     let commands : first.commands ≡ second.commands = same_commands first.commands second.commands (commands_of_script first.plant script) (commands_of_script second.plant script) first.parsed second.parsed (ap (λ p. commands_of_script p script) plant) in
