@@ -70,6 +70,7 @@ abbrev pub narrowed_association : Association → Option SimpleAssociation
 narrowed_association a =
     without_any a.indicators (given (narrowed_qualifier a.qualifier) (λ q. Some (record { action = a.action; qualifier = q })))
 
+-- each of its associations is taken, in text order (2.6.2)
 abbrev pub narrowed_step : Step → Option SimpleStep
 narrowed_step s =
     given (all_some narrowed_association s.associations)
@@ -84,6 +85,7 @@ narrowed_literal _ = None
 abbrev pub narrowed_variable : Variable → Option SimpleExpression
 narrowed_variable v = without v.part (Some (expression.Name v.name))
 
+-- a truth value or a variable, without operators (2.6.3)
 abbrev pub narrowed_condition : Tree → Option SimpleExpression
 narrowed_condition (Constant l) = narrowed_literal l
 narrowed_condition (Named v) = narrowed_variable v
@@ -113,6 +115,7 @@ narrowed_program p =
 
 -- ---- the configuration (2.7)
 
+-- BOOL (2.3.1)
 abbrev pub narrowed_type : VarType → Option VarType
 narrowed_type types.Bool = Some types.Bool
 narrowed_type _ = None
@@ -127,6 +130,7 @@ narrowed_declaration d =
 abbrev pub narrowed_task : Task → Option SimpleTask
 narrowed_task t = without t.single (Some (record { name = t.name; interval = t.interval; priority = t.priority }))
 
+-- with or without a task (2.7.2)
 abbrev pub narrowed_instance : Instance → Option SimpleInstance
 narrowed_instance i = Some (record { name = i.name; task = i.task; program = i.program })
 
