@@ -1,5 +1,5 @@
 //! The text of charts: tokens to trees (IEC 61131-3:2003, Annex B). Tokens, and the text of a TIME value, are those of
-//! `sfc_tokens`.
+//! `sfc_tokens`, whose calls stand here too.
 //!
 //! - `expression`, `statement`: the trees of expressions and of statements.
 //! - `laws`: what holds of the grammar itself.
@@ -14,3 +14,7 @@ mod parse;
 pub mod read;
 pub mod statement;
 pub mod tree;
+
+pub use sfc_tokens::read_error::{ReadError, ReadErrorKind};
+pub use sfc_tokens::scan::tokens;
+pub use sfc_tokens::time_text::put_time;
