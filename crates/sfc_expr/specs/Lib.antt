@@ -20,3 +20,7 @@ pub mod Nodes
 pub mod Types
 -- what an expression depends on, and what statements leave alone
 pub mod Dependence
+-- what names stand for where an expression stands
+pub mod Scopes
+-- typed trees of trees of the text, and their first type faults
+pub mod Checking
