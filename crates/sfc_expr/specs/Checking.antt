@@ -21,7 +21,7 @@ use Rattle.sfc_expr.specs.declared.type_error.TypeError.{TypeError}
 use Rattle.sfc_expr.specs.declared.type_error.TypeError.TheVariants as error
 use Rattle.sfc_expr.specs.declared.variable.Variable.{Variable}
 use Rattle.sfc_expr.specs.Values.{in_type}
-use Rattle.sfc_expr.specs.Types.{logical_type, integer_type, sum_type}
+use Rattle.sfc_expr.specs.Types.{integer_type, sum_type}
 use Rattle.sfc_expr.specs.Trees.{Expression, Literal, Not, Minus, Binary, Body, Nothing, Assign, If, Branches, NoBranch, When, Otherwise}
 use Rattle.sfc_expr.specs.Scopes.{Names, referent_of, type_of_referent, reading_of}
 
@@ -172,12 +172,12 @@ abbrev pub ordered : VarType → Checked VarType
 ordered types.Bool = Err WrongType
 ordered t = Ok t
 
--- the type that operands are checked against where the operator is to give a wanted type; left and right are their
--- natural types
+-- The type that operands are checked against where the operator is to give a wanted type; left and right are their
+-- natural types. What NOT, AND, XOR, OR and comparisons give is a BOOL.
 abbrev pub operand_type : Family → VarType → Option VarType → Option VarType → Checked VarType
-operand_type family.Logical wanted left right = or_wrong (logical_type wanted)
-operand_type family.Equality wanted left right = or_wrong (logical_type wanted) >>= λ bool. Ok (compared left right)
-operand_type family.Order wanted left right = or_wrong (logical_type wanted) >>= λ bool. ordered (compared left right)
+operand_type family.Logical wanted left right = if_wanted types.Bool wanted (Ok types.Bool)
+operand_type family.Equality wanted left right = if_wanted types.Bool wanted (Ok (compared left right))
+operand_type family.Order wanted left right = if_wanted types.Bool wanted (ordered (compared left right))
 operand_type family.Sum wanted left right = or_wrong (sum_type wanted)
 operand_type family.Product wanted left right = or_wrong (integer_type wanted)
 
@@ -186,7 +186,7 @@ operand_type family.Product wanted left right = or_wrong (integer_type wanted)
 abbrev pub checked : Names → text.Tree → VarType → Checked Expression
 checked names (text.Constant l) t = checked_literal l t >>= λ x. Ok (Literal x)
 checked names (text.Named v) t = checked_name (referent_of names v) t
-checked names (text.Not a) t = or_wrong (logical_type t) >>= λ u. checked names a u >>= λ x. Ok (Not x)
+checked names (text.Not a) t = if_wanted types.Bool t (checked names a types.Bool >>= λ x. Ok (Not x))
 checked names (text.Minus a) t = or_wrong (integer_type t) >>= λ u. checked names a u >>= λ x. Ok (Minus u x)
 checked names (text.Binary o a b) t =
     operand_type (family_of (operator_of o)) t (natural names a) (natural names b) >>= λ u.

@@ -8,6 +8,7 @@ use Rattle.sfc_expr.specs.declared.variable.Variable.{Variable}
 use Rattle.sfc_expr.specs.declared.variable.StepId.{StepId}
 use Rattle.sfc_expr.specs.declared.referent.Referent.{Referent}
 use Rattle.sfc_expr.specs.declared.referent.Referent.TheVariants as referent
+use Rattle.sfc_expr.specs.Types.{Declared}
 use Rattle.sfc_expr.specs.Trees.{Expression, Read, StepActive, StepTime, ActionQ}
 
 -- Which variable a name is, with its type; which step it is; and whether it is the action in whose body it stands. A
@@ -22,6 +23,10 @@ pub record IgnoresCase (names : Names) : Type 0 where
   pub variable : (one other : List ℕ) → same_word one other ≡ true → names.variable one ≡ names.variable other
   pub step : (one other : List ℕ) → same_word one other ≡ true → names.step one ≡ names.step other
   pub is_own_action : (one other : List ℕ) → same_word one other ≡ true → names.is_own_action one ≡ names.is_own_action other
+
+-- each variable that a name stands for is declared with its type
+pub record Declares (names : Names) (declared : Declared) : Type 0 where
+  pub variable : (name : List ℕ) (v : Variable) (t : VarType) → names.variable name ≡ Some (v, t) → declared v ≡ Some t
 
 -- ---- names in an expression
 

@@ -33,7 +33,8 @@ pub fn check<S: Scope>(
         Expression::Literal(literal) => Ok(Expr::Literal(check_literal(*literal, wanted)?)),
         Expression::Variable(name) => check_name(name, scope, wanted),
         Expression::Not(operand) => {
-            let operand = check(alloc, operand, scope, logical(wanted)?)?;
+            want(VarType::Bool, wanted)?;
+            let operand = check(alloc, operand, scope, VarType::Bool)?;
             Ok(Expr::Not(Box::new(alloc, operand)?))
         }
         Expression::Minus(operand) => {
@@ -53,7 +54,8 @@ pub fn check<S: Scope>(
 
 // The typed tree of a name.
 fn check_name<S: Scope>(name: &Name, scope: &S, wanted: VarType) -> Result<Expr, TypeError>
-    ensures { Gives expression_of result (checking.checked_name (scopes.referent_of (S.names scope.now) name.now) wanted) }
+    ensures { Gives expression_of result
+        (checking.checked_name (scopes.referent_of (S.names scope.now) name.now) wanted) }
 {
     match Referent::of_name(name, scope) {
         Some(referent) => {
@@ -73,16 +75,20 @@ fn operand_type<S: Scope>(
     scope: &S,
 ) -> Result<VarType, TypeError>
     ensures { let natural : _ = checking.natural (S.names scope.now) in
-        Gives (λ t. t) result (checking.operand_type family wanted (natural (tree_of left.now)) (natural (tree_of right.now))) }
+        Gives (λ t. t) result
+        (checking.operand_type family wanted (natural (tree_of left.now)) (natural (tree_of right.now))) }
 {
     match family {
-        Family::Logical => logical(wanted),
+        Family::Logical => {
+            want(VarType::Bool, wanted)?;
+            Ok(VarType::Bool)
+        }
         Family::Equality => {
-            logical(wanted)?;
+            want(VarType::Bool, wanted)?;
             Ok(compared(left, right, scope))
         }
         Family::Order => {
-            logical(wanted)?;
+            want(VarType::Bool, wanted)?;
             ordered(compared(left, right, scope))
         }
         Family::Sum => sum(wanted),
@@ -108,16 +114,6 @@ fn ordered(var_type: VarType) -> Result<VarType, TypeError>
     match var_type {
         VarType::Bool => Err(TypeError::WrongType),
         VarType::Int | VarType::Dint | VarType::Time => Ok(var_type),
-    }
-}
-
-// The type of the operands of NOT, AND, XOR and OR.
-fn logical(wanted: VarType) -> Result<VarType, TypeError>
-    ensures { Gives (λ t. t) result (checking.or_wrong (types.logical_type wanted)) }
-{
-    match wanted {
-        VarType::Bool => Ok(VarType::Bool),
-        VarType::Int | VarType::Dint | VarType::Time => Err(TypeError::WrongType),
     }
 }
 

@@ -4,7 +4,8 @@ ghost use Rattle.std.specs.Prelude.{◌≡◌};
 ghost use Rattle.sfc_text.specs.Trees as text;
 ghost use Rattle.sfc_expr.specs.Checking as checking;
 ghost use Rattle.sfc_expr.specs.Checking.{Gives};
-ghost use Rattle.sfc_expr.specs.Trees.{Nothing, If, NoBranch, When, Otherwise, before, tried_before, body_of, branches_of, expression_of};
+ghost use Rattle.sfc_expr.specs.Trees.{Nothing, If, NoBranch, When, Otherwise};
+ghost use Rattle.sfc_expr.specs.Trees.{before, tried_before, body_of, branches_of, expression_of};
 
 use crate::check::check;
 use crate::expr::Expr;
@@ -24,7 +25,8 @@ pub fn check_body<S: Scope>(
     statements: &[WrittenStatement],
     scope: &S,
 ) -> Result<Vec<Statement>, TypeError>
-    ensures { Gives (λ v. body_of v.items) result (checking.checked_body (S.names scope.now) (text.block_of statements.now)) }
+    ensures { Gives (λ v. body_of v.items) result
+        (checking.checked_body (S.names scope.now) (text.block_of statements.now)) }
 {
     let mut checked = Vec::new(alloc);
     for statement in statements {
