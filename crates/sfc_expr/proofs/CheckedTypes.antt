@@ -5,7 +5,6 @@ use Rattle.std.specs.Prelude.{codes}
 use Rattle.sfc_tokens.specs.Case.{same_word}
 use Rattle.sfc_tokens.specs.declared.var_type.VarType.{VarType}
 use Rattle.sfc_tokens.specs.declared.var_type.VarType.TheVariants as types
-use Rattle.sfc_text.specs.declared.expression.Variable as text_variable
 use Rattle.sfc_text.specs.declared.tree.Literal as text_literal
 use Rattle.sfc_text.specs.declared.tree.Literal.TheVariants as literal
 use Rattle.sfc_text.specs.Trees as text
@@ -20,9 +19,9 @@ use Rattle.sfc_expr.specs.declared.variable.Variable.{Variable}
 use Rattle.sfc_expr.specs.declared.variable.StepId.{StepId}
 use Rattle.sfc_expr.specs.Values.{in_type}
 use Rattle.sfc_expr.specs.Types.{Declared, IsOf, logical_type, integer_type, sum_type, ordering_type, result_type, HasType, IsTyped, AreTyped}
-use Rattle.sfc_expr.specs.Trees.{Expression, Literal, Read}
-use Rattle.sfc_expr.specs.Scopes.{Names, Declares, found, of_variable, of_step, part_of, referent_of}
-use Rattle.sfc_expr.specs.Checking.{Checked, TypeFault, LiteralRange, ◌>>=◌, or_wrong, or_unknown, without_part, operator_of, family_of, natural, or_range, fitting, checked_integer, if_wanted, checked_literal, checked_name, compared, ordered, operand_type, checked, checked_target, checked_body, checked_branches}
+use Rattle.sfc_expr.specs.Trees.{Read}
+use Rattle.sfc_expr.specs.Scopes.{Names, Declares, found, of_variable, of_step, referent_of}
+use Rattle.sfc_expr.specs.Checking.{Checked, LiteralRange, ◌>>=◌, or_wrong, or_unknown, without_part, operator_of, family_of, natural, or_range, fitting, checked_integer, if_wanted, checked_literal, checked_name, compared, ordered, operand_type, checked, checked_target, checked_body, checked_branches}
 use Rattle.sfc_expr.proofs.Typed.{in_type_of}
 
 -- what holds of what was checked holds of what follows from it

@@ -1,5 +1,5 @@
 -- Checked statements one after the other, and checked branches.
-use Rattle.std.proofs.Common.{◌≡◌, ℕ, ◌+◌, ◌<◌, ◌≤◌, List, [], ◌∷◌, ◌++◌, Vec, Global, length, get_or, drop, refl, ap, sym, ◌∙◌, Result, Ok, Err}
+use Rattle.std.proofs.Common.{◌≡◌, ℕ, ◌+◌, ◌<◌, ◌≤◌, List, [], ◌∷◌, ◌++◌, Vec, Global, length, get_or, drop, refl, ap, sym, ◌∙◌, Ok, Err}
 use Rattle.std.proofs.lemmas.List.{drop_all}
 use Rattle.sfc_tokens.specs.declared.var_type.VarType.{VarType}
 use Rattle.sfc_tokens.specs.declared.var_type.VarType.TheVariants as types
@@ -84,15 +84,9 @@ behind_behind : (a b : Body) (r : Checked Body) → behind_body a (behind_body b
 behind_behind a b (Ok c) = ap Ok (sym (append_append a b c))
 behind_behind a b (Err fault) = refl
 
-pub behind-nothing : (a : Body) → behind_body a (Ok Nothing) ≡ Ok a
-behind-nothing a = ap Ok (append_nothing a)
-
 behind_joined : (a b : Branches) (r : Checked Branches) → behind_branches a (behind_branches b r) ≡ behind_branches (join a b) r
 behind_joined a b (Ok c) = ap Ok (sym (join_join a b c))
 behind_joined a b (Err fault) = refl
-
-pub behind-no_branch : (a : Branches) → behind_branches a (Ok NoBranch) ≡ Ok a
-behind-no_branch a = ap Ok (join_nothing a)
 
 -- ---- one statement and those behind it
 
@@ -168,52 +162,32 @@ module _ (names : Names) (xs : List written_branch.Branch) (i : ℕ) (x : writte
       fails_along e _ whole
       (λ fault h. sym so_far ∙ ap (behind_branches (branches_of done)) (branches_at ∙ ap (λ (r : Checked Branches). r >>= λ b. behind_branches b (checked_branches names (text.branches_of (drop (i + 1) xs)))) h))
 
+-- the list at its end
+pub none_left : (names : Names) (xs : List written.Statement) (i : ℕ) → length xs ≤ i → checked_body names (text.block_of (drop i xs)) ≡ Ok Nothing
+none_left names xs i end = ap (λ (l : List written.Statement). checked_body names (text.block_of l)) (drop_all i xs end)
+
+pub no_branch_left : (names : Names) (xs : List written_branch.Branch) (i : ℕ) → length xs ≤ i → checked_branches names (text.branches_of (drop i xs)) ≡ Ok NoBranch
+no_branch_left names xs i end = ap (λ (l : List written_branch.Branch). checked_branches names (text.branches_of l)) (drop_all i xs end)
+
+pub ruleset statements = (one_more, one_fails, none_left, append_nothing)
+
+pub ruleset branches = (branch_more, branch_fails, no_branch_left, join_nothing)
+
 -- ---- the vectors in a statement and in a branch
 
-pub checked-if : (names : Names) (s : written.Statement) (v : Vec written_branch.Branch Global) → s ≡ written_statement.If v → checked_body names (text.before s text.Nothing) ≡ checked_branches names (text.branches_of v.items) >>= λ bs. Ok (If bs Nothing)
-checked-if names s v is = ap (λ (x : written.Statement). checked_body names (text.before x text.Nothing)) is ∙ ap (checked_body names) (before_if v text.Nothing)
+pub as_if : (s : written.Statement) (v : Vec written_branch.Branch Global) (rs : List written_branch.Branch) → s ≡ written_statement.If v → rs ≡ v.items → text.before s text.Nothing ≡ text.If (text.branches_of rs) text.Nothing
+as_if s v rs is at =
+    ap (λ (x : written.Statement). text.before x text.Nothing) is ∙ before_if v text.Nothing
+    ∙ ap (λ (l : List written_branch.Branch). text.If (text.branches_of l) text.Nothing) (sym at)
 
-pub checked-when : (names : Names) (r : written_branch.Branch) (e : written_expression.Expression) (v : Vec written.Statement Global) → r ≡ written_branches.When e v → checked_branches names (text.beside r text.Nothing) ≡ checked names (text.tree_of e) types.Bool >>= λ x. checked_body names (text.block_of v.items) >>= λ b. Ok (When x b NoBranch)
-checked-when names r e v is = ap (λ (x : written_branch.Branch). checked_branches names (text.beside x text.Nothing)) is ∙ ap (checked_branches names) (beside_when e v text.Nothing)
+pub as_when : (r : written_branch.Branch) (e : written_expression.Expression) (v : Vec written.Statement Global) (ss : List written.Statement) → r ≡ written_branches.When e v → ss ≡ v.items → text.beside r text.Nothing ≡ text.When (text.tree_of e) (text.block_of ss) text.Nothing
+as_when r e v ss is at =
+    ap (λ (x : written_branch.Branch). text.beside x text.Nothing) is ∙ beside_when e v text.Nothing
+    ∙ ap (λ (l : List written.Statement). text.When (text.tree_of e) (text.block_of l) text.Nothing) (sym at)
 
-pub checked-otherwise : (names : Names) (r : written_branch.Branch) (v : Vec written.Statement Global) → r ≡ written_branches.Otherwise v → checked_branches names (text.beside r text.Nothing) ≡ checked_body names (text.block_of v.items) >>= λ b. Ok (Otherwise b NoBranch)
-checked-otherwise names r v is = ap (λ (x : written_branch.Branch). checked_branches names (text.beside x text.Nothing)) is ∙ ap (checked_branches names) (beside_otherwise v text.Nothing)
+pub as_otherwise : (r : written_branch.Branch) (v : Vec written.Statement Global) (ss : List written.Statement) → r ≡ written_branches.Otherwise v → ss ≡ v.items → text.beside r text.Nothing ≡ text.Otherwise (text.block_of ss) text.Nothing
+as_otherwise r v ss is at =
+    ap (λ (x : written_branch.Branch). text.beside x text.Nothing) is ∙ beside_otherwise v text.Nothing
+    ∙ ap (λ (l : List written.Statement). text.Otherwise (text.block_of l) text.Nothing) (sym at)
 
-module _ (names : Names) (s : written.Statement) (v : Vec written_branch.Branch Global) (rs : List written_branch.Branch) (is : s ≡ written_statement.If v) (at : rs ≡ v.items) where
-  if_by : checked_body names (text.before s text.Nothing) ≡ checked_branches names (text.branches_of rs) >>= λ bs. Ok (If bs Nothing)
-  if_by = checked-if names s v is ∙ ap (λ (l : List written_branch.Branch). checked_branches names (text.branches_of l) >>= λ bs. Ok (If bs Nothing)) (sym at)
-
-  pub if_gives : (bs : Branches) (b : Body) → checked_branches names (text.branches_of rs) ≡ Ok bs → b ≡ If bs Nothing → checked_body names (text.before s text.Nothing) ≡ Ok b
-  if_gives bs b ok made = if_by ∙ ap (λ (r : Checked Branches). r >>= λ x. Ok (If x Nothing)) ok ∙ ap Ok (sym made)
-
-  pub if_fails : (e : TypeError) → Fails e (checked_branches names (text.branches_of rs)) → Fails e (checked_body names (text.before s text.Nothing))
-  if_fails e = fails_along e _ _ (λ fault h. if_by ∙ ap (λ (r : Checked Branches). r >>= λ x. Ok (If x Nothing)) h)
-
-module _ (names : Names) (r : written_branch.Branch) (e : written_expression.Expression) (v : Vec written.Statement Global) (ss : List written.Statement) (is : r ≡ written_branches.When e v) (at : ss ≡ v.items) (x : Expression) (condition : checked names (text.tree_of e) types.Bool ≡ Ok x) where
-  when_by : checked_branches names (text.beside r text.Nothing) ≡ checked_body names (text.block_of ss) >>= λ b. Ok (When x b NoBranch)
-  when_by =
-      checked-when names r e v is ∙ ap (λ (l : List written.Statement). checked names (text.tree_of e) types.Bool >>= λ y. checked_body names (text.block_of l) >>= λ b. Ok (When y b NoBranch)) (sym at)
-      ∙ ap (λ (q : Checked Expression). q >>= λ y. checked_body names (text.block_of ss) >>= λ b. Ok (When y b NoBranch)) condition
-
-  pub when_gives : (b : Body) (bs : Branches) → checked_body names (text.block_of ss) ≡ Ok b → bs ≡ When x b NoBranch → checked_branches names (text.beside r text.Nothing) ≡ Ok bs
-  when_gives b bs ok made = when_by ∙ ap (λ (q : Checked Body). q >>= λ y. Ok (When x y NoBranch)) ok ∙ ap Ok (sym made)
-
-  pub when_fails : (error : TypeError) → Fails error (checked_body names (text.block_of ss)) → Fails error (checked_branches names (text.beside r text.Nothing))
-  when_fails error = fails_along error _ _ (λ fault h. when_by ∙ ap (λ (q : Checked Body). q >>= λ y. Ok (When x y NoBranch)) h)
-
-module _ (names : Names) (r : written_branch.Branch) (v : Vec written.Statement Global) (ss : List written.Statement) (is : r ≡ written_branches.Otherwise v) (at : ss ≡ v.items) where
-  otherwise_by : checked_branches names (text.beside r text.Nothing) ≡ checked_body names (text.block_of ss) >>= λ b. Ok (Otherwise b NoBranch)
-  otherwise_by = checked-otherwise names r v is ∙ ap (λ (l : List written.Statement). checked_body names (text.block_of l) >>= λ b. Ok (Otherwise b NoBranch)) (sym at)
-
-  pub otherwise_gives : (b : Body) (bs : Branches) → checked_body names (text.block_of ss) ≡ Ok b → bs ≡ Otherwise b NoBranch → checked_branches names (text.beside r text.Nothing) ≡ Ok bs
-  otherwise_gives b bs ok made = otherwise_by ∙ ap (λ (q : Checked Body). q >>= λ y. Ok (Otherwise y NoBranch)) ok ∙ ap Ok (sym made)
-
-  pub otherwise_fails : (error : TypeError) → Fails error (checked_body names (text.block_of ss)) → Fails error (checked_branches names (text.beside r text.Nothing))
-  otherwise_fails error = fails_along error _ _ (λ fault h. otherwise_by ∙ ap (λ (q : Checked Body). q >>= λ y. Ok (Otherwise y NoBranch)) h)
-
--- the list at its end
-pub all_done : (names : Names) (xs : List written.Statement) (i : ℕ) (done : List Statement) (whole : Checked Body) → length xs ≤ i → behind_body (body_of done) (checked_body names (text.block_of (drop i xs))) ≡ whole → whole ≡ Ok (body_of done)
-all_done names xs i done whole end so_far = sym so_far ∙ ap (λ (l : List written.Statement). behind_body (body_of done) (checked_body names (text.block_of l))) (drop_all i xs end) ∙ behind-nothing (body_of done)
-
-pub all_branches_done : (names : Names) (xs : List written_branch.Branch) (i : ℕ) (done : List Branch) (whole : Checked Branches) → length xs ≤ i → behind_branches (branches_of done) (checked_branches names (text.branches_of (drop i xs))) ≡ whole → whole ≡ Ok (branches_of done)
-all_branches_done names xs i done whole end so_far = sym so_far ∙ ap (λ (l : List written_branch.Branch). behind_branches (branches_of done) (checked_branches names (text.branches_of l))) (drop_all i xs end) ∙ behind-no_branch (branches_of done)
+pub ruleset parts = (as_when, as_otherwise)

@@ -20,6 +20,7 @@ use std::alloc::Global;
 
 /// The typed trees of statements, or their first type fault in text order.
 #[cycle(check_body)]
+#[tactic(auto, using(crate::proofs::Checks::statements))]
 pub fn check_body<S: Scope>(
     alloc: Global,
     statements: &[WrittenStatement],
@@ -37,6 +38,7 @@ pub fn check_body<S: Scope>(
 
 // The typed tree of one statement.
 #[cycle(check_body)]
+#[tactic(auto, using(crate::proofs::Checks::as_if))]
 fn check_statement<S: Scope>(
     alloc: Global,
     statement: &WrittenStatement,
@@ -47,7 +49,7 @@ fn check_statement<S: Scope>(
 {
     match statement {
         WrittenStatement::Assign(target, value) => check_assignment(alloc, target, value, scope),
-        WrittenStatement::If(branches) => Ok(if_of(check_branches(alloc, branches, scope)?)),
+        WrittenStatement::If(branches) => check_if(alloc, branches, scope),
     }
 }
 
@@ -79,8 +81,22 @@ fn check_target<S: Scope>(target: &Name, scope: &S) -> Result<(Variable, VarType
     }
 }
 
+// The typed tree of an IF.
+#[cycle(check_body)]
+fn check_if<S: Scope>(
+    alloc: Global,
+    branches: &[WrittenBranch],
+    scope: &S,
+) -> Result<Statement, TypeError>
+    ensures { Gives (λ s. before s Nothing) result
+        (checking.checked_body (S.names scope.now) (text.If (text.branches_of branches.now) text.Nothing)) }
+{
+    Ok(if_of(check_branches(alloc, branches, scope)?))
+}
+
 // The typed branches of an IF, in text order.
 #[cycle(check_body)]
+#[tactic(auto, using(crate::proofs::Checks::branches))]
 fn check_branches<S: Scope>(
     alloc: Global,
     branches: &[WrittenBranch],
@@ -96,8 +112,9 @@ fn check_branches<S: Scope>(
     Ok(checked)
 }
 
-// The typed tree of one branch, its condition before its statements.
+// The typed tree of one branch.
 #[cycle(check_body)]
+#[tactic(auto, using(crate::proofs::Checks::parts))]
 fn check_branch<S: Scope>(
     alloc: Global,
     branch: &WrittenBranch,
@@ -107,12 +124,37 @@ fn check_branch<S: Scope>(
         (checking.checked_branches (S.names scope.now) (text.beside branch.now text.Nothing)) }
 {
     match branch {
-        WrittenBranch::When(condition, body) => {
-            let condition = check(alloc, condition, scope, VarType::Bool)?;
-            Ok(when_of(condition, check_body(alloc, body, scope)?))
-        }
-        WrittenBranch::Otherwise(body) => Ok(otherwise_of(check_body(alloc, body, scope)?)),
+        WrittenBranch::When(condition, body) => check_when(alloc, body, condition, scope),
+        WrittenBranch::Otherwise(body) => check_otherwise(alloc, body, scope),
     }
+}
+
+// The typed tree of a branch with a condition, which stands before its statements.
+#[cycle(check_body)]
+fn check_when<S: Scope>(
+    alloc: Global,
+    body: &[WrittenStatement],
+    condition: &Expression,
+    scope: &S,
+) -> Result<Branch, TypeError>
+    ensures { let written : _ = text.When (text.tree_of condition.now) (text.block_of body.now) text.Nothing in
+        Gives (λ b. tried_before b NoBranch) result (checking.checked_branches (S.names scope.now) written) }
+{
+    let condition = check(alloc, condition, scope, VarType::Bool)?;
+    Ok(when_of(condition, check_body(alloc, body, scope)?))
+}
+
+// The typed tree of an ELSE branch.
+#[cycle(check_body)]
+fn check_otherwise<S: Scope>(
+    alloc: Global,
+    body: &[WrittenStatement],
+    scope: &S,
+) -> Result<Branch, TypeError>
+    ensures { let written : _ = text.Otherwise (text.block_of body.now) text.Nothing in
+        Gives (λ b. tried_before b NoBranch) result (checking.checked_branches (S.names scope.now) written) }
+{
+    Ok(otherwise_of(check_body(alloc, body, scope)?))
 }
 
 // An IF of these branches.
