@@ -21,7 +21,10 @@ use Rattle.sfc_expr.specs.Values.{in_type}
 use Rattle.sfc_expr.specs.Types.{Declared, IsOf, logical_type, integer_type, sum_type, ordering_type, result_type, HasType, IsTyped, AreTyped}
 use Rattle.sfc_expr.specs.Trees.{Read}
 use Rattle.sfc_expr.specs.Scopes.{Names, Declares, found, of_variable, of_step, referent_of}
-use Rattle.sfc_expr.specs.Checking.{Checked, LiteralRange, ◌>>=◌, or_wrong, or_unknown, without_part, operator_of, family_of, natural, or_range, fitting, checked_integer, if_wanted, checked_literal, checked_name, compared, ordered, operand_type, checked, checked_target, checked_body, checked_branches}
+use Rattle.sfc_expr.specs.TypeFaults.{Checked, LiteralRange, ◌>>=◌}
+use Rattle.sfc_expr.specs.Families.{operator_of, family_of}
+use Rattle.sfc_expr.specs.Naturals.{natural}
+use Rattle.sfc_expr.specs.Checking.{or_wrong, or_unknown, without_part, or_range, fitting, checked_integer, if_wanted, checked_literal, checked_name, compared, ordered, operand_type, checked, checked_target, checked_body, checked_branches}
 use Rattle.sfc_expr.proofs.Typed.{in_type_of}
 
 -- what holds of what was checked holds of what follows from it

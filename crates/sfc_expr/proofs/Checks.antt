@@ -19,7 +19,8 @@ use Rattle.sfc_expr.specs.declared.type_error.TypeError.TheVariants as error
 use Rattle.sfc_expr.specs.declared.variable.Variable.{Variable}
 use Rattle.sfc_expr.specs.Trees.{Expression, Body, Nothing, Assign, If, Branches, NoBranch, When, Otherwise, before, tried_before, body_of, branches_of}
 use Rattle.sfc_expr.specs.Scopes.{Names}
-use Rattle.sfc_expr.specs.Checking.{Checked, TypeFault, Unknown, WrongType, LiteralRange, NotAssignable, ◌>>=◌, checked, checked_target, checked_body, checked_branches, Fails}
+use Rattle.sfc_expr.specs.TypeFaults.{Checked, TypeFault, Unknown, WrongType, LiteralRange, NotAssignable, ◌>>=◌, Fails}
+use Rattle.sfc_expr.specs.Checking.{checked, checked_target, checked_body, checked_branches}
 use Rattle.sfc_expr.proofs.Effects.{split}
 
 -- ---- statements, then others

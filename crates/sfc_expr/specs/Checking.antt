@@ -1,120 +1,26 @@
 -- The typed tree that a tree of the text is, or its first type fault (3.3.1, 3.3.2).
-use Rattle.std.specs.Prelude.{◌≡◌, ℕ, List, Bool, true, false, Option, Some, None, Result, Ok, Err, ℤ, pos, if◌then◌else◌, ⊤}
+use Rattle.std.specs.Prelude.{ℕ, List, Bool, true, false, Option, Some, None, Result, Ok, Err, ℤ, pos, if◌then◌else◌}
 use Rattle.std.specs.Ordering.{int_eq}
 use Rattle.sfc_tokens.specs.declared.var_type.VarType.{VarType}
 use Rattle.sfc_tokens.specs.declared.var_type.VarType.TheVariants as types
 use Rattle.sfc_text.specs.declared.tree.Literal as text_literal
 use Rattle.sfc_text.specs.declared.tree.Literal.TheVariants as literal
 use Rattle.sfc_text.specs.declared.expression.Variable as text_variable
-use Rattle.sfc_text.specs.declared.expression.Operator as text_operator
-use Rattle.sfc_text.specs.declared.expression.Operator.TheVariants as written
 use Rattle.sfc_text.specs.Trees as text
 use Rattle.sfc_expr.specs.declared.value.Value.{Value}
 use Rattle.sfc_expr.specs.declared.value.Value.TheVariants as value
 use Rattle.sfc_expr.specs.declared.fault.Fault.{Fault}
-use Rattle.sfc_expr.specs.declared.operator.Operator.{Operator}
-use Rattle.sfc_expr.specs.declared.operator.Operator.TheVariants as op
 use Rattle.sfc_expr.specs.declared.operator.Family.{Family}
 use Rattle.sfc_expr.specs.declared.operator.Family.TheVariants as family
 use Rattle.sfc_expr.specs.declared.referent.Referent.{Referent}
-use Rattle.sfc_expr.specs.declared.type_error.TypeError.{TypeError}
-use Rattle.sfc_expr.specs.declared.type_error.TypeError.TheVariants as error
 use Rattle.sfc_expr.specs.declared.variable.Variable.{Variable}
 use Rattle.sfc_expr.specs.Values.{in_type}
 use Rattle.sfc_expr.specs.Types.{integer_type, sum_type}
 use Rattle.sfc_expr.specs.Trees.{Expression, Literal, Not, Minus, Binary, Body, Nothing, Assign, If, Branches, NoBranch, When, Otherwise}
 use Rattle.sfc_expr.specs.Scopes.{Names, referent_of, type_of_referent, reading_of}
-
--- a name that is not found; a type that is not the wanted one, or for which an operator is not; an integer outside the
--- range of the wanted type; a target that no statement can assign to
-pub data TypeFault : Type 0 where
-  Unknown : TypeFault
-  WrongType : TypeFault
-  LiteralRange : TypeFault
-  NotAssignable : TypeFault
-
--- what checking gives: what was checked, or the first fault
-abbrev pub Checked : Type 0 → Type 0
-Checked X = Result X TypeFault
-
--- what follows from it; a fault stays
-infixl 10 ◌>>=◌
-abbrev pub ◌>>=◌ : {A B : Type 0} → Checked A → (A → Checked B) → Checked B
-(Ok x) >>= f = f x
-(Err fault) >>= f = Err fault
-
-abbrev pub or_wrong : {A : Type 0} → Option A → Checked A
-or_wrong (Some x) = Ok x
-or_wrong None = Err WrongType
-
--- ---- operators
-
--- the operators of typed trees are those of the text
-abbrev pub operator_of : text_operator.Operator → Operator
-operator_of written.Or = op.Or
-operator_of written.Xor = op.Xor
-operator_of written.And = op.And
-operator_of written.Equal = op.Equal
-operator_of written.NotEqual = op.NotEqual
-operator_of written.Less = op.Less
-operator_of written.Greater = op.Greater
-operator_of written.LessOrEqual = op.LessOrEqual
-operator_of written.GreaterOrEqual = op.GreaterOrEqual
-operator_of written.Add = op.Add
-operator_of written.Subtract = op.Subtract
-operator_of written.Multiply = op.Multiply
-operator_of written.Divide = op.Divide
-operator_of written.Modulo = op.Modulo
-
--- operators with one rule for types
-abbrev pub family_of : Operator → Family
-family_of op.Or = family.Logical
-family_of op.Xor = family.Logical
-family_of op.And = family.Logical
-family_of op.Equal = family.Equality
-family_of op.NotEqual = family.Equality
-family_of op.Less = family.Order
-family_of op.Greater = family.Order
-family_of op.LessOrEqual = family.Order
-family_of op.GreaterOrEqual = family.Order
-family_of op.Add = family.Sum
-family_of op.Subtract = family.Sum
-family_of op.Multiply = family.Product
-family_of op.Divide = family.Product
-family_of op.Modulo = family.Product
-
--- ---- natural types
-
-abbrev pub first_of : Option VarType → Option VarType → Option VarType
-first_of (Some t) other = Some t
-first_of None other = other
-
--- an integer without a type has none
-abbrev pub literal_type : text_literal.Literal → Option VarType
-literal_type (literal.Integer n) = None
-literal_type (literal.Int n) = Some types.Int
-literal_type (literal.Dint n) = Some types.Dint
-literal_type (literal.Bool b) = Some types.Bool
-literal_type (literal.Time d) = Some types.Time
-
--- that of what a name stands for; a name that is not found has none
-abbrev pub name_type : Option Referent → Option VarType
-name_type (Some r) = Some (type_of_referent r)
-name_type None = None
-
--- sums and products have that of the left operand, else of the right one; other operators give a BOOL
-abbrev pub natural_by : Family → Option VarType → Option VarType → Option VarType
-natural_by family.Sum left right = first_of left right
-natural_by family.Product left right = first_of left right
-natural_by _ left right = Some types.Bool
-
--- the type that an expression has by itself
-abbrev pub natural : Names → text.Tree → Option VarType
-natural names (text.Constant l) = literal_type l
-natural names (text.Named v) = name_type (referent_of names v)
-natural names (text.Not a) = Some types.Bool
-natural names (text.Minus a) = natural names a
-natural names (text.Binary o a b) = natural_by (family_of (operator_of o)) (natural names a) (natural names b)
+use Rattle.sfc_expr.specs.TypeFaults.{Checked, ◌>>=◌, Unknown, WrongType, LiteralRange, NotAssignable}
+use Rattle.sfc_expr.specs.Families.{operator_of, family_of}
+use Rattle.sfc_expr.specs.Naturals.{natural}
 
 -- ---- literals and names of a wanted type
 
@@ -160,6 +66,10 @@ checked_name None t = Err Unknown
 checked_name (Some r) t = if_wanted (type_of_referent r) t (Ok (reading_of r))
 
 -- ---- expressions of a wanted type
+
+abbrev pub or_wrong : {A : Type 0} → Option A → Checked A
+or_wrong (Some x) = Ok x
+or_wrong None = Err WrongType
 
 -- the type that a comparison works on
 abbrev pub compared : Option VarType → Option VarType → VarType
@@ -227,18 +137,3 @@ abbrev mutual
   checked_branches names (text.Otherwise bs rest) =
       checked_body names bs >>= λ body. checked_branches names rest >>= λ branches. Ok (Otherwise body branches)
   checked_branches names _ = Ok NoBranch
-
--- ---- what a function returned, beside what checking gives
-
--- the error is the fault; want of memory says nothing
-abbrev pub Fails : {Y : Type 0} → TypeError → Checked Y → Type 0
-Fails error.Unknown outcome = outcome ≡ Err Unknown
-Fails error.WrongType outcome = outcome ≡ Err WrongType
-Fails error.LiteralRange outcome = outcome ≡ Err LiteralRange
-Fails error.NotAssignable outcome = outcome ≡ Err NotAssignable
-Fails error.Memory outcome = ⊤
-
--- what was returned, seen by view, is what checking gives
-abbrev pub Gives : {X Y : Type 0} → (X → Y) → Result X TypeError → Checked Y → Type 0
-Gives view (Ok x) outcome = outcome ≡ Ok (view x)
-Gives view (Err e) outcome = Fails e outcome

@@ -3,8 +3,9 @@
 ghost use Rattle.std.specs.Prelude.{◌≡◌};
 ghost use Rattle.sfc_text.specs.Trees.{tree_of};
 ghost use Rattle.sfc_expr.specs.Checking as checking;
-ghost use Rattle.sfc_expr.specs.Checking.{Gives};
+ghost use Rattle.sfc_expr.specs.Naturals as naturals;
 ghost use Rattle.sfc_expr.specs.Scopes as scopes;
+ghost use Rattle.sfc_expr.specs.TypeFaults.{Gives};
 ghost use Rattle.sfc_expr.specs.Trees.{expression_of};
 ghost use Rattle.sfc_expr.specs.Types as types;
 
@@ -74,7 +75,7 @@ fn operand_type<S: Scope>(
     right: &Expression,
     scope: &S,
 ) -> Result<VarType, TypeError>
-    ensures { let natural : _ = checking.natural (S.names scope.now) in
+    ensures { let natural : _ = naturals.natural (S.names scope.now) in
         Gives (λ t. t) result
         (checking.operand_type family wanted (natural (tree_of left.now)) (natural (tree_of right.now))) }
 {
@@ -98,7 +99,7 @@ fn operand_type<S: Scope>(
 
 // The type that a comparison works on.
 fn compared<S: Scope>(left: &Expression, right: &Expression, scope: &S) -> VarType
-    ensures { let natural : _ = checking.natural (S.names scope.now) in
+    ensures { let natural : _ = naturals.natural (S.names scope.now) in
         result ≡ checking.compared (natural (tree_of left.now)) (natural (tree_of right.now)) }
 {
     match natural(left, scope) {

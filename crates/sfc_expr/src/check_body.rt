@@ -3,7 +3,7 @@
 ghost use Rattle.std.specs.Prelude.{◌≡◌};
 ghost use Rattle.sfc_text.specs.Trees as text;
 ghost use Rattle.sfc_expr.specs.Checking as checking;
-ghost use Rattle.sfc_expr.specs.Checking.{Gives};
+ghost use Rattle.sfc_expr.specs.TypeFaults.{Gives};
 ghost use Rattle.sfc_expr.specs.Trees.{Nothing, If, NoBranch, When, Otherwise};
 ghost use Rattle.sfc_expr.specs.Trees.{before, tried_before, body_of, branches_of, expression_of};
 

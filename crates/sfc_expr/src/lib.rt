@@ -24,7 +24,7 @@ pub mod exec;
 pub mod expr;
 pub mod fault;
 pub mod laws;
-mod literal;
+pub mod literal;
 mod natural;
 mod number;
 mod operate;

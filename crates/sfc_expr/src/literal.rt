@@ -2,7 +2,7 @@
 
 ghost use Rattle.std.specs.Prelude.{Ok};
 ghost use Rattle.sfc_expr.specs.Checking as checking;
-ghost use Rattle.sfc_expr.specs.Checking.{Gives};
+ghost use Rattle.sfc_expr.specs.TypeFaults.{Gives};
 
 use crate::number::in_type;
 use crate::type_error::TypeError;

@@ -2,7 +2,7 @@
 
 ghost use Rattle.std.specs.Prelude.{◌≡◌};
 ghost use Rattle.sfc_text.specs.Trees.{tree_of};
-ghost use Rattle.sfc_expr.specs.Checking as checking;
+ghost use Rattle.sfc_expr.specs.Naturals as naturals;
 
 use crate::operator::{Family, Operator};
 use crate::referent::Referent;
@@ -13,7 +13,7 @@ use sfc_tokens::var_type::VarType;
 
 /// The natural type of an expression: none of an integer without a type, nor of a name that is not found.
 pub fn natural<S: Scope>(expression: &Expression, scope: &S) -> Option<VarType>
-    ensures { result ≡ checking.natural (S.names scope.now) (tree_of expression.now) }
+    ensures { result ≡ naturals.natural (S.names scope.now) (tree_of expression.now) }
 {
     match expression {
         Expression::Literal(literal) => literal_type(*literal),
@@ -32,7 +32,7 @@ pub fn natural<S: Scope>(expression: &Expression, scope: &S) -> Option<VarType>
 
 // The type that a literal was written with.
 fn literal_type(literal: Literal) -> Option<VarType>
-    ensures { result ≡ checking.literal_type literal }
+    ensures { result ≡ naturals.literal_type literal }
 {
     match literal {
         Literal::Integer(_) => None,

@@ -1,7 +1,7 @@
 //! Binary operators (3.3.1).
 
 ghost use Rattle.std.specs.Prelude.{◌≡◌};
-ghost use Rattle.sfc_expr.specs.Checking as checking;
+ghost use Rattle.sfc_expr.specs.Families as families;
 
 use sfc_text::expression::Operator as Written;
 
@@ -56,7 +56,7 @@ pub enum Family {
 impl Operator {
     /// The operator that was written.
     pub fn of_text(written: Written) -> Operator
-        ensures { result ≡ checking.operator_of written }
+        ensures { result ≡ families.operator_of written }
     {
         match written {
             Written::Or => Operator::Or,
@@ -78,7 +78,7 @@ impl Operator {
 
     /// The operators that share its rule for types.
     pub fn family(self) -> Family
-        ensures { result ≡ checking.family_of self }
+        ensures { result ≡ families.family_of self }
     {
         match self {
             Operator::Or | Operator::Xor | Operator::And => Family::Logical,
