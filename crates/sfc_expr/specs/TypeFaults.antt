@@ -35,3 +35,12 @@ Fails error.Memory outcome = ⊤
 abbrev pub Gives : {X Y : Type 0} → (X → Y) → Result X TypeError → Checked Y → Type 0
 Gives view (Ok x) outcome = outcome ≡ Ok (view x)
 Gives view (Err e) outcome = Fails e outcome
+
+-- the same where no memory is taken: the error is the fault
+abbrev pub IsFault : {Y : Type 0} → TypeError → Checked Y → Type 0
+IsFault error.Memory outcome = ⊥
+IsFault e outcome = Fails e outcome
+
+abbrev pub GivesExactly : {X Y : Type 0} → (X → Y) → Result X TypeError → Checked Y → Type 0
+GivesExactly view (Ok x) outcome = outcome ≡ Ok (view x)
+GivesExactly view (Err e) outcome = IsFault e outcome

@@ -5,7 +5,7 @@ ghost use Rattle.sfc_text.specs.Trees.{tree_of};
 ghost use Rattle.sfc_expr.specs.Checking as checking;
 ghost use Rattle.sfc_expr.specs.Naturals as naturals;
 ghost use Rattle.sfc_expr.specs.Scopes as scopes;
-ghost use Rattle.sfc_expr.specs.TypeFaults.{Gives};
+ghost use Rattle.sfc_expr.specs.TypeFaults.{Gives, GivesExactly};
 ghost use Rattle.sfc_expr.specs.Trees.{expression_of};
 ghost use Rattle.sfc_expr.specs.Types as types;
 
@@ -55,7 +55,7 @@ pub fn check<S: Scope>(
 
 // The typed tree of a name.
 fn check_name<S: Scope>(name: &Name, scope: &S, wanted: VarType) -> Result<Expr, TypeError>
-    ensures { Gives expression_of result
+    ensures { GivesExactly expression_of result
         (checking.checked_name (scopes.referent_of (S.names scope.now) name.now) wanted) }
 {
     match Referent::of_name(name, scope) {
@@ -76,7 +76,7 @@ fn operand_type<S: Scope>(
     scope: &S,
 ) -> Result<VarType, TypeError>
     ensures { let natural : _ = naturals.natural (S.names scope.now) in
-        Gives (λ t. t) result
+        GivesExactly (λ t. t) result
         (checking.operand_type family wanted (natural (tree_of left.now)) (natural (tree_of right.now))) }
 {
     match family {
@@ -110,7 +110,7 @@ fn compared<S: Scope>(left: &Expression, right: &Expression, scope: &S) -> VarTy
 
 // A BOOL has no order.
 fn ordered(var_type: VarType) -> Result<VarType, TypeError>
-    ensures { Gives (λ t. t) result (checking.ordered var_type) }
+    ensures { GivesExactly (λ t. t) result (checking.ordered var_type) }
 {
     match var_type {
         VarType::Bool => Err(TypeError::WrongType),
@@ -120,7 +120,7 @@ fn ordered(var_type: VarType) -> Result<VarType, TypeError>
 
 // The type of the operands of `+` and `-`.
 fn sum(wanted: VarType) -> Result<VarType, TypeError>
-    ensures { Gives (λ t. t) result (checking.or_wrong (types.sum_type wanted)) }
+    ensures { GivesExactly (λ t. t) result (checking.or_wrong (types.sum_type wanted)) }
 {
     match wanted {
         VarType::Int | VarType::Dint | VarType::Time => Ok(wanted),
@@ -130,7 +130,7 @@ fn sum(wanted: VarType) -> Result<VarType, TypeError>
 
 // The type of the operands of `*`, `/`, MOD and of the operand of a minus.
 fn integer(wanted: VarType) -> Result<VarType, TypeError>
-    ensures { Gives (λ t. t) result (checking.or_wrong (types.integer_type wanted)) }
+    ensures { GivesExactly (λ t. t) result (checking.or_wrong (types.integer_type wanted)) }
 {
     match wanted {
         VarType::Int | VarType::Dint => Ok(wanted),

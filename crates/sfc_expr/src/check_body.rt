@@ -3,7 +3,7 @@
 ghost use Rattle.std.specs.Prelude.{◌≡◌};
 ghost use Rattle.sfc_text.specs.Trees as text;
 ghost use Rattle.sfc_expr.specs.Checking as checking;
-ghost use Rattle.sfc_expr.specs.TypeFaults.{Gives};
+ghost use Rattle.sfc_expr.specs.TypeFaults.{Gives, GivesExactly};
 ghost use Rattle.sfc_expr.specs.Trees.{Nothing, If, NoBranch, When, Otherwise};
 ghost use Rattle.sfc_expr.specs.Trees.{before, tried_before, body_of, branches_of, expression_of};
 
@@ -70,7 +70,7 @@ fn check_assignment<S: Scope>(
 
 // The variable that an assignment is to, with its type.
 fn check_target<S: Scope>(target: &Name, scope: &S) -> Result<(Variable, VarType), TypeError>
-    ensures { Gives (λ v. v) result (checking.checked_target (S.names scope.now) target.now) }
+    ensures { GivesExactly (λ v. v) result (checking.checked_target (S.names scope.now) target.now) }
 {
     match &target.part {
         Some(_) => Err(TypeError::NotAssignable),
