@@ -1,5 +1,5 @@
 -- What names stand for where an expression stands (2.4.3, 2.6.2, 2.6.4.5).
-use Rattle.std.specs.Prelude.{◌≡◌, ◌&&◌, ℕ, List, Bool, true, Option, Some, None, if◌then◌else◌, codes}
+use Rattle.std.specs.Prelude.{◌≡◌, ◌&&◌, ℕ, List, Bool, true, Option, Some, None, if◌then◌else◌, codes, ⊤}
 use Rattle.sfc_tokens.specs.Case.{same_word}
 use Rattle.sfc_tokens.specs.declared.var_type.VarType.{VarType}
 use Rattle.sfc_tokens.specs.declared.var_type.VarType.TheVariants as types
@@ -65,3 +65,16 @@ reading_of (referent.Variable v t) = Read v
 reading_of (referent.StepActive s) = StepActive s
 reading_of (referent.StepTime s) = StepTime s
 reading_of referent.ActionQ = ActionQ
+
+-- ---- the case of letters
+
+-- no part, or one that is the same word
+abbrev pub SamePart : Option (List ℕ) → Option (List ℕ) → Type 0
+SamePart None None = ⊤
+SamePart (Some p) (Some q) = same_word p q ≡ true
+SamePart p q = ⊥
+
+-- the same name but for the case of letters
+pub record SameName (one other : text.Variable) : Type 0 where
+  pub name : same_word one.name other.name ≡ true
+  pub part : SamePart one.part other.part

@@ -9,7 +9,8 @@ ghost use Rattle.sfc_expr.specs.Meaning.{value_of};
 ghost use Rattle.sfc_expr.specs.Effect.{effect};
 ghost use Rattle.sfc_expr.specs.Types.{Declared, IsOf, HasType, IsTyped, GivesTypes};
 ghost use Rattle.sfc_text.specs.Trees.{Tree, Block};
-ghost use Rattle.sfc_expr.specs.Scopes.{Names, Declares};
+ghost use Rattle.sfc_text.specs.declared.expression.Variable.{Variable};
+ghost use Rattle.sfc_expr.specs.Scopes.{Names, IgnoresCase, SameName, Declares, referent_of};
 ghost use Rattle.sfc_expr.specs.Checking.{checked, checked_body};
 ghost use Rattle.sfc_expr.specs.Dependence.{AgreeOn, KeepsAllButValues};
 
@@ -40,6 +41,12 @@ pub fn effect_keeps_types()
 /// Statements change values of variables and nothing else.
 pub fn effect_on_values_alone()
     ensures { (body : Body) (env : Environment) → KeepsAllButValues env (effect body env).environment }
+{}
+
+/// Two names that differ in the case of letters alone stand for the same (2.1.2).
+pub fn names_in_any_case()
+    ensures { (names : Names) (one other : Variable) →
+        IgnoresCase names → SameName one other → referent_of names one ≡ referent_of names other }
 {}
 
 /// An expression that was checked has the type that was wanted of it.
