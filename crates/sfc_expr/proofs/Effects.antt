@@ -49,7 +49,7 @@ nodes-if s v is = let e : body_nodes (before s Nothing) ≡ branch_nodes (branch
 
 -- ---- one element of a list, and those behind it
 
-split : {A : Type 0} (xs : List A) (i : ℕ) (x : A) → i < length xs → x ≡ get_or xs i x → drop i xs ≡ x ∷ drop (i + 1) xs
+pub split : {A : Type 0} (xs : List A) (i : ℕ) (x : A) → i < length xs → x ≡ get_or xs i x → drop i xs ≡ x ∷ drop (i + 1) xs
 split {A} xs i x lt is = drop_more xs i x lt ∙ ap (λ (y : A). y ∷ drop (i + 1) xs) (sym is)
 
 and_then-ok : (o : Outcome) (u : Unit {0}) (next : Environment → Outcome) → Ok u ≡ o.result → and_then o next ≡ next o.environment

@@ -24,7 +24,7 @@ pub on_values : {A B : Type 0} (P : A → Type 0) (Q : B → Type 0) (r : Result
 on_values P Q (Ok x) f h k = k x h
 on_values P Q (Err fault) f h k = tt
 
-in_type_of : (t : VarType) (n : ℤ) → IfOk (in_type t n) (IsOf t)
+pub in_type_of : (t : VarType) (n : ℤ) → IfOk (in_type t n) (IsOf t)
 in_type_of types.Bool n = tt
 in_type_of types.Int n = at (is_in_range types.Int n) refl
   where

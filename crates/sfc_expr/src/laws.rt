@@ -8,6 +8,10 @@ ghost use Rattle.sfc_expr.specs.Environment.{Environment};
 ghost use Rattle.sfc_expr.specs.Meaning.{value_of};
 ghost use Rattle.sfc_expr.specs.Effect.{effect};
 ghost use Rattle.sfc_expr.specs.Types.{Declared, IsOf, HasType, IsTyped, GivesTypes};
+ghost use Rattle.sfc_text.specs.Trees.{Tree, Block};
+ghost use Rattle.sfc_text.specs.declared.expression.Variable.{Variable};
+ghost use Rattle.sfc_expr.specs.Scopes.{Names, IgnoresCase, SameName, Declares, referent_of};
+ghost use Rattle.sfc_expr.specs.Checking.{checked, checked_body};
 ghost use Rattle.sfc_expr.specs.Dependence.{AgreeOn, KeepsAllButValues};
 
 /// Quotient and remainder by a number other than 0 are those of the division towards zero (2.5.1.5.2).
@@ -37,4 +41,22 @@ pub fn effect_keeps_types()
 /// Statements change values of variables and nothing else.
 pub fn effect_on_values_alone()
     ensures { (body : Body) (env : Environment) → KeepsAllButValues env (effect body env).environment }
+{}
+
+/// Two names that differ in the case of letters alone stand for the same (2.1.2).
+pub fn names_in_any_case()
+    ensures { (names : Names) (one other : Variable) →
+        IgnoresCase names → SameName one other → referent_of names one ≡ referent_of names other }
+{}
+
+/// An expression that was checked has the type that was wanted of it.
+pub fn checked_has_type()
+    ensures { (names : Names) (declared : Declared) (e : Tree) (t : VarType) →
+        Declares names declared → IfOk (checked names e t) (λ x. HasType declared x t) }
+{}
+
+/// Statements that were checked are typed.
+pub fn checked_body_is_typed()
+    ensures { (names : Names) (declared : Declared) (block : Block) →
+        Declares names declared → IfOk (checked_body names block) (IsTyped declared) }
 {}

@@ -94,7 +94,7 @@ fn fit(var_type: VarType, computed: Option<i64>) -> Result<Value, Fault>
 }
 
 // The number as a value of the type, or the fault Range.
-fn in_type(var_type: VarType, n: i64) -> Result<Value, Fault>
+pub(crate) fn in_type(var_type: VarType, n: i64) -> Result<Value, Fault>
     ensures { result ≡ in_type var_type n }
 {
     match var_type {

@@ -1,0 +1,139 @@
+//! The types of expressions (3.3.1).
+
+ghost use Rattle.std.specs.Prelude.{◌≡◌};
+ghost use Rattle.sfc_text.specs.Trees.{tree_of};
+ghost use Rattle.sfc_expr.specs.Checking as checking;
+ghost use Rattle.sfc_expr.specs.Naturals as naturals;
+ghost use Rattle.sfc_expr.specs.Scopes as scopes;
+ghost use Rattle.sfc_expr.specs.TypeFaults.{Gives, GivesExactly};
+ghost use Rattle.sfc_expr.specs.Trees.{expression_of};
+ghost use Rattle.sfc_expr.specs.Types as types;
+
+use crate::expr::Expr;
+use crate::literal::{check_literal, want};
+use crate::natural::natural;
+use crate::operator::{Family, Operator};
+use crate::referent::Referent;
+use crate::scope::Scope;
+use crate::type_error::TypeError;
+use sfc_text::expression::{Expression, Variable as Name};
+use sfc_tokens::var_type::VarType;
+use std::alloc::Global;
+
+/// The typed tree of an expression that is wanted of a type, or its first type fault: an operator's own before those
+/// of its operands, the left operand's before the right one's.
+pub fn check<S: Scope>(
+    alloc: Global,
+    expression: &Expression,
+    scope: &S,
+    wanted: VarType,
+) -> Result<Expr, TypeError>
+    ensures { Gives expression_of result (checking.checked (S.names scope.now) (tree_of expression.now) wanted) }
+{
+    match expression {
+        Expression::Literal(literal) => Ok(Expr::Literal(check_literal(*literal, wanted)?)),
+        Expression::Variable(name) => check_name(name, scope, wanted),
+        Expression::Not(operand) => {
+            want(VarType::Bool, wanted)?;
+            let operand = check(alloc, operand, scope, VarType::Bool)?;
+            Ok(Expr::Not(Box::new(alloc, operand)?))
+        }
+        Expression::Minus(operand) => {
+            let var_type = integer(wanted)?;
+            let operand = check(alloc, operand, scope, var_type)?;
+            Ok(Expr::Minus(var_type, Box::new(alloc, operand)?))
+        }
+        Expression::Binary(written, left, right) => {
+            let operator = Operator::of_text(*written);
+            let var_type = operand_type(operator.family(), wanted, left, right, scope)?;
+            let left = Box::new(alloc, check(alloc, left, scope, var_type)?)?;
+            let right = Box::new(alloc, check(alloc, right, scope, var_type)?)?;
+            Ok(Expr::Binary(operator, var_type, left, right))
+        }
+    }
+}
+
+// The typed tree of a name.
+fn check_name<S: Scope>(name: &Name, scope: &S, wanted: VarType) -> Result<Expr, TypeError>
+    ensures { GivesExactly expression_of result
+        (checking.checked_name (scopes.referent_of (S.names scope.now) name.now) wanted) }
+{
+    match Referent::of_name(name, scope) {
+        Some(referent) => {
+            want(referent.var_type(), wanted)?;
+            Ok(referent.reading())
+        }
+        None => Err(TypeError::Unknown),
+    }
+}
+
+// The type of operands, where the operator is to give a wanted type.
+fn operand_type<S: Scope>(
+    family: Family,
+    wanted: VarType,
+    left: &Expression,
+    right: &Expression,
+    scope: &S,
+) -> Result<VarType, TypeError>
+    ensures { let natural : _ = naturals.natural (S.names scope.now) in
+        GivesExactly (λ t. t) result
+        (checking.operand_type family wanted (natural (tree_of left.now)) (natural (tree_of right.now))) }
+{
+    match family {
+        Family::Logical => {
+            want(VarType::Bool, wanted)?;
+            Ok(VarType::Bool)
+        }
+        Family::Equality => {
+            want(VarType::Bool, wanted)?;
+            Ok(compared(left, right, scope))
+        }
+        Family::Order => {
+            want(VarType::Bool, wanted)?;
+            ordered(compared(left, right, scope))
+        }
+        Family::Sum => sum(wanted),
+        Family::Product => integer(wanted),
+    }
+}
+
+// The type that a comparison works on.
+fn compared<S: Scope>(left: &Expression, right: &Expression, scope: &S) -> VarType
+    ensures { let natural : _ = naturals.natural (S.names scope.now) in
+        result ≡ checking.compared (natural (tree_of left.now)) (natural (tree_of right.now)) }
+{
+    match natural(left, scope) {
+        Some(var_type) => var_type,
+        None => natural(right, scope).unwrap_or(VarType::Dint),
+    }
+}
+
+// A BOOL has no order.
+fn ordered(var_type: VarType) -> Result<VarType, TypeError>
+    ensures { GivesExactly (λ t. t) result (checking.ordered var_type) }
+{
+    match var_type {
+        VarType::Bool => Err(TypeError::WrongType),
+        VarType::Int | VarType::Dint | VarType::Time => Ok(var_type),
+    }
+}
+
+// The type of the operands of `+` and `-`.
+fn sum(wanted: VarType) -> Result<VarType, TypeError>
+    ensures { GivesExactly (λ t. t) result (checking.or_wrong (types.sum_type wanted)) }
+{
+    match wanted {
+        VarType::Int | VarType::Dint | VarType::Time => Ok(wanted),
+        VarType::Bool => Err(TypeError::WrongType),
+    }
+}
+
+// The type of the operands of `*`, `/`, MOD and of the operand of a minus.
+fn integer(wanted: VarType) -> Result<VarType, TypeError>
+    ensures { GivesExactly (λ t. t) result (checking.or_wrong (types.integer_type wanted)) }
+{
+    match wanted {
+        VarType::Int | VarType::Dint => Ok(wanted),
+        VarType::Bool | VarType::Time => Err(TypeError::WrongType),
+    }
+}
