@@ -1,11 +1,11 @@
 //! A resource on a bench: each call of the core behind one that needs no condition, and all that it shows, as text.
 
+use crate::texts::source_of;
 use sfc_chart::ids::{ProgId, TaskId, VarId};
 use sfc_chart::load::load;
 use sfc_chart::plant::Plant;
 use sfc_chart::value::Value;
 use sfc_core::{Event, Outcome, ProgramView, Refusal, Resource};
-use sfc_text::read::read;
 use std::alloc::{AllocError, Global};
 use std::test::Fail;
 
@@ -70,7 +70,7 @@ fn actions_text(alloc: Global, view: &ProgramView<'_>) -> Result<String, AllocEr
 impl Bench {
     /// A resource of the chart that has seen no event.
     pub fn open(alloc: Global, text: &[u8]) -> Result<Bench, Fail> {
-        let source = read(alloc, text)?;
+        let source = source_of(alloc, text)?;
         let plant = load(alloc, &source)?;
         let resource = resource_of(alloc, plant)?.ok_or("no single program")?;
         Ok(Bench { resource })

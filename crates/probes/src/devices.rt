@@ -5,8 +5,8 @@ use crate::texts::{no_initial_step, one_step, one_step_output, one_step_script};
 use sfc_chart::load_error::LoadError;
 use sfc_monitor::monitor_error::{ChartError, MonitorError};
 use sfc_monitor::replay::replay;
-use sfc_text::time_text::put_time;
-use sfc_text::write_fault::{WriteFault, put_all};
+use sfc_tokens::time_text::put_time;
+use sfc_tokens::write_fault::{WriteFault, put_all};
 use std::alloc::Global;
 use std::test::Fail;
 

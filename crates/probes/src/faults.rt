@@ -4,7 +4,7 @@ use sfc_chart::ids::TaskId;
 use sfc_chart::load_error::{Limit, LoadError};
 use sfc_core::Refusal;
 use sfc_monitor::monitor_error::{ChartError, MonitorError};
-use sfc_text::read_error::{ReadError, ReadErrorKind};
+use sfc_tokens::read_error::{ReadError, ReadErrorKind};
 use std::test::Fail;
 
 // A chart that the loader refuses for this.
@@ -21,6 +21,7 @@ const TOO_DEEP: ReadError = ReadError {
 #[test]
 fn each_fault_has_a_text_and_a_status(rt: HostRuntime) -> Result<(), Fail> {
     let table = [
+        (MonitorError::Unsupported, "not supported", 1),
         (MonitorError::Script(3), "script line 3", 1),
         (MonitorError::Read, "read fault", 3),
         (MonitorError::Write, "write fault", 3),

@@ -1,16 +1,16 @@
 //! What is loaded of a text: each part of the plant.
 
+use crate::texts::source_of;
 use sfc_chart::chart::{ProgramType, Step, Target, Transition};
 use sfc_chart::expr::Expr;
 use sfc_chart::ids::{ProgId, TaskId, VarId};
 use sfc_chart::load::load;
 use sfc_chart::name_key::NameKey;
 use sfc_chart::plant::{Instance, Plant, Task, Variable};
+use sfc_chart::simple::Qualifier;
 use sfc_chart::value::Value;
-use sfc_text::location::{Area, Size};
-use sfc_text::read::read;
-use sfc_text::tree::Qualifier;
-use sfc_text::var_type::VarType;
+use sfc_tokens::location::{Area, Size};
+use sfc_tokens::var_type::VarType;
 use std::alloc::{AllocError, Global};
 use std::process::Abort;
 use std::test::Fail;
@@ -24,7 +24,7 @@ TASK Main(INTERVAL := T#10ms, PRIORITY := 1); PROGRAM P WITH Main : Mix; END_RES
 
 // The plant of it.
 fn plant(alloc: Global) -> Result<Plant, Fail> {
-    let source = read(alloc, MIXED)?;
+    let source = source_of(alloc, MIXED)?;
     Ok(load(alloc, &source)?)
 }
 

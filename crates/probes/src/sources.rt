@@ -1,9 +1,8 @@
-//! What is read of a text: each part of the trees.
+//! What is read of a text: each part of the trees that are loaded.
 
-use crate::texts::go_along;
-use sfc_text::read::read;
-use sfc_text::tree::{Configuration, Element, Expression, Program, Qualifier, Step, Transition};
-use sfc_text::var_type::VarType;
+use crate::texts::{go_along, source_of};
+use sfc_chart::simple::{Configuration, Element, Expression, Program, Qualifier, Step, Transition};
+use sfc_tokens::var_type::VarType;
 use std::alloc::Global;
 use std::process::Abort;
 use std::test::Fail;
@@ -97,7 +96,7 @@ fn check_configuration(rt: &impl Abort, configuration: &Configuration) {
 
 #[test]
 fn a_chart_is_read_as_its_tree(rt: HostRuntime) -> Result<(), Fail> {
-    let source = read(rt.alloc(), go_along())?;
+    let source = source_of(rt.alloc(), go_along())?;
     let [program] = source.programs.as_slice() else {
         rt.panic("one program type")
     };

@@ -1,10 +1,10 @@
 //! The tokens of a text, names, and charts with a fault at any place.
 
-use crate::texts::one_step;
+use crate::texts::mixture;
 use sfc_text::read::read;
-use sfc_text::read_error::ReadErrorKind;
-use sfc_text::scan::tokens;
-use sfc_text::token::{Token, TokenKind};
+use sfc_tokens::read_error::ReadErrorKind;
+use sfc_tokens::scan::tokens;
+use sfc_tokens::token::{Token, TokenKind};
 use std::alloc::{AllocError, Global};
 use std::process::Abort;
 use std::test::Fail;
@@ -116,11 +116,6 @@ fn tokens_have_the_lines_on_which_they_begin(rt: HostRuntime) -> Result<(), Fail
     Ok(())
 }
 
-// The lamp's chart.
-fn lamp() -> &'static [u8] {
-    one_step()
-}
-
 // Whether the text is refused, and not for want of memory.
 fn is_refused(alloc: Global, text: &[u8]) -> bool {
     match read(alloc, text) {
@@ -131,16 +126,16 @@ fn is_refused(alloc: Global, text: &[u8]) -> bool {
 
 #[test]
 fn each_front_of_a_chart_is_refused(rt: HostRuntime) {
-    let text = lamp();
+    let text = mixture();
     assert!(rt; !is_refused(rt.alloc(), text));
     for count in 0..text.len() {
         assert!(rt; is_refused(rt.alloc(), &text[..count]), "of {count} bytes");
     }
 }
 
-// The lamp's chart with another byte at a place.
+// The chart with another byte at a place.
 fn altered(alloc: Global, place: usize, byte: u8) -> Result<Vec<u8>, AllocError> {
-    let mut text = lamp().to_vec(alloc)?;
+    let mut text = mixture().to_vec(alloc)?;
     if let Some(found) = text.get_mut(place) {
         *found = byte;
     }
@@ -149,7 +144,7 @@ fn altered(alloc: Global, place: usize, byte: u8) -> Result<Vec<u8>, AllocError>
 
 // Asks that the chart is refused with this byte at any place where another one stood.
 fn check_altered(rt: &impl Abort, alloc: Global, byte: u8) -> Result<(), Fail> {
-    for (place, old) in lamp().iter().enumerate() {
+    for (place, old) in mixture().iter().enumerate() {
         let text = altered(alloc, place, byte)?;
         let wanted = *old != byte;
         assert_eq!(rt; is_refused(alloc, &text), wanted, "of {byte} at {place}");

@@ -1,14 +1,16 @@
 //! Trees that no text gives yet, and what the loader says of them.
 
+use crate::texts::source_of;
 use sfc_chart::load::load;
 use sfc_chart::load_error::{Limit, LoadError};
-use sfc_text::items::Items;
-use sfc_text::name::Name;
-use sfc_text::read::read;
-use sfc_text::scan::tokens;
-use sfc_text::token::TokenKind;
-use sfc_text::tree::{Configuration, Declaration, Element, Instance, Program, Source, Transition};
-use sfc_text::var_type::VarType;
+use sfc_chart::simple::{
+    Configuration, Declaration, Element, Instance, Program, Source, Transition,
+};
+use sfc_tokens::items::Items;
+use sfc_tokens::name::Name;
+use sfc_tokens::scan::tokens;
+use sfc_tokens::token::TokenKind;
+use sfc_tokens::var_type::VarType;
 use std::alloc::{AllocError, Global};
 use std::process::Abort;
 use std::test::Fail;
@@ -32,7 +34,7 @@ fn chart(
     let text = format!(in alloc;
         "PROGRAM Mix {body} END_PROGRAM CONFIGURATION C RESOURCE R ON Plc VAR_GLOBAL {globals} END_VAR TASK Main{task}(INTERVAL := T#1s, PRIORITY := 1); PROGRAM P{instance} WITH Main{task} : Mix; END_RESOURCE END_CONFIGURATION"
     )?;
-    Ok(read(alloc, text.as_bytes())?)
+    source_of(alloc, text.as_bytes())
 }
 
 // Why these trees are refused.

@@ -1,3 +1,4 @@
 pub mod TableLemmas
 pub mod Checks
+pub mod Narrowed
 pub mod Soundness

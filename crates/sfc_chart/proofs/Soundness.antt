@@ -1,5 +1,5 @@
 -- Where no check fails, the plant is sound.
-use Rattle.std.proofs.Common.{◌≡◌, ℕ, ◌+◌, ◌<◌, ◌≤◌, ◌^◌, ℤ, pos, ◌≤ℤ◌, int_lt, nat_lt, min, Bool, true, false, not, ◌&&◌, ◌||◌, List, [], ◌∷◌, ◌++◌, length, map, sum_by, All, Any, Option, Some, None, unwrap_or, is_none, refl, sym, subst, ◌∙◌, arith, rules}
+use Rattle.std.proofs.Common.{◌≡◌, ℕ, ◌+◌, ◌<◌, ◌≤◌, ℤ, pos, ◌≤ℤ◌, int_lt, nat_lt, min, Bool, true, false, not, ◌||◌, List, [], ◌∷◌, ◌++◌, length, map, sum_by, All, Any, Option, Some, None, unwrap_or, is_none, refl, sym, subst, ◌∙◌, arith, rules}
 use Rattle.std.specs.List.{list_any}
 use Rattle.std.proofs.lemmas.List.{length-map}
 use Rattle.std.proofs.lemmas.List.Elements.{All-nil, All-cons, All-head, All-tail, All-map}
@@ -7,16 +7,16 @@ use Rattle.std.proofs.lemmas.List.Folds.{Any-from_list_any}
 use Rattle.std.proofs.lemmas.List.Quantifiers.{position-Some}
 use Rattle.std.proofs.lemmas.List.Sums.{sum_by-cons}
 use Rattle.std.proofs.lemmas.Grind.{common_steps}
-use Rattle.sfc_text.specs.Trees.{is_empty}
-use Rattle.sfc_text.specs.declared.tree.Source.{Source}
-use Rattle.sfc_text.specs.declared.tree.Program.{Program}
-use Rattle.sfc_text.specs.declared.tree.Element.{Element}
-use Rattle.sfc_text.specs.declared.tree.Step.{Step as StepText}
-use Rattle.sfc_text.specs.declared.tree.Transition.{Transition as TransitionText}
-use Rattle.sfc_text.specs.declared.tree.Task.{Task as TaskText}
-use Rattle.sfc_text.specs.declared.tree.Instance.{Instance as InstanceText}
-use Rattle.sfc_text.specs.declared.tree.Expression.{Expression}
-use Rattle.sfc_text.specs.declared.tree.Expression.TheVariants as expression
+use Rattle.sfc_text.specs.Lists.{is_empty}
+use Rattle.sfc_chart.specs.declared.simple.Source.{Source}
+use Rattle.sfc_chart.specs.declared.simple.Program.{Program}
+use Rattle.sfc_chart.specs.declared.simple.Element.{Element}
+use Rattle.sfc_chart.specs.declared.simple.Step.{Step as StepText}
+use Rattle.sfc_chart.specs.declared.simple.Transition.{Transition as TransitionText}
+use Rattle.sfc_chart.specs.declared.simple.Task.{Task as TaskText}
+use Rattle.sfc_chart.specs.declared.simple.Instance.{Instance as InstanceText}
+use Rattle.sfc_chart.specs.declared.simple.Expression.{Expression}
+use Rattle.sfc_chart.specs.declared.simple.Expression.TheVariants as expression
 use Rattle.sfc_chart.specs.declared.load_error.LoadError.{LoadError}
 use Rattle.sfc_chart.specs.declared.load_error.LoadError.TheVariants as fault
 use Rattle.sfc_chart.specs.declared.load_error.Limit.TheVariants as limit
@@ -25,7 +25,7 @@ use Rattle.sfc_chart.specs.Chart.{IsTarget, IsStep, IsTransition, IsChart, IsTas
 use Rattle.sfc_chart.specs.Meaning.{IsOver}
 use Rattle.sfc_chart.specs.Assembly.Parts.{IsLimited}
 use Rattle.sfc_chart.specs.Names.{has, place_of}
-use Rattle.sfc_text.specs.Case.{same_word}
+use Rattle.sfc_tokens.specs.Case.{same_word}
 use Rattle.sfc_chart.specs.Loading.{Check, ◌then◌, when, in_turn, each, bool_check, variable_number, variable_names, association_check, step_associations_check, condition_check, step_name, step_check, task_name, program_name, instance_name, variables_check, tasks_check, programs_check, instances_check, image_check, side_step_check, side_check, transition_check, association_count, limits_check, chart_check, program_check, task_check, instance_check, steps_of, transitions_of, step_names, program_names, task_names, task_number, variables_of, source_check}
 use Rattle.sfc_chart.specs.Built.{association_of, step_of, step_number, step_numbers, condition_of, transition_of, chart_of, program_type_of, task_of, instance_of, plant_of}
 

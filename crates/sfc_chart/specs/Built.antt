@@ -1,15 +1,15 @@
 -- The plant that a text without fault is: each name that was looked up stands as its number.
 use Rattle.std.specs.Prelude.{◌≡◌, ℕ, min, List, map, Option, Some, None, Result, Ok, Err, unwrap_or}
-use Rattle.sfc_text.specs.declared.tree.Source.{Source}
-use Rattle.sfc_text.specs.declared.tree.Program.{Program}
-use Rattle.sfc_text.specs.declared.tree.Element.{Element}
-use Rattle.sfc_text.specs.declared.tree.Step.{Step as StepText}
-use Rattle.sfc_text.specs.declared.tree.Association.{Association as AssociationText}
-use Rattle.sfc_text.specs.declared.tree.Transition.{Transition as TransitionText}
-use Rattle.sfc_text.specs.declared.tree.Expression.{Expression}
-use Rattle.sfc_text.specs.declared.tree.Expression.TheVariants as expression
-use Rattle.sfc_text.specs.declared.tree.Task.{Task as TaskText}
-use Rattle.sfc_text.specs.declared.tree.Instance.{Instance as InstanceText}
+use Rattle.sfc_chart.specs.declared.simple.Source.{Source}
+use Rattle.sfc_chart.specs.declared.simple.Program.{Program}
+use Rattle.sfc_chart.specs.declared.simple.Element.{Element}
+use Rattle.sfc_chart.specs.declared.simple.Step.{Step as StepText}
+use Rattle.sfc_chart.specs.declared.simple.Association.{Association as AssociationText}
+use Rattle.sfc_chart.specs.declared.simple.Transition.{Transition as TransitionText}
+use Rattle.sfc_chart.specs.declared.simple.Expression.{Expression}
+use Rattle.sfc_chart.specs.declared.simple.Expression.TheVariants as expression
+use Rattle.sfc_chart.specs.declared.simple.Task.{Task as TaskText}
+use Rattle.sfc_chart.specs.declared.simple.Instance.{Instance as InstanceText}
 use Rattle.sfc_chart.specs.declared.ids.VarId.{VarId}
 use Rattle.sfc_chart.specs.declared.chart.Target.TheVariants.{Boolean}
 use Rattle.sfc_chart.specs.declared.chart.Association.{Association}

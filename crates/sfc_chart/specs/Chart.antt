@@ -55,8 +55,8 @@ pub record IsInstance (tasks types : ℕ) (instance : Instance) : Type 0 where
   pub task : instance.task.0 < tasks
   pub program : instance.program < types
 
--- What the grammar allows so far: one task, one program type, one instance of it. It is no part of a plant's
--- soundness: a reader of texts ensures it, the loader keeps it, and the opening of a resource requires it.
+-- What is loaded so far: one task, one program type, one instance of it. It is no part of a plant's soundness: the
+-- narrowing of trees ensures it, the loader keeps it, and the opening of a resource requires it.
 pub record IsSingle (plant : PlantData) : Type 0 where
   pub one_task : length plant.tasks ≡ 1
   pub one_type : length plant.types ≡ 1

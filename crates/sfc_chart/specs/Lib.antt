@@ -1,5 +1,9 @@
 -- The rules, in reading order.
 
+-- what is loaded so far, of the trees of the whole language
+pub mod Narrowing
+-- of that: one program type, one task, one instance
+pub mod SingleSource
 -- names among names
 pub mod Names
 -- values and their types

@@ -1,27 +1,27 @@
 -- What loading accepts (2.4, 2.6.2, 2.6.3, 2.6.4, 2.7.2): the checks, each a fact about the text's trees, in the order in which
 -- they are made, and the plant that a text without fault is. The order of the checks is our choice.
-use Rattle.std.specs.Prelude.{ℕ, nat_lt, ◌^◌, nat_eq, pos, int_lt, Bool, true, false, not, ◌&&◌, ◌||◌, List, [], ◌∷◌, ◌++◌, length, map, sum_by, Option, Some, None, is_none, slice_get}
+use Rattle.std.specs.Prelude.{ℕ, nat_lt, nat_eq, pos, int_lt, Bool, true, false, not, ◌&&◌, ◌||◌, List, [], ◌∷◌, ◌++◌, length, map, sum_by, Option, Some, None, is_none, slice_get}
 use Rattle.std.specs.List.{list_any, filter_map, flat_map}
 use Rattle.std.specs.Cmp.Lexicographic.{pointwise}
-use Rattle.sfc_text.specs.declared.location.Location.{Location}
-use Rattle.sfc_text.specs.declared.location.Area.{Area}
-use Rattle.sfc_text.specs.declared.location.Area.TheVariants as area
-use Rattle.sfc_text.specs.declared.location.Size.{Size}
-use Rattle.sfc_text.specs.declared.location.Size.TheVariants as size
-use Rattle.sfc_text.specs.declared.var_type.VarType.{VarType}
-use Rattle.sfc_text.specs.declared.var_type.VarType.TheVariants as types
-use Rattle.sfc_text.specs.declared.tree.Source.{Source}
-use Rattle.sfc_text.specs.declared.tree.Program.{Program}
-use Rattle.sfc_text.specs.declared.tree.Element.{Element}
-use Rattle.sfc_text.specs.declared.tree.Element.TheVariants as element
-use Rattle.sfc_text.specs.declared.tree.Step.{Step}
-use Rattle.sfc_text.specs.declared.tree.Association.{Association}
-use Rattle.sfc_text.specs.declared.tree.Transition.{Transition}
-use Rattle.sfc_text.specs.declared.tree.Expression.{Expression}
-use Rattle.sfc_text.specs.declared.tree.Expression.TheVariants as expression
-use Rattle.sfc_text.specs.declared.tree.Declaration.{Declaration}
-use Rattle.sfc_text.specs.declared.tree.Task.{Task}
-use Rattle.sfc_text.specs.declared.tree.Instance.{Instance}
+use Rattle.sfc_tokens.specs.declared.location.Location.{Location}
+use Rattle.sfc_tokens.specs.declared.location.Area.{Area}
+use Rattle.sfc_tokens.specs.declared.location.Area.TheVariants as area
+use Rattle.sfc_tokens.specs.declared.location.Size.{Size}
+use Rattle.sfc_tokens.specs.declared.location.Size.TheVariants as size
+use Rattle.sfc_tokens.specs.declared.var_type.VarType.{VarType}
+use Rattle.sfc_tokens.specs.declared.var_type.VarType.TheVariants as types
+use Rattle.sfc_chart.specs.declared.simple.Source.{Source}
+use Rattle.sfc_chart.specs.declared.simple.Program.{Program}
+use Rattle.sfc_chart.specs.declared.simple.Element.{Element}
+use Rattle.sfc_chart.specs.declared.simple.Element.TheVariants as element
+use Rattle.sfc_chart.specs.declared.simple.Step.{Step}
+use Rattle.sfc_chart.specs.declared.simple.Association.{Association}
+use Rattle.sfc_chart.specs.declared.simple.Transition.{Transition}
+use Rattle.sfc_chart.specs.declared.simple.Expression.{Expression}
+use Rattle.sfc_chart.specs.declared.simple.Expression.TheVariants as expression
+use Rattle.sfc_chart.specs.declared.simple.Declaration.{Declaration}
+use Rattle.sfc_chart.specs.declared.simple.Task.{Task}
+use Rattle.sfc_chart.specs.declared.simple.Instance.{Instance}
 use Rattle.sfc_chart.specs.declared.load_error.LoadError.{LoadError}
 use Rattle.sfc_chart.specs.declared.load_error.LoadError.TheVariants as fault
 use Rattle.sfc_chart.specs.declared.load_error.Limit.TheVariants as limit

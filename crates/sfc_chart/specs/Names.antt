@@ -1,7 +1,7 @@
 -- Names among names: the case of letters is not significant (2.1.2).
 use Rattle.std.specs.Prelude.{ℕ, Bool, List, Option, position}
 use Rattle.std.specs.List.{list_any}
-use Rattle.sfc_text.specs.Case.{same_word}
+use Rattle.sfc_tokens.specs.Case.{same_word}
 
 -- the first place of a name among names
 abbrev pub place_of : List ℕ → List (List ℕ) → Option ℕ

@@ -1,7 +1,7 @@
 -- Values and their types (2.3.1).
 use Rattle.std.specs.Prelude.{pos, Bool, false}
-use Rattle.sfc_text.specs.declared.var_type.VarType.{VarType}
-use Rattle.sfc_text.specs.declared.var_type.VarType.TheVariants as types
+use Rattle.sfc_tokens.specs.declared.var_type.VarType.{VarType}
+use Rattle.sfc_tokens.specs.declared.var_type.VarType.TheVariants as types
 use Rattle.sfc_chart.specs.declared.value.Value.{Value}
 use Rattle.sfc_chart.specs.declared.value.Value.TheVariants as value
 

@@ -2,9 +2,9 @@
 
 use crate::expr::Expr;
 use crate::ids::VarId;
-use sfc_text::items::Items;
-use sfc_text::name::Name;
-use sfc_text::tree::Qualifier;
+use crate::simple::Qualifier;
+use sfc_tokens::items::Items;
+use sfc_tokens::name::Name;
 
 /// What an association names.
 #[derive(Clone, Copy, Debug, PartialEq, Eq)]

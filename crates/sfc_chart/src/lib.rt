@@ -8,7 +8,9 @@
 //! - `load_error`: why a chart was refused.
 //! - `name_key`: keys by which names are found, whatever the case of their letters.
 //! - `name_table`: the names of one name space, in declared order.
+//! - `narrow`: the trees of the whole language to those that are loaded so far.
 //! - `plant`: what a whole text was loaded as.
+//! - `simple`: the trees that are loaded so far.
 //! - `value`: values of variables and expressions.
 #![tactic(auto)]
 
@@ -19,5 +21,7 @@ pub mod load;
 pub mod load_error;
 pub mod name_key;
 pub mod name_table;
+pub mod narrow;
 pub mod plant;
+pub mod simple;
 pub mod value;

@@ -1,7 +1,7 @@
 //! Trees to plants: names are looked up, types and limits are checked.
 
 mod chart;
-mod declared;
+pub(crate) mod declared;
 mod instances;
 mod parts;
 mod programs;
@@ -14,8 +14,8 @@ ghost use Rattle.sfc_chart.specs.Built.{Loads, plant_of};
 
 use crate::load_error::LoadError;
 use crate::plant::Plant;
+use crate::simple::Source;
 use parts::{assemble, load_parts};
-use sfc_text::tree::Source;
 use std::alloc::Global;
 
 /// The plant that the trees of a text are (2.4 to 2.7).

@@ -22,10 +22,10 @@ impl Model for NameKey {
 ghost use Rattle.std.specs.Prelude.{◌≡◌, IfOk, fold};
 ghost use Rattle.std.specs.Str.{str_to_ascii_uppercase};
 ghost use Rattle.std.specs.Hash as fed;
-ghost use Rattle.sfc_text.specs.Case.{same_word};
-ghost use Rattle.sfc_text.proofs.SameWords.{same_word_equiv, same_word_partial_equiv, same_word_input};
+ghost use Rattle.sfc_tokens.specs.Case.{same_word};
+ghost use Rattle.sfc_tokens.proofs.SameWords.{same_word_equiv, same_word_partial_equiv, same_word_input};
 
-use sfc_text::case::is_same_word;
+use sfc_tokens::case::is_same_word;
 
 impl NameKey {
     /// The key that finds this word's names. The one error is that memory was refused.

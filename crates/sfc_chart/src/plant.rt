@@ -5,10 +5,10 @@ use crate::ids::{ProgId, TaskId, VarId};
 use crate::name_key::NameKey;
 use crate::name_table::NameTable;
 use crate::value::Value;
-use sfc_text::items::Items;
-use sfc_text::location::Location;
-use sfc_text::name::Name;
-use sfc_text::var_type::VarType;
+use sfc_tokens::items::Items;
+use sfc_tokens::location::Location;
+use sfc_tokens::name::Name;
+use sfc_tokens::var_type::VarType;
 use std::marker::Model;
 
 /// A variable, with the value that it begins with (2.4.2) and its location, if it has one (2.4.1.1).

@@ -3,7 +3,7 @@
 ghost use Rattle.std.specs.Prelude.{◌≡◌};
 ghost use Rattle.sfc_chart.specs.Values as values;
 
-use sfc_text::var_type::VarType;
+use sfc_tokens::var_type::VarType;
 
 /// A value. A TIME is in microseconds, from -2^62 to 2^62.
 #[derive(Clone, Copy, Debug, PartialEq, Eq)]

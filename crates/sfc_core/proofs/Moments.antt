@@ -1,9 +1,9 @@
 -- Two charts, and what the definitions alone give for them at single moments.
 use Rattle.std.proofs.Common.{length, ◌≡◌, refl, ℕ, true, false, List, [], ◌∷◌, pos, Some, None, Ok, Err}
-use Rattle.sfc_text.specs.declared.var_type.VarType.TheVariants as types
-use Rattle.sfc_text.specs.declared.location.Area.TheVariants as areas
-use Rattle.sfc_text.specs.declared.location.Size.TheVariants as sizes
-use Rattle.sfc_text.specs.declared.tree.Qualifier.TheVariants.{NonStored}
+use Rattle.sfc_tokens.specs.declared.var_type.VarType.TheVariants as types
+use Rattle.sfc_tokens.specs.declared.location.Area.TheVariants as areas
+use Rattle.sfc_tokens.specs.declared.location.Size.TheVariants as sizes
+use Rattle.sfc_chart.specs.declared.simple.Qualifier.TheVariants.{NonStored}
 use Rattle.sfc_chart.specs.declared.chart.Chart.{Chart}
 use Rattle.sfc_chart.specs.declared.chart.Target.TheVariants.{Boolean}
 use Rattle.sfc_chart.specs.declared.ids.VarId.{VarId}

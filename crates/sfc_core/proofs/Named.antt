@@ -5,8 +5,8 @@ use Rattle.std.specs.List.{list_any}
 use Rattle.std.proofs.lemmas.List.{length-replicate}
 use Rattle.std.proofs.lemmas.List.Elements.{All-head, All-tail}
 use Rattle.std.proofs.lemmas.Grind.{common_steps}
-use Rattle.sfc_text.specs.declared.tree.Qualifier.{Qualifier}
-use Rattle.sfc_text.specs.declared.tree.Qualifier.TheVariants.{NonStored}
+use Rattle.sfc_chart.specs.declared.simple.Qualifier.{Qualifier}
+use Rattle.sfc_chart.specs.declared.simple.Qualifier.TheVariants.{NonStored}
 use Rattle.sfc_chart.specs.Chart.{IsStep}
 use Rattle.sfc_chart.specs.declared.chart.Chart.{Chart}
 use Rattle.sfc_chart.specs.declared.chart.Step.{Step}

@@ -1,11 +1,11 @@
 -- What a resource answers to an event after a history: the first refusal whose condition stands, in one order,
 -- else the answer (our choice of order).
 use Rattle.std.specs.Prelude.{ℕ, ◌+◌, ◌*◌, ◌^◌, ◌==◌, nat_lt, Bool, true, false, cond, not, ◌||◌, List, [], ◌∷◌, length, slice_index_or, ℤ, pos, int_lt, Option, Some, None, Result, Ok, Err, is_ok}
-use Rattle.sfc_text.specs.declared.var_type.VarType.{VarType}
-use Rattle.sfc_text.specs.declared.var_type.VarType.TheVariants as types
-use Rattle.sfc_text.specs.declared.location.Location.{Location}
-use Rattle.sfc_text.specs.declared.location.Area.{Area}
-use Rattle.sfc_text.specs.declared.location.Area.TheVariants as areas
+use Rattle.sfc_tokens.specs.declared.var_type.VarType.{VarType}
+use Rattle.sfc_tokens.specs.declared.var_type.VarType.TheVariants as types
+use Rattle.sfc_tokens.specs.declared.location.Location.{Location}
+use Rattle.sfc_tokens.specs.declared.location.Area.{Area}
+use Rattle.sfc_tokens.specs.declared.location.Area.TheVariants as areas
 use Rattle.sfc_chart.specs.declared.ids.VarId.{VarId}
 use Rattle.sfc_chart.specs.declared.ids.TaskId.{TaskId}
 use Rattle.sfc_chart.specs.declared.plant.Variable.{Variable}

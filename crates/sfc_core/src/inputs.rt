@@ -8,7 +8,7 @@ use crate::refusal::Refusal;
 use sfc_chart::ids::VarId;
 use sfc_chart::plant::Variable;
 use sfc_chart::value::Value;
-use sfc_text::location::{Area, Location};
+use sfc_tokens::location::{Area, Location};
 
 // Whether it is a location at %I.
 fn is_input(location: &Option<Location>) -> bool

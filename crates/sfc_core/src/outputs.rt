@@ -9,8 +9,8 @@ ghost use Rattle.sfc_chart.specs.Chart.{IsStep, IsTarget};
 
 use sfc_chart::chart::{Association, Step, Target};
 use sfc_chart::ids::VarId;
+use sfc_chart::simple::Qualifier;
 use sfc_chart::value::Value;
-use sfc_text::tree::Qualifier;
 
 // The variable that is an association's Boolean action.
 fn named_variable(association: &Association) -> VarId

@@ -3,6 +3,5 @@ pub mod Splits
 pub mod Said
 pub mod Playing
 pub mod Taken
-pub mod Single
 pub mod Refused
 pub mod Replayed

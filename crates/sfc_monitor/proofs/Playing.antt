@@ -1,8 +1,8 @@
 -- A script that is being played.
 use Rattle.std.proofs.Common.{◌≡◌, ℕ, List, ◌∷◌, ◌++◌, Option, sym, ap, subst, ◌∙◌, append_assoc}
 use Rattle.std.specs.Io.KnownBytes.{Appends}
-use Rattle.sfc_text.specs.Writing.{AppendsFront}
-use Rattle.sfc_text.proofs.Written.{Appends-more, front_first, front_second}
+use Rattle.sfc_tokens.specs.Writing.{AppendsFront}
+use Rattle.sfc_tokens.proofs.Written.{Appends-more, front_first, front_second}
 use Rattle.sfc_core.specs.declared.resource.Resource.{Resource}
 use Rattle.sfc_core.specs.History.{History, Entry}
 use Rattle.sfc_core.specs.Agreement.{Agrees, plant_of}

@@ -1,10 +1,10 @@
 -- What each fault becomes, and the exit status and the text of each (our choice).
 use Rattle.std.specs.Prelude.{ℕ, List, ◌++◌, codes}
 use Rattle.std.specs.Fmt.{decimal}
-use Rattle.sfc_text.specs.declared.read_error.ReadError.{ReadError}
-use Rattle.sfc_text.specs.declared.read_error.ReadErrorKind.{ReadErrorKind}
-use Rattle.sfc_text.specs.declared.read_error.ReadErrorKind.TheVariants as kind
-use Rattle.sfc_text.specs.ReadErrors as reading
+use Rattle.sfc_tokens.specs.declared.read_error.ReadError.{ReadError}
+use Rattle.sfc_tokens.specs.declared.read_error.ReadErrorKind.{ReadErrorKind}
+use Rattle.sfc_tokens.specs.declared.read_error.ReadErrorKind.TheVariants as kind
+use Rattle.sfc_tokens.specs.ReadErrors as reading
 use Rattle.sfc_chart.specs.LoadErrors as loading
 use Rattle.sfc_chart.specs.declared.load_error.LoadError.{LoadError}
 use Rattle.sfc_chart.specs.declared.load_error.LoadError.TheVariants as load
@@ -13,7 +13,7 @@ use Rattle.sfc_monitor.specs.declared.script.ScriptError.TheVariants as script
 use Rattle.sfc_monitor.specs.declared.monitor_error.ChartError.{ChartError}
 use Rattle.sfc_monitor.specs.declared.monitor_error.ChartError.TheVariants as chart
 use Rattle.sfc_monitor.specs.declared.monitor_error.MonitorError.{MonitorError}
-use Rattle.sfc_monitor.specs.declared.monitor_error.MonitorError.TheVariants.{Chart, Script, Read, Write, Memory}
+use Rattle.sfc_monitor.specs.declared.monitor_error.MonitorError.TheVariants.{Chart, Unsupported, Script, Read, Write, Memory}
 
 abbrev pub of_script : ScriptError → MonitorError
 of_script (script.Faulty line) = Script line
@@ -33,6 +33,7 @@ of_load error = Chart (chart.Load error)
 -- 1 where the input is refused, 3 where a device failed, 4 without memory
 abbrev pub status_of : MonitorError → ℕ
 status_of (Chart error) = 1
+status_of Unsupported = 1
 status_of (Script line) = 1
 status_of Read = 3
 status_of Write = 3
@@ -45,6 +46,7 @@ chart_text (chart.Load error) = loading.error_text error
 
 abbrev pub error_text : MonitorError → List ℕ
 error_text (Chart error) = chart_text error
+error_text Unsupported = codes "not supported"
 error_text (Script line) = codes "script line " ++ decimal line
 error_text Read = codes "read fault"
 error_text Write = codes "write fault"

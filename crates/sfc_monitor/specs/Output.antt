@@ -1,7 +1,7 @@
 -- What is written of a plant, of commands and of their answers (our choice of format).
 use Rattle.std.specs.Prelude.{ℕ, suc, ◌==◌, cond, true, false, List, [], ◌∷◌, ◌++◌, ℤ, pos, negsuc, Some, None, Result, Ok, Err, slice_index_or, codes}
 use Rattle.std.specs.Fmt.{decimal}
-use Rattle.sfc_text.specs.TimeText.{time_text}
+use Rattle.sfc_tokens.specs.TimeText.{time_text}
 use Rattle.sfc_chart.specs.declared.ids.VarId.{VarId}
 use Rattle.sfc_chart.specs.declared.ids.TaskId.{TaskId}
 use Rattle.sfc_chart.specs.declared.ids.ProgId.{ProgId}

@@ -1,10 +1,10 @@
 -- What a script says: events with their instants, or the number of the first line that is no command (our choice of format).
 use Rattle.std.specs.Prelude.{ℕ, suc, nat_lt, ◌==◌, Bool, true, false, ◌&&◌, ◌||◌, if◌then◌else◌, List, [], ◌∷◌, length, ℤ, pos, Option, Some, None, Result, Ok, Err, codes, unwrap_or, slice_get}
 use Rattle.std.specs.Option.{option_map}
-use Rattle.sfc_text.specs.declared.var_type.VarType.{VarType}
-use Rattle.sfc_text.specs.declared.var_type.VarType.TheVariants as types
-use Rattle.sfc_text.specs.Case.{same_word}
-use Rattle.sfc_text.specs.Scanning.DurationWords.{duration_value}
+use Rattle.sfc_tokens.specs.declared.var_type.VarType.{VarType}
+use Rattle.sfc_tokens.specs.declared.var_type.VarType.TheVariants as types
+use Rattle.sfc_tokens.specs.Case.{same_word}
+use Rattle.sfc_tokens.specs.Scanning.DurationWords.{duration_value}
 use Rattle.sfc_chart.specs.declared.ids.VarId.{VarId}
 use Rattle.sfc_chart.specs.declared.ids.TaskId.{TaskId}
 use Rattle.sfc_chart.specs.declared.value.Value.{Value}

@@ -2,11 +2,11 @@
 
 ghost use Rattle.std.specs.Prelude.{◌≡◌, ◌++◌, OnOk};
 ghost use Rattle.std.specs.Fmt.{decimal};
-ghost use Rattle.sfc_text.specs.TimeText.{time_text};
+ghost use Rattle.sfc_tokens.specs.TimeText.{time_text};
 ghost use Rattle.sfc_monitor.specs.Output.{signed_text, value_text as text_of_value};
 
 use sfc_chart::value::Value;
-use sfc_text::time_text::put_time;
+use sfc_tokens::time_text::put_time;
 use std::alloc::{AllocError, Global};
 
 /// Puts the bytes at the end.

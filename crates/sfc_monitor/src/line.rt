@@ -8,9 +8,9 @@ use sfc_chart::name_key::NameKey;
 use sfc_chart::plant::Plant;
 use sfc_chart::value::Value;
 use sfc_core::Event;
-use sfc_text::case::is_same_word;
-use sfc_text::duration::duration;
-use sfc_text::var_type::VarType;
+use sfc_tokens::case::is_same_word;
+use sfc_tokens::duration::duration;
+use sfc_tokens::var_type::VarType;
 use std::alloc::{AllocError, Global};
 
 /// What a line of a script is.

@@ -6,8 +6,8 @@ ghost use Rattle.sfc_monitor.specs.MonitorErrors.{of_script, of_read, of_load, s
 
 use crate::script::ScriptError;
 use sfc_chart::load_error::LoadError;
-use sfc_text::read_error::{ReadError, ReadErrorKind};
-use sfc_text::write_fault::WriteFault;
+use sfc_tokens::read_error::{ReadError, ReadErrorKind};
+use sfc_tokens::write_fault::WriteFault;
 use std::alloc::AllocError;
 use std::error::Error;
 use std::fmt;
@@ -40,6 +40,8 @@ impl Error for ChartError {}
 pub enum MonitorError {
     /// The chart is refused. Nothing was written.
     Chart(ChartError),
+    /// The chart has more than is loaded so far. Nothing was written.
+    Unsupported,
     /// The script is refused at this line, counted from 1, or for its length at 0. Nothing was written.
     Script(usize),
     /// A reader failed. Nothing was written.
@@ -60,6 +62,7 @@ impl fmt::Display for MonitorError {
     fn fmt<W: fmt::Write>(&self, f: &mut fmt::Formatter<W>) -> fmt::Result {
         match self {
             MonitorError::Chart(error) => write!(f, "{error}"),
+            MonitorError::Unsupported => f.write_str("not supported"),
             MonitorError::Script(line) => write!(f, "script line {line}"),
             MonitorError::Read => f.write_str("read fault"),
             MonitorError::Write => f.write_str("write fault"),
@@ -71,13 +74,13 @@ impl fmt::Display for MonitorError {
 impl Error for MonitorError {}
 
 impl MonitorError {
-    /// The exit status of a program that ends with it: 1 where chart or script is refused, 3 where a reader or the
-    /// writer failed, 4 where memory was refused.
+    /// The exit status of a program that ends with it: 1 where the chart or the script is refused or the chart is not
+    /// supported, 3 where a reader or the writer failed, 4 where memory was refused.
     pub fn status(self) -> u8
         ensures { result ≡ status_of self }
     {
         match self {
-            MonitorError::Chart(_) | MonitorError::Script(_) => 1,
+            MonitorError::Chart(_) | MonitorError::Unsupported | MonitorError::Script(_) => 1,
             MonitorError::Read | MonitorError::Write => 3,
             MonitorError::Memory => 4,
         }

@@ -1,7 +1,7 @@
 //! The commands of a script, one after the other.
 
 ghost use Rattle.std.specs.Prelude.{◌≡◌, OnOk, IfErr};
-ghost use Rattle.sfc_text.specs.Writing.{Writes};
+ghost use Rattle.sfc_tokens.specs.Writing.{Writes};
 ghost use Rattle.sfc_core.specs.History.{History};
 ghost use Rattle.sfc_core.specs.Agreement.{Agrees, plant_of};
 ghost use Rattle.sfc_core.specs.Verdict.{after};
@@ -13,7 +13,7 @@ ghost use Rattle.sfc_monitor.specs.Working.Playing.{IsPlayed};
 use crate::answers::{append_answer, append_image};
 use crate::monitor_error::MonitorError;
 use sfc_core::{Event, Resource};
-use sfc_text::write_fault::put_all;
+use sfc_tokens::write_fault::put_all;
 use std::alloc::{AllocError, Global};
 use std::io::Write;
 

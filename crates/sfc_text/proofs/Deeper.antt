@@ -70,6 +70,7 @@ limited_agrees count n n' le r r' (inr e) = subst (λ q. Agrees (limited count n
     by_test : (y : _ × Kinds) (b : Bool) → nat_le (count y.0) n ≡ b → Agrees {X = _ × Kinds} (cond b (Ok y) (Err TooDeep)) (limited count n' (Ok y))
     by_test y false p = inl refl
     by_test y true p = let l = leb-true (count y.0) n p in let more = le-leb (count y.0) n' (omega (arith, l, le)) in inr (rw more refl)
+
     same : (q : Read _) → Agrees (limited count n q) (limited count n' q)
     same (Ok y) = by_test y (nat_le (count y.0) n) refl
     same (Err d) = inr refl

@@ -1,5 +1,5 @@
 -- Blocks of global variables, behind those found.
-use Rattle.std.proofs.Common.{◌≡◌, ◌<◌, List, ◌∷◌, [], Bool, true, false, ◌++◌, length, Ok, refl, sym, ap, subst, ◌∙◌}
+use Rattle.std.proofs.Common.{◌≡◌, ◌<◌, List, ◌∷◌, [], Bool, true, false, length, Ok, refl, sym, ap, subst}
 use Rattle.sfc_tokens.specs.declared.keyword.Keyword.TheVariants as keyword
 use Rattle.sfc_tokens.specs.declared.token.Token.{Token}
 use Rattle.sfc_tokens.specs.Tokens.{Kinds, kinds}
@@ -8,7 +8,7 @@ use Rattle.sfc_text.specs.declared.tree.Declaration.{Declaration}
 use Rattle.sfc_text.specs.Grammar.{globals}
 use Rattle.sfc_text.specs.Marks.{Word}
 use Rattle.sfc_text.specs.Parsing.Depth.{at}
-use Rattle.sfc_text.specs.Parsing.Lookahead.{begins, empty, first}
+use Rattle.sfc_text.specs.Parsing.Lookahead.{begins, first}
 use Rattle.sfc_text.specs.Parsing.Reading.{Read, Fails, behind}
 use Rattle.sfc_text.proofs.Loops.{Folding, gathers, behind_ok, behind_fails, fails, goes_on, ends, smaller, shortens}
 use Rattle.sfc_text.proofs.Shorter.{Shorter}

@@ -11,3 +11,4 @@ pub mod Loops
 pub mod Globals
 pub mod Counting
 pub mod Appending
+pub mod Readings

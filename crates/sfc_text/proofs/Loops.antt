@@ -1,5 +1,5 @@
 -- Loops that read items: what was read before, and what is still read.
-use Rattle.std.proofs.Common.{◌≡◌, ◌⊎◌, inl, inr, ℕ, zero, suc, ◌<◌, Bool, true, false, cond, List, [], ◌∷◌, ◌++◌, length, map, Option, Some, None, Ok, Err, refl, sym, ap, subst, ◌∙◌, arith, append_assoc}
+use Rattle.std.proofs.Common.{◌≡◌, inl, inr, ℕ, zero, suc, ◌<◌, Bool, true, false, cond, List, [], ◌∷◌, ◌++◌, length, map, Option, Some, None, Ok, Err, refl, sym, ap, subst, ◌∙◌, arith, append_assoc}
 use Rattle.std.proofs.lemmas.List.{append-nil}
 use Rattle.sfc_tokens.specs.declared.token.Token.{Token}
 use Rattle.sfc_tokens.specs.Tokens.{Kinds, kinds}
@@ -13,8 +13,8 @@ use Rattle.sfc_text.specs.Grammar.{nested}
 use Rattle.sfc_text.specs.Terms.{folded, repeated, gathered}
 use Rattle.sfc_text.specs.Parsing.Depth.{inside, at}
 use Rattle.sfc_text.specs.Parsing.Lookahead.{begins, empty, first}
-use Rattle.sfc_text.specs.Parsing.Reading.{Syntax, TooDeep, Read, ◌>>=◌, Fails, Found, some, found, and_more, items, all, pair, behind, read}
-use Rattle.sfc_text.proofs.Shorter.{Taking, Shorter, Shrinks, found_shrinks, pair_shorter, read_shorter}
+use Rattle.sfc_text.specs.Parsing.Reading.{Syntax, TooDeep, Read, ◌>>=◌, Fails, Found, some, found, and_more, items, all, behind}
+use Rattle.sfc_text.proofs.Shorter.{Taking, Shorter, Shrinks, found_shrinks, read_shorter}
 use Rattle.sfc_text.proofs.Whole.{nested_takes}
 
 pub length_kinds : (tokens : List Token) → length (kinds tokens) ≡ length tokens

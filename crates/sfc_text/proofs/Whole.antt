@@ -7,7 +7,7 @@ use Rattle.sfc_text.specs.Grammar.{literal, signed, variable, parenthesized, pri
 use Rattle.sfc_text.specs.Limits.{Limits, Within, Derived}
 use Rattle.sfc_text.specs.Parsing.Depth.{inside}
 use Rattle.sfc_text.specs.Parsing.Lookahead.{begins, fine, first, more, empty, first_of, more_of}
-use Rattle.sfc_text.specs.Parsing.Reading.{Syntax, TooDeep, Read, read}
+use Rattle.sfc_text.specs.Parsing.Reading.{Syntax, Read, read}
 use Rattle.sfc_text.proofs.Sound.{Says, sound}
 use Rattle.sfc_text.proofs.Complete.{taken_front, InFronts, front, InAgain, complete}
 use Rattle.sfc_text.proofs.Deeper.{Implies, derives_deeper, Agrees, read_agrees}
@@ -159,3 +159,13 @@ no_tree r ok l m ts x h g =
 -- what is refused has no tree within the limits
 pub refused : {X : Type 0} (r : Rule X) → fine r ≡ true → (l : Limits) (ts : Kinds) (x : X) → ((y : X × Kinds) → within l r ts ≡ Ok y → ⊥) → Derived l r ts x [] → ⊥
 refused r ok l ts x h g = h (x, []) (derived_read r ok l ts x [] g refl)
+
+-- what is read up to some token has no tree that is all tokens
+pub no_longer_tree : {X : Type 0} (r : Rule X) → fine r ≡ true → (l m : Limits) (ts : Kinds) (x : X × Kinds) (y : X) → within l r ts ≡ Ok x → Derived m r ts y [] → x.1 ≡ []
+no_longer_tree r ok l m ts x y h g =
+    let q = derived_read r ok (wider l m) ts y [] (subst (λ w. Derived w r ts y []) (other_way l m) (widened r m l ts y [] g)) refl in
+    by_first (agrees_wider r l m ts) q
+  where
+    by_first : Agrees (within l r ts) (within (wider l m) r ts) → within (wider l m) r ts ≡ Ok (y, []) → x.1 ≡ []
+    by_first (inl p) q = absurd cc
+    by_first (inr p) q = let same : x ≡ (y, []) = cc in ap (λ (z : _ × Kinds). z.1) same

@@ -13,7 +13,6 @@ use Rattle.sfc_text.specs.declared.expression.Operator.{Operator}
 use Rattle.sfc_text.specs.declared.expression.Operator.TheVariants as operator
 use Rattle.sfc_text.specs.declared.expression.Variable.{Variable}
 use Rattle.sfc_text.specs.declared.tree.Association.{Association}
-use Rattle.sfc_text.specs.declared.tree.AssociationTime.{AssociationTime}
 use Rattle.sfc_text.specs.declared.tree.Configuration.{Configuration}
 use Rattle.sfc_text.specs.declared.tree.Declaration.{Declaration}
 use Rattle.sfc_text.specs.declared.tree.External.{External}
@@ -158,8 +157,13 @@ an_instance x = record { name = x.0.0; task = x.0.1; program = x.1 }
 abbrev pub a_configuration :
     (((((List ℕ × List Declaration) × List ℕ) × List ℕ) × List Declaration) × List Task) × List Instance → Configuration
 a_configuration x = record {
-  name = x.0.0.0.0.0.0; resource = x.0.0.0.0.1; processor = x.0.0.0.1; globals = x.0.0.0.0.0.1 ++ x.0.0.1;
-  tasks = x.0.1; instances = x.1 }
+  name = x.0.0.0.0.0.0;
+  resource = x.0.0.0.0.1;
+  processor = x.0.0.0.1;
+  globals = x.0.0.0.0.0.1 ++ x.0.0.1;
+  tasks = x.0.1;
+  instances = x.1;
+}
 
 abbrev pub a_source : (List ProgramTree × Configuration) × List ProgramTree → SourceTree
 a_source x = record { programs = x.0.0 ++ x.1; configuration = x.0.1 }

@@ -1,5 +1,5 @@
--- The grammar (Annex B): all productions.
-use Rattle.std.specs.Prelude.{ℕ, zero, suc, ℤ, pos, List, [], ◌∷◌, Bool, true, false, cond, nat_eq, Option, Some, None, codes}
+-- The grammar (Annex B): all productions, from single tokens up to whole texts.
+use Rattle.std.specs.Prelude.{ℕ, zero, suc, ℤ, pos, List, [], ◌∷◌, Bool, true, false, cond, nat_eq, codes}
 use Rattle.sfc_tokens.specs.declared.delimiter.Delimiter.TheVariants as sign
 use Rattle.sfc_tokens.specs.declared.keyword.Keyword.{Keyword}
 use Rattle.sfc_tokens.specs.declared.keyword.Keyword.TheVariants as keyword
@@ -26,7 +26,7 @@ use Rattle.sfc_text.specs.Trees as trees
 use Rattle.sfc_text.specs.Trees.{Tree, Constant, Block, append, operators, TransitionTree, ActionTree, ElementTree, ProgramTree, SourceTree}
 use Rattle.sfc_text.specs.Marks.{Marks, Word, Sign, AnyName, Named, AnInteger, ABased, AnInt, ADint, ATruth, ADuration, ALocation}
 use Rattle.sfc_text.specs.Sorts.{Sort, Sorted, AnExpression, AnOperand, Branches}
-use Rattle.sfc_text.specs.Rules.{Rule, token, map, both, either, many, chain, ahead, inner, counted}
+use Rattle.sfc_text.specs.Rules.{Rule, token, map, both, many, chain, ahead, inner, counted}
 use Rattle.sfc_text.specs.Building as make
 use Rattle.sfc_text.specs.Terms.{word, sign, named, ◌▸◌, ◌◂◌, ◌&◌, ◌or◌, maybe, else_given, repeated, gathered, some_of}
 
@@ -50,7 +50,8 @@ data_type = token (Word keyword.Bool ∷ Word keyword.Int ∷ Word keyword.Dint 
 
 -- literal ::= integer | based | typed | duration | TRUE | FALSE
 unfoldable pub literal : Rule Literal
-literal = token (AnInteger ∷ ABased ∷ AnInt ∷ ADint ∷ ATruth ∷ ADuration ∷ Word keyword.True ∷ Word keyword.False ∷ []) make.literal_of
+literal = token (AnInteger ∷ ABased ∷ AnInt ∷ ADint ∷ ATruth ∷ ADuration ∷ Word keyword.True ∷ Word keyword.False
+    ∷ []) make.literal_of
 
 -- ---- expressions (B.3.1)
 
@@ -188,12 +189,13 @@ association_time = map time.Literal duration or map time.Variable name
 
 -- N | R | S | P | P0 | P1
 unfoldable pub plain : Rule Qualifier
-plain = token (Named (codes "N") ∷ Named (codes "R") ∷ Named (codes "S") ∷ Named (codes "P") ∷ Named (codes "P0") ∷ Named (codes "P1")
-    ∷ []) make.plain_of
+plain = token (Named (codes "N") ∷ Named (codes "R") ∷ Named (codes "S") ∷ Named (codes "P") ∷ Named (codes "P0")
+    ∷ Named (codes "P1") ∷ []) make.plain_of
 
 -- L | D | SD | DS | SL
 unfoldable pub timed : Rule TimedQualifier
-timed = token (Named (codes "L") ∷ Named (codes "D") ∷ Named (codes "SD") ∷ Named (codes "DS") ∷ Named (codes "SL") ∷ []) make.timed_of
+timed = token (Named (codes "L") ∷ Named (codes "D") ∷ Named (codes "SD") ∷ Named (codes "DS") ∷ Named (codes "SL")
+    ∷ []) make.timed_of
 
 -- qual ::= N | R | S | P | P0 | P1 | (L | D | SD | DS | SL) ',' (duration | name)
 unfoldable pub qualifier : Rule Qualifier
@@ -201,7 +203,8 @@ qualifier = plain or both Timed (timed ◂ sign sign.Comma) association_time
 
 -- assoc ::= name '(' [qual] {',' name} ')'
 unfoldable pub association : Rule Association
-association = map make.an_association (name ◂ sign sign.Open & else_given NonStored qualifier & further_names ◂ sign sign.Close)
+association = map make.an_association
+    (name ◂ sign sign.Open & else_given NonStored qualifier & further_names ◂ sign sign.Close)
 
 -- assoc ';'
 unfoldable pub association_line : Rule Association
@@ -266,7 +269,8 @@ task_line = task ◂ sign sign.Semicolon
 
 -- inst ::= PROGRAM name [WITH name] ':' name
 unfoldable pub instance : Rule Instance
-instance = map make.an_instance (word keyword.Program ▸ name & maybe (word keyword.With ▸ name) ◂ sign sign.Colon & name)
+instance = map make.an_instance
+    (word keyword.Program ▸ name & maybe (word keyword.With ▸ name) ◂ sign sign.Colon & name)
 
 -- inst ';'
 unfoldable pub instance_line : Rule Instance

@@ -1,5 +1,5 @@
 -- What a whole text is read as.
-use Rattle.std.specs.Prelude.{List, [], ℕ, Ok, Err}
+use Rattle.std.specs.Prelude.{◌≡◌, ◌⊎◌, List, [], ℕ, Bool, true, false, Ok, Err}
 use Rattle.sfc_tokens.specs.declared.read_error.ReadErrorKind.{ReadErrorKind}
 use Rattle.sfc_tokens.specs.declared.read_error.ReadErrorKind.TheVariants.{Syntax, TooDeep}
 use Rattle.sfc_tokens.specs.ReadErrors.{Read}
@@ -22,3 +22,15 @@ pub data TextReads : List ℕ → Read SourceTree → Type 0 where
   too_deep : {text : List ℕ} {ts : Kinds} → TextScans text (Ok ts)
       → ((t : SourceTree) → IsSource ours ts t → ⊥) → TextReads text (Err TooDeep)
   fault : {text : List ℕ} {kind : ReadErrorKind} → TextScans text (Err kind) → TextReads text (Err kind)
+
+-- tokens that derive no tree
+abbrev pub is_refusal : ReadErrorKind → Bool
+is_refusal Syntax = true
+is_refusal TooDeep = true
+is_refusal _ = false
+
+-- one outcome, or two of those that a text without a tree may have
+abbrev pub AreOne : Read SourceTree → Read SourceTree → Type 0
+AreOne (Ok s) (Ok t) = s ≡ t
+AreOne (Err j) (Err k) = (j ≡ k) ⊎ ((is_refusal j ≡ true) × (is_refusal k ≡ true))
+AreOne _ _ = ⊥

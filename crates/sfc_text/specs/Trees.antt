@@ -1,6 +1,5 @@
 -- What a tree says, apart from where its parts lie in memory.
-use Rattle.std.specs.Prelude.{ℕ, ◌+◌, suc, ◌≤◌, List, [], ◌∷◌, Bool, true, false, Option, map, Vec}
-use Rattle.std.specs.Global.{Global}
+use Rattle.std.specs.Prelude.{ℕ, ◌+◌, List, [], ◌∷◌, Option, map}
 use Rattle.sfc_text.specs.declared.expression.Operator.{Operator}
 use Rattle.sfc_text.specs.declared.expression.Variable.{Variable}
 use Rattle.sfc_text.specs.declared.expression.Expression.{Expression}
@@ -105,7 +104,12 @@ pub record TransitionTree : Type 0 where
 
 abbrev pub transition_of : Transition → TransitionTree
 transition_of t = record {
-  name = t.name; priority = t.priority; preceding = t.preceding; following = t.following; condition = tree_of t.condition }
+  name = t.name;
+  priority = t.priority;
+  preceding = t.preceding;
+  following = t.following;
+  condition = tree_of t.condition;
+}
 
 -- an action (2.6.4.1)
 pub record ActionTree : Type 0 where

@@ -1,16 +1,27 @@
 //! What holds of the grammar itself.
 
-ghost use Rattle.std.specs.Prelude.{◌≡◌, true};
+ghost use Rattle.std.specs.Prelude.{◌≡◌, true, List, ℕ};
+ghost use Rattle.sfc_tokens.specs.ReadErrors.{Read};
 ghost use Rattle.sfc_tokens.specs.Tokens.{Kinds};
 ghost use Rattle.sfc_text.specs.Grammar.{source};
 ghost use Rattle.sfc_text.specs.Limits.{Limits};
 ghost use Rattle.sfc_text.specs.Parsing.Lookahead.{fine};
-ghost use Rattle.sfc_text.specs.Reads.{IsSource};
+ghost use Rattle.sfc_text.specs.Reads.{AreOne, IsSource, TextReads};
 ghost use Rattle.sfc_text.specs.Trees.{SourceTree};
 
 /// Tokens derive one tree at most, whatever the limits.
 pub fn one_tree()
     ensures { (l m : Limits) (ts : Kinds) (s t : SourceTree) → IsSource l ts s → IsSource m ts t → s ≡ t }
+{}
+
+/// A text has one outcome, but that either of two refusals may be told where its tokens derive no tree whatever the limits.
+pub fn one_reading()
+    ensures { (text : List ℕ) (r s : Read SourceTree) → TextReads text r → TextReads text s → AreOne r s }
+{}
+
+/// Each text has an outcome.
+pub fn some_reading()
+    ensures { (text : List ℕ) → (r : Read SourceTree) × TextReads text r }
 {}
 
 /// One token ahead decides how a text goes on, but for the sign of an integer.

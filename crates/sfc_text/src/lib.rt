@@ -1,12 +1,16 @@
-//! The text of charts: tokens to trees (IEC 61131-3:2003, Annex B).
+//! The text of charts: tokens to trees (IEC 61131-3:2003, Annex B). Tokens, and the text of a TIME value, are those of
+//! `sfc_tokens`.
 //!
 //! - `expression`, `statement`: the trees of expressions and of statements.
+//! - `laws`: what holds of the grammar itself.
+//! - `parse`: tokens to trees.
+//! - `read`: a whole text to its tree.
 //! - `tree`: the trees of charts and configurations.
 #![tactic(auto)]
 
 pub mod expression;
 pub mod laws;
 mod parse;
+pub mod read;
 pub mod statement;
 pub mod tree;
-pub mod read;

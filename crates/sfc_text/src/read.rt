@@ -4,13 +4,44 @@ ghost use Rattle.sfc_tokens.specs.Texts.{Finds};
 ghost use Rattle.sfc_text.specs.Reads.{TextReads};
 ghost use Rattle.sfc_text.specs.Trees.{source_of};
 
+use crate::parse::fault::ParseFault;
+use crate::parse::source::whole_source;
 use crate::tree::Source;
-use sfc_tokens::read_error::{OUT_OF_MEMORY, ReadError};
+use sfc_tokens::read_error::{OUT_OF_MEMORY, ReadError, ReadErrorKind};
+use sfc_tokens::scan::{last_line, tokens};
+use sfc_tokens::token::Token;
 use std::alloc::Global;
 
-/// The tree of a text.
-pub fn read(_alloc: Global, text: &[u8]) -> Result<Source, ReadError>
-    ensures finds { Finds source_of result (λ outcome. TextReads text.now outcome) }
+// The line of the token at whose place so many are left, or the last line where none is.
+fn line_at(text: &[u8], tokens: &[Token], left: usize) -> u32 {
+    let index = tokens.len().checked_sub(left);
+    match index.and_then(|index| tokens.get(index)) {
+        Some(token) => token.line,
+        None => last_line(text),
+    }
+}
+
+/// The tree of a text (Annex B): program types, and one configuration among them.
+///
+/// The errors are those of `tokens`; then the first of `Syntax`, at the line of a token that can't go on the text, or at
+/// the last line where the tokens end too early, and `TooDeep`, at the line of the first token that stands in more than 64
+/// open parentheses, prefix operators and IF statements, or is the 257th operator of an expression (our choice); `Memory`
+/// where memory was refused. `Syntax` is told only where no limits would give a tree, and `TooDeep` only where ours give
+/// none.
+pub fn read(alloc: Global, text: &[u8]) -> Result<Source, ReadError>
+    ensures { Finds source_of result (λ outcome. TextReads text.now outcome) }
 {
-    Err(OUT_OF_MEMORY)
+    let tokens = tokens(alloc, text)?;
+    match whole_source(alloc, tokens.as_slice()) {
+        Ok(source) => Ok(source),
+        Err(ParseFault::Memory) => Err(OUT_OF_MEMORY),
+        Err(ParseFault::Syntax { left }) => Err(ReadError {
+            kind: ReadErrorKind::Syntax,
+            line: line_at(text, tokens.as_slice(), left),
+        }),
+        Err(ParseFault::TooDeep { left }) => Err(ReadError {
+            kind: ReadErrorKind::TooDeep,
+            line: line_at(text, tokens.as_slice(), left),
+        }),
+    }
 }

@@ -1,5 +1,6 @@
 -- The outcome of a text.
-use Rattle.std.proofs.Common.{◌≡◌, ℕ, ◌≤◌, List, length, Result, Ok, Err, refl, subst, arith}
+use Rattle.std.proofs.Common.{◌≡◌, ℕ, ◌≤◌, Bool, true, false, nat_le, List, length, Result, Ok, Err, refl, subst, arith}
+use Rattle.std.proofs.lemmas.Bool.{leb-true, leb-false}
 use Rattle.sfc_tokens.specs.declared.read_error.ReadError.{ReadError}
 use Rattle.sfc_tokens.specs.declared.read_error.ReadErrorKind.{ReadErrorKind}
 use Rattle.sfc_tokens.specs.declared.read_error.ReadErrorKind.TheVariants as kind
@@ -40,3 +41,10 @@ one_by (texts.scanned {text = text} {outcome = r} le p) (texts.scanned {outcome 
 
 pub one_outcome : (text : List ℕ) (r s : Tokens) → TextScans text r → TextScans text s → r ≡ s
 one_outcome text r s p q = one_by p q
+
+pub some_outcome : (text : List ℕ) → (r : Tokens) × TextScans text r
+some_outcome text = by_length (nat_le (length text) longest) refl
+  where
+    by_length : (b : Bool) → nat_le (length text) longest ≡ b → (r : Tokens) × TextScans text r
+    by_length true e = (scan (length (without_mark text)) (without_mark text), texts.scanned (leb-true (length text) longest e) (scan_scans (length (without_mark text)) (without_mark text) (omega arith)))
+    by_length false e = (Err kind.TooLong, texts.too_long (leb-false (length text) longest e))

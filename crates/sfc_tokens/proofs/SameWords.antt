@@ -1,5 +1,5 @@
 -- Whether two words are one but for case is an equivalence, and is decided by their capitals.
-use Rattle.std.proofs.Common.{◌≡◌, ℕ, Bool, true, false, ◌&&◌, eqb, nat_eq, List, [], ◌∷◌, refl, sym, ap, subst, IsTrue}
+use Rattle.std.proofs.Common.{◌≡◌, ℕ, Bool, true, false, ◌&&◌, eqb, nat_eq, List, [], ◌∷◌, length, suc, refl, sym, ap, subst, IsTrue}
 use Rattle.std.proofs.lemmas.Bool.{eqb-true}
 use Rattle.std.specs.Char.{to_ascii_uppercase}
 use Rattle.std.specs.Str.{str_to_ascii_uppercase}
@@ -42,3 +42,15 @@ same_capitals (b ∷ v) (c ∷ w) e =
 -- what a hash of the capitals is fed
 pub same_word_input : (v w : List ℕ) → IsTrue (same_word v w) → fed.slice fed.u8 (str_to_ascii_uppercase v) ≡ fed.slice fed.u8 (str_to_ascii_uppercase w)
 same_word_input v w e = ap (fed.slice fed.u8) (same_capitals v w e)
+
+-- words of different length are not one
+pub as_long : (v w : List ℕ) → (length v ≡ length w → ⊥) → same_word v w ≡ false
+unfolding same_word
+as_long [] [] h = absurd (h refl)
+as_long [] (c ∷ w) h = refl
+as_long (b ∷ v) [] h = refl
+as_long (b ∷ v) (c ∷ w) h = by_head (eqb (to_ascii_uppercase b) (to_ascii_uppercase c)) (as_long v w (λ e. h (ap suc e)))
+  where
+    by_head : (t : Bool) → same_word v w ≡ false → t && same_word v w ≡ false
+    by_head true e = e
+    by_head false e = refl

@@ -28,6 +28,7 @@ pub enum Class {
 }
 
 /// The class of the byte.
+#[inline(always)]
 #[tactic(auto, unfolding(crate::specs::Classes::class_of))]
 pub fn class_of(byte: u8) -> Class
     ensures { result ≡ classes.class_of byte }

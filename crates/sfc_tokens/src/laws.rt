@@ -22,6 +22,11 @@ pub fn one_scan()
     ensures { (text : List ℕ) (r s : Tokens) → TextScans text r → TextScans text s → r ≡ s }
 {}
 
+/// Each text has an outcome.
+pub fn some_scan()
+    ensures { (text : List ℕ) → (r : Tokens) × TextScans text r }
+{}
+
 /// A word that is one duration is scanned as that one token.
 pub fn duration_scanned()
     ensures { (word : List ℕ) (z : ℤ) → IsDuration word z → Scans word (Ok (TokenKind.Duration z ∷ [])) }

@@ -1,7 +1,7 @@
 -- The parts of a plant, while it is loaded.
 use Rattle.std.specs.Prelude.{◌≡◌, ◌^◌, pos, ◌≤ℤ◌, map}
-use Rattle.sfc_text.specs.declared.tree.Source.{Source}
-use Rattle.sfc_text.specs.declared.tree.Task.{Task}
+use Rattle.sfc_chart.specs.declared.simple.Source.{Source}
+use Rattle.sfc_chart.specs.declared.simple.Task.{Task}
 use Rattle.sfc_chart.specs.declared.load.parts.Parts.{Parts}
 use Rattle.sfc_chart.specs.Chart.{PlantData}
 

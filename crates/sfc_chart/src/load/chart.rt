@@ -12,10 +12,10 @@ use crate::ids::VarId;
 use crate::load_error::{Limit, LoadError};
 use crate::name_key::NameKey;
 use crate::name_table::NameTable;
+use crate::simple::{self, Element, Expression};
 use crate::value::Value;
-use sfc_text::items::Items;
-use sfc_text::name::Name;
-use sfc_text::tree::{self, Element, Expression};
+use sfc_tokens::items::Items;
+use sfc_tokens::name::Name;
 use std::alloc::Global;
 
 /// The most steps of a program type.
@@ -117,7 +117,7 @@ fn has_initial(elements: &[Element]) -> bool
 
 fn load_association(
     alloc: Global,
-    association: &tree::Association,
+    association: &simple::Association,
     scope: &Scope,
 ) -> Result<Association, LoadError>
     ensures { Loads (λ loaded. loaded) result (association_check scope.now.variables.items association.now) (association_of scope.now.variables.items association.now) }
@@ -143,7 +143,7 @@ fn variable_id(number: usize) -> VarId
 
 fn load_associations(
     alloc: Global,
-    associations: &[tree::Association],
+    associations: &[simple::Association],
     scope: &Scope,
 ) -> Result<Vec<Association>, LoadError>
     ensures { Loads (λ loaded. loaded.items) result (each (association_check scope.now.variables.items) associations.now) (map (association_of scope.now.variables.items) associations.now) }
@@ -158,7 +158,7 @@ fn load_associations(
     Ok(loaded)
 }
 
-fn load_step(alloc: Global, step: &tree::Step, scope: &Scope) -> Result<Step, LoadError>
+fn load_step(alloc: Global, step: &simple::Step, scope: &Scope) -> Result<Step, LoadError>
     ensures { Loads (λ loaded. loaded) result (step_associations_check scope.now.variables.items step.now) (step_of scope.now.variables.items step.now) }
 {
     let associations = load_associations(alloc, step.associations.as_slice(), scope)?;
@@ -238,7 +238,7 @@ fn load_condition(alloc: Global, condition: &Expression, scope: &Scope) -> Resul
 
 fn load_transition(
     alloc: Global,
-    transition: &tree::Transition,
+    transition: &simple::Transition,
     steps: &NameTable,
     scope: &Scope,
 ) -> Result<Transition, LoadError>

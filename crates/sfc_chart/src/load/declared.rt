@@ -4,14 +4,14 @@ ghost use Rattle.std.specs.Prelude.{◌≡◌, ◌++◌, map, OnOk, IfOk};
 ghost use Rattle.sfc_chart.specs.Loading.{declared_as, declared_by, variables_of};
 
 use crate::plant::Variable;
+use crate::simple::Declaration;
 use crate::value::default_value;
-use sfc_text::location::Location;
-use sfc_text::name::Name;
-use sfc_text::tree::Declaration;
+use sfc_tokens::location::Location;
+use sfc_tokens::name::Name;
 use std::alloc::{AllocError, Global};
 
-// The same location once more, if there is one.
-fn copy_some_location(
+/// The same location once more, if there is one.
+pub fn copy_some_location(
     alloc: Global,
     location: &Option<Location>,
 ) -> Result<Option<Location>, AllocError>

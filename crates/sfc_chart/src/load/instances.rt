@@ -9,8 +9,8 @@ use crate::load_error::{Limit, LoadError};
 use crate::name_key::NameKey;
 use crate::name_table::NameTable;
 use crate::plant::Instance;
-use sfc_text::name::Name;
-use sfc_text::tree;
+use crate::simple;
+use sfc_tokens::name::Name;
 use std::alloc::{AllocError, Global};
 
 /// The most instances.
@@ -35,7 +35,7 @@ fn number_of_task(
 
 fn load_instance(
     alloc: Global,
-    instance: &tree::Instance,
+    instance: &simple::Instance,
     tasks: &NameTable,
     types: &NameTable,
     names: &mut NameTable,
@@ -65,7 +65,7 @@ fn load_instance(
 // Each instance in turn, and the table of their names.
 fn load_each(
     alloc: Global,
-    instances: &[tree::Instance],
+    instances: &[simple::Instance],
     tasks: &NameTable,
     types: &NameTable,
 ) -> Result<(Vec<Instance>, NameTable), LoadError>
@@ -90,7 +90,7 @@ fn load_each(
 #[tactic(auto, unfolding(crate::specs::Loading::instances_check))]
 pub fn load_instances(
     alloc: Global,
-    instances: &[tree::Instance],
+    instances: &[simple::Instance],
     tasks: &NameTable,
     types: &NameTable,
 ) -> Result<(Vec<Instance>, NameTable), LoadError>

@@ -14,8 +14,8 @@ use crate::chart::ProgramType;
 use crate::load_error::LoadError;
 use crate::name_table::NameTable;
 use crate::plant::{Instance, Plant, Task};
-use sfc_text::items::Items;
-use sfc_text::tree::Source;
+use crate::simple::Source;
+use sfc_tokens::items::Items;
 use std::alloc::{AllocError, Global};
 
 /// What a plant is made of, with the tables of names.

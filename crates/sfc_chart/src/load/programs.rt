@@ -10,7 +10,7 @@ use crate::chart::ProgramType;
 use crate::load_error::LoadError;
 use crate::name_key::NameKey;
 use crate::name_table::NameTable;
-use sfc_text::tree::Program;
+use crate::simple::Program;
 use std::alloc::Global;
 
 fn load_program(

@@ -11,10 +11,10 @@ use crate::load_error::{Limit, LoadError};
 use crate::name_key::NameKey;
 use crate::name_table::NameTable;
 use crate::plant::Variable;
-use sfc_text::location::{Location, Size};
-use sfc_text::name::Name;
-use sfc_text::tree::Declaration;
-use sfc_text::var_type::VarType;
+use crate::simple::Declaration;
+use sfc_tokens::location::{Location, Size};
+use sfc_tokens::name::Name;
+use sfc_tokens::var_type::VarType;
 use std::alloc::{AllocError, Global};
 
 /// The most variables of a plant.

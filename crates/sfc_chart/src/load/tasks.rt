@@ -9,14 +9,14 @@ use crate::load_error::{Limit, LoadError};
 use crate::name_key::NameKey;
 use crate::name_table::NameTable;
 use crate::plant::Task;
-use sfc_text::tree;
+use crate::simple;
 use std::alloc::Global;
 
 /// The most tasks.
 const TASKS: usize = 16;
 
 // A task, and its place in the table of names.
-fn load_task(alloc: Global, task: &tree::Task, names: &mut NameTable) -> Result<Task, LoadError>
+fn load_task(alloc: Global, task: &simple::Task, names: &mut NameTable) -> Result<Task, LoadError>
     ensures loads { Loads (λ loaded. loaded) result (task_check names.old task.now) (task_of task.now) }
     ensures named { OnOk result (names.new ≡ names.old ++ task.now.name ∷ []) }
     ensures limited { OnOk result (IsLimited task.now) }
@@ -37,7 +37,7 @@ fn load_task(alloc: Global, task: &tree::Task, names: &mut NameTable) -> Result<
 }
 
 // Each task in turn, and the table of their names.
-fn load_each(alloc: Global, tasks: &[tree::Task]) -> Result<(Vec<Task>, NameTable), LoadError>
+fn load_each(alloc: Global, tasks: &[simple::Task]) -> Result<(Vec<Task>, NameTable), LoadError>
     ensures loads { Loads (λ loaded. loaded.0.items) result (in_turn task_name task_check [] tasks.now) (map task_of tasks.now) }
     ensures named { IfOk result (λ loaded. loaded.1 ≡ task_names tasks.now) }
     ensures limited { OnOk result (All IsLimited tasks.now) }
@@ -55,7 +55,10 @@ fn load_each(alloc: Global, tasks: &[tree::Task]) -> Result<(Vec<Task>, NameTabl
 
 /// At most 16 tasks, and the table of their names.
 #[tactic(auto, unfolding(crate::specs::Loading::tasks_check))]
-pub fn load_tasks(alloc: Global, tasks: &[tree::Task]) -> Result<(Vec<Task>, NameTable), LoadError>
+pub fn load_tasks(
+    alloc: Global,
+    tasks: &[simple::Task],
+) -> Result<(Vec<Task>, NameTable), LoadError>
     ensures loads { Loads (λ loaded. loaded.0.items) result (tasks_check tasks.now) (map task_of tasks.now) }
     ensures named { IfOk result (λ loaded. loaded.1 ≡ task_names tasks.now) }
     ensures few { IfOk result (λ loaded. length loaded.1 ≤ 16) }

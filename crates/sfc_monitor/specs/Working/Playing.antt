@@ -1,7 +1,7 @@
 -- Playing a script on a resource.
 use Rattle.std.specs.Prelude.{ℕ, List, Option, Result, Ok, Err}
 use Rattle.std.specs.Io.KnownBytes.{Appends}
-use Rattle.sfc_text.specs.Writing.{AppendsFront}
+use Rattle.sfc_tokens.specs.Writing.{AppendsFront}
 use Rattle.sfc_core.specs.declared.resource.Resource.{Resource}
 use Rattle.sfc_core.specs.History.{History, Entry}
 use Rattle.sfc_core.specs.Agreement.{Agrees, plant_of}

@@ -126,3 +126,11 @@ read n inside (chain f a s) ts =
 read n inside (ahead p a b) ts = cond (p ts) (read n inside a ts) (read n inside b ts)
 read n inside (inner s f) ts = inside s ts >>= λ y. Ok (f y.0, y.1)
 read n inside (counted count a) ts = limited count n (read n inside a ts)
+
+-- what is read of all tokens
+abbrev pub ended : {X : Type 0} → Read (X × Kinds) → Read X
+ended r = r >>= λ y. at_end y.0 y.1
+  where
+    at_end : {X : Type 0} → X → Kinds → Read X
+    at_end x [] = Ok x
+    at_end x (t ∷ ts) = Err Syntax

@@ -9,8 +9,9 @@ ghost use Rattle.sfc_text.specs.Parsing.Reading.{Gives, view, view_by};
 ghost use Rattle.sfc_text.specs.Parsing.Takes.{element_takes};
 ghost use Rattle.sfc_text.specs.Parsing.Views.{elements_more};
 ghost use Rattle.sfc_text.specs.Terms.{maybe};
-ghost use Rattle.sfc_text.specs.Trees.{ElementTree, action_of, element_of, transition_of};
+ghost use Rattle.sfc_text.specs.Trees.{ElementTree, action_of, block_of, element_of, transition_of, tree_of};
 
+use crate::expression::Expression;
 use crate::parse::expression::expression;
 use crate::parse::fault::ParseFault;
 use crate::parse::list::Item;
@@ -20,6 +21,7 @@ use crate::parse::terminal::{
     begins_name, begins_sign, begins_word, integer, name, named, sign, word,
 };
 use crate::parse::variables::names;
+use crate::statement::Statement;
 use crate::tree::{Action, Element, Transition};
 use sfc_tokens::delimiter::Delimiter;
 use sfc_tokens::items::Items;
@@ -75,6 +77,20 @@ fn steps(alloc: Global, tokens: &[Token]) -> Result<(Items<Name>, &[Token]), Par
     Ok((steps, tokens))
 }
 
+// The condition of a transition.
+fn condition(alloc: Global, tokens: &[Token]) -> Result<(Expression, &[Token]), ParseFault>
+    ensures { Gives (view_by tree_of) result (reads grammar.expression (kinds tokens.now)) }
+{
+    expression(alloc, tokens, MOST_LEVELS)
+}
+
+// The statements of an action.
+fn statements(alloc: Global, tokens: &[Token]) -> Result<(Vec<Statement>, &[Token]), ParseFault>
+    ensures { Gives (view_by (λ v. block_of v.items)) result (reads grammar.body (kinds tokens.now)) }
+{
+    body(alloc, tokens, MOST_LEVELS)
+}
+
 // A transition.
 #[tactic(auto, unfolding(crate::specs::Grammar::transition))]
 fn transition(alloc: Global, tokens: &[Token]) -> Result<(Transition, &[Token]), ParseFault>
@@ -88,7 +104,7 @@ fn transition(alloc: Global, tokens: &[Token]) -> Result<(Transition, &[Token]),
     let tokens = word(tokens, Keyword::To)?;
     let (following, tokens) = steps(alloc, tokens)?;
     let tokens = sign(tokens, Delimiter::Assign)?;
-    let (condition, tokens) = expression(alloc, tokens, MOST_LEVELS)?;
+    let (condition, tokens) = condition(alloc, tokens)?;
     let tokens = sign(tokens, Delimiter::Semicolon)?;
     let tokens = word(tokens, Keyword::EndTransition)?;
     let transition = Transition {
@@ -109,7 +125,7 @@ fn action(alloc: Global, tokens: &[Token]) -> Result<(Action, &[Token]), ParseFa
     let tokens = word(tokens, Keyword::Action)?;
     let (name, tokens) = name(alloc, tokens)?;
     let tokens = sign(tokens, Delimiter::Colon)?;
-    let (body, tokens) = body(alloc, tokens, MOST_LEVELS)?;
+    let (body, tokens) = statements(alloc, tokens)?;
     let tokens = word(tokens, Keyword::EndAction)?;
     Ok((Action { name, body }, tokens))
 }

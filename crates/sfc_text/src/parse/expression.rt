@@ -12,7 +12,9 @@ ghost use Rattle.sfc_text.specs.Trees.{tree_of, operators};
 use crate::expression::{Expression, Operator, Variable};
 use crate::parse::fault::ParseFault;
 use crate::parse::operator::{begins_operator, operator};
-use crate::parse::terminal::{begins_name, begins_sign, literal, name, sign, signed, too_deep, word};
+use crate::parse::terminal::{
+    begins_name, begins_sign, literal, name, sign, signed, too_deep, word,
+};
 use sfc_tokens::delimiter::Delimiter;
 use sfc_tokens::keyword::Keyword;
 use sfc_tokens::token::{Token, TokenKind};
@@ -271,8 +273,12 @@ fn joined(
         if operators >= room.operators {
             return Err(too_deep(rest));
         }
-        let (operator, second, behind) =
-            operand(alloc, rest, level, room.after_operators(operators + 1))?;
+        let (operator, second, behind) = operand(
+            alloc,
+            rest,
+            level,
+            room.after_operators(operators + 1),
+        )?;
         let left = Box::new(alloc, tree)?;
         let right = Box::new(alloc, second.tree)?;
         tree = Expression::Binary(operator, left, right);

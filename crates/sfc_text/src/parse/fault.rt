@@ -10,13 +10,9 @@ use std::alloc::{AllocError, AllocFailed};
 pub enum ParseFault {
     Memory,
     /// The token there can't go on what stands before it.
-    Syntax {
-        left: usize,
-    },
+    Syntax { left: usize },
     /// A limit is passed there: of nesting, or of operators.
-    TooDeep {
-        left: usize,
-    },
+    TooDeep { left: usize },
 }
 
 impl From<AllocError> for ParseFault {

@@ -89,11 +89,7 @@ struct Placed {
 
 // The names of a declaration behind its first one, in one list with it, or its location.
 #[tactic(auto, unfolding(crate::specs::Grammar::place))]
-fn place(
-    alloc: Global,
-    first: Name,
-    tokens: &[Token],
-) -> Result<(Placed, &[Token]), ParseFault>
+fn place(alloc: Global, first: Name, tokens: &[Token]) -> Result<(Placed, &[Token]), ParseFault>
     ensures { Gives (view_by (λ placed. (placed.names, placed.location))) result (made (with_first first) (reads grammar.place (kinds tokens.now))) }
 {
     if begins_word(tokens, Keyword::At) {

@@ -2,7 +2,7 @@ use Rattle.std.proofs.Common.{codes}
 use Rattle.std.proofs.lemmas.Int.{to_z-of_z}
 use Rattle.std.proofs.lemmas.Result.{on_ok_weaker}
 use Rattle.std.specs.Fmt.{decimal}
-use Rattle.sfc_text.specs.TimeText.{time_text}
+use Rattle.sfc_tokens.specs.TimeText.{time_text}
 use Rattle.sfc_monitor.specs.Output.{task_name, line_end}
 use Rattle.sfc_monitor.proofs.Appended.{six_appended}
 use Rattle.sfc_monitor.proofs.answers.append_scan_line.Goals as goal

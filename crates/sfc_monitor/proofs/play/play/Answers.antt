@@ -1,7 +1,7 @@
 use Rattle.std.proofs.Common.{subst}
 use Rattle.std.proofs.lemmas.Result.{err_from_is_err_and}
-use Rattle.sfc_text.specs.Writing.{AppendsFront, Writes}
-use Rattle.sfc_text.proofs.Written.{front_first, then_writes}
+use Rattle.sfc_tokens.specs.Writing.{AppendsFront, Writes}
+use Rattle.sfc_tokens.proofs.Written.{front_first, then_writes}
 use Rattle.sfc_core.specs.Agreement.{plant_of}
 use Rattle.sfc_core.specs.Verdict.{after_all}
 use Rattle.sfc_monitor.specs.Output.{commands_lines, image_lines}

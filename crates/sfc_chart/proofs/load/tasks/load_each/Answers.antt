@@ -1,4 +1,4 @@
-use Rattle.std.proofs.Common.{◌≡◌, ◌∷◌, All, sym, subst, arith, rules}
+use Rattle.std.proofs.Common.{All, sym, subst, arith, rules}
 use Rattle.std.proofs.lemmas.Grind.{common_steps}
 use Rattle.std.proofs.lemmas.List.Elements.{All-cons}
 use Rattle.sfc_chart.specs.Assembly.Parts.{IsLimited}
