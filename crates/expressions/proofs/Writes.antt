@@ -25,19 +25,22 @@ has_same values i x = fun_ext (λ w. elim w as (λ v. has (set values i x) v ≡
   | Local l ↦ refl
 ])
 
-at_place : (values : List Value) (i : ℕ) (x d : Value) (k : ℕ) → i < length values → get_or (set values i x) k d ≡ (if eqb k i then x else get_or values k d)
+at_place : (values : List Value) (i : ℕ) (x d : Value) (k : ℕ) → i < length values →
+    get_or (set values i x) k d ≡ (if eqb k i then x else get_or values k d)
 at_place values i x d k lt = elim (cases_eq k i) [
   | inl e ↦ rw (e, eq-eqb i i refl) (get_or-set_same values i x d lt)
   | inr other ↦ rw (ne_eqb k i other) (get_or-set_other values i k x d other)
 ]
 
-written_value : (values : List Value) (g : GlobalId) (x : Value) → g.0 < length values → value_at (set values g.0 x) ≡ after true values (Global g) x
+written_value : (values : List Value) (g : GlobalId) (x : Value) → g.0 < length values →
+    value_at (set values g.0 x) ≡ after true values (Global g) x
 written_value values g x lt = fun_ext (λ w. elim w as (λ v. value_at (set values g.0 x) v ≡ after true values (Global g) x v) [
   | Global h ↦ at_place values g.0 x (value.Bool false) h.0 lt
   | Local l ↦ refl
 ])
 
-pub written : (values : List Value) (g : GlobalId) (x : Value) → g.0 < length values → environment_of (set values g.0 x) ≡ assigned (environment_of values) (Global g) x
+pub written : (values : List Value) (g : GlobalId) (x : Value) → g.0 < length values →
+    environment_of (set values g.0 x) ≡ assigned (environment_of values) (Global g) x
 written values g x lt =
     ap (λ h. with_variables values h (value_at (set values g.0 x))) (has_same values g.0 x)
     ∙ ap (with_variables values (has values)) (written_value values g x lt)

@@ -79,7 +79,8 @@ fn body_found(alloc: Global, row: &Row) -> Result<Vec<u8>> {
     Ok(text)
 }
 
-/// What is found of a row: a value, a fault or a refusal; of a body also the variables that are named in what is wanted.
+/// What is found of a row: a value, a fault or a refusal. Of a body it also has the variables that are named in what is
+/// wanted.
 pub fn found(alloc: Global, row: &Row) -> Result<Vec<u8>> {
     let wanted = match row.kind {
         Kind::Expression(wanted) => wanted,
