@@ -1,28 +1,18 @@
 -- Operators are counted while expressions are read.
-use Rattle.std.proofs.Common.{◌≡◌, inl, inr, ℕ, zero, suc, ◌+◌, ◌<◌, ◌≤◌, Bool, true, false, cond, List, [], ◌∷◌, length, Option, Some, Ok, Err, refl, sym, ap, subst, ◌∙◌, arith}
-use Rattle.std.proofs.lemmas.Bool.{le-leb, lt-leb}
-use Rattle.sfc_tokens.specs.declared.delimiter.Delimiter.TheVariants as sign
-use Rattle.sfc_tokens.specs.declared.keyword.Keyword.TheVariants as keyword
+use Rattle.std.proofs.Common.{◌≡◌, ℕ, zero, suc, ◌+◌, ◌<◌, ◌≤◌, true, false, List, [], ◌∷◌, length, Ok, Err, refl, sym, ap, subst, ◌∙◌, arith}
 use Rattle.sfc_tokens.specs.declared.token.Token.{Token}
 use Rattle.sfc_tokens.specs.Tokens.{Kinds, kinds}
 use Rattle.sfc_text.specs.declared.expression.Operator.{Operator}
 use Rattle.sfc_text.specs.declared.parse.fault.ParseFault.{ParseFault}
 use Rattle.sfc_text.specs.declared.parse.fault.ParseFault.TheVariants as fault
 use Rattle.sfc_text.specs.Building.{join}
-use Rattle.sfc_text.specs.Grammar.{joined, operator, operators_at, unary, signed, opposite, negation, primary, parenthesized, literal, variable, expression}
-use Rattle.sfc_tokens.specs.declared.token.TokenKind.{TokenKind}
-use Rattle.sfc_text.specs.declared.tree.Literal.{Literal}
-use Rattle.sfc_text.specs.Marks.{Marks, Sign, AnyName}
-use Rattle.sfc_text.specs.Rules.{map, either}
-use Rattle.sfc_text.specs.Sorts.{AnExpression, AnOperand}
-use Rattle.sfc_text.specs.Terms as terms
+use Rattle.sfc_text.specs.Grammar.{joined, operator, operators_at, unary, signed, opposite, negation, primary, parenthesized, literal, variable}
 use Rattle.sfc_text.specs.Terms.{folded}
-use Rattle.sfc_text.specs.Trees as trees
-use Rattle.sfc_text.specs.Trees.{Tree, Constant, operators}
+use Rattle.sfc_text.specs.Trees.{Tree, operators}
 use Rattle.sfc_text.specs.Parsing.Counting.{Exceeds, Stops, StopsPair}
-use Rattle.sfc_text.specs.Parsing.Depth.{at, inside, reads}
-use Rattle.sfc_text.specs.Parsing.Lookahead.{begins, empty, first}
-use Rattle.sfc_text.specs.Parsing.Reading.{Read, Syntax, TooDeep, ◌>>=◌, Fails, IsTooDeep, one, all, found, pair, made, limited}
+use Rattle.sfc_text.specs.Parsing.Depth.{at}
+use Rattle.sfc_text.specs.Parsing.Lookahead.{begins, empty}
+use Rattle.sfc_text.specs.Parsing.Reading.{Read, ◌>>=◌, IsTooDeep, all, found, pair}
 use Rattle.sfc_text.proofs.Shorter.{Shorter, pair_shorter}
 use Rattle.sfc_text.proofs.Loops.{Folds, Folding, Turn, turn, goes_on, ends, shortens, smaller}
 
@@ -109,17 +99,6 @@ operand_by (fault.TooDeep at_) n m a further (Err e) le h = tt
 pub operand_stops : (wrong : ParseFault) (n m left level k : ℕ) (a : Tree) (ts : Kinds) (total : Read (Tree × Kinds)) → n ≤ m + (operators a + 1) → begins (operators_at level) ts ≡ true → StopsPair m wrong (Item left level k ts) → Joining left level k a ts ≡ total → Stops n wrong total
 operand_stops wrong n m left level k a ts total le h stops so_far = subst (λ r. Stops n wrong r) (sym (turns left level k a ts h) ∙ so_far) (operand_by wrong n m a (all (found (operators_at level) (Item left level k))) (Item left level k ts) le stops)
 
--- an operator, and an operand that stops
-pair_by : (wrong : ParseFault) (n : ℕ) (o : Operator) (r : Read (Tree × Kinds)) → Stops n wrong r → StopsPair n wrong (r >>= λ z. Ok ((o, z.0), z.1))
-pair_by fault.Memory n o r h = tt
-pair_by (fault.Syntax at_) n o (Ok x) h = absurd cc
-pair_by (fault.Syntax at_) n o (Err e) h = cc
-pair_by (fault.TooDeep at_) n o (Ok x) h = h
-pair_by (fault.TooDeep at_) n o (Err e) h = tt
-
-pub second_stops : (wrong : ParseFault) (n left level k : ℕ) (ts : Kinds) (x : Operator × Kinds) → at left (operator level) ts ≡ Ok x → Stops n wrong (at left (joined k) x.1) → StopsPair n wrong (Item left level k ts)
-second_stops wrong n left level k ts x e h = rw e (pair_by wrong n x.0 (at left (joined k) x.1) h)
-
 -- what a function says that has no room
 pub full_stops : (wrong : ParseFault) (n : ℕ) (r : Read (Tree × Kinds)) → IsTooDeep wrong → Exceeds n r → Stops n wrong r
 full_stops fault.Memory n r h g = tt
@@ -132,91 +111,3 @@ same_depth wrong n left left' level k ts e h = subst (λ d. StopsPair n wrong (I
 
 pub same_item : (left left' level k : ℕ) (ts : Kinds) (x : (Operator × Tree) × Kinds) → left' ≡ left → Item left' level k ts ≡ Ok x → Item left level k ts ≡ Ok x
 same_item left left' level k ts x e h = subst (λ d. Item d level k ts ≡ Ok x) e h
-
--- ---- parentheses and prefix operators
-
--- a value and then what closes it
-abbrev closed : (Kinds → Read (Unit {0} × Kinds)) → Read (Tree × Kinds) → Read (Tree × Kinds)
-closed close r = r >>= λ y. close y.1 >>= λ z. Ok (y.0, z.1)
-
-keeps : (n : ℕ) (t : Tree) (q : Read (Unit {0} × Kinds)) → n < operators t → Exceeds n (q >>= λ z. Ok (t, z.1))
-keeps n t (Ok z) h = h
-keeps n t (Err e) h = tt
-
-parenthesis_by : (wrong : ParseFault) (n : ℕ) (close : Kinds → Read (Unit {0} × Kinds)) (r : Read (Tree × Kinds)) → Stops n wrong r → Stops n wrong (closed close (made (λ t. t) (made (λ e. e) r)))
-parenthesis_by fault.Memory n close r h = tt
-parenthesis_by (fault.Syntax at_) n close (Ok y) h = absurd cc
-parenthesis_by (fault.Syntax at_) n close (Err e) h = cc
-parenthesis_by (fault.TooDeep at_) n close (Ok y) h = keeps n y.0 (close y.1) h
-parenthesis_by (fault.TooDeep at_) n close (Err e) h = tt
-
-pub parenthesis_stops : (wrong : ParseFault) (n left : ℕ) (ts us : Kinds) → reads (terms.sign sign.Open) ts ≡ Ok (tt, us) → Stops n wrong (inside 256 left AnExpression us) → Stops n wrong (at left parenthesized ts)
-unfolding parenthesized
-parenthesis_stops wrong n left ts us e h = rw e (parenthesis_by wrong n (reads (terms.sign sign.Close)) (inside 256 left AnExpression us) h)
-
-prefix_by : (wrong : ParseFault) (n m : ℕ) (f : Tree → Tree) (r : Read (Tree × Kinds)) → ((t : Tree) → operators (f t) ≡ 1 + operators t) → n ≤ m + 1 → Stops m wrong r → Stops n wrong (made (λ t. t) (made f r))
-prefix_by fault.Memory n m f r more le h = tt
-prefix_by (fault.Syntax at_) n m f (Ok y) more le h = absurd cc
-prefix_by (fault.Syntax at_) n m f (Err e) more le h = cc
-prefix_by (fault.TooDeep at_) n m f (Ok y) more le h = let one = more y.0 in omega (arith, one, le, h)
-prefix_by (fault.TooDeep at_) n m f (Err e) more le h = tt
-
-prefix_full : (n : ℕ) (f : Tree → Tree) (r : Read (Tree × Kinds)) → ((t : Tree) → operators (f t) ≡ 1 + operators t) → n ≡ 0 → Exceeds n (made (λ t. t) (made f r))
-prefix_full n f (Ok y) more none = let one = more y.0 in omega (arith, one, none)
-prefix_full n f (Err e) more none = tt
-
-pub opposite_stops : (wrong : ParseFault) (n m left : ℕ) (ts us : Kinds) → reads (terms.sign sign.Minus) ts ≡ Ok (tt, us) → n ≤ m + 1 → Stops m wrong (inside 256 left AnOperand us) → Stops n wrong (at left opposite ts)
-unfolding opposite
-opposite_stops wrong n m left ts us e le h = rw e (prefix_by wrong n m trees.Minus (inside 256 left AnOperand us) (λ t. refl) le h)
-
-pub opposite_full : (n left : ℕ) (ts us : Kinds) → reads (terms.sign sign.Minus) ts ≡ Ok (tt, us) → n ≡ 0 → Exceeds n (at left opposite ts)
-unfolding opposite
-opposite_full n left ts us e none = rw e (prefix_full n trees.Minus (inside 256 left AnOperand us) (λ t. refl) none)
-
-pub negation_stops : (wrong : ParseFault) (n m left : ℕ) (ts us : Kinds) → reads (terms.word keyword.Not) ts ≡ Ok (tt, us) → n ≤ m + 1 → Stops m wrong (inside 256 left AnOperand us) → Stops n wrong (at left negation ts)
-unfolding negation
-negation_stops wrong n m left ts us e le h = rw e (prefix_by wrong n m trees.Not (inside 256 left AnOperand us) (λ t. refl) le h)
-
-pub negation_full : (n left : ℕ) (ts us : Kinds) → reads (terms.word keyword.Not) ts ≡ Ok (tt, us) → n ≡ 0 → Exceeds n (at left negation ts)
-unfolding negation
-negation_full n left ts us e none = rw e (prefix_full n trees.Not (inside 256 left AnOperand us) (λ t. refl) none)
-
--- ---- literals
-
-none : {X : Type 0} (marks : Marks) (value : TokenKind → Option X) (ts : Kinds) → begins marks ts ≡ false → one marks value ts ≡ Err Syntax
-none marks value [] h = refl
-none marks value (t ∷ ts) h = rw h refl
-
-literal_by : (wrong : ParseFault) (n : ℕ) (b : Bool) (r : Read (Literal × Kinds)) (p : Read (Tree × Kinds)) → p ≡ Err Syntax → Fails wrong r → Stops n wrong (cond b (made Constant r) p)
-literal_by fault.Memory n b r p e h = tt
-literal_by (fault.Syntax at_) n true r p e h = rw h refl
-literal_by (fault.Syntax at_) n false r p e h = e
-literal_by (fault.TooDeep at_) n true (Ok y) p e (inl h) = absurd cc
-literal_by (fault.TooDeep at_) n true (Ok y) p e (inr h) = absurd cc
-literal_by (fault.TooDeep at_) n true (Err d) p e h = tt
-literal_by (fault.TooDeep at_) n false r (Ok y) e h = absurd cc
-literal_by (fault.TooDeep at_) n false r (Err d) e h = tt
-
-pub literal_stops : (wrong : ParseFault) (n left : ℕ) (ts : Kinds) → begins (Sign sign.Open ∷ []) ts ≡ false → begins (AnyName ∷ []) ts ≡ false → Fails wrong (reads literal ts) → Stops n wrong (at left primary ts)
-unfolding primary literal variable parenthesized
-literal_stops wrong n left ts h g stops =
-    let open_ : reads (terms.sign sign.Open) ts ≡ Err Syntax = none (Sign sign.Open ∷ []) (λ t. Some tt) ts h in
-    literal_by wrong n (begins (first literal) ts) (reads literal ts) (at left (either (map trees.Named variable) parenthesized) ts) (rw (g, open_) refl) stops
-
--- ---- whole expressions
-
-whole_by : (wrong : ParseFault) (n : ℕ) (r : Read (Tree × Kinds)) → Stops n wrong r → Fails wrong (limited operators n r)
-whole_by fault.Memory n r h = tt
-whole_by (fault.Syntax at_) n (Ok y) h = absurd cc
-whole_by (fault.Syntax at_) n (Err e) h = cc
-whole_by (fault.TooDeep at_) n (Ok y) h = let more = lt-leb (operators y.0) n h in inr (rw more refl)
-whole_by (fault.TooDeep at_) n (Err Syntax) h = inl refl
-whole_by (fault.TooDeep at_) n (Err TooDeep) h = inr refl
-
-pub whole_stops : (wrong : ParseFault) (left : ℕ) (ts : Kinds) → Stops 256 wrong (at left (joined 7) ts) → Fails wrong (at left expression ts)
-unfolding expression
-whole_stops wrong left ts h = whole_by wrong 256 (at left (joined 7) ts) h
-
-pub whole_counts : (left c : ℕ) (ts : Kinds) (x : Tree × Kinds) → at left (joined 7) ts ≡ Ok x → c ≡ operators x.0 → c ≤ 256 → at left expression ts ≡ Ok x
-unfolding expression
-whole_counts left c ts x e same le = let within = le-leb (operators x.0) 256 (omega (arith, same, le)) in rw (e, within) refl

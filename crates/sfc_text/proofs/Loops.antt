@@ -1,5 +1,5 @@
 -- Loops that read items: what was read before, and what is still read.
-use Rattle.std.proofs.Common.{◌≡◌, inl, inr, ℕ, zero, suc, ◌<◌, Bool, true, false, cond, List, [], ◌∷◌, ◌++◌, length, map, Option, Some, None, Ok, Err, refl, sym, ap, subst, ◌∙◌, arith, append_assoc}
+use Rattle.std.proofs.Common.{◌≡◌, inl, inr, ℕ, zero, suc, ◌<◌, Bool, true, false, cond, List, [], ◌∷◌, ◌++◌, length, Option, Some, None, Ok, Err, refl, sym, ap, subst, ◌∙◌, arith, append_assoc}
 use Rattle.std.proofs.lemmas.List.{append-nil}
 use Rattle.sfc_tokens.specs.declared.token.Token.{Token}
 use Rattle.sfc_tokens.specs.Tokens.{Kinds, kinds}
@@ -113,14 +113,6 @@ starts left rule front ts = by_result (all (found (first rule) (at left rule)) t
     by_result : (r : Read (List _ × Kinds)) → Folds pushed front r ≡ behind front (r >>= λ y. Ok (y.0, y.1))
     by_result (Ok y) = ap (λ (zs : List _). Ok (zs, y.1)) (folded_pushes front y.0)
     by_result (Err d) = refl
-
-pub no_front : {X : Type 0} (r : Read (List X × Kinds)) → behind [] r ≡ r
-no_front (Ok y) = refl
-no_front (Err d) = refl
-
-pub map_push : {V X : Type 0} (view : V → X) (vs : List V) (v : V) → map view (vs ++ v ∷ []) ≡ map view vs ++ view v ∷ []
-map_push view [] v = refl
-map_push view (x ∷ vs) v = ap (λ (ys : List _). view x ∷ ys) (map_push view vs v)
 
 -- ---- an item takes a token
 
