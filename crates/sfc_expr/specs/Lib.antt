@@ -1,5 +1,7 @@
 -- The rules, in reading order.
 
+-- names among names
+pub mod NameLists
 -- bounds on counted work
 pub mod Ticks
 -- values, their types, and the ranges of types

@@ -8,6 +8,7 @@
 //! - `fault`: why an evaluation ended without a value.
 //! - `laws`: what holds of the definitions themselves.
 //! - `literal`: literals of a wanted type; `natural`: the types that expressions have by themselves.
+//! - `name_key`: keys by which names are found; `name_table`: the names of one name space.
 //! - `number`: arithmetic within the range of a type.
 //! - `operate`: operators on values.
 //! - `referent`: what names in expressions stand for; `scope`: where they are looked up.
@@ -25,6 +26,8 @@ pub mod expr;
 pub mod fault;
 pub mod laws;
 pub mod literal;
+pub mod name_key;
+pub mod name_table;
 mod natural;
 mod number;
 mod operate;

@@ -1,6 +1,6 @@
 //! The names of one name space, in declared order.
 
-use crate::name_key::NameKey;
+use crate::name_key::{NameKey, Word};
 use indexmap::IndexSet;
 use std::alloc::{AllocError, Global};
 use std::marker::Model;
@@ -21,7 +21,7 @@ impl Model for NameTable {
 }
 
 ghost use Rattle.std.specs.Prelude.{◌≡◌, ◌<◌, ◌++◌, ◌∷◌, [], not, length, IfOk, IfSome, OnErr, if◌then◌else◌};
-ghost use Rattle.sfc_chart.specs.Names.{place_of, has};
+ghost use Rattle.sfc_expr.specs.NameLists.{place_of, has};
 
 impl NameTable {
     /// A table without names. It takes no memory yet.
@@ -35,21 +35,31 @@ impl NameTable {
 
     /// Puts a name last, and answers true; or leaves the table as it was where the name is there but for case, and
     /// answers false. After want of memory the table is as it was.
-    pub fn add(&mut self, name: NameKey) -> Result<bool, AllocError>
-        ensures added { IfOk result (λ added. added ≡ not (has self.old name)) }
-        ensures names { IfOk result (λ added. self.new ≡ (if added then self.old ++ name ∷ [] else self.old)) }
+    pub fn add(&mut self, alloc: Global, name: &[u8]) -> Result<bool, AllocError>
+        ensures added { IfOk result (λ added. added ≡ not (has self.old name.now)) }
+        ensures names { IfOk result (λ added. self.new ≡ (if added then self.old ++ name.now ∷ [] else self.old)) }
         ensures err { OnErr result (self.new ≡ self.old) }
     {
-        let (_, added) = self.names.insert_full(name)?;
-        Ok(added)
+        let key = NameKey::new(alloc, name)?;
+        match self.names.insert_full(key) {
+            Ok((_, added)) => Ok(added),
+            Err(_) => Err(AllocError),
+        }
     }
 
     /// The place of a name, counted from 0; case is not significant. It takes no memory.
-    pub fn find(&self, name: &NameKey) -> Option<usize>
+    pub fn find(&self, name: &[u8]) -> Option<usize>
         ensures place { result ≡ place_of name.now self.now }
         ensures within { IfSome result (λ place. place < length self.now) }
     {
-        self.names.get_index_of(name)
+        self.names.get_index_of(Word { spelling: name })
+    }
+
+    /// Whether a name is among them; case is not significant. It takes no memory.
+    pub fn contains(&self, name: &[u8]) -> bool
+        ensures { result ≡ has self.now name.now }
+    {
+        self.names.contains(Word { spelling: name })
     }
 
     /// How many names there are.

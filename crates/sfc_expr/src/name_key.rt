@@ -19,12 +19,20 @@ impl Model for NameKey {
     ghost view = { λ key. key.word.items };
 }
 
+/// A word that is looked up among keys, whatever the case of its letters. It owns nothing.
+#[derive(Clone, Copy, Debug)]
+pub struct Word<'a> {
+    pub spelling: &'a [u8],
+}
+
 ghost use Rattle.std.specs.Prelude.{◌≡◌, IfOk, fold};
 ghost use Rattle.std.specs.Str.{str_to_ascii_uppercase};
 ghost use Rattle.std.specs.Hash as fed;
 ghost use Rattle.sfc_tokens.specs.Case.{same_word};
 ghost use Rattle.sfc_tokens.proofs.SameWords.{same_word_equiv, same_word_partial_equiv, same_word_input};
+ghost use Rattle.std.specs.Cmp.{on_equiv, partial_equiv_from_equiv};
 
+use indexmap::Equivalent;
 use sfc_tokens::case::is_same_word;
 
 impl NameKey {
@@ -68,5 +76,41 @@ impl Hash for NameKey {
 
     fn hash<H: Hasher>(&self, state: &mut H) {
         hash_capitals(self.word.as_slice(), state);
+    }
+}
+
+impl PartialEq for Word<'_> {
+    ghost eq = { λ one other. same_word one.spelling.now other.spelling.now };
+
+    ghost laws = { partial_equiv_from_equiv (on_equiv (λ w. w.spelling.now) same_word_equiv) };
+
+    fn eq(&self, other: &Word<'_>) -> bool {
+        is_same_word(self.spelling, other.spelling)
+    }
+}
+
+impl Eq for Word<'_> {
+    ghost laws = { on_equiv (λ w. w.spelling.now) same_word_equiv };
+}
+
+impl Hash for Word<'_> {
+    ghost hash_input = { λ word. fed.slice fed.u8 (str_to_ascii_uppercase word.spelling.now) };
+
+    ghost respects_eq = { λ one other. same_word_input one.spelling.now other.spelling.now };
+
+    fn hash<H: Hasher>(&self, state: &mut H) {
+        hash_capitals(self.spelling, state);
+    }
+}
+
+impl Equivalent<NameKey> for Word<'_> {
+    ghost equivalent = { λ word. same_word word.spelling.now };
+
+    ghost respects_hash = { λ word. same_word_input word.spelling.now };
+
+    ghost respects_eq = { λ word. same_word_equiv.congr word.spelling.now };
+
+    fn equivalent(&self, key: &NameKey) -> bool {
+        is_same_word(self.spelling, key.word.as_slice())
     }
 }
