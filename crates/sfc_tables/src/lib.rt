@@ -1,0 +1,12 @@
+//! Charts by number, and the tables that a scan goes through (IEC 61131-3:2003, 2.6).
+//!
+//! - `action`: actions with a body, and the numbers that stand for them.
+//! - `association`: which action a step is associated with, and how.
+//! - `chart`: one chart, its steps, transitions and actions in text order.
+//! - `typed`: conditions and bodies that contracts compare by their trees.
+#![tactic(auto)]
+
+pub mod action;
+pub mod association;
+pub mod chart;
+pub mod typed;
