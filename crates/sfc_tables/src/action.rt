@@ -5,7 +5,7 @@ use sfc_tokens::name::Name;
 
 /// A declared action, by its place among those of its chart.
 #[derive(Clone, Copy, Debug, PartialEq, Eq)]
-pub struct ActionId(pub u16);
+pub struct ActionId(pub usize);
 
 /// An action that was declared, with its body.
 #[derive(Debug, Drop)]

@@ -1,9 +1,10 @@
 //! Why a chart was refused.
 
 ghost use Rattle.std.specs.Prelude.{◌≡◌};
-ghost use Rattle.sfc_chart.specs.LoadErrors.{number_of, name_of, name_of_limit};
-ghost use Rattle.sfc_chart.specs.declared.load_error.LoadError.TheVariants.{Memory};
+ghost use Rattle.sfc_variables.specs.LoadErrors.{number_of, name_of, name_of_limit};
+ghost use Rattle.sfc_variables.specs.declared.load_error.LoadError.TheVariants.{Memory};
 
+use sfc_expr::type_error::TypeError;
 use std::alloc::{AllocError, AllocFailed};
 use std::error::Error;
 use std::fmt;
@@ -126,7 +127,7 @@ impl LoadError {
 
 impl fmt::Display for LoadError {
     ghost use Rattle.std.specs.Prelude.{Some};
-    ghost use Rattle.sfc_chart.specs.LoadErrors.{error_text};
+    ghost use Rattle.sfc_variables.specs.LoadErrors.{error_text};
 
     ghost output = { λ error. Some (error_text error) };
 
@@ -151,6 +152,22 @@ impl From<AllocError> for LoadError {
 
     fn from(_error: AllocError) -> LoadError {
         LoadError::Memory
+    }
+}
+
+impl From<TypeError> for LoadError {
+    ghost use Rattle.sfc_variables.specs.LoadErrors.{of_type_error};
+
+    ghost from_gives = { λ fault error. error ≡ of_type_error fault };
+
+    fn from(fault: TypeError) -> LoadError {
+        match fault {
+            TypeError::Unknown => LoadError::Unknown,
+            TypeError::WrongType => LoadError::WrongType,
+            TypeError::LiteralRange => LoadError::LiteralRange,
+            TypeError::NotAssignable => LoadError::NotAssignable,
+            TypeError::Memory => LoadError::Memory,
+        }
     }
 }
 

@@ -1,0 +1,8 @@
+//! Program types: names are looked up, types are checked, numbers stand for what was named (IEC 61131-3:2003, 2.5.3,
+//! 2.6).
+//!
+//! - `program_type`: what a program type is loaded as; `load`: its trees to it.
+#![tactic(auto)]
+
+pub mod load;
+pub mod program_type;

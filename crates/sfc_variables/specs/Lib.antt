@@ -1,0 +1,14 @@
+-- The rules, in reading order.
+
+-- the numbers, names and texts of what loading refuses
+pub mod LoadErrors
+-- checks, one after the other, and what a function that makes them gives
+pub mod Checks
+-- where variables lie
+pub mod Places
+-- the variables that a text declares
+pub mod Declarations
+-- what a name among variables stands for
+pub mod Finding
+-- the variables of a program type
+pub mod Own

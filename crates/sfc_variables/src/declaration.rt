@@ -1,0 +1,1 @@
+//! One declared name to a variable (2.4.3).
