@@ -12,3 +12,5 @@ pub mod Declarations
 pub mod Finding
 -- the variables of a program type
 pub mod Own
+-- What private clauses cite.
+pub mod Drafts

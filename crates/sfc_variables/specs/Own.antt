@@ -23,8 +23,11 @@ pub data Own : Type 0 where
   -- of VAR_EXTERNAL, with its type
   AnExternal : List ℕ → VarType → Own
 
+abbrev pub named_as : External → List ℕ → Own
+named_as e name = AnExternal name e.var_type
+
 abbrev pub named_by : External → List Own
-named_by e = map (λ name. AnExternal name e.var_type) e.names
+named_by e = map (named_as e) e.names
 
 abbrev pub own_by : VariableBlock → List Own
 own_by (block.Local ds) = map ALocal (declared_in ds)

@@ -1,1 +1,67 @@
 //! One declared name to a variable (2.4.3).
+
+ghost use Rattle.std.specs.Prelude.{◌≡◌, IfOk};
+ghost use Rattle.sfc_variables.specs.Checks.{Loads};
+ghost use Rattle.sfc_variables.specs.Declarations as declarations;
+ghost use Rattle.sfc_variables.specs.Declarations.{declared_as, declared_check, initial_check};
+
+use crate::load_error::LoadError;
+use crate::place::fits_location;
+use crate::variable::Variable;
+use sfc_expr::literal::check_literal;
+use sfc_expr::value::{Value, default_value};
+use sfc_text::tree::{Declaration, Literal};
+use sfc_tokens::location::Location;
+use sfc_tokens::name::Name;
+use sfc_tokens::var_type::VarType;
+use std::alloc::{AllocError, Global};
+
+// The same location once more, if there is one.
+fn copy_location(alloc: Global, location: &Option<Location>) -> Result<Option<Location>, AllocError>
+    ensures { IfOk result (λ copy. copy ≡ location.now) }
+{
+    match location {
+        None => Ok(None),
+        Some(location) => {
+            let copy = location.copy(alloc)?;
+            Ok(Some(copy))
+        }
+    }
+}
+
+// The value that a variable of this type begins with.
+fn initial_value(var_type: VarType, initial: &Option<Literal>) -> Result<Value, LoadError>
+    ensures { Loads (λ value. value) result (initial_check var_type initial.now) (declarations.initial_value var_type initial.now) }
+{
+    match initial {
+        None => Ok(default_value(var_type)),
+        Some(literal) => match check_literal(*literal, var_type) {
+            Ok(value) => Ok(value),
+            Err(fault) => Err(LoadError::from(fault)),
+        },
+    }
+}
+
+/// One name of a declaration as a variable: `WrongType` where its location has another size than its type, else what is
+/// wrong with its initial value.
+pub(crate) fn declared_variable(
+    alloc: Global,
+    name: &Name,
+    declaration: &Declaration,
+) -> Result<Variable, LoadError>
+    ensures { let declared : _ = declared_as declaration.now name.now in
+        Loads (λ variable. variable) result (declared_check declared) (declarations.variable_of declared) }
+{
+    if !fits_location(declaration.var_type, &declaration.location) {
+        return Err(LoadError::WrongType);
+    }
+    let initial = initial_value(declaration.var_type, &declaration.initial)?;
+    let name = name.copy(alloc)?;
+    let location = copy_location(alloc, &declaration.location)?;
+    Ok(Variable {
+        name,
+        var_type: declaration.var_type,
+        location,
+        initial,
+    })
+}

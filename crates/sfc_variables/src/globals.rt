@@ -1,19 +1,83 @@
 //! The global variables (2.4.3, 2.7.1).
 
-ghost use Rattle.std.specs.Prelude.{◌≡◌};
-ghost use Rattle.sfc_variables.specs.Checks.{Loads};
-ghost use Rattle.sfc_variables.specs.Declarations.{globals_check, globals_of};
+ghost use Rattle.std.specs.Prelude.{◌≡◌, ◌++◌, ◌∷◌, [], map, OnOk};
+ghost use Rattle.sfc_variables.specs.Checks.{Loads, in_turn};
+ghost use Rattle.sfc_variables.specs.Declarations.{declared_name, declared_as, declared_by, declared_in, variable_of, global_check, globals_check, globals_of};
 
+use crate::declaration::declared_variable;
 use crate::load_error::LoadError;
+use crate::variable::Variable;
 use crate::variable_table::VariableTable;
+use sfc_expr::name_table::NameTable;
 use sfc_text::tree::Declaration;
+use sfc_tokens::name::Name;
 use std::alloc::Global;
+
+// The variables that were declared so far, and their names.
+#[derive(Drop)]
+struct Draft {
+    variables: Vec<Variable>,
+    names: NameTable,
+}
+
+// One more name of a declaration.
+fn declare_name(alloc: Global, name: &Name, declaration: &Declaration, draft: &mut Draft) -> Result<(), LoadError>
+    ensures loads { let declared : _ = declared_as declaration.now name.now in
+        Loads (λ u. draft.new.variables.items) result (global_check draft.old.names declared)
+        (draft.old.variables.items ++ variable_of declared ∷ []) }
+    ensures named { OnOk result (draft.new.names ≡ draft.old.names ++ name.now ∷ []) }
+{
+    if !draft.names.add(alloc, name.spelling())? {
+        return Err(LoadError::Duplicate);
+    }
+    let variable = declared_variable(alloc, name, declaration)?;
+    draft.variables.push(variable)?;
+    Ok(())
+}
+
+// All names of a declaration.
+fn declare(alloc: Global, declaration: &Declaration, draft: &mut Draft) -> Result<(), LoadError>
+    ensures loads { Loads (λ u. draft.new.variables.items) result
+        (in_turn declared_name global_check draft.old.names (declared_by declaration.now))
+        (draft.old.variables.items ++ map variable_of (declared_by declaration.now)) }
+    ensures named { OnOk result (draft.new.names ≡ draft.old.names ++ map declared_name (declared_by declaration.now)) }
+{
+    let mut rest = declaration.names.as_slice();
+    'names: while let Some((name, after)) = rest.split_first() {
+        declare_name(alloc, name, declaration, draft)?;
+        rest = after;
+    }
+    Ok(())
+}
+
+// All names of all declarations.
+#[tactic(auto, using(crate::proofs::Checks::more_checked, crate::proofs::Checks::more_fails, crate::proofs::Checks::more_built))]
+fn declare_all(alloc: Global, declarations: &[Declaration], draft: &mut Draft) -> Result<(), LoadError>
+    ensures loads { Loads (λ u. draft.new.variables.items) result
+        (in_turn declared_name global_check draft.old.names (declared_in declarations.now))
+        (draft.old.variables.items ++ map variable_of (declared_in declarations.now)) }
+    ensures named { OnOk result (draft.new.names ≡ draft.old.names ++ map declared_name (declared_in declarations.now)) }
+{
+    let mut rest = declarations;
+    'declarations: while let Some((declaration, after)) = rest.split_first() {
+        declare(alloc, declaration, draft)?;
+        rest = after;
+    }
+    Ok(())
+}
 
 /// The variables that the declarations declare, in text order, or the first fault in text order: `Duplicate` for a
 /// name that stands twice, `WrongType` for a location of another size than its variable's type, and what is wrong with
 /// the initial value (3.3).
+#[tactic(auto, unfolding(crate::specs::Declarations::globals_check), using(crate::proofs::Named::same_names))]
 pub fn load_globals(alloc: Global, declarations: &[Declaration]) -> Result<VariableTable, LoadError>
     ensures { Loads (λ table. table) result (globals_check declarations.now) (globals_of declarations.now) }
 {
-    Err(LoadError::Memory)
+    let mut draft = Draft {
+        variables: Vec::new(alloc),
+        names: NameTable::new(alloc),
+    };
+    declare_all(alloc, declarations, &mut draft)?;
+    let Draft { variables, names } = draft;
+    Ok(VariableTable::from_parts(variables, names))
 }

@@ -41,6 +41,14 @@ impl VariableTable {
         }
     }
 
+    /// The table of these variables and of their names.
+    pub(crate) fn from_parts(variables: Vec<Variable>, names: NameTable) -> VariableTable
+        requires { names ≡ names_of variables.items }
+        ensures { result ≡ variables.items }
+    {
+        VariableTable { variables, names }
+    }
+
     /// The variables, in declared order.
     pub fn as_slice(&self) -> &[Variable]
         ensures { result.now ≡ self.now }

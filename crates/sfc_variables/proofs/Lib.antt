@@ -1,0 +1,4 @@
+pub mod Checks
+pub mod Named
+pub mod Within
+pub mod Extending
