@@ -1,4 +1,2 @@
-pub mod TableLemmas
-pub mod Checks
-pub mod Narrowed
-pub mod Soundness
+pub mod Images
+pub mod Named

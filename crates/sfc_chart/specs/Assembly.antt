@@ -1,3 +1,3 @@
--- What private clauses cite: a plant while it is put together, and its tables of names.
+-- What private clauses cite.
 pub mod Parts
 pub mod PlantView

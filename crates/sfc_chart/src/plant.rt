@@ -1,40 +1,15 @@
 //! A plant: what a whole text was loaded as.
 
-use crate::chart::ProgramType;
 use crate::ids::{ProgId, TaskId, VarId};
-use crate::name_key::NameKey;
-use crate::name_table::NameTable;
-use crate::value::Value;
+use crate::instance::Instance;
+use crate::task::Task;
+use sfc_expr::name_table::NameTable;
+use sfc_program::program_type::ProgramType;
 use sfc_tokens::items::Items;
-use sfc_tokens::location::Location;
 use sfc_tokens::name::Name;
-use sfc_tokens::var_type::VarType;
+use sfc_variables::variable::Variable;
+use sfc_variables::variable_table::VariableTable;
 use std::marker::Model;
-
-/// A variable, with the value that it begins with (2.4.2) and its location, if it has one (2.4.1.1).
-#[derive(Debug, Drop)]
-pub struct Variable {
-    pub name: Name,
-    pub var_type: VarType,
-    pub location: Option<Location>,
-    pub initial: Value,
-}
-
-/// A task (2.7.2). The interval is in microseconds, 0 for none; a lower priority number goes first.
-#[derive(Debug, Drop)]
-pub struct Task {
-    pub name: Name,
-    pub interval: i64,
-    pub priority: u32,
-}
-
-/// A program instance: its task, and its program type by number (2.7.2).
-#[derive(Debug, Drop)]
-pub struct Instance {
-    pub name: Name,
-    pub task: TaskId,
-    pub program: usize,
-}
 
 /// A loaded configuration with its one resource (2.7.1). Contracts see all that the text said, as a record.
 #[derive(Drop)]
@@ -42,19 +17,25 @@ pub struct Plant {
     pub(crate) configuration: Name,
     pub(crate) resource: Name,
     pub(crate) processor: Name,
-    pub(crate) variables: Items<Variable>,
-    pub(crate) variable_names: NameTable,
+    pub(crate) globals: VariableTable,
     pub(crate) tasks: Items<Task>,
     pub(crate) task_names: NameTable,
     pub(crate) types: Items<ProgramType>,
+    pub(crate) type_names: NameTable,
     pub(crate) instances: Items<Instance>,
     pub(crate) instance_names: NameTable,
+    pub(crate) starts: Items<usize>,
 }
 
 impl Model for Plant {
-    ghost use Rattle.sfc_chart.specs.Chart.{PlantData};
+    ghost use Rattle.sfc_chart.specs.Plants.{PlantData};
 
     ghost Value = { PlantData };
+
+    ghost use Rattle.std.specs.Coded.{codes};
+    ghost use Rattle.sfc_program.specs.contracts.program_type.ProgramType as program_type;
+
+    ghost coded = { Prim.hlevel (codes, program_type.the_row.coded) };
 
     ghost use Rattle.sfc_chart.specs.Assembly.PlantView.{plant_data, IsLoaded};
 
@@ -63,12 +44,11 @@ impl Model for Plant {
     ghost invariant = { IsLoaded };
 }
 
-ghost use Rattle.std.specs.Prelude.{◌≡◌};
+ghost use Rattle.std.specs.Prelude.{◌≡◌, ◌<◌, length};
+ghost use Rattle.sfc_chart.specs.Sound.{IsLoadable, IsPlant};
+ghost use Rattle.sfc_chart.specs.Finding.{variable_named, task_named, instance_named, type_named};
 
 impl Plant {
-    ghost use Rattle.sfc_chart.specs.Chart.{IsPlant};
-    ghost use Rattle.sfc_chart.specs.Finding.{variable_named, task_named, instance_named};
-
     /// The name of the configuration, as it was written.
     pub fn configuration(&self) -> &Name
         ensures { result.now ≡ self.now.configuration }
@@ -90,12 +70,12 @@ impl Plant {
         &self.processor
     }
 
-    /// The variables, in the order of the image.
-    pub fn variables(&self) -> &[Variable]
-        ensures value { result.now ≡ self.now.variables }
+    /// The global variables: those of the configuration, and then those of its resource.
+    pub fn globals(&self) -> &[Variable]
+        ensures value { result.now ≡ self.now.globals }
         ensures sound { IsPlant self.now }
     {
-        self.variables.as_slice()
+        self.globals.as_slice()
     }
 
     /// The tasks, in text order.
@@ -110,6 +90,7 @@ impl Plant {
     pub fn types(&self) -> &[ProgramType]
         ensures value { result.now ≡ self.now.types }
         ensures sound { IsPlant self.now }
+        ensures loadable { IsLoadable self.now }
     {
         self.types.as_slice()
     }
@@ -122,16 +103,16 @@ impl Plant {
         self.instances.as_slice()
     }
 
-    /// The variable with this name; case is not significant. It takes no memory.
-    pub fn find_variable(&self, name: &NameKey) -> Option<VarId>
+    /// The global variable with this name; case is not significant. It takes no memory.
+    pub fn find_variable(&self, name: &[u8]) -> Option<VarId>
         ensures { result ≡ variable_named self.now name.now }
     {
-        let place = self.variable_names.find(name)?;
+        let place = self.globals.find(name)?;
         Some(VarId(place as u16))
     }
 
     /// The task with this name; case is not significant. It takes no memory.
-    pub fn find_task(&self, name: &NameKey) -> Option<TaskId>
+    pub fn find_task(&self, name: &[u8]) -> Option<TaskId>
         ensures { result ≡ task_named self.now name.now }
     {
         let place = self.task_names.find(name)?;
@@ -139,10 +120,17 @@ impl Plant {
     }
 
     /// The program instance with this name; case is not significant. It takes no memory.
-    pub fn find_instance(&self, name: &NameKey) -> Option<ProgId>
+    pub fn find_instance(&self, name: &[u8]) -> Option<ProgId>
         ensures { result ≡ instance_named self.now name.now }
     {
         let place = self.instance_names.find(name)?;
         Some(ProgId(place as u8))
+    }
+
+    /// The number of the program type with this name; case is not significant. It takes no memory.
+    pub fn find_type(&self, name: &[u8]) -> Option<usize>
+        ensures { result ≡ type_named self.now name.now }
+    {
+        self.type_names.find(name)
     }
 }

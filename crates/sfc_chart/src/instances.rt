@@ -1,41 +1,35 @@
 //! Program instances (2.7.2).
 
 ghost use Rattle.std.specs.Prelude.{◌≡◌, ◌≤◌, ◌++◌, ◌∷◌, [], length, map, OnOk, IfOk};
-ghost use Rattle.sfc_chart.specs.Loading.{in_turn, instance_name, instance_check, instance_names, task_number, instances_check};
-ghost use Rattle.sfc_chart.specs.Built.{Loads, instance_of};
+ghost use Rattle.sfc_variables.specs.Checks.{Loads, in_turn};
+ghost use Rattle.sfc_chart.specs.Loading as loading;
+ghost use Rattle.sfc_chart.specs.Loading.{instance_name, instance_check, instances_check};
+ghost use Rattle.sfc_chart.specs.Built.{instance_of};
 
 use crate::ids::TaskId;
-use crate::load_error::{Limit, LoadError};
-use crate::name_key::NameKey;
-use crate::name_table::NameTable;
-use crate::plant::Instance;
-use crate::simple;
+use crate::instance::Instance;
+use sfc_expr::name_table::NameTable;
+use sfc_text::tree;
 use sfc_tokens::name::Name;
-use std::alloc::{AllocError, Global};
+use sfc_variables::load_error::{Limit, LoadError};
+use std::alloc::Global;
 
 /// The most instances.
 const INSTANCES: usize = 64;
 
 // The number of a task, if one is named that is there.
-fn number_of_task(
-    alloc: Global,
-    name: &Option<Name>,
-    tasks: &NameTable,
-) -> Result<Option<usize>, AllocError>
-    ensures { IfOk result (λ number. number ≡ task_number tasks.now name.now) }
+fn task_number(name: &Option<Name>, tasks: &NameTable) -> Option<usize>
+    ensures { result ≡ loading.task_number tasks.now name.now }
 {
     match name {
-        None => Ok(None),
-        Some(name) => {
-            let key = NameKey::new(alloc, name.spelling())?;
-            Ok(tasks.find(&key))
-        }
+        None => None,
+        Some(name) => tasks.find(name.spelling()),
     }
 }
 
 fn load_instance(
     alloc: Global,
-    instance: &simple::Instance,
+    instance: &tree::Instance,
     tasks: &NameTable,
     types: &NameTable,
     names: &mut NameTable,
@@ -44,15 +38,13 @@ fn load_instance(
     ensures loads { Loads (λ loaded. loaded) result (instance_check tasks.now types.now names.old instance.now) (instance_of tasks.now types.now instance.now) }
     ensures named { OnOk result (names.new ≡ names.old ++ instance.now.name ∷ []) }
 {
-    let key = NameKey::new(alloc, instance.name.spelling())?;
-    if !names.add(key)? {
+    if !names.add(alloc, instance.name.spelling())? {
         return Err(LoadError::Duplicate);
     }
-    let Some(task) = number_of_task(alloc, &instance.task, tasks)? else {
+    let Some(task) = task_number(&instance.task, tasks) else {
         return Err(LoadError::NoTask);
     };
-    let key = NameKey::new(alloc, instance.program.spelling())?;
-    let Some(program) = types.find(&key) else {
+    let Some(program) = types.find(instance.program.spelling()) else {
         return Err(LoadError::UnknownType);
     };
     Ok(Instance {
@@ -65,7 +57,7 @@ fn load_instance(
 // Each instance in turn, and the table of their names.
 fn load_each(
     alloc: Global,
-    instances: &[simple::Instance],
+    instances: &[tree::Instance],
     tasks: &NameTable,
     types: &NameTable,
 ) -> Result<(Vec<Instance>, NameTable), LoadError>
@@ -73,7 +65,7 @@ fn load_each(
     ensures loads { Loads (λ loaded. loaded.0.items) result
         (in_turn instance_name (instance_check tasks.now types.now) [] instances.now)
         (map (instance_of tasks.now types.now) instances.now) }
-    ensures named { IfOk result (λ loaded. loaded.1 ≡ instance_names instances.now) }
+    ensures named { IfOk result (λ loaded. loaded.1 ≡ map instance_name instances.now) }
 {
     let mut loaded = Vec::new(alloc);
     let mut names = NameTable::new(alloc);
@@ -88,9 +80,9 @@ fn load_each(
 
 /// At most 64 instances, and the table of their names.
 #[tactic(auto, unfolding(crate::specs::Loading::instances_check))]
-pub fn load_instances(
+pub(crate) fn load_instances(
     alloc: Global,
-    instances: &[simple::Instance],
+    instances: &[tree::Instance],
     tasks: &NameTable,
     types: &NameTable,
 ) -> Result<(Vec<Instance>, NameTable), LoadError>
@@ -98,7 +90,7 @@ pub fn load_instances(
     ensures loads { Loads (λ loaded. loaded.0.items) result
         (instances_check tasks.now types.now instances.now)
         (map (instance_of tasks.now types.now) instances.now) }
-    ensures named { IfOk result (λ loaded. loaded.1 ≡ instance_names instances.now) }
+    ensures named { IfOk result (λ loaded. loaded.1 ≡ map instance_name instances.now) }
 {
     if instances.len() > INSTANCES {
         return Err(LoadError::Limit(Limit::Instances));
