@@ -8,3 +8,5 @@ pub mod Names
 pub mod Loading
 -- the program type that a text without fault is
 pub mod Built
+-- What private clauses cite.
+pub mod Scoping

@@ -6,3 +6,4 @@
 
 pub mod load;
 pub mod program_type;
+mod scope;

@@ -1,0 +1,3 @@
+-- Where the loader looks names up.
+pub mod Scoped
+pub mod AnyCase
