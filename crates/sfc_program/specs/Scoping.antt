@@ -1,3 +1,2 @@
 -- Where the loader looks names up.
-pub mod Scoped
 pub mod AnyCase

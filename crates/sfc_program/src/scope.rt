@@ -8,41 +8,46 @@ use sfc_tokens::var_type::VarType;
 use sfc_variables::variable_table::VariableTable;
 use std::marker::Model;
 
-/// Where a name stands: in a program type with these variables, steps and actions, and there in the body of its own
-/// action, if it stands in one. There are at most 1,024 steps.
+/// A program type with these variables, steps and actions, as the conditions of its transitions see it. There are at
+/// most 1,024 steps.
+#[derive(Drop)]
 pub struct ProgramScope<'a> {
     globals: &'a VariableTable,
     locals: &'a VariableTable,
     steps: &'a NameTable,
     actions: &'a NameTable,
-    own: Option<&'a [u8]>,
 }
 
 impl<'a> Model for ProgramScope<'a> {
     ghost use Rattle.std.specs.Prelude.{◌≤◌, length};
-    ghost use Rattle.std.specs.Option.{option_map};
-    ghost use Rattle.sfc_program.specs.Scoping.Scoped.{Scoped};
+    ghost use Rattle.sfc_program.specs.Names.{Space};
 
-    ghost Value = { Scoped };
+    ghost Value = { Space };
 
     ghost view = { λ scope. record {
-        space = record {
-            globals = scope.globals.now;
-            locals = scope.locals.now;
-            steps = scope.steps.now;
-            actions = scope.actions.now;
-        };
-        own = option_map (λ name. name.now) scope.own;
+        globals = scope.globals.now;
+        locals = scope.locals.now;
+        steps = scope.steps.now;
+        actions = scope.actions.now;
     } };
 
     ghost invariant = { λ scope. length scope.steps.now ≤ 1024 };
 }
 
+/// A program type, as the body of one of its actions sees it.
+#[derive(Drop)]
+pub struct ActionScope<'a> {
+    pub program: &'a ProgramScope<'a>,
+    pub own: &'a [u8],
+}
+
 ghost use Rattle.std.specs.Prelude.{◌≡◌, ◌≤◌, length, Some, None};
 ghost use Rattle.sfc_expr.specs.NameLists.{place_of};
+ghost use Rattle.sfc_program.specs.Names.{names_in};
+ghost use Rattle.sfc_program.specs.Scoping.AnyCase.{ignoring_case};
 
 impl<'a> ProgramScope<'a> {
-    /// Where a name stands in no action.
+    /// A program type with these variables, steps and actions.
     pub fn new(
         globals: &'a VariableTable,
         locals: &'a VariableTable,
@@ -50,48 +55,31 @@ impl<'a> ProgramScope<'a> {
         actions: &'a NameTable,
     ) -> ProgramScope<'a>
         requires { length steps.now ≤ 1024 }
-        ensures globals { result.space.globals ≡ globals.now }
-        ensures locals { result.space.locals ≡ locals.now }
-        ensures steps { result.space.steps ≡ steps.now }
-        ensures actions { result.space.actions ≡ actions.now }
-        ensures own { result.own ≡ None }
+        ensures { result ≡ record {
+            globals = globals.now;
+            locals = locals.now;
+            steps = steps.now;
+            actions = actions.now;
+        } }
     {
         ProgramScope {
             globals,
             locals,
             steps,
             actions,
-            own: None,
-        }
-    }
-
-    /// Where a name stands in the body of this action.
-    pub fn in_action(&self, own: &'a [u8]) -> ProgramScope<'a>
-        ensures space { result.space ≡ self.now.space }
-        ensures own { result.own ≡ Some own.now }
-    {
-        ProgramScope {
-            globals: self.globals,
-            locals: self.locals,
-            steps: self.steps,
-            actions: self.actions,
-            own: Some(own),
         }
     }
 
     /// The place of the declared action with this name.
     pub fn action(&self, name: &[u8]) -> Option<usize>
-        ensures { result ≡ place_of name.now self.now.space.actions }
+        ensures { result ≡ place_of name.now self.now.actions }
     {
         self.actions.find(name)
     }
 }
 
 impl Scope for ProgramScope<'_> {
-    ghost use Rattle.sfc_program.specs.Scoping.Scoped.{names_at};
-    ghost use Rattle.sfc_program.specs.Scoping.AnyCase.{ignoring_case};
-
-    ghost names = { names_at };
+    ghost names = { λ space. names_in space None };
 
     fn variable(&self, name: &[u8]) -> Option<(Variable, VarType)> {
         if let Some(place) = self.locals.find(name) {
@@ -108,12 +96,27 @@ impl Scope for ProgramScope<'_> {
         Some(StepId(place as u16))
     }
 
-    fn is_own_action(&self, name: &[u8]) -> bool {
-        match self.own {
-            Some(own) => is_same_word(own, name),
-            None => false,
-        }
+    fn is_own_action(&self, _name: &[u8]) -> bool {
+        false
     }
 
-    ghost ignores_case = { ignoring_case };
+    ghost ignores_case = { ignoring_case None };
+}
+
+impl Scope for ActionScope<'_> {
+    ghost names = { λ scope. names_in scope.program.now (Some scope.own.now) };
+
+    fn variable(&self, name: &[u8]) -> Option<(Variable, VarType)> {
+        self.program.variable(name)
+    }
+
+    fn step(&self, name: &[u8]) -> Option<StepId> {
+        self.program.step(name)
+    }
+
+    fn is_own_action(&self, name: &[u8]) -> bool {
+        is_same_word(self.own, name)
+    }
+
+    ghost ignores_case = { λ scope. ignoring_case (Some scope.own.now) scope.program.now };
 }

@@ -6,11 +6,9 @@ use Rattle.sfc_tokens.specs.Case.{same_word}
 use Rattle.sfc_tokens.proofs.SameWords.{same_word_equiv}
 use Rattle.sfc_expr.specs.NameLists.{place_of}
 use Rattle.sfc_expr.specs.Scopes.{IgnoresCase}
-use Rattle.sfc_variables.specs.declared.variable.Variable.{Variable}
-use Rattle.sfc_variables.specs.Finding.{names_of, typed_at, or_else}
 use Rattle.sfc_expr.specs.declared.variable.Variable.TheVariants.{Global, Local}
-use Rattle.sfc_program.specs.Names.{Space, is_name_of}
-use Rattle.sfc_program.specs.Scoping.Scoped.{Scoped, names_at}
+use Rattle.sfc_variables.specs.Finding.{names_of, typed_at, or_else}
+use Rattle.sfc_program.specs.Names.{Space, is_name_of, names_in}
 
 -- words that are one but for case are found alike
 alike : (one other : List ℕ) → same_word one other ≡ true → same_word one ≡ same_word other
@@ -24,11 +22,11 @@ own_alike None one other same = refl
 own_alike (Some own) one other same =
     same_word_equiv.symm own one ∙ same_word_equiv.congr one other own same ∙ same_word_equiv.symm other own
 
-pub ignoring_case : (scope : Scoped) → IgnoresCase (names_at scope)
-ignoring_case scope = record {
+pub ignoring_case : (own : Option (List ℕ)) (space : Space) → IgnoresCase (names_in space own)
+ignoring_case own space = record {
   variable = λ one other same i. or_else
-      (typed_at (λ place. Local (record { 0 = place })) scope.space.locals (place_alike (names_of scope.space.locals) one other same i))
-      (typed_at (λ place. Global (record { 0 = place })) scope.space.globals (place_alike (names_of scope.space.globals) one other same i));
-  step = λ one other same. ap (option_map (λ place. record { 0 = place })) (place_alike scope.space.steps one other same);
-  is_own_action = own_alike scope.own;
+      (typed_at (λ place. Local (record { 0 = place })) space.locals (place_alike (names_of space.locals) one other same i))
+      (typed_at (λ place. Global (record { 0 = place })) space.globals (place_alike (names_of space.globals) one other same i));
+  step = λ one other same. ap (option_map (λ place. record { 0 = place })) (place_alike space.steps one other same);
+  is_own_action = own_alike own;
 }
