@@ -32,4 +32,6 @@ in_parts before (x ∷ a) b =
 
 -- the steps before the others
 pub steps_first : (before : List (List ℕ)) (trees : List ElementTree) → distinct_check before (element_names trees) ≡ (distinct_check before (step_names trees) then distinct_check (before ++ step_names trees) (action_names trees ++ transition_names trees))
-steps_first before trees = in_parts before (step_names trees) (action_names trees ++ transition_names trees)
+steps_first before trees =
+    ap (distinct_check before) (append_assoc (step_names trees) (action_names trees) (transition_names trees))
+    ∙ in_parts before (step_names trees) (action_names trees ++ transition_names trees)
