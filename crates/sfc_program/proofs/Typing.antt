@@ -1,5 +1,5 @@
 -- What checking types gives, as a check.
-use Rattle.std.proofs.Common.{◌≡◌, Option, Some, None, Result, Ok, Err, ap}
+use Rattle.std.proofs.Common.{◌≡◌, None, Ok, ap}
 use Rattle.sfc_expr.specs.declared.type_error.TypeError.{TypeError}
 use Rattle.sfc_expr.specs.declared.type_error.TypeError.TheVariants as error
 use Rattle.sfc_expr.specs.TypeFaults as types

@@ -27,7 +27,7 @@ fn load_body(
     scope: &ProgramScope,
 ) -> Result<Statements, LoadError>
     ensures { let outcome : _ =
-            checked_body (names_in scope.now (Some action.now.name)) (block_of action.now.body.items) in
+        checked_body (names_in scope.now (Some action.now.name)) (block_of action.now.body.items) in
         Loads (λ loaded. loaded) result (typed outcome) (checked_or Nothing outcome) }
 {
     let inside = ActionScope {

@@ -97,7 +97,10 @@ fn qualifier(qualifier: &tree::Qualifier, scope: &ProgramScope) -> Result<Qualif
         tree::Qualifier::Pulse => Ok(Qualifier::Pulse),
         tree::Qualifier::RisingPulse => Ok(Qualifier::RisingPulse),
         tree::Qualifier::FallingPulse => Ok(Qualifier::FallingPulse),
-        tree::Qualifier::Timed(timed, written) => Ok(Qualifier::Timed(*timed, time(written, scope)?)),
+        tree::Qualifier::Timed(timed, written) => Ok(Qualifier::Timed(
+            *timed,
+            time(written, scope)?,
+        )),
     }
 }
 

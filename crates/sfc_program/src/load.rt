@@ -25,11 +25,7 @@ use sfc_variables::variable_table::VariableTable;
 use std::alloc::Global;
 
 // The chart of the elements, whose names are known: associations, then transitions, then bodies.
-fn load_chart(
-    alloc: Global,
-    elements: &[Element],
-    scope: &ProgramScope,
-) -> Result<Chart, LoadError>
+fn load_chart(alloc: Global, elements: &[Element], scope: &ProgramScope) -> Result<Chart, LoadError>
     ensures { let trees : _ = map element_of elements.now in
         Loads (λ chart. chart) result (chart_check scope.now trees) (chart_of scope.now trees) }
 {
@@ -55,10 +51,10 @@ fn load_elements(
     requires { length (steps_of (map element_of elements.now)) ≤ 1024 }
     ensures { let trees : _ = map element_of elements.now in
         let names : _ = record {
-            globals = globals.now;
-            locals = locals.now;
-            steps = step_names trees;
-            actions = action_names trees;
+          globals = globals.now;
+          locals = locals.now;
+          steps = step_names trees;
+          actions = action_names trees;
         } in
         Loads (λ chart. chart) result
         (distinct_check space.old (element_names trees) then initial_check trees then chart_check names trees)
@@ -76,7 +72,11 @@ fn load_elements(
 /// names that stand twice, of steps, then actions, then transitions; no initial step; associations; transitions;
 /// bodies. `Memory` is answered where memory was refused.
 #[tactic(auto, unfolding(crate::specs::Loading::program_check))]
-pub fn load_program(alloc: Global, program: &Program, globals: &VariableTable) -> Result<ProgramType, LoadError>
+pub fn load_program(
+    alloc: Global,
+    program: &Program,
+    globals: &VariableTable,
+) -> Result<ProgramType, LoadError>
     ensures { Loads (λ loaded. loaded) result
         (program_check globals.now (trees.program_of program.now))
         (program_of globals.now (trees.program_of program.now)) }

@@ -25,10 +25,10 @@ impl<'a> Model for ProgramScope<'a> {
     ghost Value = { Space };
 
     ghost view = { λ scope. record {
-        globals = scope.globals.now;
-        locals = scope.locals.now;
-        steps = scope.steps.now;
-        actions = scope.actions.now;
+      globals = scope.globals.now;
+      locals = scope.locals.now;
+      steps = scope.steps.now;
+      actions = scope.actions.now;
     } };
 
     ghost invariant = { λ scope. length scope.steps.now ≤ 1024 };
@@ -56,10 +56,10 @@ impl<'a> ProgramScope<'a> {
     ) -> ProgramScope<'a>
         requires { length steps.now ≤ 1024 }
         ensures { result ≡ record {
-            globals = globals.now;
-            locals = locals.now;
-            steps = steps.now;
-            actions = actions.now;
+          globals = globals.now;
+          locals = locals.now;
+          steps = steps.now;
+          actions = actions.now;
         } }
     {
         ProgramScope {
