@@ -1,5 +1,5 @@
 -- The program type that a text without fault is: each name that was looked up stands as what it is.
-use Rattle.std.specs.Prelude.{ℕ, pos, ℤ, false, List, map, Option, Some, None, unwrap_or}
+use Rattle.std.specs.Prelude.{ℕ, false, List, map, Option, Some, None, unwrap_or}
 use Rattle.sfc_tokens.specs.declared.var_type.VarType.{VarType}
 use Rattle.sfc_tokens.specs.declared.var_type.VarType.TheVariants as types
 use Rattle.sfc_text.specs.declared.tree.Association as text_association
@@ -13,7 +13,7 @@ use Rattle.sfc_expr.specs.declared.value.Value.TheVariants as value
 use Rattle.sfc_expr.specs.declared.variable.Variable as expr
 use Rattle.sfc_expr.specs.declared.variable.Variable.TheVariants.{Global}
 use Rattle.sfc_expr.specs.declared.variable.StepId.{StepId}
-use Rattle.sfc_expr.specs.Trees.{Expression, Literal, Body, Nothing}
+use Rattle.sfc_expr.specs.Trees.{Literal, Nothing}
 use Rattle.sfc_expr.specs.Checking.{checked, checked_body}
 use Rattle.sfc_expr.specs.NameLists.{place_of}
 use Rattle.sfc_variables.specs.declared.variable.Variable.{Variable}

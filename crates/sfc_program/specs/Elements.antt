@@ -1,5 +1,5 @@
 -- The elements of a program type by kind, each kind in text order (2.6.2, 2.6.3, 2.6.4.1).
-use Rattle.std.specs.Prelude.{ℕ, List, map, ◌++◌, Option, Some, None, sum_by, length}
+use Rattle.std.specs.Prelude.{ℕ, List, map, Option, Some, None, sum_by, length}
 use Rattle.std.specs.List.{filter_map}
 use Rattle.sfc_text.specs.declared.tree.Step.{Step}
 use Rattle.sfc_text.specs.Trees.{ElementTree, AStep, ATransition, AnAction, TransitionTree, ActionTree}

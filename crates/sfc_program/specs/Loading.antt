@@ -1,6 +1,6 @@
 -- What loading accepts of a program type (2.5.3, 2.6.2 to 2.6.4): the checks, each a fact about the text's trees, in the order in
 -- which they are made (our choice of order).
-use Rattle.std.specs.Prelude.{ℕ, nat_lt, Bool, true, false, not, is_none, List, [], ◌++◌, length, map, Option, Some, None}
+use Rattle.std.specs.Prelude.{ℕ, nat_lt, not, is_none, List, [], ◌++◌, length, Option, Some, None}
 use Rattle.std.specs.List.{list_any}
 use Rattle.sfc_tokens.specs.declared.var_type.VarType.{VarType}
 use Rattle.sfc_tokens.specs.declared.var_type.VarType.TheVariants as types

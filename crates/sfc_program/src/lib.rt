@@ -4,5 +4,11 @@
 //! - `program_type`: what a program type is loaded as; `load`: its trees to it.
 #![tactic(auto)]
 
+mod actions;
+mod associations;
+mod element_names;
+mod limits;
 pub mod load;
 pub mod program_type;
+mod scope;
+mod transitions;

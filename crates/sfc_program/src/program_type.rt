@@ -1,7 +1,11 @@
 //! Program types (2.5.3).
 
+ghost use Rattle.std.specs.Prelude.{◌≡◌};
+ghost use Rattle.sfc_program.specs.Finding.{step_place, action_place, transition_place, is_named};
+
 use sfc_expr::variable::GlobalId;
 use sfc_tables::chart::Chart;
+use sfc_tokens::case::is_same_word;
 use sfc_tokens::items::Items;
 use sfc_tokens::name::Name;
 use sfc_variables::variable_table::VariableTable;
@@ -14,4 +18,43 @@ pub struct ProgramType {
     pub locals: VariableTable,
     pub externals: Items<GlobalId>,
     pub chart: Chart,
+}
+
+impl ProgramType {
+    /// The place of the step with this name among the steps, counted from 0; case is not significant (2.1.2). It takes
+    /// no memory.
+    pub fn find_step(&self, name: &[u8]) -> Option<usize>
+        ensures { result ≡ step_place self.now.chart name.now }
+    {
+        let mut steps = self.chart.steps.as_slice().iter();
+        steps.position(|step| is_same_word(name, step.name.spelling()))
+    }
+
+    /// The place of the declared action with this name among the actions, counted from 0; case is not significant
+    /// (2.1.2). It takes no memory.
+    pub fn find_action(&self, name: &[u8]) -> Option<usize>
+        ensures { result ≡ action_place self.now.chart name.now }
+    {
+        let mut actions = self.chart.actions.as_slice().iter();
+        actions.position(|action| is_same_word(name, action.name.spelling()))
+    }
+
+    /// The place of the transition with this name among the transitions, counted from 0; case is not significant
+    /// (2.1.2). It takes no memory.
+    pub fn find_transition(&self, name: &[u8]) -> Option<usize>
+        ensures { result ≡ transition_place self.now.chart name.now }
+    {
+        let mut transitions = self.chart.transitions.as_slice().iter();
+        transitions.position(|transition| is_this(&transition.name, name))
+    }
+}
+
+// Whether what may have a name has this one.
+fn is_this(own: &Option<Name>, name: &[u8]) -> bool
+    ensures { result ≡ is_named name.now own.now }
+{
+    match own {
+        Some(own) => is_same_word(name, own.spelling()),
+        None => false,
+    }
 }

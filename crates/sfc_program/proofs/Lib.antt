@@ -1,0 +1,4 @@
+pub mod Checks
+pub mod Typing
+pub mod Distinct
+pub mod Soundness

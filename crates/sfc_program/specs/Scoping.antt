@@ -1,0 +1,2 @@
+-- Where the loader looks names up.
+pub mod AnyCase

@@ -1,0 +1,202 @@
+//! Steps with their associations (2.6.2, 2.6.4).
+
+ghost use Rattle.std.specs.Prelude.{◌≡◌, ◌++◌, map};
+ghost use Rattle.sfc_text.specs.Trees.{element_of};
+ghost use Rattle.sfc_variables.specs.Checks.{Loads, each};
+ghost use Rattle.sfc_variables.specs.Finding.{variable_named};
+ghost use Rattle.sfc_program.specs.Elements.{steps_of};
+ghost use Rattle.sfc_program.specs.Loading.{variable_check, target_check, time_check, qualifier_check, indicator_check, association_check, step_check};
+ghost use Rattle.sfc_program.specs.Built.{variable_in, target_of, time_of, qualifier_of, association_of, step_of};
+
+use crate::scope::ProgramScope;
+use sfc_expr::literal::check_literal;
+use sfc_expr::scope::Scope;
+use sfc_expr::variable::Variable;
+use sfc_tables::action::ActionId;
+use sfc_tables::association::{Association, Qualifier, Target, Time};
+use sfc_tables::chart::Step;
+use sfc_text::tree::{self, AssociationTime, Element, Literal};
+use sfc_tokens::items::Items;
+use sfc_tokens::name::Name;
+use sfc_tokens::var_type::VarType;
+use sfc_variables::load_error::LoadError;
+use std::alloc::Global;
+
+// The variable of this name, which has to be of a type: else the first fault where there is none, and the second where
+// it has another type.
+fn variable_of_type(
+    name: &Name,
+    scope: &ProgramScope,
+    wanted: VarType,
+    missing: LoadError,
+    wrong: LoadError,
+) -> Result<Variable, LoadError>
+    ensures { let found : _ = variable_named scope.now.locals scope.now.globals name.now in
+        Loads (λ variable. variable) result (variable_check wanted missing wrong found) (variable_in scope.now name.now) }
+{
+    match scope.variable(name.spelling()) {
+        None => Err(missing),
+        Some((variable, var_type)) => {
+            if var_type != wanted {
+                return Err(wrong);
+            }
+            Ok(variable)
+        }
+    }
+}
+
+// The action of an association: a declared one, else a BOOL variable (2.6.4.1).
+fn target(name: &Name, scope: &ProgramScope) -> Result<Target, LoadError>
+    ensures { Loads (λ target. target) result (target_check scope.now name.now) (target_of scope.now name.now) }
+{
+    if let Some(place) = scope.action(name.spelling()) {
+        return Ok(Target::Declared(ActionId(place)));
+    }
+    let variable = variable_of_type(
+        name,
+        scope,
+        VarType::Bool,
+        LoadError::UnknownAction,
+        LoadError::NotBool,
+    )?;
+    Ok(Target::Boolean(variable))
+}
+
+// The time of an association: a TIME, or a variable of that type (2.6.4.4).
+#[tactic(auto, using(crate::proofs::Typing::typing))]
+fn time(time: &AssociationTime, scope: &ProgramScope) -> Result<Time, LoadError>
+    ensures { Loads (λ time. time) result (time_check scope.now time.now) (time_of scope.now time.now) }
+{
+    match time {
+        AssociationTime::Literal(time) => {
+            check_literal(Literal::Time(*time), VarType::Time)?;
+            Ok(Time::Literal(time.micros()))
+        }
+        AssociationTime::Variable(name) => {
+            let variable = variable_of_type(
+                name,
+                scope,
+                VarType::Time,
+                LoadError::Unknown,
+                LoadError::NotTime,
+            )?;
+            Ok(Time::Variable(variable))
+        }
+    }
+}
+
+// The qualifier of an association (2.6.4.4).
+fn qualifier(qualifier: &tree::Qualifier, scope: &ProgramScope) -> Result<Qualifier, LoadError>
+    ensures { Loads (λ qualifier. qualifier) result
+        (qualifier_check scope.now qualifier.now) (qualifier_of scope.now qualifier.now) }
+{
+    match qualifier {
+        tree::Qualifier::NonStored => Ok(Qualifier::NonStored),
+        tree::Qualifier::Reset => Ok(Qualifier::Reset),
+        tree::Qualifier::Set => Ok(Qualifier::Set),
+        tree::Qualifier::Pulse => Ok(Qualifier::Pulse),
+        tree::Qualifier::RisingPulse => Ok(Qualifier::RisingPulse),
+        tree::Qualifier::FallingPulse => Ok(Qualifier::FallingPulse),
+        tree::Qualifier::Timed(timed, written) => Ok(Qualifier::Timed(
+            *timed,
+            time(written, scope)?,
+        )),
+    }
+}
+
+// An indicator variable, which is of any type (2.6.4.3).
+fn indicator(name: &Name, scope: &ProgramScope) -> Result<Variable, LoadError>
+    ensures { Loads (λ variable. variable) result (indicator_check scope.now name.now) (variable_in scope.now name.now) }
+{
+    match scope.variable(name.spelling()) {
+        Some((variable, _)) => Ok(variable),
+        None => Err(LoadError::Unknown),
+    }
+}
+
+// Indicator variables, in text order.
+fn load_indicators(
+    alloc: Global,
+    names: &[Name],
+    scope: &ProgramScope,
+) -> Result<Vec<Variable>, LoadError>
+    ensures { Loads (λ loaded. loaded.items) result
+        (each (indicator_check scope.now) names.now) (map (variable_in scope.now) names.now) }
+{
+    let mut loaded = Vec::new(alloc);
+    let mut rest = names;
+    'names: while let Some((name, after)) = rest.split_first() {
+        loaded.push(indicator(name, scope)?)?;
+        rest = after;
+    }
+    Ok(loaded)
+}
+
+// One line of an action block (2.6.4.3).
+fn load_association(
+    alloc: Global,
+    association: &tree::Association,
+    scope: &ProgramScope,
+) -> Result<Association, LoadError>
+    ensures { Loads (λ loaded. loaded) result
+        (association_check scope.now association.now) (association_of scope.now association.now) }
+{
+    let target = target(&association.action, scope)?;
+    let qualifier = qualifier(&association.qualifier, scope)?;
+    let indicators = load_indicators(alloc, association.indicators.as_slice(), scope)?;
+    Ok(Association {
+        target,
+        qualifier,
+        indicators: Items::from_vec(indicators),
+    })
+}
+
+// The associations of a step, in text order.
+fn load_associations(
+    alloc: Global,
+    associations: &[tree::Association],
+    scope: &ProgramScope,
+) -> Result<Vec<Association>, LoadError>
+    ensures { Loads (λ loaded. loaded.items) result
+        (each (association_check scope.now) associations.now) (map (association_of scope.now) associations.now) }
+{
+    let mut loaded = Vec::new(alloc);
+    let mut rest = associations;
+    'associations: while let Some((association, after)) = rest.split_first() {
+        loaded.push(load_association(alloc, association, scope)?)?;
+        rest = after;
+    }
+    Ok(loaded)
+}
+
+// A step with its associations.
+fn load_step(alloc: Global, step: &tree::Step, scope: &ProgramScope) -> Result<Step, LoadError>
+    ensures { Loads (λ loaded. loaded) result (step_check scope.now step.now) (step_of scope.now step.now) }
+{
+    let associations = load_associations(alloc, step.associations.as_slice(), scope)?;
+    Ok(Step {
+        name: step.name.copy(alloc)?,
+        is_initial: step.is_initial,
+        associations: Items::from_vec(associations),
+    })
+}
+
+/// The steps of a program type, in text order, or the first fault in one of their associations.
+pub fn load_steps(
+    alloc: Global,
+    elements: &[Element],
+    scope: &ProgramScope,
+) -> Result<Vec<Step>, LoadError>
+    ensures { let steps : _ = steps_of (map element_of elements.now) in
+        Loads (λ loaded. loaded.items) result (each (step_check scope.now) steps) (map (step_of scope.now) steps) }
+{
+    let mut loaded = Vec::new(alloc);
+    let mut rest = elements;
+    'elements: while let Some((element, after)) = rest.split_first() {
+        if let Element::Step(step) = element {
+            loaded.push(load_step(alloc, step, scope)?)?;
+        }
+        rest = after;
+    }
+    Ok(loaded)
+}

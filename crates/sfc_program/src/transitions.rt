@@ -1,0 +1,135 @@
+//! Transitions (2.6.3).
+
+ghost use Rattle.std.specs.Prelude.{◌≡◌, ◌++◌, ◌∷◌, [], false, map, None, OnOk, IfOk};
+ghost use Rattle.sfc_tokens.specs.declared.var_type.VarType.TheVariants as types;
+ghost use Rattle.sfc_text.specs.Trees as trees;
+ghost use Rattle.sfc_text.specs.Trees.{element_of, tree_of};
+ghost use Rattle.sfc_expr.specs.declared.value.Value.TheVariants as value;
+ghost use Rattle.sfc_expr.specs.Checking.{checked};
+ghost use Rattle.sfc_expr.specs.Trees.{Literal};
+ghost use Rattle.sfc_variables.specs.Checks.{Loads, each, typed, checked_or};
+ghost use Rattle.sfc_program.specs.Elements.{transitions_of};
+ghost use Rattle.sfc_program.specs.Names.{names_in};
+ghost use Rattle.sfc_program.specs.Loading.{side_check, side_step_check, transition_check};
+ghost use Rattle.sfc_program.specs.Built.{step_id, step_ids, transition_of};
+
+use crate::scope::ProgramScope;
+use sfc_expr::check::check;
+use sfc_expr::name_table::NameTable;
+use sfc_expr::scope::Scope;
+use sfc_expr::variable::StepId;
+use sfc_tables::chart::Transition;
+use sfc_tables::typed::Condition;
+use sfc_text::expression::Expression;
+use sfc_text::tree::{self, Element};
+use sfc_tokens::items::Items;
+use sfc_tokens::name::Name;
+use sfc_tokens::var_type::VarType;
+use sfc_variables::load_error::LoadError;
+use std::alloc::{AllocError, Global};
+
+// A step that a transition names, which it hasn't named on the same side before.
+fn side_step(
+    alloc: Global,
+    name: &Name,
+    scope: &ProgramScope,
+    seen: &mut NameTable,
+) -> Result<StepId, LoadError>
+    ensures loads { Loads (λ step. step) result
+        (side_step_check scope.now.steps seen.old name.now) (step_id scope.now.steps name.now) }
+    ensures named { OnOk result (seen.new ≡ seen.old ++ name.now ∷ []) }
+{
+    let Some(step) = scope.step(name.spelling()) else {
+        return Err(LoadError::UnknownStep);
+    };
+    if !seen.add(alloc, name.spelling())? {
+        return Err(LoadError::Duplicate);
+    }
+    Ok(step)
+}
+
+// The steps that a transition names on one side, in text order.
+fn load_side(alloc: Global, names: &[Name], scope: &ProgramScope) -> Result<Vec<StepId>, LoadError>
+    ensures { Loads (λ loaded. loaded.items) result
+        (side_check scope.now.steps names.now) (step_ids scope.now.steps names.now) }
+{
+    let mut seen = NameTable::new(alloc);
+    let mut loaded = Vec::new(alloc);
+    let mut rest = names;
+    'names: while let Some((name, after)) = rest.split_first() {
+        let step = side_step(alloc, name, scope, &mut seen)?;
+        loaded.push(step)?;
+        rest = after;
+    }
+    Ok(loaded)
+}
+
+// The condition of a transition, which is BOOL.
+#[tactic(auto, using(crate::proofs::Typing::typing))]
+fn load_condition(
+    alloc: Global,
+    condition: &Expression,
+    scope: &ProgramScope,
+) -> Result<Condition, LoadError>
+    ensures { let outcome : _ = checked (names_in scope.now None) (tree_of condition.now) types.Bool in
+        Loads (λ loaded. loaded) result (typed outcome) (checked_or (Literal (value.Bool false)) outcome) }
+{
+    let expr = check(alloc, condition, scope, VarType::Bool)?;
+    Ok(Condition::new(expr))
+}
+
+// The same name once more, if there is one.
+fn copy_some_name(alloc: Global, name: &Option<Name>) -> Result<Option<Name>, AllocError>
+    ensures { IfOk result (λ copy. copy ≡ name.now) }
+{
+    match name {
+        None => Ok(None),
+        Some(name) => {
+            let copy = name.copy(alloc)?;
+            Ok(Some(copy))
+        }
+    }
+}
+
+// A transition with its steps and its condition.
+fn load_transition(
+    alloc: Global,
+    transition: &tree::Transition,
+    scope: &ProgramScope,
+) -> Result<Transition, LoadError>
+    ensures { let written : _ = trees.transition_of transition.now in
+        Loads (λ loaded. loaded) result (transition_check scope.now written) (transition_of scope.now written) }
+{
+    let preceding = load_side(alloc, transition.preceding.as_slice(), scope)?;
+    let following = load_side(alloc, transition.following.as_slice(), scope)?;
+    let condition = load_condition(alloc, &transition.condition, scope)?;
+    let name = copy_some_name(alloc, &transition.name)?;
+    Ok(Transition {
+        name,
+        priority: transition.priority,
+        preceding: Items::from_vec(preceding),
+        following: Items::from_vec(following),
+        condition,
+    })
+}
+
+/// The transitions of a program type, in text order, or the first fault in one of them.
+pub fn load_transitions(
+    alloc: Global,
+    elements: &[Element],
+    scope: &ProgramScope,
+) -> Result<Vec<Transition>, LoadError>
+    ensures { let transitions : _ = transitions_of (map element_of elements.now) in
+        Loads (λ loaded. loaded.items) result
+        (each (transition_check scope.now) transitions) (map (transition_of scope.now) transitions) }
+{
+    let mut loaded = Vec::new(alloc);
+    let mut rest = elements;
+    'elements: while let Some((element, after)) = rest.split_first() {
+        if let Element::Transition(transition) = element {
+            loaded.push(load_transition(alloc, transition, scope)?)?;
+        }
+        rest = after;
+    }
+    Ok(loaded)
+}
