@@ -1,2 +1,4 @@
 pub mod Images
 pub mod Named
+pub mod Walk
+pub mod Soundness

@@ -79,7 +79,7 @@ fn add_places(
 }
 
 // The places of the locals of all instances, behind others.
-#[tactic(auto, using(crate::proofs::Images::more_places))]
+#[tactic(auto, using(crate::proofs::Images::more_added))]
 fn add_local_places(
     alloc: Global,
     types: &[ProgramType],

@@ -51,15 +51,15 @@ use Rattle.sfc_program.specs.Built.{found, variable_in, target_by, target_of, ti
 
 -- ---- checks that pass
 
-then_first : (a b : Check) → (a then b) ≡ None → a ≡ None
+pub then_first : (a b : Check) → (a then b) ≡ None → a ≡ None
 then_first None b e = refl
 then_first (Some f) b e = e
 
-then_second : (a b : Check) → (a then b) ≡ None → b ≡ None
+pub then_second : (a b : Check) → (a then b) ≡ None → b ≡ None
 then_second None b e = e
 then_second (Some f) b e = cc
 
-when_none : (b : Bool) (f : LoadError) → when b f ≡ None → b ≡ false
+pub when_none : (b : Bool) (f : LoadError) → when b f ≡ None → b ≡ false
 when_none false f e = refl
 when_none true f e = cc
 
@@ -72,7 +72,7 @@ each_passes check P says [] e = All-nil P
 each_passes check P says (x ∷ xs) e =
     All-cons P x xs (says x (then_first (check x) (each check xs) e)) (each_passes check P says xs (then_second (check x) (each check xs) e))
 
-in_turn_passes : {A : Type 0} (name : A → List ℕ) (check : List (List ℕ) → A → Check) (P : A → Type 0) → ((before : List (List ℕ)) (x : A) → check before x ≡ None → P x)
+pub in_turn_passes : {A : Type 0} (name : A → List ℕ) (check : List (List ℕ) → A → Check) (P : A → Type 0) → ((before : List (List ℕ)) (x : A) → check before x ≡ None → P x)
     → (before : List (List ℕ)) (xs : List A) → in_turn name check before xs ≡ None → All P xs
 in_turn_passes name check P says before [] e = All-nil P
 in_turn_passes name check P says before (x ∷ xs) e =
@@ -85,10 +85,10 @@ in_turn_passes name check P says before (x ∷ xs) e =
 abbrev pub counts : Space → tables.Space
 counts space = record { globals = length space.globals; locals = length space.locals }
 
-place_below : (name : List ℕ) (names : List (List ℕ)) (i : ℕ) → place_of name names ≡ Some i → i < length names
+pub place_below : (name : List ℕ) (names : List (List ℕ)) (i : ℕ) → place_of name names ≡ Some i → i < length names
 place_below name names i e = (position-Some (same_word name) names i [] e).0
 
-found_below : (n : ℕ) (place : Option ℕ) → ((i : ℕ) → place ≡ Some i → i < n) → is_none place ≡ false → unwrap_or place 0 < n
+pub found_below : (n : ℕ) (place : Option ℕ) → ((i : ℕ) → place ≡ Some i → i < n) → is_none place ≡ false → unwrap_or place 0 < n
 found_below n None says e = cc
 found_below n (Some i) says e = says i refl
 
@@ -153,7 +153,7 @@ passes_range : (fits : Bool) (x : Value) → typed (or_range (if fits then Ok x 
 passes_range true x e = refl
 passes_range false x e = cc
 
-literal_sound : (t : ℤ) → typed (checked_literal (literal.Time t) types.Time) ≡ None → IsTime t
+pub literal_sound : (t : ℤ) → typed (checked_literal (literal.Time t) types.Time) ≡ None → IsTime t
 literal_sound t e = in_range t (passes_range (is_in_range types.Time t) (value.Time t) e)
 
 time_sound : (space : Space) (t : text_time.AssociationTime) → time_check space t ≡ None → IsAssociationTime (counts space) (time_of space t)
@@ -233,7 +233,7 @@ transitions_sound space ts sides e =
 
 -- ---- charts
 
-not_above : (m n : ℕ) → nat_lt m n ≡ false → n ≤ m
+pub not_above : (m n : ℕ) → nat_lt m n ≡ false → n ≤ m
 not_above m n e = grind (arith, common_steps)
 
 list_any-map_same : {A B : Type 0} (f : A → B) (p : B → Bool) (q : A → Bool) → ((x : A) → p (f x) ≡ q x) → (xs : List A) → list_any p (map f xs) ≡ list_any q xs
