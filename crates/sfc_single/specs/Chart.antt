@@ -1,15 +1,15 @@
--- Plants and charts as values, and what holds of each one that was loaded (2.6.2, 2.6.3, 2.7.1, 2.7.2).
+-- Plants and charts of the part that is run so far, as values, and what holds of them (2.6.2, 2.6.3, 2.7.1, 2.7.2).
 use Rattle.std.specs.Prelude.{◌≡◌, ℕ, ◌<◌, ◌≤◌, ◌^◌, pos, ◌≤ℤ◌, true, List, All, Any, length, sum_by}
-use Rattle.sfc_chart.specs.declared.chart.Target.{Target}
-use Rattle.sfc_chart.specs.declared.chart.Target.TheVariants.{Boolean}
-use Rattle.sfc_chart.specs.declared.chart.Step.{Step}
-use Rattle.sfc_chart.specs.declared.chart.Transition.{Transition}
-use Rattle.sfc_chart.specs.declared.chart.Chart.{Chart}
-use Rattle.sfc_chart.specs.declared.chart.ProgramType.{ProgramType}
-use Rattle.sfc_chart.specs.declared.plant.Variable.{Variable}
-use Rattle.sfc_chart.specs.declared.plant.Task.{Task}
-use Rattle.sfc_chart.specs.declared.plant.Instance.{Instance}
-use Rattle.sfc_chart.specs.Meaning.{IsOver}
+use Rattle.sfc_single.specs.declared.chart.Target.{Target}
+use Rattle.sfc_single.specs.declared.chart.Target.TheVariants.{Boolean}
+use Rattle.sfc_single.specs.declared.chart.Step.{Step}
+use Rattle.sfc_single.specs.declared.chart.Transition.{Transition}
+use Rattle.sfc_single.specs.declared.chart.Chart.{Chart}
+use Rattle.sfc_single.specs.declared.chart.ProgramType.{ProgramType}
+use Rattle.sfc_variables.specs.declared.variable.Variable.{Variable}
+use Rattle.sfc_chart.specs.declared.task.Task.{Task}
+use Rattle.sfc_chart.specs.declared.instance.Instance.{Instance}
+use Rattle.sfc_single.specs.Meaning.{IsOver}
 
 -- all that a text says, but for its layout and the case of letters in references
 pub record PlantData : Type 0 where
@@ -55,14 +55,13 @@ pub record IsInstance (tasks types : ℕ) (instance : Instance) : Type 0 where
   pub task : instance.task.0 < tasks
   pub program : instance.program < types
 
--- What is loaded so far: one task, one program type, one instance of it. It is no part of a plant's soundness: the
--- narrowing of trees ensures it, the loader keeps it, and the opening of a resource requires it.
+-- one task, one program type, one instance of it
 pub record IsSingle (plant : PlantData) : Type 0 where
   pub one_task : length plant.tasks ≡ 1
   pub one_type : length plant.types ≡ 1
   pub one_instance : length plant.instances ≡ 1
 
--- what holds of each plant that was loaded
+-- what holds of each such plant
 pub record IsPlant (plant : PlantData) : Type 0 where
   pub tasks : All IsTask plant.tasks
   pub types : All (λ program_type. IsChart (length plant.variables) program_type.chart) plant.types

@@ -1,10 +1,10 @@
 -- What an expression means over the values of the variables (3.3.1).
 use Rattle.std.specs.Prelude.{ℕ, ◌<◌, false, List, slice_index_or}
 use Rattle.sfc_chart.specs.declared.ids.VarId.{VarId}
-use Rattle.sfc_chart.specs.declared.value.Value.{Value}
-use Rattle.sfc_chart.specs.declared.value.Value.TheVariants as value
-use Rattle.sfc_chart.specs.declared.expr.Expr.{Expr}
-use Rattle.sfc_chart.specs.declared.expr.Expr.TheVariants.{Literal, Variable}
+use Rattle.sfc_expr.specs.declared.value.Value.{Value}
+use Rattle.sfc_expr.specs.declared.value.Value.TheVariants as value
+use Rattle.sfc_single.specs.declared.expr.Expr.{Expr}
+use Rattle.sfc_single.specs.declared.expr.Expr.TheVariants.{Literal, Variable}
 
 -- the value of a variable among the values of all, by its number
 abbrev pub value_at : List Value → VarId → Value

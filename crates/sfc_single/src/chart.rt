@@ -1,10 +1,16 @@
 //! One chart: its steps and transitions, by number.
 
 use crate::expr::Expr;
-use crate::ids::VarId;
-use crate::simple::Qualifier;
+use sfc_chart::ids::VarId;
 use sfc_tokens::items::Items;
 use sfc_tokens::name::Name;
+
+/// The qualifier of an association (2.6.4.4).
+#[derive(Clone, Copy, Debug, PartialEq, Eq)]
+pub enum Qualifier {
+    /// N, not stored.
+    NonStored,
+}
 
 /// What an association names.
 #[derive(Clone, Copy, Debug, PartialEq, Eq)]

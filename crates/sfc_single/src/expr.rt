@@ -1,10 +1,10 @@
 //! Typed expressions (3.3.1).
 
 ghost use Rattle.std.specs.Prelude.{◌≡◌, ◌<◌, length};
-ghost use Rattle.sfc_chart.specs.Meaning.{meaning, value_at, IsOver};
+ghost use Rattle.sfc_single.specs.Meaning.{meaning, value_at, IsOver};
 
-use crate::ids::VarId;
-use crate::value::Value;
+use sfc_chart::ids::VarId;
+use sfc_expr::value::Value;
 
 /// An expression whose names were found and whose type was checked.
 #[derive(Clone, Copy, Debug, PartialEq, Eq)]
