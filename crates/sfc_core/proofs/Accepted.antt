@@ -1,7 +1,7 @@
 -- The events that were accepted are in the order of their instants.
 use Rattle.std.proofs.Common.{◌≡◌, ◌^◌, Bool, true, false, cond, List, [], ◌∷◌, arith, refl, ℤ, pos, ◌≤ℤ◌, int_lt, Option, Some, Result, Ok, Err}
 use Rattle.std.proofs.lemmas.Int.{ints}
-use Rattle.sfc_chart.specs.Chart.{PlantData}
+use Rattle.sfc_single.specs.Chart.{PlantData}
 use Rattle.sfc_core.specs.declared.event.Outcome.{Outcome}
 use Rattle.sfc_core.specs.declared.refusal.Refusal.{Refusal}
 use Rattle.sfc_core.specs.History.{Entry, History, last_instant}

@@ -5,7 +5,7 @@ use Rattle.std.specs.List.{list_all, list_any}
 use Rattle.std.proofs.lemmas.List.{length-replicate}
 use Rattle.std.proofs.lemmas.List.Elements.{All-head, All-tail}
 use Rattle.std.proofs.lemmas.Grind.{common_steps}
-use Rattle.sfc_chart.specs.declared.chart.Transition.{Transition}
+use Rattle.sfc_single.specs.declared.chart.Transition.{Transition}
 use Rattle.sfc_core.specs.Flags.{flag, has, AllBelow, marked}
 use Rattle.sfc_core.specs.Evolution.{is_cleared, cleared_from}
 use Rattle.sfc_core.specs.Clearing.{preceding_of, condition_of, shares, IsClearedSet}

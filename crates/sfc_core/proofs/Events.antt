@@ -2,13 +2,13 @@
 use Rattle.std.proofs.Common.{◌≡◌, ◌≢◌, ℕ, ◌+◌, ◌-◌, ◌<◌, ◌==◌, nat_lt, not, true, false, List, [], ◌∷◌, length, get_or, arith, refl, sym, ◌∙◌, ap, ℤ, pos, ◌≤ℤ◌, ◌^◌, SFits, w64, rules, Option, Some, None}
 use Rattle.std.proofs.lemmas.Int.{ints}
 use Rattle.std.proofs.lemmas.Bool.Decides.{nat_tests}
-use Rattle.sfc_chart.specs.declared.chart.Chart.{Chart}
-use Rattle.sfc_chart.specs.declared.plant.Instance.{Instance}
+use Rattle.sfc_single.specs.declared.chart.Chart.{Chart}
+use Rattle.sfc_chart.specs.declared.instance.Instance.{Instance}
 use Rattle.sfc_chart.specs.declared.ids.TaskId.{TaskId}
 use Rattle.sfc_chart.specs.declared.ids.ProgId.{ProgId}
-use Rattle.sfc_chart.specs.declared.plant.Task.{Task}
+use Rattle.sfc_chart.specs.declared.task.Task.{Task}
 use Rattle.std.specs.Prelude.{All}
-use Rattle.sfc_chart.specs.Chart.{PlantData, IsInstance, IsTask}
+use Rattle.sfc_single.specs.Chart.{PlantData, IsInstance, IsTask}
 use Rattle.sfc_core.specs.declared.event.Event.TheVariants.{Scan}
 use Rattle.sfc_core.specs.declared.refusal.Refusal.{Refusal}
 use Rattle.sfc_core.specs.declared.refusal.Refusal.TheVariants.{NotDue}

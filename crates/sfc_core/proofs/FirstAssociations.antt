@@ -4,10 +4,10 @@ use Rattle.std.specs.Prelude.{map, filter, All}
 use Rattle.std.specs.List.{list_any, flat_map}
 use Rattle.std.proofs.lemmas.Bool.Decides.{nat_tests}
 use Rattle.std.proofs.lemmas.List.Elements.{All-head, All-tail, All-nil, All-cons, All-append, All-filter}
-use Rattle.sfc_chart.specs.Chart.{IsTarget, IsStep}
-use Rattle.sfc_chart.specs.declared.chart.Chart.{Chart}
-use Rattle.sfc_chart.specs.declared.chart.Step.{Step}
-use Rattle.sfc_chart.specs.declared.chart.Association.{Association}
+use Rattle.sfc_single.specs.Chart.{IsTarget, IsStep}
+use Rattle.sfc_single.specs.declared.chart.Chart.{Chart}
+use Rattle.sfc_single.specs.declared.chart.Step.{Step}
+use Rattle.sfc_single.specs.declared.chart.Association.{Association}
 use Rattle.sfc_chart.specs.declared.ids.VarId.{VarId}
 use Rattle.sfc_core.specs.ActionControl.{boolean_action, distinct, boolean_actions}
 use Rattle.sfc_core.specs.Keeping.Outputs.{AreVariables, is_listed, with_action, with_actions, with_steps}

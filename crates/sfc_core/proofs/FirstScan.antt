@@ -3,9 +3,9 @@ use Rattle.std.proofs.Common.{◌≡◌, ℕ, zero, suc, ◌<◌, ◌||◌, ◌&
 use Rattle.std.specs.Prelude.{All, replicate}
 use Rattle.std.specs.List.{list_all, list_any}
 use Rattle.std.proofs.lemmas.List.Elements.{All-head, All-tail}
-use Rattle.sfc_chart.specs.declared.chart.Chart.{Chart}
-use Rattle.sfc_chart.specs.declared.chart.Transition.{Transition}
-use Rattle.sfc_chart.specs.Chart.{IsTransition, IsChart}
+use Rattle.sfc_single.specs.declared.chart.Chart.{Chart}
+use Rattle.sfc_single.specs.declared.chart.Transition.{Transition}
+use Rattle.sfc_single.specs.Chart.{IsTransition, IsChart}
 use Rattle.sfc_core.specs.Flags.{flag, marked}
 use Rattle.sfc_core.specs.Evolution.{Row, is_cleared, cleared_from, some_cleared, row_after, is_active, is_activated, is_deactivated, is_initial, step_count}
 use Rattle.sfc_core.proofs.Looks.{bool_cases, is_in_on, is_in_kept}

@@ -5,9 +5,9 @@ use Rattle.std.proofs.lemmas.List.Elements.{All-head, All-tail}
 use Rattle.std.specs.Prelude.{◌==◌, slice_set, All}
 use Rattle.std.proofs.lemmas.Bool.Decides.{nat_tests}
 use Rattle.std.proofs.lemmas.Grind.{common_steps}
-use Rattle.sfc_chart.specs.declared.chart.Transition.{Transition}
+use Rattle.sfc_single.specs.declared.chart.Transition.{Transition}
 use Rattle.sfc_core.specs.Flags.{flag, has, AllBelow, marked}
-use Rattle.sfc_chart.specs.Chart.{IsTransition}
+use Rattle.sfc_single.specs.Chart.{IsTransition}
 use Rattle.sfc_core.specs.Evolution.{some_cleared}
 use Rattle.sfc_core.specs.Keeping.Marking.{marked_by}
 

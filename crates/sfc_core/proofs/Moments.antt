@@ -3,14 +3,14 @@ use Rattle.std.proofs.Common.{length, ◌≡◌, refl, ℕ, true, false, List, [
 use Rattle.sfc_tokens.specs.declared.var_type.VarType.TheVariants as types
 use Rattle.sfc_tokens.specs.declared.location.Area.TheVariants as areas
 use Rattle.sfc_tokens.specs.declared.location.Size.TheVariants as sizes
-use Rattle.sfc_chart.specs.declared.simple.Qualifier.TheVariants.{NonStored}
-use Rattle.sfc_chart.specs.declared.chart.Chart.{Chart}
-use Rattle.sfc_chart.specs.declared.chart.Target.TheVariants.{Boolean}
+use Rattle.sfc_single.specs.declared.chart.Qualifier.TheVariants.{NonStored}
+use Rattle.sfc_single.specs.declared.chart.Chart.{Chart}
+use Rattle.sfc_single.specs.declared.chart.Target.TheVariants.{Boolean}
 use Rattle.sfc_chart.specs.declared.ids.VarId.{VarId}
 use Rattle.sfc_chart.specs.declared.ids.TaskId.{TaskId}
-use Rattle.sfc_chart.specs.declared.value.Value.TheVariants as value
-use Rattle.sfc_chart.specs.declared.expr.Expr.TheVariants as expr
-use Rattle.sfc_chart.specs.Chart.{PlantData}
+use Rattle.sfc_expr.specs.declared.value.Value.TheVariants as value
+use Rattle.sfc_single.specs.declared.expr.Expr.TheVariants as expr
+use Rattle.sfc_single.specs.Chart.{PlantData}
 use Rattle.sfc_core.specs.declared.event.Event.TheVariants.{Scan, Input}
 use Rattle.sfc_core.specs.declared.event.Outcome.TheVariants.{Scanned}
 use Rattle.sfc_core.specs.declared.refusal.Refusal.TheVariants.{ClockBack, UnknownTask, NotInput, NotDue}
@@ -41,7 +41,7 @@ go_along = record {
   processor = [];
   variables = record { name = []; var_type = types.Bool; location = Some (record { area = areas.Input; size = sizes.Bit; numbers = 0 ∷ 0 ∷ [] }); initial = value.Bool false }
       ∷ record { name = []; var_type = types.Bool; location = None; initial = value.Bool false } ∷ [];
-  tasks = record { name = []; interval = pos 10_000; priority = 1 } ∷ [];
+  tasks = record { name = []; single = None; interval = pos 10_000; priority = 1 } ∷ [];
   types = record { name = []; chart = go_along_chart } ∷ [];
   instances = record { name = []; task = main; program = 0 } ∷ [];
 }
@@ -149,7 +149,7 @@ one_step = record {
   resource = [];
   processor = [];
   variables = record { name = []; var_type = types.Bool; location = None; initial = value.Bool false } ∷ [];
-  tasks = record { name = []; interval = pos 10_000; priority = 1 } ∷ [];
+  tasks = record { name = []; single = None; interval = pos 10_000; priority = 1 } ∷ [];
   types = record { name = []; chart = one_step_chart } ∷ [];
   instances = record { name = []; task = main; program = 0 } ∷ [];
 }

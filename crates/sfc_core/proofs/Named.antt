@@ -5,12 +5,12 @@ use Rattle.std.specs.List.{list_any}
 use Rattle.std.proofs.lemmas.List.{length-replicate}
 use Rattle.std.proofs.lemmas.List.Elements.{All-head, All-tail}
 use Rattle.std.proofs.lemmas.Grind.{common_steps}
-use Rattle.sfc_chart.specs.declared.simple.Qualifier.{Qualifier}
-use Rattle.sfc_chart.specs.declared.simple.Qualifier.TheVariants.{NonStored}
-use Rattle.sfc_chart.specs.Chart.{IsStep}
-use Rattle.sfc_chart.specs.declared.chart.Chart.{Chart}
-use Rattle.sfc_chart.specs.declared.chart.Step.{Step}
-use Rattle.sfc_chart.specs.declared.chart.Association.{Association}
+use Rattle.sfc_single.specs.declared.chart.Qualifier.{Qualifier}
+use Rattle.sfc_single.specs.declared.chart.Qualifier.TheVariants.{NonStored}
+use Rattle.sfc_single.specs.Chart.{IsStep}
+use Rattle.sfc_single.specs.declared.chart.Chart.{Chart}
+use Rattle.sfc_single.specs.declared.chart.Step.{Step}
+use Rattle.sfc_single.specs.declared.chart.Association.{Association}
 use Rattle.sfc_chart.specs.declared.ids.VarId.{VarId}
 use Rattle.sfc_core.specs.Flags.{flag, has, AllBelow, marked}
 use Rattle.sfc_core.specs.Evolution.{Row, step_count, is_active}
@@ -18,7 +18,7 @@ use Rattle.sfc_core.specs.ActionControl.{same_qualifier, boolean_actions, names,
 use Rattle.sfc_core.specs.Keeping.Marking.{places, marked_active}
 use Rattle.sfc_core.specs.Keeping.Outputs.{executions, with_flags}
 use Rattle.sfc_core.specs.Image.{Image, assigned, with_outputs}
-use Rattle.sfc_chart.specs.declared.value.Value.TheVariants as value
+use Rattle.sfc_expr.specs.declared.value.Value.TheVariants as value
 use Rattle.sfc_core.proofs.Marks.{flag-marked, length-marked, or_false}
 use Rattle.sfc_core.proofs.Targets.{places_below}
 

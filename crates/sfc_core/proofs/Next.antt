@@ -3,11 +3,11 @@ use Rattle.std.proofs.Common.{◌≡◌, ℕ, ◌<◌, ◌||◌, ◌&&◌, not, 
 use Rattle.std.specs.Prelude.{replicate, All}
 use Rattle.std.specs.List.{list_all}
 use Rattle.std.proofs.lemmas.List.Elements.{All-head, All-tail}
-use Rattle.sfc_chart.specs.declared.chart.Chart.{Chart}
-use Rattle.sfc_chart.specs.declared.chart.Transition.{Transition}
+use Rattle.sfc_single.specs.declared.chart.Chart.{Chart}
+use Rattle.sfc_single.specs.declared.chart.Transition.{Transition}
 use Rattle.sfc_core.specs.Flags.{flag, AllBelow, marked}
 use Rattle.sfc_core.specs.Keeping.Instants.{number}
-use Rattle.sfc_chart.specs.Chart.{IsTransition}
+use Rattle.sfc_single.specs.Chart.{IsTransition}
 use Rattle.sfc_core.specs.Lookback.{is_empty}
 use Rattle.sfc_core.specs.Evolution.{step_count, is_cleared, cleared_from, Row, activates, leaves, is_activated, is_deactivated, is_active, step_time, row_after}
 use Rattle.sfc_core.specs.Keeping.Kept.{AreKept}

@@ -1,7 +1,7 @@
 -- One more event at the end of a list.
 use Rattle.std.proofs.Common.{◌≡◌, ℕ, ◌+◌, ◌<◌, cond, List, [], ◌∷◌, ◌++◌, refl, arith, is_ok, length, take, get_or}
 use Rattle.std.proofs.lemmas.List.{take_more}
-use Rattle.sfc_chart.specs.Chart.{PlantData}
+use Rattle.sfc_single.specs.Chart.{PlantData}
 use Rattle.sfc_core.specs.History.{Entry, History}
 use Rattle.sfc_core.specs.Verdict.{verdict, after, after_all, accepted}
 

@@ -2,11 +2,11 @@
 use Rattle.std.proofs.Common.{◌≡◌, ℕ, zero, suc, ◌<◌, List, [], ◌∷◌, length, get_or, sym, subst, arith}
 use Rattle.std.specs.Prelude.{All}
 use Rattle.std.proofs.lemmas.List.Elements.{All-tail}
-use Rattle.sfc_chart.specs.Chart.{IsTarget, IsStep}
-use Rattle.sfc_chart.specs.declared.chart.Step.{Step}
-use Rattle.sfc_chart.specs.declared.chart.Association.{Association}
-use Rattle.sfc_chart.specs.declared.chart.Target.{Target}
-use Rattle.sfc_chart.specs.declared.chart.Target.TheVariants.{Boolean}
+use Rattle.sfc_single.specs.Chart.{IsTarget, IsStep}
+use Rattle.sfc_single.specs.declared.chart.Step.{Step}
+use Rattle.sfc_single.specs.declared.chart.Association.{Association}
+use Rattle.sfc_single.specs.declared.chart.Target.{Target}
+use Rattle.sfc_single.specs.declared.chart.Target.TheVariants.{Boolean}
 use Rattle.sfc_core.specs.Flags.{AllBelow}
 use Rattle.sfc_core.specs.Keeping.Marking.{places}
 use Rattle.sfc_core.specs.ActionControl.{boolean_action}

@@ -1,13 +1,13 @@
 -- Which actions a chart has, and their outputs Q and A (2.6.4.5).
 use Rattle.std.specs.Prelude.{ℕ, suc, ◌==◌, Bool, true, false, not, ◌&&◌, ◌||◌, List, [], ◌∷◌, filter, map}
 use Rattle.std.specs.List.{list_any, flat_map}
-use Rattle.sfc_chart.specs.declared.simple.Qualifier.{Qualifier}
-use Rattle.sfc_chart.specs.declared.simple.Qualifier.TheVariants.{NonStored}
-use Rattle.sfc_chart.specs.declared.chart.Chart.{Chart}
-use Rattle.sfc_chart.specs.declared.chart.Step.{Step}
-use Rattle.sfc_chart.specs.declared.chart.Association.{Association}
-use Rattle.sfc_chart.specs.declared.chart.Target.{Target}
-use Rattle.sfc_chart.specs.declared.chart.Target.TheVariants.{Boolean}
+use Rattle.sfc_single.specs.declared.chart.Qualifier.{Qualifier}
+use Rattle.sfc_single.specs.declared.chart.Qualifier.TheVariants.{NonStored}
+use Rattle.sfc_single.specs.declared.chart.Chart.{Chart}
+use Rattle.sfc_single.specs.declared.chart.Step.{Step}
+use Rattle.sfc_single.specs.declared.chart.Association.{Association}
+use Rattle.sfc_single.specs.declared.chart.Target.{Target}
+use Rattle.sfc_single.specs.declared.chart.Target.TheVariants.{Boolean}
 use Rattle.sfc_chart.specs.declared.ids.VarId.{VarId}
 use Rattle.sfc_core.specs.Lookback.{before}
 use Rattle.sfc_core.specs.Evolution.{Row, is_active}

@@ -1,7 +1,7 @@
 -- Which histories a resource agrees with.
 use Rattle.std.specs.Prelude.{◌≡◌, ◌<◌, length}
 use Rattle.sfc_chart.specs.declared.ids.TaskId.{TaskId}
-use Rattle.sfc_chart.specs.Chart.{PlantData}
+use Rattle.sfc_single.specs.Chart.{PlantData}
 use Rattle.sfc_core.specs.declared.resource.Resource.{Resource}
 use Rattle.sfc_core.specs.History.{History, last_instant, waiting, overruns}
 use Rattle.sfc_core.specs.Table.{table_of}

@@ -1,13 +1,13 @@
 -- What a resource shows of its plant after a history.
 use Rattle.std.specs.Prelude.{ℕ, Bool, List, [], map, ℤ, length, slice_index_or}
-use Rattle.sfc_chart.specs.declared.chart.Chart.{Chart}
-use Rattle.sfc_chart.specs.declared.plant.Instance.{Instance}
+use Rattle.sfc_single.specs.declared.chart.Chart.{Chart}
+use Rattle.sfc_chart.specs.declared.instance.Instance.{Instance}
 use Rattle.sfc_chart.specs.declared.ids.TaskId.{TaskId}
 use Rattle.sfc_chart.specs.declared.ids.ProgId.{ProgId}
 use Rattle.sfc_chart.specs.declared.ids.VarId.{VarId}
-use Rattle.sfc_chart.specs.declared.value.Value.{Value}
-use Rattle.sfc_chart.specs.Chart.{PlantData}
-use Rattle.sfc_chart.specs.Meaning.{value_at}
+use Rattle.sfc_expr.specs.declared.value.Value.{Value}
+use Rattle.sfc_single.specs.Chart.{PlantData}
+use Rattle.sfc_single.specs.Meaning.{value_at}
 use Rattle.sfc_core.specs.Evolution.{Row, is_active, step_time, scan_instant, was_cleared, was_activated}
 use Rattle.sfc_core.specs.ActionControl.{q_of, a_of, boolean_actions}
 use Rattle.sfc_core.specs.Flags.{flag}

@@ -1,7 +1,7 @@
 -- The set of cleared transitions, by what it is (2.6.5).
 use Rattle.std.specs.Prelude.{ℕ, zero, suc, ◌≡◌, ◌<◌, ◌↔◌, Bool, true, false, List, [], ◌∷◌, length}
 use Rattle.std.specs.List.{list_any, list_all}
-use Rattle.sfc_chart.specs.declared.chart.Transition.{Transition}
+use Rattle.sfc_single.specs.declared.chart.Transition.{Transition}
 use Rattle.sfc_core.specs.Flags.{flag, has}
 
 -- the preceding steps of transition i

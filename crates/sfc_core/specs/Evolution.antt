@@ -1,8 +1,8 @@
 -- Which transitions a scan clears, which steps are active, and for how long (2.6.2, 2.6.3, 2.6.5).
 use Rattle.std.specs.Prelude.{ℕ, Bool, false, cond, not, ◌&&◌, ◌||◌, List, [], ◌∷◌, length, ℤ, pos, map, replicate}
 use Rattle.std.specs.List.{list_any, list_all}
-use Rattle.sfc_chart.specs.declared.chart.Chart.{Chart}
-use Rattle.sfc_chart.specs.declared.chart.Transition.{Transition}
+use Rattle.sfc_single.specs.declared.chart.Chart.{Chart}
+use Rattle.sfc_single.specs.declared.chart.Transition.{Transition}
 use Rattle.sfc_core.specs.Lookback.{is_in, time_in, is_empty}
 use Rattle.sfc_core.specs.Flags.{flag, has, marked}
 

@@ -1,12 +1,12 @@
 -- The values of a plant's variables (2.4, 3.3).
 use Rattle.std.specs.Prelude.{Bool, List, [], ◌∷◌, map, slice_set}
-use Rattle.sfc_chart.specs.declared.chart.Transition.{Transition}
+use Rattle.sfc_single.specs.declared.chart.Transition.{Transition}
 use Rattle.sfc_chart.specs.declared.ids.VarId.{VarId}
-use Rattle.sfc_chart.specs.declared.value.Value.{Value}
-use Rattle.sfc_chart.specs.declared.value.Value.TheVariants as value
-use Rattle.sfc_chart.specs.Chart.{PlantData}
-use Rattle.sfc_chart.specs.Meaning.{meaning, value_at}
-use Rattle.sfc_chart.specs.Values.{is_true}
+use Rattle.sfc_expr.specs.declared.value.Value.{Value}
+use Rattle.sfc_expr.specs.declared.value.Value.TheVariants as value
+use Rattle.sfc_single.specs.Chart.{PlantData}
+use Rattle.sfc_single.specs.Meaning.{meaning, value_at}
+use Rattle.sfc_expr.specs.Values.{truth}
 
 -- one value for each variable, in the plant's order
 abbrev pub Image : Type 0
@@ -21,7 +21,7 @@ assigned image id v = slice_set image id.0 v
 
 -- the transition's condition is true over the image (2.6.3)
 abbrev pub is_condition_true : Image → Transition → Bool
-is_condition_true image transition = is_true (meaning (value_at image) transition.condition)
+is_condition_true image transition = truth (meaning (value_at image) transition.condition)
 
 -- each of these Boolean actions' variables is assigned the action's Q, in their order (2.6.4.5)
 abbrev pub with_outputs : (VarId → Bool) → List VarId → Image → Image

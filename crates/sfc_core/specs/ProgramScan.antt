@@ -1,6 +1,6 @@
 -- One scan of a program instance (2.6.4.5, 2.6.5; the order of its parts is our choice).
 use Rattle.std.specs.Prelude.{ℕ, ◌==◌, cond, List, ◌∷◌, ℤ}
-use Rattle.sfc_chart.specs.declared.chart.Chart.{Chart}
+use Rattle.sfc_single.specs.declared.chart.Chart.{Chart}
 use Rattle.sfc_core.specs.Evolution.{Row, row_after}
 use Rattle.sfc_core.specs.ActionControl.{q_of, boolean_actions}
 use Rattle.sfc_core.specs.Image.{Image, is_condition_true, with_outputs}

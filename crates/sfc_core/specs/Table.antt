@@ -1,12 +1,12 @@
 -- The rows and the image that a history gives.
 use Rattle.std.specs.Prelude.{ℕ, suc, ◌==◌, cond, List, [], ◌∷◌, ℤ, slice_index_or}
-use Rattle.sfc_chart.specs.declared.chart.Chart.{Chart}
-use Rattle.sfc_chart.specs.declared.chart.ProgramType.{ProgramType}
-use Rattle.sfc_chart.specs.declared.plant.Instance.{Instance}
+use Rattle.sfc_single.specs.declared.chart.Chart.{Chart}
+use Rattle.sfc_single.specs.declared.chart.ProgramType.{ProgramType}
+use Rattle.sfc_chart.specs.declared.instance.Instance.{Instance}
 use Rattle.sfc_chart.specs.declared.ids.TaskId.{TaskId}
 use Rattle.sfc_chart.specs.declared.ids.VarId.{VarId}
-use Rattle.sfc_chart.specs.declared.value.Value.{Value}
-use Rattle.sfc_chart.specs.Chart.{PlantData}
+use Rattle.sfc_expr.specs.declared.value.Value.{Value}
+use Rattle.sfc_single.specs.Chart.{PlantData}
 use Rattle.sfc_core.specs.declared.event.Event.{Event}
 use Rattle.sfc_core.specs.declared.event.Event.TheVariants.{Scan, Input}
 use Rattle.sfc_core.specs.Image.{initial_image, assigned}

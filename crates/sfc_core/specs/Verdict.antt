@@ -8,13 +8,13 @@ use Rattle.sfc_tokens.specs.declared.location.Area.{Area}
 use Rattle.sfc_tokens.specs.declared.location.Area.TheVariants as areas
 use Rattle.sfc_chart.specs.declared.ids.VarId.{VarId}
 use Rattle.sfc_chart.specs.declared.ids.TaskId.{TaskId}
-use Rattle.sfc_chart.specs.declared.plant.Variable.{Variable}
-use Rattle.sfc_chart.specs.declared.plant.Task.{Task}
-use Rattle.sfc_chart.specs.declared.plant.Instance.{Instance}
-use Rattle.sfc_chart.specs.declared.value.Value.{Value}
-use Rattle.sfc_chart.specs.declared.value.Value.TheVariants as value
-use Rattle.sfc_chart.specs.Values.{type_of}
-use Rattle.sfc_chart.specs.Chart.{PlantData}
+use Rattle.sfc_variables.specs.declared.variable.Variable.{Variable}
+use Rattle.sfc_chart.specs.declared.task.Task.{Task}
+use Rattle.sfc_chart.specs.declared.instance.Instance.{Instance}
+use Rattle.sfc_expr.specs.declared.value.Value.{Value}
+use Rattle.sfc_expr.specs.declared.value.Value.TheVariants as value
+use Rattle.sfc_expr.specs.Values.{type_of}
+use Rattle.sfc_single.specs.Chart.{PlantData}
 use Rattle.sfc_core.specs.declared.event.Event.{Event}
 use Rattle.sfc_core.specs.declared.event.Event.TheVariants.{Scan, Input}
 use Rattle.sfc_core.specs.declared.event.Outcome.{Outcome}
@@ -25,7 +25,7 @@ use Rattle.sfc_core.specs.History.{Entry, History, last_instant, waiting_at, ove
 use Rattle.sfc_core.specs.Releases.{next_release}
 
 abbrev pub no_task : Task
-no_task = record { name = []; interval = pos 0; priority = 0 }
+no_task = record { name = []; single = None; interval = pos 0; priority = 0 }
 
 abbrev pub interval_of : PlantData → TaskId → ℤ
 interval_of plant task = (slice_index_or plant.tasks task.0 no_task).interval

@@ -1,7 +1,7 @@
 -- What a view of a program instance stands for.
 use Rattle.std.specs.Prelude.{ℕ, ◌≡◌, length}
 use Rattle.sfc_chart.specs.declared.ids.ProgId.{ProgId}
-use Rattle.sfc_chart.specs.Chart.{PlantData}
+use Rattle.sfc_single.specs.Chart.{PlantData}
 use Rattle.sfc_core.specs.declared.view.ProgramView.{ProgramView}
 use Rattle.sfc_core.specs.History.{History}
 use Rattle.sfc_core.specs.Answers.{chart_of_program, life_of}

@@ -5,9 +5,9 @@ ghost use Rattle.sfc_core.specs.Keeping.Outputs.{AreVariables};
 
 use crate::boolean_actions::list_actions;
 use crate::outputs::{assign_outputs, mark_active, update_executions, update_outputs};
-use sfc_chart::chart::Chart;
+use sfc_single::chart::Chart;
 use sfc_chart::ids::VarId;
-use sfc_chart::value::Value;
+use sfc_expr::value::Value;
 use std::alloc::{AllocError, Global};
 
 /// Of each Boolean action its variable, its Q and its A. The rest is room for a scan: a flag for each variable.
@@ -23,7 +23,7 @@ pub struct Actions {
 }
 
 impl Actions {
-    ghost use Rattle.sfc_chart.specs.Chart.{IsChart, IsStep};
+    ghost use Rattle.sfc_single.specs.Chart.{IsChart, IsStep};
     ghost use Rattle.sfc_core.specs.Evolution.{Row, is_active, step_count};
     ghost use Rattle.sfc_core.specs.ActionControl.{q_of, a_of, boolean_actions};
     ghost use Rattle.sfc_core.specs.Image.{with_outputs};

@@ -1,14 +1,14 @@
 //! Which transitions a scan clears (2.6.5).
 
 ghost use Rattle.std.specs.Prelude.{◌≡◌, length, cond, All};
-ghost use Rattle.sfc_chart.specs.Chart.{IsTransition};
+ghost use Rattle.sfc_single.specs.Chart.{IsTransition};
 ghost use Rattle.sfc_core.specs.Flags.{flag, marked};
 ghost use Rattle.sfc_core.specs.Evolution.{is_cleared, cleared_from};
 ghost use Rattle.sfc_core.specs.Image.{is_condition_true};
 
 use crate::flags::{all_set, mark, some_set};
-use sfc_chart::chart::Transition;
-use sfc_chart::value::Value;
+use sfc_single::chart::Transition;
+use sfc_expr::value::Value;
 
 // Whether a transition is cleared after those whose preceding steps are used; if so it uses its own.
 fn clear_one(transition: &Transition, values: &[Value], active: &[bool], used: &mut [bool]) -> bool

@@ -1,7 +1,7 @@
 //! What may happen to a resource, and what it answers.
 
 use sfc_chart::ids::{TaskId, VarId};
-use sfc_chart::value::Value;
+use sfc_expr::value::Value;
 
 /// What may happen to a resource.
 #[derive(Clone, Copy, Debug, PartialEq, Eq)]

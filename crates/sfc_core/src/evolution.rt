@@ -1,7 +1,7 @@
 //! One scan's steps and transitions, over what is kept of the scans before (2.6.5).
 
 ghost use Rattle.std.specs.Prelude.{◌≡◌, ◌<◌, ◌≤ℤ◌, ◌^◌, ◌||◌, ◌&&◌, ◌∷◌, ℕ, List, pos, length, map, replicate, false, true};
-ghost use Rattle.sfc_chart.specs.Chart.{IsChart};
+ghost use Rattle.sfc_single.specs.Chart.{IsChart};
 ghost use Rattle.sfc_core.specs.Flags.{flag};
 ghost use Rattle.sfc_core.specs.Keeping.Instants.{AreInstants};
 ghost use Rattle.sfc_core.specs.Keeping.Kept.{AreKept};
@@ -11,8 +11,8 @@ ghost use Rattle.sfc_core.specs.Image.{is_condition_true};
 use crate::clearing::clear_in_order;
 use crate::marking::{mark_following, mark_preceding};
 use crate::update::{update_active, update_kept, update_since};
-use sfc_chart::chart::{Chart, Step};
-use sfc_chart::value::Value;
+use sfc_single::chart::{Chart, Step};
+use sfc_expr::value::Value;
 
 // Sets the flags of the initial steps in the first scan, and else none.
 fn start(on: &mut [bool], steps: &[Step], first: bool)

@@ -2,12 +2,12 @@
 
 ghost use Rattle.std.specs.Prelude.{◌≡◌, ◌<◌, length, None};
 ghost use Rattle.sfc_core.specs.Verdict.{is_input as is_input_location, input_refusal as refusal_of_input};
-ghost use Rattle.sfc_chart.specs.Values.{type_of};
+ghost use Rattle.sfc_expr.specs.Values.{type_of};
 
 use crate::refusal::Refusal;
 use sfc_chart::ids::VarId;
-use sfc_chart::plant::Variable;
-use sfc_chart::value::Value;
+use sfc_variables::variable::Variable;
+use sfc_expr::value::Value;
 use sfc_tokens::location::{Area, Location};
 
 // Whether it is a location at %I.

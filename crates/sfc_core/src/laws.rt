@@ -1,9 +1,9 @@
 //! What the definitions mean: each law is a function with an empty body, whose contract is the law.
 
 ghost use Rattle.std.specs.Prelude.{◌≡◌, ◌↔◌, ◌⊎◌, unwrap_or, ◌<◌, ◌≤◌, ◌^◌, ◌<ℤ◌, ◌≤ℤ◌, ◌-ℤ◌, ℤ, pos, Bool, ℕ, List, [], ◌∷◌, All, Some, None, length, replicate, true, false};
-ghost use Rattle.sfc_chart.specs.declared.chart.Chart.{Chart};
-ghost use Rattle.sfc_chart.specs.declared.chart.Transition.{Transition};
-ghost use Rattle.sfc_chart.specs.Chart.{IsChart, PlantData};
+ghost use Rattle.sfc_single.specs.declared.chart.Chart.{Chart};
+ghost use Rattle.sfc_single.specs.declared.chart.Transition.{Transition};
+ghost use Rattle.sfc_single.specs.Chart.{IsChart, PlantData};
 ghost use Rattle.sfc_chart.specs.declared.ids.TaskId.{TaskId};
 ghost use Rattle.sfc_chart.specs.declared.ids.VarId.{VarId};
 ghost use Rattle.sfc_core.specs.Flags.{AllBelow};

@@ -5,7 +5,7 @@ ghost use Rattle.sfc_core.specs.Flags.{AllBelow};
 ghost use Rattle.sfc_core.specs.Keeping.Marking.{marked_by};
 
 use crate::flags::mark_if;
-use sfc_chart::chart::Transition;
+use sfc_single::chart::Transition;
 
 /// Marks the preceding steps of the cleared transitions.
 pub fn mark_preceding(transitions: &[Transition], cleared: &[bool], flags: &mut [bool])

@@ -5,12 +5,12 @@ ghost use Rattle.sfc_core.specs.Flags.{flag, marked};
 ghost use Rattle.sfc_core.specs.Keeping.Marking.{places, marked_active};
 ghost use Rattle.sfc_core.specs.ActionControl.{is_fall, boolean_action};
 ghost use Rattle.sfc_core.specs.Keeping.Outputs.{AreVariables, executions, with_flags};
-ghost use Rattle.sfc_chart.specs.Chart.{IsStep, IsTarget};
+ghost use Rattle.sfc_single.specs.Chart.{IsStep, IsTarget};
 
-use sfc_chart::chart::{Association, Step, Target};
+use sfc_single::chart::{Association, Step, Target};
 use sfc_chart::ids::VarId;
-use sfc_chart::simple::Qualifier;
-use sfc_chart::value::Value;
+use sfc_single::chart::Qualifier;
+use sfc_expr::value::Value;
 
 // The variable that is an association's Boolean action.
 fn named_variable(association: &Association) -> VarId

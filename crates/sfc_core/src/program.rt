@@ -4,8 +4,8 @@ ghost use Rattle.std.specs.Prelude.{◌≡◌, ◌≤ℤ◌, ◌^◌, ◌∷◌,
 
 use crate::actions::Actions;
 use crate::steps::Steps;
-use sfc_chart::chart::Chart;
-use sfc_chart::value::Value;
+use sfc_single::chart::Chart;
+use sfc_expr::value::Value;
 use std::alloc::{AllocError, Global};
 
 /// The steps and actions of a program instance, and the number of scans of its life.
@@ -17,7 +17,7 @@ pub struct Program {
 }
 
 impl Program {
-    ghost use Rattle.sfc_chart.specs.Chart.{IsChart};
+    ghost use Rattle.sfc_single.specs.Chart.{IsChart};
     ghost use Rattle.sfc_core.specs.Evolution.{Row, row_after};
     ghost use Rattle.sfc_core.specs.ActionControl.{q_of, boolean_actions};
     ghost use Rattle.sfc_core.specs.Image.{is_condition_true, with_outputs};

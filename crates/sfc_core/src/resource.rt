@@ -1,7 +1,7 @@
 //! One resource of a controller (2.7.1): a plant that runs by events.
 
 ghost use Rattle.std.specs.Prelude.{◌≡◌, ◌<◌, ◌≤ℤ◌, ◌^◌, length, pos, negsuc};
-ghost use Rattle.sfc_chart.specs.Chart.{IsSingle};
+ghost use Rattle.sfc_single.specs.Chart.{IsSingle};
 ghost use Rattle.sfc_core.specs.Keeping.SingleInstance.{single_chart as the_chart, IsInterval, IsMain};
 ghost use Rattle.sfc_core.specs.Keeping.ProgramAgrees.{HasRoom};
 
@@ -16,8 +16,8 @@ use crate::single::single_chart;
 use crate::task::TaskState;
 use crate::view::ProgramView;
 use sfc_chart::ids::{ProgId, TaskId, VarId};
-use sfc_chart::plant::Plant;
-use sfc_chart::value::Value;
+use sfc_single::plant::Plant;
+use sfc_expr::value::Value;
 use std::alloc::{AllocError, Global};
 
 /// A plant that runs by scans and inputs. It keeps what the next event needs, and no history: what an event
@@ -41,7 +41,7 @@ pub struct Resource {
 #[tactic(auto, unfolding(crate::specs::Agreement::Agrees, crate::specs::Agreement::plant_of, crate::specs::ViewAgrees::IsViewOf, crate::specs::ViewAgrees::shown_steps, crate::specs::ViewAgrees::shown_transitions))]
 impl Resource {
     ghost use Rattle.std.specs.Prelude.{◌∷◌, [], List, None, OnOk, OnErr, IfOk, is_ok};
-    ghost use Rattle.sfc_chart.specs.Chart.{PlantData};
+    ghost use Rattle.sfc_single.specs.Chart.{PlantData};
     ghost use Rattle.sfc_core.specs.History.{Entry, History};
     ghost use Rattle.sfc_core.specs.Verdict.{first_refusal, scan_refusal as refusal_of_scan, answer, verdict, after, after_all, accepted};
     ghost use Rattle.sfc_core.specs.Answers.{value_of, overruns_of};

@@ -1,11 +1,11 @@
 //! The chart of a plant with one program instance.
 
 ghost use Rattle.std.specs.Prelude.{◌≡◌, length};
-ghost use Rattle.sfc_chart.specs.Chart.{IsSingle, IsChart};
+ghost use Rattle.sfc_single.specs.Chart.{IsSingle, IsChart};
 ghost use Rattle.sfc_core.specs.Keeping.SingleInstance.{single_chart as the_chart};
 
-use sfc_chart::chart::Chart;
-use sfc_chart::plant::Plant;
+use sfc_single::chart::Chart;
+use sfc_single::plant::Plant;
 
 /// The chart of the plant's only program instance.
 pub fn single_chart(plant: &Plant) -> &Chart

@@ -4,8 +4,8 @@ ghost use Rattle.std.specs.Prelude.{◌≡◌, ◌<◌, ◌≤ℤ◌, ◌^◌, �
 ghost use Rattle.sfc_core.specs.Keeping.Instants.{AreInstants};
 
 use crate::evolution::scan;
-use sfc_chart::chart::Chart;
-use sfc_chart::value::Value;
+use sfc_single::chart::Chart;
+use sfc_expr::value::Value;
 use std::alloc::{AllocError, Global};
 
 /// Of each step whether it is active, when it was last activated and what time it kept when it was left; of each
@@ -32,7 +32,7 @@ pub struct Steps {
 }
 
 impl Steps {
-    ghost use Rattle.sfc_chart.specs.Chart.{IsChart};
+    ghost use Rattle.sfc_single.specs.Chart.{IsChart};
     ghost use Rattle.sfc_core.specs.Evolution.{Row, row_after, is_active, step_time, scan_instant, was_cleared, was_activated};
     ghost use Rattle.sfc_core.specs.Image.{is_condition_true};
     ghost use Rattle.sfc_core.specs.Keeping.StepsAgree.{IsFor, StepsAgree, step_places, transition_places};

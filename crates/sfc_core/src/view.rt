@@ -14,7 +14,7 @@ pub struct ProgramView<'a> {
 
 #[tactic(auto, unfolding(crate::specs::ViewAgrees::IsViewOf, crate::specs::ViewAgrees::shown_steps, crate::specs::ViewAgrees::shown_transitions, crate::specs::ViewAgrees::shown_actions))]
 impl<'a> ProgramView<'a> {
-    ghost use Rattle.sfc_chart.specs.Chart.{PlantData};
+    ghost use Rattle.sfc_single.specs.Chart.{PlantData};
     ghost use Rattle.sfc_chart.specs.declared.ids.ProgId.{ProgId};
     ghost use Rattle.sfc_core.specs.History.{History};
     ghost use Rattle.sfc_core.specs.Answers.{scan_count, is_step_active, step_elapsed, is_step_activated, is_transition_cleared, actions_of, action_q, is_action_executed};

@@ -3,7 +3,7 @@ use Rattle.std.proofs.Common.{◌≡◌, ℕ, List, [], Option, Some, None, Resu
 use Rattle.std.specs.Result.{IfErr}
 use Rattle.std.specs.Io.KnownBytes.{Appends, Keeps}
 use Rattle.sfc_tokens.specs.Writing.{Writes, AppendsFront}
-use Rattle.sfc_chart.specs.Chart.{PlantData}
+use Rattle.sfc_single.specs.Chart.{PlantData}
 use Rattle.sfc_core.specs.History.{Entry}
 use Rattle.sfc_monitor.specs.declared.script.ScriptError.{ScriptError}
 use Rattle.sfc_monitor.specs.declared.script.ScriptError.TheVariants as script_error

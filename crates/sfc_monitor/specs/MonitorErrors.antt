@@ -5,9 +5,9 @@ use Rattle.sfc_tokens.specs.declared.read_error.ReadError.{ReadError}
 use Rattle.sfc_tokens.specs.declared.read_error.ReadErrorKind.{ReadErrorKind}
 use Rattle.sfc_tokens.specs.declared.read_error.ReadErrorKind.TheVariants as kind
 use Rattle.sfc_tokens.specs.ReadErrors as reading
-use Rattle.sfc_chart.specs.LoadErrors as loading
-use Rattle.sfc_chart.specs.declared.load_error.LoadError.{LoadError}
-use Rattle.sfc_chart.specs.declared.load_error.LoadError.TheVariants as load
+use Rattle.sfc_variables.specs.LoadErrors as loading
+use Rattle.sfc_variables.specs.declared.load_error.LoadError.{LoadError}
+use Rattle.sfc_variables.specs.declared.load_error.LoadError.TheVariants as load
 use Rattle.sfc_monitor.specs.declared.script.ScriptError.{ScriptError}
 use Rattle.sfc_monitor.specs.declared.script.ScriptError.TheVariants as script
 use Rattle.sfc_monitor.specs.declared.monitor_error.ChartError.{ChartError}

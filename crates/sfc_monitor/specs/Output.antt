@@ -5,13 +5,13 @@ use Rattle.sfc_tokens.specs.TimeText.{time_text}
 use Rattle.sfc_chart.specs.declared.ids.VarId.{VarId}
 use Rattle.sfc_chart.specs.declared.ids.TaskId.{TaskId}
 use Rattle.sfc_chart.specs.declared.ids.ProgId.{ProgId}
-use Rattle.sfc_chart.specs.declared.value.Value.{Value}
-use Rattle.sfc_chart.specs.declared.value.Value.TheVariants as value
-use Rattle.sfc_chart.specs.declared.chart.Step.{Step}
-use Rattle.sfc_chart.specs.declared.chart.Transition.{Transition}
-use Rattle.sfc_chart.specs.declared.plant.Variable.{Variable}
-use Rattle.sfc_chart.specs.declared.plant.Instance.{Instance}
-use Rattle.sfc_chart.specs.Chart.{PlantData}
+use Rattle.sfc_expr.specs.declared.value.Value.{Value}
+use Rattle.sfc_expr.specs.declared.value.Value.TheVariants as value
+use Rattle.sfc_single.specs.declared.chart.Step.{Step}
+use Rattle.sfc_single.specs.declared.chart.Transition.{Transition}
+use Rattle.sfc_variables.specs.declared.variable.Variable.{Variable}
+use Rattle.sfc_chart.specs.declared.instance.Instance.{Instance}
+use Rattle.sfc_single.specs.Chart.{PlantData}
 use Rattle.sfc_core.specs.declared.event.Event.{Event}
 use Rattle.sfc_core.specs.declared.event.Event.TheVariants.{Scan, Input}
 use Rattle.sfc_core.specs.declared.event.Outcome.{Outcome}

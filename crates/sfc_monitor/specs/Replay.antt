@@ -1,14 +1,12 @@
 -- What a chart and a script write: a stated function of the bytes that were read.
 use Rattle.std.specs.Prelude.{◌≡◌, ◌⊎◌, ℕ, List, [], None, Some, Result, Ok, Err}
 use Rattle.std.specs.Io.KnownBytes.{Appends}
-use Rattle.sfc_chart.specs.declared.simple.Source.{Source}
 use Rattle.sfc_text.specs.Reads.{TextReads}
 use Rattle.sfc_text.specs.Trees.{SourceTree}
 use Rattle.sfc_tokens.specs.Writing.{AppendsFront}
-use Rattle.sfc_chart.specs.Narrowing.{narrowed}
-use Rattle.sfc_chart.specs.Chart.{PlantData}
-use Rattle.sfc_chart.specs.Loading.{source_check}
-use Rattle.sfc_chart.specs.Built.{plant_of}
+use Rattle.sfc_single.specs.Chart.{PlantData}
+use Rattle.sfc_chart.specs.Built.{source_check, plant_of}
+use Rattle.sfc_single.specs.Narrowing.{narrowed}
 use Rattle.sfc_core.specs.History.{Entry}
 use Rattle.sfc_monitor.specs.declared.monitor_error.ChartError.{ChartError}
 use Rattle.sfc_monitor.specs.declared.monitor_error.ChartError.TheVariants as chart
@@ -18,27 +16,22 @@ use Rattle.sfc_monitor.specs.Script.{commands_of_script}
 use Rattle.sfc_monitor.specs.Output.{lines_of_play}
 use Rattle.sfc_monitor.specs.Reading.{Device, IsUntouched, TakesAtMost, LosesAtMost}
 
--- The text is read as a tree of the whole language, which is this source in the part that is loaded so far.
-pub record IsSourceOf (text : List ℕ) (source : Source) : Type 0 where
+-- The text is read as a tree in which no check fails, and the plant is its, which has no more than is run so far.
+pub record IsPlantOf (text : List ℕ) (plant : PlantData) : Type 0 where
   pub tree : SourceTree
   pub read : TextReads text (Ok tree)
-  pub supported : narrowed tree ≡ Some source
+  pub accepted : source_check tree ≡ None
+  pub supported : narrowed (plant_of tree) ≡ Some plant
 
--- The text is read as trees in which no check fails, and the plant is theirs.
-pub record IsPlantOf (text : List ℕ) (plant : PlantData) : Type 0 where
-  pub source : Source
-  pub read : IsSourceOf text source
-  pub accepted : source_check source ≡ None
-  pub built : plant ≡ plant_of source
-
--- The text is read as a tree of the whole language, which has more than is loaded so far.
+-- The text is read as a tree in which no check fails, and its plant has more than is run so far.
 abbrev pub IsUnsupported : List ℕ → Type 0
-IsUnsupported text = (tree : SourceTree) × TextReads text (Ok tree) × (narrowed tree ≡ None)
+IsUnsupported text =
+    (tree : SourceTree) × TextReads text (Ok tree) × (source_check tree ≡ None) × (narrowed (plant_of tree) ≡ None)
 
 -- why the text is no plant: what the reader finds, or the first check that fails
 abbrev pub IsRefusedFor : List ℕ → ChartError → Type 0
 IsRefusedFor text (chart.Read error) = TextReads text (Err error.kind)
-IsRefusedFor text (chart.Load error) = (source : Source) × IsSourceOf text source × (source_check source ≡ Some error)
+IsRefusedFor text (chart.Load error) = (tree : SourceTree) × TextReads text (Ok tree) × (source_check tree ≡ Some error)
 
 -- what a loader of texts answers; want of memory says nothing
 abbrev pub LoadsText : List ℕ → Result PlantData MonitorError → Type 0

@@ -7,10 +7,10 @@ use Rattle.sfc_tokens.specs.Case.{same_word}
 use Rattle.sfc_tokens.specs.Scanning.DurationWords.{duration_value}
 use Rattle.sfc_chart.specs.declared.ids.VarId.{VarId}
 use Rattle.sfc_chart.specs.declared.ids.TaskId.{TaskId}
-use Rattle.sfc_chart.specs.declared.value.Value.{Value}
-use Rattle.sfc_chart.specs.declared.value.Value.TheVariants as value
-use Rattle.sfc_chart.specs.Chart.{PlantData}
-use Rattle.sfc_chart.specs.Finding.{task_named, variable_named}
+use Rattle.sfc_expr.specs.declared.value.Value.{Value}
+use Rattle.sfc_expr.specs.declared.value.Value.TheVariants as value
+use Rattle.sfc_single.specs.Chart.{PlantData}
+use Rattle.sfc_single.specs.Finding.{task_named, variable_named}
 use Rattle.sfc_core.specs.declared.event.Event.{Event}
 use Rattle.sfc_core.specs.declared.event.Event.TheVariants.{Scan, Input}
 use Rattle.sfc_core.specs.History.{Entry}

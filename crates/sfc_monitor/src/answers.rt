@@ -9,8 +9,10 @@ use crate::append::{append, append_number, append_time, append_value};
 use crate::lines::append_program_line;
 use crate::lists::variable_name;
 use sfc_chart::ids::{ProgId, TaskId, VarId};
-use sfc_chart::plant::{Instance, Plant, Variable};
-use sfc_chart::value::Value;
+use sfc_chart::instance::Instance;
+use sfc_single::plant::Plant;
+use sfc_variables::variable::Variable;
+use sfc_expr::value::Value;
 use sfc_core::{Event, Outcome, Refusal, Resource};
 use std::alloc::{AllocError, Global};
 

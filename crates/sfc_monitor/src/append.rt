@@ -5,7 +5,7 @@ ghost use Rattle.std.specs.Fmt.{decimal};
 ghost use Rattle.sfc_tokens.specs.TimeText.{time_text};
 ghost use Rattle.sfc_monitor.specs.Output.{signed_text, value_text as text_of_value};
 
-use sfc_chart::value::Value;
+use sfc_expr::value::Value;
 use sfc_tokens::time_text::put_time;
 use std::alloc::{AllocError, Global};
 

@@ -1,17 +1,15 @@
 //! One line of a script.
 
-ghost use Rattle.std.specs.Prelude.{◌≡◌, IfOk};
+ghost use Rattle.std.specs.Prelude.{◌≡◌};
 
 use crate::split::next_word;
 use sfc_chart::ids::{TaskId, VarId};
-use sfc_chart::name_key::NameKey;
-use sfc_chart::plant::Plant;
-use sfc_chart::value::Value;
+use sfc_single::plant::Plant;
+use sfc_expr::value::Value;
 use sfc_core::Event;
 use sfc_tokens::case::is_same_word;
 use sfc_tokens::duration::duration;
 use sfc_tokens::var_type::VarType;
-use std::alloc::{AllocError, Global};
 
 /// What a line of a script is.
 #[derive(Clone, Copy, Debug, PartialEq, Eq)]
@@ -27,24 +25,22 @@ pub enum Line {
 ghost use Rattle.sfc_monitor.specs.Script as script;
 
 // The task with this name; else a number that no plant has.
-fn task_of(alloc: Global, plant: &Plant, word: &[u8]) -> Result<TaskId, AllocError>
-    ensures { IfOk result (λ task. task ≡ script.task_of plant.now word.now) }
+fn task_of(plant: &Plant, word: &[u8]) -> TaskId
+    ensures { result ≡ script.task_of plant.now word.now }
 {
-    let key = NameKey::new(alloc, word)?;
-    match plant.find_task(&key) {
-        Some(task) => Ok(task),
-        None => Ok(TaskId(255)),
+    match plant.find_task(word) {
+        Some(task) => task,
+        None => TaskId(255),
     }
 }
 
 // The variable with this name; else a number that no plant has.
-fn variable_of(alloc: Global, plant: &Plant, word: &[u8]) -> Result<VarId, AllocError>
-    ensures { IfOk result (λ id. id ≡ script.variable_of plant.now word.now) }
+fn variable_of(plant: &Plant, word: &[u8]) -> VarId
+    ensures { result ≡ script.variable_of plant.now word.now }
 {
-    let key = NameKey::new(alloc, word)?;
-    match plant.find_variable(&key) {
-        Some(id) => Ok(id),
-        None => Ok(VarId(65535)),
+    match plant.find_variable(word) {
+        Some(id) => id,
+        None => VarId(65535),
     }
 }
 
@@ -123,74 +119,57 @@ fn value_of_word(var_type: Option<VarType>, word: &[u8]) -> Option<Value>
 }
 
 // The scan that the words say, if the keyword is SCAN.
-fn scan_of_words(
-    alloc: Global,
-    plant: &Plant,
-    keyword: &[u8],
-    name: &[u8],
-) -> Result<Option<Event>, AllocError>
-    ensures { IfOk result (λ event. event ≡ script.scan_of_words plant.now keyword.now name.now) }
+fn scan_of_words(plant: &Plant, keyword: &[u8], name: &[u8]) -> Option<Event>
+    ensures { result ≡ script.scan_of_words plant.now keyword.now name.now }
 {
     if !is_same_word(keyword, b"SCAN") {
-        return Ok(None);
+        return None;
     }
-    let task = task_of(alloc, plant, name)?;
-    Ok(Some(Event::Scan(task)))
+    Some(Event::Scan(task_of(plant, name)))
 }
 
 // The input that the words say, if the keyword is INPUT.
-fn input_of_words(
-    alloc: Global,
-    plant: &Plant,
-    keyword: &[u8],
-    name: &[u8],
-    value: &[u8],
-) -> Result<Option<Event>, AllocError>
-    ensures { IfOk result (λ event. event ≡ script.input_of_words plant.now keyword.now name.now value.now) }
+fn input_of_words(plant: &Plant, keyword: &[u8], name: &[u8], value: &[u8]) -> Option<Event>
+    ensures { result ≡ script.input_of_words plant.now keyword.now name.now value.now }
 {
     if !is_same_word(keyword, b"INPUT") {
-        return Ok(None);
+        return None;
     }
-    let id = variable_of(alloc, plant, name)?;
+    let id = variable_of(plant, name);
     match value_of_word(type_of(plant, id), value) {
-        Some(value) => Ok(Some(Event::Input(id, value))),
-        None => Ok(None),
+        Some(value) => Some(Event::Input(id, value)),
+        None => None,
     }
 }
 
 // The event that the words say: SCAN task, or INPUT variable value.
-fn event_of_words(alloc: Global, plant: &Plant, words: &[u8]) -> Result<Option<Event>, AllocError>
-    ensures { IfOk result (λ event. event ≡ script.event_of_words plant.now (script.words_of words.now)) }
+fn event_of_words(plant: &Plant, words: &[u8]) -> Option<Event>
+    ensures { result ≡ script.event_of_words plant.now (script.words_of words.now) }
 {
-    let Some((keyword, rest)) = next_word(words) else {
-        return Ok(None);
-    };
-    let Some((name, rest)) = next_word(rest) else {
-        return Ok(None);
-    };
+    let (keyword, rest) = next_word(words)?;
+    let (name, rest) = next_word(rest)?;
     let Some((value, rest)) = next_word(rest) else {
-        return scan_of_words(alloc, plant, keyword, name);
+        return scan_of_words(plant, keyword, name);
     };
     if next_word(rest).is_some() {
-        return Ok(None);
+        return None;
     }
-    input_of_words(alloc, plant, keyword, name, value)
+    input_of_words(plant, keyword, name, value)
 }
 
-/// What a line of a script is, without its end.
-pub fn read_line(alloc: Global, plant: &Plant, line: &[u8]) -> Result<Line, AllocError>
-    ensures { IfOk result (λ read. read ≡ script.line_of_words plant.now (script.words_of line.now)) }
+/// What a line of a script is, without its end. It takes no memory.
+pub fn read_line(plant: &Plant, line: &[u8]) -> Line
+    ensures { result ≡ script.line_of_words plant.now (script.words_of line.now) }
 {
     let Some((instant, rest)) = next_word(line) else {
-        return Ok(Line::Skipped);
+        return Line::Skipped;
     };
     if begins_comment(instant) {
-        return Ok(Line::Skipped);
+        return Line::Skipped;
     }
-    let event = event_of_words(alloc, plant, rest)?;
-    match (duration(instant), event) {
-        (Some(t), Some(event)) => Ok(Line::Command(event, t)),
-        _ => Ok(Line::Faulty),
+    match (duration(instant), event_of_words(plant, rest)) {
+        (Some(t), Some(event)) => Line::Command(event, t),
+        _ => Line::Faulty,
     }
 }
 

@@ -1,7 +1,7 @@
 //! The line of a program that was scanned.
 
 ghost use Rattle.std.specs.Prelude.{◌≡◌, ◌<◌, ◌++◌, length, OnOk};
-ghost use Rattle.sfc_chart.specs.Chart.{PlantData};
+ghost use Rattle.sfc_single.specs.Chart.{PlantData};
 ghost use Rattle.sfc_core.specs.History.{History};
 ghost use Rattle.sfc_core.specs.Answers.{chart_of_program};
 ghost use Rattle.sfc_chart.specs.declared.ids.ProgId.{ProgId};
@@ -10,9 +10,10 @@ ghost use Rattle.sfc_monitor.specs.Output as output;
 
 use crate::append::{append, append_number};
 use crate::lists::{append_cleared, append_executed, append_steps};
-use sfc_chart::chart::Chart;
+use sfc_single::chart::Chart;
 use sfc_chart::ids::ProgId;
-use sfc_chart::plant::{Instance, Plant};
+use sfc_chart::instance::Instance;
+use sfc_single::plant::Plant;
 use sfc_core::ProgramView;
 use std::alloc::{AllocError, Global};
 

@@ -3,7 +3,7 @@
 ghost use Rattle.std.specs.Prelude.{◌≡◌, ◌<◌, ◌≤◌, ◌+◌, ◌++◌, [], ℕ, suc, List, length, OnOk, IfOk};
 ghost use Rattle.std.specs.Fmt.{decimal};
 ghost use Rattle.sfc_chart.specs.declared.ids.ProgId.{ProgId};
-ghost use Rattle.sfc_chart.specs.Chart.{PlantData};
+ghost use Rattle.sfc_single.specs.Chart.{PlantData};
 ghost use Rattle.sfc_core.specs.History.{History};
 ghost use Rattle.sfc_core.specs.Answers.{is_step_active, is_transition_cleared, is_action_executed, actions_of};
 ghost use Rattle.sfc_core.specs.ViewAgrees.{IsViewOf, shown_steps, shown_transitions, shown_actions};
@@ -12,9 +12,9 @@ ghost use Rattle.sfc_monitor.specs.Working.ListParts.{continued, separator};
 ghost use Rattle.sfc_monitor.specs.Output.{step_text, step_texts, cleared_texts, executed_texts, variable_name as name_of};
 
 use crate::append::{append, append_number, append_time};
-use sfc_chart::chart::{Step, Transition};
+use sfc_single::chart::{Step, Transition};
 use sfc_chart::ids::VarId;
-use sfc_chart::plant::Plant;
+use sfc_single::plant::Plant;
 use sfc_core::ProgramView;
 use std::alloc::{AllocError, Global};
 

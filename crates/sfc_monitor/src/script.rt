@@ -7,7 +7,7 @@ ghost use Rattle.std.specs.Prelude.{◌≡◌};
 
 use crate::line::{Line, read_line};
 use crate::split::next_line;
-use sfc_chart::plant::Plant;
+use sfc_single::plant::Plant;
 use sfc_core::Event;
 use std::alloc::{AllocError, AllocFailed, Global};
 
@@ -47,7 +47,7 @@ fn read_lines(alloc: Global, plant: &Plant, bytes: &[u8]) -> Result<Vec<(Event, 
     let mut number = 1;
     let mut rest = bytes;
     'lines: while let Some((line, after)) = next_line(rest) {
-        match read_line(alloc, plant, line)? {
+        match read_line(plant, line) {
             Line::Skipped => {}
             Line::Command(event, t) => entries.push((event, t))?,
             Line::Faulty => return Err(ScriptError::Faulty(number)),

@@ -1,6 +1,6 @@
 -- Which scans an `Actions` agrees with.
 use Rattle.std.specs.Prelude.{ℕ, ◌≡◌, List, length, map}
-use Rattle.sfc_chart.specs.declared.chart.Chart.{Chart}
+use Rattle.sfc_single.specs.declared.chart.Chart.{Chart}
 use Rattle.sfc_core.specs.declared.actions.Actions.{Actions}
 use Rattle.sfc_core.specs.Evolution.{Row}
 use Rattle.sfc_core.specs.ActionControl.{q_of, a_of, boolean_actions}

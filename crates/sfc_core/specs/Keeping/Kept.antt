@@ -1,6 +1,6 @@
 -- What is kept of the scans of a life, in place of their rows.
 use Rattle.std.specs.Prelude.{ℕ, ◌≡◌, ◌<◌, Bool, not, cond, List, ℤ, ◌-ℤ◌}
-use Rattle.sfc_chart.specs.declared.chart.Chart.{Chart}
+use Rattle.sfc_single.specs.declared.chart.Chart.{Chart}
 use Rattle.sfc_core.specs.Lookback.{is_empty}
 use Rattle.sfc_core.specs.Flags.{flag}
 use Rattle.sfc_core.specs.Keeping.Instants.{number}

@@ -1,6 +1,6 @@
 -- Events that name what the plant has.
 use Rattle.std.specs.Prelude.{◌<◌, length}
-use Rattle.sfc_chart.specs.Chart.{PlantData}
+use Rattle.sfc_single.specs.Chart.{PlantData}
 use Rattle.sfc_core.specs.declared.event.Event.{Event}
 use Rattle.sfc_core.specs.declared.event.Event.TheVariants.{Scan, Input}
 

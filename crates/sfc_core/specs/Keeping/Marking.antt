@@ -1,8 +1,8 @@
 -- What marking steps, one transition after another, leaves.
 use Rattle.std.specs.Prelude.{ℕ, Bool, cond, List, [], ◌∷◌, map}
-use Rattle.sfc_chart.specs.declared.chart.Transition.{Transition}
-use Rattle.sfc_chart.specs.declared.chart.Step.{Step}
-use Rattle.sfc_chart.specs.declared.chart.Association.{Association}
+use Rattle.sfc_single.specs.declared.chart.Transition.{Transition}
+use Rattle.sfc_single.specs.declared.chart.Step.{Step}
+use Rattle.sfc_single.specs.declared.chart.Association.{Association}
 use Rattle.sfc_core.specs.Flags.{marked}
 use Rattle.sfc_core.specs.ActionControl.{boolean_action}
 

@@ -2,9 +2,9 @@
 use Rattle.std.specs.Prelude.{ℕ, ◌<◌, ◌==◌, Bool, cond, ◌||◌, List, [], ◌∷◌, ◌++◌, All}
 use Rattle.std.specs.List.{list_any}
 use Rattle.sfc_chart.specs.declared.ids.VarId.{VarId}
-use Rattle.sfc_chart.specs.declared.chart.Association.{Association}
-use Rattle.sfc_chart.specs.declared.chart.Step.{Step}
-use Rattle.sfc_chart.specs.declared.value.Value.TheVariants as value
+use Rattle.sfc_single.specs.declared.chart.Association.{Association}
+use Rattle.sfc_single.specs.declared.chart.Step.{Step}
+use Rattle.sfc_expr.specs.declared.value.Value.TheVariants as value
 use Rattle.sfc_core.specs.ActionControl.{is_fall, boolean_action}
 use Rattle.sfc_core.specs.Image.{Image, assigned}
 

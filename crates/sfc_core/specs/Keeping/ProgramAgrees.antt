@@ -1,6 +1,6 @@
 -- Which scans a `Program` agrees with.
 use Rattle.std.specs.Prelude.{ℕ, ◌≡◌, List, length}
-use Rattle.sfc_chart.specs.declared.chart.Chart.{Chart}
+use Rattle.sfc_single.specs.declared.chart.Chart.{Chart}
 use Rattle.sfc_core.specs.declared.program.Program.{Program}
 use Rattle.sfc_core.specs.Evolution.{Row}
 use Rattle.sfc_core.specs.Releases.{capped}

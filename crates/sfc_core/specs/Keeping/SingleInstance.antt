@@ -1,8 +1,8 @@
 -- A plant with one task, one program type and one instance of it.
 use Rattle.std.specs.Prelude.{◌≡◌, ◌<◌, length, ℤ, slice_index_or}
-use Rattle.sfc_chart.specs.declared.chart.Chart.{Chart}
+use Rattle.sfc_single.specs.declared.chart.Chart.{Chart}
 use Rattle.sfc_chart.specs.declared.ids.TaskId.{TaskId}
-use Rattle.sfc_chart.specs.Chart.{PlantData}
+use Rattle.sfc_single.specs.Chart.{PlantData}
 use Rattle.sfc_core.specs.Answers.{chart_of_program, no_instance}
 use Rattle.sfc_core.specs.Verdict.{interval_of}
 

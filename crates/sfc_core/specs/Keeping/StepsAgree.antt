@@ -1,6 +1,6 @@
 -- Which scans a `Steps` agrees with.
 use Rattle.std.specs.Prelude.{ℕ, ◌≡◌, List, length}
-use Rattle.sfc_chart.specs.declared.chart.Chart.{Chart}
+use Rattle.sfc_single.specs.declared.chart.Chart.{Chart}
 use Rattle.sfc_core.specs.declared.steps.Steps.{Steps}
 use Rattle.sfc_core.specs.Evolution.{Row, step_count, scan_instant}
 use Rattle.sfc_core.specs.Keeping.Kept.{AreKept}

@@ -1,6 +1,6 @@
 use Rattle.std.proofs.Common.{◌≡◌, ◌||◌, false, length, arith, rules, ap, ◌∙◌}
 use Rattle.std.specs.Prelude.{All}
-use Rattle.sfc_chart.specs.Chart.{IsTransition}
+use Rattle.sfc_single.specs.Chart.{IsTransition}
 use Rattle.sfc_core.specs.Flags.{flag}
 use Rattle.sfc_core.specs.Evolution.{some_cleared}
 use Rattle.sfc_core.specs.Keeping.Marking.{marked_by}

@@ -1,7 +1,5 @@
-use Rattle.std.proofs.Common.{rules}
 use Rattle.std.proofs.lemmas.Result.{err_from_is_err_and}
 use Rattle.sfc_text.specs.Trees.{source_of}
-use Rattle.sfc_monitor.specs.Replay.{IsSourceOf}
 use Rattle.sfc_monitor.proofs.Refused.{read_refused, load_refused}
 use Rattle.sfc_monitor.proofs.chart.plant_of_text.Goals as goal
 
@@ -13,6 +11,4 @@ returns-in_err-tree-clause-loads c =
 pub returns-in_err-plant-clause-loads : goal.returns-in_err-plant-clause-loads
 returns-in_err-plant-clause-loads c =
     let p = err_from_is_err_and c.from_residual-in_err-plant.result c.from_residual-in_err-plant.ensures.1 in
-    let source : IsSourceOf c.args.text.now c.in-Some.source =
-    record { tree = source_of c.in_ok-tree.tree; read = c.in_ok-tree.ensures; supported = search rules } in
-    rw (p.1, p.2) (load_refused c.args.text.now c.in-Some.source c.in_err-plant.field-0.0 source c.in_err-plant.ensures)
+    rw (p.1, p.2) (load_refused c.args.text.now (source_of c.in_ok-tree.tree) c.in_err-plant.field-0.0 c.in_ok-tree.ensures c.in_err-plant.ensures)

@@ -1,6 +1,6 @@
 use Rattle.std.proofs.Common.{◌≡◌, ◌+◌, ◌++◌, length}
 use Rattle.sfc_chart.specs.declared.ids.ProgId.{ProgId}
-use Rattle.sfc_chart.specs.Chart.{PlantData}
+use Rattle.sfc_single.specs.Chart.{PlantData}
 use Rattle.sfc_core.specs.History.{History}
 use Rattle.sfc_core.specs.ViewAgrees.{IsViewOf, shown_steps}
 use Rattle.sfc_monitor.specs.Lists.{listed}

@@ -1,6 +1,6 @@
 use Rattle.std.proofs.Common.{◌≡◌, ◌<◌, ◌∷◌, refl, sym, subst, length, arith, SFits, w64}
 use Rattle.std.proofs.lemmas.Int.{to_z-of_z}
-use Rattle.sfc_chart.specs.Chart.{PlantData}
+use Rattle.sfc_single.specs.Chart.{PlantData}
 use Rattle.sfc_core.specs.declared.event.Event.TheVariants.{Scan}
 use Rattle.sfc_core.specs.History.{overruns}
 use Rattle.sfc_core.specs.Verdict.{interval_of, bits_of}
