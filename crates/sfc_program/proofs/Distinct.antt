@@ -27,11 +27,15 @@ pub in_parts : (before a b : List (List ℕ)) → distinct_check before (a ++ b)
 in_parts before [] b = ap (λ (l : List (List ℕ)). distinct_check l b) (sym (append-nil before))
 in_parts before (x ∷ a) b =
     ap (λ (c : Check). name_check before x then c)
-    (in_parts (before ++ x ∷ []) a b ∙ ap (λ (l : List (List ℕ)). distinct_check (before ++ x ∷ []) a then distinct_check l b) (append_assoc before (x ∷ []) a))
+    (in_parts (before ++ x ∷ []) a b
+    ∙ ap (λ (l : List (List ℕ)). distinct_check (before ++ x ∷ []) a then distinct_check l b) (append_assoc before (x ∷ []) a))
     ∙ sym (then_then (name_check before x) (distinct_check (before ++ x ∷ []) a) (distinct_check (before ++ x ∷ a) b))
 
 -- the steps before the others
-pub steps_first : (before : List (List ℕ)) (trees : List ElementTree) → distinct_check before (element_names trees) ≡ (distinct_check before (step_names trees) then distinct_check (before ++ step_names trees) (action_names trees ++ transition_names trees))
+pub steps_first : (before : List (List ℕ)) (trees : List ElementTree)
+    → distinct_check before (element_names trees)
+    ≡ (distinct_check before (step_names trees)
+    then distinct_check (before ++ step_names trees) (action_names trees ++ transition_names trees))
 steps_first before trees =
     ap (distinct_check before) (append_assoc (step_names trees) (action_names trees) (transition_names trees))
     ∙ in_parts before (step_names trees) (action_names trees ++ transition_names trees)

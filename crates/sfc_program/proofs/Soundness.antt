@@ -67,17 +67,21 @@ not_false : (b : Bool) → not b ≡ false → b ≡ true
 not_false true e = refl
 not_false false e = cc
 
-each_passes : {A : Type 0} (check : A → Check) (P : A → Type 0) → ((x : A) → check x ≡ None → P x) → (xs : List A) → each check xs ≡ None → All P xs
+each_passes : {A : Type 0} (check : A → Check) (P : A → Type 0) → ((x : A) → check x ≡ None → P x)
+    → (xs : List A) → each check xs ≡ None → All P xs
 each_passes check P says [] e = All-nil P
 each_passes check P says (x ∷ xs) e =
-    All-cons P x xs (says x (then_first (check x) (each check xs) e)) (each_passes check P says xs (then_second (check x) (each check xs) e))
+    All-cons P x xs (says x (then_first (check x) (each check xs) e))
+    (each_passes check P says xs (then_second (check x) (each check xs) e))
 
-pub in_turn_passes : {A : Type 0} (name : A → List ℕ) (check : List (List ℕ) → A → Check) (P : A → Type 0) → ((before : List (List ℕ)) (x : A) → check before x ≡ None → P x)
+pub in_turn_passes : {A : Type 0} (name : A → List ℕ) (check : List (List ℕ) → A → Check) (P : A → Type 0)
+    → ((before : List (List ℕ)) (x : A) → check before x ≡ None → P x)
     → (before : List (List ℕ)) (xs : List A) → in_turn name check before xs ≡ None → All P xs
 in_turn_passes name check P says before [] e = All-nil P
 in_turn_passes name check P says before (x ∷ xs) e =
     let rest = in_turn name check (before ++ name x ∷ []) xs in
-    All-cons P x xs (says before x (then_first (check before x) rest e)) (in_turn_passes name check P says (before ++ name x ∷ []) xs (then_second (check before x) rest e))
+    All-cons P x xs (says before x (then_first (check before x) rest e))
+    (in_turn_passes name check P says (before ++ name x ∷ []) xs (then_second (check before x) rest e))
 
 -- ---- names that are found
 
@@ -102,37 +106,48 @@ module _ (P : expr.Variable → Type 0) (id : ℕ → expr.Variable) (vs : List 
   among (Some i) v e = there i (slice_get vs i) v refl e
   among None v e = cc
 
-either : (P : expr.Variable → Type 0) (a b : Option (expr.Variable × VarType)) → ((v : expr.Variable × VarType) → a ≡ Some v → P v.0) → ((v : expr.Variable × VarType) → b ≡ Some v → P v.0)
+either : (P : expr.Variable → Type 0) (a b : Option (expr.Variable × VarType))
+    → ((v : expr.Variable × VarType) → a ≡ Some v → P v.0) → ((v : expr.Variable × VarType) → b ≡ Some v → P v.0)
     → (v : expr.Variable × VarType) → or_else a b ≡ Some v → P v.0
 either P (Some w) b first second v e = first v e
 either P None b first second v e = second v e
 
-named_sound : (space : Space) (name : List ℕ) (v : expr.Variable × VarType) → variable_named space.locals space.globals name ≡ Some v → IsVariable (counts space) v.0
+named_sound : (space : Space) (name : List ℕ) (v : expr.Variable × VarType)
+    → variable_named space.locals space.globals name ≡ Some v → IsVariable (counts space) v.0
 named_sound space name =
     either (IsVariable (counts space)) (local_named space.locals name) (global_named space.globals name)
-    (among (IsVariable (counts space)) (λ place. Local (record { 0 = place })) space.locals (λ i lt. lt) (variable_place space.locals name))
-    (among (IsVariable (counts space)) (λ place. Global (record { 0 = place })) space.globals (λ i lt. lt) (variable_place space.globals name))
+    (among (IsVariable (counts space)) (λ place. Local (record { 0 = place })) space.locals (λ i lt. lt)
+    (variable_place space.locals name))
+    (among (IsVariable (counts space)) (λ place. Global (record { 0 = place })) space.globals (λ i lt. lt)
+    (variable_place space.globals name))
 
-checked_found : (P : expr.Variable → Type 0) (wanted : VarType) (missing wrong : LoadError) (o : Option (expr.Variable × VarType)) → ((v : expr.Variable × VarType) → o ≡ Some v → P v.0)
+checked_found : (P : expr.Variable → Type 0) (wanted : VarType) (missing wrong : LoadError) (o : Option (expr.Variable × VarType))
+    → ((v : expr.Variable × VarType) → o ≡ Some v → P v.0)
     → variable_check wanted missing wrong o ≡ None → P (found o)
 checked_found P wanted missing wrong None says e = cc
 checked_found P wanted missing wrong (Some v) says e = says v refl
 
-some_found : (P : expr.Variable → Type 0) (o : Option (expr.Variable × VarType)) → ((v : expr.Variable × VarType) → o ≡ Some v → P v.0) → is_none o ≡ false → P (found o)
+some_found : (P : expr.Variable → Type 0) (o : Option (expr.Variable × VarType))
+    → ((v : expr.Variable × VarType) → o ≡ Some v → P v.0) → is_none o ≡ false → P (found o)
 some_found P None says e = cc
 some_found P (Some v) says e = says v refl
 
 -- ---- associations
 
-target_by_sound : (space : Space) (n : ℕ) (place : Option ℕ) (o : Option (expr.Variable × VarType)) → ((i : ℕ) → place ≡ Some i → i < n)
+target_by_sound : (space : Space) (n : ℕ) (place : Option ℕ) (o : Option (expr.Variable × VarType))
+    → ((i : ℕ) → place ≡ Some i → i < n)
     → ((v : expr.Variable × VarType) → o ≡ Some v → IsVariable (counts space) v.0)
-    → unless_found place (variable_check types.Bool fault.UnknownAction fault.NotBool o) ≡ None → IsTarget (counts space) n (target_by place (found o))
+    → unless_found place (variable_check types.Bool fault.UnknownAction fault.NotBool o) ≡ None
+    → IsTarget (counts space) n (target_by place (found o))
 target_by_sound space n (Some i) o below says e = below i refl
-target_by_sound space n None o below says e = checked_found (IsVariable (counts space)) types.Bool fault.UnknownAction fault.NotBool o says e
+target_by_sound space n None o below says e =
+    checked_found (IsVariable (counts space)) types.Bool fault.UnknownAction fault.NotBool o says e
 
-target_sound : (space : Space) (name : List ℕ) → target_check space name ≡ None → IsTarget (counts space) (length space.actions) (target_of space name)
+target_sound : (space : Space) (name : List ℕ) → target_check space name ≡ None
+    → IsTarget (counts space) (length space.actions) (target_of space name)
 target_sound space name =
-    target_by_sound space (length space.actions) (place_of name space.actions) (variable_named space.locals space.globals name) (place_below name space.actions) (named_sound space name)
+    target_by_sound space (length space.actions) (place_of name space.actions)
+    (variable_named space.locals space.globals name) (place_below name space.actions) (named_sound space name)
 
 both_true : (a b : Bool) → a && b ≡ true → (a ≡ true) × (b ≡ true)
 both_true true b e = (refl, e)
@@ -156,12 +171,15 @@ passes_range false x e = cc
 pub literal_sound : (t : ℤ) → typed (checked_literal (literal.Time t) types.Time) ≡ None → IsTime t
 literal_sound t e = in_range t (passes_range (is_in_range types.Time t) (value.Time t) e)
 
-time_sound : (space : Space) (t : text_time.AssociationTime) → time_check space t ≡ None → IsAssociationTime (counts space) (time_of space t)
+time_sound : (space : Space) (t : text_time.AssociationTime) → time_check space t ≡ None
+    → IsAssociationTime (counts space) (time_of space t)
 time_sound space (written_time.Literal t) e = literal_sound t e
 time_sound space (written_time.Variable name) e =
-    checked_found (IsVariable (counts space)) types.Time fault.Unknown fault.NotTime (variable_named space.locals space.globals name) (named_sound space name) e
+    checked_found (IsVariable (counts space)) types.Time fault.Unknown fault.NotTime (variable_named space.locals space.globals name)
+    (named_sound space name) e
 
-qualifier_sound : (space : Space) (q : text_qualifier.Qualifier) → qualifier_check space q ≡ None → IsQualifier (counts space) (qualifier_of space q)
+qualifier_sound : (space : Space) (q : text_qualifier.Qualifier) → qualifier_check space q ≡ None
+    → IsQualifier (counts space) (qualifier_of space q)
 qualifier_sound space written.NonStored e = tt
 qualifier_sound space written.Reset e = tt
 qualifier_sound space written.Set e = tt
@@ -170,26 +188,31 @@ qualifier_sound space written.RisingPulse e = tt
 qualifier_sound space written.FallingPulse e = tt
 qualifier_sound space (written.Timed q t) e = time_sound space t e
 
-indicator_sound : (space : Space) (name : List ℕ) → indicator_check space name ≡ None → IsVariable (counts space) (variable_in space name)
+indicator_sound : (space : Space) (name : List ℕ) → indicator_check space name ≡ None
+    → IsVariable (counts space) (variable_in space name)
 indicator_sound space name e =
     let o = variable_named space.locals space.globals name in
     some_found (IsVariable (counts space)) o (named_sound space name) (when_none (is_none o) fault.Unknown e)
 
-association_sound : (space : Space) (a : text_association.Association) → association_check space a ≡ None → IsAssociation (counts space) (length space.actions) (association_of space a)
+association_sound : (space : Space) (a : text_association.Association) → association_check space a ≡ None
+    → IsAssociation (counts space) (length space.actions) (association_of space a)
 association_sound space a e =
     let after = then_second (target_check space a.action) _ e in
     record {
       target = target_sound space a.action (then_first (target_check space a.action) _ e);
       qualifier = qualifier_sound space a.qualifier (then_first (qualifier_check space a.qualifier) _ after);
       indicators = All-map (IsVariable (counts space)) (variable_in space) a.indicators
-          (each_passes (indicator_check space) (λ name. IsVariable (counts space) (variable_in space name)) (indicator_sound space) a.indicators
+          (each_passes (indicator_check space) (λ name. IsVariable (counts space) (variable_in space name))
+          (indicator_sound space) a.indicators
           (then_second (qualifier_check space a.qualifier) _ after));
     }
 
-step_sound : (space : Space) (s : text_step.Step) → step_check space s ≡ None → All (IsAssociation (counts space) (length space.actions)) (step_of space s).associations
+step_sound : (space : Space) (s : text_step.Step) → step_check space s ≡ None
+    → All (IsAssociation (counts space) (length space.actions)) (step_of space s).associations
 step_sound space s e =
     All-map (IsAssociation (counts space) (length space.actions)) (association_of space) s.associations
-    (each_passes (association_check space) (λ a. IsAssociation (counts space) (length space.actions) (association_of space a)) (association_sound space) s.associations e)
+    (each_passes (association_check space) (λ a. IsAssociation (counts space) (length space.actions) (association_of space a))
+    (association_sound space) s.associations e)
 
 -- ---- transitions
 
@@ -198,18 +221,21 @@ pub record HasSides (t : TransitionTree) : Type 0 where
   pub preceding : is_empty t.preceding ≡ false
   pub following : is_empty t.following ≡ false
 
-side_sound : (steps names : List (List ℕ)) → side_check steps names ≡ None → All (λ (s : StepId). s.0 < length steps) (step_ids steps names)
+side_sound : (steps names : List (List ℕ)) → side_check steps names ≡ None
+    → All (λ (s : StepId). s.0 < length steps) (step_ids steps names)
 side_sound steps names e =
     All-map (λ (s : StepId). s.0 < length steps) (step_id steps) names
     (in_turn_passes (λ name. name) (side_step_check steps) (λ name. (step_id steps name).0 < length steps)
-    (λ before name e. found_below (length steps) (place_of name steps) (place_below name steps) (when_none (is_none (place_of name steps)) _ (then_first _ _ e)))
+    (λ before name e. found_below (length steps) (place_of name steps) (place_below name steps)
+    (when_none (is_none (place_of name steps)) _ (then_first _ _ e)))
     [] names e)
 
 nonempty : {A B : Type 0} (f : A → B) (xs : List A) → is_empty xs ≡ false → 0 < length (map f xs)
 nonempty f [] h = absurd cc
 nonempty f (x ∷ xs) h = omega arith
 
-transition_sound : (space : Space) (t : TransitionTree) → HasSides t → transition_check space t ≡ None → IsTransition (length space.steps) (transition_of space t)
+transition_sound : (space : Space) (t : TransitionTree) → HasSides t → transition_check space t ≡ None
+    → IsTransition (length space.steps) (transition_of space t)
 transition_sound space t sides e =
     let after = then_second (side_check space.steps t.preceding) _ e in
     record {
@@ -220,11 +246,15 @@ transition_sound space t sides e =
     }
 
 -- what holds of each element, and follows from its check where it is so
-both : {A : Type 0} (P Q R : A → Type 0) → ((x : A) → P x → Q x → R x) → (xs : List A) → All P xs → All Q xs → All R xs
+both : {A : Type 0} (P Q R : A → Type 0) → ((x : A) → P x → Q x → R x)
+    → (xs : List A) → All P xs → All Q xs → All R xs
 both P Q R says [] p q = All-nil R
-both P Q R says (x ∷ xs) p q = All-cons R x xs (says x (All-head P x xs p) (All-head Q x xs q)) (both P Q R says xs (All-tail P x xs p) (All-tail Q x xs q))
+both P Q R says (x ∷ xs) p q =
+    All-cons R x xs (says x (All-head P x xs p) (All-head Q x xs q))
+    (both P Q R says xs (All-tail P x xs p) (All-tail Q x xs q))
 
-transitions_sound : (space : Space) (ts : List TransitionTree) → All HasSides ts → each (transition_check space) ts ≡ None → All (IsTransition (length space.steps)) (map (transition_of space) ts)
+transitions_sound : (space : Space) (ts : List TransitionTree) → All HasSides ts → each (transition_check space) ts ≡ None
+    → All (IsTransition (length space.steps)) (map (transition_of space) ts)
 transitions_sound space ts sides e =
     let Follows : TransitionTree → Type 0 = λ t. HasSides t → IsTransition (length space.steps) (transition_of space t) in
     All-map (IsTransition (length space.steps)) (transition_of space) ts
@@ -236,14 +266,17 @@ transitions_sound space ts sides e =
 pub not_above : (m n : ℕ) → nat_lt m n ≡ false → n ≤ m
 not_above m n e = grind (arith, common_steps)
 
-list_any-map_same : {A B : Type 0} (f : A → B) (p : B → Bool) (q : A → Bool) → ((x : A) → p (f x) ≡ q x) → (xs : List A) → list_any p (map f xs) ≡ list_any q xs
+list_any-map_same : {A B : Type 0} (f : A → B) (p : B → Bool) (q : A → Bool) → ((x : A) → p (f x) ≡ q x)
+    → (xs : List A) → list_any p (map f xs) ≡ list_any q xs
 list_any-map_same f p q same [] = refl
 list_any-map_same f p q same (x ∷ xs) = λ i. same x i || list_any-map_same f p q same xs i
 
-Any_map : {A B : Type 0} (f : A → B) (p : B → Bool) (q : A → Bool) → ((x : A) → p (f x) ≡ q x) → (xs : List A) → list_any q xs ≡ true → Any (λ y. p y ≡ true) (map f xs)
+Any_map : {A B : Type 0} (f : A → B) (p : B → Bool) (q : A → Bool) → ((x : A) → p (f x) ≡ q x)
+    → (xs : List A) → list_any q xs ≡ true → Any (λ y. p y ≡ true) (map f xs)
 Any_map f p q same xs e = Any-from_list_any p (map f xs) (list_any-map_same f p q same xs ∙ e)
 
-association_count_kept : (space : Space) (steps : List text_step.Step) → sum_by (λ (step : Step). length step.associations) (map (step_of space) steps) ≡ association_count steps
+association_count_kept : (space : Space) (steps : List text_step.Step)
+    → sum_by (λ (step : Step). length step.associations) (map (step_of space) steps) ≡ association_count steps
 association_count_kept space [] = refl
 association_count_kept space (s ∷ steps) =
     sum_by-cons (λ step. length step.associations) (step_of space s) (map (step_of space) steps)
@@ -264,7 +297,8 @@ limits_sound elements e =
     record {
       steps = not_above 1024 m (when_none (nat_lt 1024 m) (fault.Limit limit.Steps) (then_first _ _ e));
       transitions = not_above 2048 n (when_none (nat_lt 2048 n) (fault.Limit limit.Transitions) (then_first _ _ after));
-      associations = not_above 4096 k (when_none (nat_lt 4096 k) (fault.Limit limit.Associations) (then_second (when (nat_lt 2048 n) (fault.Limit limit.Transitions)) _ after));
+      associations = not_above 4096 k (when_none (nat_lt 4096 k) (fault.Limit limit.Associations)
+          (then_second (when (nat_lt 2048 n) (fault.Limit limit.Transitions)) _ after));
     }
 
 -- A chart whose checks pass, where these are its steps and its actions.
@@ -278,15 +312,19 @@ module _ (globals : List Variable) (p : ProgramTree) where
   action_count : length space.actions ≡ length (map (action_of space) (actions_of p.elements))
   action_count = length-map (actions_of p.elements) (λ a. a.name) ∙ sym (length-map (actions_of p.elements) (action_of space))
 
-  chart_sound : IsLimited p.elements → All HasSides (transitions_of p.elements) → initial_check p.elements ≡ None → chart_check space p.elements ≡ None → IsChart (counts space) (chart_of space p.elements)
+  chart_sound : IsLimited p.elements → All HasSides (transitions_of p.elements) → initial_check p.elements ≡ None
+      → chart_check space p.elements ≡ None → IsChart (counts space) (chart_of space p.elements)
   chart_sound limited sides initial e =
       let steps = steps_of p.elements in
       let transitions = transitions_of p.elements in
       let after = then_second (each (step_check space) steps) _ e in
       record {
-        associations = subst (λ n. All (λ (step : Step). All (IsAssociation (counts space) n) step.associations) (map (step_of space) steps)) action_count
+        associations =
+            subst (λ n. All (λ (step : Step). All (IsAssociation (counts space) n) step.associations) (map (step_of space) steps))
+            action_count
             (All-map (λ (step : Step). All (IsAssociation (counts space) (length space.actions)) step.associations) (step_of space) steps
-            (each_passes (step_check space) (λ s. All (IsAssociation (counts space) (length space.actions)) (step_of space s).associations) (step_sound space) steps
+            (each_passes (step_check space) (λ s. All (IsAssociation (counts space) (length space.actions)) (step_of space s).associations)
+            (step_sound space) steps
             (then_first (each (step_check space) steps) _ e)));
         transitions = subst (λ m. All (IsTransition m) (map (transition_of space) transitions)) step_count
             (transitions_sound space transitions sides (then_first (each (transition_check space) transitions) _ after));
@@ -298,7 +336,8 @@ module _ (globals : List Variable) (p : ProgramTree) where
       }
 
   -- Where no check fails and no transition has an empty side, the chart is sound.
-  pub tree_sound : All HasSides (transitions_of p.elements) → program_check globals p ≡ None → IsChart (counts space) (program_of globals p).chart
+  pub tree_sound : All HasSides (transitions_of p.elements) → program_check globals p ≡ None
+      → IsChart (counts space) (program_of globals p).chart
   unfolding program_check
   tree_sound sides e =
       let after_limits = then_second (limits_check p.elements) _ e in

@@ -46,7 +46,7 @@ fn variable_of_type(
 }
 
 // The action of an association: a declared one, else a BOOL variable (2.6.4.1).
-fn target(name: &Name, scope: &ProgramScope) -> Result<Target, LoadError>
+fn load_target(name: &Name, scope: &ProgramScope) -> Result<Target, LoadError>
     ensures { Loads (λ target. target) result (target_check scope.now name.now) (target_of scope.now name.now) }
 {
     if let Some(place) = scope.action(name.spelling()) {
@@ -64,10 +64,10 @@ fn target(name: &Name, scope: &ProgramScope) -> Result<Target, LoadError>
 
 // The time of an association: a TIME, or a variable of that type (2.6.4.4).
 #[tactic(auto, using(crate::proofs::Typing::typing))]
-fn time(time: &AssociationTime, scope: &ProgramScope) -> Result<Time, LoadError>
-    ensures { Loads (λ time. time) result (time_check scope.now time.now) (time_of scope.now time.now) }
+fn load_time(written: &AssociationTime, scope: &ProgramScope) -> Result<Time, LoadError>
+    ensures { Loads (λ time. time) result (time_check scope.now written.now) (time_of scope.now written.now) }
 {
-    match time {
+    match written {
         AssociationTime::Literal(time) => {
             check_literal(Literal::Time(*time), VarType::Time)?;
             Ok(Time::Literal(time.micros()))
@@ -86,26 +86,26 @@ fn time(time: &AssociationTime, scope: &ProgramScope) -> Result<Time, LoadError>
 }
 
 // The qualifier of an association (2.6.4.4).
-fn qualifier(qualifier: &tree::Qualifier, scope: &ProgramScope) -> Result<Qualifier, LoadError>
+fn load_qualifier(written: &tree::Qualifier, scope: &ProgramScope) -> Result<Qualifier, LoadError>
     ensures { Loads (λ qualifier. qualifier) result
-        (qualifier_check scope.now qualifier.now) (qualifier_of scope.now qualifier.now) }
+        (qualifier_check scope.now written.now) (qualifier_of scope.now written.now) }
 {
-    match qualifier {
+    match written {
         tree::Qualifier::NonStored => Ok(Qualifier::NonStored),
         tree::Qualifier::Reset => Ok(Qualifier::Reset),
         tree::Qualifier::Set => Ok(Qualifier::Set),
         tree::Qualifier::Pulse => Ok(Qualifier::Pulse),
         tree::Qualifier::RisingPulse => Ok(Qualifier::RisingPulse),
         tree::Qualifier::FallingPulse => Ok(Qualifier::FallingPulse),
-        tree::Qualifier::Timed(timed, written) => Ok(Qualifier::Timed(
+        tree::Qualifier::Timed(timed, time) => Ok(Qualifier::Timed(
             *timed,
-            time(written, scope)?,
+            load_time(time, scope)?,
         )),
     }
 }
 
 // An indicator variable, which is of any type (2.6.4.3).
-fn indicator(name: &Name, scope: &ProgramScope) -> Result<Variable, LoadError>
+fn load_indicator(name: &Name, scope: &ProgramScope) -> Result<Variable, LoadError>
     ensures { Loads (λ variable. variable) result (indicator_check scope.now name.now) (variable_in scope.now name.now) }
 {
     match scope.variable(name.spelling()) {
@@ -126,7 +126,7 @@ fn load_indicators(
     let mut loaded = Vec::new(alloc);
     let mut rest = names;
     'names: while let Some((name, after)) = rest.split_first() {
-        loaded.push(indicator(name, scope)?)?;
+        loaded.push(load_indicator(name, scope)?)?;
         rest = after;
     }
     Ok(loaded)
@@ -141,8 +141,8 @@ fn load_association(
     ensures { Loads (λ loaded. loaded) result
         (association_check scope.now association.now) (association_of scope.now association.now) }
 {
-    let target = target(&association.action, scope)?;
-    let qualifier = qualifier(&association.qualifier, scope)?;
+    let target = load_target(&association.action, scope)?;
+    let qualifier = load_qualifier(&association.qualifier, scope)?;
     let indicators = load_indicators(alloc, association.indicators.as_slice(), scope)?;
     Ok(Association {
         target,

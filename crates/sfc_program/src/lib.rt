@@ -2,6 +2,9 @@
 //! 2.6).
 //!
 //! - `program_type`: what a program type is loaded as; `load`: its trees to it.
+//! - `limits`: how much there may be; `element_names`: the names of steps, actions and transitions.
+//! - `scope`: what a name stands for.
+//! - `associations`: steps with their associations; `transitions`; `actions`: actions with a body.
 #![tactic(auto)]
 
 mod actions;

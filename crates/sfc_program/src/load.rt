@@ -10,7 +10,7 @@ ghost use Rattle.sfc_program.specs.Built.{chart_of, program_of};
 
 use crate::actions::load_actions;
 use crate::associations::load_steps;
-use crate::element_names::{ElementNames, check_initial, load_element_names};
+use crate::element_names::{check_initial, load_element_names};
 use crate::limits::check_limits;
 use crate::program_type::ProgramType;
 use crate::scope::ProgramScope;

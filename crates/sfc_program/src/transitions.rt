@@ -29,7 +29,7 @@ use sfc_variables::load_error::LoadError;
 use std::alloc::{AllocError, Global};
 
 // A step that a transition names, which it hasn't named on the same side before.
-fn side_step(
+fn load_side_step(
     alloc: Global,
     name: &Name,
     scope: &ProgramScope,
@@ -57,7 +57,7 @@ fn load_side(alloc: Global, names: &[Name], scope: &ProgramScope) -> Result<Vec<
     let mut loaded = Vec::new(alloc);
     let mut rest = names;
     'names: while let Some((name, after)) = rest.split_first() {
-        let step = side_step(alloc, name, scope, &mut seen)?;
+        let step = load_side_step(alloc, name, scope, &mut seen)?;
         loaded.push(step)?;
         rest = after;
     }

@@ -8,7 +8,8 @@ use Rattle.sfc_program.proofs.actions.load_actions.Given as goal
 
 abbrev pub invariant-elements : goal.invariant-elements
 invariant-elements l = record {
-  checked : each (action_check l.fn.scope) (actions_of (map element_of l.elements)) ≡ each (action_check l.fn.scope) (actions_of (map element_of l.rest));
+  checked : each (action_check l.fn.scope) (actions_of (map element_of l.elements))
+      ≡ each (action_check l.fn.scope) (actions_of (map element_of l.rest));
   built : map (action_of l.fn.scope) (actions_of (map element_of l.elements))
       ≡ l.loaded.items ++ map (action_of l.fn.scope) (actions_of (map element_of l.rest));
 }

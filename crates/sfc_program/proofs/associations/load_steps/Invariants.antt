@@ -8,7 +8,8 @@ use Rattle.sfc_program.proofs.associations.load_steps.Given as goal
 
 abbrev pub invariant-elements : goal.invariant-elements
 invariant-elements l = record {
-  checked : each (step_check l.fn.scope) (steps_of (map element_of l.elements)) ≡ each (step_check l.fn.scope) (steps_of (map element_of l.rest));
+  checked : each (step_check l.fn.scope) (steps_of (map element_of l.elements))
+      ≡ each (step_check l.fn.scope) (steps_of (map element_of l.rest));
   built : map (step_of l.fn.scope) (steps_of (map element_of l.elements))
       ≡ l.loaded.items ++ map (step_of l.fn.scope) (steps_of (map element_of l.rest));
 }

@@ -6,7 +6,8 @@ use Rattle.sfc_program.proofs.element_names.add_actions.Given as goal
 
 abbrev pub invariant-elements : goal.invariant-elements
 invariant-elements l = record {
-  checked : distinct_check l.initial.space (action_names (map element_of l.elements)) ≡ distinct_check l.space (action_names (map element_of l.rest));
+  checked : distinct_check l.initial.space (action_names (map element_of l.elements))
+      ≡ distinct_check l.space (action_names (map element_of l.rest));
   built : action_names (map element_of l.elements) ≡ l.actions ++ action_names (map element_of l.rest);
   named : l.space ≡ l.initial.space ++ l.actions;
 }

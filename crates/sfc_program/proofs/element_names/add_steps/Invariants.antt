@@ -6,7 +6,8 @@ use Rattle.sfc_program.proofs.element_names.add_steps.Given as goal
 
 abbrev pub invariant-elements : goal.invariant-elements
 invariant-elements l = record {
-  checked : distinct_check l.initial.space (step_names (map element_of l.elements)) ≡ distinct_check l.space (step_names (map element_of l.rest));
+  checked : distinct_check l.initial.space (step_names (map element_of l.elements))
+      ≡ distinct_check l.space (step_names (map element_of l.rest));
   built : step_names (map element_of l.elements) ≡ l.steps ++ step_names (map element_of l.rest);
   named : l.space ≡ l.initial.space ++ l.steps;
 }

@@ -8,7 +8,8 @@ use Rattle.sfc_program.proofs.transitions.load_transitions.Given as goal
 
 abbrev pub invariant-elements : goal.invariant-elements
 invariant-elements l = record {
-  checked : each (transition_check l.fn.scope) (transitions_of (map element_of l.elements)) ≡ each (transition_check l.fn.scope) (transitions_of (map element_of l.rest));
+  checked : each (transition_check l.fn.scope) (transitions_of (map element_of l.elements))
+      ≡ each (transition_check l.fn.scope) (transitions_of (map element_of l.rest));
   built : map (transition_of l.fn.scope) (transitions_of (map element_of l.elements))
       ≡ l.loaded.items ++ map (transition_of l.fn.scope) (transitions_of (map element_of l.rest));
 }
