@@ -39,7 +39,8 @@ use Rattle.sfc_single.specs.Narrowing.{given, without, without_any, all_some, on
 
 -- ---- what was given was there
 
-given_some : {A B : Type 0} (o : Option A) (f : A → Option B) (y : B) → given o f ≡ Some y → (x : A) × (o ≡ Some x) × (f x ≡ Some y)
+given_some : {A B : Type 0} (o : Option A) (f : A → Option B) (y : B)
+    → given o f ≡ Some y → (x : A) × (o ≡ Some x) × (f x ≡ Some y)
 given_some None f y e = cc
 given_some (Some x) f y e = (x, refl, e)
 
@@ -72,7 +73,8 @@ all_made {B = B} f (x ∷ xs) zs e =
     subst (IsMade f (x ∷ xs)) (same_some (here.0 ∷ rest.0) zs rest.2) (here.1, all_made f xs rest.0 rest.1)
 
 -- what follows for one that was made holds of each
-made_all : {A B : Type 0} (f : A → Option B) (Q : B → Type 0) → ((x : A) (y : B) → f x ≡ Some y → Q y) → (xs : List A) (ys : List B) → IsMade f xs ys → All Q ys
+made_all : {A B : Type 0} (f : A → Option B) (Q : B → Type 0) → ((x : A) (y : B) → f x ≡ Some y → Q y)
+    → (xs : List A) (ys : List B) → IsMade f xs ys → All Q ys
 made_all f Q says [] [] h = All-nil Q
 made_all f Q says [] (y ∷ ys) h = absurd h
 made_all f Q says (x ∷ xs) [] h = absurd h
@@ -92,7 +94,8 @@ made_at f (x ∷ xs) (y ∷ ys) zero d e h within = h.0
 made_at f (x ∷ xs) (y ∷ ys) (suc k) d e h within = made_at f xs ys k d e h.1 (omega (arith, within))
 
 -- what holds of one goes along
-made_any : {A B : Type 0} (f : A → Option B) (P : A → Type 0) (Q : B → Type 0) → ((x : A) (y : B) → f x ≡ Some y → P x → Q y)
+made_any : {A B : Type 0} (f : A → Option B) (P : A → Type 0) (Q : B → Type 0)
+    → ((x : A) (y : B) → f x ≡ Some y → P x → Q y)
     → (xs : List A) (ys : List B) → IsMade f xs ys → Any P xs → Any Q ys
 made_any f P Q says [] ys h a = absurd (omega (arith, a.2))
 made_any f P Q says (x ∷ xs) [] h a = absurd h
@@ -101,7 +104,8 @@ made_any f P Q says (x ∷ xs) (y ∷ ys) h a =
     let within : k < length (x ∷ xs) = a.2 in
     let also : k < length (y ∷ ys) = omega (arith, within, made_length f (x ∷ xs) (y ∷ ys) h) in
     let made : f (get_or (x ∷ xs) k a.1) ≡ Some (get_or (y ∷ ys) k y) = made_at f (x ∷ xs) (y ∷ ys) k a.1 y h within in
-    (k, get_or (y ∷ ys) k y, also, get_or_default (y ∷ ys) k (get_or (y ∷ ys) k y) y also, says (get_or (x ∷ xs) k a.1) (get_or (y ∷ ys) k y) made (subst P (sym a.3) a.4))
+    let here : Q (get_or (y ∷ ys) k y) = says (get_or (x ∷ xs) k a.1) (get_or (y ∷ ys) k y) made (subst P (sym a.3) a.4) in
+    (k, get_or (y ∷ ys) k y, also, get_or_default (y ∷ ys) k (get_or (y ∷ ys) k y) y also, here)
 
 made_sum : {A B : Type 0} (f : A → Option B) (p : A → ℕ) (q : B → ℕ) → ((x : A) (y : B) → f x ≡ Some y → p x ≡ q y)
     → (xs : List A) (ys : List B) → IsMade f xs ys → sum_by p xs ≡ sum_by q ys
@@ -112,7 +116,8 @@ made_sum f p q says (x ∷ xs) (y ∷ ys) h =
     sum_by-cons p x xs ∙ (λ i. says x y h.0 i + made_sum f p q says xs ys h.1 i) ∙ sym (sum_by-cons q y ys)
 
 -- the only one
-only_made : {A B : Type 0} (f : A → Option B) (xs : List A) (ys : List B) → only_one f xs ≡ Some ys → (length xs ≡ 1) × IsMade f xs ys
+only_made : {A B : Type 0} (f : A → Option B) (xs : List A) (ys : List B)
+    → only_one f xs ≡ Some ys → (length xs ≡ 1) × IsMade f xs ys
 only_made f [] ys e = absurd cc
 only_made f (x ∷ y ∷ xs) ys e = absurd cc
 only_made f (x ∷ []) ys e =
@@ -133,7 +138,8 @@ target_sound n (target.Boolean v) u e =
     let found = given_some (narrowed_variable n v) _ u e in
     subst (IsTarget n) (same_some (Boolean found.0) u found.2) (variable_below n v found.0 found.1)
 
-association_sound : (n : ℕ) (a : whole_association.Association) (b : Association) → narrowed_association n a ≡ Some b → IsTarget n b.target
+association_sound : (n : ℕ) (a : whole_association.Association) (b : Association)
+    → narrowed_association n a ≡ Some b → IsTarget n b.target
 association_sound n a b e =
     let q = given_some (narrowed_qualifier a.qualifier) _ b (without_any_some a.indicators _ b e) in
     let t = given_some (narrowed_target n a.target) _ b q.2 in
@@ -152,7 +158,8 @@ step_made n s t e =
 
 step_sound : (n : ℕ) (s : whole_step.Step) (t : Step) → narrowed_step n s ≡ Some t → IsStep n t
 step_sound n s t e = record {
-  targets = made_all (narrowed_association n) (λ a. IsTarget n a.target) (association_sound n) s.associations t.associations (step_made n s t e).lines;
+  targets = made_all (narrowed_association n) (λ a. IsTarget n a.target) (association_sound n)
+      s.associations t.associations (step_made n s t e).lines;
 }
 
 value_over : (n : ℕ) (v : Value) (e : Expr) → narrowed_value v ≡ Some e → IsOver n e
@@ -192,7 +199,8 @@ side_sound m whole side e =
       some = omega (arith, found.0, same);
     }
 
-transition_sound : (n m : ℕ) (t : whole_transition.Transition) (u : Transition) → narrowed_transition n m t ≡ Some u → IsTransition n m u
+transition_sound : (n m : ℕ) (t : whole_transition.Transition) (u : Transition)
+    → narrowed_transition n m t ≡ Some u → IsTransition n m u
 transition_sound n m t u e =
     let preceding = given_some (only_one (narrowed_place m) t.preceding) _ u (without_some t.priority _ u e) in
     let following = given_some (only_one (narrowed_place m) t.following) _ u preceding.2 in
@@ -207,36 +215,44 @@ transition_sound n m t u e =
       condition = condition_over n t.condition condition.0 condition.1;
     })
 
-chart_made : (n : ℕ) (space : whole_sound.Space) (c : whole_chart.Chart) (steps : List Step) (transitions : List Transition)
-    → whole_sound.IsChart space c → all_some (narrowed_step n) c.steps ≡ Some steps
-    → all_some (narrowed_transition n (length c.steps)) c.transitions ≡ Some transitions
-    → IsChart n (record { steps = steps; transitions = transitions })
-chart_made n space c steps transitions whole e f =
-    let some_steps : IsMade (narrowed_step n) c.steps steps = all_made (narrowed_step n) c.steps steps e in
-    let same_steps : length c.steps ≡ length steps = made_length (narrowed_step n) c.steps steps some_steps in
-    let some_transitions : IsMade (narrowed_transition n (length c.steps)) c.transitions transitions = all_made (narrowed_transition n (length c.steps)) c.transitions transitions f in
-    let same_transitions : length c.transitions ≡ length transitions = made_length (narrowed_transition n (length c.steps)) c.transitions transitions some_transitions in
-    let same_associations : sum_by (λ (s : whole_step.Step). length s.associations) c.steps ≡ sum_by (λ (s : Step). length s.associations) steps =
+steps_kept : (n : ℕ) (steps : List whole_step.Step) (kept : List Step) → IsMade (narrowed_step n) steps kept
+    → sum_by (λ (s : whole_step.Step). length s.associations) steps ≡ sum_by (λ (s : Step). length s.associations) kept
+steps_kept n steps kept made =
     made_sum (narrowed_step n) (λ s. length s.associations) (λ s. length s.associations)
-    (λ s t e. made_length (narrowed_association n) s.associations t.associations (step_made n s t e).lines) c.steps steps some_steps in
+    (λ s t e. made_length (narrowed_association n) s.associations t.associations (step_made n s t e).lines) steps kept made
+
+-- of m steps
+chart_made : (n m : ℕ) (space : whole_sound.Space) (c : whole_chart.Chart) (steps : List Step) (transitions : List Transition)
+    → whole_sound.IsChart space c → length c.steps ≡ m → all_some (narrowed_step n) c.steps ≡ Some steps
+    → all_some (narrowed_transition n m) c.transitions ≡ Some transitions → IsChart n (record { steps = steps; transitions = transitions })
+chart_made n m space c steps transitions whole counted e f =
+    let made : IsMade (narrowed_step n) c.steps steps = all_made (narrowed_step n) c.steps steps e in
+    let same : length c.steps ≡ length steps = made_length (narrowed_step n) c.steps steps made in
+    let joined : IsMade (narrowed_transition n m) c.transitions transitions =
+    all_made (narrowed_transition n m) c.transitions transitions f in
+    let sound : All (IsTransition n m) transitions =
+    made_all (narrowed_transition n m) (IsTransition n m) (transition_sound n m) c.transitions transitions joined in
     record {
-      steps = made_all (narrowed_step n) (IsStep n) (step_sound n) c.steps steps some_steps;
-      transitions = subst (λ m. All (IsTransition n m) transitions) same_steps
-          (made_all (narrowed_transition n (length c.steps)) (IsTransition n (length c.steps)) (transition_sound n (length c.steps)) c.transitions transitions some_transitions);
+      steps = made_all (narrowed_step n) (IsStep n) (step_sound n) c.steps steps made;
+      transitions = subst (λ m. All (IsTransition n m) transitions) (sym counted ∙ same) sound;
       initial = made_any (narrowed_step n) (λ s. s.is_initial ≡ true) (λ s. s.is_initial ≡ true)
-          (λ s t e h. sym (step_made n s t e).initial ∙ h) c.steps steps some_steps whole.initial;
-      step_limit = subst (λ k. k ≤ 1024) same_steps whole.step_limit;
-      transition_limit = subst (λ k. k ≤ 2048) same_transitions whole.transition_limit;
-      association_limit = subst (λ k. k ≤ 4096) same_associations whole.association_limit;
+          (λ s t e h. sym (step_made n s t e).initial ∙ h) c.steps steps made whole.initial;
+      step_limit = subst (λ k. k ≤ 1024) same whole.step_limit;
+      transition_limit = subst (λ k. k ≤ 2048)
+          (made_length (narrowed_transition n m) c.transitions transitions joined) whole.transition_limit;
+      association_limit = subst (λ k. k ≤ 4096) (steps_kept n c.steps steps made) whole.association_limit;
     }
 
-chart_sound : (n : ℕ) (space : whole_sound.Space) (c : whole_chart.Chart) (d : Chart) → whole_sound.IsChart space c → narrowed_chart n c ≡ Some d → IsChart n d
+chart_sound : (n : ℕ) (space : whole_sound.Space) (c : whole_chart.Chart) (d : Chart)
+    → whole_sound.IsChart space c → narrowed_chart n c ≡ Some d → IsChart n d
 chart_sound n space c d whole e =
     let steps = given_some (all_some (narrowed_step n) c.steps) _ d (without_any_some c.actions _ d e) in
     let transitions = given_some (all_some (narrowed_transition n (length c.steps)) c.transitions) _ d steps.2 in
-    subst (IsChart n) (same_some _ d transitions.2) (chart_made n space c steps.0 transitions.0 whole steps.1 transitions.1)
+    subst (IsChart n) (same_some _ d transitions.2)
+    (chart_made n (length c.steps) space c steps.0 transitions.0 whole refl steps.1 transitions.1)
 
-type_sound : (n : ℕ) (p : whole_type.ProgramType) (q : ProgramType) → sound.IsProgram n p → narrowed_type n p ≡ Some q → IsChart n q.chart
+type_sound : (n : ℕ) (p : whole_type.ProgramType) (q : ProgramType)
+    → sound.IsProgram n p → narrowed_type n p ≡ Some q → IsChart n q.chart
 type_sound n p q whole e =
     let chart = given_some (narrowed_chart n p.chart) _ q (without_any_some p.externals _ q (without_any_some p.locals _ q e)) in
     subst (λ (q : ProgramType). IsChart n q.chart) (same_some _ q chart.2)
@@ -244,7 +260,8 @@ type_sound n p q whole e =
 
 -- ---- a whole plant
 
-types_sound : (n : ℕ) (ps : List whole_type.ProgramType) (qs : List ProgramType) → All (sound.IsProgram n) ps → only_one (narrowed_type n) ps ≡ Some qs → All (λ q. IsChart n q.chart) qs
+types_sound : (n : ℕ) (ps : List whole_type.ProgramType) (qs : List ProgramType)
+    → All (sound.IsProgram n) ps → only_one (narrowed_type n) ps ≡ Some qs → All (λ q. IsChart n q.chart) qs
 types_sound n [] qs whole e = absurd cc
 types_sound n (p ∷ r ∷ ps) qs whole e = absurd cc
 types_sound n (p ∷ []) qs whole e =

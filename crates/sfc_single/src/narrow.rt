@@ -22,14 +22,14 @@ use sfc_tokens::var_type::VarType;
 use sfc_variables::variable::Variable as PlantVariable;
 use std::alloc::{AllocError, Global};
 
-// One of the first n global variables.
-fn narrow_variable(n: usize, variable: Variable) -> Option<VarId>
-    requires { n ≤ 4096 }
-    ensures { result ≡ narrowed_variable n variable }
+// A global variable, by its number; `None` for a local one.
+fn narrow_variable(variable_count: usize, variable: Variable) -> Option<VarId>
+    requires { variable_count ≤ 4096 }
+    ensures { result ≡ narrowed_variable variable_count variable }
 {
     match variable {
         Variable::Global(id) => {
-            if id.0 < n {
+            if id.0 < variable_count {
                 Some(VarId(id.0 as u16))
             } else {
                 None
@@ -39,20 +39,20 @@ fn narrow_variable(n: usize, variable: Variable) -> Option<VarId>
     }
 }
 
-// A Boolean action whose variable is one of the first n global variables.
-fn narrow_target(n: usize, target: association::Target) -> Option<Target>
-    requires { n ≤ 4096 }
-    ensures { result ≡ narrowed_target n target }
+// A Boolean action of a global variable (2.6.4.1).
+fn narrow_target(variable_count: usize, target: association::Target) -> Option<Target>
+    requires { variable_count ≤ 4096 }
+    ensures { result ≡ narrowed_target variable_count target }
 {
     match target {
         association::Target::Boolean(variable) => {
-            Some(Target::Boolean(narrow_variable(n, variable)?))
+            Some(Target::Boolean(narrow_variable(variable_count, variable)?))
         }
         association::Target::Declared(_) => None,
     }
 }
 
-// N.
+// N (2.6.4.4).
 fn narrow_qualifier(qualifier: association::Qualifier) -> Option<Qualifier>
     ensures { result ≡ narrowed_qualifier qualifier }
 {
@@ -62,33 +62,33 @@ fn narrow_qualifier(qualifier: association::Qualifier) -> Option<Qualifier>
     }
 }
 
-// An association without indicator variables.
-fn narrow_association(n: usize, association: &WholeAssociation) -> Option<Association>
-    requires { n ≤ 4096 }
-    ensures { result ≡ narrowed_association n association.now }
+// An association N of a global variable, without indicator variables (2.6.4.3).
+fn narrow_association(variable_count: usize, association: &WholeAssociation) -> Option<Association>
+    requires { variable_count ≤ 4096 }
+    ensures { result ≡ narrowed_association variable_count association.now }
 {
     let [] = association.indicators.as_slice() else {
         return None;
     };
     Some(Association {
         qualifier: narrow_qualifier(association.qualifier)?,
-        target: narrow_target(n, association.target)?,
+        target: narrow_target(variable_count, association.target)?,
     })
 }
 
-// The associations of a step, or `None` where one of them is more than N of a variable.
+// Associations, in text order, or `None` where one of them is not run so far.
 fn narrow_associations(
     alloc: Global,
-    n: usize,
+    variable_count: usize,
     associations: &[WholeAssociation],
 ) -> Result<Option<Items<Association>>, AllocError>
-    requires { n ≤ 4096 }
-    ensures { IfOk result (λ found. found ≡ all_some (narrowed_association n) associations.now) }
+    requires { variable_count ≤ 4096 }
+    ensures { IfOk result (λ found. found ≡ all_some (narrowed_association variable_count) associations.now) }
 {
     let mut parts = Vec::new(alloc);
     let mut rest = associations;
     'associations: while let Some((association, after)) = rest.split_first() {
-        let Some(part) = narrow_association(n, association) else {
+        let Some(part) = narrow_association(variable_count, association) else {
             return Ok(None);
         };
         parts.push(part)?;
@@ -97,12 +97,21 @@ fn narrow_associations(
     Ok(Some(Items::from_vec(parts)))
 }
 
-// A step with its associations.
-fn narrow_step(alloc: Global, n: usize, step: &WholeStep) -> Result<Option<Step>, AllocError>
-    requires { n ≤ 4096 }
-    ensures { IfOk result (λ found. found ≡ narrowed_step n step.now) }
+// A step with its associations (2.6.2).
+fn narrow_step(
+    alloc: Global,
+    variable_count: usize,
+    step: &WholeStep,
+) -> Result<Option<Step>, AllocError>
+    requires { variable_count ≤ 4096 }
+    ensures { IfOk result (λ found. found ≡ narrowed_step variable_count step.now) }
 {
-    let Some(associations) = narrow_associations(alloc, n, step.associations.as_slice())? else {
+    let Some(associations) = narrow_associations(
+        alloc,
+        variable_count,
+        step.associations.as_slice(),
+    )?
+    else {
         return Ok(None);
     };
     Ok(Some(Step {
@@ -112,19 +121,19 @@ fn narrow_step(alloc: Global, n: usize, step: &WholeStep) -> Result<Option<Step>
     }))
 }
 
-// The steps of a chart, in text order.
+// Steps, in text order, or `None` where one of them has an association that is not run so far.
 fn narrow_steps(
     alloc: Global,
-    n: usize,
+    variable_count: usize,
     steps: &[WholeStep],
 ) -> Result<Option<Items<Step>>, AllocError>
-    requires { n ≤ 4096 }
-    ensures { IfOk result (λ found. found ≡ all_some (narrowed_step n) steps.now) }
+    requires { variable_count ≤ 4096 }
+    ensures { IfOk result (λ found. found ≡ all_some (narrowed_step variable_count) steps.now) }
 {
     let mut parts = Vec::new(alloc);
     let mut rest = steps;
     'steps: while let Some((step, after)) = rest.split_first() {
-        let Some(part) = narrow_step(alloc, n, step)? else {
+        let Some(part) = narrow_step(alloc, variable_count, step)? else {
             return Ok(None);
         };
         parts.push(part)?;
@@ -133,7 +142,7 @@ fn narrow_steps(
     Ok(Some(Items::from_vec(parts)))
 }
 
-// TRUE or FALSE.
+// TRUE or FALSE (2.3.1).
 fn narrow_value(value: Value) -> Option<Expr>
     ensures { result ≡ narrowed_value value }
 {
@@ -143,53 +152,60 @@ fn narrow_value(value: Value) -> Option<Expr>
     }
 }
 
-// A truth value or a global variable.
-fn narrow_condition(n: usize, condition: &WholeExpr) -> Option<Expr>
-    requires { n ≤ 4096 }
-    ensures { result ≡ narrowed_condition n (expression_of condition.now) }
+// A truth value or a global variable, without operators (3.3.1).
+fn narrow_condition(variable_count: usize, condition: &WholeExpr) -> Option<Expr>
+    requires { variable_count ≤ 4096 }
+    ensures { result ≡ narrowed_condition variable_count (expression_of condition.now) }
 {
     match condition {
         WholeExpr::Literal(value) => narrow_value(*value),
-        WholeExpr::Variable(variable) => Some(Expr::Variable(narrow_variable(n, *variable)?)),
+        WholeExpr::Variable(variable) => Some(Expr::Variable(narrow_variable(
+            variable_count,
+            *variable,
+        )?)),
         _ => None,
     }
 }
 
-// The only step of a side, by its number among m steps.
-fn narrow_side(alloc: Global, m: usize, side: &[StepId]) -> Result<Option<Items<usize>>, AllocError>
-    ensures { IfOk result (λ found. found ≡ only_one (narrowed_place m) side.now) }
+// The only step on one side of a transition, by its number.
+fn narrow_side(
+    alloc: Global,
+    step_count: usize,
+    side: &[StepId],
+) -> Result<Option<Items<usize>>, AllocError>
+    ensures { IfOk result (λ found. found ≡ only_one (narrowed_place step_count) side.now) }
 {
     let [step] = side else {
         return Ok(None);
     };
     let place = usize::from(step.0);
-    if place < m {
+    if place < step_count {
         Ok(Some(Items::one(alloc, place)?))
     } else {
         Ok(None)
     }
 }
 
-// A transition without priority from one step to one step, among m steps.
+// A transition without priority from one step to one step (2.6.3).
 fn narrow_transition(
     alloc: Global,
-    n: usize,
-    m: usize,
+    variable_count: usize,
+    step_count: usize,
     transition: &WholeTransition,
 ) -> Result<Option<Transition>, AllocError>
-    requires { n ≤ 4096 }
-    ensures { IfOk result (λ found. found ≡ narrowed_transition n m transition.now) }
+    requires { variable_count ≤ 4096 }
+    ensures { IfOk result (λ found. found ≡ narrowed_transition variable_count step_count transition.now) }
 {
     let None = transition.priority else {
         return Ok(None);
     };
-    let Some(condition) = narrow_condition(n, transition.condition.expr()) else {
+    let Some(condition) = narrow_condition(variable_count, transition.condition.expr()) else {
         return Ok(None);
     };
-    let Some(preceding) = narrow_side(alloc, m, transition.preceding.as_slice())? else {
+    let Some(preceding) = narrow_side(alloc, step_count, transition.preceding.as_slice())? else {
         return Ok(None);
     };
-    let Some(following) = narrow_side(alloc, m, transition.following.as_slice())? else {
+    let Some(following) = narrow_side(alloc, step_count, transition.following.as_slice())? else {
         return Ok(None);
     };
     Ok(Some(Transition {
@@ -199,20 +215,20 @@ fn narrow_transition(
     }))
 }
 
-// The transitions of a chart of m steps, in text order.
+// Transitions, in text order, or `None` where one of them is not run so far.
 fn narrow_transitions(
     alloc: Global,
-    n: usize,
-    m: usize,
+    variable_count: usize,
+    step_count: usize,
     transitions: &[WholeTransition],
 ) -> Result<Option<Items<Transition>>, AllocError>
-    requires { n ≤ 4096 }
-    ensures { IfOk result (λ found. found ≡ all_some (narrowed_transition n m) transitions.now) }
+    requires { variable_count ≤ 4096 }
+    ensures { IfOk result (λ found. found ≡ all_some (narrowed_transition variable_count step_count) transitions.now) }
 {
     let mut parts = Vec::new(alloc);
     let mut rest = transitions;
     'transitions: while let Some((transition, after)) = rest.split_first() {
-        let Some(part) = narrow_transition(alloc, n, m, transition)? else {
+        let Some(part) = narrow_transition(alloc, variable_count, step_count, transition)? else {
             return Ok(None);
         };
         parts.push(part)?;
@@ -221,32 +237,42 @@ fn narrow_transitions(
     Ok(Some(Items::from_vec(parts)))
 }
 
-// A chart without declared actions.
-fn narrow_chart(alloc: Global, n: usize, chart: &WholeChart) -> Result<Option<Chart>, AllocError>
-    requires { n ≤ 4096 }
-    ensures { IfOk result (λ found. found ≡ narrowed_chart n chart.now) }
+// A chart without declared actions (2.6).
+fn narrow_chart(
+    alloc: Global,
+    variable_count: usize,
+    chart: &WholeChart,
+) -> Result<Option<Chart>, AllocError>
+    requires { variable_count ≤ 4096 }
+    ensures { IfOk result (λ found. found ≡ narrowed_chart variable_count chart.now) }
 {
     let [] = chart.actions.as_slice() else {
         return Ok(None);
     };
-    let Some(steps) = narrow_steps(alloc, n, chart.steps.as_slice())? else {
+    let Some(steps) = narrow_steps(alloc, variable_count, chart.steps.as_slice())? else {
         return Ok(None);
     };
-    let m = chart.steps.len();
-    let Some(transitions) = narrow_transitions(alloc, n, m, chart.transitions.as_slice())? else {
+    let step_count = chart.steps.len();
+    let Some(transitions) = narrow_transitions(
+        alloc,
+        variable_count,
+        step_count,
+        chart.transitions.as_slice(),
+    )?
+    else {
         return Ok(None);
     };
     Ok(Some(Chart { steps, transitions }))
 }
 
-// A program type without variables.
+// A program type without variables of its own and without externals (2.5.3).
 fn narrow_type(
     alloc: Global,
-    n: usize,
+    variable_count: usize,
     program_type: &WholeType,
 ) -> Result<Option<ProgramType>, AllocError>
-    requires { n ≤ 4096 }
-    ensures { IfOk result (λ found. found ≡ narrowed_type n program_type.now) }
+    requires { variable_count ≤ 4096 }
+    ensures { IfOk result (λ found. found ≡ narrowed_type variable_count program_type.now) }
 {
     let ([], []) = (
         program_type.locals.as_slice(),
@@ -254,7 +280,7 @@ fn narrow_type(
     ) else {
         return Ok(None);
     };
-    let Some(chart) = narrow_chart(alloc, n, &program_type.chart)? else {
+    let Some(chart) = narrow_chart(alloc, variable_count, &program_type.chart)? else {
         return Ok(None);
     };
     Ok(Some(ProgramType {
@@ -263,25 +289,25 @@ fn narrow_type(
     }))
 }
 
-// The only program type.
+// The only program type, or `None` where there is none or more than one.
 fn narrow_types(
     alloc: Global,
-    n: usize,
+    variable_count: usize,
     types: &[WholeType],
 ) -> Result<Option<Items<ProgramType>>, AllocError>
-    requires { n ≤ 4096 }
-    ensures { IfOk result (λ found. found ≡ only_one (narrowed_type n) types.now) }
+    requires { variable_count ≤ 4096 }
+    ensures { IfOk result (λ found. found ≡ only_one (narrowed_type variable_count) types.now) }
 {
     let [program_type] = types else {
         return Ok(None);
     };
-    let Some(part) = narrow_type(alloc, n, program_type)? else {
+    let Some(part) = narrow_type(alloc, variable_count, program_type)? else {
         return Ok(None);
     };
     Ok(Some(Items::one(alloc, part)?))
 }
 
-// Whether all variables are BOOL.
+// Whether all variables are BOOL (2.3.1).
 fn has_bools_only(variables: &[PlantVariable]) -> bool
     ensures { result ≡ are_bool variables.now }
 {
@@ -290,7 +316,7 @@ fn has_bools_only(variables: &[PlantVariable]) -> bool
         .all(|variable| matches!(variable.var_type, VarType::Bool))
 }
 
-// Whether there is one task, without SINGLE.
+// Whether there is one task, without SINGLE (2.7.2).
 fn has_one_task(tasks: &[Task]) -> bool
     ensures { result ≡ is_one_task tasks.now }
 {
@@ -300,7 +326,11 @@ fn has_one_task(tasks: &[Task]) -> bool
     }
 }
 
-/// The plant as one that is run so far, or `None` where it has more than that. The one error is that memory was refused.
+/// The plant as one that is run so far, or `None` where it has more than that. What is run so far: BOOL
+/// variables, one task without SINGLE, one program type without variables of its own, externals and declared
+/// actions, and one instance of it (2.7.1, 2.7.2); associations N of a variable, without indicators (2.6.4);
+/// transitions without priority from one step to one step, whose condition is a variable, TRUE or FALSE (2.6.3);
+/// their names are not kept. The one error is that memory was refused.
 pub fn narrow(alloc: Global, plant: WholePlant) -> Result<Option<Plant>, AllocError>
     ensures narrowed { IfOk result (λ found. found ≡ narrowed plant) }
     ensures single { IfOk result (λ found. IfSome found IsSingle) }
@@ -311,8 +341,8 @@ pub fn narrow(alloc: Global, plant: WholePlant) -> Result<Option<Plant>, AllocEr
     {
         return Ok(None);
     }
-    let n = plant.globals().len();
-    let Some(types) = narrow_types(alloc, n, plant.types())? else {
+    let variable_count = plant.globals().len();
+    let Some(types) = narrow_types(alloc, variable_count, plant.types())? else {
         return Ok(None);
     };
     Ok(Some(Plant { plant, types }))

@@ -4,8 +4,8 @@ use Rattle.sfc_single.proofs.narrow.narrow_associations.Given as goal
 
 abbrev pub invariant-associations : goal.invariant-associations
 invariant-associations l =
-    all_some (narrowed_association l.n) l.associations
-    ≡ given (all_some (narrowed_association l.n) l.rest) (λ parts. Some (l.parts.items ++ parts))
+    all_some (narrowed_association l.variable_count) l.associations
+    ≡ given (all_some (narrowed_association l.variable_count) l.rest) (λ parts. Some (l.parts.items ++ parts))
 
 abbrev pub decreases-associations : goal.decreases-associations
 decreases-associations l = length l.rest

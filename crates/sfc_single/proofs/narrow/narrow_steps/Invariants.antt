@@ -4,7 +4,8 @@ use Rattle.sfc_single.proofs.narrow.narrow_steps.Given as goal
 
 abbrev pub invariant-steps : goal.invariant-steps
 invariant-steps l =
-    all_some (narrowed_step l.n) l.steps ≡ given (all_some (narrowed_step l.n) l.rest) (λ parts. Some (l.parts.items ++ parts))
+    all_some (narrowed_step l.variable_count) l.steps
+    ≡ given (all_some (narrowed_step l.variable_count) l.rest) (λ parts. Some (l.parts.items ++ parts))
 
 abbrev pub decreases-steps : goal.decreases-steps
 decreases-steps l = length l.rest

@@ -4,8 +4,8 @@ use Rattle.sfc_single.proofs.narrow.narrow_transitions.Given as goal
 
 abbrev pub invariant-transitions : goal.invariant-transitions
 invariant-transitions l =
-    all_some (narrowed_transition l.n l.m) l.transitions
-    ≡ given (all_some (narrowed_transition l.n l.m) l.rest) (λ parts. Some (l.parts.items ++ parts))
+    all_some (narrowed_transition l.variable_count l.step_count) l.transitions
+    ≡ given (all_some (narrowed_transition l.variable_count l.step_count) l.rest) (λ parts. Some (l.parts.items ++ parts))
 
 abbrev pub decreases-transitions : goal.decreases-transitions
 decreases-transitions l = length l.rest
