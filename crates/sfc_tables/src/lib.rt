@@ -3,10 +3,18 @@
 //! - `action`: actions with a body, and the numbers that stand for them.
 //! - `association`: which action a step is associated with, and how.
 //! - `chart`: one chart, its steps, transitions and actions in text order.
+//! - `ids`: numbers of transitions, actions and associations.
+//! - `links`: the steps before and after each transition.
+//! - `rank`: the order in which transitions are considered.
+//! - `step_action`: an association by numbers.
 //! - `typed`: conditions and bodies that contracts compare by their trees.
 #![tactic(auto)]
 
 pub mod action;
 pub mod association;
 pub mod chart;
+pub mod ids;
+pub mod links;
+pub mod rank;
+pub mod step_action;
 pub mod typed;
