@@ -1,2 +1,4 @@
+pub mod Listings
 pub mod Parts
+pub mod Places
 pub mod Rankings

@@ -4,6 +4,8 @@
 pub mod Chart
 -- the order in which transitions are considered
 pub mod Ranks
+-- the actions of a chart and their numbers
+pub mod Actions
 -- the tables of a chart
 pub mod Tables
 -- What private clauses cite.

@@ -1,6 +1,7 @@
 //! Charts by number, and the tables that a scan goes through (IEC 61131-3:2003, 2.6).
 //!
 //! - `action`: actions with a body, and the numbers that stand for them.
+//! - `action_key`: keys by which Boolean actions are found; `action_list`: all actions by number.
 //! - `association`: which action a step is associated with, and how.
 //! - `chart`: one chart, its steps, transitions and actions in text order.
 //! - `ids`: numbers of transitions, actions and associations.
@@ -11,6 +12,8 @@
 #![tactic(auto)]
 
 pub mod action;
+mod action_key;
+pub mod action_list;
 pub mod association;
 pub mod chart;
 pub mod ids;
