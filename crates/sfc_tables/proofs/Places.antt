@@ -15,11 +15,11 @@ use Rattle.sfc_tables.specs.Actions.{same_variable, same_target, declared_action
 use Rattle.sfc_tables.specs.Private.Listing.{listed}
 use Rattle.sfc_tables.proofs.Listings.{listed_long}
 
-abbrev declared : ℕ → Target
+abbrev pub declared : ℕ → Target
 declared i = let id : ActionId = record { 0 = i } in target.Declared id
 
 -- no declared action is a variable
-none_declared : (v : Variable) (a n : ℕ) → position_or_len (same_target (target.Boolean v)) (map declared (range_with_len a n)) ≡ n
+pub none_declared : (v : Variable) (a n : ℕ) → position_or_len (same_target (target.Boolean v)) (map declared (range_with_len a n)) ≡ n
 none_declared v a zero = refl
 none_declared v a (suc n) = let rest = none_declared v (a + 1) n in omega arith
 
@@ -38,7 +38,7 @@ pub position_found : (vs : List Variable) (v : Variable) → position_or_len (sa
 position_found vs v lt = rw (lt-ltb (position_or_len (same_variable v) vs) (length vs) lt) refl
 
 -- no variable is declared
-past_booleans : (vs : List Variable) (more : List Target) (id : ActionId)
+pub past_booleans : (vs : List Variable) (more : List Target) (id : ActionId)
     → position_or_len (same_target (target.Declared id)) (map (λ v. target.Boolean v) vs ++ more) ≡ length vs + position_or_len (same_target (target.Declared id)) more
 past_booleans [] more id = omega arith
 past_booleans (v ∷ vs) more id = let rest = past_booleans vs more id in omega arith

@@ -1,9 +1,11 @@
 //! Charts by number, and the tables that a scan goes through (IEC 61131-3:2003, 2.6).
 //!
 //! - `action`: actions with a body, and the numbers that stand for them.
+//! - `action_blocks`: the associations of steps with actions.
 //! - `action_key`: keys by which Boolean actions are found; `action_list`: all actions by number.
 //! - `association`: which action a step is associated with, and how.
 //! - `chart`: one chart, its steps, transitions and actions in text order.
+//! - `groups`: associations in groups of one step or one action.
 //! - `ids`: numbers of transitions, actions and associations.
 //! - `links`: the steps before and after each transition.
 //! - `rank`: the order in which transitions are considered.
@@ -12,10 +14,12 @@
 #![tactic(auto)]
 
 pub mod action;
+mod action_blocks;
 mod action_key;
 pub mod action_list;
 pub mod association;
 pub mod chart;
+mod groups;
 pub mod ids;
 pub mod links;
 pub mod rank;

@@ -1,4 +1,4 @@
-use Rattle.std.proofs.Common.{◌≡◌, ◌+◌, ◌≤◌, ◌<◌, ℕ, List, length, ◌∙◌, sym, ap, subst, arith, rules}
+use Rattle.std.proofs.Common.{◌≡◌, ◌+◌, ◌≤◌, ◌<◌, ℕ, List, length, ◌∙◌, sym, ap, subst, arith, refl}
 use Rattle.std.specs.Prelude.{Option, Some, IsSome, position}
 use Rattle.std.specs.List.{position_or_len}
 use Rattle.sfc_expr.specs.declared.variable.Variable.{Variable}
