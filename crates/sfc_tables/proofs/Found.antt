@@ -1,11 +1,11 @@
 -- Each association's action is listed.
 use Rattle.std.proofs.Common.{◌≡◌, ℕ, zero, suc, ◌+◌, ◌<◌, ◌≤◌, ◌==◌, ◌||◌, not, Bool, true, false, cond, List, [], ◌∷◌, ◌++◌, length, get_or, refl, sym, ◌∙◌, ap, subst, inl, inr, arith}
 use mathlib.Core.Logic.{◌⊎◌}
-use Rattle.std.specs.Prelude.{map, filter, All, Option, Some, None}
+use Rattle.std.specs.Prelude.{map, filter, All, Some}
 use Rattle.std.specs.List.{list_any, position_or_len, range_with_len, cons_option}
 use Rattle.std.proofs.lemmas.Bool.Decides.{nat_tests}
-use Rattle.std.proofs.lemmas.List.{append_assoc, append-nil, length-append, length-map}
-use Rattle.std.proofs.lemmas.List.Elements.{All-nil, All-cons, All-head, All-tail, filter_map-append}
+use Rattle.std.proofs.lemmas.List.{append_assoc, length-append, length-map}
+use Rattle.std.proofs.lemmas.List.Elements.{All-nil, All-cons, filter_map-append}
 use Rattle.sfc_expr.specs.declared.variable.Variable.{Variable}
 use Rattle.sfc_tables.specs.declared.action.ActionId.{ActionId}
 use Rattle.sfc_tables.specs.declared.association.Association.{Association}
@@ -17,7 +17,6 @@ use Rattle.sfc_tables.specs.Chart.{Space, IsTarget, IsAssociation}
 use Rattle.sfc_tables.specs.Actions.{same_variable, same_target, distinct, boolean_of, booleans_of, associations_in, declared_actions, actions_of, number_of, boolean_actions}
 use Rattle.sfc_tables.specs.Private.Listing.{listed}
 use Rattle.sfc_tables.specs.Private.SameVariables.{same_variable_equiv, same_along}
-use Rattle.sfc_tables.proofs.Listings.{listed_long}
 use Rattle.sfc_tables.proofs.Places.{past_booleans, declared}
 
 bool_cases : (b : Bool) → (b ≡ true) ⊎ (b ≡ false)

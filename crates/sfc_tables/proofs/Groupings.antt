@@ -1,13 +1,11 @@
 -- Rising keys make groups.
-use Rattle.std.proofs.Common.{◌≡◌, ℕ, zero, suc, ◌+◌, ◌-◌, ◌<◌, ◌≤◌, ◌==◌, ◌&&◌, not, Bool, true, false, cond, List, [], ◌∷◌, ◌++◌, length, get_or, take, drop, refl, sym, ◌∙◌, ap, subst, inl, inr, arith}
-use mathlib.Core.Logic.{◌⊎◌}
+use Rattle.std.proofs.Common.{◌≡◌, ℕ, suc, ◌+◌, ◌-◌, ◌<◌, ◌≤◌, ◌==◌, ◌&&◌, not, Bool, true, false, cond, List, [], ◌∷◌, length, get_or, take, refl, sym, ◌∙◌, ap, inl, inr, arith}
 use Rattle.std.specs.Prelude.{map, filter, nat_le, nat_lt, slice_range, slice_index}
-use Rattle.std.specs.List.{position_or_len, range_with_len, prefix_len}
-use Rattle.std.specs.List.Sorted.{IsNonDecreasing, IsNonDecreasingBy, IsPartitionPoint, ties, IsStableByKey}
+use Rattle.std.specs.List.{position_or_len}
+use Rattle.std.specs.List.Sorted.{IsNonDecreasingBy, IsPartitionPoint, ties, IsStableByKey}
 use Rattle.std.specs.Ordering.{is_lt, nat_cmp}
 use Rattle.std.proofs.lemmas.Bool.Decides.{nat_tests}
 use Rattle.std.proofs.lemmas.Bool.{cases_lt, cases_eq}
-use Rattle.std.proofs.lemmas.List.{length-map, get_or-map}
 use Rattle.std.proofs.lemmas.List.FromFn.{length-map-range_with_len, get_or-map-range_with_len}
 use Rattle.std.proofs.lemmas.List.Sums.{position_or_len_is}
 use Rattle.std.specs.Fn.{Called, ComputesKey}

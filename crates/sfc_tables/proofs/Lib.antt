@@ -5,3 +5,4 @@ pub mod Numberings
 pub mod Parts
 pub mod Places
 pub mod Rankings
+pub mod Sound

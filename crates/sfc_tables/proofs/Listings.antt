@@ -1,9 +1,8 @@
 -- The list of actions, and how long it is.
-use Rattle.std.proofs.Common.{◌≡◌, inl, inr, ℕ, zero, suc, ◌+◌, ◌<◌, ◌≤◌, ◌==◌, ◌||◌, ◌&&◌, not, Bool, true, false, cond, List, [], ◌∷◌, ◌++◌, length, drop, get_or, refl, sym, ◌∙◌, ap, arith, subst}
+use Rattle.std.proofs.Common.{◌≡◌, inl, inr, ℕ, suc, ◌+◌, ◌≤◌, ◌||◌, ◌&&◌, not, Bool, true, false, cond, List, [], ◌∷◌, ◌++◌, length, drop, get_or, refl, sym, ◌∙◌, ap, arith}
 use mathlib.Core.Logic.{◌⊎◌}
 use Rattle.std.specs.Prelude.{map, filter, slice_get, Option, Some, None, sum_by}
-use Rattle.std.specs.List.{list_any, flat_map, filter_map, cons_option}
-
+use Rattle.std.specs.List.{list_any, cons_option}
 use Rattle.std.proofs.lemmas.List.{append_assoc, append-nil, length-append, length-map, drop_more}
 use Rattle.std.proofs.lemmas.List.Concat.{length-flat_map}
 use Rattle.std.proofs.lemmas.List.Elements.{filter_map-append}
@@ -18,7 +17,7 @@ use Rattle.sfc_tables.specs.declared.association.Target.TheVariants as target
 use Rattle.sfc_tables.specs.declared.chart.Step.{Step}
 use Rattle.sfc_tables.specs.Actions.{same_variable, distinct, boolean_of, booleans_of, associations_in, declared_actions}
 use Rattle.sfc_tables.specs.Private.Listing.{with_booleans, listed}
-use Rattle.sfc_tables.specs.Private.SameVariables.{same_swap, same_along}
+use Rattle.sfc_tables.specs.Private.SameVariables.{same_along}
 
 -- ---- one step after another
 

@@ -1,27 +1,17 @@
 -- The associations in text order by number.
-use Rattle.std.proofs.Common.{◌≡◌, ℕ, zero, suc, ◌+◌, ◌<◌, ◌≤◌, ◌==◌, ◌||◌, not, Bool, true, false, cond, List, [], ◌∷◌, ◌++◌, length, get_or, drop, refl, sym, ◌∙◌, ap, subst, inl, inr, arith}
-use mathlib.Core.Logic.{◌⊎◌}
-use Rattle.std.specs.Prelude.{map, filter, All, Option, Some, None, sum_by}
-use Rattle.std.specs.List.{list_any, position_or_len, range_with_len, cons_option}
+use Rattle.std.proofs.Common.{◌≡◌, ℕ, zero, suc, ◌+◌, ◌<◌, ◌≤◌, List, [], ◌∷◌, ◌++◌, length, get_or, drop, refl, sym, ◌∙◌, ap, subst, arith}
+use Rattle.std.specs.Prelude.{map, All, sum_by}
 use Rattle.std.specs.List.Sorted.{IsNonDecreasing, IsNonDecreasingBy}
-use Rattle.std.proofs.lemmas.Bool.Decides.{nat_tests}
 use Rattle.std.proofs.lemmas.List.{append_assoc, length-append, length-map, get_or-map, drop_more}
 use Rattle.std.proofs.lemmas.List.Sums.{sum_by-cons}
-use Rattle.std.proofs.lemmas.List.Elements.{All-nil, All-cons, All-head, All-tail, All-append, filter_map-append}
+use Rattle.std.proofs.lemmas.List.Elements.{All-nil, All-cons}
 use Rattle.sfc_expr.specs.declared.variable.StepId.{StepId}
-use Rattle.sfc_expr.specs.declared.variable.Variable.{Variable}
-use Rattle.sfc_tables.specs.declared.action.ActionId.{ActionId}
 use Rattle.sfc_tables.specs.declared.association.Association.{Association}
 use Rattle.sfc_tables.specs.declared.association.Target.{Target}
-use Rattle.sfc_tables.specs.declared.association.Target.TheVariants as target
 use Rattle.sfc_tables.specs.declared.chart.Step.{Step}
-use Rattle.sfc_tables.specs.declared.chart.Chart.{Chart}
 use Rattle.sfc_tables.specs.declared.step_action.StepAction.{StepAction}
-use Rattle.sfc_tables.specs.Chart.{Space, IsTarget, IsAssociation}
-use Rattle.sfc_tables.specs.Actions.{same_variable, same_target, distinct, boolean_of, booleans_of, associations_in, declared_actions, actions_of, number_of}
-use Rattle.sfc_tables.specs.Tables.{in_text, numbered, IsStepAction}
-use Rattle.sfc_tables.specs.Private.Listing.{listed}
-use Rattle.sfc_tables.specs.Private.SameVariables.{same_variable_equiv, same_along}
+use Rattle.sfc_tables.specs.Actions.{number_of}
+use Rattle.sfc_tables.specs.Tables.{in_text, numbered}
 
 -- ---- numbering in pieces
 
@@ -58,7 +48,7 @@ numbers_rise actions n (x ∷ xs) (suc k) d lt = let rest = numbers_rise actions
 -- one step more
 pub next_step : (actions : List Target) (done : List StepAction) (s : ℕ) (steps : List Step) (step : Step) → s < length steps → step ≡ get_or steps s step
     → (done ++ numbered actions (length done) (map (λ association. let id : StepId = record { 0 = s } in (id, association)) step.associations))
-        ++ numbered actions (length (done ++ numbered actions (length done) (map (λ association. let id : StepId = record { 0 = s } in (id, association)) step.associations))) (in_text (s + 1) (drop (s + 1) steps))
+    ++ numbered actions (length (done ++ numbered actions (length done) (map (λ association. let id : StepId = record { 0 = s } in (id, association)) step.associations))) (in_text (s + 1) (drop (s + 1) steps))
     ≡ done ++ numbered actions (length done) (in_text s (drop s steps))
 next_step actions done s steps step lt is =
     let id : StepId = record { 0 = s } in

@@ -1,12 +1,12 @@
 -- Parts of the flat list of links.
-use Rattle.std.proofs.Common.{◌≡◌, ℕ, suc, zero, ◌+◌, ◌-◌, ◌<◌, ◌≤◌, List, [], ◌∷◌, ◌++◌, length, get_or, take, drop, ◌∙◌, ap, refl, sym, arith}
+use Rattle.std.proofs.Common.{◌≡◌, ℕ, ◌+◌, ◌-◌, ◌<◌, ◌≤◌, List, [], ◌∷◌, ◌++◌, length, get_or, drop, ◌∙◌, refl, arith}
 use Rattle.std.specs.Prelude.{map, All, slice_range}
 use Rattle.std.proofs.lemmas.List.{drop-append-le, take-append-le, length-drop, length-append, map-append, append_assoc, drop_at, take_at, take_all, drop_more}
 use Rattle.std.proofs.lemmas.List.Elements.{All-head, All-tail, All-push}
 use Rattle.sfc_expr.specs.declared.variable.StepId.{StepId}
 use Rattle.sfc_tables.specs.declared.chart.Transition.{Transition}
 use Rattle.sfc_tables.specs.declared.links.Range.{Range}
-use Rattle.sfc_tables.specs.Tables.{Sides, sides_of}
+use Rattle.sfc_tables.specs.Tables.{sides_of}
 use Rattle.sfc_tables.specs.Private.Parts.{sides_in, IsRange}
 
 part_kept : (links more : List StepId) (i j : ℕ) → i ≤ j → j ≤ length links → slice_range (links ++ more) i j ≡ slice_range links i j

@@ -1,7 +1,7 @@
 -- Pairs of a key and a place, sorted, give the rank order.
-use Rattle.std.proofs.Common.{◌≡◌, ℕ, suc, zero, ◌+◌, ◌<◌, ◌≤◌, ◌==◌, Bool, true, false, List, [], ◌∷◌, ◌++◌, length, get_or, ◌∙◌, ap, refl, sym, inl, inr, arith, subst}
+use Rattle.std.proofs.Common.{◌≡◌, ℕ, suc, zero, ◌+◌, ◌<◌, ◌≤◌, ◌==◌, Bool, false, List, [], ◌∷◌, ◌++◌, length, get_or, ◌∙◌, ap, refl, sym, inl, inr, arith, subst}
 use mathlib.Core.Logic.{◌⊎◌}
-use Rattle.std.specs.Prelude.{map, All, Option, Some, None, nat_eq}
+use Rattle.std.specs.Prelude.{map, All, Option, None, nat_eq}
 use Rattle.std.specs.Ordering.{is_lt, nat_cmp, ordering_then}
 use Rattle.std.specs.List.{IsDistinct, AllByRecursion, range_with_len}
 use Rattle.std.proofs.lemmas.List.Elements.{All-nil, All-cons, All-get_or}
@@ -97,10 +97,13 @@ module _ (priorities : List (Option ℕ)) (xs : List (ℕ × ℕ)) (order : List
       let later : below y x ≡ false = sorted_far below (ranks_by (then_total (on_total (λ t. t.0) nat_cmp_total) (on_total (λ t. t.1) nat_cmp_total)) (λ t. t)) xs up i j (0, 0) (omega arith) (omega arith) in
       rw (a, b) (elim (ordered x y later) [
         | inl less ↦ inl (omega arith)
-        | inr same ↦ inr (sym p ∙ same.0 ∙ q, elim (cases_lt x.1 y.1) [
-          | inl less ↦ less
-          | inr ge ↦ absurd (eqb-false x.1 y.1 (rw (get_or-map number order i d 0 (omega arith), get_or-map number order j d 0 (omega arith), a, b) at apart) (omega (arith, same.1)))
-        ])
+        | inr same ↦ inr (
+          sym p ∙ same.0 ∙ q,
+          elim (cases_lt x.1 y.1) [
+            | inl less ↦ less
+            | inr ge ↦ absurd (eqb-false x.1 y.1 (rw (get_or-map number order i d 0 (omega arith), get_or-map number order j d 0 (omega arith), a, b) at apart) (omega (arith, same.1)))
+          ],
+        )
       ])
 
   pub rank_order_is : IsRankOrder priorities order

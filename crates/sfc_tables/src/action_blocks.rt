@@ -37,7 +37,6 @@ use crate::ids::{ActionNumber, AssociationNumber};
 use sfc_expr::variable::StepId;
 use std::alloc::{AllocError, Global};
 
-
 // Appends the associations of a step.
 fn add_step(
     associations: &mut Vec<StepAction>,
@@ -62,7 +61,11 @@ fn add_step(
 }
 
 // The associations of these steps, with the first step's first.
-fn list_associations(alloc: Global, steps: &[Step], actions: &ActionList) -> Result<Vec<StepAction>, AllocError>
+fn list_associations(
+    alloc: Global,
+    steps: &[Step],
+    actions: &ActionList,
+) -> Result<Vec<StepAction>, AllocError>
     requires few_steps { length steps.now ≤ 1024 }
     requires few { sum_by (λ step. length step.associations) steps.now ≤ 4096 }
     requires targets { All (λ step. All (λ association. (number_of actions.now association.target).0 < length actions.now) step.associations) steps.now }
@@ -70,7 +73,12 @@ fn list_associations(alloc: Global, steps: &[Step], actions: &ActionList) -> Res
 {
     let mut associations = Vec::new(alloc);
     for (s, step) in steps.iter().enumerate() {
-        add_step(&mut associations, StepId(s as u16), step.associations.as_slice(), actions)?;
+        add_step(
+            &mut associations,
+            StepId(s as u16),
+            step.associations.as_slice(),
+            actions,
+        )?;
     }
     Ok(associations)
 }
@@ -86,9 +94,9 @@ impl ActionBlocks {
         requires chart { (space : Space) × IsChart space chart.now }
         requires declared { length chart.now.actions ≤ 2 ^ 16 - 4096 }
         ensures { IfOk result (λ blocks. blocks ≡ record {
-            steps = length chart.now.steps;
-            actions = actions_of chart.now;
-            associations = associations_of chart.now;
+          steps = length chart.now.steps;
+          actions = actions_of chart.now;
+          associations = associations_of chart.now;
         }) }
     {
         let steps = chart.steps.len();
@@ -96,8 +104,19 @@ impl ActionBlocks {
         let associations = list_associations(alloc, chart.steps.as_slice(), &actions)?;
         let step_starts = groups::starts(alloc, &groups::steps_of(alloc, &associations)?, steps)?;
         let by_action = groups::by_action(alloc, &associations)?;
-        let action_starts = groups::starts(alloc, &groups::actions_of(alloc, &by_action)?, actions.len())?;
-        Ok(ActionBlocks { steps, actions, associations, step_starts, by_action, action_starts })
+        let action_starts = groups::starts(
+            alloc,
+            &groups::actions_of(alloc, &by_action)?,
+            actions.len(),
+        )?;
+        Ok(ActionBlocks {
+            steps,
+            actions,
+            associations,
+            step_starts,
+            by_action,
+            action_starts,
+        })
     }
 
     /// The actions.

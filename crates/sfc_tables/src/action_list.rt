@@ -48,7 +48,10 @@ fn note(booleans: &mut IndexSet<ActionKey>, variable: Variable) -> Result<(), Al
 }
 
 // Notes the variables of these associations that are actions.
-fn note_all(booleans: &mut IndexSet<ActionKey>, associations: &[Association]) -> Result<(), AllocError>
+fn note_all(
+    booleans: &mut IndexSet<ActionKey>,
+    associations: &[Association],
+) -> Result<(), AllocError>
     ensures { OnOk result (booleans.new.keys ≡ with_booleans booleans.old.keys (booleans_of associations.now)) }
 {
     for association in associations {
@@ -108,7 +111,11 @@ impl ActionList {
         let declared = chart.actions.len();
         let mut targets = boolean_targets(alloc, &booleans)?;
         add_declared(&mut targets, declared)?;
-        Ok(ActionList { booleans, declared, targets })
+        Ok(ActionList {
+            booleans,
+            declared,
+            targets,
+        })
     }
 
     /// The number of actions.
@@ -133,7 +140,10 @@ impl ActionList {
     {
         match target {
             Target::Boolean(variable) => {
-                let place = self.booleans.get_index_of(&ActionKey::new(variable)).unwrap();
+                let place = self
+                    .booleans
+                    .get_index_of(&ActionKey::new(variable))
+                    .unwrap();
                 ActionNumber(place as u16)
             }
             Target::Declared(id) => {

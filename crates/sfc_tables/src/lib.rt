@@ -10,18 +10,20 @@
 //! - `links`: the steps before and after each transition.
 //! - `rank`: the order in which transitions are considered.
 //! - `step_action`: an association by numbers.
+//! - `tables`: the tables of a chart.
 //! - `typed`: conditions and bodies that contracts compare by their trees.
 #![tactic(auto)]
 
 pub mod action;
 mod action_blocks;
 mod action_key;
-pub mod action_list;
+mod action_list;
 pub mod association;
 pub mod chart;
 mod groups;
 pub mod ids;
-pub mod links;
-pub mod rank;
+mod links;
+mod rank;
 pub mod step_action;
+pub mod tables;
 pub mod typed;

@@ -39,9 +39,9 @@ impl Model for Links {
 fn append(steps: &mut Vec<StepId>, transition: &Transition) -> Result<Range, AllocError>
     ensures steps { OnOk result (steps.new.items ≡ (steps.old.items ++ transition.now.preceding) ++ transition.now.following) }
     ensures range { IfOk result (λ range. range ≡ record {
-        start = length steps.old.items;
-        middle = length steps.old.items + length transition.now.preceding;
-        end = length steps.old.items + length transition.now.preceding + length transition.now.following;
+      start = length steps.old.items;
+      middle = length steps.old.items + length transition.now.preceding;
+      end = length steps.old.items + length transition.now.preceding + length transition.now.following;
     }) }
 {
     let start = steps.len();

@@ -18,7 +18,10 @@ fn key(priority: Option<u32>) -> u64
 }
 
 /// The transitions in rank order.
-pub fn rank_order(alloc: Global, transitions: &[Transition]) -> Result<Vec<TransitionId>, AllocError>
+pub fn rank_order(
+    alloc: Global,
+    transitions: &[Transition],
+) -> Result<Vec<TransitionId>, AllocError>
     requires { length transitions.now ≤ 2048 }
     ensures { IfOk result (λ ranked. IsRankOrder (map (λ transition. transition.priority) transitions.now) ranked.items) }
 {

@@ -1,7 +1,6 @@
 -- Whether two variables are one is an equivalence.
-use Rattle.std.proofs.Common.{◌≡◌, ℕ, ◌*◌, ◌+◌, ◌==◌, Bool, true, false, refl, sym, ap, IsTrue, arith}
+use Rattle.std.proofs.Common.{◌≡◌, ◌*◌, ◌+◌, true, refl, ap, IsTrue}
 use Rattle.std.proofs.lemmas.Bool.{eqb-true}
-use Rattle.std.proofs.lemmas.Bool.Decides.{nat_tests}
 use Rattle.std.specs.Hash as fed
 use Rattle.std.specs.Cmp.{IsPartialEquivalence, IsEquivalence, partial_equiv_from_equiv, nat_eq_equiv}
 use Rattle.sfc_expr.specs.declared.variable.Variable.{Variable}

@@ -1,7 +1,6 @@
-use Rattle.std.proofs.Common.{◌≡◌, ◌+◌, ◌<◌, ◌≤◌, ◌∷◌, ◌∙◌, ap, sym, length, drop, subst, arith, List}
-use Rattle.std.specs.Prelude.{All, sum_by, map}
-use Rattle.std.proofs.lemmas.List.{drop_more, length-append, length-map}
-use Rattle.std.proofs.lemmas.List.Sums.{sum_by-cons}
+use Rattle.std.proofs.Common.{◌<◌, ◌∙◌, sym, length, subst, arith, List}
+use Rattle.std.specs.Prelude.{All, map}
+use Rattle.std.proofs.lemmas.List.{length-append, length-map}
 use Rattle.sfc_expr.specs.declared.variable.StepId.{StepId}
 use Rattle.sfc_tables.specs.declared.association.Association.{Association}
 use Rattle.sfc_tables.specs.declared.chart.Step.{Step}
@@ -23,7 +22,7 @@ loop-s-preserved c =
     rw (c.in_ok-add_step.ensures, c.as_slice.ensures) record {
       rest = next_step actions done s steps step c.loop-s-test.true c.index-steps-s.is ∙ c.loop-s.invariant.rest;
       room =
-      omega (arith, length-append done (numbered actions (length done) block), length-numbered actions (length done) block, length-map step.associations pair, steps_left steps s step c.loop-s-test.true c.index-steps-s.is, c.loop-s.invariant.room);
+          omega (arith, length-append done (numbered actions (length done) block), length-numbered actions (length done) block, length-map step.associations pair, steps_left steps s step c.loop-s-test.true c.index-steps-s.is, c.loop-s.invariant.room);
     }
 
 pub add_step-requires : goal.add_step-requires

@@ -1,4 +1,4 @@
-use Rattle.std.proofs.Common.{◌≡◌, ◌∷◌, [], ◌+◌, ◌++◌, ◌∙◌, sym, ap, arith, ℕ, refl}
+use Rattle.std.proofs.Common.{◌∷◌, [], arith, ℕ}
 use Rattle.std.proofs.lemmas.List.{append_assoc}
 use Rattle.std.proofs.lemmas.List.FromFn.{map-range_with_len_more}
 use Rattle.sfc_tables.specs.declared.action.ActionId.{ActionId}
@@ -12,6 +12,6 @@ loop-i-preserved c =
     let one = map-range_with_len_more (λ (k : ℕ). let id : ActionId = record { 0 = k } in target.Declared id) 0 i i (omega arith) in
     record {
       done =
-      rw (c.in_ok-push.ensures.items, c.loop-i.invariant.done, one)
-      (append_assoc c.args.targets.now.items (declared_actions i) (target.Declared record { 0 = i } ∷ []));
+          rw (c.in_ok-push.ensures.items, c.loop-i.invariant.done, one)
+          (append_assoc c.args.targets.now.items (declared_actions i) (target.Declared record { 0 = i } ∷ []));
     }

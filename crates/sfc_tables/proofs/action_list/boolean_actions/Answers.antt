@@ -1,7 +1,5 @@
-use Rattle.std.proofs.Common.{◌≡◌, ◌∷◌, ◌+◌, ◌∙◌, sym, ap, arith, drop, get_or}
+use Rattle.std.proofs.Common.{◌≡◌, ◌∷◌, ◌+◌, ◌∙◌, sym, arith, drop}
 use Rattle.std.proofs.lemmas.List.{drop_more}
-use Rattle.sfc_tables.specs.Actions.{booleans_of, associations_in}
-use Rattle.sfc_tables.specs.Private.Listing.{with_booleans}
 use Rattle.sfc_tables.proofs.Listings.{with_step}
 use Rattle.sfc_tables.proofs.action_list.boolean_actions.Goals as goal
 
@@ -14,6 +12,6 @@ loop-step-preserved c =
     let next : drop i steps ≡ step ∷ drop (i + 1) steps = rw (← c.step-item.is) at (drop_more steps i step (omega arith)) in
     record {
       rest =
-      rw (c.in_ok-note_all.ensures, c.as_slice.ensures)
-      (sym (with_step known step.associations (drop (i + 1) steps)) ∙ rw next at c.loop-step.invariant.rest);
+          rw (c.in_ok-note_all.ensures, c.as_slice.ensures)
+          (sym (with_step known step.associations (drop (i + 1) steps)) ∙ rw next at c.loop-step.invariant.rest);
     }

@@ -1,4 +1,4 @@
-use Rattle.std.proofs.Common.{◌≡◌, ◌∷◌, [], ◌+◌, ◌++◌, ◌∙◌, sym, ap, arith, drop}
+use Rattle.std.proofs.Common.{◌≡◌, ◌∷◌, [], ◌+◌, ◌∙◌, sym, ap, drop}
 use Rattle.std.specs.Prelude.{map, slice_get, Some}
 use Rattle.std.specs.Option.{option_copied}
 use Rattle.std.proofs.lemmas.List.{append_assoc}
@@ -15,6 +15,6 @@ loop-i-preserved c =
     let next : drop i keys ≡ v ∷ drop (i + 1) keys = next_variable keys i v read in
     record {
       rest =
-      rw (c.in_ok-push.ensures.items, c.variable.ensures)
-      (append_assoc c.loop-i.targets.items (target.Boolean v ∷ []) (map (λ v. target.Boolean v) (drop (i + 1) keys)) ∙ rw next at c.loop-i.invariant.rest);
+          rw (c.in_ok-push.ensures.items, c.variable.ensures)
+          (append_assoc c.loop-i.targets.items (target.Boolean v ∷ []) (map (λ v. target.Boolean v) (drop (i + 1) keys)) ∙ rw next at c.loop-i.invariant.rest);
     }

@@ -1,4 +1,4 @@
-use Rattle.std.proofs.Common.{◌≡◌, ◌+◌, ◌∙◌, ◌++◌, ◌∷◌, [], true, false, sym, ap, arith, rules}
+use Rattle.std.proofs.Common.{◌≡◌, ◌++◌, ◌∷◌, [], true, false, ap, arith, rules}
 use Rattle.std.specs.Prelude.{nat_lt}
 use Rattle.std.specs.List.Sorted.{IsPartitionPoint}
 use Rattle.std.proofs.lemmas.List.FromFn.{map-range_with_len_more}
@@ -17,6 +17,6 @@ loop-k-preserved c =
     let first : first_from numbers k ≡ i = first_is numbers k i c.partition_point.ensures.bound point in
     record {
       done =
-      rw (c.in_ok-push.ensures.items, map-range_with_len_more (first_from numbers) 0 k k (omega arith), first)
-      (ap (λ l. l ++ i ∷ []) c.loop-k.invariant.done);
+          rw (c.in_ok-push.ensures.items, map-range_with_len_more (first_from numbers) 0 k k (omega arith), first)
+          (ap (λ l. l ++ i ∷ []) c.loop-k.invariant.done);
     }

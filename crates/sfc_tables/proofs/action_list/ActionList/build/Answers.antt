@@ -1,10 +1,7 @@
-use Rattle.std.proofs.Common.{◌≡◌, ◌+◌, ◌++◌, ◌≤◌, ℕ, List, length, ◌∙◌, sym, ap, arith, rules}
-use Rattle.std.specs.Prelude.{map, sum_by}
-use Rattle.sfc_expr.specs.declared.variable.Variable.{Variable}
-use Rattle.sfc_tables.specs.declared.association.Target.TheVariants as target
+use Rattle.std.proofs.Common.{◌≡◌, ◌++◌, List, length, ◌∙◌, ap, arith}
 use Rattle.sfc_tables.specs.declared.chart.Step.{Step}
 use Rattle.sfc_tables.specs.Actions.{distinct, booleans_of, associations_in, declared_actions, boolean_actions}
-use Rattle.sfc_tables.specs.Private.Listing.{listed, with_booleans}
+use Rattle.sfc_tables.specs.Private.Listing.{listed}
 use Rattle.sfc_tables.proofs.Listings.{distinct_is, booleans_few, listed_long}
 use Rattle.sfc_tables.proofs.action_list.ActionList.build.Goals as goal
 
