@@ -1,5 +1,6 @@
 -- Rising keys make groups.
-use Rattle.std.proofs.Common.{◌≡◌, ℕ, suc, ◌+◌, ◌-◌, ◌<◌, ◌≤◌, ◌==◌, ◌&&◌, not, Bool, true, false, cond, List, [], ◌∷◌, length, get_or, take, refl, sym, ◌∙◌, ap, inl, inr, arith}
+use Rattle.std.proofs.Common.{◌≡◌, ℕ, suc, ◌+◌, ◌-◌, ◌<◌, ◌≤◌, ◌==◌, ◌&&◌, not, Bool, true, false}
+use Rattle.std.proofs.Common.{cond, List, [], ◌∷◌, length, get_or, take, refl, sym, ◌∙◌, ap, inl, inr, arith}
 use Rattle.std.specs.Prelude.{map, filter, nat_le, nat_lt, slice_range, slice_index}
 use Rattle.std.specs.List.{position_or_len}
 use Rattle.std.specs.List.Sorted.{IsNonDecreasingBy, IsPartitionPoint, ties, IsStableByKey}
@@ -18,7 +19,8 @@ use Rattle.sfc_tables.specs.Private.Grouping.{first_from, first_places, IsGroupi
 
 -- ---- one group's first place
 
-pub first_is : (numbers : List ℕ) (k i : ℕ) → i ≤ length numbers → IsPartitionPoint (λ y. nat_lt y k ≡ true) (λ y. nat_lt y k ≡ false) numbers i → first_from numbers k ≡ i
+pub first_is : (numbers : List ℕ) (k i : ℕ) → i ≤ length numbers
+    → IsPartitionPoint (λ y. nat_lt y k ≡ true) (λ y. nat_lt y k ≡ false) numbers i → first_from numbers k ≡ i
 first_is numbers k i le point =
     position_or_len_is (λ x. nat_le k x) numbers i 0 le
     (λ j lt. let y = get_or numbers j 0 in let below : nat_lt y k ≡ true = point.0 j 0 (omega arith) lt in grind (arith, nat_tests))
@@ -40,7 +42,8 @@ module _ (key : StepAction → ℕ) where
   rising_tail : (x : StepAction) (xs : List StepAction) → IsNonDecreasingBy key (x ∷ xs) → IsNonDecreasingBy key xs
   rising_tail x xs up i j d le lt = up (suc i) (suc j) d (omega arith) (omega arith)
 
-  rising_head : (x : StepAction) (xs : List StepAction) → IsNonDecreasingBy key (x ∷ xs) → (j : ℕ) (d : StepAction) → j < length xs → key x ≤ key (get_or xs j d)
+  rising_head : (x : StepAction) (xs : List StepAction) → IsNonDecreasingBy key (x ∷ xs) → (j : ℕ) (d : StepAction) → j < length xs
+      → key x ≤ key (get_or xs j d)
   rising_head x xs up j d lt = up 0 (suc j) d (omega arith) (omega arith)
 
   abbrev AreAtLeast : ℕ → List StepAction → Type 0
@@ -48,7 +51,8 @@ module _ (key : StepAction → ℕ) where
 
   first_of_all : (k : ℕ) (xs : List StepAction) → AreAtLeast k xs → position_or_len (at_least k) xs ≡ 0
   first_of_all k [] all = refl
-  first_of_all k (x ∷ xs) all = let le : k ≤ key x = all 0 x (omega arith) in let t : nat_le k (key x) ≡ true = grind (arith, nat_tests) in rw t refl
+  first_of_all k (x ∷ xs) all = let le : k ≤ key x = all 0 x (omega arith) in
+      let t : nat_le k (key x) ≡ true = grind (arith, nat_tests) in rw t refl
 
   none_below : (k : ℕ) (xs : List StepAction) → AreAtLeast (suc k) xs → filter (is_key k) xs ≡ []
   none_below k [] all = refl
@@ -113,7 +117,8 @@ module _ (key : StepAction → ℕ) where
       by false rest = omega arith
 
   module _ (n : ℕ) (all members : List StepAction) (numbers starts : List ℕ) (up : IsNonDecreasingBy key members)
-      (same : (k : ℕ) → filter (is_key k) members ≡ filter (is_key k) all) (read : numbers ≡ map key members) (firsts : starts ≡ first_places numbers n) where
+      (same : (k : ℕ) → filter (is_key k) members ≡ filter (is_key k) all) (read : numbers ≡ map key members)
+      (firsts : starts ≡ first_places numbers n) where
     start_is : (k : ℕ) → k < n + 1 → slice_index starts k ≡ position_or_len (at_least k) members
     start_is k lt =
         ap (λ s. get_or s k 0) firsts
@@ -150,6 +155,8 @@ pub stable_groups : {F : Type 0} {g : Mut F (Bor StepAction × Unit {0}) ℕ} {f
     → ((a : Bor StepAction × Unit {0}) (r : ℕ) (f' : F) → Called g f a r f' → (r ≡ a.0.now.action.0) × (f' ≡ f))
     → (k : ℕ) → filter (λ m. m.action.0 == k) ys ≡ filter (λ m. m.action.0 == k) xs
 stable_groups {g = g} {f = f} xs ys stable h k =
-    let tied : (x : StepAction) → filter (ties (λ x y. is_lt (nat_cmp x.action.0 y.action.0)) x) ys ≡ filter (ties (λ x y. is_lt (nat_cmp x.action.0 y.action.0)) x) xs =
+    let tied : (x : StepAction)
+    → filter (ties (λ x y. is_lt (nat_cmp x.action.0 y.action.0)) x) ys
+    ≡ filter (ties (λ x y. is_lt (nat_cmp x.action.0 y.action.0)) x) xs =
     stable (λ m. m.action.0) (always_returns_same g (λ a r. r ≡ a.0.now.action.0) f h) in
     (λ i. filter (λ m. sym (tie_tests m.action.0 k) i) ys) ∙ tied (of_action k) ∙ (λ i. filter (λ m. tie_tests m.action.0 k i) xs)

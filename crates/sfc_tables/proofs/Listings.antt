@@ -1,5 +1,6 @@
 -- The list of actions, and how long it is.
-use Rattle.std.proofs.Common.{◌≡◌, inl, inr, ℕ, suc, ◌+◌, ◌≤◌, ◌||◌, ◌&&◌, not, Bool, true, false, cond, List, [], ◌∷◌, ◌++◌, length, drop, get_or, refl, sym, ◌∙◌, ap, arith}
+use Rattle.std.proofs.Common.{◌≡◌, inl, inr, ℕ, suc, ◌+◌, ◌≤◌, ◌||◌, ◌&&◌, not, Bool, true, false}
+use Rattle.std.proofs.Common.{cond, List, [], ◌∷◌, ◌++◌, length, drop, get_or, refl, sym, ◌∙◌, ap, arith}
 use mathlib.Core.Logic.{◌⊎◌}
 use Rattle.std.specs.Prelude.{map, filter, slice_get, Option, Some, None, sum_by}
 use Rattle.std.specs.List.{list_any, cons_option}
@@ -22,7 +23,8 @@ use Rattle.sfc_tables.specs.Private.SameVariables.{same_along}
 -- ---- one step after another
 
 pub with_step : (known : List Variable) (associations : List Association) (steps : List Step)
-    → with_booleans known (booleans_of (associations ++ associations_in steps)) ≡ with_booleans (with_booleans known (booleans_of associations)) (booleans_of (associations_in steps))
+    → with_booleans known (booleans_of (associations ++ associations_in steps))
+    ≡ with_booleans (with_booleans known (booleans_of associations)) (booleans_of (associations_in steps))
 with_step known associations steps =
     ap (with_booleans known) (filter_map-append (λ association. boolean_of association.target) associations (associations_in steps))
     ∙ fold-append (insert_key same_variable) known (booleans_of associations) (booleans_of (associations_in steps))
@@ -39,7 +41,8 @@ bool_cases true = inl refl
 bool_cases false = inr refl
 
 -- a filter after a weaker one
-filter-weaker : (p q : Variable → Bool) (vs : List Variable) → ((v : Variable) → q v ≡ false → p v ≡ false) → filter p (filter q vs) ≡ filter p vs
+filter-weaker : (p q : Variable → Bool) (vs : List Variable) → ((v : Variable) → q v ≡ false → p v ≡ false)
+    → filter p (filter q vs) ≡ filter p vs
 filter-weaker p q [] w = refl
 filter-weaker p q (v ∷ vs) w = elim (bool_cases (q v)) [
   | inl e ↦ rw e (ap (λ r. cond (p v) (v ∷ r) r) (filter-weaker p q vs w))
@@ -82,7 +85,8 @@ or_assoc false y z = refl
 
 known-append : (known : List Variable) (v o : Variable) → is_known (known ++ v ∷ []) o ≡ (is_known known o || same_variable o v)
 known-append [] v o = or_false (same_variable o v)
-known-append (k ∷ known) v o = ap (λ r. same_variable o k || r) (known-append known v o) ∙ or_assoc (same_variable o k) (is_known known o) (same_variable o v)
+known-append (k ∷ known) v o = ap (λ r. same_variable o k || r) (known-append known v o)
+    ∙ or_assoc (same_variable o k) (is_known known o) (same_variable o v)
 
 new_and : (x y : Bool) → not (x || y) ≡ (not x && not y)
 new_and true y = refl
@@ -99,13 +103,15 @@ known_is known [] = sym (append-nil known)
 known_is known (v ∷ vs) = elim (bool_cases (is_known known v)) [
   | inl e ↦ (
       let weaker : filter (new_to known) (filter (other_than v) (distinct vs)) ≡ filter (new_to known) (distinct vs) =
-      filter-weaker (new_to known) (other_than v) (distinct vs) (λ o off. ap not (known_same known o v (not_false (same_variable o v) off) ∙ e)) in
+      filter-weaker (new_to known) (other_than v) (distinct vs)
+      (λ o off. ap not (known_same known o v (not_false (same_variable o v) off) ∙ e)) in
       rw e (known_is known vs ∙ ap (λ r. known ++ r) (sym weaker)))
   | inr e ↦ (
       let split : filter (new_to (known ++ v ∷ [])) (distinct vs) ≡ filter (new_to known) (filter (other_than v) (distinct vs)) =
       filter-both (new_to known) (other_than v) (new_to (known ++ v ∷ [])) (distinct vs)
       (λ o. ap not (known-append known v o) ∙ new_and (is_known known o) (same_variable o v)) in
-      rw e (known_is (known ++ v ∷ []) vs ∙ ap (λ r. (known ++ v ∷ []) ++ r) split ∙ append_assoc known (v ∷ []) (filter (new_to known) (filter (other_than v) (distinct vs)))))
+      rw e (known_is (known ++ v ∷ []) vs ∙ ap (λ r. (known ++ v ∷ []) ++ r) split
+      ∙ append_assoc known (v ∷ []) (filter (new_to known) (filter (other_than v) (distinct vs)))))
 ]
 
 filter-all : (p : Variable → Bool) (vs : List Variable) → ((v : Variable) → p v ≡ true) → filter p vs ≡ vs
@@ -132,17 +138,26 @@ booleans_short : (associations : List Association) → length (booleans_of assoc
 booleans_short [] = omega arith
 booleans_short (a ∷ associations) = by (boolean_of a.target) (booleans_short associations)
   where
-    by : (o : Option Variable) → length (booleans_of associations) ≤ length associations → length (cons_option o (booleans_of associations)) ≤ suc (length associations)
+    by : (o : Option Variable) → length (booleans_of associations) ≤ length associations
+        → length (cons_option o (booleans_of associations)) ≤ suc (length associations)
     by None rest = omega arith
     by (Some v) rest = omega arith
 
-pub booleans_few : (steps : List Step) → length (distinct (booleans_of (associations_in steps))) ≤ sum_by (λ step. length step.associations) steps
+pub booleans_few : (steps : List Step)
+    → length (distinct (booleans_of (associations_in steps))) ≤ sum_by (λ step. length step.associations) steps
 booleans_few steps =
-    omega (arith, distinct_short (booleans_of (associations_in steps)), booleans_short (associations_in steps), length-flat_map (λ (step : Step). step.associations) steps)
+    omega (
+      arith,
+      distinct_short (booleans_of (associations_in steps)),
+      booleans_short (associations_in steps),
+      length-flat_map
+          (λ (step : Step). step.associations) steps,
+    )
 
 -- ---- all actions
 
 pub listed_long : (booleans : List Variable) (n : ℕ) → length (listed booleans n) ≡ length booleans + n
 listed_long booleans n =
     length-append (map (λ v. target.Boolean v) booleans) (declared_actions n)
-    ∙ (λ i. length-map booleans (λ v. target.Boolean v) i + length-map-range_with_len (λ (k : ℕ). let id : ActionId = record { 0 = k } in target.Declared id) 0 n i)
+    ∙ (λ i. length-map booleans (λ v. target.Boolean v) i + length-map-range_with_len
+    (λ (k : ℕ). let id : ActionId = record { 0 = k } in target.Declared id) 0 n i)

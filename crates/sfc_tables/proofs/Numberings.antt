@@ -21,7 +21,8 @@ Pair = StepId × Association
 abbrev with_step : StepId → Association → Pair
 with_step s association = (s, association)
 
-pub numbered-append : (actions : List Target) (n : ℕ) (xs ys : List Pair) → numbered actions n (xs ++ ys) ≡ numbered actions n xs ++ numbered actions (n + length xs) ys
+pub numbered-append : (actions : List Target) (n : ℕ) (xs ys : List Pair)
+    → numbered actions n (xs ++ ys) ≡ numbered actions n xs ++ numbered actions (n + length xs) ys
 numbered-append actions n [] ys = let e : n ≡ n + 0 = omega arith in ap (λ k. numbered actions k ys) e
 numbered-append actions n (x ∷ xs) ys =
     let e : suc n + length xs ≡ n + suc (length xs) = omega arith in
@@ -40,15 +41,21 @@ length-in_text s (step ∷ steps) =
     ∙ (λ i. length-map step.associations (with_step id) i + length-in_text (suc s) steps i)
     ∙ sym (sum_by-cons (λ (step : Step). length step.associations) step steps)
 
-pub numbers_rise : (actions : List Target) (n : ℕ) (xs : List Pair) (k : ℕ) (d : StepAction) → k < length (numbered actions n xs) → (get_or (numbered actions n xs) k d).number.0 ≡ n + k
+pub numbers_rise : (actions : List Target) (n : ℕ) (xs : List Pair) (k : ℕ) (d : StepAction) → k < length (numbered actions n xs)
+    → (get_or (numbered actions n xs) k d).number.0 ≡ n + k
 numbers_rise actions n [] k d lt = absurd (omega arith)
 numbers_rise actions n (x ∷ xs) zero d lt = omega arith
 numbers_rise actions n (x ∷ xs) (suc k) d lt = let rest = numbers_rise actions (suc n) xs k d (omega arith) in omega arith
 
 -- one step more
-pub next_step : (actions : List Target) (done : List StepAction) (s : ℕ) (steps : List Step) (step : Step) → s < length steps → step ≡ get_or steps s step
-    → (done ++ numbered actions (length done) (map (λ association. let id : StepId = record { 0 = s } in (id, association)) step.associations))
-    ++ numbered actions (length (done ++ numbered actions (length done) (map (λ association. let id : StepId = record { 0 = s } in (id, association)) step.associations))) (in_text (s + 1) (drop (s + 1) steps))
+pub next_step : (actions : List Target) (done : List StepAction) (s : ℕ) (steps : List Step) (step : Step) → s < length steps
+    → step ≡ get_or steps s step
+    → (done ++ numbered actions (length done)
+    (map (λ association. let id : StepId = record { 0 = s } in (id, association)) step.associations))
+    ++ numbered actions (length
+    (done ++ numbered actions (length done)
+    (map (λ association. let id : StepId = record { 0 = s } in (id, association)) step.associations)))
+    (in_text (s + 1) (drop (s + 1) steps))
     ≡ done ++ numbered actions (length done) (in_text s (drop s steps))
 next_step actions done s steps step lt is =
     let id : StepId = record { 0 = s } in
@@ -56,7 +63,8 @@ next_step actions done s steps step lt is =
     let made = numbered actions (length done) block in
     let next : drop s steps ≡ step ∷ drop (s + 1) steps = rw (← is) at (drop_more steps s step lt) in
     let one : s + 1 ≡ suc s = omega arith in
-    let long : length (done ++ made) ≡ length done + length block = length-append done made ∙ ap (λ k. length done + k) (length-numbered actions (length done) block) in
+    let long : length (done ++ made) ≡ length done + length block = length-append done made
+    ∙ ap (λ k. length done + k) (length-numbered actions (length done) block) in
     let both = numbered-append actions (length done) block (in_text (suc s) (drop (s + 1) steps)) in
     append_assoc done made (numbered actions (length (done ++ made)) (in_text (s + 1) (drop (s + 1) steps)))
     ∙ (λ i. done ++ (made ++ numbered actions (long i) (in_text (one i) (drop (s + 1) steps))))
@@ -74,22 +82,27 @@ rising_cons x xs all up (suc i) (suc j) d le lt = up i j d (omega arith) (omega 
 abbrev step_of : Pair → ℕ
 step_of pair = pair.0.0
 
-block_from : (s : ℕ) (block : List Association) (more : List Pair) → All (λ y. s ≤ y) (map step_of more) → All (λ y. s ≤ y) (map step_of (map (with_step record { 0 = s }) block ++ more))
+block_from : (s : ℕ) (block : List Association) (more : List Pair) → All (λ y. s ≤ y) (map step_of more)
+    → All (λ y. s ≤ y) (map step_of (map (with_step record { 0 = s }) block ++ more))
 block_from s [] more all = all
-block_from s (a ∷ block) more all = All-cons (λ y. s ≤ y) s (map step_of (map (with_step record { 0 = s }) block ++ more)) (omega arith) (block_from s block more all)
+block_from s (a ∷ block) more all =
+    All-cons (λ y. s ≤ y) s (map step_of (map (with_step record { 0 = s }) block ++ more)) (omega arith) (block_from s block more all)
 
-block_rises : (s : ℕ) (block : List Association) (more : List Pair) → All (λ y. s ≤ y) (map step_of more) → IsNonDecreasing (map step_of more)
+block_rises : (s : ℕ) (block : List Association) (more : List Pair) → All (λ y. s ≤ y) (map step_of more)
+    → IsNonDecreasing (map step_of more)
     → IsNonDecreasing (map step_of (map (with_step record { 0 = s }) block ++ more))
 block_rises s [] more all up = up
 block_rises s (a ∷ block) more all up =
-    rising_cons s (map step_of (map (with_step record { 0 = s }) block ++ more)) (block_from s block more all) (block_rises s block more all up)
+    rising_cons s (map step_of (map (with_step record { 0 = s }) block ++ more)) (block_from s block more all)
+    (block_rises s block more all up)
 
 weaker : (s : ℕ) (xs : List ℕ) → All (λ y. suc s ≤ y) xs → All (λ y. s ≤ y) xs
 weaker s xs all k d lt = let h = all k d lt in omega arith
 
 text_from : (s : ℕ) (steps : List Step) → All (λ y. s ≤ y) (map step_of (in_text s steps))
 text_from s [] = All-nil (λ y. s ≤ y)
-text_from s (step ∷ steps) = block_from s step.associations (in_text (suc s) steps) (weaker s (map step_of (in_text (suc s) steps)) (text_from (suc s) steps))
+text_from s (step ∷ steps) =
+    block_from s step.associations (in_text (suc s) steps) (weaker s (map step_of (in_text (suc s) steps)) (text_from (suc s) steps))
 
 nothing_rises : IsNonDecreasing []
 nothing_rises i j d le lt = absurd (omega arith)
@@ -97,7 +110,8 @@ nothing_rises i j d le lt = absurd (omega arith)
 text_rises : (s : ℕ) (steps : List Step) → IsNonDecreasing (map step_of (in_text s steps))
 text_rises s [] = nothing_rises
 text_rises s (step ∷ steps) =
-    block_rises s step.associations (in_text (suc s) steps) (weaker s (map step_of (in_text (suc s) steps)) (text_from (suc s) steps)) (text_rises (suc s) steps)
+    block_rises s step.associations (in_text (suc s) steps) (weaker s (map step_of (in_text (suc s) steps)) (text_from (suc s) steps))
+    (text_rises (suc s) steps)
 
 steps_numbered : (actions : List Target) (n : ℕ) (xs : List Pair) → map (λ m. m.step.0) (numbered actions n xs) ≡ map step_of xs
 steps_numbered actions n [] = refl
@@ -128,7 +142,9 @@ steps_rise actions steps =
 -- ---- how many are left
 
 pub steps_left : (steps : List Step) (s : ℕ) (step : Step) → s < length steps → step ≡ get_or steps s step
-    → length step.associations + sum_by (λ (x : Step). length x.associations) (drop (s + 1) steps) ≡ sum_by (λ (x : Step). length x.associations) (drop s steps)
+    → length step.associations + sum_by (λ (x : Step). length x.associations) (drop (s + 1) steps)
+    ≡ sum_by (λ (x : Step). length x.associations) (drop s steps)
 steps_left steps s step lt is =
     let next : drop s steps ≡ step ∷ drop (s + 1) steps = rw (← is) at (drop_more steps s step lt) in
-    sym (ap (sum_by (λ (x : Step). length x.associations)) next ∙ sum_by-cons (λ (x : Step). length x.associations) step (drop (s + 1) steps))
+    sym (ap (sum_by (λ (x : Step). length x.associations)) next
+    ∙ sum_by-cons (λ (x : Step). length x.associations) step (drop (s + 1) steps))

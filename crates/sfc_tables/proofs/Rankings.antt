@@ -1,5 +1,6 @@
 -- Pairs of a key and a place, sorted, give the rank order.
-use Rattle.std.proofs.Common.{◌≡◌, ℕ, suc, zero, ◌+◌, ◌<◌, ◌≤◌, ◌==◌, Bool, false, List, [], ◌∷◌, ◌++◌, length, get_or, ◌∙◌, ap, refl, sym, inl, inr, arith, subst}
+use Rattle.std.proofs.Common.{◌≡◌, ℕ, suc, zero, ◌+◌, ◌<◌, ◌≤◌, ◌==◌, Bool, false, List, []}
+use Rattle.std.proofs.Common.{◌∷◌, ◌++◌, length, get_or, ◌∙◌, ap, refl, sym, inl, inr, arith, subst}
 use mathlib.Core.Logic.{◌⊎◌}
 use Rattle.std.specs.Prelude.{map, All, Option, None, nat_eq}
 use Rattle.std.specs.Ordering.{is_lt, nat_cmp, ordering_then}
@@ -55,8 +56,10 @@ keyed before [] = All-nil (Keyed (before ++ []))
 keyed before (p ∷ priorities) =
     let e : (before ++ p ∷ []) ++ priorities ≡ before ++ p ∷ priorities = append_assoc before (p ∷ []) priorities in
     let n : length (before ++ p ∷ []) ≡ length before + 1 = omega (arith, length-append before (p ∷ [])) in
-    let rest : All (Keyed (before ++ p ∷ priorities)) (pairs (length before + 1) priorities) = rw (e, n) at (keyed (before ++ p ∷ []) priorities) in
-    All-cons (Keyed (before ++ p ∷ priorities)) (key p, length before) (pairs (length before + 1) priorities) (rw (get_or_at before p priorities None (length before) refl) refl) rest
+    let rest : All (Keyed (before ++ p ∷ priorities)) (pairs (length before + 1) priorities) =
+    rw (e, n) at (keyed (before ++ p ∷ []) priorities) in
+    All-cons (Keyed (before ++ p ∷ priorities)) (key p, length before) (pairs (length before + 1) priorities)
+    (rw (get_or_at before p priorities None (length before) refl) refl) rest
 
 far : (j i n : ℕ) → j < i → AllByRecursion (λ y. (j == y) ≡ false) (range_with_len i n)
 far j i zero lt = tt
@@ -74,12 +77,15 @@ numbers_back : (xs : List ℕ) → map number (map id_of xs) ≡ xs
 numbers_back [] = refl
 numbers_back (x ∷ xs) = ap (λ r. x ∷ r) (numbers_back xs)
 
-module _ (priorities : List (Option ℕ)) (xs : List (ℕ × ℕ)) (order : List TransitionId) (moved : IsPermutation (pairs 0 priorities) xs) (up : IsSortedBy below xs) (e : order ≡ map place_of xs) where
+module _ (priorities : List (Option ℕ)) (xs : List (ℕ × ℕ)) (order : List TransitionId) (moved : IsPermutation (pairs 0 priorities) xs)
+    (up : IsSortedBy below xs) (e : order ≡ map place_of xs) where
   same_places : IsPermutation (transitions_to (length priorities)) order
-  same_places = subst (IsPermutation (transitions_to (length priorities))) (sym e) (rw (places-pairs 0 priorities) at (IsPermutation-map place_of (pairs 0 priorities) xs moved))
+  same_places = subst (IsPermutation (transitions_to (length priorities))) (sym e)
+      (rw (places-pairs 0 priorities) at (IsPermutation-map place_of (pairs 0 priorities) xs moved))
 
   numbers : IsPermutation (range_with_len 0 (length priorities)) (map number order)
-  numbers = rw (numbers_back (range_with_len 0 (length priorities))) at (IsPermutation-map number (transitions_to (length priorities)) order same_places)
+  numbers = rw (numbers_back (range_with_len 0 (length priorities))) at
+      (IsPermutation-map number (transitions_to (length priorities)) order same_places)
 
   in_order : (i j : ℕ) (d : TransitionId) → i < j → j < length order → RanksBefore priorities (get_or order i d) (get_or order j d)
   in_order i j d lt within =
@@ -93,15 +99,21 @@ module _ (priorities : List (Option ℕ)) (xs : List (ℕ × ℕ)) (order : List
       let q : y.0 ≡ key (get_or priorities y.1 None) = All-get_or (Keyed priorities) xs j (0, 0) (omega arith) all in
       let long : length (map number order) ≡ length order = length-map order number in
       let apart : nat_eq (get_or (map number order) i 0) (get_or (map number order) j 0) ≡ false =
-      apart_from_distinct nat_eq (map number order) i j 0 (IsDistinct-IsPermutation nat_eq flips (range_with_len 0 (length priorities)) (map number order) numbers (distinct 0 (length priorities))) lt (omega arith) in
-      let later : below y x ≡ false = sorted_far below (ranks_by (then_total (on_total (λ t. t.0) nat_cmp_total) (on_total (λ t. t.1) nat_cmp_total)) (λ t. t)) xs up i j (0, 0) (omega arith) (omega arith) in
+      apart_from_distinct nat_eq (map number order) i j 0
+      (IsDistinct-IsPermutation nat_eq flips (range_with_len 0 (length priorities)) (map number order) numbers
+      (distinct 0 (length priorities))) lt (omega arith) in
+      let later : below y x ≡ false =
+      sorted_far below (ranks_by (then_total (on_total (λ t. t.0) nat_cmp_total) (on_total (λ t. t.1) nat_cmp_total)) (λ t. t))
+      xs up i j (0, 0) (omega arith) (omega arith) in
       rw (a, b) (elim (ordered x y later) [
         | inl less ↦ inl (omega arith)
         | inr same ↦ inr (
           sym p ∙ same.0 ∙ q,
           elim (cases_lt x.1 y.1) [
             | inl less ↦ less
-            | inr ge ↦ absurd (eqb-false x.1 y.1 (rw (get_or-map number order i d 0 (omega arith), get_or-map number order j d 0 (omega arith), a, b) at apart) (omega (arith, same.1)))
+            | inr ge ↦ absurd (eqb-false x.1 y.1
+                (rw (get_or-map number order i d 0 (omega arith), get_or-map number order j d 0 (omega arith), a, b) at apart)
+                (omega (arith, same.1)))
           ],
         )
       ])

@@ -2,12 +2,16 @@
 use Rattle.std.specs.Prelude.{ℕ, ◌≡◌, ◌<◌, ◌^◌, ◌⊎◌, List, length, map, slice_index_or, Option, Some, None, AllPairs}
 use Rattle.std.specs.List.{range_with_len}
 use Rattle.std.specs.List.Sorted.{IsPermutation}
+use Rattle.sfc_tables.specs.declared.chart.Transition.{Transition}
 use Rattle.sfc_tables.specs.declared.ids.TransitionId.{TransitionId}
 
 -- a transition without a priority ranks after every priority
 abbrev pub key : Option ℕ → ℕ
 key None = 2 ^ 32
 key (Some p) = p
+
+abbrev pub priorities_of : List Transition → List (Option ℕ)
+priorities_of transitions = map (λ transition. transition.priority) transitions
 
 -- transition a ranks before b: by its priority, and where these are alike by its place in the text
 abbrev pub RanksBefore : List (Option ℕ) → TransitionId → TransitionId → Type 0

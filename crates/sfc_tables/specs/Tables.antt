@@ -10,7 +10,7 @@ use Rattle.sfc_tables.specs.declared.chart.Transition.{Transition}
 use Rattle.sfc_tables.specs.declared.ids.TransitionId.{TransitionId}
 use Rattle.sfc_tables.specs.declared.step_action.StepAction.{StepAction}
 use Rattle.sfc_tables.specs.Actions.{actions_of, number_of}
-use Rattle.sfc_tables.specs.Ranks.{IsRankOrder, transitions_to}
+use Rattle.sfc_tables.specs.Ranks.{priorities_of, IsRankOrder, transitions_to}
 
 -- the steps before and after a transition, in text order
 pub record Sides : Type 0 where
@@ -33,16 +33,25 @@ pub record Tabled : Type 0 where
   pub actions : List Target
   pub associations : List StepAction
 
+-- the associations of a step, with that step
+abbrev pub at_step : StepId → List Association → List (StepId × Association)
+at_step step associations = map (λ association. (step, association)) associations
+
 -- the associations in text order, each with its step, where the first step is step s
 abbrev pub in_text : ℕ → List Step → List (StepId × Association)
 in_text s [] = []
-in_text s (step ∷ steps) = map (λ association. let id : StepId = record { 0 = s } in (id, association)) step.associations ++ in_text (suc s) steps
+in_text s (step ∷ steps) = at_step record { 0 = s } step.associations ++ in_text (suc s) steps
 
 -- these associations by the numbers of their actions, where the first has number n
 abbrev pub numbered : List Target → ℕ → List (StepId × Association) → List StepAction
 numbered actions n [] = []
 numbered actions n (pair ∷ pairs) =
-    record { number = record { 0 = n }; step = pair.0; action = number_of actions pair.1.target; qualifier = pair.1.qualifier } ∷ numbered actions (suc n) pairs
+    record {
+      number = record { 0 = n };
+      step = pair.0;
+      action = number_of actions pair.1.target;
+      qualifier = pair.1.qualifier;
+    } ∷ numbered actions (suc n) pairs
 
 abbrev pub associations_of : Chart → List StepAction
 associations_of chart = numbered (actions_of chart) 0 (in_text 0 chart.steps)
@@ -50,7 +59,7 @@ associations_of chart = numbered (actions_of chart) 0 (in_text 0 chart.steps)
 pub record IsTablesOf (chart : Chart) (tables : Tabled) : Type 0 where
   pub initial : tables.initial ≡ map (λ step. step.is_initial) chart.steps
   pub sides : tables.sides ≡ map sides_of chart.transitions
-  pub ranked : IsRankOrder (map (λ transition. transition.priority) chart.transitions) tables.ranked
+  pub ranked : IsRankOrder (priorities_of chart.transitions) tables.ranked
   pub actions : tables.actions ≡ actions_of chart
   pub associations : tables.associations ≡ associations_of chart
 

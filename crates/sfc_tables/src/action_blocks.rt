@@ -16,19 +16,19 @@ pub struct ActionBlocks {
 }
 
 impl Model for ActionBlocks {
-    ghost use Rattle.sfc_tables.specs.Private.Blocks.{Blocks, IsGrouped};
+    ghost use Rattle.sfc_tables.specs.Private.Blocks.{Blocks, blocks_of, IsGrouped};
 
     ghost Value = { Blocks };
 
-    ghost view = { λ blocks. record { steps = blocks.steps; actions = blocks.actions; associations = blocks.associations.items } };
+    ghost view = { λ blocks. blocks_of blocks.steps blocks.actions blocks.associations.items };
 
-    ghost invariant = { λ blocks. IsGrouped (record { steps = blocks.steps; actions = blocks.actions; associations = blocks.associations.items })
+    ghost invariant = { λ blocks. IsGrouped (blocks_of blocks.steps blocks.actions blocks.associations.items)
         blocks.step_starts.items blocks.by_action.items blocks.action_starts.items };
 }
 
-ghost use Rattle.std.specs.Prelude.{◌≡◌, ◌<◌, ◌≤◌, ◌+◌, ◌++◌, All, map, length, sum_by, IfOk, OnOk};
-ghost use Rattle.sfc_tables.specs.Actions.{number_of};
-ghost use Rattle.sfc_tables.specs.Tables.{in_text, numbered};
+ghost use Rattle.std.specs.Prelude.{◌≡◌, ◌<◌, ◌≤◌, ◌+◌, ◌++◌, All, length, sum_by, IfOk, OnOk};
+ghost use Rattle.sfc_tables.specs.Actions.{IsListedIn};
+ghost use Rattle.sfc_tables.specs.Tables.{at_step, in_text, numbered};
 
 use crate::association::Association;
 use crate::chart::{Chart, Step};
@@ -45,9 +45,9 @@ fn add_step(
     actions: &ActionList,
 ) -> Result<(), AllocError>
     requires room { length associations.old.items + length block.now ≤ 4096 }
-    requires targets { All (λ association. (number_of actions.now association.target).0 < length actions.now) block.now }
+    requires targets { All (IsListedIn actions.now) block.now }
     ensures { OnOk result (associations.new.items
-        ≡ associations.old.items ++ numbered actions.now (length associations.old.items) (map (λ association. (step, association)) block.now)) }
+        ≡ associations.old.items ++ numbered actions.now (length associations.old.items) (at_step step block.now)) }
 {
     for association in block {
         associations.push(StepAction {
@@ -68,7 +68,7 @@ fn list_associations(
 ) -> Result<Vec<StepAction>, AllocError>
     requires few_steps { length steps.now ≤ 1024 }
     requires few { sum_by (λ step. length step.associations) steps.now ≤ 4096 }
-    requires targets { All (λ step. All (λ association. (number_of actions.now association.target).0 < length actions.now) step.associations) steps.now }
+    requires targets { All (λ step. All (IsListedIn actions.now) step.associations) steps.now }
     ensures { IfOk result (λ associations. associations.items ≡ numbered actions.now 0 (in_text 0 steps.now)) }
 {
     let mut associations = Vec::new(alloc);
@@ -84,7 +84,7 @@ fn list_associations(
 }
 
 impl ActionBlocks {
-    ghost use Rattle.std.specs.Prelude.{◌≡◌, ◌<◌, ◌≤◌, ◌==◌, ◌^◌, ◌-◌, ℕ, filter, length, sum_by, slice_get, Some, IfOk};
+    ghost use Rattle.std.specs.Prelude.{◌≡◌, ◌<◌, ◌≤◌, ◌==◌, ◌^◌, ◌-◌, filter, length, IfOk};
     ghost use Rattle.sfc_tables.specs.Actions.{actions_of};
     ghost use Rattle.sfc_tables.specs.Chart.{Space, IsChart};
     ghost use Rattle.sfc_tables.specs.Tables.{associations_of};

@@ -22,7 +22,8 @@ ghost use Rattle.std.specs.Prelude.{◌≡◌};
 ghost use Rattle.std.specs.Hash as fed;
 ghost use Rattle.sfc_tables.specs.Actions.{same_variable};
 ghost use Rattle.sfc_tables.specs.Private.Hashing.{hashed};
-ghost use Rattle.sfc_tables.specs.Private.SameVariables.{same_variable_equiv, same_variable_partial_equiv, same_variable_input};
+ghost use Rattle.sfc_tables.specs.Private.SameVariables.{same_variable_equiv, same_variable_partial_equiv};
+ghost use Rattle.sfc_tables.specs.Private.SameVariables.{same_variable_input};
 
 impl ActionKey {
     /// The key of this variable.

@@ -1,8 +1,8 @@
 //! Associations in groups of one step or one action.
 
-ghost use Rattle.std.specs.Prelude.{◌≡◌, ◌≤◌, ◌^◌, ◌==◌, ℕ, map, filter, length, IfOk, IsPermutation};
+ghost use Rattle.std.specs.Prelude.{◌≡◌, ◌≤◌, ◌^◌, ℕ, map, length, IfOk, IsPermutation};
 ghost use Rattle.std.specs.List.Sorted.{IsNonDecreasing, IsNonDecreasingBy};
-ghost use Rattle.sfc_tables.specs.Private.Grouping.{first_places};
+ghost use Rattle.sfc_tables.specs.Private.Grouping.{first_places, with_action};
 
 use crate::step_action::StepAction;
 use std::alloc::{AllocError, Global};
@@ -25,8 +25,7 @@ pub fn actions_of(alloc: Global, members: &[StepAction]) -> Result<Vec<u16>, All
 pub fn by_action(alloc: Global, associations: &[StepAction]) -> Result<Vec<StepAction>, AllocError>
     ensures permutation { IfOk result (λ members. IsPermutation associations.now members.items) }
     ensures sorted { IfOk result (λ members. IsNonDecreasingBy (λ member. member.action.0) members.items) }
-    ensures groups { IfOk result (λ members. (k : ℕ)
-        → filter (λ member. member.action.0 == k) members.items ≡ filter (λ member. member.action.0 == k) associations.now) }
+    ensures groups { IfOk result (λ members. (k : ℕ) → with_action k members.items ≡ with_action k associations.now) }
 {
     let mut members = Vec::from_slice(alloc, associations)?;
     members.sort_by_key(|member| member.action.0)?;

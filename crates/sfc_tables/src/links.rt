@@ -37,7 +37,8 @@ impl Model for Links {
 
 // Appends the links of a transition, and tells where they lie.
 fn append(steps: &mut Vec<StepId>, transition: &Transition) -> Result<Range, AllocError>
-    ensures steps { OnOk result (steps.new.items ≡ (steps.old.items ++ transition.now.preceding) ++ transition.now.following) }
+    ensures steps { OnOk result (steps.new.items
+        ≡ (steps.old.items ++ transition.now.preceding) ++ transition.now.following) }
     ensures range { IfOk result (λ range. range ≡ record {
       start = length steps.old.items;
       middle = length steps.old.items + length transition.now.preceding;

@@ -1,7 +1,7 @@
 //! The rank of transitions.
 
-ghost use Rattle.std.specs.Prelude.{◌≡◌, ◌≤◌, length, map, IfOk};
-ghost use Rattle.sfc_tables.specs.Ranks.{key as rank_key, IsRankOrder};
+ghost use Rattle.std.specs.Prelude.{◌≡◌, ◌≤◌, length, IfOk};
+ghost use Rattle.sfc_tables.specs.Ranks.{key as rank_key, IsRankOrder, priorities_of};
 
 use crate::chart::Transition;
 use crate::ids::TransitionId;
@@ -23,7 +23,7 @@ pub fn rank_order(
     transitions: &[Transition],
 ) -> Result<Vec<TransitionId>, AllocError>
     requires { length transitions.now ≤ 2048 }
-    ensures { IfOk result (λ ranked. IsRankOrder (map (λ transition. transition.priority) transitions.now) ranked.items) }
+    ensures { IfOk result (λ ranked. IsRankOrder (priorities_of transitions.now) ranked.items) }
 {
     let mut keyed: Vec<(u64, u16)> = Vec::new(alloc);
     for (i, transition) in transitions.iter().enumerate() {

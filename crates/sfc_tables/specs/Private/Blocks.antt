@@ -11,6 +11,9 @@ pub record Blocks : Type 0 where
   pub actions : List Target
   pub associations : List StepAction
 
+abbrev pub blocks_of : ℕ → List Target → List StepAction → Blocks
+blocks_of steps actions associations = record { steps = steps; actions = actions; associations = associations }
+
 -- the associations lie in groups of one step, and besides in groups of one action
 pub record IsGrouped (blocks : Blocks) (step_starts : List ℕ) (members : List StepAction) (action_starts : List ℕ) : Type 0 where
   pub by_step : IsGrouping (λ association. association.step.0) blocks.steps blocks.associations blocks.associations step_starts

@@ -5,7 +5,10 @@ use Rattle.sfc_tables.specs.declared.links.Range.{Range}
 use Rattle.sfc_tables.specs.Tables.{Sides}
 
 abbrev pub sides_in : List StepId → Range → Sides
-sides_in steps range = record { preceding = slice_range steps range.start range.middle; following = slice_range steps range.middle range.end }
+sides_in steps range = record {
+  preceding = slice_range steps range.start range.middle;
+  following = slice_range steps range.middle range.end;
+}
 
 -- within a list of n steps
 pub record IsRange (n : ℕ) (range : Range) : Type 0 where

@@ -22,7 +22,14 @@ loop-s-preserved c =
     rw (c.in_ok-add_step.ensures, c.as_slice.ensures) record {
       rest = next_step actions done s steps step c.loop-s-test.true c.index-steps-s.is ∙ c.loop-s.invariant.rest;
       room =
-          omega (arith, length-append done (numbered actions (length done) block), length-numbered actions (length done) block, length-map step.associations pair, steps_left steps s step c.loop-s-test.true c.index-steps-s.is, c.loop-s.invariant.room);
+          omega (
+            arith,
+            length-append done (numbered actions (length done) block),
+            length-numbered actions (length done) block,
+            length-map step.associations pair,
+            steps_left steps s step c.loop-s-test.true c.index-steps-s.is,
+            c.loop-s.invariant.room,
+          );
     }
 
 pub add_step-requires : goal.add_step-requires
@@ -30,7 +37,8 @@ add_step-requires c =
     let step = c.index-steps-s.result in
     let actions = c.args.actions.now in
     let targets : All (λ (a : Association). (number_of actions a.target).0 < length actions) step.associations =
-    subst (λ (x : Step). All (λ (a : Association). (number_of actions a.target).0 < length actions) x.associations) (sym c.index-steps-s.is) (c.requires.targets c.loop-s.s step c.loop-s-test.true) in
+    subst (λ (x : Step). All (λ (a : Association). (number_of actions a.target).0 < length actions) x.associations)
+    (sym c.index-steps-s.is) (c.requires.targets c.loop-s.s step c.loop-s-test.true) in
     rw c.as_slice.ensures record {
       room = omega (arith, steps_left c.args.steps.now c.loop-s.s step c.loop-s-test.true c.index-steps-s.is, c.loop-s.invariant.room);
       targets = targets;

@@ -5,5 +5,6 @@ use Rattle.sfc_tables.proofs.action_list.boolean_actions.Given as goal
 
 abbrev pub invariant-loop-step : goal.invariant-loop-step
 invariant-loop-step l = record {
-  rest : with_booleans l.booleans.keys (booleans_of (associations_in (drop l.step-index l.steps))) ≡ with_booleans [] (booleans_of (associations_in l.steps));
+  rest : with_booleans l.booleans.keys (booleans_of (associations_in (drop l.step-index l.steps)))
+      ≡ with_booleans [] (booleans_of (associations_in l.steps));
 }

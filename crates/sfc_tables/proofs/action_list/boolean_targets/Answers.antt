@@ -16,5 +16,6 @@ loop-i-preserved c =
     record {
       rest =
           rw (c.in_ok-push.ensures.items, c.variable.ensures)
-          (append_assoc c.loop-i.targets.items (target.Boolean v ∷ []) (map (λ v. target.Boolean v) (drop (i + 1) keys)) ∙ rw next at c.loop-i.invariant.rest);
+          (append_assoc c.loop-i.targets.items (target.Boolean v ∷ []) (map (λ v. target.Boolean v) (drop (i + 1) keys))
+          ∙ rw next at c.loop-i.invariant.rest);
     }

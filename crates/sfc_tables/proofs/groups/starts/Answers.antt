@@ -13,7 +13,8 @@ loop-k-preserved c =
     let numbers = c.args.numbers.now in
     let i = c.partition_point.result in
     let point : IsPartitionPoint (λ y. nat_lt y k ≡ true) (λ y. nat_lt y k ≡ false) numbers i =
-    IsPartitionPoint-from_clause (λ y. nat_lt y k) numbers i c.partition_point.ensures.partitioned (IsPartitionedBy-ltb (λ y. y) numbers k c.requires.sorted) (λ a r f' called. search rules) in
+    IsPartitionPoint-from_clause (λ y. nat_lt y k) numbers i c.partition_point.ensures.partitioned
+    (IsPartitionedBy-ltb (λ y. y) numbers k c.requires.sorted) (λ a r f' called. search rules) in
     let first : first_from numbers k ≡ i = first_is numbers k i c.partition_point.ensures.bound point in
     record {
       done =

@@ -9,9 +9,11 @@ pub returns : goal.returns
 returns c =
     let ps : List (Option ℕ) = map (λ t. t.priority) c.args.transitions.now in
     let xs = c.sort_unstable.new.self.items in
-    let made : c.loop-i.keyed.items ≡ pairs 0 ps = rw (drop_all c.loop-i.i c.args.transitions.now (omega arith), append-nil c.loop-i.keyed.items) at c.loop-i.invariant.rest in
+    let made : c.loop-i.keyed.items ≡ pairs 0 ps =
+    rw (drop_all c.loop-i.i c.args.transitions.now (omega arith), append-nil c.loop-i.keyed.items) at c.loop-i.invariant.rest in
     let moved : IsPermutation (pairs 0 ps) xs = subst (λ l. IsPermutation l xs) made c.sort_unstable.ensures.permutation in
     let v : c.deref-pair-items.result.now ≡ xs = c.deref-pair-items.ensures.value in
     let e : c.loop-pair.ranked.items ≡ map place_of c.deref-pair-items.result.now =
-    rw (drop_all c.loop-pair.pair-index c.deref-pair-items.result.now (omega arith), append-nil c.loop-pair.ranked.items) at c.loop-pair.invariant.rest in
+    rw (drop_all c.loop-pair.pair-index c.deref-pair-items.result.now (omega arith), append-nil c.loop-pair.ranked.items)
+    at c.loop-pair.invariant.rest in
     rank_order_is ps xs c.loop-pair.ranked.items moved c.sort_unstable.ensures.sorted (e ∙ ap (λ l. map place_of l) v)

@@ -10,6 +10,7 @@ loop-transition-preserved c =
     let within = c.loop-transition.invariant.within in
     rw (c.in_ok-push.ensures.items, c.in_ok-range.ensures.steps, c.in_ok-range.ensures.range) record {
       shown =
-          shown_next steps ranges c.args.transitions.now c.loop-transition.transition-index t (omega arith) c.transition-item.is within c.loop-transition.invariant.shown;
+          shown_next steps ranges c.args.transitions.now c.loop-transition.transition-index t
+          (omega arith) c.transition-item.is within c.loop-transition.invariant.shown;
       within = appended_within steps t.preceding t.following ranges within;
     }

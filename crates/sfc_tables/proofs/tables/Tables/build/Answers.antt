@@ -9,11 +9,14 @@ use Rattle.sfc_tables.specs.Private.Blocks.{tabled}
 use Rattle.sfc_tables.proofs.Sound.{tables_sound}
 use Rattle.sfc_tables.proofs.tables.Tables.build.Goals as goal
 
-made : (c : goal.In_ok-blocks) → IsTablesOf c.args.chart.now (tabled c.in_ok-initial.initial.items c.in_ok-links.links c.in_ok-ranked.ranked.items c.in_ok-blocks.blocks)
+made : (c : goal.In_ok-blocks)
+    → IsTablesOf c.args.chart.now
+    (tabled c.in_ok-initial.initial.items c.in_ok-links.links c.in_ok-ranked.ranked.items c.in_ok-blocks.blocks)
 made c = record {
   initial = c.in_ok-initial.ensures ∙ ap (map (λ (step : Step). step.is_initial)) c.as_slice.ensures;
   sides = c.in_ok-links.ensures ∙ ap (map sides_of) c.as_slice-2.ensures;
-  ranked = subst (λ (ts : List Transition). IsRankOrder (map (λ (t : Transition). t.priority) ts) c.in_ok-ranked.ranked.items) c.as_slice-3.ensures c.in_ok-ranked.ensures;
+  ranked = subst (λ (ts : List Transition). IsRankOrder (map (λ (t : Transition). t.priority) ts) c.in_ok-ranked.ranked.items)
+      c.as_slice-3.ensures c.in_ok-ranked.ensures;
   actions = ap (λ blocks. blocks.actions) c.in_ok-blocks.ensures;
   associations = ap (λ blocks. blocks.associations) c.in_ok-blocks.ensures;
 }
@@ -25,7 +28,8 @@ invariant_of-result c = record {
       (tabled c.in_ok-initial.initial.items c.in_ok-links.links c.in_ok-ranked.ranked.items c.in_ok-blocks.blocks) (made c);
   steps =
       ap (λ blocks. blocks.steps) c.in_ok-blocks.ensures
-      ∙ sym (ap length (c.in_ok-initial.ensures ∙ ap (map (λ (step : Step). step.is_initial)) c.as_slice.ensures) ∙ length-map c.args.chart.now.steps (λ (step : Step). step.is_initial));
+      ∙ sym (ap length (c.in_ok-initial.ensures ∙ ap (map (λ (step : Step). step.is_initial)) c.as_slice.ensures)
+      ∙ length-map c.args.chart.now.steps (λ (step : Step). step.is_initial));
 }
 
 pub returns : goal.returns
