@@ -2,5 +2,12 @@
 
 -- what holds of each chart that a plant can hold
 pub mod Chart
+-- the order in which transitions are considered
+pub mod Ranks
+-- the actions of a chart and their numbers
+pub mod Actions
+-- the tables of a chart
+pub mod Tables
 -- What private clauses cite.
 pub mod Codes
+pub mod Private

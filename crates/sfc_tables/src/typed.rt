@@ -12,7 +12,6 @@ pub struct Condition {
 
 impl Model for Condition {
     ghost use Rattle.sfc_expr.specs.Trees.{Expression, expression_of};
-
     ghost use Rattle.std.specs.Prelude.{List};
     ghost use Rattle.std.specs.Coded.{codes, code_by};
     ghost use Rattle.sfc_tables.specs.Codes.Postfix.{Node, postfix, from_postfix, from_postfix_back};
@@ -32,7 +31,6 @@ pub struct Statements {
 
 impl Model for Statements {
     ghost use Rattle.sfc_expr.specs.Trees.{Body, body_of};
-
     ghost use Rattle.std.specs.Prelude.{List};
     ghost use Rattle.std.specs.Coded.{codes, code_by};
     ghost use Rattle.sfc_tables.specs.Codes.Bodies.{Mark, marks, from_marks, from_marks_back};

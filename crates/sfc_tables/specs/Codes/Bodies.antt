@@ -1,7 +1,7 @@
 -- Typed statements as lists, parts before what is made of them.
 use Rattle.std.specs.Prelude.{◌≡◌, List, [], ◌∷◌, refl}
 use Rattle.sfc_expr.specs.declared.variable.Variable.{Variable}
-use Rattle.sfc_expr.specs.Trees.{Expression, Body, Nothing, Assign, If, Branches, NoBranch, When, Otherwise}
+use Rattle.sfc_expr.specs.Trees.{Body, Nothing, Assign, If, Branches, NoBranch, When, Otherwise}
 use Rattle.sfc_tables.specs.Codes.Postfix.{Node, postfix, from_postfix, from_postfix_back}
 
 pub data Mark : Type 0 where
@@ -57,11 +57,16 @@ mutual
       → built (branches_before bs rest) bodies branches ≡ built rest bodies (bs ∷ branches)
   branches_back NoBranch rest bodies branches = refl
   branches_back (When e b bs) rest bodies branches =
-      rw (body_back b (branches_before bs (AWhen (postfix e) ∷ rest)) bodies branches,
-          branches_back bs (AWhen (postfix e) ∷ rest) (b ∷ bodies) branches, from_postfix_back e) refl
+      rw (
+        body_back b (branches_before bs (AWhen (postfix e) ∷ rest)) bodies branches,
+        branches_back bs (AWhen (postfix e) ∷ rest) (b ∷ bodies) branches,
+        from_postfix_back e,
+      ) refl
   branches_back (Otherwise b bs) rest bodies branches =
-      rw (body_back b (branches_before bs (AnOtherwise ∷ rest)) bodies branches,
-          branches_back bs (AnOtherwise ∷ rest) (b ∷ bodies) branches) refl
+      rw (
+        body_back b (branches_before bs (AnOtherwise ∷ rest)) bodies branches,
+        branches_back bs (AnOtherwise ∷ rest) (b ∷ bodies) branches,
+      ) refl
 
 pub from_marks_back : (b : Body) → from_marks (marks b) ≡ b
 from_marks_back b = rw (body_back b [] [] []) refl

@@ -1,8 +1,7 @@
 -- Typed trees as lists, operands before what is made of them: so that a value that holds a tree can be told from another.
-use Rattle.std.specs.Prelude.{◌≡◌, List, [], ◌∷◌, refl, pos, false}
+use Rattle.std.specs.Prelude.{◌≡◌, List, [], ◌∷◌, refl}
 use Rattle.sfc_tokens.specs.declared.var_type.VarType.{VarType}
 use Rattle.sfc_expr.specs.declared.value.Value.{Value}
-use Rattle.sfc_expr.specs.declared.value.Value.TheVariants as value
 use Rattle.sfc_expr.specs.declared.operator.Operator.{Operator}
 use Rattle.sfc_expr.specs.declared.variable.Variable.{Variable}
 use Rattle.sfc_expr.specs.declared.variable.StepId.{StepId}

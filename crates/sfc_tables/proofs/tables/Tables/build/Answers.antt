@@ -1,0 +1,36 @@
+use Rattle.std.proofs.Common.{◌∙◌, ap, sym, length, subst, List}
+use Rattle.std.specs.Prelude.{map}
+use Rattle.std.proofs.lemmas.List.{length-map}
+use Rattle.sfc_tables.specs.declared.chart.Step.{Step}
+use Rattle.sfc_tables.specs.declared.chart.Transition.{Transition}
+use Rattle.sfc_tables.specs.Ranks.{IsRankOrder}
+use Rattle.sfc_tables.specs.Tables.{sides_of, IsTablesOf}
+use Rattle.sfc_tables.specs.Private.Blocks.{tabled}
+use Rattle.sfc_tables.proofs.Sound.{tables_sound}
+use Rattle.sfc_tables.proofs.tables.Tables.build.Goals as goal
+
+made : (c : goal.In_ok-blocks)
+    → IsTablesOf c.args.chart.now
+    (tabled c.in_ok-initial.initial.items c.in_ok-links.links c.in_ok-ranked.ranked.items c.in_ok-blocks.blocks)
+made c = record {
+  initial = c.in_ok-initial.ensures ∙ ap (map (λ (step : Step). step.is_initial)) c.as_slice.ensures;
+  sides = c.in_ok-links.ensures ∙ ap (map sides_of) c.as_slice-2.ensures;
+  ranked = subst (λ (ts : List Transition). IsRankOrder (map (λ (t : Transition). t.priority) ts) c.in_ok-ranked.ranked.items)
+      c.as_slice-3.ensures c.in_ok-ranked.ensures;
+  actions = ap (λ blocks. blocks.actions) c.in_ok-blocks.ensures;
+  associations = ap (λ blocks. blocks.associations) c.in_ok-blocks.ensures;
+}
+
+pub invariant_of-result : goal.invariant_of-result
+invariant_of-result c = record {
+  tables =
+      tables_sound c.requires.chart.0 c.args.chart.now c.requires.chart.1 c.requires.declared
+      (tabled c.in_ok-initial.initial.items c.in_ok-links.links c.in_ok-ranked.ranked.items c.in_ok-blocks.blocks) (made c);
+  steps =
+      ap (λ blocks. blocks.steps) c.in_ok-blocks.ensures
+      ∙ sym (ap length (c.in_ok-initial.ensures ∙ ap (map (λ (step : Step). step.is_initial)) c.as_slice.ensures)
+      ∙ length-map c.args.chart.now.steps (λ (step : Step). step.is_initial));
+}
+
+pub returns : goal.returns
+returns c = made c

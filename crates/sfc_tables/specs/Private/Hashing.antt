@@ -1,0 +1,9 @@
+-- What a hash of a variable is made of.
+use Rattle.std.specs.Prelude.{ℕ, ◌+◌, ◌*◌}
+use Rattle.sfc_expr.specs.declared.variable.Variable.{Variable}
+use Rattle.sfc_expr.specs.declared.variable.Variable.TheVariants.{Global, Local}
+
+-- even for global variables, odd for local ones
+abbrev pub hashed : Variable → ℕ
+hashed (Global id) = id.0 * 2
+hashed (Local id) = id.0 * 2 + 1

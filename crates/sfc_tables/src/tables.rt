@@ -1,0 +1,170 @@
+//! The tables of a chart.
+
+use crate::action_blocks::ActionBlocks;
+use crate::ids::TransitionId;
+use crate::links::Links;
+use std::marker::Model;
+
+/// What a scan goes through, made of a chart once: nothing that it shows takes memory. Clauses see what it shows.
+#[derive(Debug, Drop)]
+pub struct Tables {
+    initial: Vec<bool>,
+    links: Links,
+    ranked: Vec<TransitionId>,
+    blocks: ActionBlocks,
+}
+
+impl Model for Tables {
+    ghost use Rattle.sfc_tables.specs.Tables.{Tabled};
+    ghost use Rattle.sfc_tables.specs.Private.Blocks.{tabled, AreKept};
+
+    ghost Value = { Tabled };
+
+    ghost view = { λ tables. tabled tables.initial.items tables.links tables.ranked.items tables.blocks };
+
+    ghost invariant = { λ tables. AreKept tables.initial.items tables.links tables.ranked.items tables.blocks };
+}
+
+ghost use Rattle.std.specs.Prelude.{◌≡◌, ◌<◌, ◌≤◌, ◌==◌, ◌^◌, ◌-◌, map, filter, length, slice_get, Some, IfOk};
+ghost use Rattle.sfc_flags.specs.Flags.{flag};
+ghost use Rattle.sfc_tables.specs.Actions.{number_of};
+ghost use Rattle.sfc_tables.specs.Chart.{Space, IsChart};
+ghost use Rattle.sfc_tables.specs.Tables.{sides_at, IsTablesOf, AreTables};
+
+use crate::association::Target;
+use crate::chart::{Chart, Step};
+use crate::ids::ActionNumber;
+use crate::rank;
+use crate::step_action::StepAction;
+use sfc_expr::variable::StepId;
+use std::alloc::{AllocError, Global};
+
+// Which steps are initial.
+fn initial_steps(alloc: Global, steps: &[Step]) -> Result<Vec<bool>, AllocError>
+    ensures { IfOk result (λ initial. initial.items ≡ map (λ step. step.is_initial) steps.now) }
+{
+    steps.iter().map(|step| step.is_initial).collect(alloc)
+}
+
+impl Tables {
+    /// The tables of this chart. The one error is that memory was refused.
+    pub fn build(alloc: Global, chart: &Chart) -> Result<Tables, AllocError>
+        requires chart { (space : Space) × IsChart space chart.now }
+        requires declared { length chart.now.actions ≤ 2 ^ 16 - 4096 }
+        ensures { IfOk result (λ tables. IsTablesOf chart.now tables) }
+    {
+        let initial = initial_steps(alloc, chart.steps.as_slice())?;
+        let links = Links::build(alloc, chart.transitions.as_slice())?;
+        let ranked = rank::rank_order(alloc, chart.transitions.as_slice())?;
+        let blocks = ActionBlocks::build(alloc, chart)?;
+        Ok(Tables {
+            initial,
+            links,
+            ranked,
+            blocks,
+        })
+    }
+
+    /// The number of steps, at most 1,024.
+    pub fn steps(&self) -> usize
+        ensures count { result ≡ length self.now.initial }
+        ensures tables { AreTables self.now }
+    {
+        self.initial.len()
+    }
+
+    /// The number of transitions, at most 2,048.
+    pub fn transitions(&self) -> usize
+        ensures count { result ≡ length self.now.sides }
+        ensures limit { result ≤ 2048 }
+    {
+        self.links.len()
+    }
+
+    /// The number of associations, at most 4,096.
+    pub fn associations(&self) -> usize
+        ensures count { result ≡ length self.now.associations }
+        ensures limit { result ≤ 4096 }
+    {
+        self.blocks.associations().len()
+    }
+
+    /// The number of actions, at most 65,536.
+    pub fn actions(&self) -> usize
+        ensures count { result ≡ length self.now.actions }
+        ensures limit { result ≤ 2 ^ 16 }
+    {
+        self.blocks.actions().len()
+    }
+
+    /// Whether this step is initial (2.6.2).
+    pub fn is_initial(&self, step: StepId) -> bool
+        requires { step.0 < length self.now.initial }
+        ensures { result ≡ flag self.now.initial step.0 }
+    {
+        self.initial[step.0 as usize]
+    }
+
+    /// The steps before this transition, in text order (2.6.3).
+    pub fn preceding(&self, transition: TransitionId) -> &[StepId]
+        requires { transition.0 < length self.now.sides }
+        ensures { result.now ≡ (sides_at self.now.sides transition).preceding }
+    {
+        self.links.preceding(transition)
+    }
+
+    /// The steps after this transition, in text order (2.6.3).
+    pub fn following(&self, transition: TransitionId) -> &[StepId]
+        requires { transition.0 < length self.now.sides }
+        ensures { result.now ≡ (sides_at self.now.sides transition).following }
+    {
+        self.links.following(transition)
+    }
+
+    /// All transitions in rank order: those of lower priority numbers first, then those without a number, and each time
+    /// in text order (2.6.5).
+    pub fn ranked(&self) -> &[TransitionId]
+        ensures { result.now ≡ self.now.ranked }
+    {
+        &self.ranked
+    }
+
+    /// The action of this number (2.6.4.1).
+    pub fn target(&self, action: ActionNumber) -> Target
+        requires { action.0 < length self.now.actions }
+        ensures { slice_get self.now.actions action.0 ≡ Some result }
+    {
+        self.blocks.actions().target(action)
+    }
+
+    /// The number of an action that is listed (2.6.4.1).
+    pub fn number(&self, target: Target) -> ActionNumber
+        requires { (number_of self.now.actions target).0 < length self.now.actions }
+        ensures { result ≡ number_of self.now.actions target }
+    {
+        self.blocks.actions().number(target)
+    }
+
+    /// All associations, in text order (2.6.4.3).
+    pub fn step_actions(&self) -> &[StepAction]
+        ensures { result.now ≡ self.now.associations }
+    {
+        self.blocks.associations()
+    }
+
+    /// The associations of this step, in text order.
+    pub fn of_step(&self, step: StepId) -> &[StepAction]
+        requires { step.0 < length self.now.initial }
+        ensures { result.now ≡ filter (λ association. association.step.0 == step.0) self.now.associations }
+    {
+        self.blocks.of_step(step)
+    }
+
+    /// The associations of this action, in text order.
+    pub fn of_action(&self, action: ActionNumber) -> &[StepAction]
+        requires { action.0 < length self.now.actions }
+        ensures { result.now ≡ filter (λ association. association.action.0 == action.0) self.now.associations }
+    {
+        self.blocks.of_action(action)
+    }
+}
