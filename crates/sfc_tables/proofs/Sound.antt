@@ -16,7 +16,6 @@ use Rattle.sfc_tables.specs.Ranks.{transitions_to}
 use Rattle.sfc_tables.specs.Tables.{Sides, Tabled, sides_of, in_text, numbered}
 use Rattle.sfc_tables.specs.Tables.{associations_of, IsTablesOf, AreSides, IsStepAction, AreTables}
 use Rattle.sfc_tables.proofs.Found.{all_found}
-use Rattle.sfc_tables.proofs.Listings.{listed_long, booleans_few}
 use Rattle.sfc_tables.proofs.Numberings.{length-numbered, length-in_text, numbers_rise}
 
 abbrev Pair : Type 0
@@ -53,7 +52,7 @@ module _ (n : ℕ) (actions : List Target) where
       (All-map (IsPlaced n actions) pair step.associations (λ k d lt. record { step = omega arith; action = here k d lt }))
       (text_placed (suc s) steps (omega arith) (All-tail (λ (step : Step). All Listed step.associations) step steps all))
 
-module _ (space : Space) (chart : Chart) (sound : IsChart space chart) (declared : length chart.actions ≤ 2 ^ 16 - 4096)
+module _ (space : Space) (chart : Chart) (sound : IsChart space chart)
     (tables : Tabled) (made : IsTablesOf chart tables) where
   steps_long : length tables.initial ≡ length chart.steps
   steps_long = ap length made.initial ∙ length-map chart.steps (λ step. step.is_initial)
@@ -100,14 +99,5 @@ module _ (space : Space) (chart : Chart) (sound : IsChart space chart) (declared
           length-numbered (actions_of chart) 0 (in_text 0 chart.steps),
           length-in_text 0 chart.steps,
           sound.association_limit,
-        );
-    action_limit =
-        omega (
-          arith,
-          ap length made.actions,
-          listed_long (boolean_actions chart) (length chart.actions),
-          booleans_few chart.steps,
-          sound.association_limit,
-          declared,
         );
   }

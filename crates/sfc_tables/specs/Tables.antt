@@ -84,4 +84,3 @@ pub record AreTables (tables : Tabled) : Type 0 where
   pub step_limit : length tables.initial ≤ 1024
   pub transition_limit : length tables.sides ≤ 2048
   pub association_limit : length tables.associations ≤ 4096
-  pub action_limit : length tables.actions ≤ 2 ^ 16

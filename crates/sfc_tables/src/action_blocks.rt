@@ -92,7 +92,6 @@ impl ActionBlocks {
     /// The associations of this chart.
     pub fn build(alloc: Global, chart: &Chart) -> Result<ActionBlocks, AllocError>
         requires chart { (space : Space) × IsChart space chart.now }
-        requires declared { length chart.now.actions ≤ 2 ^ 16 - 4096 }
         ensures { IfOk result (λ blocks. blocks ≡ record {
           steps = length chart.now.steps;
           actions = actions_of chart.now;
@@ -147,7 +146,7 @@ impl ActionBlocks {
         requires { action.0 < length self.now.actions }
         ensures { result.now ≡ filter (λ association. association.action.0 == action.0) self.now.associations }
     {
-        let k = action.0 as usize;
+        let k = action.0;
         &self.by_action[self.action_starts[k]..self.action_starts[k + 1]]
     }
 }

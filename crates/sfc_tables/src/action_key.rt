@@ -60,22 +60,22 @@ impl Eq for ActionKey {
     ghost laws = { same_variable_equiv };
 }
 
-// A number that tells variables apart.
-fn hash_number(variable: Variable) -> u32
+// The place of a variable among its kind.
+fn hash_number(variable: Variable) -> usize
     ensures { result ≡ hashed variable }
 {
     match variable {
-        Variable::Global(id) => u32::from(id.0) * 2,
-        Variable::Local(id) => u32::from(id.0) * 2 + 1,
+        Variable::Global(id) => id.0,
+        Variable::Local(id) => id.0,
     }
 }
 
 impl Hash for ActionKey {
-    ghost hash_input = { λ key. fed.u32 (hashed key) };
+    ghost hash_input = { λ key. fed.usize (hashed key) };
 
     ghost respects_eq = { same_variable_input };
 
     fn hash<H: Hasher>(&self, state: &mut H) {
-        state.write_u32(hash_number(self.variable));
+        state.write_usize(hash_number(self.variable));
     }
 }

@@ -88,11 +88,10 @@ fn boolean_targets(alloc: Global, booleans: &IndexSet<ActionKey>) -> Result<Vec<
 
 // Lists the declared actions behind the others.
 fn add_declared(targets: &mut Vec<Target>, declared: usize) -> Result<(), AllocError>
-    requires { declared ≤ 2 ^ 16 }
     ensures { OnOk result (targets.new.items ≡ targets.old.items ++ declared_actions declared) }
 {
     for i in 0..declared {
-        targets.push(Target::Declared(ActionId(i as u16)))?;
+        targets.push(Target::Declared(ActionId(i)))?;
     }
     Ok(())
 }
@@ -104,7 +103,6 @@ impl ActionList {
     /// The actions of this chart.
     pub fn build(alloc: Global, chart: &Chart) -> Result<ActionList, AllocError>
         requires associations { sum_by (λ step. length step.associations) chart.now.steps ≤ 4096 }
-        requires declared { length chart.now.actions ≤ 2 ^ 16 - 4096 }
         ensures { IfOk result (λ list. list ≡ actions_of chart.now) }
     {
         let booleans = boolean_actions(alloc, chart.steps.as_slice())?;
@@ -130,7 +128,7 @@ impl ActionList {
         requires { action.0 < length self.now }
         ensures { slice_get self.now action.0 ≡ Some result }
     {
-        self.targets[action.0 as usize]
+        self.targets[action.0]
     }
 
     /// The number of this action.
@@ -144,11 +142,11 @@ impl ActionList {
                     .booleans
                     .get_index_of(&ActionKey::new(variable))
                     .unwrap();
-                ActionNumber(place as u16)
+                ActionNumber(place)
             }
             Target::Declared(id) => {
-                let place = self.booleans.len() + id.0 as usize;
-                ActionNumber(place as u16)
+                let place = self.booleans.len() + id.0;
+                ActionNumber(place)
             }
         }
     }

@@ -1,6 +1,6 @@
 //! Associations in groups of one step or one action.
 
-ghost use Rattle.std.specs.Prelude.{◌≡◌, ◌≤◌, ◌^◌, ℕ, map, length, IfOk, IsPermutation};
+ghost use Rattle.std.specs.Prelude.{◌≡◌, ◌<◌, ◌^◌, ℕ, map, length, IfOk, IsPermutation};
 ghost use Rattle.std.specs.List.Sorted.{IsNonDecreasing, IsNonDecreasingBy};
 ghost use Rattle.sfc_tables.specs.Private.Grouping.{first_places, with_action};
 
@@ -8,14 +8,17 @@ use crate::step_action::StepAction;
 use std::alloc::{AllocError, Global};
 
 /// The steps of these associations.
-pub fn steps_of(alloc: Global, members: &[StepAction]) -> Result<Vec<u16>, AllocError>
+pub fn steps_of(alloc: Global, members: &[StepAction]) -> Result<Vec<usize>, AllocError>
     ensures { IfOk result (λ steps. steps.items ≡ map (λ member. member.step.0) members.now) }
 {
-    members.iter().map(|member| member.step.0).collect(alloc)
+    members
+        .iter()
+        .map(|member| usize::from(member.step.0))
+        .collect(alloc)
 }
 
 /// The numbers of the actions of these associations.
-pub fn actions_of(alloc: Global, members: &[StepAction]) -> Result<Vec<u16>, AllocError>
+pub fn actions_of(alloc: Global, members: &[StepAction]) -> Result<Vec<usize>, AllocError>
     ensures { IfOk result (λ actions. actions.items ≡ map (λ member. member.action.0) members.now) }
 {
     members.iter().map(|member| member.action.0).collect(alloc)
@@ -33,14 +36,14 @@ pub fn by_action(alloc: Global, associations: &[StepAction]) -> Result<Vec<StepA
 }
 
 /// Where each of so many groups begins among rising numbers, and where the last one ends.
-pub fn starts(alloc: Global, numbers: &[u16], groups: usize) -> Result<Vec<usize>, AllocError>
+pub fn starts(alloc: Global, numbers: &[usize], groups: usize) -> Result<Vec<usize>, AllocError>
     requires sorted { IsNonDecreasing numbers.now }
-    requires few { groups ≤ 2 ^ 16 }
+    requires few { groups < 2 ^ 63 }
     ensures { IfOk result (λ starts. starts.items ≡ first_places numbers.now groups) }
 {
     let mut starts = Vec::new(alloc);
     for k in 0..groups + 1 {
-        starts.push(numbers.partition_point(|number| usize::from(*number) < k))?;
+        starts.push(numbers.partition_point(|number| *number < k))?;
     }
     Ok(starts)
 }

@@ -50,7 +50,6 @@ impl Tables {
     /// The tables of this chart. The one error is that memory was refused.
     pub fn build(alloc: Global, chart: &Chart) -> Result<Tables, AllocError>
         requires chart { (space : Space) × IsChart space chart.now }
-        requires declared { length chart.now.actions ≤ 2 ^ 16 - 4096 }
         ensures { IfOk result (λ tables. IsTablesOf chart.now tables) }
     {
         let initial = initial_steps(alloc, chart.steps.as_slice())?;
@@ -89,10 +88,9 @@ impl Tables {
         self.blocks.associations().len()
     }
 
-    /// The number of actions, at most 65,536.
+    /// The number of actions.
     pub fn actions(&self) -> usize
-        ensures count { result ≡ length self.now.actions }
-        ensures limit { result ≤ 2 ^ 16 }
+        ensures { result ≡ length self.now.actions }
     {
         self.blocks.actions().len()
     }

@@ -1,9 +1,9 @@
 -- What a hash of a variable is made of.
-use Rattle.std.specs.Prelude.{ℕ, ◌+◌, ◌*◌}
+use Rattle.std.specs.Prelude.{ℕ}
 use Rattle.sfc_expr.specs.declared.variable.Variable.{Variable}
 use Rattle.sfc_expr.specs.declared.variable.Variable.TheVariants.{Global, Local}
 
--- even for global variables, odd for local ones
+-- its place among its kind
 abbrev pub hashed : Variable → ℕ
-hashed (Global id) = id.0 * 2
-hashed (Local id) = id.0 * 2 + 1
+hashed (Global id) = id.0
+hashed (Local id) = id.0

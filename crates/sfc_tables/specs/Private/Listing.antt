@@ -1,5 +1,5 @@
 -- How the Boolean actions are found.
-use Rattle.std.specs.Prelude.{◌≡◌, ℕ, ◌≤◌, ◌^◌, ◌++◌, List, length, map}
+use Rattle.std.specs.Prelude.{◌≡◌, ℕ, ◌<◌, ◌^◌, ◌++◌, List, length, map}
 use Rattle.indexmap.specs.IndexSet.{insert_all}
 use Rattle.sfc_expr.specs.declared.variable.Variable.{Variable}
 use Rattle.sfc_tables.specs.declared.association.Target.{Target}
@@ -17,4 +17,4 @@ listed booleans n = map (λ v. target.Boolean v) booleans ++ declared_actions n
 -- what a list of actions keeps
 pub record IsListed (booleans : List Variable) (n : ℕ) (actions : List Target) : Type 0 where
   pub all : actions ≡ listed booleans n
-  pub few : length actions ≤ 2 ^ 16
+  pub few : length actions < 2 ^ 63

@@ -34,11 +34,11 @@ pub same_variable_partial_equiv : IsPartialEquivalence same_variable
 same_variable_partial_equiv = partial_equiv_from_equiv same_variable_equiv
 
 same_hashed : (v w : Variable) → same_variable v w ≡ true → hashed v ≡ hashed w
-same_hashed (Global a) (Global b) e = ap (λ n. n * 2) (eqb-true a.0 b.0 e)
+same_hashed (Global a) (Global b) e = eqb-true a.0 b.0 e
 same_hashed (Global a) (Local b) e = absurd cc
 same_hashed (Local a) (Global b) e = absurd cc
-same_hashed (Local a) (Local b) e = ap (λ n. n * 2 + 1) (eqb-true a.0 b.0 e)
+same_hashed (Local a) (Local b) e = eqb-true a.0 b.0 e
 
 -- what a hash is fed
-pub same_variable_input : (v w : Variable) → IsTrue (same_variable v w) → fed.u32 (hashed v) ≡ fed.u32 (hashed w)
-same_variable_input v w e = ap fed.u32 (same_hashed v w e)
+pub same_variable_input : (v w : Variable) → IsTrue (same_variable v w) → fed.usize (hashed v) ≡ fed.usize (hashed w)
+same_variable_input v w e = ap fed.usize (same_hashed v w e)

@@ -16,16 +16,7 @@ invariant_of-result c =
     ∙ ap (λ (steps : List Step). distinct (booleans_of (associations_in steps))) c.as_slice.ensures in
     record {
       all = all;
-      few = omega (
-        arith,
-        ap length all,
-        listed_long keys n,
-        ap length made,
-        booleans_few c.args.chart.now.steps,
-        c.requires.associations,
-        c.requires.declared,
-        c.len-declared.ensures,
-      );
+      few = omega (arith, c.add_declared.new.targets.ok.0, c.add_declared.new.targets.ok.1, c.add_declared.new.targets.small);
     }
 
 pub returns : goal.returns

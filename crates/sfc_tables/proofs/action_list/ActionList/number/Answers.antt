@@ -31,8 +31,8 @@ unwrap-place-requires c =
     let is = found keys v c.new.result c.get_index_of.result p.0 c.new.ensures c.get_index_of.ensures.index in
     subst (λ (o : Option ℕ). IsSome o) (sym is) refl
 
-pub overflow_cast-result-in-Declared : goal.overflow_cast-result-in-Declared
-overflow_cast-result-in-Declared c =
+pub overflow_add-place : goal.overflow_add-place
+overflow_add-place c =
     let keys = c.self.inside.booleans.keys in
     let id = c.in-Declared.id in
     let all = sym c.self.view_is ∙ c.self.invariant.all in

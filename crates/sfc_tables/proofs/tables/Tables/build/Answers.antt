@@ -24,7 +24,7 @@ made c = record {
 pub invariant_of-result : goal.invariant_of-result
 invariant_of-result c = record {
   tables =
-      tables_sound c.requires.chart.0 c.args.chart.now c.requires.chart.1 c.requires.declared
+      tables_sound c.requires.chart.0 c.args.chart.now c.requires.chart.1
       (tabled c.in_ok-initial.initial.items c.in_ok-links.links c.in_ok-ranked.ranked.items c.in_ok-blocks.blocks) (made c);
   steps =
       ap (λ blocks. blocks.steps) c.in_ok-blocks.ensures
