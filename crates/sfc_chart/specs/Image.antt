@@ -1,9 +1,11 @@
 -- The variables of a plant: the globals, and then the locals of each instance, in text order (2.4.3, 2.7.1).
-use Rattle.std.specs.Prelude.{ℕ, ◌+◌, List, [], ◌∷◌, ◌++◌, length, map, flat_map, Option, Some, None, slice_get}
-use Rattle.std.specs.List.{filter_map}
+use Rattle.std.specs.Prelude.{ℕ, suc, ◌+◌, List, [], ◌∷◌, ◌++◌, length, map, flat_map, Option, Some, None, slice_get}
+use Rattle.std.specs.List.{filter_map, range_with_len}
 use Rattle.sfc_tokens.specs.declared.location.Location.{Location}
 use Rattle.sfc_variables.specs.declared.variable.Variable.{Variable}
 use Rattle.sfc_program.specs.declared.program_type.ProgramType.{ProgramType}
+use Rattle.sfc_chart.specs.declared.image_variable.ImageVariable.{ImageVariable}
+use Rattle.sfc_chart.specs.declared.image_variable.ImageVariable.TheVariants.{Global, Local}
 use Rattle.sfc_chart.specs.declared.instance.Instance.{Instance}
 use Rattle.sfc_chart.specs.Plants.{PlantData}
 
@@ -30,3 +32,22 @@ locations_of vs = filter_map (λ v. v.location) vs
 abbrev pub starts_from : ℕ → List ProgramType → List Instance → List ℕ
 starts_from n types [] = []
 starts_from n types (i ∷ is) = n ∷ starts_from (n + length (locals_of types i)) types is
+
+-- ---- what each of them is
+
+-- n global variables
+abbrev pub globals_to : ℕ → List ImageVariable
+globals_to n = map (λ i. Global (record { 0 = i })) (range_with_len 0 n)
+
+-- n locals of instance k
+abbrev pub locals_to : ℕ → ℕ → List ImageVariable
+locals_to k n = map (λ i. Local (record { 0 = k }) (record { 0 = i })) (range_with_len 0 n)
+
+-- those of these instances, of which the first has number k
+abbrev pub locals_from : List ProgramType → ℕ → List Instance → List ImageVariable
+locals_from types k [] = []
+locals_from types k (i ∷ is) = locals_to k (length (locals_of types i)) ++ locals_from types (suc k) is
+
+-- what each variable is, by its number
+abbrev pub image_places : PlantData → List ImageVariable
+image_places plant = globals_to (length plant.globals) ++ locals_from plant.types 0 plant.instances

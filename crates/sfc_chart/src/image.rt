@@ -1,6 +1,6 @@
 //! The variables of a plant: the globals, and then the locals of each instance (2.4.3, 2.7.1).
 
-ghost use Rattle.std.specs.Prelude.{◌≡◌, ◌++◌, length, flat_map, nat_lt, OnOk, IfOk};
+ghost use Rattle.std.specs.Prelude.{◌≡◌, ◌≤◌, ◌++◌, length, flat_map, nat_lt, slice_get, OnOk, IfOk};
 ghost use Rattle.sfc_variables.specs.Checks.{Loads, when};
 ghost use Rattle.sfc_variables.specs.declared.load_error.LoadError.TheVariants as fault;
 ghost use Rattle.sfc_variables.specs.declared.load_error.Limit.TheVariants as limit;
@@ -9,7 +9,10 @@ ghost use Rattle.sfc_chart.specs.Image as image;
 ghost use Rattle.sfc_chart.specs.Image.{image_of, locations_of, starts_from};
 ghost use Rattle.sfc_chart.specs.Loading.{image_check};
 
+use crate::ids::ProgId;
+use crate::image_variable::ImageVariable;
 use crate::instance::Instance;
+use sfc_expr::variable::LocalId;
 use sfc_program::program_type::ProgramType;
 use sfc_tokens::location::Location;
 use sfc_variables::load_error::{Limit, LoadError};
@@ -131,4 +134,29 @@ pub(crate) fn check_image(
         return Err(LoadError::SameLocation);
     }
     Ok(starts)
+}
+
+/// What the local variable at this place is, where the locals of all instances stand in a row.
+#[tactic(auto, using(crate::proofs::Images::here, crate::proofs::Images::later))]
+pub(crate) fn local_at(
+    types: &[ProgramType],
+    instances: &[Instance],
+    place: usize,
+) -> Option<ImageVariable>
+    requires few { length instances.now ≤ 64 }
+    ensures { result ≡ slice_get (image.locals_from types.now 0 instances.now) place }
+{
+    let mut left = place;
+    let mut number: u8 = 0;
+    let mut rest = instances;
+    'instances: while let Some((instance, after)) = rest.split_first() {
+        let count = locals_of(types, instance).len();
+        if left < count {
+            return Some(ImageVariable::Local(ProgId(number), LocalId(left)));
+        }
+        left -= count;
+        number += 1;
+        rest = after;
+    }
+    None
 }

@@ -2,7 +2,7 @@
 //! (IEC 61131-3:2003, 2.4 to 2.7).
 //!
 //! - `ids`: the numbers of variables, tasks and program instances.
-//! - `image`: the variables of a plant by number.
+//! - `image`: the variables of a plant by number; `image_variable`: what each of them is.
 //! - `load`: trees to plants.
 //! - `plant`: what a whole text was loaded as; `task` and `instance`: parts of it.
 //! - `tasks`, `programs`, `instances`, `parts`: the steps of loading.
@@ -10,6 +10,7 @@
 
 pub mod ids;
 mod image;
+pub mod image_variable;
 pub mod instance;
 mod instances;
 pub mod load;

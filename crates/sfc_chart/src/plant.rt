@@ -1,9 +1,12 @@
 //! A plant: what a whole text was loaded as.
 
 use crate::ids::{ProgId, TaskId, VarId};
+use crate::image::local_at;
+use crate::image_variable::ImageVariable;
 use crate::instance::Instance;
 use crate::task::Task;
 use sfc_expr::name_table::NameTable;
+use sfc_expr::variable::GlobalId;
 use sfc_program::program_type::ProgramType;
 use sfc_tokens::items::Items;
 use sfc_tokens::name::Name;
@@ -44,7 +47,8 @@ impl Model for Plant {
     ghost invariant = { IsLoaded };
 }
 
-ghost use Rattle.std.specs.Prelude.{◌≡◌, ◌<◌, length};
+ghost use Rattle.std.specs.Prelude.{◌≡◌, slice_get};
+ghost use Rattle.sfc_chart.specs.Image.{image_places};
 ghost use Rattle.sfc_chart.specs.Sound.{IsLoadable, IsPlant};
 ghost use Rattle.sfc_chart.specs.Finding.{variable_named, task_named, instance_named, type_named};
 
@@ -109,6 +113,24 @@ impl Plant {
     {
         let place = self.globals.find(name)?;
         Some(VarId(place as u16))
+    }
+
+    /// What the variable of the image with this number is: the globals go first, and then the locals of each instance,
+    /// in text order; `None` past the last. It takes no memory.
+    #[tactic(auto, using(crate::proofs::Images::global_here, crate::proofs::Images::behind_globals))]
+    pub fn image_variable(&self, id: VarId) -> Option<ImageVariable>
+        ensures { result ≡ slice_get (image_places self.now) id.0 }
+    {
+        let place = id.0 as usize;
+        let globals = self.globals.as_slice().len();
+        if place < globals {
+            return Some(ImageVariable::Global(GlobalId(place)));
+        }
+        local_at(
+            self.types.as_slice(),
+            self.instances.as_slice(),
+            place - globals,
+        )
     }
 
     /// The task with this name; case is not significant. It takes no memory.
