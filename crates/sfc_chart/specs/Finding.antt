@@ -1,13 +1,16 @@
 -- What a name stands for in a plant (2.4.3, 2.7.1, 2.7.2).
-use Rattle.std.specs.Prelude.{ℕ, ◌+◌, List, length, map, Option, Some, None, slice_get, take}
+use Rattle.std.specs.Prelude.{ℕ, ◌+◌, List, [], length, map, Option, Some, None, slice_get, take}
 use Rattle.std.specs.Option.{option_map}
 use Rattle.sfc_expr.specs.NameLists.{place_of}
 use Rattle.sfc_variables.specs.Finding.{variable_place}
+use Rattle.sfc_variables.specs.declared.variable.Variable.{Variable}
+use Rattle.sfc_program.specs.declared.program_type.ProgramType.{ProgramType}
+use Rattle.sfc_chart.specs.declared.instance.Instance.{Instance}
 use Rattle.sfc_chart.specs.declared.ids.VarId.{VarId}
 use Rattle.sfc_chart.specs.declared.ids.TaskId.{TaskId}
 use Rattle.sfc_chart.specs.declared.ids.ProgId.{ProgId}
 use Rattle.sfc_chart.specs.Plants.{PlantData}
-use Rattle.sfc_chart.specs.Image.{image_of, locals_of, locals_in}
+use Rattle.sfc_chart.specs.Image.{image_of, locals_of}
 
 -- the global variable with this name
 abbrev pub variable_named : PlantData → List ℕ → Option VarId
@@ -25,3 +28,16 @@ type_named plant name = place_of name (map (λ p. p.name) plant.types)
 -- how many variables go before the locals of this instance
 abbrev pub first_local : PlantData → ProgId → ℕ
 first_local plant i = length (image_of plant.globals plant.types (take i.0 plant.instances))
+
+-- the locals of this instance
+abbrev pub locals_at : List ProgramType → Option Instance → List Variable
+locals_at types (Some i) = locals_of types i
+locals_at types None = []
+
+abbrev pub instance_locals : PlantData → ProgId → List Variable
+instance_locals plant i = locals_at plant.types (slice_get plant.instances i.0)
+
+-- the variable of the image that this instance's local of this name is
+abbrev pub local_named : PlantData → ProgId → List ℕ → Option VarId
+local_named plant i name =
+    option_map (λ place. record { 0 = first_local plant i + place }) (variable_place (instance_locals plant i) name)

@@ -47,10 +47,10 @@ impl Model for Plant {
     ghost invariant = { IsLoaded };
 }
 
-ghost use Rattle.std.specs.Prelude.{◌≡◌, slice_get};
+ghost use Rattle.std.specs.Prelude.{◌≡◌, ◌<◌, length, slice_get};
 ghost use Rattle.sfc_chart.specs.Image.{image_places};
 ghost use Rattle.sfc_chart.specs.Sound.{IsLoadable, IsPlant};
-ghost use Rattle.sfc_chart.specs.Finding.{variable_named, task_named, instance_named, type_named};
+ghost use Rattle.sfc_chart.specs.Finding.{variable_named, local_named, task_named, instance_named, type_named};
 
 impl Plant {
     /// The name of the configuration, as it was written.
@@ -113,6 +113,19 @@ impl Plant {
     {
         let place = self.globals.find(name)?;
         Some(VarId(place as u16))
+    }
+
+    /// The local variable of this instance with this name; case is not significant. The instance is one of the plant's.
+    /// It takes no memory.
+    pub fn find_local(&self, instance: ProgId, name: &[u8]) -> Option<VarId>
+        requires { instance.0 < length self.now.instances }
+        ensures { result ≡ local_named self.now instance name.now }
+    {
+        let index = instance.0 as usize;
+        let program = self.instances.as_slice()[index].program;
+        let place = self.types.as_slice()[program].locals.find(name)?;
+        let first = self.starts.as_slice()[index];
+        Some(VarId((first + place) as u16))
     }
 
     /// What the variable of the image with this number is: the globals go first, and then the locals of each instance,
