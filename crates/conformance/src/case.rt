@@ -3,12 +3,15 @@
 use crate::ending::Ending;
 use crate::frame::Frame;
 use anyhow::{Result, bail};
+use sfc_monitor::check::check_chart;
 use sfc_monitor::replay::replay;
 use std::alloc::{AllocError, Global};
 
 /// A command of `sfcmon`.
 #[derive(Clone, Copy)]
 enum Command {
+    /// A chart is checked.
+    Check,
     /// A script is played on a chart.
     Replay,
 }
@@ -60,6 +63,7 @@ impl Case {
     /// Sets the command by its name.
     pub fn set_command(&mut self, name: &str) -> Result<()> {
         match name {
+            "check" => self.command = Command::Check,
             "replay" => self.command = Command::Replay,
             _ => bail!("there is no command {name}"),
         }
@@ -80,6 +84,17 @@ impl Case {
         Ok(())
     }
 
+    // Checks the chart.
+    fn checked(&self, alloc: Global, chart: &[u8]) -> Result<Ending, AllocError> {
+        let mut chart = chart;
+        let mut ending = Ending::new(alloc);
+        if let Err(error) = check_chart(alloc, &mut chart, &mut ending.output) {
+            ending.fault = format!(in alloc; "{error}")?;
+            ending.status = error.status();
+        }
+        Ok(ending)
+    }
+
     // Plays the script on the chart.
     fn replayed(&self, alloc: Global, chart: &[u8]) -> Result<Ending, AllocError> {
         let mut chart = chart;
@@ -95,6 +110,7 @@ impl Case {
     // Runs the command on a chart.
     fn ending_on(&self, alloc: Global, chart: &[u8]) -> Result<Ending, AllocError> {
         match self.command {
+            Command::Check => self.checked(alloc, chart),
             Command::Replay => self.replayed(alloc, chart),
         }
     }

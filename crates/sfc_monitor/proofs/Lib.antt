@@ -5,3 +5,4 @@ pub mod Playing
 pub mod Taken
 pub mod Refused
 pub mod Replayed
+pub mod Checked

@@ -10,6 +10,8 @@ pub mod Output
 pub mod Reading
 -- what replay answers and writes
 pub mod Replay
+-- what check_chart answers and writes
+pub mod Acceptance
 -- what each fault becomes; exit statuses and texts
 pub mod MonitorErrors
 -- What private clauses cite.

@@ -4,6 +4,7 @@
 mod answers;
 mod append;
 mod chart;
+pub mod check;
 mod input;
 pub mod laws;
 mod line;

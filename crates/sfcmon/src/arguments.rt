@@ -9,6 +9,8 @@ use std::alloc::{AllocError, Global};
 /// What the words ask for.
 #[derive(Drop)]
 pub enum Request {
+    /// A chart to be checked, by the name of its file.
+    Check { chart: String },
     /// A script to be played on a chart, by the names of their files.
     Replay { chart: String, script: String },
     /// The words were answered already: help, the version, or what is wrong with them. This exit status is left.
@@ -31,23 +33,49 @@ docs/LANGUAGE.md describes the text of charts, docs/FORMATS.md scripts and outpu
 
 // What stands at the end of the help on the program.
 const NOTES: &str = "\
-'sfcmon replay --help' tells the exit statuses, an example, and where the formats are described.";
+'sfcmon check --help' and 'sfcmon replay --help' tell the exit statuses, an example, and where the formats are described.";
+
+// What stands at the end of the help on `check`.
+const CHECK_NOTES: &str = "\
+Exit status:
+  0  the chart has no fault: 'ok' is printed
+  1  the chart is refused, for its first fault
+  2  the words of the command line are wrong
+  3  the file can't be read, or the output can't be written
+  4  memory was refused
+
+Example:
+  sfcmon check examples/lamp.chart
+
+docs/LANGUAGE.md describes the text of charts and what is checked, docs/FORMATS.md the faults.";
+
+// The argument that names the file of a chart.
+fn chart_argument<'a>(alloc: Global) -> Arg<'a> {
+    Arg::new(alloc, "FILE")
+        .required(true)
+        .help("The chart, a text of IEC 61131-3")
+}
+
+fn check_command<'a>(alloc: Global) -> Result<Command<'a>, AllocError> {
+    Command::new(alloc, "check")
+        .about("Reads a chart of the whole language and checks its names, types and limits")
+        .after_help(CHECK_NOTES)
+        .arg(chart_argument(alloc))
+}
 
 fn replay_command<'a>(alloc: Global) -> Result<Command<'a>, AllocError> {
-    let chart = Arg::new(alloc, "FILE")
-        .required(true)
-        .help("The chart, a text of IEC 61131-3");
     let script = Arg::new(alloc, "SCRIPT").required(true).help(
         "The script, lines of an instant and a command such as T#10ms SCAN Main",
     );
     Command::new(alloc, "replay")
         .about("Plays a script on a chart and prints what each command answers")
         .after_help(REPLAY_NOTES)
-        .arg(chart)?
+        .arg(chart_argument(alloc))?
         .arg(script)
 }
 
 fn sfcmon_command<'a>(alloc: Global) -> Result<Command<'a>, AllocError> {
+    let check = check_command(alloc)?;
     let replay = replay_command(alloc)?;
     Command::new(alloc, "sfcmon")
         .bin_name("sfcmon")?
@@ -58,23 +86,36 @@ fn sfcmon_command<'a>(alloc: Global) -> Result<Command<'a>, AllocError> {
         .after_help(NOTES)
         .subcommand_required(true)
         .arg_required_else_help(true)
+        .subcommand(check)?
         .subcommand(replay)
 }
 
-fn parsed(alloc: Global, words: &[String]) -> Result<Option<(String, String)>, Error> {
+// The names of the files that a command has: its chart, and its script if it has one.
+fn file_names(alloc: Global, chart: &str, script: Option<&str>) -> Result<Request, AllocError> {
+    let chart = String::from_str(alloc, chart)?;
+    match script {
+        None => Ok(Request::Check { chart }),
+        Some(script) => {
+            let script = String::from_str(alloc, script)?;
+            Ok(Request::Replay { chart, script })
+        }
+    }
+}
+
+fn parsed(alloc: Global, words: &[String]) -> Result<Request, Error> {
     let command = sfcmon_command(alloc)?;
     let matches = command.try_get_matches_from(words)?;
-    let Some(replay) = matches.subcommand_matches("replay") else {
-        return Ok(None);
-    };
-    match (replay.get_str("FILE"), replay.get_str("SCRIPT")) {
-        (Some(chart), Some(script)) => {
-            let chart = String::from_str(alloc, chart)?;
-            let script = String::from_str(alloc, script)?;
-            Ok(Some((chart, script)))
+    if let Some(check) = matches.subcommand_matches("check") {
+        if let Some(chart) = check.get_str("FILE") {
+            return Ok(file_names(alloc, chart, None)?);
         }
-        _ => Ok(None),
     }
+    if let Some(replay) = matches.subcommand_matches("replay") {
+        if let (Some(chart), Some(script)) = (replay.get_str("FILE"), replay.get_str("SCRIPT")) {
+            return Ok(file_names(alloc, chart, Some(script))?);
+        }
+    }
+    Ok(Request::Answered(2))
 }
 
 // Prints what clap has to say; the exit status.
@@ -108,8 +149,7 @@ pub fn refuse_words<R: Print + Eprint + AllocGlobal>(rt: &R) -> u8 {
 /// What the words ask for; clap's text and status where they ask for help or the version, or are wrong.
 pub fn read_words<R: Print + Eprint + AllocGlobal>(rt: &R, words: &[String]) -> Request {
     match parsed(rt.alloc(), words) {
-        Ok(Some((chart, script))) => Request::Replay { chart, script },
-        Ok(None) => Request::Answered(2),
+        Ok(request) => request,
         Err(error) => Request::Answered(answer(rt, &error)),
     }
 }

@@ -1,5 +1,6 @@
 //! Files, standard output and exit status.
 
+use sfc_monitor::check::check_chart;
 use sfc_monitor::monitor_error::MonitorError;
 use sfc_monitor::replay::replay;
 use std::rt::Files;
@@ -9,6 +10,18 @@ use std::{fs, io};
 pub fn end_with<R: Eprint>(rt: &R, error: MonitorError) -> u8 {
     let _ = eprintln!(rt; "{error}");
     error.status()
+}
+
+/// Checks the chart of a file: the exit status. A file that can't be opened is a read fault.
+pub fn check_file<R: Print + Eprint + Files + AllocGlobal>(rt: &R, chart: &str) -> u8 {
+    let Ok(mut chart) = fs::open(rt, chart) else {
+        return end_with(rt, MonitorError::Read);
+    };
+    let mut out = io::writer(rt);
+    match check_chart(rt.alloc(), &mut chart, &mut out) {
+        Ok(()) => 0,
+        Err(error) => end_with(rt, error),
+    }
 }
 
 /// Plays the script on the chart, from files to standard output: the exit status. Both files are opened before either
