@@ -1,6 +1,6 @@
 -- The part of a plant that is run so far (our choice, until the core takes whole plants): one program of steps, transitions from
 -- one step to one step, and associations N with BOOL variables; or None where the plant has more.
-use Rattle.std.specs.Prelude.{ℕ, nat_lt, nat_eq, Bool, true, false, ◌&&◌, List, [], ◌∷◌, length, Option, Some, None, if◌then◌else◌, is_none}
+use Rattle.std.specs.Prelude.{ℕ, nat_lt, nat_eq, Bool, false, ◌&&◌, List, [], ◌∷◌, length, Option, Some, None, if◌then◌else◌, is_none}
 use Rattle.std.specs.List.{list_all}
 use Rattle.sfc_tokens.specs.declared.var_type.VarType.TheVariants as types
 use Rattle.sfc_expr.specs.Checking.{is_same_type}
