@@ -1,25 +1,18 @@
 //! The texts and numbers of faults that no case gives.
 
 use sfc_chart::ids::TaskId;
-use sfc_chart::load_error::{Limit, LoadError};
 use sfc_core::Refusal;
 use sfc_monitor::monitor_error::{ChartError, MonitorError};
 use sfc_tokens::read_error::{ReadError, ReadErrorKind};
+use sfc_variables::load_error::{Limit, LoadError};
 use std::test::Fail;
-
-// A chart that the loader refuses for this.
-fn of_load(error: LoadError) -> MonitorError {
-    MonitorError::Chart(ChartError::Load(error))
-}
-
-// Nesting that is too deep at this line.
-const TOO_DEEP: ReadError = ReadError {
-    kind: ReadErrorKind::TooDeep,
-    line: 5,
-};
 
 #[test]
 fn each_fault_has_a_text_and_a_status(rt: HostRuntime) -> Result<(), Fail> {
+    let too_deep = ReadError {
+        kind: ReadErrorKind::TooDeep,
+        line: 5,
+    };
     let table = [
         (MonitorError::Unsupported, "not supported", 1),
         (MonitorError::Script(3), "script line 3", 1),
@@ -27,24 +20,17 @@ fn each_fault_has_a_text_and_a_status(rt: HostRuntime) -> Result<(), Fail> {
         (MonitorError::Write, "write fault", 3),
         (MonitorError::Memory, "out of memory", 4),
         (
-            MonitorError::Chart(ChartError::Read(TOO_DEEP)),
+            MonitorError::Chart(ChartError::Read(too_deep)),
             "refused 5 TooDeep line 5",
             1,
         ),
         (
-            of_load(LoadError::NotAssignable),
+            MonitorError::Chart(ChartError::Load(LoadError::NotAssignable)),
             "refused 12 NotAssignable",
             1,
         ),
-        (of_load(LoadError::NotBool), "refused 17 NotBool", 1),
-        (of_load(LoadError::NotTime), "refused 18 NotTime", 1),
         (
-            of_load(LoadError::Limit(Limit::Instances)),
-            "refused 22 Limit Instances",
-            1,
-        ),
-        (
-            of_load(LoadError::Limit(Limit::Tasks)),
+            MonitorError::Chart(ChartError::Load(LoadError::Limit(Limit::Tasks))),
             "refused 22 Limit Tasks",
             1,
         ),

