@@ -1,4 +1,4 @@
-//! A resource on a bench: each call of the core behind one that needs no condition, and all that it shows, as text.
+//! A resource on a bench: each call of the core behind one that needs no condition, and all that it shows.
 
 use crate::texts::plant_of;
 use sfc_chart::ids::{ProgId, TaskId, VarId};
@@ -111,8 +111,8 @@ impl Bench {
         ))
     }
 
-    /// The scans of the program, its steps, transitions and actions, which of the first five variables are TRUE, and the
-    /// overruns of the task.
+    /// The scans of the program, its steps, transitions and actions, which of the first five variables are TRUE, and
+    /// the overruns of the task.
     pub fn shown(&self, alloc: Global) -> Result<String, Fail> {
         let (view, overruns) = self.program().ok_or("no program")?;
         let scans = view.scans();

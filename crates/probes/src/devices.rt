@@ -66,7 +66,7 @@ const NO_INITIAL_STEP: &[u8] = b"PROGRAM Mix STEP S: END_STEP END_PROGRAM \
 CONFIGURATION C RESOURCE R ON Plc VAR_GLOBAL Lamp : BOOL; END_VAR \
 TASK Main(INTERVAL := T#10ms, PRIORITY := 1); PROGRAM P WITH Main : Mix; END_RESOURCE END_CONFIGURATION";
 
-// The chart can't be read, then the script, and then the script beside a chart that is refused, which is told first.
+// The chart can't be read; then the script; then the script, beside a chart whose refusal is told first.
 fn cuts() -> [Cut; 3] {
     [
         Cut {
@@ -90,7 +90,7 @@ fn cuts() -> [Cut; 3] {
     ]
 }
 
-// What the replay answers where the one text breaks off behind so many bytes, and whether nothing was written.
+// What the replay answers where the text breaks off behind so many bytes, and whether nothing was written.
 fn play_cut(alloc: Global, cut: Cut, count: usize) -> (Result<(), MonitorError>, bool) {
     let mut chart = BrokenReader::new(cut.chart, cut.is_of_chart);
     let mut script = BrokenReader::new(cut.script, !cut.is_of_chart);

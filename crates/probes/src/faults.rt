@@ -3,37 +3,18 @@
 use sfc_chart::ids::TaskId;
 use sfc_core::Refusal;
 use sfc_monitor::monitor_error::{ChartError, MonitorError};
-use sfc_tokens::read_error::{ReadError, ReadErrorKind};
 use sfc_variables::load_error::{Limit, LoadError};
 use std::test::Fail;
 
 #[test]
 fn each_fault_has_a_text_and_a_status(rt: HostRuntime) -> Result<(), Fail> {
-    let too_deep = ReadError {
-        kind: ReadErrorKind::TooDeep,
-        line: 5,
-    };
+    let limit = |limit| MonitorError::Chart(ChartError::Load(LoadError::Limit(limit)));
     let table = [
-        (MonitorError::Unsupported, "not supported", 1),
-        (MonitorError::Script(3), "script line 3", 1),
         (MonitorError::Read, "read fault", 3),
         (MonitorError::Write, "write fault", 3),
         (MonitorError::Memory, "out of memory", 4),
-        (
-            MonitorError::Chart(ChartError::Read(too_deep)),
-            "refused 5 TooDeep line 5",
-            1,
-        ),
-        (
-            MonitorError::Chart(ChartError::Load(LoadError::NotAssignable)),
-            "refused 12 NotAssignable",
-            1,
-        ),
-        (
-            MonitorError::Chart(ChartError::Load(LoadError::Limit(Limit::Tasks))),
-            "refused 22 Limit Tasks",
-            1,
-        ),
+        (limit(Limit::Instances), "refused 22 Limit Instances", 1),
+        (limit(Limit::Tasks), "refused 22 Limit Tasks", 1),
     ];
     for (fault, text, status) in table {
         let found = format!(in rt.alloc(); "{fault}")?;

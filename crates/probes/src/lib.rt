@@ -1,5 +1,5 @@
-//! Tests of what no case can show: devices that fail, calls on their own, whole trees and plants, and the core against
-//! a plain body.
+//! Tests of what no case can show: devices that fail, calls on their own, whole trees and plants, and the core
+//! against a plain body.
 //!
 //! - `bench`: a resource, and all that it shows as text; `broken`: devices that fail; `texts`: charts.
 //! - `plain`: a body that searches back over all scans, which `mesh` compares with the core.

@@ -171,7 +171,7 @@ impl Both {
     }
 }
 
-// The scan of this number of both, with new inputs, and what they show then. It tells how many transitions were cleared.
+// The scan of this number of both, with new inputs, and what they show then: how many transitions were cleared.
 fn check_number(
     rt: &impl Abort,
     alloc: Global,

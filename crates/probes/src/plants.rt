@@ -45,8 +45,8 @@ Binary(Subtract, Int, Literal(Int(1)), Variable(Local(LocalId(0))))) }])])] } }>
     ],
 };
 
-// Two program types with variables of their own and externals, globals at both levels, a task with SINGLE and one with an
-// interval, and two instances.
+// Two program types with variables of their own, externals, globals at both levels, a task with SINGLE and one with
+// an interval, and two instances.
 const PAIR_TEXT: &[u8] = b"PROGRAM Fill
 VAR_EXTERNAL Lamp, Go : BOOL; END_VAR
 VAR Wait : TIME := T#2s; Full, Halt : BOOL := TRUE; Count : DINT := -7; END_VAR
@@ -125,26 +125,15 @@ actions: <> }",
     ],
 };
 
-// The two plants and the text of the second, behind functions, so that no proof goes through them.
-fn wanted_of_mixture() -> Wanted {
-    MIXTURE
-}
-
-fn wanted_of_pair() -> Wanted {
-    PAIR
-}
-
-fn pair() -> &'static [u8] {
-    PAIR_TEXT
+// The texts with their plants, behind a function, so that no proof goes through them.
+fn plants() -> [(&'static [u8], Wanted); 2] {
+    [(mixture(), MIXTURE), (PAIR_TEXT, PAIR)]
 }
 
 // Asks for this plant but for its program types.
 fn check_parts(rt: &impl Abort, alloc: Global, plant: &Plant, wanted: &str) -> Result<(), Fail> {
-    let (configuration, resource, processor) = (
-        plant.configuration(),
-        plant.resource(),
-        plant.processor(),
-    );
+    let configuration = plant.configuration();
+    let (resource, processor) = (plant.resource(), plant.processor());
     let (globals, tasks, instances) = (plant.globals(), plant.tasks(), plant.instances());
     let found = format!(in alloc;
         "{configuration:?} {resource:?} {processor:?} {globals:?} {tasks:?} {instances:?}"
@@ -179,16 +168,18 @@ fn check_plant(rt: &impl Abort, alloc: Global, plant: &Plant, wanted: Wanted) ->
     Ok(())
 }
 
-#[test]
-fn a_chart_of_each_kind_is_loaded_as_its_plant(rt: HostRuntime) -> Result<(), Fail> {
-    let plant = plant_of(rt.alloc(), mixture())?;
-    check_plant(&rt, rt.alloc(), &plant, wanted_of_mixture())
+// Asks for this plant of a text.
+fn check_text(rt: &impl Abort, alloc: Global, text: &[u8], wanted: Wanted) -> Result<(), Fail> {
+    let plant = plant_of(alloc, text)?;
+    check_plant(rt, alloc, &plant, wanted)
 }
 
 #[test]
-fn two_program_types_are_loaded_as_their_plant(rt: HostRuntime) -> Result<(), Fail> {
-    let plant = plant_of(rt.alloc(), pair())?;
-    check_plant(&rt, rt.alloc(), &plant, wanted_of_pair())
+fn each_chart_is_loaded_as_its_plant(rt: HostRuntime) -> Result<(), Fail> {
+    for (text, wanted) in plants() {
+        check_text(&rt, rt.alloc(), text, wanted)?;
+    }
+    Ok(())
 }
 
 // Asks for what names stand for among the variables, tasks, instances and types of the pair.
@@ -209,7 +200,8 @@ fn check_names(rt: &impl Abort, plant: &Plant) {
     for (name, wanted) in table {
         let (variable, task) = (plant.find_variable(name), plant.find_task(name));
         let (instance, program) = (plant.find_instance(name), plant.find_type(name));
-        assert!(rt; (variable, task, instance, program) == wanted);
+        let found = (variable, task, instance, program);
+        assert!(rt; found == wanted, "of {name:?}");
     }
 }
 
@@ -228,14 +220,16 @@ fn check_names_of_type(rt: &impl Abort, program: &ProgramType) {
     for (name, wanted) in table {
         let (step, action) = (program.find_step(name), program.find_action(name));
         let (transition, local) = (program.find_transition(name), program.locals.find(name));
-        assert!(rt; (step, action, transition, local) == wanted);
+        let found = (step, action, transition, local);
+        assert!(rt; found == wanted, "of {name:?}");
         assert!(rt; program.locals.contains(name) == local.is_some());
     }
 }
 
 #[test]
 fn a_name_is_found_in_any_case(rt: HostRuntime) -> Result<(), Fail> {
-    let plant = plant_of(rt.alloc(), pair())?;
+    let [_, (pair, _)] = plants();
+    let plant = plant_of(rt.alloc(), pair)?;
     check_names(&rt, &plant);
     let Some(fill) = plant.types().first() else {
         rt.panic("no program type")

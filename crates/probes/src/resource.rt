@@ -251,7 +251,7 @@ fn check_shown(rt: &impl Abort, alloc: Global, bench: &Bench, wanted: &str) -> R
     Ok(())
 }
 
-// Asks for what the bench shows, for the answers to the events of the rows, and for what it shows behind each.
+// Asks for what the bench shows, then for the answers to the events, and for what it shows behind each.
 fn check_rows(
     rt: &impl Abort,
     alloc: Global,

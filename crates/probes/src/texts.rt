@@ -1,4 +1,4 @@
-//! Charts, a script and what it prints. A text stands behind a function, so that no proof goes through its bytes.
+//! Charts, and a script and what it prints. A text stands behind a function, so that no proof goes through it.
 
 use sfc_chart::load::load;
 use sfc_chart::plant::Plant;
@@ -37,7 +37,8 @@ T#20ms SCAN Main overruns 0
 image Lamp TRUE
 ";
 
-// A chart with something of each kind: an action with a body, timed qualifiers, a priority, an expression of many operators.
+// A chart with something of each kind: an action with a body, a qualifier with a time, a priority, an expression of
+// many operators.
 const MIXTURE: &[u8] = b"PROGRAM mix
 var n : int := 16#FF; t1 : time := t#25h_15m; end_var
 initial_step s0: act(p1, n); out(); end_step
@@ -72,8 +73,8 @@ pub fn plant_of(alloc: Global, text: &[u8]) -> Result<Plant, Fail> {
     Ok(load(alloc, &source)?)
 }
 
-/// A tree as `{:?}` writes it, from a shorter text, in which a name stands between quotes, and the elements of a list
-/// between angle brackets.
+/// A tree as `{:?}` writes it, from a shorter text, in which a name stands between quotes, and the elements of a
+/// list between angle brackets.
 pub fn written_out(alloc: Global, short: &str) -> Result<String, AllocError> {
     let mut text = String::new(alloc);
     let mut is_name = false;
