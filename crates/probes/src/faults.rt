@@ -2,19 +2,15 @@
 
 use sfc_chart::ids::TaskId;
 use sfc_core::Refusal;
-use sfc_monitor::monitor_error::{ChartError, MonitorError};
-use sfc_variables::load_error::{Limit, LoadError};
+use sfc_monitor::monitor_error::MonitorError;
 use std::test::Fail;
 
 #[test]
 fn each_fault_has_a_text_and_a_status(rt: HostRuntime) -> Result<(), Fail> {
-    let limit = |limit| MonitorError::Chart(ChartError::Load(LoadError::Limit(limit)));
     let table = [
         (MonitorError::Read, "read fault", 3),
         (MonitorError::Write, "write fault", 3),
         (MonitorError::Memory, "out of memory", 4),
-        (limit(Limit::Instances), "refused 22 Limit Instances", 1),
-        (limit(Limit::Tasks), "refused 22 Limit Tasks", 1),
     ];
     for (fault, text, status) in table {
         let found = format!(in rt.alloc(); "{fault}")?;
