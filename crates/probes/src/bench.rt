@@ -1,27 +1,29 @@
-//! A resource on a bench: each call of the core behind one that needs no condition, and all that it shows, as text.
+//! A resource on a bench: each call of the core behind one that needs no condition, and all that it shows.
 
-use crate::texts::source_of;
+use crate::texts::plant_of;
 use sfc_chart::ids::{ProgId, TaskId, VarId};
-use sfc_chart::load::load;
 use sfc_chart::plant::Plant;
-use sfc_chart::value::Value;
 use sfc_core::{Event, Outcome, ProgramView, Refusal, Resource};
+use sfc_expr::value::Value;
+use sfc_single::narrow::narrow;
 use std::alloc::{AllocError, Global};
 use std::test::Fail;
 
-/// A resource of a chart with one task and one program.
+/// A resource of a chart that the core runs.
 #[derive(Drop)]
 pub struct Bench {
     resource: Resource,
 }
 
-// A resource of the plant, where it has one of each.
+// A resource of the plant, where the core runs all of it.
 fn resource_of(alloc: Global, plant: Plant) -> Result<Option<Resource>, AllocError> {
-    if plant.tasks().len() != 1 || plant.types().len() != 1 || plant.instances().len() != 1 {
-        return Ok(None);
+    match narrow(alloc, plant)? {
+        Some(plant) => {
+            let resource = Resource::open(alloc, plant)?;
+            Ok(Some(resource))
+        }
+        None => Ok(None),
     }
-    let resource = Resource::open(alloc, plant)?;
-    Ok(Some(resource))
 }
 
 // The active steps, those that the latest scan activated, and the times of all.
@@ -70,9 +72,8 @@ fn actions_text(alloc: Global, view: &ProgramView<'_>) -> Result<String, AllocEr
 impl Bench {
     /// A resource of the chart that has seen no event.
     pub fn open(alloc: Global, text: &[u8]) -> Result<Bench, Fail> {
-        let source = source_of(alloc, text)?;
-        let plant = load(alloc, &source)?;
-        let resource = resource_of(alloc, plant)?.ok_or("no single program")?;
+        let plant = plant_of(alloc, text)?;
+        let resource = resource_of(alloc, plant)?.ok_or("not run so far")?;
         Ok(Bench { resource })
     }
 
@@ -86,46 +87,41 @@ impl Bench {
         self.resource.run(events)
     }
 
-    /// The plant.
-    pub fn plant(&self) -> &Plant {
-        self.resource.plant()
+    // Which of the first five variables are TRUE.
+    fn values_text(&self, alloc: Global) -> Result<String, AllocError> {
+        let mut values = Vec::new(alloc);
+        let count = self.resource.plant().variables().len();
+        for id in 0..5u16 {
+            if (id as usize) < count && self.resource.value(VarId(id)) == Value::Bool(true) {
+                values.push(id)?;
+            }
+        }
+        format!(in alloc; "true {values:?}")
     }
 
-    /// The overruns of the task.
-    pub fn overruns(&self) -> Option<u64> {
-        if self.resource.plant().tasks().is_empty() {
+    // The program, and the overruns of the task.
+    fn program(&self) -> Option<(ProgramView<'_>, u64)> {
+        let plant = self.resource.plant();
+        if plant.tasks().is_empty() || plant.instances().is_empty() {
             return None;
         }
-        Some(self.resource.overruns(TaskId(0)))
+        Some((
+            self.resource.program(ProgId(0)),
+            self.resource.overruns(TaskId(0)),
+        ))
     }
 
-    // Whether the variable is there and TRUE.
-    fn is_true(&self, id: u16) -> bool {
-        (id as usize) < self.resource.plant().variables().len()
-            && self.resource.value(VarId(id)) == Value::Bool(true)
-    }
-
-    // The program.
-    fn view(&self) -> Option<ProgramView<'_>> {
-        if self.resource.plant().instances().is_empty() {
-            return None;
-        }
-        Some(self.resource.program(ProgId(0)))
-    }
-
-    /// The scans of the program, its steps, transitions and actions, and which of the first five variables are TRUE.
+    /// The scans of the program, its steps, transitions and actions, which of the first five variables are TRUE, and
+    /// the overruns of the task.
     pub fn shown(&self, alloc: Global) -> Result<String, Fail> {
-        let view = self.view().ok_or("no program")?;
+        let (view, overruns) = self.program().ok_or("no program")?;
         let scans = view.scans();
         let steps = steps_text(alloc, &view)?;
         let transitions = transitions_text(alloc, &view)?;
         let actions = actions_text(alloc, &view)?;
-        let mut values = Vec::new(alloc);
-        for id in 0..5u16 {
-            if self.is_true(id) {
-                values.push(id)?;
-            }
-        }
-        Ok(format!(in alloc; "{scans} {steps} {transitions} {actions} true {values:?}")?)
+        let values = self.values_text(alloc)?;
+        Ok(format!(in alloc;
+            "{scans} {steps} {transitions} {actions} {values} overruns {overruns}"
+        )?)
     }
 }

@@ -1,42 +1,43 @@
 //! Readers and writers that fail, or that take and give little at a time.
 
 use crate::broken::{BrokenReader, BrokenWriter};
-use crate::texts::{no_initial_step, one_step, one_step_output, one_step_script};
-use sfc_chart::load_error::LoadError;
+use crate::texts::one_step;
 use sfc_monitor::monitor_error::{ChartError, MonitorError};
 use sfc_monitor::replay::replay;
 use sfc_tokens::time_text::put_time;
 use sfc_tokens::write_fault::{WriteFault, put_all};
+use sfc_variables::load_error::LoadError;
 use std::alloc::Global;
+use std::process::Abort;
 use std::test::Fail;
 
 // What the replay of the lamp's chart and script answers to a writer.
 fn play_lamp(alloc: Global, writer: &mut BrokenWriter) -> Result<(), MonitorError> {
-    let mut chart = BrokenReader::new(one_step(), false);
-    let mut script = BrokenReader::new(one_step_script(), false);
+    let mut chart = BrokenReader::new(one_step().chart, false);
+    let mut script = BrokenReader::new(one_step().script, false);
     chart.most = 1;
     script.most = 1;
     replay(alloc, &mut chart, &mut script, writer)
 }
 
 // Whether a writer that takes so many bytes has exactly those in the end, and the answer goes with it.
-fn keeps_a_front(alloc: Global, count: usize, fails: bool) -> bool {
+fn keeps_a_front(alloc: Global, output: &[u8], count: usize, fails: bool) -> bool {
     let mut writer = BrokenWriter::new(alloc, count, fails);
     let answer = play_lamp(alloc, &mut writer);
-    let wanted = if count < one_step_output().len() {
+    let wanted = if count < output.len() {
         Err(MonitorError::Write)
     } else {
         Ok(())
     };
-    answer == wanted && one_step_output().get(..count) == Some(writer.taken.as_slice())
+    answer == wanted && output.get(..count) == Some(writer.taken.as_slice())
 }
 
 #[test]
 fn a_writer_that_fails_or_takes_no_byte_has_a_front_of_the_output(rt: HostRuntime) {
-    assert!(rt; one_step_output().starts_with(b"T#0s SCAN "));
-    for count in 0..=one_step_output().len() {
-        assert!(rt; keeps_a_front(rt.alloc(), count, true), "{count}");
-        assert!(rt; keeps_a_front(rt.alloc(), count, false), "{count}");
+    let output = one_step().output;
+    for count in 0..=output.len() {
+        assert!(rt; keeps_a_front(rt.alloc(), output, count, true), "{count}");
+        assert!(rt; keeps_a_front(rt.alloc(), output, count, false), "{count}");
     }
 }
 
@@ -45,56 +46,81 @@ fn readers_and_a_writer_may_move_one_byte_a_call(rt: HostRuntime) {
     let mut writer = BrokenWriter::new(rt.alloc(), usize::MAX, true);
     writer.most = 1;
     assert_eq!(rt; play_lamp(rt.alloc(), &mut writer), Ok(()));
-    assert_eq!(rt; writer.taken.as_slice(), one_step_output());
+    assert_eq!(rt; writer.taken.as_slice(), one_step().output);
 }
 
-// What the replay of two readers answers, and whether nothing was written.
-fn play(
-    alloc: Global,
-    chart: &mut BrokenReader<'_>,
-    script: &mut BrokenReader<'_>,
-) -> (Result<(), MonitorError>, bool) {
-    let mut written = Vec::new(alloc);
-    let answer = replay(alloc, chart, script, &mut written);
-    (answer, written.is_empty())
+// A chart and a script of which one can be read to some place alone, and what the replay answers then.
+#[derive(Clone, Copy)]
+struct Cut {
+    chart: &'static [u8],
+    script: &'static [u8],
+    is_of_chart: bool,
+    wanted: MonitorError,
 }
 
 // A script whose second line is no command.
 const FAULTY_SCRIPT: &[u8] = b"T#0s SCAN Main\nT#0s JUMP\n";
 
-// The front of a text, and then a fault.
-fn cut(text: &[u8], count: usize) -> BrokenReader<'_> {
-    BrokenReader::new(&text[..count.min(text.len())], true)
+// A program type whose only step is not an initial one.
+const NO_INITIAL_STEP: &[u8] = b"PROGRAM Mix STEP S: END_STEP END_PROGRAM \
+CONFIGURATION C RESOURCE R ON Plc VAR_GLOBAL Lamp : BOOL; END_VAR \
+TASK Main(INTERVAL := T#10ms, PRIORITY := 1); PROGRAM P WITH Main : Mix; END_RESOURCE END_CONFIGURATION";
+
+// The chart can't be read; then the script; then the script, beside a chart whose refusal is told first.
+fn cuts() -> [Cut; 3] {
+    [
+        Cut {
+            chart: one_step().chart,
+            script: FAULTY_SCRIPT,
+            is_of_chart: true,
+            wanted: MonitorError::Read,
+        },
+        Cut {
+            chart: one_step().chart,
+            script: FAULTY_SCRIPT,
+            is_of_chart: false,
+            wanted: MonitorError::Read,
+        },
+        Cut {
+            chart: NO_INITIAL_STEP,
+            script: one_step().script,
+            is_of_chart: false,
+            wanted: MonitorError::Chart(ChartError::Load(LoadError::NoInitial)),
+        },
+    ]
 }
 
-#[test]
-fn nothing_is_written_where_the_chart_cannot_be_read(rt: HostRuntime) {
-    for count in 0..=one_step().len() {
-        let mut chart = cut(one_step(), count);
-        let mut script = BrokenReader::new(FAULTY_SCRIPT, false);
-        let answer = play(rt.alloc(), &mut chart, &mut script);
-        assert_eq!(rt; answer, (Err(MonitorError::Read), true), "{count}");
+// What the replay answers where the text breaks off behind so many bytes, and whether nothing was written.
+fn play_cut(alloc: Global, cut: Cut, count: usize) -> (Result<(), MonitorError>, bool) {
+    let mut chart = BrokenReader::new(cut.chart, cut.is_of_chart);
+    let mut script = BrokenReader::new(cut.script, !cut.is_of_chart);
+    if cut.is_of_chart {
+        chart.rest = &cut.chart[..count.min(cut.chart.len())];
+    } else {
+        script.rest = &cut.script[..count.min(cut.script.len())];
+    }
+    let mut written = Vec::new(alloc);
+    let answer = replay(alloc, &mut chart, &mut script, &mut written);
+    (answer, written.is_empty())
+}
+
+// Asks for the answer to the cut at each place, and that nothing is written.
+fn check_cut(rt: &impl Abort, alloc: Global, cut: Cut) {
+    let text = if cut.is_of_chart {
+        cut.chart
+    } else {
+        cut.script
+    };
+    for count in 0..=text.len() {
+        let answer = play_cut(alloc, cut, count);
+        assert_eq!(rt; answer, (Err(cut.wanted), true), "{count}");
     }
 }
 
 #[test]
-fn nothing_is_written_where_the_script_cannot_be_read(rt: HostRuntime) {
-    for count in 0..=FAULTY_SCRIPT.len() {
-        let mut chart = BrokenReader::new(one_step(), false);
-        let mut script = cut(FAULTY_SCRIPT, count);
-        let answer = play(rt.alloc(), &mut chart, &mut script);
-        assert_eq!(rt; answer, (Err(MonitorError::Read), true), "{count}");
-    }
-}
-
-#[test]
-fn a_refused_chart_is_told_before_the_script_is_read(rt: HostRuntime) {
-    let refused = MonitorError::Chart(ChartError::Load(LoadError::NoInitial));
-    for count in 0..=one_step_script().len() {
-        let mut chart = BrokenReader::new(no_initial_step(), false);
-        let mut script = cut(one_step_script(), count);
-        let answer = play(rt.alloc(), &mut chart, &mut script);
-        assert_eq!(rt; answer, (Err(refused), true), "{count}");
+fn nothing_is_written_where_a_text_cannot_be_read(rt: HostRuntime) {
+    for cut in cuts() {
+        check_cut(&rt, rt.alloc(), cut);
     }
 }
 

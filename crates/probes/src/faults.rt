@@ -1,53 +1,16 @@
 //! The texts and numbers of faults that no case gives.
 
 use sfc_chart::ids::TaskId;
-use sfc_chart::load_error::{Limit, LoadError};
 use sfc_core::Refusal;
-use sfc_monitor::monitor_error::{ChartError, MonitorError};
-use sfc_tokens::read_error::{ReadError, ReadErrorKind};
+use sfc_monitor::monitor_error::MonitorError;
 use std::test::Fail;
-
-// A chart that the loader refuses for this.
-fn of_load(error: LoadError) -> MonitorError {
-    MonitorError::Chart(ChartError::Load(error))
-}
-
-// Nesting that is too deep at this line.
-const TOO_DEEP: ReadError = ReadError {
-    kind: ReadErrorKind::TooDeep,
-    line: 5,
-};
 
 #[test]
 fn each_fault_has_a_text_and_a_status(rt: HostRuntime) -> Result<(), Fail> {
     let table = [
-        (MonitorError::Unsupported, "not supported", 1),
-        (MonitorError::Script(3), "script line 3", 1),
         (MonitorError::Read, "read fault", 3),
         (MonitorError::Write, "write fault", 3),
         (MonitorError::Memory, "out of memory", 4),
-        (
-            MonitorError::Chart(ChartError::Read(TOO_DEEP)),
-            "refused 5 TooDeep line 5",
-            1,
-        ),
-        (
-            of_load(LoadError::NotAssignable),
-            "refused 12 NotAssignable",
-            1,
-        ),
-        (of_load(LoadError::NotBool), "refused 17 NotBool", 1),
-        (of_load(LoadError::NotTime), "refused 18 NotTime", 1),
-        (
-            of_load(LoadError::Limit(Limit::Instances)),
-            "refused 22 Limit Instances",
-            1,
-        ),
-        (
-            of_load(LoadError::Limit(Limit::Tasks)),
-            "refused 22 Limit Tasks",
-            1,
-        ),
     ];
     for (fault, text, status) in table {
         let found = format!(in rt.alloc(); "{fault}")?;

@@ -1,5 +1,9 @@
-//! Tests of what no case can show: devices that fail, calls on their own, trees that no text gives, and the core
+//! Tests of what no case can show: devices that fail, calls on their own, whole trees and plants, and the core
 //! against a plain body.
+//!
+//! - `bench`: a resource, and all that it shows as text; `broken`: devices that fail; `texts`: charts.
+//! - `plain`: a body that searches back over all scans, which `mesh` compares with the core.
+//! - The rest: tests.
 #![tactic(auto)]
 
 #[cfg(test)]
@@ -26,7 +30,5 @@ mod texts;
 mod times;
 #[cfg(test)]
 mod tokens;
-#[cfg(test)]
-mod trees;
 #[cfg(test)]
 mod values;

@@ -3,8 +3,8 @@
 use crate::bench::Bench;
 use crate::plain::Plain;
 use sfc_chart::ids::{TaskId, VarId};
-use sfc_chart::value::Value;
 use sfc_core::{Event, Outcome};
+use sfc_expr::value::Value;
 use std::alloc::{AllocError, Global};
 use std::process::Abort;
 use std::test::Fail;
@@ -113,26 +113,9 @@ fn set_inputs(rt: &impl Abort, bench: &mut Bench, holds: &[bool], t: i64) {
     }
 }
 
-// Scans the bench at this instant, on time.
-fn scan(rt: &impl Abort, bench: &mut Bench, t: i64) {
-    let wanted = Outcome::Scanned {
-        ran: 1,
-        faulted: 0,
-        skipped: 0,
-        overruns: 0,
-    };
-    let answer = bench.apply(Event::Scan(TaskId(0)), t);
-    assert_eq!(rt; answer, Ok(wanted), "at {t}");
-}
-
 // The text of the mesh; behind a function, so that no proof goes through its bytes.
 fn mesh_text() -> &'static [u8] {
     MESH
-}
-
-// A bench of the mesh.
-fn mesh(alloc: Global) -> Result<Bench, Fail> {
-    Bench::open(alloc, mesh_text())
 }
 
 // The transitions and the initial steps; behind functions, so that no proof goes through them.
@@ -142,11 +125,6 @@ fn transitions() -> &'static [(usize, usize)] {
 
 fn initial() -> &'static [usize] {
     &INITIAL
-}
-
-// The mesh as a plain body.
-fn plain_mesh(alloc: Global) -> Plain<'static> {
-    Plain::new(alloc, transitions(), initial())
 }
 
 // The instant of a scan: up to two milliseconds behind its release.
@@ -165,8 +143,8 @@ struct Both {
 impl Both {
     // Both before the first scan.
     fn new(alloc: Global) -> Result<Both, Fail> {
-        let bench = mesh(alloc)?;
-        let plain = plain_mesh(alloc);
+        let bench = Bench::open(alloc, mesh_text())?;
+        let plain = Plain::new(alloc, transitions(), initial());
         Ok(Both { bench, plain })
     }
 
@@ -187,12 +165,13 @@ impl Both {
         t: i64,
     ) -> Result<usize, Fail> {
         set_inputs(rt, &mut self.bench, holds, t);
-        scan(rt, &mut self.bench, t);
+        let answer = self.bench.apply(Event::Scan(TaskId(0)), t);
+        assert!(rt; answer.is_ok(), "at {t}");
         Ok(self.plain.scan(alloc, holds, t)?)
     }
 }
 
-// The scan of this number of both, with new inputs, and what they show then. It tells how many transitions were cleared.
+// The scan of this number of both, with new inputs, and what they show then: how many transitions were cleared.
 fn check_number(
     rt: &impl Abort,
     alloc: Global,

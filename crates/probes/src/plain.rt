@@ -15,8 +15,8 @@ struct Row {
     left: Vec<usize>,
 }
 
-/// The transitions, each from a step to a step and the first rank first; the initial steps; and a row for each
-/// scan so far.
+/// The transitions, each from a step to a step and the first rank first; the initial steps; and a row for
+/// each scan so far.
 #[derive(Drop)]
 pub struct Plain<'a> {
     transitions: &'a [(usize, usize)],
@@ -37,8 +37,8 @@ fn is_active(rows: &[Row], step: usize) -> bool {
     false
 }
 
-// The time of the step after these rows: from the latest one that activated it to the first behind that one that left
-// it, or to the last row where none did.
+// The time of the step after these rows: from the latest one that activated it to the first behind that one that
+// left it, or to the last row where none did.
 fn time_of(rows: &[Row], step: usize) -> i64 {
     let mut time = 0;
     let mut begin = None;
@@ -71,8 +71,8 @@ impl<'a> Plain<'a> {
         }
     }
 
-    // The row of a scan where these conditions hold. It clears a transition where the step before it is active and no
-    // transition that ranks before it was cleared from the same step; the first scan activates the initial steps.
+    // The row of a scan where these conditions hold. It clears a transition where the step before it is active and
+    // no transition that ranks before it was cleared from the same step; the first scan activates the initial steps.
     fn row(&self, alloc: Global, holds: &[bool], at: i64) -> Result<Row, AllocError> {
         let mut cleared = Vec::new(alloc);
         let mut activated = Vec::new(alloc);
@@ -142,8 +142,8 @@ impl<'a> Plain<'a> {
         Ok(times)
     }
 
-    /// What a bench of the chart shows: an action's Q and variable go with its step, and it is executed while its step
-    /// is active and in the scan behind that.
+    /// What a bench of the chart shows where each scan comes in time: an action's Q and variable go with its step,
+    /// and it is executed while its step is active and in the scan behind that.
     pub fn shown(&self, alloc: Global) -> Result<String, AllocError> {
         let scans = self.rows.len();
         let active = self.steps(alloc, false)?;
@@ -155,7 +155,7 @@ impl<'a> Plain<'a> {
             None => &[],
         };
         format!(in alloc;
-            "{scans} active {active:?} activated {activated:?} elapsed {elapsed:?} cleared {cleared:?} q {active:?} executed {executed:?} true {active:?}"
+            "{scans} active {active:?} activated {activated:?} elapsed {elapsed:?} cleared {cleared:?} q {active:?} executed {executed:?} true {active:?} overruns 0"
         )
     }
 }

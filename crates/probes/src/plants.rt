@@ -1,215 +1,239 @@
-//! What is loaded of a text: each part of the plant.
+//! What is loaded of a text: each part of the plant, by number where the text has names.
 
-use crate::texts::source_of;
-use sfc_chart::chart::{ProgramType, Step, Target, Transition};
-use sfc_chart::expr::Expr;
+use crate::texts::{mixture, plant_of, written_out};
 use sfc_chart::ids::{ProgId, TaskId, VarId};
-use sfc_chart::load::load;
-use sfc_chart::name_key::NameKey;
-use sfc_chart::plant::{Instance, Plant, Task, Variable};
-use sfc_chart::simple::Qualifier;
-use sfc_chart::value::Value;
-use sfc_tokens::location::{Area, Size};
-use sfc_tokens::var_type::VarType;
-use std::alloc::{AllocError, Global};
+use sfc_chart::plant::Plant;
+use sfc_program::program_type::ProgramType;
+use std::alloc::Global;
 use std::process::Abort;
 use std::test::Fail;
 
-// Four variables, two of them located; three steps and two transitions.
-const MIXED: &[u8] = b"PROGRAM Mix STEP S1: END_STEP INITIAL_STEP s2: OUT(N); A(); a(N); END_STEP \
-TRANSITION FROM S2 TO S1 := go; END_TRANSITION TRANSITION FROM S3 TO S2 := FALSE; END_TRANSITION \
-STEP S3: END_STEP END_PROGRAM CONFIGURATION C RESOURCE R ON Plc VAR_GLOBAL \
-Go AT %IX0.1 : BOOL; a, B : BOOL; Out AT %q2 : BOOL; END_VAR \
-TASK Main(INTERVAL := T#10ms, PRIORITY := 1); PROGRAM P WITH Main : Mix; END_RESOURCE END_CONFIGURATION";
-
-// The plant of it.
-fn plant(alloc: Global) -> Result<Plant, Fail> {
-    let source = source_of(alloc, MIXED)?;
-    Ok(load(alloc, &source)?)
+// What a plant is to be, in the short form of `written_out`: all but its program types, and these one by one.
+#[derive(Clone, Copy)]
+struct Wanted {
+    parts: &'static str,
+    types: &'static [&'static str],
 }
 
-// The variables of the plant.
-fn variables(plant: &Plant) -> &[Variable] {
-    plant.variables()
+const MIXTURE: Wanted = Wanted {
+    parts: "'c' 'r' 'plc' \
+[Variable { name: 'out', var_type: Bool, location: Some(Location { area: Output, size: Bit, numbers: <0, 1> }), \
+initial: Bool(false) }] \
+[Task { name: 'main', single: None, interval: 10000, priority: 1 }] \
+[Instance { name: 'p', task: TaskId(0), program: 0 }]",
+    types: &[
+        "'mix' \
+[Variable { name: 'n', var_type: Int, location: None, initial: Int(255) }, \
+Variable { name: 't1', var_type: Time, location: None, initial: Time(90900000000) }] <> \
+Chart { steps: <\
+Step { name: 's0', is_initial: true, associations: <\
+Association { target: Declared(ActionId(0)), qualifier: RisingPulse, indicators: <Local(LocalId(0))> }, \
+Association { target: Boolean(Global(GlobalId(0))), qualifier: NonStored, indicators: <> }> }, \
+Step { name: 's1', is_initial: false, associations: <\
+Association { target: Boolean(Global(GlobalId(0))), \
+qualifier: Timed(StoredLimited, Variable(Local(LocalId(1)))), indicators: <> }> }>, \
+transitions: <Transition { name: Some('go'), priority: Some(2), preceding: <StepId(0)>, following: <StepId(1)>, \
+condition: Condition { expr: Binary(Or, Bool, \
+Binary(Greater, Int, Binary(Multiply, Int, Binary(Add, Int, Variable(Local(LocalId(0))), Literal(Int(1))), \
+Literal(Int(-2))), Minus(Int, Literal(Int(5)))), \
+Not(Binary(And, Bool, Variable(Global(GlobalId(0))), \
+Binary(GreaterOrEqual, Time, StepTime(StepId(0)), Literal(Time(1500000)))))) } }>, \
+actions: <Action { name: 'act', body: Statements { statements: [If([When(\
+Binary(Equal, Int, Variable(Local(LocalId(0))), Literal(Int(3))), \
+[Assign { target: Local(LocalId(0)), value: Binary(Subtract, Int, Variable(Local(LocalId(0))), \
+Binary(Subtract, Int, Literal(Int(1)), Variable(Local(LocalId(0))))) }])])] } }> }",
+    ],
+};
+
+// Two program types with variables of their own, externals, globals at both levels, a task with SINGLE and one with
+// an interval, and two instances.
+const PAIR_TEXT: &[u8] = b"PROGRAM Fill
+VAR_EXTERNAL Lamp, Go : BOOL; END_VAR
+VAR Wait : TIME := T#2s; Full, Halt : BOOL := TRUE; Count : DINT := -7; END_VAR
+INITIAL_STEP Idle: Report(P0); Lamp(R); END_STEP
+STEP Open: Full(L, T#1500ms, Count, Lamp); Halt(D, Wait); Lamp(S); END_STEP
+STEP Watch: Halt(P); Halt(SD, T#0s); Full(DS, T#-1s); END_STEP
+TRANSITION FROM Idle TO (Open, Watch) := Go; END_TRANSITION
+TRANSITION Back (PRIORITY := 0) FROM (Watch, Open) TO Idle := Open.X XOR Count <= -7; END_TRANSITION
+ACTION Report: IF report.q THEN Lamp := FALSE; ELSIF Halt THEN ELSE Count := Count MOD 16#0A; END_IF; END_ACTION
+ACTION Rest: END_ACTION
+END_PROGRAM
+CONFIGURATION Works VAR_GLOBAL Go AT %IX0.3 : BOOL; END_VAR
+RESOURCE Cpu ON Plc VAR_GLOBAL Lamp : BOOL; Level AT %MD7 : DINT := 5; END_VAR
+TASK Slow(INTERVAL := T#1s, PRIORITY := 4);
+TASK Once(SINGLE := GO, PRIORITY := 0);
+PROGRAM A WITH once : FILL;
+PROGRAM B WITH Slow : Blink;
+END_RESOURCE END_CONFIGURATION
+PROGRAM Blink
+VAR Lamp : INT; END_VAR
+INITIAL_STEP S: END_STEP
+TRANSITION FROM S TO S := lamp <> 2; END_TRANSITION
+END_PROGRAM";
+
+const PAIR: Wanted = Wanted {
+    parts: "'Works' 'Cpu' 'Plc' \
+[Variable { name: 'Go', var_type: Bool, location: Some(Location { area: Input, size: Bit, numbers: <0, 3> }), \
+initial: Bool(false) }, \
+Variable { name: 'Lamp', var_type: Bool, location: None, initial: Bool(false) }, \
+Variable { name: 'Level', var_type: Dint, location: Some(Location { area: Memory, size: DoubleWord, numbers: <7> }), \
+initial: Dint(5) }] \
+[Task { name: 'Slow', single: None, interval: 1000000, priority: 4 }, \
+Task { name: 'Once', single: Some(GlobalId(0)), interval: 0, priority: 0 }] \
+[Instance { name: 'A', task: TaskId(1), program: 0 }, \
+Instance { name: 'B', task: TaskId(0), program: 1 }]",
+    types: &[
+        "'Fill' \
+[Variable { name: 'Wait', var_type: Time, location: None, initial: Time(2000000) }, \
+Variable { name: 'Full', var_type: Bool, location: None, initial: Bool(true) }, \
+Variable { name: 'Halt', var_type: Bool, location: None, initial: Bool(true) }, \
+Variable { name: 'Count', var_type: Dint, location: None, initial: Dint(-7) }] <GlobalId(1), GlobalId(0)> \
+Chart { steps: <\
+Step { name: 'Idle', is_initial: true, associations: <\
+Association { target: Declared(ActionId(0)), qualifier: FallingPulse, indicators: <> }, \
+Association { target: Boolean(Global(GlobalId(1))), qualifier: Reset, indicators: <> }> }, \
+Step { name: 'Open', is_initial: false, associations: <\
+Association { target: Boolean(Local(LocalId(1))), qualifier: Timed(Limited, Literal(1500000)), \
+indicators: <Local(LocalId(3)), Global(GlobalId(1))> }, \
+Association { target: Boolean(Local(LocalId(2))), qualifier: Timed(Delayed, Variable(Local(LocalId(0)))), \
+indicators: <> }, \
+Association { target: Boolean(Global(GlobalId(1))), qualifier: Set, indicators: <> }> }, \
+Step { name: 'Watch', is_initial: false, associations: <\
+Association { target: Boolean(Local(LocalId(2))), qualifier: Pulse, indicators: <> }, \
+Association { target: Boolean(Local(LocalId(2))), qualifier: Timed(StoredDelayed, Literal(0)), indicators: <> }, \
+Association { target: Boolean(Local(LocalId(1))), qualifier: Timed(DelayedStored, Literal(-1000000)), \
+indicators: <> }> }>, \
+transitions: <\
+Transition { name: None, priority: None, preceding: <StepId(0)>, following: <StepId(1), StepId(2)>, \
+condition: Condition { expr: Variable(Global(GlobalId(0))) } }, \
+Transition { name: Some('Back'), priority: Some(0), preceding: <StepId(2), StepId(1)>, following: <StepId(0)>, \
+condition: Condition { expr: Binary(Xor, Bool, StepActive(StepId(1)), \
+Binary(LessOrEqual, Dint, Variable(Local(LocalId(3))), Literal(Dint(-7)))) } }>, \
+actions: <\
+Action { name: 'Report', body: Statements { statements: [If([\
+When(ActionQ, [Assign { target: Global(GlobalId(1)), value: Literal(Bool(false)) }]), \
+When(Variable(Local(LocalId(2))), []), \
+Otherwise([Assign { target: Local(LocalId(3)), \
+value: Binary(Modulo, Dint, Variable(Local(LocalId(3))), Literal(Dint(10))) }])])] } }, \
+Action { name: 'Rest', body: Statements { statements: [] } }> }",
+        "'Blink' \
+[Variable { name: 'Lamp', var_type: Int, location: None, initial: Int(0) }] <> \
+Chart { steps: <Step { name: 'S', is_initial: true, associations: <> }>, \
+transitions: <Transition { name: None, priority: None, preceding: <StepId(0)>, following: <StepId(0)>, \
+condition: Condition { expr: Binary(NotEqual, Int, Variable(Local(LocalId(0))), Literal(Int(2))) } }>, \
+actions: <> }",
+    ],
+};
+
+// The texts with their plants, behind a function, so that no proof goes through them.
+fn plants() -> [(&'static [u8], Wanted); 2] {
+    [(mixture(), MIXTURE), (PAIR_TEXT, PAIR)]
 }
 
-// The tasks of the plant.
-fn tasks(plant: &Plant) -> &[Task] {
-    plant.tasks()
-}
-
-// The instances of the plant.
-fn instances(plant: &Plant) -> &[Instance] {
-    plant.instances()
-}
-
-// The program types of the plant.
-fn types(plant: &Plant) -> &[ProgramType] {
-    plant.types()
-}
-
-// Whether configuration, resource and processor have these names.
-fn is_headed(plant: &Plant, configuration: &[u8], resource: &[u8], processor: &[u8]) -> bool {
-    plant.configuration().spelling() == configuration
-        && plant.resource().spelling() == resource
-        && plant.processor().spelling() == processor
-}
-
-// Whether it is the task of the chart.
-fn is_task(task: &Task) -> bool {
-    task.name.spelling() == b"Main".as_slice() && task.interval == 10_000 && task.priority == 1
-}
-
-// Whether it is the instance of the chart.
-fn is_instance(instance: &Instance) -> bool {
-    instance.name.spelling() == b"P".as_slice()
-        && instance.task == TaskId(0)
-        && instance.program == 0
-}
-
-#[test]
-fn names_the_task_and_the_instance_are_kept(rt: HostRuntime) -> Result<(), Fail> {
-    let plant = plant(rt.alloc())?;
-    assert!(rt; is_headed(&plant, b"C", b"R", b"Plc"));
-    let ([task], [instance]) = (tasks(&plant), instances(&plant)) else {
-        rt.panic("a task and an instance")
-    };
-    assert!(rt; is_task(task));
-    assert!(rt; is_instance(instance));
+// Asks for this plant but for its program types.
+fn check_parts(rt: &impl Abort, alloc: Global, plant: &Plant, wanted: &str) -> Result<(), Fail> {
+    let configuration = plant.configuration();
+    let (resource, processor) = (plant.resource(), plant.processor());
+    let (globals, tasks, instances) = (plant.globals(), plant.tasks(), plant.instances());
+    let found = format!(in alloc;
+        "{configuration:?} {resource:?} {processor:?} {globals:?} {tasks:?} {instances:?}"
+    )?;
+    let wanted = written_out(alloc, wanted)?;
+    assert_eq!(rt; found, wanted);
     Ok(())
 }
 
-// Whether it has this name, is BOOL and begins FALSE.
-fn is_variable(variable: &Variable, name: &[u8]) -> bool {
-    variable.name.spelling() == name
-        && variable.var_type == VarType::Bool
-        && variable.initial == Value::Bool(false)
+// Asks for this program type.
+fn check_type(
+    rt: &impl Abort,
+    alloc: Global,
+    program: &ProgramType,
+    wanted: &str,
+) -> Result<(), Fail> {
+    let (name, locals) = (&program.name, program.locals.as_slice());
+    let (externals, chart) = (&program.externals, &program.chart);
+    let found = format!(in alloc; "{name:?} {locals:?} {externals:?} {chart:?}")?;
+    let wanted = written_out(alloc, wanted)?;
+    assert_eq!(rt; found, wanted);
+    Ok(())
 }
 
-// Whether it lies there.
-fn lies_at(variable: &Variable, area: Area, numbers: &[u32]) -> bool {
-    match &variable.location {
-        Some(location) => {
-            location.area() == area && location.size() == Size::Bit && location.numbers() == numbers
-        }
-        None => false,
+// Asks for this plant.
+fn check_plant(rt: &impl Abort, alloc: Global, plant: &Plant, wanted: Wanted) -> Result<(), Fail> {
+    check_parts(rt, alloc, plant, wanted.parts)?;
+    assert_eq!(rt; plant.types().len(), wanted.types.len());
+    for (program, wanted) in plant.types().iter().zip(wanted.types) {
+        check_type(rt, alloc, program, wanted)?;
+    }
+    Ok(())
+}
+
+// Asks for this plant of a text.
+fn check_text(rt: &impl Abort, alloc: Global, text: &[u8], wanted: Wanted) -> Result<(), Fail> {
+    let plant = plant_of(alloc, text)?;
+    check_plant(rt, alloc, &plant, wanted)
+}
+
+#[test]
+fn each_chart_is_loaded_as_its_plant(rt: HostRuntime) -> Result<(), Fail> {
+    for (text, wanted) in plants() {
+        check_text(&rt, rt.alloc(), text, wanted)?;
+    }
+    Ok(())
+}
+
+// Asks for what names stand for among the variables, tasks, instances and types of the pair.
+fn check_names(rt: &impl Abort, plant: &Plant) {
+    let table = [
+        (b"gO".as_slice(), (Some(VarId(0)), None, None, None)),
+        (b"LEVEL", (Some(VarId(2)), None, None, None)),
+        (b"slow", (None, Some(TaskId(0)), None, None)),
+        (b"oNCE", (None, Some(TaskId(1)), None, None)),
+        (b"a", (None, None, Some(ProgId(0)), None)),
+        (b"B", (None, None, Some(ProgId(1)), None)),
+        (b"FILL", (None, None, None, Some(0))),
+        (b"blink", (None, None, None, Some(1))),
+        (b"Wait", (None, None, None, None)),
+        (b"Open", (None, None, None, None)),
+        (b"", (None, None, None, None)),
+    ];
+    for (name, wanted) in table {
+        let (variable, task) = (plant.find_variable(name), plant.find_task(name));
+        let (instance, program) = (plant.find_instance(name), plant.find_type(name));
+        let found = (variable, task, instance, program);
+        assert!(rt; found == wanted, "of {name:?}");
     }
 }
 
-// Asks for the two variables that are located.
-fn check_located(rt: &impl Abort, first: &Variable, last: &Variable) {
-    assert!(rt; is_variable(first, b"Go"));
-    assert!(rt; lies_at(first, Area::Input, &[0, 1]));
-    assert!(rt; is_variable(last, b"Out"));
-    assert!(rt; lies_at(last, Area::Output, &[2]));
-}
-
-// Asks for the variables of the chart.
-fn check_variables(rt: &impl Abort, variables: &[Variable]) {
-    let [go, a, b, out] = variables else {
-        rt.panic("four variables")
-    };
-    check_located(rt, go, out);
-    assert!(rt; is_variable(a, b"a") && a.location.is_none());
-    assert!(rt; is_variable(b, b"B") && b.location.is_none());
-}
-
-#[test]
-fn variables_stand_in_the_order_of_the_text(rt: HostRuntime) -> Result<(), Fail> {
-    let plant = plant(rt.alloc())?;
-    check_variables(&rt, variables(&plant));
-    Ok(())
-}
-
-// The numbers of the variables that the step associates, all by N.
-fn targets(alloc: Global, step: &Step) -> Result<Vec<u16>, AllocError> {
-    let mut numbers = Vec::new(alloc);
-    for association in step.associations.as_slice() {
-        let (Qualifier::NonStored, Target::Boolean(id)) = (
-            association.qualifier,
-            association.target,
-        );
-        numbers.push(id.0)?;
+// Asks for what names stand for among the steps, actions, transitions and own variables of the first type.
+fn check_names_of_type(rt: &impl Abort, program: &ProgramType) {
+    let table = [
+        (b"IDLE".as_slice(), (Some(0), None, None, None)),
+        (b"watch", (Some(2), None, None, None)),
+        (b"report", (None, Some(0), None, None)),
+        (b"REST", (None, Some(1), None, None)),
+        (b"back", (None, None, Some(1), None)),
+        (b"HALT", (None, None, None, Some(2))),
+        (b"Lamp", (None, None, None, None)),
+        (b"", (None, None, None, None)),
+    ];
+    for (name, wanted) in table {
+        let (step, action) = (program.find_step(name), program.find_action(name));
+        let (transition, local) = (program.find_transition(name), program.locals.find(name));
+        let found = (step, action, transition, local);
+        assert!(rt; found == wanted, "of {name:?}");
+        assert!(rt; program.locals.contains(name) == local.is_some());
     }
-    Ok(numbers)
-}
-
-// Whether the step has this name, and is initial or not.
-fn is_step(step: &Step, name: &[u8], is_initial: bool) -> bool {
-    step.name.spelling() == name && step.is_initial == is_initial
-}
-
-// Asks for the steps of the chart.
-fn check_steps(rt: &impl Abort, alloc: Global, steps: &[Step]) -> Result<(), Fail> {
-    let [first, second, third] = steps else {
-        rt.panic("three steps")
-    };
-    assert!(rt; is_step(first, b"S1", false) && first.associations.is_empty());
-    assert!(rt; is_step(third, b"S3", false) && third.associations.is_empty());
-    assert!(rt; is_step(second, b"s2", true));
-    assert!(rt; targets(alloc, second)?.as_slice() == [3, 1, 1].as_slice());
-    Ok(())
-}
-
-// Whether the transition joins these steps under this condition.
-fn is_transition(transition: &Transition, from: usize, to: usize, condition: Expr) -> bool {
-    transition.preceding.as_slice() == [from].as_slice()
-        && transition.following.as_slice() == [to].as_slice()
-        && transition.condition == condition
-}
-
-// Asks for the transitions of the chart.
-fn check_transitions(rt: &impl Abort, transitions: &[Transition]) {
-    let [first, second] = transitions else {
-        rt.panic("two transitions")
-    };
-    assert!(rt; is_transition(first, 1, 0, Expr::Variable(VarId(0))));
-    assert!(rt; is_transition(second, 2, 1, Expr::Literal(Value::Bool(false))));
-}
-
-// Asks for the program type of the chart.
-fn check_type(rt: &impl Abort, alloc: Global, types: &[ProgramType]) -> Result<(), Fail> {
-    let [program] = types else {
-        rt.panic("one program type")
-    };
-    assert!(rt; program.name.spelling() == b"Mix".as_slice());
-    check_transitions(rt, program.chart.transitions.as_slice());
-    check_steps(rt, alloc, program.chart.steps.as_slice())
-}
-
-#[test]
-fn a_program_type_has_numbers_in_the_place_of_names(rt: HostRuntime) -> Result<(), Fail> {
-    let plant = plant(rt.alloc())?;
-    check_type(&rt, rt.alloc(), types(&plant))
-}
-
-// The variable, the task and the instance of a name.
-type Found = (Option<VarId>, Option<TaskId>, Option<ProgId>);
-
-// What a name stands for in the plant.
-fn found(alloc: Global, plant: &Plant, name: &[u8]) -> Result<Found, AllocError> {
-    let key = NameKey::new(alloc, name)?;
-    let variable = plant.find_variable(&key);
-    let task = plant.find_task(&key);
-    let instance = plant.find_instance(&key);
-    Ok((variable, task, instance))
 }
 
 #[test]
 fn a_name_is_found_in_any_case(rt: HostRuntime) -> Result<(), Fail> {
-    let plant = plant(rt.alloc())?;
-    let table = [
-        (b"gO".as_slice(), (Some(VarId(0)), None, None)),
-        (b"a", (Some(VarId(1)), None, None)),
-        (b"OUT", (Some(VarId(3)), None, None)),
-        (b"main", (None, Some(TaskId(0)), None)),
-        (b"p", (None, None, Some(ProgId(0)))),
-        (b"S1", (None, None, None)),
-        (b"MIX", (None, None, None)),
-        (b"", (None, None, None)),
-    ];
-    for (name, wanted) in table {
-        assert!(rt; found(rt.alloc(), &plant, name)? == wanted);
-    }
+    let [_, (pair, _)] = plants();
+    let plant = plant_of(rt.alloc(), pair)?;
+    check_names(&rt, &plant);
+    let Some(fill) = plant.types().first() else {
+        rt.panic("no program type")
+    };
+    check_names_of_type(&rt, fill);
     Ok(())
 }

@@ -1,107 +1,56 @@
-//! What is read of a text: each part of the trees that are loaded.
+//! What is read of a text: its whole tree.
 
-use crate::texts::{go_along, source_of};
-use sfc_chart::simple::{Configuration, Element, Expression, Program, Qualifier, Step, Transition};
-use sfc_tokens::var_type::VarType;
+use crate::texts::{mixture, written_out};
+use sfc_text::read::read;
+use sfc_text::tree::Source;
 use std::alloc::Global;
 use std::process::Abort;
 use std::test::Fail;
 
-// Asks for a step of this kind and name, with these actions.
-fn check_step(rt: &impl Abort, step: &Step, is_initial: bool, name: &[u8], actions: &[&[u8]]) {
-    assert_eq!(rt; step.is_initial, is_initial);
-    assert_eq!(rt; step.name.spelling(), name);
-    assert_eq!(rt; step.associations.len(), actions.len());
-    for (association, action) in step.associations.as_slice().iter().zip(actions) {
-        assert_eq!(rt; association.action.spelling(), *action);
-        assert_eq!(rt; association.qualifier, Qualifier::NonStored);
-    }
+// The tree of the mixture (Annex B), in the short form of `written_out`.
+const MIXTURE_TREE: &str = "Source { \
+programs: <Program { name: 'mix', \
+variables: <Local(<\
+Declaration { names: <'n'>, location: None, var_type: Int, initial: Some(Integer(255)) }, \
+Declaration { names: <'t1'>, location: None, var_type: Time, initial: Some(Time(TimeValue { micros: 90900000000 })) }>)>, \
+elements: <\
+Step(Step { is_initial: true, name: 's0', associations: <\
+Association { action: 'act', qualifier: RisingPulse, indicators: <'n'> }, \
+Association { action: 'out', qualifier: NonStored, indicators: <> }> }), \
+Step(Step { is_initial: false, name: 's1', associations: <\
+Association { action: 'out', qualifier: Timed(StoredLimited, Variable('t1')), indicators: <> }> }), \
+Transition(Transition { name: Some('go'), priority: Some(2), preceding: <'s0'>, following: <'s1'>, condition: \
+Binary(Or, Binary(Greater, Binary(Multiply, \
+Binary(Add, Variable(Variable { name: 'n', part: None }), Literal(Integer(1))), Literal(Integer(-2))), \
+Minus(Literal(Integer(5)))), \
+Not(Binary(And, Variable(Variable { name: 'out', part: None }), \
+Binary(GreaterOrEqual, Variable(Variable { name: 's0', part: Some('t') }), \
+Literal(Time(TimeValue { micros: 1500000 })))))) }), \
+Action(Action { name: 'act', body: [If([When(\
+Binary(Equal, Variable(Variable { name: 'n', part: None }), Literal(Integer(3))), \
+[Assign(Variable { name: 'n', part: None }, Binary(Subtract, Variable(Variable { name: 'n', part: None }), \
+Binary(Subtract, Literal(Integer(1)), Variable(Variable { name: 'n', part: None }))))])])] })> }>, \
+configuration: Configuration { name: 'c', resource: 'r', processor: 'plc', \
+globals: <Declaration { names: <'out'>, \
+location: Some(Location { area: Output, size: Bit, numbers: <0, 1> }), var_type: Bool, initial: None }>, \
+tasks: <Task { name: 'main', single: None, interval: TimeValue { micros: 10000 }, priority: 1 }>, \
+instances: <Instance { name: 'p', task: Some('main'), program: 'mix' }> } }";
+
+// The same, behind a function, so that no proof goes through it.
+fn mixture_tree() -> &'static str {
+    MIXTURE_TREE
 }
 
-// Asks for the one transition of the chart.
-fn check_transition(rt: &impl Abort, transition: &Transition) {
-    let [from] = transition.preceding.as_slice() else {
-        rt.panic("preceding steps")
-    };
-    let [to] = transition.following.as_slice() else {
-        rt.panic("following steps")
-    };
-    assert_eq!(rt; from.spelling(), b"S1".as_slice());
-    assert_eq!(rt; to.spelling(), b"S2".as_slice());
-    let Expression::Name(condition) = &transition.condition else {
-        rt.panic("a condition")
-    };
-    assert_eq!(rt; condition.spelling(), b"Go".as_slice());
-}
-
-// Asks for the program type of the chart.
-fn check_program(rt: &impl Abort, program: &Program) {
-    assert_eq!(rt; program.name.spelling(), b"Mix".as_slice());
-    let [
-        Element::Step(first),
-        Element::Step(second),
-        Element::Transition(transition),
-    ] = program.elements.as_slice()
-    else {
-        rt.panic("two steps and a transition")
-    };
-    check_step(rt, first, true, b"S1", &[b"Lamp"]);
-    check_step(rt, second, false, b"S2", &[]);
-    check_transition(rt, transition);
-}
-
-// Asks for the variables of the chart.
-fn check_globals(rt: &impl Abort, alloc: Global, configuration: &Configuration) {
-    let [go, lamp] = configuration.globals.as_slice() else {
-        rt.panic("two declarations")
-    };
-    assert_eq!(rt; go.var_type, VarType::Bool);
-    assert_eq!(rt; lamp.var_type, VarType::Bool);
-    let ([go_name], [lamp_name]) = (go.names.as_slice(), lamp.names.as_slice()) else {
-        rt.panic("a name each")
-    };
-    assert_eq!(rt; go_name.spelling(), b"Go".as_slice());
-    assert_eq!(rt; lamp_name.spelling(), b"Lamp".as_slice());
-    assert!(rt; lamp.location.is_none());
-    let Some(location) = &go.location else {
-        rt.panic("a location")
-    };
-    let location = format!(in alloc; "{location:?}").expect(rt, "memory");
-    assert_eq!(rt;
-        location.as_str(),
-        "Location { area: Input, size: Bit, numbers: Items { elements: [0, 0] } }"
-    );
-}
-
-// Asks for the task and the instance of the chart.
-fn check_configuration(rt: &impl Abort, configuration: &Configuration) {
-    assert_eq!(rt; configuration.name.spelling(), b"C".as_slice());
-    assert_eq!(rt; configuration.resource.spelling(), b"R".as_slice());
-    assert_eq!(rt; configuration.processor.spelling(), b"Plc".as_slice());
-    let ([task], [instance]) = (
-        configuration.tasks.as_slice(),
-        configuration.instances.as_slice(),
-    ) else {
-        rt.panic("a task and an instance")
-    };
-    assert_eq!(rt; task.name.spelling(), b"Main".as_slice());
-    assert_eq!(rt; (task.interval.micros(), task.priority), (10_000, 1));
-    assert_eq!(rt; instance.name.spelling(), b"P".as_slice());
-    assert_eq!(rt; instance.program.spelling(), b"Mix".as_slice());
-    let Some(given) = &instance.task else {
-        rt.panic("a task of the instance")
-    };
-    assert_eq!(rt; given.spelling(), b"Main".as_slice());
+// Asks for the tree of the mixture.
+fn check_tree(rt: &impl Abort, alloc: Global, source: &Source) -> Result<(), Fail> {
+    let found = format!(in alloc; "{source:?}")?;
+    let wanted = written_out(alloc, mixture_tree())?;
+    assert_eq!(rt; found, wanted);
+    Ok(())
 }
 
 #[test]
 fn a_chart_is_read_as_its_tree(rt: HostRuntime) -> Result<(), Fail> {
-    let source = source_of(rt.alloc(), go_along())?;
-    let [program] = source.programs.as_slice() else {
-        rt.panic("one program type")
-    };
-    check_program(&rt, program);
-    check_globals(&rt, rt.alloc(), &source.configuration);
-    check_configuration(&rt, &source.configuration);
-    Ok(())
+    let source = read(rt.alloc(), mixture())?;
+    check_tree(&rt, rt.alloc(), &source)
 }

@@ -1,10 +1,18 @@
-//! Charts, a script and what it prints. A text stands behind a function, so that no proof goes through its bytes.
+//! Charts, and a script and what it prints. A text stands behind a function, so that no proof goes through it.
 
-use sfc_chart::narrow::narrow;
-use sfc_chart::simple::Source;
+use sfc_chart::load::load;
+use sfc_chart::plant::Plant;
 use sfc_text::read::read;
-use std::alloc::Global;
+use std::alloc::{AllocError, Global};
 use std::test::Fail;
+
+/// A chart, a script for it, and what that prints.
+#[derive(Clone, Copy)]
+pub struct Replay {
+    pub chart: &'static [u8],
+    pub script: &'static [u8],
+    pub output: &'static [u8],
+}
 
 // A lamp that is lit by the one step.
 const ONE_STEP: &[u8] = b"PROGRAM Mix INITIAL_STEP S: Lamp(N); END_STEP END_PROGRAM \
@@ -29,13 +37,8 @@ T#20ms SCAN Main overruns 0
 image Lamp TRUE
 ";
 
-// Two steps, and an input that lets the first one go.
-const GO_ALONG: &[u8] = b"PROGRAM Mix INITIAL_STEP S1: Lamp(N); END_STEP STEP S2: END_STEP \
-TRANSITION FROM S1 TO S2 := Go; END_TRANSITION END_PROGRAM \
-CONFIGURATION C RESOURCE R ON Plc VAR_GLOBAL Go AT %IX0.0 : BOOL; Lamp : BOOL; END_VAR \
-TASK Main(INTERVAL := T#10ms, PRIORITY := 1); PROGRAM P WITH Main : Mix; END_RESOURCE END_CONFIGURATION";
-
-// A chart with something of each kind: an action with a body, timed qualifiers, a priority, an expression of many operators.
+// A chart with something of each kind: an action with a body, a qualifier with a time, a priority, an expression of
+// many operators.
 const MIXTURE: &[u8] = b"PROGRAM mix
 var n : int := 16#FF; t1 : time := t#25h_15m; end_var
 initial_step s0: act(p1, n); out(); end_step
@@ -50,43 +53,40 @@ task main(interval := t#10ms, priority := 1);
 program p with main : mix;
 end_resource end_configuration";
 
-// A program type whose only step is not an initial one.
-const NO_INITIAL_STEP: &[u8] = b"PROGRAM Mix STEP S: END_STEP END_PROGRAM \
-CONFIGURATION C RESOURCE R ON Plc VAR_GLOBAL Lamp : BOOL; END_VAR \
-TASK Main(INTERVAL := T#10ms, PRIORITY := 1); PROGRAM P WITH Main : Mix; END_RESOURCE END_CONFIGURATION";
-
 /// A chart with something of each kind.
 pub fn mixture() -> &'static [u8] {
     MIXTURE
 }
 
-/// A lamp that is lit by the one step.
-pub fn one_step() -> &'static [u8] {
-    ONE_STEP
+/// A lamp that is lit by the one step, and three scans of it.
+pub fn one_step() -> Replay {
+    Replay {
+        chart: ONE_STEP,
+        script: ONE_STEP_SCRIPT,
+        output: ONE_STEP_OUTPUT,
+    }
 }
 
-/// Three scans of it.
-pub fn one_step_script() -> &'static [u8] {
-    ONE_STEP_SCRIPT
+/// What the text is loaded as.
+pub fn plant_of(alloc: Global, text: &[u8]) -> Result<Plant, Fail> {
+    let source = read(alloc, text)?;
+    Ok(load(alloc, &source)?)
 }
 
-/// What they print.
-pub fn one_step_output() -> &'static [u8] {
-    ONE_STEP_OUTPUT
-}
-
-/// Two steps, and an input that lets the first one go.
-pub fn go_along() -> &'static [u8] {
-    GO_ALONG
-}
-
-/// A program type whose only step is not an initial one.
-pub fn no_initial_step() -> &'static [u8] {
-    NO_INITIAL_STEP
-}
-
-/// The trees of a chart, as they are loaded.
-pub fn source_of(alloc: Global, text: &[u8]) -> Result<Source, Fail> {
-    let tree = read(alloc, text)?;
-    Ok(narrow(alloc, &tree)?.ok_or("it is not supported")?)
+/// A tree as `{:?}` writes it, from a shorter text, in which a name stands between quotes, and the elements of a
+/// list between angle brackets.
+pub fn written_out(alloc: Global, short: &str) -> Result<String, AllocError> {
+    let mut text = String::new(alloc);
+    let mut is_name = false;
+    for part in short.split('\'') {
+        if is_name {
+            let bytes = part.as_bytes();
+            write!(text, "Name {{ bytes: {bytes:?} }}")?;
+        } else {
+            text.push_str(part)?;
+        }
+        is_name = !is_name;
+    }
+    let opened = text.replace(alloc, '<', "Items { elements: [")?;
+    opened.replace(alloc, '>', "] }")
 }

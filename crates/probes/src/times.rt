@@ -6,13 +6,6 @@ use std::alloc::Global;
 use std::process::Abort;
 use std::test::Fail;
 
-// The text of a value.
-fn text_of(alloc: Global, micros: i64) -> Result<Vec<u8>, Fail> {
-    let mut written = Vec::new(alloc);
-    put_time(micros, &mut written)?;
-    Ok(written)
-}
-
 // Asks for this text of a value, and for what duration the text is.
 fn check(
     rt: &impl Abort,
@@ -21,7 +14,8 @@ fn check(
     text: &[u8],
     read: Option<i64>,
 ) -> Result<(), Fail> {
-    let found = text_of(alloc, micros)?;
+    let mut found = Vec::new(alloc);
+    put_time(micros, &mut found)?;
     assert!(rt; found.as_slice() == text, "of {micros}");
     assert!(rt; duration(text) == read, "of {micros}");
     Ok(())
