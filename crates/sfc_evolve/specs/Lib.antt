@@ -1,0 +1,12 @@
+-- The rules, in reading order.
+
+-- look-backs over the rows of a life
+pub mod Lookback
+-- sets of steps
+pub mod Marks
+-- cleared transitions, active steps, step times
+pub mod Evolution
+-- how much a scan handles
+pub mod Work
+-- What private clauses cite.
+pub mod Private
