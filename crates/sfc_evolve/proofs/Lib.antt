@@ -1,0 +1,3 @@
+pub mod Flagged
+pub mod Looks
+pub mod TableFacts

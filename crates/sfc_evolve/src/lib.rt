@@ -1,8 +1,12 @@
 //! Active steps and cleared transitions of one program instance (IEC 61131-3:2003, 2.6.2, 2.6.3, 2.6.5).
 //!
 //! - `clearing`: which transitions a scan clears.
+//! - `marking`: the steps before and after cleared transitions.
 //! - `marks`: tests and writes at listed steps.
+//! - `times`: when steps were activated, and the times that they keep.
 #![tactic(auto)]
 
 mod clearing;
+mod marking;
 mod marks;
+mod times;
