@@ -8,5 +8,7 @@ pub mod Marks
 pub mod Evolution
 -- how much a scan handles
 pub mod Work
+-- what a `Steps` agrees with
+pub mod Agreement
 -- What private clauses cite.
 pub mod Private

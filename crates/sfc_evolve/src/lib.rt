@@ -3,10 +3,14 @@
 //! - `clearing`: which transitions a scan clears.
 //! - `marking`: the steps before and after cleared transitions.
 //! - `marks`: tests and writes at listed steps.
+//! - `starting`: initial steps in the first scan.
+//! - `steps`: the steps of a program instance.
 //! - `times`: when steps were activated, and the times that they keep.
 #![tactic(auto)]
 
 mod clearing;
 mod marking;
 mod marks;
+mod starting;
+pub mod steps;
 mod times;

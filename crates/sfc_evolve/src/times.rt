@@ -3,12 +3,16 @@
 ghost use Rattle.std.specs.Prelude.{◌≡◌, ◌≤ℤ◌, ◌-ℤ◌, ◌^◌, pos, length};
 ghost use Rattle.sfc_expr.specs.Ticks.{Within};
 ghost use Rattle.sfc_flags.specs.Flags.{places_from};
+ghost use Rattle.sfc_tables.specs.Tables.{AreTables};
 ghost use Rattle.sfc_evolve.specs.Marks.{AllBelow};
-ghost use Rattle.sfc_evolve.specs.Private.Keeping.{AreInstants, left_at, begun_at};
+ghost use Rattle.sfc_evolve.specs.Evolution.{preceding_of};
+ghost use Rattle.sfc_evolve.specs.Private.Keeping.{AreInstants, left_at, left_by, begun_at, side_work};
 
 use sfc_expr::ticks::Ticks;
 use sfc_expr::variable::StepId;
 use sfc_flags::flags::Flags;
+use sfc_tables::ids::TransitionId;
+use sfc_tables::tables::Tables;
 
 // The time since an instant.
 fn time_since(since: i64, t: i64) -> i64
@@ -52,5 +56,40 @@ pub fn begin(since: &mut [i64], on: &Flags, t: i64, ticks: &mut Ticks)
     'places: while let Some(s) = on.next_set(at, ticks) {
         since[s] = t;
         at = s + 1;
+    }
+}
+
+/// The steps before the cleared transitions keep their times, as they are at t.
+pub fn keep_times(tables: &Tables, cleared: &Flags, kept: &mut [i64], since: &[i64], t: i64, ticks: &mut Ticks)
+    requires tables { AreTables tables.now }
+    requires cleared_len { length cleared.now ≡ length tables.now.sides }
+    requires since_len { length since.now ≡ length tables.now.initial }
+    requires kept_len { length kept.old ≡ length since.now }
+    requires instants { AreInstants since.now }
+    requires low { pos 0 ≤ℤ t }
+    requires high { t ≤ℤ pos (2 ^ 62) }
+    ensures kept { kept.new ≡ left_by t since.now (preceding_of tables.now.sides) (places_from cleared.now 0) kept.old }
+    ensures ticks { Within (side_work (λ sides. sides.preceding) tables.now.sides) ticks.old ticks.new }
+{
+    let mut at = 0;
+    'cleared: while let Some(tr) = cleared.next_set(at, ticks) {
+        leave(kept, since, tables.preceding(TransitionId(tr as u16)), t, ticks);
+        at = tr + 1;
+    }
+}
+
+/// Takes over all instants and times.
+pub fn copy_times(since: &mut [i64], kept: &mut [i64], from_since: &[i64], from_kept: &[i64], ticks: &mut Ticks)
+    requires kept_len { length kept.old ≡ length since.old }
+    requires from_since_len { length from_since.now ≡ length since.old }
+    requires from_kept_len { length from_kept.now ≡ length since.old }
+    ensures since { since.new ≡ from_since.now }
+    ensures kept { kept.new ≡ from_kept.now }
+    ensures ticks { Within (length since.old) ticks.old ticks.new }
+{
+    for s in 0..since.len() {
+        ticks.tick();
+        since[s] = from_since[s];
+        kept[s] = from_kept[s];
     }
 }
