@@ -1,3 +1,4 @@
 pub mod Flagged
 pub mod Looks
+pub mod Next
 pub mod TableFacts

@@ -1,7 +1,8 @@
 -- What tables name is there.
-use Rattle.std.proofs.Common.{◌≡◌, ℕ, zero, suc, ◌+◌, ◌-◌, ◌<◌, ◌≤◌, List, [], ◌∷◌, length, get_or, drop, refl, sym, ◌∙◌, ap, subst, arith}
+use Rattle.std.proofs.Common.{◌≡◌, ℕ, zero, suc, ◌+◌, ◌-◌, ◌<◌, ◌≤◌, List, [], ◌∷◌, length, get_or, drop, refl, sym, ◌∙◌, ap, subst, inl, inr, arith}
 use Rattle.std.specs.Prelude.{map, All, sum_by}
 use Rattle.std.specs.List.{range_with_len}
+use Rattle.std.proofs.lemmas.Bool.{cases_lt}
 use Rattle.std.proofs.lemmas.List.Elements.{All-nil, All-cons, All-map}
 use Rattle.std.proofs.lemmas.List.Sorted.{All-permutation, sum_by-IsPermutation}
 use Rattle.std.proofs.lemmas.List.Sums.{sum_by-cons}
@@ -59,3 +60,26 @@ module _ (side : Sides → List StepId) where
   work_left (s ∷ all) zero (suc tr) le lt = omega (arith, work_left all 0 tr (omega arith) (omega arith), side_work-cons s all)
   work_left (s ∷ all) (suc at) zero le lt = absurd (omega arith)
   work_left (s ∷ all) (suc at) (suc tr) le lt = omega (arith, work_left all at tr (omega arith) (omega arith))
+
+-- ---- all sides, beyond the last transition too
+
+at_past : (all : List Sides) (i : ℕ) (d : Sides) → length all ≤ i → get_or all i d ≡ d
+at_past [] i d le = refl
+at_past (s ∷ all) zero d le = absurd (omega arith)
+at_past (s ∷ all) (suc i) d le = at_past all i d (omega arith)
+
+pub all_preceding_below : (tables : Tabled) → AreTables tables → (tr : TransitionId) → AllBelow (length tables.initial) (sides_at tables.sides tr).preceding
+all_preceding_below tables sound tr = elim (cases_lt tr.0 (length tables.sides)) [
+  | inl lt ↦ (sides_below tables sound tr lt).preceding
+  | inr le ↦ (
+      let none : sides_at tables.sides tr ≡ record { preceding = []; following = [] } = at_past tables.sides tr.0 record { preceding = []; following = [] } le in
+      subst (λ (sides : Sides). AllBelow (length tables.initial) sides.preceding) (sym none) (All-nil (λ (step : StepId). step.0 < length tables.initial)))
+]
+
+pub all_following_below : (tables : Tabled) → AreTables tables → (tr : TransitionId) → AllBelow (length tables.initial) (sides_at tables.sides tr).following
+all_following_below tables sound tr = elim (cases_lt tr.0 (length tables.sides)) [
+  | inl lt ↦ (sides_below tables sound tr lt).following
+  | inr le ↦ (
+      let none : sides_at tables.sides tr ≡ record { preceding = []; following = [] } = at_past tables.sides tr.0 record { preceding = []; following = [] } le in
+      subst (λ (sides : Sides). AllBelow (length tables.initial) sides.following) (sym none) (All-nil (λ (step : StepId). step.0 < length tables.initial)))
+]

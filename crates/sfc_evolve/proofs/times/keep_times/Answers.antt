@@ -12,7 +12,17 @@ leave-requires-clause-steps c =
     c.preceding.result.now c.preceding.ensures
 
 pub cleared-preserved : goal.cleared-preserved
-cleared-preserved c = ?
+cleared-preserved c =
+    let sides = c.args.tables.now.sides in
+    let tr = c.in-Some.tr in
+    let s : suc tr ≡ tr + 1 = omega arith in
+    record {
+      rest = rw (c.leave.ensures.kept, c.preceding.ensures) (rw c.in-Some.ensures.some.2 at c.cleared.invariant.rest);
+      within = omega (arith, c.in-Some.ensures.some);
+      rises = omega (arith, c.in-Some.ensures.ticks);
+      ticks =
+      omega (arith, work_left (λ (x : Sides). x.preceding) sides c.cleared.at tr (omega (arith, c.in-Some.ensures.some)) (omega (arith, c.in-Some.ensures.some)), ap (λ k. side_work (λ (x : Sides). x.preceding) (drop k sides)) s, ap length c.preceding.ensures, c.in-Some.ensures.ticks);
+    }
 
 pub returns-clause-ticks : goal.returns-clause-ticks
 returns-clause-ticks c =
