@@ -1,8 +1,8 @@
 -- What writes leave at each step.
-use Rattle.std.proofs.Common.{◌≡◌, ◌⊎◌, inl, inr, ℕ, zero, suc, ◌+◌, ◌<◌, ◌≤◌, ◌==◌, ◌||◌, ◌&&◌, not, Bool, true, false, cond, List, [], ◌∷◌, length, get_or, arith, refl, sym, ◌∙◌, ap, subst, ℤ, ◌-ℤ◌, pos}
+use Rattle.std.proofs.Common.{◌≡◌, inl, inr, ℕ, zero, suc, ◌+◌, ◌<◌, ◌==◌, ◌||◌, ◌&&◌, not, Bool}
+use Rattle.std.proofs.Common.{true, false, cond, List, [], ◌∷◌, length, arith, refl, sym, ◌∙◌, ap, ℤ, ◌-ℤ◌}
 use Rattle.std.specs.Prelude.{slice_set, All}
-use Rattle.std.specs.List.{list_any, list_all}
-use Rattle.std.proofs.lemmas.Bool.{cases_lt}
+use Rattle.std.specs.List.{list_any}
 use Rattle.std.proofs.lemmas.Bool.Decides.{nat_tests}
 use Rattle.std.proofs.lemmas.Grind.{common_steps}
 use Rattle.std.proofs.lemmas.List.{length-set}
@@ -18,13 +18,17 @@ use Rattle.sfc_evolve.proofs.Looks.{bool_cases}
 one_set : (flags : List Bool) (b : Bool) (p s : ℕ) → p < length flags → flag (slice_set flags p b) s ≡ cond (p == s) b (flag flags s)
 one_set flags b p s lt = elim (bool_cases (p == s)) [
   | inl e ↦ (let same : p ≡ s = grind (arith, nat_tests) in rw e (grind (arith, common_steps)))
-  | inr e ↦ (let apart : p ≡ s → ⊥ = λ h. (let t : (p == s) ≡ true = grind (arith, nat_tests) in let bad : true ≡ false = sym t ∙ e in absurd cc) in rw e (grind (arith, common_steps)))
+  | inr e ↦ (let apart : p ≡ s
+      → ⊥ = λ h. (let t : (p == s) ≡ true = grind (arith, nat_tests) in let bad : true ≡ false = sym t ∙ e in absurd cc) in
+      rw e (grind (arith, common_steps)))
 ]
 
 one_put : (xs : List ℤ) (v : ℤ) (p s : ℕ) → p < length xs → number (slice_set xs p v) s ≡ cond (p == s) v (number xs s)
 one_put xs v p s lt = elim (bool_cases (p == s)) [
   | inl e ↦ (let same : p ≡ s = grind (arith, nat_tests) in rw e (grind (arith, common_steps)))
-  | inr e ↦ (let apart : p ≡ s → ⊥ = λ h. (let t : (p == s) ≡ true = grind (arith, nat_tests) in let bad : true ≡ false = sym t ∙ e in absurd cc) in rw e (grind (arith, common_steps)))
+  | inr e ↦ (let apart : p ≡ s
+      → ⊥ = λ h. (let t : (p == s) ≡ true = grind (arith, nat_tests) in let bad : true ≡ false = sym t ∙ e in absurd cc) in
+      rw e (grind (arith, common_steps)))
 ]
 
 -- ---- flags of listed steps
@@ -43,7 +47,8 @@ set_step true false f = refl
 set_step false true f = refl
 set_step false false f = refl
 
-pub flag-marked : (n : ℕ) (steps : List StepId) (flags : List Bool) (s : ℕ) → length flags ≡ n → AllBelow n steps → flag (marked steps flags) s ≡ (has steps s || flag flags s)
+pub flag-marked : (n : ℕ) (steps : List StepId) (flags : List Bool) (s : ℕ) → length flags ≡ n → AllBelow n steps
+    → flag (marked steps flags) s ≡ (has steps s || flag flags s)
 flag-marked n [] flags s long below = refl
 flag-marked n (p ∷ steps) flags s long below =
     let here = All-head (λ (step : StepId). step.0 < n) p steps below in
@@ -57,7 +62,8 @@ clear_step true false f = refl
 clear_step false true f = refl
 clear_step false false f = refl
 
-flag-unmarked : (n : ℕ) (steps : List StepId) (flags : List Bool) (s : ℕ) → length flags ≡ n → AllBelow n steps → flag (unmarked steps flags) s ≡ (not (has steps s) && flag flags s)
+flag-unmarked : (n : ℕ) (steps : List StepId) (flags : List Bool) (s : ℕ) → length flags ≡ n → AllBelow n steps
+    → flag (unmarked steps flags) s ≡ (not (has steps s) && flag flags s)
 flag-unmarked n [] flags s long below = refl
 flag-unmarked n (p ∷ steps) flags s long below =
     let here = All-head (λ (step : StepId). step.0 < n) p steps below in
@@ -83,9 +89,11 @@ number-left_at n t since [] kept s long below = refl
 number-left_at n t since (p ∷ steps) kept s long below =
     let here = All-head (λ (step : StepId). step.0 < n) p steps below in
     let v = t -ℤ number since p.0 in
-    number-left_at n t since steps (slice_set kept p.0 v) s (length-set _ _ _ ∙ long) (All-tail (λ (step : StepId). step.0 < n) p steps below)
+    number-left_at n t since steps (slice_set kept p.0 v) s (length-set _ _ _ ∙ long)
+    (All-tail (λ (step : StepId). step.0 < n) p steps below)
     ∙ ap (λ k. cond (has steps s) (t -ℤ number since s) k) (one_put kept v p.0 s (omega arith))
-    ∙ put_step (has steps s) (p.0 == s) (t -ℤ number since s) v (number kept s) (λ e. let same : p.0 ≡ s = grind (arith, nat_tests) in ap (λ k. t -ℤ number since k) same)
+    ∙ put_step (has steps s) (p.0 == s) (t -ℤ number since s) v (number kept s)
+    (λ e. let same : p.0 ≡ s = grind (arith, nat_tests) in ap (λ k. t -ℤ number since k) same)
 
 pub number-begun_at : (n : ℕ) (t : ℤ) (places : List ℕ) (since : List ℤ) (s : ℕ) → length since ≡ n → All (λ p. p < n) places
     → number (begun_at t places since) s ≡ cond (list_any (λ p. p == s) places) t (number since s)
@@ -108,7 +116,8 @@ module _ (n : ℕ) (side : ℕ → List StepId) (within : (tr : ℕ) → AllBelo
   or_turn false true c = refl
   or_turn false false c = refl
 
-  pub flag-marked_by : (trs : List ℕ) (flags : List Bool) (s : ℕ) → length flags ≡ n → flag (changed_by marked side trs flags) s ≡ (some trs s || flag flags s)
+  pub flag-marked_by : (trs : List ℕ) (flags : List Bool) (s : ℕ) → length flags ≡ n
+      → flag (changed_by marked side trs flags) s ≡ (some trs s || flag flags s)
   flag-marked_by [] flags s long = refl
   flag-marked_by (tr ∷ trs) flags s long =
       flag-marked_by trs (marked (side tr) flags) s (length-marked (side tr) flags ∙ long)
@@ -121,7 +130,8 @@ module _ (n : ℕ) (side : ℕ → List StepId) (within : (tr : ℕ) → AllBelo
   and_turn false true c = refl
   and_turn false false c = refl
 
-  pub flag-unmarked_by : (trs : List ℕ) (flags : List Bool) (s : ℕ) → length flags ≡ n → flag (changed_by unmarked side trs flags) s ≡ (not (some trs s) && flag flags s)
+  pub flag-unmarked_by : (trs : List ℕ) (flags : List Bool) (s : ℕ) → length flags ≡ n
+      → flag (changed_by unmarked side trs flags) s ≡ (not (some trs s) && flag flags s)
   flag-unmarked_by [] flags s long = refl
   flag-unmarked_by (tr ∷ trs) flags s long =
       flag-unmarked_by trs (unmarked (side tr) flags) s (length-unmarked (side tr) flags ∙ long)
@@ -153,7 +163,8 @@ set_member : (i s k : ℕ) (flags : List Bool) → k ≡ i + s → list_any (λ 
 set_member i s k [] e = refl
 set_member i zero k (true ∷ flags) e = let t : (i == k) ≡ true = grind (arith, nat_tests) in rw t refl
 set_member i zero k (false ∷ flags) e = none_below (suc i) k flags (omega arith)
-set_member i (suc s) k (true ∷ flags) e = let t : (i == k) ≡ false = grind (arith, nat_tests) in rw t (set_member (suc i) s k flags (omega arith))
+set_member i (suc s) k (true ∷ flags) e = let t : (i == k) ≡ false = grind (arith, nat_tests) in
+    rw t (set_member (suc i) s k flags (omega arith))
 set_member i (suc s) k (false ∷ flags) e = set_member (suc i) s k flags (omega arith)
 
 pub is_member : (flags : List Bool) (s : ℕ) → list_any (λ p. p == s) (places_from flags 0) ≡ flag flags s

@@ -2,3 +2,4 @@ pub mod Flagged
 pub mod Looks
 pub mod Next
 pub mod TableFacts
+pub mod Works

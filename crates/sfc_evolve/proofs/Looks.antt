@@ -1,6 +1,6 @@
 -- How a new row changes the look-backs.
-use Rattle.std.proofs.Common.{◌≡◌, ◌||◌, ◌&&◌, ◌⊎◌, inl, inr, not, Bool, true, false, cond, List, [], ◌∷◌, refl, sym, ◌∙◌, ap, Option, Some, None, ℤ, ◌-ℤ◌, pos}
-use Rattle.std.specs.List.{list_any, find}
+use Rattle.std.proofs.Common.{◌≡◌, ◌⊎◌, inl, inr, not, Bool, true, false, List, [], ◌∷◌, refl, sym, ◌∙◌, ap, Option, Some, None, ℤ, ◌-ℤ◌}
+use Rattle.std.specs.List.{find}
 use Rattle.sfc_evolve.specs.Lookback.{leading, oldest, or_else, is_in, time_from, time_in}
 
 pub bool_cases : (b : Bool) → (b ≡ true) ⊎ (b ≡ false)
@@ -36,7 +36,8 @@ module _ {A : Type 0} (on off : A → Bool) (at : A → ℤ) (apart : (x : A) �
   pub time_on : (row : A) (h : List A) (now : ℤ) → on row ≡ true → time_in on off at (row ∷ h) now ≡ (now -ℤ at row)
   time_on row h now p = rw p refl
 
-  pub time_kept : (row : A) (h : List A) (now : ℤ) → on row ≡ false → off row ≡ false → time_in on off at (row ∷ h) now ≡ time_in on off at h now
+  pub time_kept : (row : A) (h : List A) (now : ℤ) → on row ≡ false → off row ≡ false
+      → time_in on off at (row ∷ h) now ≡ time_in on off at h now
   time_kept row h now p q =
       rw (p, q) (ap (time_from at now (find on h)) (or_none (oldest off (leading (λ row. not (on row)) h))))
 
@@ -51,7 +52,8 @@ module _ {A : Type 0} (on off : A → Bool) (at : A → ℤ) (apart : (x : A) �
     ]
   ]
 
-  pub time_off_in : (row : A) (h : List A) (now : ℤ) → on row ≡ false → off row ≡ true → is_in on off h ≡ true → time_in on off at (row ∷ h) now ≡ time_in on off at h (at row)
+  pub time_off_in : (row : A) (h : List A) (now : ℤ) → on row ≡ false → off row ≡ true → is_in on off h ≡ true
+      → time_in on off at (row ∷ h) now ≡ time_in on off at h (at row)
   time_off_in row h now p q e = let o : oldest off (leading (λ row. not (on row)) h) ≡ None = in_goes_on h e in
       rw (p, o, q) (ended (find on h) row now)
 
@@ -70,7 +72,8 @@ module _ {A : Type 0} (on off : A → Bool) (at : A → ℤ) (apart : (x : A) �
   ]
 
   -- a step that is out never came on, or has ended
-  out_ended : (h : List A) → is_in on off h ≡ false → (find on h ≡ None) ⊎ ((y : A) × (oldest off (leading (λ row. not (on row)) h) ≡ Some y))
+  out_ended : (h : List A) → is_in on off h ≡ false
+      → (find on h ≡ None) ⊎ ((y : A) × (oldest off (leading (λ row. not (on row)) h) ≡ Some y))
   out_ended [] e = inl refl
   out_ended (x ∷ h) e = elim (bool_cases (on x)) [
     | inl p ↦ absurd (let bad : true ≡ false = sym (is_in_on x h p) ∙ e in cc)
@@ -83,7 +86,8 @@ module _ {A : Type 0} (on off : A → Bool) (at : A → ℤ) (apart : (x : A) �
     ]
   ]
 
-  pub time_off_out : (row : A) (h : List A) (now : ℤ) → on row ≡ false → off row ≡ true → is_in on off h ≡ false → time_in on off at (row ∷ h) now ≡ time_in on off at h now
+  pub time_off_out : (row : A) (h : List A) (now : ℤ) → on row ≡ false → off row ≡ true → is_in on off h ≡ false
+      → time_in on off at (row ∷ h) now ≡ time_in on off at h now
   time_off_out row h now p q e = elim (out_ended h e) [
     | inl f ↦ rw (p, f) refl
     | inr k ↦ (let eq : oldest off (leading (λ row. not (on row)) h) ≡ Some k.0 = k.1 in rw (p, eq) refl)
@@ -95,5 +99,6 @@ module _ {A : Type 0} (on off : A → Bool) (at : A → ℤ) (apart : (x : A) �
   ended_by (Some a) (Some k) row now = refl
 
   -- a row that goes off stops the time there, unless it stood already
-  pub time_off : (row : A) (h : List A) (now : ℤ) → on row ≡ false → off row ≡ true → time_in on off at (row ∷ h) now ≡ time_in on off at h (at row)
+  pub time_off : (row : A) (h : List A) (now : ℤ) → on row ≡ false → off row ≡ true
+      → time_in on off at (row ∷ h) now ≡ time_in on off at h (at row)
   time_off row h now p q = rw (p, q) (ended_by (find on h) (oldest off (leading (λ row. not (on row)) h)) row now)

@@ -1,5 +1,5 @@
 -- Which transitions a scan clears, which steps are active, and for how long (2.6.2, 2.6.3, 2.6.5).
-use Rattle.std.specs.Prelude.{ℕ, Bool, false, cond, not, ◌&&◌, ◌||◌, List, [], ◌∷◌, length, ℤ, pos, replicate, slice_set}
+use Rattle.std.specs.Prelude.{ℕ, Bool, false, cond, not, ◌&&◌, ◌||◌, List, [], ◌∷◌, length, ℤ, replicate, slice_set}
 use Rattle.std.specs.List.{list_any, list_all}
 use Rattle.sfc_expr.specs.declared.variable.StepId.{StepId}
 use Rattle.sfc_flags.specs.Flags.{flag, places_from}
@@ -53,7 +53,8 @@ cleared_in sides active conditions (tr ∷ ranked) used cleared =
 -- the transitions that a scan clears, where these steps were active before it
 abbrev pub cleared_set : Tabled → (ℕ → Bool) → List Bool → List Bool
 cleared_set tables active conditions =
-    cleared_in tables.sides active conditions tables.ranked (replicate (step_count tables) false) (replicate (transition_count tables) false)
+    cleared_in tables.sides active conditions tables.ranked (replicate (step_count tables) false)
+    (replicate (transition_count tables) false)
 
 -- the step is among these steps of a cleared transition
 abbrev pub some_cleared : (ℕ → List StepId) → List Bool → ℕ → Bool

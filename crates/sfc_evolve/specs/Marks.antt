@@ -1,5 +1,5 @@
 -- Sets of steps as flags.
-use Rattle.std.specs.Prelude.{ℕ, ◌<◌, ◌==◌, Bool, true, false, List, [], ◌∷◌, All, slice_set}
+use Rattle.std.specs.Prelude.{ℕ, ◌<◌, ◌==◌, Bool, true, List, [], ◌∷◌, All, slice_set}
 use Rattle.std.specs.List.{list_any}
 use Rattle.sfc_expr.specs.declared.variable.StepId.{StepId}
 

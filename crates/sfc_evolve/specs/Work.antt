@@ -1,5 +1,5 @@
 -- How much a scan handles, at most: steps, transitions, and links of transitions to steps.
-use Rattle.std.specs.Prelude.{ℕ, ◌+◌, ◌*◌, List, length, sum_by}
+use Rattle.std.specs.Prelude.{ℕ, ◌+◌, ◌*◌, length, sum_by}
 use Rattle.sfc_tables.specs.Tables.{Sides, Tabled}
 
 abbrev pub links : Tabled → ℕ

@@ -15,7 +15,13 @@ use sfc_flags::flags::Flags;
 use sfc_tables::tables::Tables;
 
 // Whether a transition is cleared after those whose preceding steps are used; if so it uses its own.
-fn clear_one(preceding: &[StepId], condition: bool, active: &Flags, used: &mut Flags, ticks: &mut Ticks) -> bool
+fn clear_one(
+    preceding: &[StepId],
+    condition: bool,
+    active: &Flags,
+    used: &mut Flags,
+    ticks: &mut Ticks,
+) -> bool
     requires within { AllBelow (length active.now) preceding.now }
     requires used_len { length used.old ≡ length active.now }
     ensures value { result ≡ is_cleared (flag active.now) condition preceding.now used.old }
@@ -24,7 +30,9 @@ fn clear_one(preceding: &[StepId], condition: bool, active: &Flags, used: &mut F
     ensures ticks { Within (1 + 3 * length preceding.now) ticks.old ticks.new }
 {
     ticks.tick();
-    let clears = all_set(active, preceding, ticks) && condition && !some_set(used, preceding, ticks);
+    let clears = all_set(active, preceding, ticks)
+        && condition
+        && !some_set(used, preceding, ticks);
     if clears {
         mark(used, preceding, ticks);
     }
@@ -51,7 +59,13 @@ pub fn clear_in_order(
     ensures ticks { Within (clearing_work tables.now.sides tables.now.ranked) ticks.old ticks.new }
 {
     for tr in tables.ranked() {
-        let clears = clear_one(tables.preceding(*tr), conditions[tr.0 as usize], active, used, ticks);
+        let clears = clear_one(
+            tables.preceding(*tr),
+            conditions[tr.0 as usize],
+            active,
+            used,
+            ticks,
+        );
         cleared.set(tr.0 as usize, clears);
     }
 }

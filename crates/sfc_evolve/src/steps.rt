@@ -84,7 +84,14 @@ impl Steps {
         let _steps = tables.steps();
         self.used.clear_all(ticks);
         self.cleared.clear_all(ticks);
-        clear_in_order(tables, conditions, &self.active, &mut self.used, &mut self.cleared, ticks);
+        clear_in_order(
+            tables,
+            conditions,
+            &self.active,
+            &mut self.used,
+            &mut self.cleared,
+            ticks,
+        );
         keep_times(tables, &self.cleared, &mut self.kept, &self.since, t, ticks);
         unmark_preceding(tables, &self.cleared, &mut self.active, ticks);
         start(tables, !self.begun, &mut self.on, ticks);
@@ -163,7 +170,13 @@ impl Steps {
         self.active.copy_from(&other.active, ticks);
         self.on.copy_from(&other.on, ticks);
         self.cleared.copy_from(&other.cleared, ticks);
-        copy_times(&mut self.since, &mut self.kept, &other.since, &other.kept, ticks);
+        copy_times(
+            &mut self.since,
+            &mut self.kept,
+            &other.since,
+            &other.kept,
+            ticks,
+        );
         self.begun = other.begun;
     }
 }

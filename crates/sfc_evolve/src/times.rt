@@ -60,7 +60,14 @@ pub fn begin(since: &mut [i64], on: &Flags, t: i64, ticks: &mut Ticks)
 }
 
 /// The steps before the cleared transitions keep their times, as they are at t.
-pub fn keep_times(tables: &Tables, cleared: &Flags, kept: &mut [i64], since: &[i64], t: i64, ticks: &mut Ticks)
+pub fn keep_times(
+    tables: &Tables,
+    cleared: &Flags,
+    kept: &mut [i64],
+    since: &[i64],
+    t: i64,
+    ticks: &mut Ticks,
+)
     requires tables { AreTables tables.now }
     requires cleared_len { length cleared.now ≡ length tables.now.sides }
     requires since_len { length since.now ≡ length tables.now.initial }
@@ -73,13 +80,25 @@ pub fn keep_times(tables: &Tables, cleared: &Flags, kept: &mut [i64], since: &[i
 {
     let mut at = 0;
     'cleared: while let Some(tr) = cleared.next_set(at, ticks) {
-        leave(kept, since, tables.preceding(TransitionId(tr as u16)), t, ticks);
+        leave(
+            kept,
+            since,
+            tables.preceding(TransitionId(tr as u16)),
+            t,
+            ticks,
+        );
         at = tr + 1;
     }
 }
 
 /// Takes over all instants and times.
-pub fn copy_times(since: &mut [i64], kept: &mut [i64], from_since: &[i64], from_kept: &[i64], ticks: &mut Ticks)
+pub fn copy_times(
+    since: &mut [i64],
+    kept: &mut [i64],
+    from_since: &[i64],
+    from_kept: &[i64],
+    ticks: &mut Ticks,
+)
     requires kept_len { length kept.old ≡ length since.old }
     requires from_since_len { length from_since.now ≡ length since.old }
     requires from_kept_len { length from_kept.now ≡ length since.old }

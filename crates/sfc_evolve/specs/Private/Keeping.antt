@@ -1,12 +1,12 @@
 -- What is kept of the scans of a life, in place of their rows.
-use Rattle.std.specs.Prelude.{ℕ, ◌≡◌, ◌<◌, ◌^◌, ◌+◌, ◌*◌, Bool, false, not, cond, List, [], ◌∷◌, ℤ, pos, ◌-ℤ◌, ◌≤ℤ◌, length, slice_index_or, slice_set, sum_by}
+use Rattle.std.specs.Prelude.{ℕ, ◌≡◌, ◌<◌, ◌^◌, ◌+◌, ◌*◌, Bool, false, not, cond}
+use Rattle.std.specs.Prelude.{List, [], ◌∷◌, ℤ, pos, ◌-ℤ◌, ◌≤ℤ◌, length, slice_index_or, slice_set, sum_by}
 use Rattle.sfc_expr.specs.declared.variable.StepId.{StepId}
 use Rattle.sfc_flags.specs.Flags.{flag}
 use Rattle.sfc_tables.specs.declared.ids.TransitionId.{TransitionId}
 use Rattle.sfc_tables.specs.Tables.{Sides, Tabled, sides_at}
 use Rattle.sfc_evolve.specs.Lookback.{is_empty}
-use Rattle.sfc_evolve.specs.Marks.{marked}
-use Rattle.sfc_evolve.specs.Evolution.{Scan, step_count, rows_of, is_active, step_time, was_cleared, was_activated, is_cleared}
+use Rattle.sfc_evolve.specs.Evolution.{Scan, step_count, rows_of, is_active, step_time, was_cleared, was_activated}
 
 abbrev pub number : List ℤ → ℕ → ℤ
 number xs s = slice_index_or xs s (pos 0)
@@ -42,7 +42,8 @@ begun_at t (s ∷ places) since = begun_at t places (slice_set since s t)
 
 -- of each step: whether it is active, when it was last activated, the time that it kept when it was left, and whether
 -- the latest scan activated it; of each transition, whether the latest scan cleared it
-pub record AreKept (tables : Tabled) (begun : Bool) (active : List Bool) (since kept : List ℤ) (cleared activated : List Bool) (scans : List Scan) : Type 0 where
+pub record AreKept (tables : Tabled) (begun : Bool) (active : List Bool) (since kept : List ℤ) (cleared activated : List Bool)
+    (scans : List Scan) : Type 0 where
   pub has_begun : begun ≡ not (is_empty scans)
   pub activity : (s : ℕ) → s < step_count tables → flag active s ≡ is_active tables (rows_of tables scans) s
   pub time : (s : ℕ) → s < step_count tables → (now : ℤ) →

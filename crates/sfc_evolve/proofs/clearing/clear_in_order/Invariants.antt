@@ -11,5 +11,6 @@ invariant-loop-tr l = record {
   used_len : length l.used ≡ length l.initial.used;
   cleared_len : length l.cleared ≡ length l.initial.cleared;
   rises : l.initial.ticks.count ≤ l.ticks.count;
-  ticks : l.ticks.count + clearing_work l.tables.sides (drop l.tr-index l.tr-items) ≤ l.initial.ticks.count + clearing_work l.tables.sides l.tr-items;
+  ticks : l.ticks.count + clearing_work l.tables.sides
+      (drop l.tr-index l.tr-items) ≤ l.initial.ticks.count + clearing_work l.tables.sides l.tr-items;
 }

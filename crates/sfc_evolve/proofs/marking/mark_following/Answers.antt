@@ -1,4 +1,4 @@
-use Rattle.std.proofs.Common.{◌≡◌, ◌+◌, ◌<◌, ◌≤◌, suc, arith, length, drop, ap, ◌∙◌}
+use Rattle.std.proofs.Common.{◌≡◌, ◌+◌, suc, arith, length, drop, ap}
 use Rattle.std.proofs.lemmas.List.{length-drop}
 use Rattle.sfc_flags.specs.Flags.{places_passed}
 use Rattle.sfc_tables.specs.Tables.{Sides}
@@ -8,7 +8,8 @@ use Rattle.sfc_evolve.proofs.marking.mark_following.Goals as goal
 
 pub mark-requires : goal.mark-requires
 mark-requires c =
-    following_below c.args.tables.now c.requires.tables (length c.cleared.on) (omega arith) record { 0 = c.in-Some.tr } (omega (arith, c.in-Some.ensures.some))
+    following_below c.args.tables.now c.requires.tables (length c.cleared.on) (omega arith) record { 0 = c.in-Some.tr }
+    (omega (arith, c.in-Some.ensures.some))
     c.following.result.now c.following.ensures
 
 pub cleared-preserved : goal.cleared-preserved
@@ -22,7 +23,14 @@ cleared-preserved c =
       within = omega (arith, c.in-Some.ensures.some);
       rises = omega (arith, c.in-Some.ensures.ticks);
       ticks =
-      omega (arith, work_left (λ (x : Sides). x.following) sides c.cleared.at tr (omega (arith, c.in-Some.ensures.some)) (omega (arith, c.in-Some.ensures.some)), ap (λ k. side_work (λ (x : Sides). x.following) (drop k sides)) s, ap length c.following.ensures, c.in-Some.ensures.ticks);
+          omega (
+            arith,
+            work_left (λ (x : Sides). x.following) sides c.cleared.at tr (omega (arith, c.in-Some.ensures.some))
+                (omega (arith, c.in-Some.ensures.some)),
+            ap (λ k. side_work (λ (x : Sides). x.following) (drop k sides)) s,
+            ap length c.following.ensures,
+            c.in-Some.ensures.ticks,
+          );
     }
 
 pub returns-clause-ticks : goal.returns-clause-ticks

@@ -1,4 +1,4 @@
-use Rattle.std.proofs.Common.{◌≡◌, ◌+◌, ◌<◌, ◌≤◌, suc, arith, length, drop, ap, ◌∙◌}
+use Rattle.std.proofs.Common.{◌≡◌, ◌+◌, suc, arith, length, drop, ap}
 use Rattle.std.proofs.lemmas.List.{length-drop}
 use Rattle.sfc_flags.specs.Flags.{places_passed}
 use Rattle.sfc_tables.specs.Tables.{Sides}
@@ -8,7 +8,8 @@ use Rattle.sfc_evolve.proofs.marking.unmark_preceding.Goals as goal
 
 pub unmark-requires : goal.unmark-requires
 unmark-requires c =
-    preceding_below c.args.tables.now c.requires.tables (length c.cleared.active) (omega arith) record { 0 = c.in-Some.tr } (omega (arith, c.in-Some.ensures.some))
+    preceding_below c.args.tables.now c.requires.tables (length c.cleared.active) (omega arith) record { 0 = c.in-Some.tr }
+    (omega (arith, c.in-Some.ensures.some))
     c.preceding.result.now c.preceding.ensures
 
 pub cleared-preserved : goal.cleared-preserved
@@ -22,7 +23,14 @@ cleared-preserved c =
       within = omega (arith, c.in-Some.ensures.some);
       rises = omega (arith, c.in-Some.ensures.ticks);
       ticks =
-      omega (arith, work_left (λ (x : Sides). x.preceding) sides c.cleared.at tr (omega (arith, c.in-Some.ensures.some)) (omega (arith, c.in-Some.ensures.some)), ap (λ k. side_work (λ (x : Sides). x.preceding) (drop k sides)) s, ap length c.preceding.ensures, c.in-Some.ensures.ticks);
+          omega (
+            arith,
+            work_left (λ (x : Sides). x.preceding) sides c.cleared.at tr (omega (arith, c.in-Some.ensures.some))
+                (omega (arith, c.in-Some.ensures.some)),
+            ap (λ k. side_work (λ (x : Sides). x.preceding) (drop k sides)) s,
+            ap length c.preceding.ensures,
+            c.in-Some.ensures.ticks,
+          );
     }
 
 pub returns-clause-ticks : goal.returns-clause-ticks

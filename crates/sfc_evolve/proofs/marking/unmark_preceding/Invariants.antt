@@ -7,11 +7,13 @@ use Rattle.sfc_evolve.proofs.marking.unmark_preceding.Given as goal
 
 abbrev pub invariant-cleared : goal.invariant-cleared
 invariant-cleared l = record {
-  rest : changed_by unmarked (preceding_of l.tables.sides) (places_from l.cleared l.at) l.active ≡ changed_by unmarked (preceding_of l.tables.sides) (places_from l.cleared 0) l.initial.active;
+  rest : changed_by unmarked (preceding_of l.tables.sides) (places_from l.cleared l.at) l.active
+      ≡ changed_by unmarked (preceding_of l.tables.sides) (places_from l.cleared 0) l.initial.active;
   len : length l.active ≡ length l.initial.active;
   within : l.at ≤ length l.cleared;
   rises : l.initial.ticks.count ≤ l.ticks.count;
-  ticks : l.ticks.count + side_work (λ sides. sides.preceding) (drop l.at l.tables.sides) ≤ l.initial.ticks.count + side_work (λ sides. sides.preceding) l.tables.sides;
+  ticks : l.ticks.count + side_work (λ sides. sides.preceding) (drop l.at l.tables.sides) ≤ l.initial.ticks.count + side_work
+      (λ sides. sides.preceding) l.tables.sides;
 }
 
 abbrev pub decreases-cleared : goal.decreases-cleared

@@ -1,4 +1,4 @@
-use Rattle.std.proofs.Common.{◌≡◌, ◌++◌, take, drop}
+use Rattle.std.proofs.Common.{◌≡◌, take}
 use Rattle.sfc_expr.specs.Ticks.{Within}
 use Rattle.sfc_evolve.proofs.times.copy_times.Given as goal
 

@@ -1,4 +1,4 @@
-use Rattle.std.proofs.Common.{◌≡◌, ◌+◌, ◌<◌, ◌≤◌, suc, arith, length, drop, ap, ◌∙◌}
+use Rattle.std.proofs.Common.{◌≡◌, ◌+◌, suc, arith, length, drop, ap}
 use Rattle.std.proofs.lemmas.List.{length-drop}
 use Rattle.sfc_flags.specs.Flags.{places_passed}
 use Rattle.sfc_tables.specs.Tables.{Sides}
@@ -8,7 +8,8 @@ use Rattle.sfc_evolve.proofs.times.keep_times.Goals as goal
 
 pub leave-requires-clause-steps : goal.leave-requires-clause-steps
 leave-requires-clause-steps c =
-    preceding_below c.args.tables.now c.requires.tables (length c.args.since.now) c.requires.since_len record { 0 = c.in-Some.tr } (omega (arith, c.in-Some.ensures.some))
+    preceding_below c.args.tables.now c.requires.tables (length c.args.since.now) c.requires.since_len record { 0 = c.in-Some.tr }
+    (omega (arith, c.in-Some.ensures.some))
     c.preceding.result.now c.preceding.ensures
 
 pub cleared-preserved : goal.cleared-preserved
@@ -21,7 +22,14 @@ cleared-preserved c =
       within = omega (arith, c.in-Some.ensures.some);
       rises = omega (arith, c.in-Some.ensures.ticks);
       ticks =
-      omega (arith, work_left (λ (x : Sides). x.preceding) sides c.cleared.at tr (omega (arith, c.in-Some.ensures.some)) (omega (arith, c.in-Some.ensures.some)), ap (λ k. side_work (λ (x : Sides). x.preceding) (drop k sides)) s, ap length c.preceding.ensures, c.in-Some.ensures.ticks);
+          omega (
+            arith,
+            work_left (λ (x : Sides). x.preceding) sides c.cleared.at tr (omega (arith, c.in-Some.ensures.some))
+                (omega (arith, c.in-Some.ensures.some)),
+            ap (λ k. side_work (λ (x : Sides). x.preceding) (drop k sides)) s,
+            ap length c.preceding.ensures,
+            c.in-Some.ensures.ticks,
+          );
     }
 
 pub returns-clause-ticks : goal.returns-clause-ticks
