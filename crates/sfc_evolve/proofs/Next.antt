@@ -94,18 +94,22 @@ all_has active (p ∷ steps) s all e = elim (bool_cases (p.0 == s)) [
     and_right true b e = e
     and_right false b e = absurd (let bad : false ≡ true = e in cc)
 
+pub set_enabled : (tables : Tabled) (active : ℕ → Bool) (conditions : List Bool) (tr : ℕ) → flag (cleared_set tables active conditions) tr ≡ true
+    → is_enabled active (preceding_of tables.sides tr) ≡ true
+set_enabled tables active conditions tr is_set =
+    elim (cleared_enabled tables.sides active conditions tables.ranked (replicate (step_count tables) false) (replicate (transition_count tables) false) tr is_set) [
+      | inl before ↦ absurd (let bad : false ≡ true = sym (none_set (transition_count tables) tr) ∙ before in cc)
+      | inr enabled ↦ enabled
+    ]
+
 -- a step that a scan leaves was active
-pub left_active : (tables : Tabled) (active : ℕ → Bool) (conditions : List Bool) (s : ℕ)
+left_active : (tables : Tabled) (active : ℕ → Bool) (conditions : List Bool) (s : ℕ)
     → leaves tables (cleared_set tables active conditions) s ≡ true → active s ≡ true
 left_active tables active conditions s e =
     let set = cleared_set tables active conditions in
     let (tr, among, member) = any_where (λ tr. has (preceding_of tables.sides tr) s) (places_from set 0) e in
     let is_set : flag set tr ≡ true = sym (is_member set tr) ∙ member in
-    elim (cleared_enabled tables.sides active conditions tables.ranked (replicate (step_count tables) false)
-    (replicate (transition_count tables) false) tr is_set) [
-      | inl before ↦ absurd (let bad : false ≡ true = sym (none_set (transition_count tables) tr) ∙ before in cc)
-      | inr enabled ↦ all_has active (preceding_of tables.sides tr) s enabled among
-    ]
+    all_has active (preceding_of tables.sides tr) s (set_enabled tables active conditions tr is_set) among
 
 -- ---- one row more
 

@@ -6,6 +6,8 @@ pub mod Lookback
 pub mod Marks
 -- cleared transitions, active steps, step times
 pub mod Evolution
+-- the same by the numbers of scans
+pub mod ScanNumbers
 -- how much a scan handles
 pub mod Work
 -- what a `Steps` agrees with

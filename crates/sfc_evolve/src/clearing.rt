@@ -53,7 +53,8 @@ pub fn clear_in_order(
     requires conditions_len { length conditions.now ≡ length tables.now.sides }
     requires used_len { length used.old ≡ length tables.now.initial }
     requires cleared_len { length cleared.old ≡ length tables.now.sides }
-    ensures cleared { cleared.new ≡ cleared_in tables.now.sides (flag active.now) conditions.now tables.now.ranked used.old cleared.old }
+    ensures cleared { cleared.new
+        ≡ cleared_in tables.now.sides (flag active.now) conditions.now tables.now.ranked used.old cleared.old }
     ensures used_len { length used.new ≡ length used.old }
     ensures cleared_len { length cleared.new ≡ length cleared.old }
     ensures ticks { Within (clearing_work tables.now.sides tables.now.ranked) ticks.old ticks.new }

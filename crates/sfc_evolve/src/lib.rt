@@ -1,6 +1,7 @@
 //! Active steps and cleared transitions of one program instance (IEC 61131-3:2003, 2.6.2, 2.6.3, 2.6.5).
 //!
 //! - `clearing`: which transitions a scan clears.
+//! - `laws`: what holds of the definitions themselves.
 //! - `marking`: the steps before and after cleared transitions.
 //! - `marks`: tests and writes at listed steps.
 //! - `starting`: initial steps in the first scan.
@@ -9,6 +10,7 @@
 #![tactic(auto)]
 
 mod clearing;
+pub mod laws;
 mod marking;
 mod marks;
 mod starting;

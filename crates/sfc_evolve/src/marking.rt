@@ -35,7 +35,8 @@ pub fn unmark_preceding(tables: &Tables, cleared: &Flags, active: &mut Flags, ti
     requires tables { AreTables tables.now }
     requires cleared_len { length cleared.now ≡ length tables.now.sides }
     requires active_len { length active.old ≡ length tables.now.initial }
-    ensures flags { active.new ≡ changed_by unmarked (preceding_of tables.now.sides) (places_from cleared.now 0) active.old }
+    ensures flags { active.new
+        ≡ changed_by unmarked (preceding_of tables.now.sides) (places_from cleared.now 0) active.old }
     ensures len { length active.new ≡ length active.old }
     ensures ticks { Within (side_work (λ sides. sides.preceding) tables.now.sides) ticks.old ticks.new }
 {

@@ -39,13 +39,15 @@ impl Steps {
     ghost use Rattle.sfc_expr.specs.Ticks.{Within};
     ghost use Rattle.sfc_flags.specs.Flags.{flag};
     ghost use Rattle.sfc_tables.specs.Tables.{Tabled};
-    ghost use Rattle.sfc_evolve.specs.Evolution.{Scan, rows_of, is_active, is_enabled, step_time, was_cleared, was_activated, preceding_of};
+    ghost use Rattle.sfc_evolve.specs.Evolution.{Scan, rows_of, is_active, is_enabled, step_time};
+    ghost use Rattle.sfc_evolve.specs.Evolution.{was_cleared, was_activated, preceding_of};
     ghost use Rattle.sfc_evolve.specs.Work.{advance_work};
     ghost use Rattle.sfc_evolve.specs.Agreement.{IsFor, StepsAgree, step_places, transition_places};
 
     /// Before the first scan of a life. The one error is that memory was refused.
     pub fn new(alloc: Global, tables: &Tables) -> Result<Self, AllocError>
-        ensures { IfOk result (λ steps. IsFor tables.now steps × StepsAgree tables.now steps []) }
+        ensures sizes { IfOk result (λ steps. IsFor tables.now steps) }
+        ensures agrees { IfOk result (λ steps. StepsAgree tables.now steps []) }
     {
         let n = tables.steps();
         let m = tables.transitions();
@@ -115,7 +117,8 @@ impl Steps {
         requires sizes { IsFor tables.now self.now }
         requires transition { transition.0 < length tables.now.sides }
         ensures value { (scans : List Scan) → StepsAgree tables.now self.now scans →
-            result ≡ is_enabled (is_active tables.now (rows_of tables.now scans)) (preceding_of tables.now.sides transition.0) }
+            result ≡ is_enabled (is_active tables.now (rows_of tables.now scans))
+                (preceding_of tables.now.sides transition.0) }
         ensures ticks { Within (length (preceding_of tables.now.sides transition.0)) ticks.old ticks.new }
     {
         let _steps = tables.steps();

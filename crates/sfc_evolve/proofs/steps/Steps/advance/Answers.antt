@@ -32,7 +32,8 @@ sizes c =
     }
 
 scanned : (c : goal.After-self-3-1)
-    → Advanced c.args.tables.now c.args.self.now.begun c.args.self.now.active c.args.self.now.since.items c.args.self.now.kept.items c.args.conditions.now c.args.t
+    → Advanced c.args.tables.now c.args.self.now.begun c.args.self.now.active c.args.self.now.since.items
+    c.args.self.now.kept.items c.args.conditions.now c.args.t
     c.clear_in_order.new.cleared c.mark_following.new.on c.union_with.new.self c.begin.new.since c.keep_times.new.kept
 scanned c =
     let tables = c.args.tables.now in
@@ -47,7 +48,8 @@ scanned c =
     let begins : c.begin.new.since ≡ begun_at c.args.t (places_from on 0) c.deref_mut-2.result.now =
     simp to_z-of_z at c.begin.ensures.since in
     advanced tables c.steps-steps.ensures.tables self.begun self.active self.since.items self.kept.items c.args.conditions.now c.args.t
-    c.clear_all.new.self c.clear_all-2.new.self cleared c.unmark_preceding.new.active c.start.new.on on c.union_with.new.self c.begin.new.since c.keep_times.new.kept
+    c.clear_all.new.self c.clear_all-2.new.self cleared c.unmark_preceding.new.active c.start.new.on on c.union_with.new.self
+    c.begin.new.since c.keep_times.new.kept
     n.active n.since n.kept (c.start.ensures.len ∙ n.on) (c.mark_following.ensures.len ∙ c.start.ensures.len ∙ n.on)
     (c.clear_all.ensures.flags ∙ ap (λ k. replicate k false) n.used)
     (c.clear_all-2.ensures.flags ∙ ap (λ k. replicate k false) n.cleared)
@@ -66,7 +68,8 @@ returns-clause-kept c scans k =
     let tables = c.args.tables.now in
     let self = c.args.self.now in
     let next =
-    kept_next tables c.steps-steps.ensures.tables self.begun self.active self.since.items self.kept.items self.cleared self.on c.args.conditions.now c.args.t
+    kept_next tables c.steps-steps.ensures.tables self.begun self.active self.since.items self.kept.items self.cleared self.on
+    c.args.conditions.now c.args.t
     c.clear_in_order.new.cleared c.mark_following.new.on c.union_with.new.self c.begin.new.since c.keep_times.new.kept scans
     (scanned c) k.kept in
     record {
