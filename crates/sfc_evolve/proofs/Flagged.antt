@@ -15,7 +15,7 @@ use Rattle.sfc_evolve.proofs.Looks.{bool_cases}
 
 -- ---- one write
 
-one_set : (flags : List Bool) (b : Bool) (p s : ℕ) → p < length flags → flag (slice_set flags p b) s ≡ cond (p == s) b (flag flags s)
+pub one_set : (flags : List Bool) (b : Bool) (p s : ℕ) → p < length flags → flag (slice_set flags p b) s ≡ cond (p == s) b (flag flags s)
 one_set flags b p s lt = elim (bool_cases (p == s)) [
   | inl e ↦ (let same : p ≡ s = grind (arith, nat_tests) in rw e (grind (arith, common_steps)))
   | inr e ↦ (let apart : p ≡ s

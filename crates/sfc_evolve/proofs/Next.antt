@@ -77,7 +77,7 @@ cleared_enabled sides active conditions (r ∷ ranked) used cleared tr e =
       | inr enabled ↦ inr enabled
     ]
 
-none_set : (n s : ℕ) → flag (replicate n false) s ≡ false
+pub none_set : (n s : ℕ) → flag (replicate n false) s ≡ false
 none_set n s = grind (arith, common_steps)
 
 all_has : (active : ℕ → Bool) (steps : List StepId) (s : ℕ) → is_enabled active steps ≡ true → has steps s ≡ true → active s ≡ true
@@ -94,10 +94,12 @@ all_has active (p ∷ steps) s all e = elim (bool_cases (p.0 == s)) [
     and_right true b e = e
     and_right false b e = absurd (let bad : false ≡ true = e in cc)
 
-pub set_enabled : (tables : Tabled) (active : ℕ → Bool) (conditions : List Bool) (tr : ℕ) → flag (cleared_set tables active conditions) tr ≡ true
+pub set_enabled : (tables : Tabled) (active : ℕ → Bool) (conditions : List Bool) (tr : ℕ)
+    → flag (cleared_set tables active conditions) tr ≡ true
     → is_enabled active (preceding_of tables.sides tr) ≡ true
 set_enabled tables active conditions tr is_set =
-    elim (cleared_enabled tables.sides active conditions tables.ranked (replicate (step_count tables) false) (replicate (transition_count tables) false) tr is_set) [
+    elim (cleared_enabled tables.sides active conditions tables.ranked (replicate (step_count tables) false)
+    (replicate (transition_count tables) false) tr is_set) [
       | inl before ↦ absurd (let bad : false ≡ true = sym (none_set (transition_count tables) tr) ∙ before in cc)
       | inr enabled ↦ enabled
     ]

@@ -1,5 +1,6 @@
 -- The look-backs agree with their forms by the numbers of scans.
-use Rattle.std.proofs.Common.{◌≡◌, ◌⊎◌, inl, inr, ℕ, suc, ◌<◌, ◌≤◌, ◌==◌, Bool, true, false, List, [], ◌∷◌, length, arith, refl, sym, ◌∙◌, ap, ℤ, ◌-ℤ◌, pos}
+use Rattle.std.proofs.Common.{◌≡◌, ◌⊎◌, inl, inr, ℕ, suc, ◌<◌, ◌≤◌, ◌==◌, Bool, true, false}
+use Rattle.std.proofs.Common.{List, [], ◌∷◌, length, arith, refl, sym, ◌∙◌, ap, ℤ, ◌-ℤ◌, pos}
 use Rattle.std.proofs.lemmas.Bool.Decides.{nat_tests}
 use Rattle.sfc_evolve.specs.Lookback.{is_in, time_in}
 use Rattle.sfc_evolve.specs.ScanNumbers.{passes_at, instant_at, IsLatest, NoneBetween}
@@ -29,17 +30,20 @@ module _ {A : Type 0} where
 
 module _ {A : Type 0} (on off : A → Bool) (at : A → ℤ) (apart : (x : A) → on x ≡ true → off x ≡ false) where
   -- with one more scan, none that passes after a certain one
-  none_after : (p : A → Bool) (x : A) (xs : List A) (j : ℕ) → p x ≡ false → ((k : ℕ) → j < k → k ≤ length xs → passes_at p xs k ≡ false) → (k : ℕ) → j < k → k ≤ length (x ∷ xs) → passes_at p (x ∷ xs) k ≡ false
+  none_after : (p : A → Bool) (x : A) (xs : List A) (j : ℕ) → p x ≡ false → ((k : ℕ) → j < k → k ≤ length xs → passes_at p xs k ≡ false)
+      → (k : ℕ) → j < k → k ≤ length (x ∷ xs) → passes_at p (x ∷ xs) k ≡ false
   none_after p x xs j e none k lt le = elim (equal_or_below k (length xs) le) [
     | inl last ↦ rw last (at_newest p x xs ∙ e)
     | inr below ↦ at_before p x xs k below ∙ none k lt below
   ]
 
   -- and back
-  none_before : (p : A → Bool) (x : A) (xs : List A) (j : ℕ) → ((k : ℕ) → j < k → k ≤ length (x ∷ xs) → passes_at p (x ∷ xs) k ≡ false) → (k : ℕ) → j < k → k ≤ length xs → passes_at p xs k ≡ false
+  none_before : (p : A → Bool) (x : A) (xs : List A) (j : ℕ) → ((k : ℕ) → j < k → k ≤ length (x ∷ xs) → passes_at p (x ∷ xs) k ≡ false)
+      → (k : ℕ) → j < k → k ≤ length xs → passes_at p xs k ≡ false
   none_before p x xs j none k lt le = sym (at_before p x xs k le) ∙ none k lt (omega arith)
 
-  head_false : (p : A → Bool) (x : A) (xs : List A) (j : ℕ) → j ≤ length xs → ((k : ℕ) → j < k → k ≤ length (x ∷ xs) → passes_at p (x ∷ xs) k ≡ false) → p x ≡ false
+  head_false : (p : A → Bool) (x : A) (xs : List A) (j : ℕ) → j ≤ length xs
+      → ((k : ℕ) → j < k → k ≤ length (x ∷ xs) → passes_at p (x ∷ xs) k ≡ false) → p x ≡ false
   head_false p x xs j le none = sym (at_newest p x xs) ∙ none (suc (length xs)) (omega arith) (omega arith)
 
   pub record InSince (xs : List A) (j : ℕ) : Type 0 where
@@ -101,7 +105,8 @@ module _ {A : Type 0} (on off : A → Bool) (at : A → ℤ) (apart : (x : A) �
   latest_before x xs a le l = record { number = le; came = came_before x xs a le l.came; latest = none_before on x xs a l.latest }
 
   -- a scan that came on and is still in
-  pub since : (xs : List A) (a : ℕ) (now : ℤ) → IsLatest on xs a → ((k : ℕ) → a < k → k ≤ length xs → passes_at off xs k ≡ false) → time_in on off at xs now ≡ (now -ℤ instant_at at xs a)
+  pub since : (xs : List A) (a : ℕ) (now : ℤ) → IsLatest on xs a → ((k : ℕ) → a < k → k ≤ length xs → passes_at off xs k ≡ false)
+      → time_in on off at xs now ≡ (now -ℤ instant_at at xs a)
   since [] a now l none = absurd (let bad : false ≡ true = l.came in cc)
   since (x ∷ xs) a now l none = elim (equal_or_below a (length xs) l.number) [
     | inl last ↦ (let p : on x ≡ true = sym (at_newest on x xs) ∙ rw last at l.came in
@@ -117,7 +122,8 @@ module _ {A : Type 0} (on off : A → Bool) (at : A → ℤ) (apart : (x : A) �
   between_before x xs a k le none j lt below = sym (at_before off x xs j (omega arith)) ∙ none j lt below
 
   -- a scan that came on and was left by scan k
-  pub until : (xs : List A) (a k : ℕ) (now : ℤ) → IsLatest on xs a → a < k → k ≤ length xs → passes_at off xs k ≡ true → NoneBetween off xs a k → time_in on off at xs now ≡ (instant_at at xs k -ℤ instant_at at xs a)
+  pub until : (xs : List A) (a k : ℕ) (now : ℤ) → IsLatest on xs a → a < k → k ≤ length xs → passes_at off xs k ≡ true
+      → NoneBetween off xs a k → time_in on off at xs now ≡ (instant_at at xs k -ℤ instant_at at xs a)
   until [] a k now l lt le left none = absurd (omega arith)
   until (x ∷ xs) a k now l lt le left none =
       let below : a ≤ length xs = omega arith in
@@ -132,7 +138,8 @@ module _ {A : Type 0} (on off : A → Bool) (at : A → ℤ) (apart : (x : A) �
         | inr inside ↦ (
             let rest : (later : ℤ) → time_in on off at xs later ≡ (instant_at at xs k -ℤ instant_at at xs a) =
             λ later. until xs a k later l' lt inside (sym (at_before off x xs k inside) ∙ left) (between_before x xs a k inside none) in
-            let ends : (instant_at at xs k -ℤ instant_at at xs a) ≡ (instant_at at (x ∷ xs) k -ℤ instant_at at (x ∷ xs) a) = rw (same, instant_before at x xs k inside) refl in
+            let ends : (instant_at at xs k -ℤ instant_at at xs a) ≡ (instant_at at (x ∷ xs) k -ℤ instant_at at (x ∷ xs) a) =
+            rw (same, instant_before at x xs k inside) refl in
             elim (bool_cases (off x)) [
               | inl q ↦ time_off on off at apart x xs now p q ∙ rest (at x) ∙ ends
               | inr q ↦ time_kept on off at apart x xs now p q ∙ rest now ∙ ends

@@ -6,6 +6,8 @@ pub mod Lookback
 pub mod Marks
 -- cleared transitions, active steps, step times
 pub mod Evolution
+-- the set of cleared transitions, by what it is
+pub mod Clearing
 -- the same by the numbers of scans
 pub mod ScanNumbers
 -- how much a scan handles

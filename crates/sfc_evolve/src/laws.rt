@@ -1,12 +1,32 @@
 //! What holds of the definitions themselves: functions that do nothing, and whose contracts are the laws.
 
-ghost use Rattle.std.specs.Prelude.{◌≡◌, ◌<◌, ◌≤◌, ◌↔◌, ◌∷◌, [], ◌-ℤ◌, ℕ, ℤ, List, length, pos, true, false};
+ghost use Rattle.std.specs.Prelude.{◌≡◌, ◌<◌, ◌≤◌, ◌↔◌, ◌∷◌, [], ◌-ℤ◌, ◌&&◌, ℕ, ℤ, Bool, List, length, pos, true, false};
 ghost use Rattle.sfc_flags.specs.Flags.{flag};
 ghost use Rattle.sfc_tables.specs.Tables.{Tabled, AreTables};
 ghost use Rattle.sfc_evolve.specs.Evolution.{Scan, Row, transition_count, is_activated, is_deactivated, is_active};
 ghost use Rattle.sfc_evolve.specs.Evolution.{step_time, row_after, was_cleared};
+ghost use Rattle.sfc_evolve.specs.Evolution.{preceding_of, is_enabled, cleared_set};
+ghost use Rattle.sfc_evolve.specs.Clearing.{of_rank, shares, IsClearedSet};
 ghost use Rattle.sfc_evolve.specs.ScanNumbers.{IsActiveSince, IsLatest, NoneBetween, activated_at, deactivated_at};
 ghost use Rattle.sfc_evolve.specs.ScanNumbers.{scan_instant_at};
+
+/// The pass over the transitions in rank order gives the one set in which a transition stands exactly when it may
+/// clear (2.6.5).
+pub fn one_cleared_set()
+    ensures { (tables : Tabled) (active : ℕ → Bool) (conditions set : List Bool) → AreTables tables →
+        (set ≡ cleared_set tables active conditions) ↔ IsClearedSet tables active conditions set }
+{}
+
+/// A transition that shares no preceding step with one that ranks before it is cleared as if it were alone: when it is
+/// enabled and its condition is true (2.6.5).
+pub fn without_rivals()
+    ensures { (tables : Tabled) (active : ℕ → Bool) (conditions : List Bool) (j : ℕ) → AreTables tables →
+        j < transition_count tables →
+        ((i : ℕ) → i < j → shares (preceding_of tables.sides (of_rank tables i))
+        (preceding_of tables.sides (of_rank tables j)) ≡ false) →
+        flag (cleared_set tables active conditions) (of_rank tables j)
+        ≡ (is_enabled active (preceding_of tables.sides (of_rank tables j)) && flag conditions (of_rank tables j)) }
+{}
 
 /// A step is active exactly when some scan activated it and no later scan deactivated it (2.6.2).
 pub fn active_steps()

@@ -118,7 +118,7 @@ impl Steps {
         requires transition { transition.0 < length tables.now.sides }
         ensures value { (scans : List Scan) → StepsAgree tables.now self.now scans →
             result ≡ is_enabled (is_active tables.now (rows_of tables.now scans))
-                (preceding_of tables.now.sides transition.0) }
+            (preceding_of tables.now.sides transition.0) }
         ensures ticks { Within (length (preceding_of tables.now.sides transition.0)) ticks.old ticks.new }
     {
         let _steps = tables.steps();
