@@ -6,7 +6,8 @@ use Rattle.std.specs.List.{list_any}
 use Rattle.std.proofs.lemmas.List.Elements.{All-head, All-tail}
 use Rattle.sfc_expr.specs.declared.variable.StepId.{StepId}
 use Rattle.sfc_flags.specs.Flags.{flag}
-use Rattle.sfc_evolve.specs.Marks.{has, AllBelow, marked}
+use Rattle.sfc_evolve.specs.Private.Keeping.{AllBelow}
+use Rattle.sfc_evolve.specs.Marks.{has, marked}
 use Rattle.sfc_evolve.specs.Evolution.{is_enabled, is_cleared}
 use Rattle.sfc_evolve.specs.Clearing.{shares}
 use Rattle.sfc_evolve.proofs.Flagged.{flag-marked, length-marked}

@@ -9,8 +9,8 @@ use Rattle.std.proofs.lemmas.List.{length-set}
 use Rattle.std.proofs.lemmas.List.Elements.{All-nil, All-cons, All-head, All-tail}
 use Rattle.sfc_expr.specs.declared.variable.StepId.{StepId}
 use Rattle.sfc_flags.specs.Flags.{flag, set_from, places_from}
-use Rattle.sfc_evolve.specs.Marks.{has, AllBelow, marked}
-use Rattle.sfc_evolve.specs.Private.Keeping.{number, unmarked, changed_by, left_at, left_by, begun_at}
+use Rattle.sfc_evolve.specs.Marks.{has, marked}
+use Rattle.sfc_evolve.specs.Private.Keeping.{AllBelow, number, unmarked, changed_by, left_at, left_by, begun_at}
 use Rattle.sfc_evolve.proofs.Looks.{bool_cases}
 
 -- ---- one write

@@ -11,12 +11,12 @@ use Rattle.sfc_flags.specs.Flags.{flag, places_from}
 use Rattle.sfc_tables.specs.declared.ids.TransitionId.{TransitionId}
 use Rattle.sfc_tables.specs.Tables.{Sides, Tabled, AreTables, sides_at}
 use Rattle.sfc_evolve.specs.Lookback.{is_empty}
-use Rattle.sfc_evolve.specs.Marks.{has, AllBelow, marked}
+use Rattle.sfc_evolve.specs.Marks.{has, marked}
 use Rattle.sfc_evolve.specs.Evolution.{Scan, Row, step_count, transition_count}
 use Rattle.sfc_evolve.specs.Evolution.{preceding_of, following_of, is_enabled, is_cleared, cleared_in}
 use Rattle.sfc_evolve.specs.Evolution.{cleared_set, some_cleared, activates, leaves, is_activated}
 use Rattle.sfc_evolve.specs.Evolution.{is_deactivated, is_active, step_time, row_after, rows_of}
-use Rattle.sfc_evolve.specs.Private.Keeping.{number, unmarked, changed_by, left_by, begun_at, AreKept}
+use Rattle.sfc_evolve.specs.Private.Keeping.{AllBelow, number, unmarked, changed_by, left_by, begun_at, AreKept}
 use Rattle.sfc_evolve.proofs.Flagged.{any_where, is_member, members_below}
 use Rattle.sfc_evolve.proofs.Flagged.{flag-marked_by, flag-unmarked_by, number-left_by, number-begun_at}
 use Rattle.sfc_evolve.proofs.Looks.{bool_cases, is_in_on, is_in_off, is_in_kept, time_on, time_kept, time_off_in}

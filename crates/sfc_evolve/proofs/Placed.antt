@@ -16,7 +16,8 @@ use Rattle.sfc_flags.specs.Flags.{flag}
 use Rattle.sfc_tables.specs.declared.ids.TransitionId.{TransitionId}
 use Rattle.sfc_tables.specs.Ranks.{transitions_to}
 use Rattle.sfc_tables.specs.Tables.{Sides, Tabled, AreTables, sides_at}
-use Rattle.sfc_evolve.specs.Marks.{AllBelow, marked}
+use Rattle.sfc_evolve.specs.Private.Keeping.{AllBelow}
+use Rattle.sfc_evolve.specs.Marks.{marked}
 use Rattle.sfc_evolve.specs.Evolution.{step_count, transition_count, preceding_of, is_enabled, cleared_in, cleared_set}
 use Rattle.sfc_evolve.specs.Clearing.{of_rank, shares, MayClear, IsClearedSet}
 use Rattle.sfc_evolve.proofs.Cleared.{Entry, before, condition_at, cleared_from, clears, is_used, AreWithin, Reason, Chosen, chosen, only}

@@ -10,8 +10,7 @@ use Rattle.sfc_expr.specs.declared.variable.StepId.{StepId}
 use Rattle.sfc_tables.specs.declared.ids.TransitionId.{TransitionId}
 use Rattle.sfc_tables.specs.Ranks.{transitions_to}
 use Rattle.sfc_tables.specs.Tables.{Sides, Tabled, AreTables, AreSides, sides_at}
-use Rattle.sfc_evolve.specs.Marks.{AllBelow}
-use Rattle.sfc_evolve.specs.Private.Keeping.{side_work}
+use Rattle.sfc_evolve.specs.Private.Keeping.{AllBelow, side_work}
 
 range_below : (a n : ℕ) → All (λ i. i < a + n) (range_with_len a n)
 range_below a zero = All-nil (λ i. i < a + 0)

@@ -4,9 +4,9 @@ ghost use Rattle.std.specs.Prelude.{◌≡◌, ◌<◌, ◌+◌, ◌*◌, length
 ghost use Rattle.sfc_expr.specs.Ticks.{Within};
 ghost use Rattle.sfc_flags.specs.Flags.{flag};
 ghost use Rattle.sfc_tables.specs.Tables.{AreTables};
-ghost use Rattle.sfc_evolve.specs.Marks.{AllBelow, marked};
+ghost use Rattle.sfc_evolve.specs.Marks.{marked};
 ghost use Rattle.sfc_evolve.specs.Evolution.{is_cleared, cleared_in};
-ghost use Rattle.sfc_evolve.specs.Private.Keeping.{clearing_work};
+ghost use Rattle.sfc_evolve.specs.Private.Keeping.{AllBelow, clearing_work};
 
 use crate::marks::{all_set, mark, some_set};
 use sfc_expr::ticks::Ticks;

@@ -1,6 +1,7 @@
 //! What holds of the definitions themselves: functions that do nothing, and whose contracts are the laws.
 
-ghost use Rattle.std.specs.Prelude.{◌≡◌, ◌<◌, ◌≤◌, ◌↔◌, ◌∷◌, [], ◌-ℤ◌, ◌&&◌, ℕ, ℤ, Bool, List, length, pos, true, false};
+ghost use Rattle.std.specs.Prelude.{◌≡◌, ◌<◌, ◌≤◌, ◌↔◌, ◌∷◌, ◌-ℤ◌, ◌&&◌};
+ghost use Rattle.std.specs.Prelude.{[], ℕ, ℤ, Bool, List, length, pos, true, false};
 ghost use Rattle.sfc_flags.specs.Flags.{flag};
 ghost use Rattle.sfc_tables.specs.Tables.{Tabled, AreTables};
 ghost use Rattle.sfc_evolve.specs.Evolution.{Scan, Row, transition_count, is_activated, is_deactivated, is_active};

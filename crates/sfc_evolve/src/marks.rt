@@ -4,8 +4,8 @@ ghost use Rattle.std.specs.Prelude.{◌≡◌, length};
 ghost use Rattle.std.specs.List.{list_all, list_any};
 ghost use Rattle.sfc_expr.specs.Ticks.{Within};
 ghost use Rattle.sfc_flags.specs.Flags.{flag};
-ghost use Rattle.sfc_evolve.specs.Marks.{AllBelow, marked};
-ghost use Rattle.sfc_evolve.specs.Private.Keeping.{unmarked};
+ghost use Rattle.sfc_evolve.specs.Marks.{marked};
+ghost use Rattle.sfc_evolve.specs.Private.Keeping.{AllBelow, unmarked};
 
 use sfc_expr::ticks::Ticks;
 use sfc_expr::variable::StepId;

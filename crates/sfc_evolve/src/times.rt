@@ -4,9 +4,8 @@ ghost use Rattle.std.specs.Prelude.{◌≡◌, ◌≤ℤ◌, ◌-ℤ◌, ◌^◌
 ghost use Rattle.sfc_expr.specs.Ticks.{Within};
 ghost use Rattle.sfc_flags.specs.Flags.{places_from};
 ghost use Rattle.sfc_tables.specs.Tables.{AreTables};
-ghost use Rattle.sfc_evolve.specs.Marks.{AllBelow};
 ghost use Rattle.sfc_evolve.specs.Evolution.{preceding_of};
-ghost use Rattle.sfc_evolve.specs.Private.Keeping.{AreInstants, left_at, left_by, begun_at, side_work};
+ghost use Rattle.sfc_evolve.specs.Private.Keeping.{AllBelow, AreInstants, left_at, left_by, begun_at, side_work};
 
 use sfc_expr::ticks::Ticks;
 use sfc_expr::variable::StepId;

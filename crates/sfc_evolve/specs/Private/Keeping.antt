@@ -1,5 +1,5 @@
 -- What is kept of the scans of a life, in place of their rows.
-use Rattle.std.specs.Prelude.{ℕ, ◌≡◌, ◌<◌, ◌^◌, ◌+◌, ◌*◌, Bool, false, not, cond}
+use Rattle.std.specs.Prelude.{All, ℕ, ◌≡◌, ◌<◌, ◌^◌, ◌+◌, ◌*◌, Bool, false, not, cond}
 use Rattle.std.specs.Prelude.{List, [], ◌∷◌, ℤ, pos, ◌-ℤ◌, ◌≤ℤ◌, length, slice_index_or, slice_set, sum_by}
 use Rattle.sfc_expr.specs.declared.variable.StepId.{StepId}
 use Rattle.sfc_flags.specs.Flags.{flag}
@@ -7,6 +7,10 @@ use Rattle.sfc_tables.specs.declared.ids.TransitionId.{TransitionId}
 use Rattle.sfc_tables.specs.Tables.{Sides, Tabled, sides_at}
 use Rattle.sfc_evolve.specs.Lookback.{is_empty}
 use Rattle.sfc_evolve.specs.Evolution.{Scan, step_count, rows_of, is_active, step_time, was_cleared, was_activated}
+
+-- each is one of n steps
+abbrev pub AllBelow : ℕ → List StepId → Type 0
+AllBelow n steps = All (λ (step : StepId). step.0 < n) steps
 
 abbrev pub number : List ℤ → ℕ → ℤ
 number xs s = slice_index_or xs s (pos 0)
