@@ -1,5 +1,5 @@
 -- The actions of a chart and their numbers (2.6.4.1, 2.6.4.3).
-use Rattle.std.specs.Prelude.{ℕ, ◌<◌, ◌==◌, Bool, false, not, List, [], ◌∷◌, ◌++◌, length, map, filter, Option, Some, None}
+use Rattle.std.specs.Prelude.{ℕ, ◌==◌, Bool, false, not, List, [], ◌∷◌, ◌++◌, length, map, filter, Option, Some, None}
 use Rattle.std.specs.List.{flat_map, filter_map, position_or_len, range_with_len}
 use Rattle.sfc_expr.specs.declared.variable.Variable.{Variable}
 use Rattle.sfc_expr.specs.declared.variable.Variable.TheVariants as variable
@@ -53,7 +53,3 @@ actions_of chart = map (λ v. target.Boolean v) (boolean_actions chart) ++ decla
 -- the number of an action is its place among all
 abbrev pub number_of : List Target → Target → ActionNumber
 number_of actions t = record { 0 = position_or_len (same_target t) actions }
-
--- the association's action is among these
-abbrev pub IsListedIn : List Target → Association → Type 0
-IsListedIn actions association = (number_of actions association.target).0 < length actions

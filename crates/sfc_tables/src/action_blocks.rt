@@ -27,7 +27,7 @@ impl Model for ActionBlocks {
 }
 
 ghost use Rattle.std.specs.Prelude.{◌≡◌, ◌<◌, ◌≤◌, ◌+◌, ◌++◌, All, length, sum_by, IfOk, OnOk};
-ghost use Rattle.sfc_tables.specs.Actions.{IsListedIn};
+ghost use Rattle.sfc_tables.specs.Private.Listing.{IsListedIn};
 ghost use Rattle.sfc_tables.specs.Tables.{at_step, in_text, numbered};
 
 use crate::association::Association;

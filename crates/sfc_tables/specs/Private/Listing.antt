@@ -2,9 +2,10 @@
 use Rattle.std.specs.Prelude.{◌≡◌, ℕ, ◌<◌, ◌^◌, ◌++◌, List, length, map}
 use Rattle.indexmap.specs.IndexSet.{insert_all}
 use Rattle.sfc_expr.specs.declared.variable.Variable.{Variable}
+use Rattle.sfc_tables.specs.declared.association.Association.{Association}
 use Rattle.sfc_tables.specs.declared.association.Target.{Target}
 use Rattle.sfc_tables.specs.declared.association.Target.TheVariants as target
-use Rattle.sfc_tables.specs.Actions.{same_variable, declared_actions}
+use Rattle.sfc_tables.specs.Actions.{same_variable, declared_actions, number_of}
 
 -- these variables and then the new ones of more, each once
 abbrev pub with_booleans : List Variable → List Variable → List Variable
@@ -18,3 +19,7 @@ listed booleans n = map (λ v. target.Boolean v) booleans ++ declared_actions n
 pub record IsListed (booleans : List Variable) (n : ℕ) (actions : List Target) : Type 0 where
   pub all : actions ≡ listed booleans n
   pub few : length actions < 2 ^ 63
+
+-- the association's action is among these
+abbrev pub IsListedIn : List Target → Association → Type 0
+IsListedIn actions association = (number_of actions association.target).0 < length actions

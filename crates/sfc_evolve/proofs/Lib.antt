@@ -1,0 +1,9 @@
+pub mod Cleared
+pub mod FirstScan
+pub mod Flagged
+pub mod Looks
+pub mod Next
+pub mod NumberedLooks
+pub mod Placed
+pub mod TableFacts
+pub mod Works

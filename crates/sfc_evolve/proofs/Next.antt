@@ -1,0 +1,261 @@
+-- Agreement goes on by one scan.
+use Rattle.std.proofs.Common.{◌≡◌, ◌⊎◌, inl, inr, ℕ, zero, suc, ◌<◌, ◌==◌, ◌||◌, ◌&&◌, not, Bool, true}
+use Rattle.std.proofs.Common.{false, cond, List, [], ◌∷◌, length, refl, sym, ◌∙◌, ap, subst, ℤ, ◌-ℤ◌, arith}
+use Rattle.std.specs.Prelude.{replicate, slice_set}
+use Rattle.std.specs.List.{list_any}
+use Rattle.std.proofs.lemmas.Bool.Decides.{nat_tests}
+use Rattle.std.proofs.lemmas.Grind.{common_steps}
+use Rattle.std.proofs.lemmas.List.Elements.{All-head, All-tail}
+use Rattle.sfc_expr.specs.declared.variable.StepId.{StepId}
+use Rattle.sfc_flags.specs.Flags.{flag, places_from}
+use Rattle.sfc_tables.specs.declared.ids.TransitionId.{TransitionId}
+use Rattle.sfc_tables.specs.Tables.{Sides, Tabled, AreTables, sides_at}
+use Rattle.sfc_evolve.specs.Lookback.{is_empty}
+use Rattle.sfc_evolve.specs.Marks.{has, marked}
+use Rattle.sfc_evolve.specs.Evolution.{Scan, Row, step_count, transition_count}
+use Rattle.sfc_evolve.specs.Evolution.{preceding_of, following_of, is_enabled, is_cleared, cleared_in}
+use Rattle.sfc_evolve.specs.Evolution.{cleared_set, some_cleared, activates, leaves, is_activated}
+use Rattle.sfc_evolve.specs.Evolution.{is_deactivated, is_active, step_time, row_after, rows_of}
+use Rattle.sfc_evolve.specs.Private.Keeping.{AllBelow, number, unmarked, changed_by, left_by, begun_at, AreKept}
+use Rattle.sfc_evolve.proofs.Flagged.{any_where, is_member, members_below}
+use Rattle.sfc_evolve.proofs.Flagged.{flag-marked_by, flag-unmarked_by, number-left_by, number-begun_at}
+use Rattle.sfc_evolve.proofs.Looks.{bool_cases, is_in_on, is_in_off, is_in_kept, time_on, time_kept, time_off_in}
+use Rattle.sfc_evolve.proofs.TableFacts.{all_preceding_below, all_following_below}
+
+-- ---- what is cleared depends on the activity of the chart's steps alone
+
+module _ (x y : ℕ → Bool) (n : ℕ) (same : (s : ℕ) → s < n → x s ≡ y s) where
+  pub all_same : (steps : List StepId) → AllBelow n steps → is_enabled x steps ≡ is_enabled y steps
+  all_same [] below = refl
+  all_same (p ∷ steps) below =
+      let here : x p.0 ≡ y p.0 = same p.0 (All-head (λ (step : StepId). step.0 < n) p steps below) in
+      let rest : is_enabled x steps ≡ is_enabled y steps = all_same steps (All-tail (λ (step : StepId). step.0 < n) p steps below) in
+      rw (here, rest) refl
+
+  pub cleared_same : (sides : List Sides) → ((tr : TransitionId) → AllBelow n (sides_at sides tr).preceding)
+      → (conditions : List Bool) (ranked : List TransitionId) (used cleared : List Bool)
+      → cleared_in sides x conditions ranked used cleared ≡ cleared_in sides y conditions ranked used cleared
+  cleared_same sides within conditions [] used cleared = refl
+  cleared_same sides within conditions (tr ∷ ranked) used cleared =
+      let preceding = (sides_at sides tr).preceding in
+      let here : is_enabled x preceding ≡ is_enabled y preceding = all_same preceding (within tr) in
+      let go = is_cleared y (flag conditions tr.0) preceding used in
+      rw here (cleared_same sides within conditions ranked (cond go (marked preceding used) used) (slice_set cleared tr.0 go))
+
+-- ---- a cleared transition was enabled
+
+set_where : (flags : List Bool) (b : Bool) (p s : ℕ) → flag (slice_set flags p b) s ≡ true → ((p ≡ s) × (b ≡ true)) ⊎ (flag flags s ≡ true)
+set_where [] b p s e = inr e
+set_where (f ∷ flags) b zero zero e = inl (refl, e)
+set_where (f ∷ flags) b zero (suc s) e = inr e
+set_where (f ∷ flags) b (suc p) zero e = inr e
+set_where (f ∷ flags) b (suc p) (suc s) e = elim (set_where flags b p s e) [
+  | inl here ↦ inl (ap suc here.0, here.1)
+  | inr there ↦ inr there
+]
+
+and_left : (a b : Bool) → (a && b) ≡ true → a ≡ true
+and_left true b e = refl
+and_left false b e = e
+
+cleared_enabled : (sides : List Sides) (active : ℕ → Bool) (conditions : List Bool) (ranked : List TransitionId)
+    (used cleared : List Bool) (tr : ℕ)
+    → flag (cleared_in sides active conditions ranked used cleared) tr ≡ true
+    → (flag cleared tr ≡ true) ⊎ (is_enabled active (preceding_of sides tr) ≡ true)
+cleared_enabled sides active conditions [] used cleared tr e = inl e
+cleared_enabled sides active conditions (r ∷ ranked) used cleared tr e =
+    let preceding = (sides_at sides r).preceding in
+    let go = is_cleared active (flag conditions r.0) preceding used in
+    elim (cleared_enabled sides active conditions ranked (cond go (marked preceding used) used) (slice_set cleared r.0 go) tr e) [
+      | inl was ↦ elim (set_where cleared go r.0 tr was) [
+        | inl here ↦ inr (subst (λ (k : ℕ). is_enabled active (preceding_of sides k) ≡ true) here.0
+            (and_left (is_enabled active preceding) (flag conditions r.0)
+            (and_left (is_enabled active preceding && flag conditions r.0)
+            (not (list_any (λ (step : StepId). flag used step.0) preceding)) here.1)))
+        | inr there ↦ inl there
+      ]
+      | inr enabled ↦ inr enabled
+    ]
+
+pub none_set : (n s : ℕ) → flag (replicate n false) s ≡ false
+none_set n s = grind (arith, common_steps)
+
+all_has : (active : ℕ → Bool) (steps : List StepId) (s : ℕ) → is_enabled active steps ≡ true → has steps s ≡ true → active s ≡ true
+all_has active [] s all e = absurd (let bad : false ≡ true = e in cc)
+all_has active (p ∷ steps) s all e = elim (bool_cases (p.0 == s)) [
+  | inl here ↦ (let same : p.0 ≡ s = grind (arith, nat_tests) in
+      subst (λ (k : ℕ). active k ≡ true) same (and_left (active p.0) (is_enabled active steps) all))
+  | inr other ↦ (
+      let rest : has steps s ≡ true = rw other at e in
+      all_has active steps s (and_right (active p.0) (is_enabled active steps) all) rest)
+]
+  where
+    and_right : (a b : Bool) → (a && b) ≡ true → b ≡ true
+    and_right true b e = e
+    and_right false b e = absurd (let bad : false ≡ true = e in cc)
+
+pub set_enabled : (tables : Tabled) (active : ℕ → Bool) (conditions : List Bool) (tr : ℕ)
+    → flag (cleared_set tables active conditions) tr ≡ true
+    → is_enabled active (preceding_of tables.sides tr) ≡ true
+set_enabled tables active conditions tr is_set =
+    elim (cleared_enabled tables.sides active conditions tables.ranked (replicate (step_count tables) false)
+    (replicate (transition_count tables) false) tr is_set) [
+      | inl before ↦ absurd (let bad : false ≡ true = sym (none_set (transition_count tables) tr) ∙ before in cc)
+      | inr enabled ↦ enabled
+    ]
+
+-- a step that a scan leaves was active
+left_active : (tables : Tabled) (active : ℕ → Bool) (conditions : List Bool) (s : ℕ)
+    → leaves tables (cleared_set tables active conditions) s ≡ true → active s ≡ true
+left_active tables active conditions s e =
+    let set = cleared_set tables active conditions in
+    let (tr, among, member) = any_where (λ tr. has (preceding_of tables.sides tr) s) (places_from set 0) e in
+    let is_set : flag set tr ≡ true = sym (is_member set tr) ∙ member in
+    all_has active (preceding_of tables.sides tr) s (set_enabled tables active conditions tr is_set) among
+
+-- ---- one row more
+
+pub apart : (tables : Tabled) (s : ℕ) (row : Row) → is_activated tables s row ≡ true → is_deactivated tables s row ≡ false
+apart tables s row e = rw e refl
+
+module _ (tables : Tabled) (s : ℕ) (row : Row) (rows : List Row) where
+  left_is : (on off : Bool) → is_activated tables s row ≡ on → leaves tables row.cleared s ≡ off
+      → is_deactivated tables s row ≡ (not on && off)
+  left_is on off p q = rw (p, q) refl
+
+  next_active : (on off active : Bool) → is_activated tables s row ≡ on → leaves tables row.cleared s ≡ off
+      → active ≡ is_active tables rows s → ((not off && active) || on) ≡ is_active tables (row ∷ rows) s
+  next_active true off active p q e = or_true (not off && active)
+      ∙ sym (is_in_on (is_activated tables s) (is_deactivated tables s) (λ r. r.at) (apart tables s) row rows p)
+    where
+      or_true : (b : Bool) → (b || true) ≡ true
+      or_true true = refl
+      or_true false = refl
+  next_active false true active p q e =
+      sym (is_in_off (is_activated tables s) (is_deactivated tables s) (λ r. r.at) (apart tables s) row rows (left_is false true p q))
+  next_active false false active p q e =
+      or_false active ∙ e ∙ sym
+      (is_in_kept (is_activated tables s) (is_deactivated tables s) (λ r. r.at) (apart tables s) row rows p (left_is false false p q))
+    where
+      or_false : (b : Bool) → (b || false) ≡ b
+      or_false true = refl
+      or_false false = refl
+
+  next_time : (on off active : Bool) (since kept now : ℤ) → is_activated tables s row ≡ on → leaves tables row.cleared s ≡ off
+      → (off ≡ true → active ≡ true) → active ≡ is_active tables rows s
+      → ((now : ℤ) → step_time tables rows s now ≡ cond active (now -ℤ since) kept)
+      → step_time tables (row ∷ rows) s now
+      ≡ cond ((not off && active) || on) (now -ℤ cond on row.at since) (cond off (row.at -ℤ since) kept)
+  next_time true true active since kept now p q a e t =
+      time_on (is_activated tables s) (is_deactivated tables s) (λ r. r.at) (apart tables s) row rows now p
+  next_time true false true since kept now p q a e t =
+      time_on (is_activated tables s) (is_deactivated tables s) (λ r. r.at) (apart tables s) row rows now p
+  next_time true false false since kept now p q a e t =
+      time_on (is_activated tables s) (is_deactivated tables s) (λ r. r.at) (apart tables s) row rows now p
+  next_time false true true since kept now p q a e t =
+      time_off_in (is_activated tables s) (is_deactivated tables s) (λ r. r.at) (apart tables s) row rows now p (left_is false true p q)
+      (sym e) ∙ t row.at
+  next_time false true false since kept now p q a e t = absurd (let bad : false ≡ true = a refl in cc)
+  next_time false false true since kept now p q a e t =
+      time_kept (is_activated tables s) (is_deactivated tables s) (λ r. r.at) (apart tables s) row rows now p (left_is false false p q)
+      ∙ t now
+  next_time false false false since kept now p q a e t =
+      time_kept (is_activated tables s) (is_deactivated tables s) (λ r. r.at) (apart tables s) row rows now p (left_is false false p q)
+      ∙ t now
+
+empty_rows : (tables : Tabled) (scans : List Scan) → is_empty (rows_of tables scans) ≡ is_empty scans
+empty_rows tables [] = refl
+empty_rows tables (scan ∷ scans) = refl
+
+not_not : (b : Bool) → not (not b) ≡ b
+not_not true = refl
+not_not false = refl
+
+-- what one scan does to what is kept
+pub record Advanced (tables : Tabled) (begun : Bool) (active : List Bool) (since kept : List ℤ) (conditions : List Bool) (t : ℤ)
+    (cleared' on' active' : List Bool) (since' kept' : List ℤ) : Type 0 where
+  pub cleared_is : cleared' ≡ cleared_set tables (flag active) conditions
+  pub on_is : (s : ℕ) → s < step_count tables → flag on' s ≡ activates tables (not begun) cleared' s
+  pub kept_is : (s : ℕ) → s < step_count tables → number kept' s ≡ cond (leaves tables cleared' s) (t -ℤ number since s) (number kept s)
+  pub since_is : (s : ℕ) → s < step_count tables → number since' s ≡ cond (flag on' s) t (number since s)
+  pub active_is : (s : ℕ) → s < step_count tables → flag active' s ≡ ((not (leaves tables cleared' s) && flag active s) || flag on' s)
+
+pub kept_next : (tables : Tabled) → AreTables tables
+    → (begun : Bool) (active : List Bool) (since kept : List ℤ) (cleared on conditions : List Bool) (t : ℤ)
+    (cleared' on' active' : List Bool) (since' kept' : List ℤ) (scans : List Scan)
+    → Advanced tables begun active since kept conditions t cleared' on' active' since' kept'
+    → AreKept tables begun active since kept cleared on scans
+    → AreKept tables true active' since' kept' cleared' on' (record { conditions = conditions; at = t } ∷ scans)
+kept_next tables sound begun active since kept cleared on conditions t cleared' on' active' since' kept' scans a k =
+    let scan : Scan = record { conditions = conditions; at = t } in
+    let rows : List Row = rows_of tables scans in
+    let row : Row = row_after tables rows scan in
+    let seen : cleared_set tables (flag active) conditions ≡ row.cleared =
+    cleared_same (flag active) (is_active tables rows) (step_count tables) k.activity tables.sides
+    (all_preceding_below tables sound) conditions tables.ranked
+    (replicate (step_count tables) false) (replicate (transition_count tables) false) in
+    let same : row.cleared ≡ cleared' = sym (a.cleared_is ∙ seen) in
+    let first : row.first ≡ not begun = empty_rows tables scans ∙ sym (ap not k.has_begun ∙ not_not (is_empty scans)) in
+    let goes_on : (s : ℕ) → s < step_count tables → is_activated tables s row ≡ flag on' s =
+    λ s lt. ap (λ b. activates tables b row.cleared s) first ∙ ap (λ c. activates tables (not begun) c s) same ∙ sym (a.on_is s lt) in
+    let goes_off : (s : ℕ) → leaves tables row.cleared s ≡ leaves tables cleared' s = λ s. ap (λ c. leaves tables c s) same in
+    let was_in : (s : ℕ) → leaves tables cleared' s ≡ true → flag active s ≡ true =
+    λ s e. left_active tables (flag active) conditions s (ap (λ c. leaves tables c s) (sym a.cleared_is) ∙ e) in
+    record {
+      has_begun = refl;
+      activity = λ s lt. a.active_is s lt
+          ∙ next_active tables s row rows (flag on' s) (leaves tables cleared' s) (flag active s) (goes_on s lt) (goes_off s)
+          (k.activity s lt);
+      time = λ s lt now.
+          (let ea = a.active_is s lt in
+          let es = a.since_is s lt in
+          let ek = a.kept_is s lt in
+          next_time tables s row rows (flag on' s) (leaves tables cleared' s) (flag active s) (number since s) (number kept s) now
+          (goes_on s lt) (goes_off s) (was_in s) (k.activity s lt) (k.time s lt)
+          ∙ (λ i. cond (sym ea i) (now -ℤ sym es i) (sym ek i)));
+      clearing = λ tr. ap (λ c. flag c tr) (sym same);
+      activation = λ s lt. sym (goes_on s lt);
+    }
+
+-- agreement depends on the lists alone
+pub kept_at : (tables : Tabled) (begun : Bool) (active active' : List Bool) (since since' kept kept' : List ℤ)
+    (cleared cleared' on on' : List Bool) (scans : List Scan)
+    → active' ≡ active → since' ≡ since → kept' ≡ kept → cleared' ≡ cleared → on' ≡ on
+    → AreKept tables begun active since kept cleared on scans → AreKept tables begun active' since' kept' cleared' on' scans
+kept_at tables begun active active' since since' kept kept' cleared cleared' on on' scans ea es ek ec eo k = rw (ea, es, ek, ec, eo) k
+
+-- what the parts of a scan leave, together
+module _ (tables : Tabled) (sound : AreTables tables) (begun : Bool) (active : List Bool) (since kept : List ℤ) (conditions : List Bool)
+    (t : ℤ)
+    (used cleared cleared' active1 on1 on' active' : List Bool) (since' kept' : List ℤ) where
+  pub advanced : length active ≡ step_count tables → length since ≡ step_count tables → length kept ≡ step_count tables
+      → length on1 ≡ step_count tables → length on' ≡ step_count tables
+      → used ≡ replicate (step_count tables) false → cleared ≡ replicate (transition_count tables) false
+      → cleared' ≡ cleared_in tables.sides (flag active) conditions tables.ranked used cleared
+      → kept' ≡ left_by t since (preceding_of tables.sides) (places_from cleared' 0) kept
+      → active1 ≡ changed_by unmarked (preceding_of tables.sides) (places_from cleared' 0) active
+      → ((s : ℕ) → s < step_count tables → flag on1 s ≡ (not begun && flag tables.initial s))
+      → on' ≡ changed_by marked (following_of tables.sides) (places_from cleared' 0) on1
+      → ((s : ℕ) → flag active' s ≡ (flag active1 s || flag on' s))
+      → since' ≡ begun_at t (places_from on' 0) since
+      → Advanced tables begun active since kept conditions t cleared' on' active' since' kept'
+  advanced la ls lk lo lo' eu ec clears keeps leaves1 starts marks joins begins =
+      let n = step_count tables in
+      let pre : (tr : ℕ) → AllBelow n (preceding_of tables.sides tr) = λ tr. all_preceding_below tables sound record { 0 = tr } in
+      let fol : (tr : ℕ) → AllBelow n (following_of tables.sides tr) = λ tr. all_following_below tables sound record { 0 = tr } in
+      record {
+        cleared_is = clears ∙ (λ i. cleared_in tables.sides (flag active) conditions tables.ranked (eu i) (ec i));
+        on_is = λ s lt.
+            ap (λ f. flag f s) marks
+            ∙ flag-marked_by n (following_of tables.sides) fol (places_from cleared' 0) on1 s lo
+            ∙ ap (λ b. some_cleared (following_of tables.sides) cleared' s || b) (starts s lt);
+        kept_is = λ s lt. ap (λ xs. number xs s) keeps
+            ∙ number-left_by n (preceding_of tables.sides) pre t since (places_from cleared' 0) kept s lk;
+        since_is = λ s lt.
+            ap (λ xs. number xs s) begins
+            ∙ number-begun_at n t (places_from on' 0) since s ls (members_below on' n lo')
+            ∙ ap (λ b. cond b t (number since s)) (is_member on' s);
+        active_is = λ s lt.
+            joins s ∙ ap (λ b. b || flag on' s)
+            (ap (λ f. flag f s) leaves1 ∙ flag-unmarked_by n (preceding_of tables.sides) pre (places_from cleared' 0) active s la);
+      }

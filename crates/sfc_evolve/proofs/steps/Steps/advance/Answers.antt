@@ -1,0 +1,116 @@
+use Rattle.std.proofs.Common.{◌≡◌, length, arith, ap, ◌∙◌, refl, SFits, w64, false, true}
+use Rattle.std.proofs.lemmas.Int.{to_z-of_z}
+use Rattle.std.proofs.lemmas.List.{with_items_is, length-replicate}
+use Rattle.std.specs.Prelude.{replicate}
+use Rattle.sfc_flags.specs.Flags.{places_from}
+use Rattle.sfc_evolve.specs.Agreement.{StepsAgree}
+use Rattle.sfc_evolve.specs.Evolution.{step_count, transition_count, preceding_of}
+use Rattle.sfc_evolve.specs.Private.Keeping.{left_by, begun_at}
+use Rattle.sfc_evolve.proofs.Next.{Advanced, advanced, kept_next, kept_at}
+use Rattle.sfc_evolve.proofs.Works.{work_of_scan, clearing_is}
+use Rattle.sfc_evolve.proofs.steps.Steps.advance.Goals as goal
+
+-- the lengths of all that is kept
+record Sizes (c : goal.After-self-3-1) : Type 0 where
+  active : length c.args.self.now.active ≡ step_count c.args.tables.now
+  used : length c.args.self.now.used ≡ step_count c.args.tables.now
+  on : length c.args.self.now.on ≡ step_count c.args.tables.now
+  since : length c.args.self.now.since.items ≡ step_count c.args.tables.now
+  kept : length c.args.self.now.kept.items ≡ step_count c.args.tables.now
+  cleared : length c.args.self.now.cleared ≡ transition_count c.args.tables.now
+
+sizes : (c : goal.After-self-3-1) → Sizes c
+sizes c =
+    let la = c.requires.sizes.same_steps in
+    record {
+      active = la;
+      used = c.args.self.now.used_len ∙ la;
+      on = c.args.self.now.on_len ∙ la;
+      since = c.args.self.now.since_len ∙ la;
+      kept = c.args.self.now.kept_len ∙ la;
+      cleared = c.requires.sizes.same_transitions;
+    }
+
+scanned : (c : goal.After-self-3-1)
+    → Advanced c.args.tables.now c.args.self.now.begun c.args.self.now.active c.args.self.now.since.items
+    c.args.self.now.kept.items c.args.conditions.now c.args.t
+    c.clear_in_order.new.cleared c.mark_following.new.on c.union_with.new.self c.begin.new.since c.keep_times.new.kept
+scanned c =
+    let tables = c.args.tables.now in
+    let self = c.args.self.now in
+    let n = sizes c in
+    let ft : SFits w64 c.args.t = c.ranges.t in
+    let cleared = c.clear_in_order.new.cleared in
+    let on = c.mark_following.new.on in
+    let keeps : c.keep_times.new.kept
+    ≡ left_by c.args.t c.deref.result.now (preceding_of tables.sides) (places_from cleared 0) c.deref_mut.result.now =
+    simp to_z-of_z at c.keep_times.ensures.kept in
+    let begins : c.begin.new.since ≡ begun_at c.args.t (places_from on 0) c.deref_mut-2.result.now =
+    simp to_z-of_z at c.begin.ensures.since in
+    advanced tables c.steps-steps.ensures.tables self.begun self.active self.since.items self.kept.items c.args.conditions.now c.args.t
+    c.clear_all.new.self c.clear_all-2.new.self cleared c.unmark_preceding.new.active c.start.new.on on c.union_with.new.self
+    c.begin.new.since c.keep_times.new.kept
+    n.active n.since n.kept (c.start.ensures.len ∙ n.on) (c.mark_following.ensures.len ∙ c.start.ensures.len ∙ n.on)
+    (c.clear_all.ensures.flags ∙ ap (λ k. replicate k false) n.used)
+    (c.clear_all-2.ensures.flags ∙ ap (λ k. replicate k false) n.cleared)
+    c.clear_in_order.ensures.cleared
+    (keeps ∙ (λ i. left_by c.args.t (c.deref.ensures.value i) (preceding_of tables.sides) (places_from cleared 0)
+    (c.deref_mut.ensures.value i)))
+    c.unmark_preceding.ensures.flags
+    (λ s lt. c.start.ensures.flags s (omega (arith, n.on)))
+    c.mark_following.ensures.flags
+    c.union_with.ensures.flags
+    (begins ∙ ap (begun_at c.args.t (places_from on 0)) c.deref_mut-2.ensures.value)
+
+pub returns-clause-kept : goal.returns-clause-kept
+unfolding StepsAgree
+returns-clause-kept c scans k =
+    let tables = c.args.tables.now in
+    let self = c.args.self.now in
+    let next =
+    kept_next tables c.steps-steps.ensures.tables self.begun self.active self.since.items self.kept.items self.cleared self.on
+    c.args.conditions.now c.args.t
+    c.clear_in_order.new.cleared c.mark_following.new.on c.union_with.new.self c.begin.new.since c.keep_times.new.kept scans
+    (scanned c) k.kept in
+    record {
+      size = record {
+        same_steps = c.union_with.ensures.len ∙ c.unmark_preceding.ensures.len ∙ c.requires.sizes.same_steps;
+        same_transitions =
+            c.clear_in_order.ensures.cleared_len
+            ∙ ap length c.clear_all-2.ensures.flags
+            ∙ length-replicate (length self.cleared) false
+            ∙ c.requires.sizes.same_transitions;
+      };
+      kept = kept_at tables true _ _ _ _ _ _ _ _ _ _ _ refl (with_items_is self.since _ (omega arith))
+          (with_items_is self.kept _ (omega arith)) refl refl next;
+    }
+
+pub returns-clause-ticks : goal.returns-clause-ticks
+returns-clause-ticks c =
+    let tables = c.args.tables.now in
+    let n = sizes c in
+    let clearing = clearing_is tables c.steps-steps.ensures.tables in
+    let works = work_of_scan tables.sides in (
+      omega arith,
+      omega (
+        arith,
+        clearing,
+        works,
+        n.active,
+        n.used,
+        n.on,
+        n.cleared,
+        c.clear_all.ensures.ticks,
+        c.clear_all-2.ensures.ticks,
+        c.clear_in_order.ensures.ticks,
+        c.keep_times.ensures.ticks,
+        c.unmark_preceding.ensures.ticks,
+        c.start.ensures.ticks,
+        c.mark_following.ensures.ticks,
+        c.union_with.ensures.ticks,
+        c.begin.ensures.ticks,
+        c.mark_following.ensures.len,
+        c.start.ensures.len,
+        c.unmark_preceding.ensures.len,
+      ),
+    )

@@ -1,0 +1,16 @@
+use Rattle.std.proofs.Common.{◌≡◌, ◌≤◌, ◌+◌, ◌-◌, length}
+use Rattle.sfc_flags.specs.Flags.{places_from}
+use Rattle.sfc_evolve.specs.Private.Keeping.{AreInstants, begun_at}
+use Rattle.sfc_evolve.proofs.times.begin.Given as goal
+
+abbrev pub invariant-places : goal.invariant-places
+invariant-places l = record {
+  rest : begun_at l.t (places_from l.on l.at) l.since ≡ begun_at l.t (places_from l.on 0) l.initial.since;
+  instants : AreInstants l.since;
+  within : l.at ≤ length l.on;
+  rises : l.initial.ticks.count ≤ l.ticks.count;
+  ticks : l.ticks.count + (length l.on - l.at) ≤ l.initial.ticks.count + length l.on;
+}
+
+abbrev pub decreases-places : goal.decreases-places
+decreases-places l = length l.on - l.at

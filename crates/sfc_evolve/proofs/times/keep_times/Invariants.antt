@@ -1,0 +1,18 @@
+use Rattle.std.proofs.Common.{◌≡◌, ◌≤◌, ◌+◌, ◌-◌, drop, length}
+use Rattle.sfc_flags.specs.Flags.{places_from}
+use Rattle.sfc_evolve.specs.Evolution.{preceding_of}
+use Rattle.sfc_evolve.specs.Private.Keeping.{left_by, side_work}
+use Rattle.sfc_evolve.proofs.times.keep_times.Given as goal
+
+abbrev pub invariant-cleared : goal.invariant-cleared
+invariant-cleared l = record {
+  rest : left_by l.t l.since (preceding_of l.tables.sides) (places_from l.cleared l.at) l.kept
+      ≡ left_by l.t l.since (preceding_of l.tables.sides) (places_from l.cleared 0) l.initial.kept;
+  within : l.at ≤ length l.cleared;
+  rises : l.initial.ticks.count ≤ l.ticks.count;
+  ticks : l.ticks.count + side_work (λ sides. sides.preceding) (drop l.at l.tables.sides)
+      ≤ l.initial.ticks.count + side_work (λ sides. sides.preceding) l.tables.sides;
+}
+
+abbrev pub decreases-cleared : goal.decreases-cleared
+decreases-cleared l = length l.cleared - l.at

@@ -1,0 +1,109 @@
+-- Which transitions a scan clears, which steps are active, and for how long (2.6.2, 2.6.3, 2.6.5).
+use Rattle.std.specs.Prelude.{ℕ, Bool, false, cond, not, ◌&&◌, ◌||◌, List, [], ◌∷◌, length, ℤ, replicate, slice_set}
+use Rattle.std.specs.List.{list_any, list_all}
+use Rattle.sfc_expr.specs.declared.variable.StepId.{StepId}
+use Rattle.sfc_flags.specs.Flags.{flag, places_from}
+use Rattle.sfc_tables.specs.declared.ids.TransitionId.{TransitionId}
+use Rattle.sfc_tables.specs.Tables.{Sides, Tabled, sides_at}
+use Rattle.sfc_evolve.specs.Lookback.{is_in, time_in, is_empty}
+use Rattle.sfc_evolve.specs.Marks.{has, marked}
+
+-- what one scan is told: the condition of each transition, in text order, and the instant
+pub record Scan : Type 0 where
+  pub conditions : List Bool
+  pub at : ℤ
+
+-- One scan of a program: its instant, whether it is the first of a life, and which transitions it cleared. The scans of
+-- a life are listed newest first.
+pub record Row : Type 0 where
+  pub at : ℤ
+  pub first : Bool
+  pub cleared : List Bool
+
+abbrev pub step_count : Tabled → ℕ
+step_count tables = length tables.initial
+
+abbrev pub transition_count : Tabled → ℕ
+transition_count tables = length tables.sides
+
+abbrev pub preceding_of : List Sides → ℕ → List StepId
+preceding_of sides tr = (sides_at sides record { 0 = tr }).preceding
+
+abbrev pub following_of : List Sides → ℕ → List StepId
+following_of sides tr = (sides_at sides record { 0 = tr }).following
+
+-- a transition is enabled when all its preceding steps are active (2.6.3)
+abbrev pub is_enabled : (ℕ → Bool) → List StepId → Bool
+is_enabled active preceding = list_all (λ step. active step.0) preceding
+
+-- A transition is cleared when it is enabled, its condition is true, and no transition that ranks before it was cleared
+-- by one of its preceding steps. `used` has the preceding steps of those (2.6.5).
+abbrev pub is_cleared : (ℕ → Bool) → Bool → List StepId → List Bool → Bool
+is_cleared active condition preceding used =
+    is_enabled active preceding && condition && not (list_any (λ step. flag used step.0) preceding)
+
+-- the cleared transitions, by place in the text, after those of `ranked`, the first in rank first
+abbrev pub cleared_in : List Sides → (ℕ → Bool) → List Bool → List TransitionId → List Bool → List Bool → List Bool
+cleared_in sides active conditions [] used cleared = cleared
+cleared_in sides active conditions (tr ∷ ranked) used cleared =
+    let preceding = (sides_at sides tr).preceding in
+    let clears = is_cleared active (flag conditions tr.0) preceding used in
+    cleared_in sides active conditions ranked (cond clears (marked preceding used) used) (slice_set cleared tr.0 clears)
+
+-- the transitions that a scan clears, where these steps were active before it
+abbrev pub cleared_set : Tabled → (ℕ → Bool) → List Bool → List Bool
+cleared_set tables active conditions =
+    cleared_in tables.sides active conditions tables.ranked (replicate (step_count tables) false)
+    (replicate (transition_count tables) false)
+
+-- the step is among these steps of a cleared transition
+abbrev pub some_cleared : (ℕ → List StepId) → List Bool → ℕ → Bool
+some_cleared side cleared s = list_any (λ tr. has (side tr) s) (places_from cleared 0)
+
+-- it follows a cleared transition, or is initial in the first scan
+abbrev pub activates : Tabled → Bool → List Bool → ℕ → Bool
+activates tables first cleared s = some_cleared (following_of tables.sides) cleared s || (first && flag tables.initial s)
+
+-- it precedes a cleared transition
+abbrev pub leaves : Tabled → List Bool → ℕ → Bool
+leaves tables cleared s = some_cleared (preceding_of tables.sides) cleared s
+
+-- the scan activates the step
+abbrev pub is_activated : Tabled → ℕ → Row → Bool
+is_activated tables s row = activates tables row.first row.cleared s
+
+-- the scan deactivates the step, and doesn't activate it anew
+abbrev pub is_deactivated : Tabled → ℕ → Row → Bool
+is_deactivated tables s row = not (is_activated tables s row) && leaves tables row.cleared s
+
+-- The step is active after these scans: one activated it, and no later one deactivated it (2.6.2).
+abbrev pub is_active : Tabled → List Row → ℕ → Bool
+is_active tables rows s = is_in (is_activated tables s) (is_deactivated tables s) rows
+
+-- The step's time up to now: since its latest activation, and up to the scan that deactivated it then, if one did; 0
+-- where it was never activated (2.6.2; our choice where it was never active).
+abbrev pub step_time : Tabled → List Row → ℕ → ℤ → ℤ
+step_time tables rows s now = time_in (is_activated tables s) (is_deactivated tables s) (λ row. row.at) rows now
+
+-- The row of the next scan. No step is active before the first scan of a life, so that one clears nothing.
+abbrev pub row_after : Tabled → List Row → Scan → Row
+row_after tables rows scan = record {
+  at = scan.at;
+  first = is_empty rows;
+  cleared = cleared_set tables (is_active tables rows) scan.conditions;
+}
+
+-- the rows of these scans
+abbrev pub rows_of : Tabled → List Scan → List Row
+rows_of tables [] = []
+rows_of tables (scan ∷ scans) = row_after tables (rows_of tables scans) scan ∷ rows_of tables scans
+
+-- the latest scan cleared the transition
+abbrev pub was_cleared : List Row → ℕ → Bool
+was_cleared [] tr = false
+was_cleared (row ∷ rows) tr = flag row.cleared tr
+
+-- the latest scan activated the step
+abbrev pub was_activated : Tabled → List Row → ℕ → Bool
+was_activated tables [] s = false
+was_activated tables (row ∷ rows) s = is_activated tables s row

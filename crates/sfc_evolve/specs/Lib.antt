@@ -1,0 +1,18 @@
+-- The rules, in reading order.
+
+-- look-backs over the rows of a life
+pub mod Lookback
+-- sets of steps
+pub mod Marks
+-- cleared transitions, active steps, step times
+pub mod Evolution
+-- the set of cleared transitions, by what it is
+pub mod Clearing
+-- the same by the numbers of scans
+pub mod ScanNumbers
+-- how much a scan handles
+pub mod Work
+-- what a `Steps` agrees with
+pub mod Agreement
+-- What private clauses cite.
+pub mod Private

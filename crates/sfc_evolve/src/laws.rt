@@ -1,0 +1,60 @@
+//! What holds of the definitions themselves: functions that do nothing, and whose contracts are the laws.
+
+ghost use Rattle.std.specs.Prelude.{◌≡◌, ◌<◌, ◌≤◌, ◌↔◌, ◌∷◌, ◌-ℤ◌, ◌&&◌};
+ghost use Rattle.std.specs.Prelude.{[], ℕ, ℤ, Bool, List, length, pos, true, false};
+ghost use Rattle.sfc_flags.specs.Flags.{flag};
+ghost use Rattle.sfc_tables.specs.Tables.{Tabled, AreTables};
+ghost use Rattle.sfc_evolve.specs.Evolution.{Scan, Row, transition_count, is_activated, is_deactivated, is_active};
+ghost use Rattle.sfc_evolve.specs.Evolution.{step_time, row_after, was_cleared};
+ghost use Rattle.sfc_evolve.specs.Evolution.{preceding_of, is_enabled, cleared_set};
+ghost use Rattle.sfc_evolve.specs.Clearing.{of_rank, shares, IsClearedSet};
+ghost use Rattle.sfc_evolve.specs.ScanNumbers.{IsActiveSince, IsLatest, NoneBetween, activated_at, deactivated_at};
+ghost use Rattle.sfc_evolve.specs.ScanNumbers.{scan_instant_at};
+
+/// The pass over the transitions in rank order gives the one set in which a transition stands exactly when it may
+/// clear (2.6.5).
+pub fn one_cleared_set()
+    ensures { (tables : Tabled) (active : ℕ → Bool) (conditions set : List Bool) → AreTables tables →
+        (set ≡ cleared_set tables active conditions) ↔ IsClearedSet tables active conditions set }
+{}
+
+/// A transition that shares no preceding step with one that ranks before it is cleared as if it were alone: when it is
+/// enabled and its condition is true (2.6.5).
+pub fn without_rivals()
+    ensures { (tables : Tabled) (active : ℕ → Bool) (conditions : List Bool) (j : ℕ) → AreTables tables →
+        j < transition_count tables →
+        ((i : ℕ) → i < j → shares (preceding_of tables.sides (of_rank tables i))
+        (preceding_of tables.sides (of_rank tables j)) ≡ false) →
+        flag (cleared_set tables active conditions) (of_rank tables j)
+        ≡ (is_enabled active (preceding_of tables.sides (of_rank tables j)) && flag conditions (of_rank tables j)) }
+{}
+
+/// A step is active exactly when some scan activated it and no later scan deactivated it (2.6.2).
+pub fn active_steps()
+    ensures { (tables : Tabled) (rows : List Row) (s : ℕ) →
+        (is_active tables rows s ≡ true) ↔ ((j : ℕ) × IsActiveSince tables s rows j) }
+{}
+
+/// A step's time is 0 before its first activation; while it is active, the time since the scan that activated it
+/// last; and then what it was at the scan that deactivated it (2.6.2).
+pub fn step_times()
+    ensures never { (tables : Tabled) (rows : List Row) (s : ℕ) (now : ℤ) →
+        ((j : ℕ) → j ≤ length rows → activated_at tables s rows j ≡ false) →
+        step_time tables rows s now ≡ pos 0 }
+    ensures active { (tables : Tabled) (rows : List Row) (s a : ℕ) (now : ℤ) →
+        IsLatest (is_activated tables s) rows a →
+        ((k : ℕ) → a < k → k ≤ length rows → deactivated_at tables s rows k ≡ false) →
+        step_time tables rows s now ≡ (now -ℤ scan_instant_at rows a) }
+    ensures left { (tables : Tabled) (rows : List Row) (s a k : ℕ) (now : ℤ) →
+        IsLatest (is_activated tables s) rows a → a < k → k ≤ length rows →
+        deactivated_at tables s rows k ≡ true → NoneBetween (is_deactivated tables s) rows a k →
+        step_time tables rows s now ≡ (scan_instant_at rows k -ℤ scan_instant_at rows a) }
+{}
+
+/// The first scan of a life clears nothing, and activates exactly the initial steps (2.6.5).
+pub fn first_scan()
+    ensures clears { (tables : Tabled) (scan : Scan) → AreTables tables →
+        (tr : ℕ) → was_cleared (row_after tables [] scan ∷ []) tr ≡ false }
+    ensures starts { (tables : Tabled) (scan : Scan) → AreTables tables →
+        (s : ℕ) → is_active tables (row_after tables [] scan ∷ []) s ≡ flag tables.initial s }
+{}

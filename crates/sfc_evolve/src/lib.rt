@@ -1,0 +1,18 @@
+//! Active steps and cleared transitions of one program instance (IEC 61131-3:2003, 2.6.2, 2.6.3, 2.6.5).
+//!
+//! - `clearing`: which transitions a scan clears.
+//! - `laws`: what holds of the definitions themselves.
+//! - `marking`: the steps before and after cleared transitions.
+//! - `marks`: tests and writes at listed steps.
+//! - `starting`: initial steps in the first scan.
+//! - `steps`: the steps of a program instance.
+//! - `times`: when steps were activated, and the times that they keep.
+#![tactic(auto)]
+
+mod clearing;
+pub mod laws;
+mod marking;
+mod marks;
+mod starting;
+pub mod steps;
+mod times;

@@ -1,0 +1,68 @@
+//! Tests and writes at listed steps.
+
+ghost use Rattle.std.specs.Prelude.{◌≡◌, length};
+ghost use Rattle.std.specs.List.{list_all, list_any};
+ghost use Rattle.sfc_expr.specs.Ticks.{Within};
+ghost use Rattle.sfc_flags.specs.Flags.{flag};
+ghost use Rattle.sfc_evolve.specs.Marks.{marked};
+ghost use Rattle.sfc_evolve.specs.Private.Keeping.{AllBelow, unmarked};
+
+use sfc_expr::ticks::Ticks;
+use sfc_expr::variable::StepId;
+use sfc_flags::flags::Flags;
+
+/// Whether each of these steps has its flag.
+pub fn all_set(flags: &Flags, steps: &[StepId], ticks: &mut Ticks) -> bool
+    requires { AllBelow (length flags.now) steps.now }
+    ensures value { result ≡ list_all (λ step. flag flags.now step.0) steps.now }
+    ensures ticks { Within (length steps.now) ticks.old ticks.new }
+{
+    for step in steps {
+        ticks.tick();
+        if !flags.get(step.0 as usize) {
+            return false;
+        }
+    }
+    true
+}
+
+/// Whether one of these steps has its flag.
+pub fn some_set(flags: &Flags, steps: &[StepId], ticks: &mut Ticks) -> bool
+    requires { AllBelow (length flags.now) steps.now }
+    ensures value { result ≡ list_any (λ step. flag flags.now step.0) steps.now }
+    ensures ticks { Within (length steps.now) ticks.old ticks.new }
+{
+    for step in steps {
+        ticks.tick();
+        if flags.get(step.0 as usize) {
+            return true;
+        }
+    }
+    false
+}
+
+/// Sets the flags of these steps.
+pub fn mark(flags: &mut Flags, steps: &[StepId], ticks: &mut Ticks)
+    requires { AllBelow (length flags.old) steps.now }
+    ensures flags { flags.new ≡ marked steps.now flags.old }
+    ensures len { length flags.new ≡ length flags.old }
+    ensures ticks { Within (length steps.now) ticks.old ticks.new }
+{
+    for step in steps {
+        ticks.tick();
+        flags.set(step.0 as usize, true);
+    }
+}
+
+/// Clears the flags of these steps.
+pub fn unmark(flags: &mut Flags, steps: &[StepId], ticks: &mut Ticks)
+    requires { AllBelow (length flags.old) steps.now }
+    ensures flags { flags.new ≡ unmarked steps.now flags.old }
+    ensures len { length flags.new ≡ length flags.old }
+    ensures ticks { Within (length steps.now) ticks.old ticks.new }
+{
+    for step in steps {
+        ticks.tick();
+        flags.set(step.0 as usize, false);
+    }
+}

@@ -1,0 +1,185 @@
+//! The steps of a program instance, in running form.
+
+ghost use Rattle.std.specs.Prelude.{◌≡◌, length};
+ghost use Rattle.sfc_evolve.specs.Private.Keeping.{AreInstants};
+
+use crate::clearing::clear_in_order;
+use crate::marking::{mark_following, unmark_preceding};
+use crate::marks::all_set;
+use crate::starting::start;
+use crate::times::{begin, copy_times, keep_times};
+use sfc_expr::ticks::Ticks;
+use sfc_expr::variable::StepId;
+use sfc_flags::flags::Flags;
+use sfc_tables::ids::TransitionId;
+use sfc_tables::tables::Tables;
+use std::alloc::{AllocError, Global};
+
+/// Of each step whether it is active, when it was last activated, what time it kept when it was left, and whether the
+/// latest scan activated it; of each transition whether the latest scan cleared it. The rest is room for a scan.
+#[derive(Drop)]
+pub struct Steps {
+    begun: bool,
+    active: Flags,
+    since: Vec<i64>,
+    kept: Vec<i64>,
+    cleared: Flags,
+    used: Flags,
+    on: Flags,
+    ghost since_len: { length since.items ≡ length active },
+    ghost kept_len: { length kept.items ≡ length active },
+    ghost used_len: { length used ≡ length active },
+    ghost on_len: { length on ≡ length active },
+    ghost instants: { AreInstants since.items },
+}
+
+#[tactic(auto, unfolding(crate::specs::Agreement::StepsAgree))]
+impl Steps {
+    ghost use Rattle.std.specs.Prelude.{◌≡◌, ◌<◌, ◌≤ℤ◌, ◌^◌, ◌+◌, ◌*◌, ◌∷◌, [], List, ℕ, pos, length, IfOk};
+    ghost use Rattle.sfc_expr.specs.Ticks.{Within};
+    ghost use Rattle.sfc_flags.specs.Flags.{flag};
+    ghost use Rattle.sfc_tables.specs.Tables.{Tabled};
+    ghost use Rattle.sfc_evolve.specs.Evolution.{Scan, rows_of, is_active, is_enabled, step_time};
+    ghost use Rattle.sfc_evolve.specs.Evolution.{was_cleared, was_activated, preceding_of};
+    ghost use Rattle.sfc_evolve.specs.Work.{advance_work};
+    ghost use Rattle.sfc_evolve.specs.Agreement.{IsFor, StepsAgree, step_places, transition_places};
+
+    /// Before the first scan of a life. The one error is that memory was refused.
+    pub fn new(alloc: Global, tables: &Tables) -> Result<Self, AllocError>
+        ensures sizes { IfOk result (λ steps. IsFor tables.now steps) }
+        ensures agrees { IfOk result (λ steps. StepsAgree tables.now steps []) }
+    {
+        let n = tables.steps();
+        let m = tables.transitions();
+        Ok(Steps {
+            begun: false,
+            active: Flags::new(alloc, n)?,
+            since: vec![in alloc; 0; n]?,
+            kept: vec![in alloc; 0; n]?,
+            cleared: Flags::new(alloc, m)?,
+            used: Flags::new(alloc, n)?,
+            on: Flags::new(alloc, n)?,
+        })
+    }
+
+    /// Whether the step is active (2.6.2).
+    pub fn active(&self, step: StepId) -> bool
+        requires { step.0 < step_places self.now }
+        ensures { (tables : Tabled) (scans : List Scan) → StepsAgree tables self.now scans →
+            result ≡ is_active tables (rows_of tables scans) step.0 }
+    {
+        self.active.get(step.0 as usize)
+    }
+
+    /// One scan at t, with the condition of each transition in text order; those of transitions that aren't enabled
+    /// don't matter. It takes no memory.
+    pub fn advance(&mut self, tables: &Tables, conditions: &[bool], t: i64, ticks: &mut Ticks)
+        requires sizes { IsFor tables.now self.old }
+        requires conditions { length conditions.now ≡ length tables.now.sides }
+        requires low { pos 0 ≤ℤ t }
+        requires high { t ≤ℤ pos (2 ^ 62) }
+        ensures sizes { IsFor tables.now self.new }
+        ensures kept { (scans : List Scan) → StepsAgree tables.now self.old scans →
+            StepsAgree tables.now self.new (record { conditions = conditions.now; at = t } ∷ scans) }
+        ensures ticks { Within (advance_work tables.now) ticks.old ticks.new }
+    {
+        let _steps = tables.steps();
+        self.used.clear_all(ticks);
+        self.cleared.clear_all(ticks);
+        clear_in_order(
+            tables,
+            conditions,
+            &self.active,
+            &mut self.used,
+            &mut self.cleared,
+            ticks,
+        );
+        keep_times(tables, &self.cleared, &mut self.kept, &self.since, t, ticks);
+        unmark_preceding(tables, &self.cleared, &mut self.active, ticks);
+        start(tables, !self.begun, &mut self.on, ticks);
+        mark_following(tables, &self.cleared, &mut self.on, ticks);
+        self.active.union_with(&self.on, ticks);
+        begin(&mut self.since, &self.on, t, ticks);
+        self.begun = true;
+    }
+
+    /// Which steps are active, by number.
+    pub fn active_flags(&self) -> &Flags
+        ensures len { length result.now ≡ step_places self.now }
+        ensures flags { (tables : Tabled) (scans : List Scan) → StepsAgree tables self.now scans →
+            (s : ℕ) → s < step_places self.now → flag result.now s ≡ is_active tables (rows_of tables scans) s }
+    {
+        &self.active
+    }
+
+    /// Whether the transition is enabled: all its preceding steps are active (2.6.3).
+    pub fn enabled(&self, tables: &Tables, transition: TransitionId, ticks: &mut Ticks) -> bool
+        requires sizes { IsFor tables.now self.now }
+        requires transition { transition.0 < length tables.now.sides }
+        ensures value { (scans : List Scan) → StepsAgree tables.now self.now scans →
+            result ≡ is_enabled (is_active tables.now (rows_of tables.now scans))
+            (preceding_of tables.now.sides transition.0) }
+        ensures ticks { Within (length (preceding_of tables.now.sides transition.0)) ticks.old ticks.new }
+    {
+        let _steps = tables.steps();
+        all_set(&self.active, tables.preceding(transition), ticks)
+    }
+
+    /// The step's time at t: the time since its latest activation, and for a step that was left what it was then; 0
+    /// where it was never active (2.6.2). In microseconds.
+    pub fn elapsed(&self, step: StepId, t: i64) -> i64
+        requires place { step.0 < step_places self.now }
+        requires low { pos 0 ≤ℤ t }
+        requires high { t ≤ℤ pos (2 ^ 62) }
+        ensures { (tables : Tabled) (scans : List Scan) → StepsAgree tables self.now scans →
+            result ≡ step_time tables (rows_of tables scans) step.0 t }
+    {
+        let s = step.0 as usize;
+        if self.active.get(s) {
+            t - self.since[s]
+        } else {
+            self.kept[s]
+        }
+    }
+
+    /// Whether the latest scan activated the step.
+    pub fn activated(&self, step: StepId) -> bool
+        requires { step.0 < step_places self.now }
+        ensures { (tables : Tabled) (scans : List Scan) → StepsAgree tables self.now scans →
+            result ≡ was_activated tables (rows_of tables scans) step.0 }
+    {
+        self.on.get(step.0 as usize)
+    }
+
+    /// Whether the latest scan cleared the transition.
+    pub fn cleared(&self, transition: TransitionId) -> bool
+        requires { transition.0 < transition_places self.now }
+        ensures { (tables : Tabled) (scans : List Scan) → StepsAgree tables self.now scans →
+            result ≡ was_cleared (rows_of tables scans) transition.0 }
+    {
+        self.cleared.get(transition.0 as usize)
+    }
+
+    /// Takes over what the other keeps, which was made from tables of the same size. It takes no memory.
+    pub fn copy_from(&mut self, other: &Steps, ticks: &mut Ticks)
+        requires steps { step_places other.now ≡ step_places self.old }
+        requires transitions { transition_places other.now ≡ transition_places self.old }
+        ensures steps { step_places self.new ≡ step_places self.old }
+        ensures transitions { transition_places self.new ≡ transition_places self.old }
+        ensures kept { (tables : Tabled) (scans : List Scan) → StepsAgree tables other.now scans →
+            StepsAgree tables self.new scans }
+        ensures ticks { Within (3 * step_places self.old + transition_places self.old) ticks.old ticks.new }
+    {
+        self.active.copy_from(&other.active, ticks);
+        self.on.copy_from(&other.on, ticks);
+        self.cleared.copy_from(&other.cleared, ticks);
+        copy_times(
+            &mut self.since,
+            &mut self.kept,
+            &other.since,
+            &other.kept,
+            ticks,
+        );
+        self.begun = other.begun;
+    }
+}

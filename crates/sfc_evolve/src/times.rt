@@ -1,0 +1,113 @@
+//! When steps were activated, and the times that they keep when they are left (2.6.2).
+
+ghost use Rattle.std.specs.Prelude.{◌≡◌, ◌≤ℤ◌, ◌-ℤ◌, ◌^◌, pos, length};
+ghost use Rattle.sfc_expr.specs.Ticks.{Within};
+ghost use Rattle.sfc_flags.specs.Flags.{places_from};
+ghost use Rattle.sfc_tables.specs.Tables.{AreTables};
+ghost use Rattle.sfc_evolve.specs.Evolution.{preceding_of};
+ghost use Rattle.sfc_evolve.specs.Private.Keeping.{AllBelow, AreInstants, left_at, left_by, begun_at, side_work};
+
+use sfc_expr::ticks::Ticks;
+use sfc_expr::variable::StepId;
+use sfc_flags::flags::Flags;
+use sfc_tables::ids::TransitionId;
+use sfc_tables::tables::Tables;
+
+// The time since an instant.
+fn time_since(since: i64, t: i64) -> i64
+    requires low { pos 0 ≤ℤ t }
+    requires high { t ≤ℤ pos (2 ^ 62) }
+    requires since_low { pos 0 ≤ℤ since }
+    requires since_high { since ≤ℤ pos (2 ^ 62) }
+    ensures { result ≡ (t -ℤ since) }
+{
+    t - since
+}
+
+/// These steps keep their times, as they are at t.
+pub fn leave(kept: &mut [i64], since: &[i64], steps: &[StepId], t: i64, ticks: &mut Ticks)
+    requires low { pos 0 ≤ℤ t }
+    requires high { t ≤ℤ pos (2 ^ 62) }
+    requires instants { AreInstants since.now }
+    requires kept_len { length kept.old ≡ length since.now }
+    requires steps { AllBelow (length since.now) steps.now }
+    ensures kept { kept.new ≡ left_at t since.now steps.now kept.old }
+    ensures ticks { Within (length steps.now) ticks.old ticks.new }
+{
+    for step in steps {
+        ticks.tick();
+        let s = step.0 as usize;
+        kept[s] = time_since(since[s], t);
+    }
+}
+
+/// The steps with flags begin at t.
+pub fn begin(since: &mut [i64], on: &Flags, t: i64, ticks: &mut Ticks)
+    requires low { pos 0 ≤ℤ t }
+    requires high { t ≤ℤ pos (2 ^ 62) }
+    requires instants { AreInstants since.old }
+    requires on_len { length on.now ≡ length since.old }
+    ensures since { since.new ≡ begun_at t (places_from on.now 0) since.old }
+    ensures instants { AreInstants since.new }
+    ensures ticks { Within (length on.now) ticks.old ticks.new }
+{
+    let mut at = 0;
+    'places: while let Some(s) = on.next_set(at, ticks) {
+        since[s] = t;
+        at = s + 1;
+    }
+}
+
+/// The steps before the cleared transitions keep their times, as they are at t.
+pub fn keep_times(
+    tables: &Tables,
+    cleared: &Flags,
+    kept: &mut [i64],
+    since: &[i64],
+    t: i64,
+    ticks: &mut Ticks,
+)
+    requires tables { AreTables tables.now }
+    requires cleared_len { length cleared.now ≡ length tables.now.sides }
+    requires since_len { length since.now ≡ length tables.now.initial }
+    requires kept_len { length kept.old ≡ length since.now }
+    requires instants { AreInstants since.now }
+    requires low { pos 0 ≤ℤ t }
+    requires high { t ≤ℤ pos (2 ^ 62) }
+    ensures kept { kept.new ≡ left_by t since.now (preceding_of tables.now.sides) (places_from cleared.now 0) kept.old }
+    ensures ticks { Within (side_work (λ sides. sides.preceding) tables.now.sides) ticks.old ticks.new }
+{
+    let mut at = 0;
+    'cleared: while let Some(tr) = cleared.next_set(at, ticks) {
+        leave(
+            kept,
+            since,
+            tables.preceding(TransitionId(tr as u16)),
+            t,
+            ticks,
+        );
+        at = tr + 1;
+    }
+}
+
+/// Takes over all instants and times.
+pub fn copy_times(
+    since: &mut [i64],
+    kept: &mut [i64],
+    from_since: &[i64],
+    from_kept: &[i64],
+    ticks: &mut Ticks,
+)
+    requires kept_len { length kept.old ≡ length since.old }
+    requires from_since_len { length from_since.now ≡ length since.old }
+    requires from_kept_len { length from_kept.now ≡ length since.old }
+    ensures since { since.new ≡ from_since.now }
+    ensures kept { kept.new ≡ from_kept.now }
+    ensures ticks { Within (length since.old) ticks.old ticks.new }
+{
+    for s in 0..since.len() {
+        ticks.tick();
+        since[s] = from_since[s];
+        kept[s] = from_kept[s];
+    }
+}
