@@ -26,6 +26,8 @@ fails() { local title=$1 wanted=$2 text=$3; shift 3; run "$@"; ends "$wanted" &&
 chart=$examples/lamp.chart script=$examples/lamp.script
 printf 'PROGRAM Mix\n1' >"$work/faulty.chart"
 sed 's/INITIAL_STEP/STEP/' "$chart" >"$work/dark.chart"
+# the chart that docs/LANGUAGE.md shows
+awk '/^```/ { if (++fence == 2) exit; next } fence == 1' "$top/docs/LANGUAGE.md" >"$work/press.chart"
 printf 'T#0s SCAN Main\nT#0s JUMP\n' >"$work/faulty.script"
 printf 'T#0s SCAN Main\nT#1ms SCAN Main\n' >"$work/early.script"
 
@@ -40,6 +42,8 @@ usage "no such command" "unrecognized subcommand" play "$chart" "$script"
 usage "no files" "<FILE>" replay
 usage "no script" "<SCRIPT>" replay "$chart"
 usage "a third file" "unexpected argument" replay "$chart" "$script" "$script"
+usage "no file to check" "<FILE>" check
+usage "a second file to check" "unexpected argument" check "$chart" "$script"
 usage "no such option" "unexpected argument" replay --fast "$chart" "$script"
 usage "a name that isn't UTF-8" "invalid UTF-8" replay $'caf\xe9.chart' "$script"
 
@@ -49,10 +53,22 @@ note $? "the version"
 run --help
 ends 0 && mentions "replay" out && says ""
 note $? "the help"
+run check --help
+ends 0 && mentions "Exit status:" out && mentions "docs/LANGUAGE.md" out && mentions "Example:" out && says ""
+note $? "the help on check"
 run replay --help
 ends 0 && mentions "Exit status:" out && mentions "docs/FORMATS.md" out && mentions "Example:" out && says ""
 note $? "the help on replay"
 
+for example in "$examples"/*.chart "$work/press.chart"; do
+  run check "$example"
+  ends 0 && [ "$(cat "$work/out")" = ok ] && says ""
+  note $? "$(basename "$example"), checked"
+done
+fails "a chart that is checked, and that the reader refuses" 1 "refused 4 Syntax line 2" check "$work/faulty.chart"
+fails "a chart that is checked, and that the loader refuses" 1 "refused 14 NoInitial" check "$work/dark.chart"
+fails "a chart to be checked that isn't there" 3 "read fault" check "$work/no.chart"
+fails "a chart that has more than is run so far" 1 "not supported" replay "$work/press.chart" "$script"
 fails "a chart that the reader refuses" 1 "refused 4 Syntax line 2" replay "$work/faulty.chart" "$script"
 fails "a chart that the loader refuses" 1 "refused 14 NoInitial" replay "$work/dark.chart" "$script"
 fails "a script that is refused" 1 "script line 2" replay "$chart" "$work/faulty.script"

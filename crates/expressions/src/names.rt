@@ -23,7 +23,7 @@ fn letter_of(name: &[u8]) -> u8
 }
 
 // The global variable at a place, with its type.
-fn global(place: u16, var_type: VarType) -> Option<(Variable, VarType)>
+fn global(place: usize, var_type: VarType) -> Option<(Variable, VarType)>
     ensures { result ≡ names.global place var_type }
 {
     Some((Variable::Global(GlobalId(place)), var_type))

@@ -43,7 +43,7 @@ impl View for Values {
 
     fn value_at(&self, variable: Variable) -> Value {
         match variable {
-            Variable::Global(GlobalId(place)) => match self.values.get(place as usize) {
+            Variable::Global(GlobalId(place)) => match self.values.get(place) {
                 Some(value) => *value,
                 None => Value::Bool(false),
             },
@@ -67,7 +67,7 @@ impl View for Values {
 impl Scratch for Values {
     fn assign(&mut self, variable: Variable, value: Value) {
         if let Variable::Global(GlobalId(place)) = variable {
-            if let Some(old) = self.values.get_mut(place as usize) {
+            if let Some(old) = self.values.get_mut(place) {
                 *old = value;
             }
         }

@@ -40,7 +40,7 @@ impl Error for ChartError {}
 pub enum MonitorError {
     /// The chart is refused. Nothing was written.
     Chart(ChartError),
-    /// The chart has more than is loaded so far. Nothing was written.
+    /// The chart has no fault, and more than is run so far. Nothing was written.
     Unsupported,
     /// The script is refused at this line, counted from 1, or for its length at 0. Nothing was written.
     Script(usize),

@@ -15,7 +15,7 @@ use std::io::{Read, Write};
 ///
 /// The chart is read and loaded first, then the whole script is read, and only then is anything written. At most
 /// 1,048,577 bytes are taken from each reader, in their order, and none of the script where the chart is refused or not
-/// supported. `Chart` is answered where the chart is refused, `Unsupported` where it has more than is loaded so far,
+/// supported. `Chart` is answered where the chart is refused, `Unsupported` where it has more than is run so far,
 /// `Script` where the script is refused, `Read` where a reader failed: then nothing was written. `Write` is answered
 /// where the writer failed or took no byte, `Memory` where memory was refused: then a front of the output was written.
 #[tactic(none)]
