@@ -1,5 +1,5 @@
 -- Where no check fails, the plant is sound.
-use Rattle.std.proofs.Common.{◌≡◌, ℕ, ◌<◌, ◌≤◌, ℤ, pos, ◌≤ℤ◌, int_lt, nat_lt, Bool, false, List, [], ◌∷◌, ◌++◌, length, map, All, Option, Some, None, unwrap_or, is_none, refl, sym, ap, subst, ◌∙◌, rules}
+use Rattle.std.proofs.Common.{◌≡◌, ℕ, ◌<◌, ◌≤◌, ℤ, pos, ◌≤ℤ◌, int_lt, nat_lt, Bool, false, List, [], ◌∷◌, ◌++◌, length, map, All, Option, Some, None, unwrap_or, is_none, refl, sym, subst, ◌∙◌, rules}
 use Rattle.std.specs.Option.{option_map}
 use Rattle.std.proofs.lemmas.List.{length-map}
 use Rattle.std.proofs.lemmas.List.Elements.{All-nil, All-cons, All-map}
@@ -16,16 +16,16 @@ use Rattle.sfc_expr.specs.NameLists.{has, place_of}
 use Rattle.sfc_variables.specs.declared.load_error.LoadError.TheVariants as fault
 use Rattle.sfc_variables.specs.declared.load_error.Limit.TheVariants as limit
 use Rattle.sfc_variables.specs.declared.variable.Variable.{Variable}
-use Rattle.sfc_variables.specs.Checks.{Check, ◌then◌, when, in_turn, typed}
+use Rattle.sfc_variables.specs.Checks.{◌then◌, when, in_turn, typed}
 use Rattle.sfc_variables.specs.Declarations.{globals_check, globals_of}
 use Rattle.sfc_variables.specs.Finding.{names_of, variable_place, typed_at}
 use Rattle.sfc_variables.specs.Own.{global_id}
 use Rattle.sfc_program.specs.Built.{program_of}
-use Rattle.sfc_program.specs.Loading.{program_check, variable_check}
+use Rattle.sfc_program.specs.Loading.{variable_check}
 use Rattle.sfc_program.proofs.Soundness.{then_first, then_second, when_none, in_turn_passes, place_below, found_below, literal_sound, not_above, program_sound}
 use Rattle.sfc_chart.specs.Plants.{PlantData}
 use Rattle.sfc_chart.specs.Image.{image_variables}
-use Rattle.sfc_chart.specs.Loading.{single_check, interval_check, task_name, task_check, tasks_check, program_name, named_program_check, programs_check, instance_name, task_number, instance_check, instances_check, image_check, task_names, program_names}
+use Rattle.sfc_chart.specs.Loading.{single_check, task_name, task_check, tasks_check, program_name, named_program_check, programs_check, instance_name, task_number, instance_check, instances_check, image_check, task_names, program_names}
 use Rattle.sfc_chart.specs.Built.{task_of, instance_of, source_check, plant_of}
 use Rattle.sfc_chart.specs.Sound.{IsSingle, IsTask, IsProgram, IsInstance, IsPlant}
 

@@ -1,11 +1,11 @@
 -- The whole walk from its parts.
-use Rattle.std.proofs.Common.{◌≡◌, ℕ, List, map, None, refl, sym, ap, ◌∙◌, subst}
+use Rattle.std.proofs.Common.{◌≡◌, List, map, None, sym, ap, ◌∙◌, subst}
 use Rattle.sfc_text.specs.Trees.{SourceTree}
 use Rattle.sfc_variables.specs.declared.load_error.LoadError.{LoadError}
 use Rattle.sfc_variables.specs.declared.variable.Variable.{Variable}
-use Rattle.sfc_variables.specs.Checks.{Check, ◌then◌, Fails}
+use Rattle.sfc_variables.specs.Checks.{Fails}
 use Rattle.sfc_variables.specs.Declarations.{globals_check, globals_of}
-use Rattle.sfc_variables.proofs.Checks.{passes, fails_later}
+use Rattle.sfc_variables.proofs.Checks.{passes}
 use Rattle.sfc_program.specs.declared.program_type.ProgramType.{ProgramType}
 use Rattle.sfc_program.specs.Built.{program_of}
 use Rattle.sfc_chart.specs.declared.task.Task.{Task}

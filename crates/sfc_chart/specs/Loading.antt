@@ -5,20 +5,17 @@ use Rattle.sfc_tokens.specs.declared.var_type.VarType.TheVariants as types
 use Rattle.sfc_text.specs.declared.tree.Instance.{Instance}
 use Rattle.sfc_text.specs.declared.tree.Literal.TheVariants as literal
 use Rattle.sfc_text.specs.declared.tree.Task.{Task}
-use Rattle.sfc_text.specs.Trees.{ProgramTree, SourceTree}
+use Rattle.sfc_text.specs.Trees.{ProgramTree}
 use Rattle.sfc_expr.specs.Checking.{checked_literal}
 use Rattle.sfc_expr.specs.NameLists.{has, place_of}
 use Rattle.sfc_variables.specs.declared.load_error.LoadError.TheVariants as fault
 use Rattle.sfc_variables.specs.declared.load_error.Limit.TheVariants as limit
 use Rattle.sfc_variables.specs.declared.variable.Variable.{Variable}
 use Rattle.sfc_variables.specs.Checks.{Check, ◌then◌, when, in_turn, typed}
-use Rattle.sfc_variables.specs.Declarations.{globals_check, globals_of}
 use Rattle.sfc_variables.specs.Finding.{global_named}
 use Rattle.sfc_variables.specs.Places.{repeats}
 use Rattle.sfc_program.specs.Loading.{program_check, variable_check}
-use Rattle.sfc_program.specs.Built.{program_of}
-use Rattle.sfc_program.specs.declared.program_type.ProgramType.{ProgramType}
-use Rattle.sfc_chart.specs.Image.{image_of, locations_of}
+use Rattle.sfc_chart.specs.Image.{locations_of}
 
 -- ---- tasks (2.7.2)
 

@@ -1,6 +1,4 @@
 //! Trees to plants: names are looked up, types and limits are checked.
-
-ghost use Rattle.std.specs.Prelude.{◌≡◌};
 ghost use Rattle.sfc_text.specs.Trees.{source_of};
 ghost use Rattle.sfc_variables.specs.Checks.{Loads};
 ghost use Rattle.sfc_chart.specs.Built.{source_check, plant_of};

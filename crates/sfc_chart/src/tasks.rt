@@ -25,7 +25,10 @@ use std::alloc::Global;
 const TASKS: usize = 16;
 
 // The BOOL variable that SINGLE names, if it is there.
-fn load_single(single: &Option<Name>, globals: &VariableTable) -> Result<Option<GlobalId>, LoadError>
+fn load_single(
+    single: &Option<Name>,
+    globals: &VariableTable,
+) -> Result<Option<GlobalId>, LoadError>
     ensures { Loads (λ id. id) result (loading.single_check globals.now single.now) (option_map (global_id globals.now) single.now) }
 {
     let Some(name) = single else {

@@ -5,9 +5,9 @@ ghost use Rattle.sfc_core.specs.Keeping.Outputs.{AreVariables};
 
 use crate::boolean_actions::list_actions;
 use crate::outputs::{assign_outputs, mark_active, update_executions, update_outputs};
-use sfc_single::chart::Chart;
 use sfc_chart::ids::VarId;
 use sfc_expr::value::Value;
+use sfc_single::chart::Chart;
 use std::alloc::{AllocError, Global};
 
 /// Of each Boolean action its variable, its Q and its A. The rest is room for a scan: a flag for each variable.

@@ -3,8 +3,8 @@
 ghost use Rattle.std.specs.Prelude.{◌≡◌, [], IfOk, OnOk};
 ghost use Rattle.sfc_core.specs.Keeping.Outputs.{is_listed, with_action, with_actions, with_steps};
 
-use sfc_single::chart::{Association, Step, Target};
 use sfc_chart::ids::VarId;
+use sfc_single::chart::{Association, Step, Target};
 use std::alloc::{AllocError, Global};
 
 // Whether the variable is among these.

@@ -7,8 +7,8 @@ ghost use Rattle.sfc_core.specs.Evolution.{is_cleared, cleared_from};
 ghost use Rattle.sfc_core.specs.Image.{is_condition_true};
 
 use crate::flags::{all_set, mark, some_set};
-use sfc_single::chart::Transition;
 use sfc_expr::value::Value;
+use sfc_single::chart::Transition;
 
 // Whether a transition is cleared after those whose preceding steps are used; if so it uses its own.
 fn clear_one(transition: &Transition, values: &[Value], active: &[bool], used: &mut [bool]) -> bool

@@ -11,8 +11,8 @@ ghost use Rattle.sfc_core.specs.Image.{is_condition_true};
 use crate::clearing::clear_in_order;
 use crate::marking::{mark_following, mark_preceding};
 use crate::update::{update_active, update_kept, update_since};
-use sfc_single::chart::{Chart, Step};
 use sfc_expr::value::Value;
+use sfc_single::chart::{Chart, Step};
 
 // Sets the flags of the initial steps in the first scan, and else none.
 fn start(on: &mut [bool], steps: &[Step], first: bool)

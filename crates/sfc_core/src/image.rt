@@ -2,8 +2,8 @@
 
 ghost use Rattle.std.specs.Prelude.{◌≡◌, IfOk, map};
 
-use sfc_variables::variable::Variable;
 use sfc_expr::value::Value;
+use sfc_variables::variable::Variable;
 use std::alloc::{AllocError, Global};
 
 /// What the variables begin with (2.4.2).

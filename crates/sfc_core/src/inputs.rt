@@ -6,9 +6,9 @@ ghost use Rattle.sfc_expr.specs.Values.{type_of};
 
 use crate::refusal::Refusal;
 use sfc_chart::ids::VarId;
-use sfc_variables::variable::Variable;
 use sfc_expr::value::Value;
 use sfc_tokens::location::{Area, Location};
+use sfc_variables::variable::Variable;
 
 // Whether it is a location at %I.
 fn is_input(location: &Option<Location>) -> bool

@@ -7,10 +7,9 @@ ghost use Rattle.sfc_core.specs.ActionControl.{is_fall, boolean_action};
 ghost use Rattle.sfc_core.specs.Keeping.Outputs.{AreVariables, executions, with_flags};
 ghost use Rattle.sfc_single.specs.Chart.{IsStep, IsTarget};
 
-use sfc_single::chart::{Association, Step, Target};
 use sfc_chart::ids::VarId;
-use sfc_single::chart::Qualifier;
 use sfc_expr::value::Value;
+use sfc_single::chart::{Association, Qualifier, Step, Target};
 
 // The variable that is an association's Boolean action.
 fn named_variable(association: &Association) -> VarId

@@ -4,8 +4,8 @@ ghost use Rattle.std.specs.Prelude.{◌≡◌, ◌≤ℤ◌, ◌^◌, ◌∷◌,
 
 use crate::actions::Actions;
 use crate::steps::Steps;
-use sfc_single::chart::Chart;
 use sfc_expr::value::Value;
+use sfc_single::chart::Chart;
 use std::alloc::{AllocError, Global};
 
 /// The steps and actions of a program instance, and the number of scans of its life.

@@ -16,8 +16,8 @@ use crate::single::single_chart;
 use crate::task::TaskState;
 use crate::view::ProgramView;
 use sfc_chart::ids::{ProgId, TaskId, VarId};
-use sfc_single::plant::Plant;
 use sfc_expr::value::Value;
+use sfc_single::plant::Plant;
 use std::alloc::{AllocError, Global};
 
 /// A plant that runs by scans and inputs. It keeps what the next event needs, and no history: what an event

@@ -4,8 +4,8 @@ ghost use Rattle.std.specs.Prelude.{◌≡◌, ◌<◌, ◌≤ℤ◌, ◌^◌, �
 ghost use Rattle.sfc_core.specs.Keeping.Instants.{AreInstants};
 
 use crate::evolution::scan;
-use sfc_single::chart::Chart;
 use sfc_expr::value::Value;
+use sfc_single::chart::Chart;
 use std::alloc::{AllocError, Global};
 
 /// Of each step whether it is active, when it was last activated and what time it kept when it was left; of each

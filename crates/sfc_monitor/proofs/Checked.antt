@@ -1,5 +1,5 @@
 -- Where the checking of a chart ends.
-use Rattle.std.proofs.Common.{◌≡◌, ℕ, List, Result, Ok, Err, refl, sym, subst}
+use Rattle.std.proofs.Common.{◌≡◌, ℕ, List, Ok, Err, refl, sym, subst}
 use Rattle.sfc_tokens.specs.declared.read_error.ReadError.{ReadError}
 use Rattle.sfc_tokens.specs.declared.read_error.ReadErrorKind.{ReadErrorKind}
 use Rattle.sfc_tokens.specs.declared.read_error.ReadErrorKind.TheVariants as kind

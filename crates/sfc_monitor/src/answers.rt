@@ -10,10 +10,10 @@ use crate::lines::append_program_line;
 use crate::lists::variable_name;
 use sfc_chart::ids::{ProgId, TaskId, VarId};
 use sfc_chart::instance::Instance;
+use sfc_core::{Event, Outcome, Refusal, Resource};
+use sfc_expr::value::Value;
 use sfc_single::plant::Plant;
 use sfc_variables::variable::Variable;
-use sfc_expr::value::Value;
-use sfc_core::{Event, Outcome, Refusal, Resource};
 use std::alloc::{AllocError, Global};
 
 // The declared name of a task; nothing where there is no such task.

@@ -4,9 +4,9 @@ ghost use Rattle.std.specs.Prelude.{◌≡◌};
 
 use crate::split::next_word;
 use sfc_chart::ids::{TaskId, VarId};
-use sfc_single::plant::Plant;
-use sfc_expr::value::Value;
 use sfc_core::Event;
+use sfc_expr::value::Value;
+use sfc_single::plant::Plant;
 use sfc_tokens::case::is_same_word;
 use sfc_tokens::duration::duration;
 use sfc_tokens::var_type::VarType;

@@ -10,11 +10,11 @@ ghost use Rattle.sfc_monitor.specs.Output as output;
 
 use crate::append::{append, append_number};
 use crate::lists::{append_cleared, append_executed, append_steps};
-use sfc_single::chart::Chart;
 use sfc_chart::ids::ProgId;
 use sfc_chart::instance::Instance;
-use sfc_single::plant::Plant;
 use sfc_core::ProgramView;
+use sfc_single::chart::Chart;
+use sfc_single::plant::Plant;
 use std::alloc::{AllocError, Global};
 
 // The chart that a program instance runs.

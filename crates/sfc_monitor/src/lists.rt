@@ -1,6 +1,6 @@
 //! The lists in a program's line: active steps, cleared transitions, executed actions.
 
-ghost use Rattle.std.specs.Prelude.{◌≡◌, ◌<◌, ◌≤◌, ◌+◌, ◌++◌, [], ℕ, suc, List, length, OnOk, IfOk};
+ghost use Rattle.std.specs.Prelude.{◌≡◌, ◌<◌, ◌+◌, ◌++◌, [], ℕ, suc, List, length, OnOk, IfOk};
 ghost use Rattle.std.specs.Fmt.{decimal};
 ghost use Rattle.sfc_chart.specs.declared.ids.ProgId.{ProgId};
 ghost use Rattle.sfc_single.specs.Chart.{PlantData};
@@ -12,10 +12,10 @@ ghost use Rattle.sfc_monitor.specs.Working.ListParts.{continued, separator};
 ghost use Rattle.sfc_monitor.specs.Output.{step_text, step_texts, cleared_texts, executed_texts, variable_name as name_of};
 
 use crate::append::{append, append_number, append_time};
-use sfc_single::chart::{Step, Transition};
 use sfc_chart::ids::VarId;
-use sfc_single::plant::Plant;
 use sfc_core::ProgramView;
+use sfc_single::chart::{Step, Transition};
+use sfc_single::plant::Plant;
 use std::alloc::{AllocError, Global};
 
 fn append_separator(out: &mut Vec<u8>, is_first: bool) -> Result<(), AllocError>

@@ -5,9 +5,9 @@ ghost use Rattle.sfc_monitor.specs.declared.monitor_error.MonitorError.TheVarian
 ghost use Rattle.sfc_monitor.specs.MonitorErrors.{of_script, of_read, of_load, status_of};
 
 use crate::script::ScriptError;
-use sfc_variables::load_error::LoadError;
 use sfc_tokens::read_error::{ReadError, ReadErrorKind};
 use sfc_tokens::write_fault::WriteFault;
+use sfc_variables::load_error::LoadError;
 use std::alloc::AllocError;
 use std::error::Error;
 use std::fmt;

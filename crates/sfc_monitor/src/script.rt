@@ -7,8 +7,8 @@ ghost use Rattle.std.specs.Prelude.{◌≡◌};
 
 use crate::line::{Line, read_line};
 use crate::split::next_line;
-use sfc_single::plant::Plant;
 use sfc_core::Event;
+use sfc_single::plant::Plant;
 use std::alloc::{AllocError, AllocFailed, Global};
 
 /// The most bytes of a script.

@@ -1,6 +1,6 @@
 //! Typed expressions (3.3.1).
 
-ghost use Rattle.std.specs.Prelude.{◌≡◌, ◌<◌, length};
+ghost use Rattle.std.specs.Prelude.{◌≡◌, length};
 ghost use Rattle.sfc_single.specs.Meaning.{meaning, value_at, IsOver};
 
 use sfc_chart::ids::VarId;

@@ -1,6 +1,6 @@
 //! A plant to the part of it that is run so far.
 
-ghost use Rattle.std.specs.Prelude.{◌≡◌, ◌≤◌, IfOk, IfSome, length};
+ghost use Rattle.std.specs.Prelude.{◌≡◌, ◌≤◌, IfOk, IfSome};
 ghost use Rattle.sfc_expr.specs.Trees.{expression_of};
 ghost use Rattle.sfc_single.specs.Chart.{IsSingle};
 ghost use Rattle.sfc_single.specs.Narrowing.{all_some, are_bool, is_one_task, narrowed, narrowed_association, narrowed_chart, narrowed_condition, narrowed_place, narrowed_qualifier, narrowed_step, narrowed_target, narrowed_transition, narrowed_type, narrowed_value, narrowed_variable, only_one};

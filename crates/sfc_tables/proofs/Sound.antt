@@ -1,5 +1,5 @@
 -- What tables name is there.
-use Rattle.std.proofs.Common.{◌≡◌, ℕ, suc, ◌+◌, ◌-◌, ◌<◌, ◌≤◌, ◌^◌, List, [], ◌∷◌, length, get_or, sym, ◌∙◌, ap, subst, arith}
+use Rattle.std.proofs.Common.{◌≡◌, ℕ, suc, ◌+◌, ◌-◌, ◌<◌, ◌≤◌, List, [], ◌∷◌, length, get_or, sym, ◌∙◌, ap, subst, arith}
 use Rattle.std.specs.Prelude.{map, All}
 use Rattle.std.specs.List.Sorted.{IsPermutation}
 use Rattle.std.proofs.lemmas.List.{length-map}
@@ -10,7 +10,7 @@ use Rattle.sfc_tables.specs.declared.association.Target.{Target}
 use Rattle.sfc_tables.specs.declared.chart.Step.{Step}
 use Rattle.sfc_tables.specs.declared.chart.Chart.{Chart}
 use Rattle.sfc_tables.specs.declared.step_action.StepAction.{StepAction}
-use Rattle.sfc_tables.specs.Actions.{actions_of, boolean_actions, number_of}
+use Rattle.sfc_tables.specs.Actions.{actions_of, number_of}
 use Rattle.sfc_tables.specs.Chart.{Space, IsChart}
 use Rattle.sfc_tables.specs.Ranks.{transitions_to}
 use Rattle.sfc_tables.specs.Tables.{Sides, Tabled, sides_of, in_text, numbered}

@@ -1,5 +1,5 @@
 -- The tables of a chart (2.6.2 to 2.6.4).
-use Rattle.std.specs.Prelude.{ℕ, suc, ◌≡◌, ◌<◌, ◌≤◌, ◌^◌, Bool, List, [], ◌∷◌, ◌++◌, length, map, All, slice_index_or}
+use Rattle.std.specs.Prelude.{ℕ, suc, ◌≡◌, ◌<◌, ◌≤◌, Bool, List, [], ◌∷◌, ◌++◌, length, map, All, slice_index_or}
 use Rattle.std.specs.List.Sorted.{IsPermutation}
 use Rattle.sfc_expr.specs.declared.variable.StepId.{StepId}
 use Rattle.sfc_tables.specs.declared.association.Association.{Association}

@@ -84,7 +84,7 @@ fn list_associations(
 }
 
 impl ActionBlocks {
-    ghost use Rattle.std.specs.Prelude.{◌≡◌, ◌<◌, ◌≤◌, ◌==◌, ◌^◌, ◌-◌, filter, length, IfOk};
+    ghost use Rattle.std.specs.Prelude.{◌≡◌, ◌<◌, ◌≤◌, ◌==◌, ◌-◌, filter, length, IfOk};
     ghost use Rattle.sfc_tables.specs.Actions.{actions_of};
     ghost use Rattle.sfc_tables.specs.Chart.{Space, IsChart};
     ghost use Rattle.sfc_tables.specs.Tables.{associations_of};

@@ -28,7 +28,7 @@ impl Model for ActionList {
 
 ghost use Rattle.std.specs.Prelude.{◌≡◌, ◌<◌, ◌≤◌, ◌+◌, ◌^◌, ◌++◌, ◌∷◌, [], map, length, IfOk, OnOk};
 ghost use Rattle.sfc_tables.specs.Actions.{booleans_of, associations_in, declared_actions, number_of};
-ghost use Rattle.sfc_tables.specs.Private.Listing.{with_booleans, listed};
+ghost use Rattle.sfc_tables.specs.Private.Listing.{with_booleans};
 
 use crate::action::ActionId;
 use crate::association::Association;

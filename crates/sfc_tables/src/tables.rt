@@ -25,7 +25,7 @@ impl Model for Tables {
     ghost invariant = { λ tables. AreKept tables.initial.items tables.links tables.ranked.items tables.blocks };
 }
 
-ghost use Rattle.std.specs.Prelude.{◌≡◌, ◌<◌, ◌≤◌, ◌==◌, ◌^◌, ◌-◌, map, filter, length, slice_get, Some, IfOk};
+ghost use Rattle.std.specs.Prelude.{◌≡◌, ◌<◌, ◌≤◌, ◌==◌, ◌-◌, map, filter, length, slice_get, Some, IfOk};
 ghost use Rattle.sfc_flags.specs.Flags.{flag};
 ghost use Rattle.sfc_tables.specs.Actions.{number_of};
 ghost use Rattle.sfc_tables.specs.Chart.{Space, IsChart};

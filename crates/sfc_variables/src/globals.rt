@@ -21,7 +21,12 @@ struct Draft {
 }
 
 // One more name of a declaration.
-fn declare_name(alloc: Global, name: &Name, declaration: &Declaration, draft: &mut Draft) -> Result<(), LoadError>
+fn declare_name(
+    alloc: Global,
+    name: &Name,
+    declaration: &Declaration,
+    draft: &mut Draft,
+) -> Result<(), LoadError>
     ensures loads { let declared : _ = declared_as declaration.now name.now in
         Loads (λ u. draft.new.variables.items) result (global_check draft.old.names declared)
         (draft.old.variables.items ++ variable_of declared ∷ []) }
@@ -52,7 +57,11 @@ fn declare(alloc: Global, declaration: &Declaration, draft: &mut Draft) -> Resul
 
 // All names of all declarations.
 #[tactic(auto, using(crate::proofs::Checks::more_checked, crate::proofs::Checks::more_fails, crate::proofs::Checks::more_built))]
-fn declare_all(alloc: Global, declarations: &[Declaration], draft: &mut Draft) -> Result<(), LoadError>
+fn declare_all(
+    alloc: Global,
+    declarations: &[Declaration],
+    draft: &mut Draft,
+) -> Result<(), LoadError>
     ensures loads { Loads (λ u. draft.new.variables.items) result
         (in_turn declared_name global_check draft.old.names (declared_in declarations.now))
         (draft.old.variables.items ++ map variable_of (declared_in declarations.now)) }

@@ -63,7 +63,12 @@ fn no_variables(alloc: Global) -> OwnDraft
 
 // With one more name of a VAR block.
 #[tactic(auto, using(crate::proofs::Within::more_table, crate::proofs::Within::more_within))]
-fn with_local(alloc: Global, name: &Name, declaration: &Declaration, draft: OwnDraft) -> Result<OwnDraft, LoadError>
+fn with_local(
+    alloc: Global,
+    name: &Name,
+    declaration: &Declaration,
+    draft: OwnDraft,
+) -> Result<OwnDraft, LoadError>
     ensures { let more : _ = declared_as declaration.now name.now in
         Loads (λ own. own) result (global_check draft.names more) (with_declared draft (more ∷ [])) }
 {
@@ -119,7 +124,11 @@ fn with_external(
 }
 
 // The global of this name and type.
-fn external_of(name: &Name, var_type: VarType, globals: &VariableTable) -> Result<GlobalId, LoadError>
+fn external_of(
+    name: &Name,
+    var_type: VarType,
+    globals: &VariableTable,
+) -> Result<GlobalId, LoadError>
     ensures { Loads (λ id. id) result (own.kind_check globals.now (AnExternal name.now var_type)) (own.global_id globals.now name.now) }
 {
     let Some(place) = globals.find(name.spelling()) else {
@@ -133,7 +142,11 @@ fn external_of(name: &Name, var_type: VarType, globals: &VariableTable) -> Resul
 }
 
 // With all names of a declaration of a VAR block.
-fn with_declaration(alloc: Global, declaration: &Declaration, draft: OwnDraft) -> Result<OwnDraft, LoadError>
+fn with_declaration(
+    alloc: Global,
+    declaration: &Declaration,
+    draft: OwnDraft,
+) -> Result<OwnDraft, LoadError>
     ensures { let more : _ = declared_by declaration.now in
         Loads (λ own. own) result (in_turn declared_name global_check draft.names more) (with_declared draft more) }
 {
@@ -148,7 +161,11 @@ fn with_declaration(alloc: Global, declaration: &Declaration, draft: OwnDraft) -
 
 // With all names of a VAR block.
 #[tactic(auto, using(crate::proofs::Checks::more_checked, crate::proofs::Checks::more_fails, crate::proofs::Extending::more_declared))]
-fn with_locals(alloc: Global, declarations: &[Declaration], draft: OwnDraft) -> Result<OwnDraft, LoadError>
+fn with_locals(
+    alloc: Global,
+    declarations: &[Declaration],
+    draft: OwnDraft,
+) -> Result<OwnDraft, LoadError>
     ensures { let more : _ = declared_in declarations.now in
         Loads (λ own. own) result (in_turn declared_name global_check draft.names more) (with_declared draft more) }
 {

@@ -26,7 +26,7 @@ impl Model for VariableTable {
     ghost invariant = { λ table. table.names ≡ names_of table.variables.items };
 }
 
-ghost use Rattle.std.specs.Prelude.{◌≡◌, ◌++◌, ◌∷◌, [], false, length, IfOk};
+ghost use Rattle.std.specs.Prelude.{◌≡◌, []};
 ghost use Rattle.sfc_expr.specs.NameLists.{has};
 ghost use Rattle.sfc_variables.specs.Finding.{names_of, variable_place};
 

@@ -1,5 +1,5 @@
 -- Whether two variables are one is an equivalence.
-use Rattle.std.proofs.Common.{◌≡◌, ◌*◌, ◌+◌, true, refl, ap, IsTrue}
+use Rattle.std.proofs.Common.{◌≡◌, true, refl, ap, IsTrue}
 use Rattle.std.proofs.lemmas.Bool.{eqb-true}
 use Rattle.std.specs.Hash as fed
 use Rattle.std.specs.Cmp.{IsPartialEquivalence, IsEquivalence, partial_equiv_from_equiv, nat_eq_equiv}

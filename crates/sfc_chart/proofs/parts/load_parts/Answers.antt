@@ -1,4 +1,4 @@
-use Rattle.std.proofs.Common.{◌≡◌, length, map, None, sym, ap, subst, ◌∙◌}
+use Rattle.std.proofs.Common.{◌≡◌, length, map, sym, ap, subst, ◌∙◌}
 use Rattle.std.proofs.lemmas.Result.{err_from_is_err_and}
 use Rattle.sfc_text.specs.Trees.{source_of, program_of as program_tree}
 use Rattle.sfc_variables.specs.Checks.{Fails}
@@ -29,7 +29,7 @@ returns-in_err-starts-clause-loads c =
           c.in_ok-instances.ensures.loads.1 ∙ (λ i. map (instance_of (tasks_are_named i) (types_are_named i)) (c.as_slice-4.ensures i));
     } in
     let image : image_of c.as_slice-5.result.now c.deref.result.now c.deref-2.result.now
-        ≡ image_of c.in_ok-globals.globals c.in_ok-types.types.items c.in_ok-instances.instances.items =
+    ≡ image_of c.in_ok-globals.globals c.in_ok-types.types.items c.in_ok-instances.instances.items =
     λ i. image_of (c.as_slice-5.ensures i) (c.deref.ensures.value i) (c.deref-2.ensures.value i) in
     let h : Fails c.in_err-starts.field-0.0 (image_check (image_of c.in_ok-globals.globals c.in_ok-types.types.items c.in_ok-instances.instances.items)) =
     subst (λ i. Fails c.in_err-starts.field-0.0 (image_check i)) image c.in_err-starts.ensures in
@@ -54,7 +54,7 @@ returns-clause-loads c =
           c.in_ok-instances.ensures.loads.1 ∙ (λ i. map (instance_of (tasks_are_named i) (types_are_named i)) (c.as_slice-4.ensures i));
     } in
     let image : image_of c.as_slice-5.result.now c.deref.result.now c.deref-2.result.now
-        ≡ image_of c.in_ok-globals.globals c.in_ok-types.types.items c.in_ok-instances.instances.items =
+    ≡ image_of c.in_ok-globals.globals c.in_ok-types.types.items c.in_ok-instances.instances.items =
     λ i. image_of (c.as_slice-5.ensures i) (c.deref.ensures.value i) (c.deref-2.ensures.value i) in
     (walk_passes _ _ _ _ _ w (ap image_check (sym image) ∙ c.in_ok-starts.ensures.0), plant_built _ _ _ _ _ w)
 

@@ -1,6 +1,6 @@
 use Rattle.std.proofs.Common.{◌≡◌, length, map}
 use Rattle.sfc_variables.specs.Checks.{in_turn}
-use Rattle.sfc_variables.specs.Declarations.{declared_name, declared_as, declared_by, declared_in, global_check}
+use Rattle.sfc_variables.specs.Declarations.{declared_name, declared_as, declared_by, global_check}
 use Rattle.sfc_variables.specs.Drafts.{with_declared}
 use Rattle.sfc_variables.proofs.own.with_declaration.Given as goal
 

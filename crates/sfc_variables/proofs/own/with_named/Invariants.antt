@@ -1,8 +1,6 @@
-use Rattle.std.proofs.Common.{◌≡◌, List, length, map, flat_map}
+use Rattle.std.proofs.Common.{◌≡◌, length, map}
 use Rattle.sfc_variables.specs.Checks.{in_turn}
-use Rattle.sfc_variables.specs.declared.variable.Variable.{Variable}
-use Rattle.sfc_variables.specs.Declarations.{declared_as, declared_by, declared_in}
-use Rattle.sfc_variables.specs.Own.{ALocal, AnExternal, own_name, own_check, named_as, named_by, own_in}
+use Rattle.sfc_variables.specs.Own.{own_name, own_check, named_as, named_by}
 use Rattle.sfc_variables.specs.Drafts.{extended}
 use Rattle.sfc_variables.proofs.own.with_named.Given as goal
 

@@ -1,8 +1,8 @@
-use Rattle.std.proofs.Common.{◌≡◌, ◌++◌, List, length, ◌∙◌, ap, arith}
+use Rattle.std.proofs.Common.{◌≡◌, ◌++◌, List, ◌∙◌, ap, arith}
 use Rattle.sfc_tables.specs.declared.chart.Step.{Step}
 use Rattle.sfc_tables.specs.Actions.{distinct, booleans_of, associations_in, declared_actions, boolean_actions}
 use Rattle.sfc_tables.specs.Private.Listing.{listed}
-use Rattle.sfc_tables.proofs.Listings.{distinct_is, booleans_few, listed_long}
+use Rattle.sfc_tables.proofs.Listings.{distinct_is}
 use Rattle.sfc_tables.proofs.action_list.ActionList.build.Goals as goal
 
 pub invariant_of-result : goal.invariant_of-result
