@@ -21,12 +21,14 @@ abbrev pub shares : List ℕ → List ℕ → Bool
 shares p q = list_any (has p) q
 
 -- Transition i is enabled, its condition is true, and no member that ranks before it shares a preceding step with it.
-pub record MayClear (active : ℕ → Bool) (holds : Transition → Bool) (transitions : List Transition) (set : List Bool) (i : ℕ) : Type 0 where
+pub record MayClear (active : ℕ → Bool) (holds : Transition → Bool) (transitions : List Transition) (set : List Bool) (i : ℕ)
+    : Type 0 where
   pub enabled : list_all active (preceding_of transitions i) ≡ true
   pub condition : condition_of holds transitions i ≡ true
   pub first : (u : ℕ) → u < i → flag set u ≡ true → shares (preceding_of transitions u) (preceding_of transitions i) ≡ false
 
 -- a transition stands in the set exactly when it may clear
-pub record IsClearedSet (active : ℕ → Bool) (holds : Transition → Bool) (transitions : List Transition) (set : List Bool) : Type 0 where
+pub record IsClearedSet (active : ℕ → Bool) (holds : Transition → Bool) (transitions : List Transition) (set : List Bool)
+    : Type 0 where
   pub sized : length set ≡ length transitions
   pub each : (i : ℕ) → i < length transitions → (flag set i ≡ true) ↔ MayClear active holds transitions set i

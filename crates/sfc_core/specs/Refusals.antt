@@ -2,7 +2,8 @@
 use Rattle.std.specs.Prelude.{ℕ, List, ◌++◌, codes}
 use Rattle.std.specs.Fmt.{decimal}
 use Rattle.sfc_core.specs.declared.refusal.Refusal.{Refusal}
-use Rattle.sfc_core.specs.declared.refusal.Refusal.TheVariants.{InstantRange, ClockBack, UnknownTask, UnknownProgram, UnknownVar, ValueType, NotInput, NotDue, Yield}
+use Rattle.sfc_core.specs.declared.refusal.Refusal.TheVariants.{InstantRange, ClockBack, UnknownTask, UnknownProgram}
+use Rattle.sfc_core.specs.declared.refusal.Refusal.TheVariants.{UnknownVar, ValueType, NotInput, NotDue, Yield}
 
 abbrev pub number_of : Refusal → ℕ
 number_of UnknownVar = 24

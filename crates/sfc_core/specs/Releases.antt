@@ -1,5 +1,6 @@
 -- When a task is to be scanned (2.7.2).
-use Rattle.std.specs.Prelude.{ℕ, ◌+◌, ◌-◌, ◌*◌, ◌/◌, ◌^◌, min, nat_le, cond, ◌&&◌, ℤ, pos, int_lt, int_le, unsigned_abs, Option, Some, None}
+use Rattle.std.specs.Prelude.{ℕ, ◌+◌, ◌-◌, ◌*◌, ◌/◌, ◌^◌, min, nat_le, cond}
+use Rattle.std.specs.Prelude.{◌&&◌, ℤ, pos, int_lt, int_le, unsigned_abs, Option, Some, None}
 
 -- A task with an interval is released at each multiple of it, 0 included (our choice where they begin): how many
 -- of them there are up to t. An interval of 0 gives none.

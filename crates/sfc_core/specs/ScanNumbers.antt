@@ -1,6 +1,7 @@
 -- The look-backs by the numbers of scans: the scans of a life are numbered from 1, and the newest has the highest
 -- number (2.6.2).
-use Rattle.std.specs.Prelude.{ℕ, suc, ◌≡◌, ◌<◌, ◌≤◌, ◌==◌, Bool, true, false, cond, List, [], ◌∷◌, length, ℤ, pos}
+use Rattle.std.specs.Prelude.{ℕ, suc, ◌≡◌, ◌<◌, ◌≤◌, ◌==◌, Bool, true}
+use Rattle.std.specs.Prelude.{false, cond, List, [], ◌∷◌, length, ℤ, pos}
 use Rattle.sfc_single.specs.declared.chart.Chart.{Chart}
 use Rattle.sfc_core.specs.Evolution.{Row, is_activated, is_deactivated}
 

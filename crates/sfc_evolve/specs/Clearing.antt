@@ -26,4 +26,5 @@ pub record MayClear (tables : Tabled) (active : ℕ → Bool) (conditions set : 
 -- a transition stands in the set exactly when it may clear
 pub record IsClearedSet (tables : Tabled) (active : ℕ → Bool) (conditions set : List Bool) : Type 0 where
   pub sized : length set ≡ transition_count tables
-  pub each : (j : ℕ) → j < transition_count tables → (flag set (of_rank tables j) ≡ true) ↔ MayClear tables active conditions set j
+  pub each : (j : ℕ) → j < transition_count tables
+      → (flag set (of_rank tables j) ≡ true) ↔ MayClear tables active conditions set j

@@ -1,4 +1,3 @@
-pub mod Checks
 pub mod Typing
 pub mod Distinct
 pub mod Soundness

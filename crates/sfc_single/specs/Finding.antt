@@ -4,7 +4,6 @@ use Rattle.std.specs.Option.{option_map}
 use Rattle.sfc_expr.specs.NameLists.{place_of}
 use Rattle.sfc_chart.specs.declared.ids.VarId.{VarId}
 use Rattle.sfc_chart.specs.declared.ids.TaskId.{TaskId}
-use Rattle.sfc_chart.specs.declared.ids.ProgId.{ProgId}
 use Rattle.sfc_single.specs.Chart.{PlantData}
 
 abbrev pub variable_named : PlantData → List ℕ → Option VarId
@@ -12,6 +11,3 @@ variable_named plant name = option_map (λ place. record { 0 = place }) (place_o
 
 abbrev pub task_named : PlantData → List ℕ → Option TaskId
 task_named plant name = option_map (λ place. record { 0 = place }) (place_of name (map (λ t. t.name) plant.tasks))
-
-abbrev pub instance_named : PlantData → List ℕ → Option ProgId
-instance_named plant name = option_map (λ place. record { 0 = place }) (place_of name (map (λ i. i.name) plant.instances))

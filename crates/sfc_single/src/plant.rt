@@ -1,12 +1,11 @@
 //! A plant that has no more than the part that is run so far.
 
 use crate::chart::ProgramType;
-use sfc_chart::ids::{ProgId, TaskId, VarId};
+use sfc_chart::ids::{TaskId, VarId};
 use sfc_chart::instance::Instance;
 use sfc_chart::plant::Plant as WholePlant;
 use sfc_chart::task::Task;
 use sfc_tokens::items::Items;
-use sfc_tokens::name::Name;
 use sfc_variables::variable::Variable;
 use std::marker::Model;
 
@@ -31,16 +30,9 @@ impl Model for Plant {
 
 ghost use Rattle.std.specs.Prelude.{◌≡◌};
 ghost use Rattle.sfc_single.specs.Chart.{IsPlant};
-ghost use Rattle.sfc_single.specs.Finding.{variable_named, task_named, instance_named};
+ghost use Rattle.sfc_single.specs.Finding.{variable_named, task_named};
 
 impl Plant {
-    /// The name of the resource, as it was written.
-    pub fn resource(&self) -> &Name
-        ensures { result.now ≡ self.now.resource }
-    {
-        self.plant.resource()
-    }
-
     /// The variables, in the order of the image.
     pub fn variables(&self) -> &[Variable]
         ensures value { result.now ≡ self.now.variables }
@@ -85,12 +77,5 @@ impl Plant {
         ensures { result ≡ task_named self.now name.now }
     {
         self.plant.find_task(name)
-    }
-
-    /// The program instance with this name; case is not significant. It takes no memory.
-    pub fn find_instance(&self, name: &[u8]) -> Option<ProgId>
-        ensures { result ≡ instance_named self.now name.now }
-    {
-        self.plant.find_instance(name)
     }
 }

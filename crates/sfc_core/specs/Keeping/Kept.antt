@@ -8,7 +8,8 @@ use Rattle.sfc_core.specs.Evolution.{Row, step_count, is_active, step_time, was_
 
 -- of each step: whether it is active, when it was last activated, the time that it kept when it was left, and
 -- whether the latest scan activated it; of each transition, whether the latest scan cleared it
-pub record AreKept (chart : Chart) (begun : Bool) (active : List Bool) (since kept : List ℤ) (cleared activated : List Bool) (rows : List Row) : Type 0 where
+pub record AreKept (chart : Chart) (begun : Bool) (active : List Bool) (since kept : List ℤ) (cleared activated : List Bool)
+    (rows : List Row) : Type 0 where
   pub has_begun : begun ≡ not (is_empty rows)
   pub activity : (s : ℕ) → s < step_count chart → flag active s ≡ is_active chart rows s
   pub time : (s : ℕ) → s < step_count chart → (now : ℤ) →
