@@ -1,10 +1,10 @@
 -- Places of variables and of more variables.
-use Rattle.std.proofs.Common.{◌≡◌, ℕ, zero, suc, ◌+◌, ◌-◌, ◌<◌, ◌≤◌, List, [], ◌∷◌, ◌++◌, length, map, flat_map, take, get_or, slice_get, Some, refl, sym, ap, ◌∙◌, arith}
+use Rattle.std.proofs.Common.{◌≡◌, ℕ, zero, suc, ◌+◌, ◌-◌, ◌<◌, ◌≤◌, List, [], ◌∷◌, ◌++◌, length, map, flat_map, take, get_or, slice_get, Some, refl, sym, ap, subst, ◌∙◌, arith}
 use Rattle.std.specs.Option.{option_map}
 use Rattle.std.specs.List.{range_with_len}
 use Rattle.std.proofs.lemmas.List.{append_assoc, length-append, length-map}
 use Rattle.std.proofs.lemmas.List.FromFn.{get_or-map-range_with_len, length-map-range_with_len}
-use Rattle.std.proofs.lemmas.Option.{slice_get-get_or}
+use Rattle.std.proofs.lemmas.Option.{slice_get-get_or, slice_get_within, get_or_from_slice_get}
 use Rattle.std.proofs.lemmas.List.Elements.{filter_map-append}
 use Rattle.sfc_tokens.specs.declared.location.Location.{Location}
 use Rattle.sfc_variables.specs.declared.variable.Variable.{Variable}
@@ -17,6 +17,7 @@ use Rattle.sfc_chart.specs.declared.instance.Instance.{Instance}
 use Rattle.sfc_chart.specs.declared.ids.ProgId.{ProgId}
 use Rattle.sfc_chart.specs.declared.ids.VarId.{VarId}
 use Rattle.sfc_chart.specs.Plants.{PlantData}
+use Rattle.sfc_chart.specs.Sound.{IsPlant}
 use Rattle.sfc_chart.specs.Image.{locations_of, locals_in, locals_of, image_variables, globals_to, locals_to, locals_from, starts_from}
 use Rattle.sfc_chart.specs.Finding.{first_local, locals_at, instance_locals, local_named}
 
@@ -130,3 +131,13 @@ found_local p starts i instance program name place s at_instance at_program foun
       omega (arith, start, there.at, there.within, ap length locals, below, all, few),
       ap (λ n. Some (a_number (n + place))) first ∙ sym (ap (option_map (λ k. a_number (first_local p i + k))) named),
     )
+
+-- ---- the steps of a program type
+
+-- a program type of a plant has no more steps than are allowed
+pub steps_within : (plant : PlantData) (i : ℕ) (p : ProgramType) → IsPlant plant → slice_get plant.types i ≡ Some p
+    → length p.chart.steps ≤ 1024
+steps_within plant i p sound e =
+    let lt : i < length plant.types = slice_get_within plant.types i p e in
+    let is : get_or plant.types i p ≡ p = get_or_from_slice_get plant.types i p p e in
+    subst (λ (q : ProgramType). length q.chart.steps ≤ 1024) is (sound.types i p lt).step_limit

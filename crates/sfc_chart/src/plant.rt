@@ -8,6 +8,7 @@ use crate::task::Task;
 use sfc_expr::name_table::NameTable;
 use sfc_expr::variable::GlobalId;
 use sfc_program::program_type::ProgramType;
+use sfc_program::type_scope::TypeScope;
 use sfc_tokens::items::Items;
 use sfc_tokens::name::Name;
 use sfc_variables::variable::Variable;
@@ -47,7 +48,9 @@ impl Model for Plant {
     ghost invariant = { IsLoaded };
 }
 
-ghost use Rattle.std.specs.Prelude.{◌≡◌, ◌<◌, length, slice_get};
+ghost use Rattle.std.specs.Prelude.{◌≡◌, ◌<◌, length, slice_get, Some};
+ghost use Rattle.sfc_program.specs.declared.program_type.ProgramType.{ProgramType};
+ghost use Rattle.sfc_program.specs.Names.{space_in};
 ghost use Rattle.sfc_chart.specs.Image.{image_places};
 ghost use Rattle.sfc_chart.specs.Sound.{IsLoadable, IsPlant};
 ghost use Rattle.sfc_chart.specs.Finding.{variable_named, local_named, task_named, instance_named, type_named};
@@ -167,5 +170,15 @@ impl Plant {
         ensures { result ≡ type_named self.now name.now }
     {
         self.type_names.find(name)
+    }
+
+    /// What names stand for in a condition of this program type, which is one of the plant's (2.4.3). It takes no memory.
+    #[tactic(auto, using(crate::proofs::Images::steps_within))]
+    pub fn scope(&self, program: usize) -> TypeScope<'_>
+        requires { program < length self.now.types }
+        ensures { (p : ProgramType) → slice_get self.now.types program ≡ Some p → result ≡ space_in self.now.globals p }
+    {
+        let types = self.types();
+        TypeScope::new(&self.globals, &types[program])
     }
 }

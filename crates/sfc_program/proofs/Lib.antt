@@ -1,3 +1,4 @@
 pub mod Typing
 pub mod Distinct
 pub mod Soundness
+pub mod StepNames

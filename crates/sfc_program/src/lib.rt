@@ -3,7 +3,7 @@
 //!
 //! - `program_type`: what a program type is loaded as; `load`: its trees to it.
 //! - `limits`: how much there may be; `element_names`: the names of steps, actions and transitions.
-//! - `scope`: what a name stands for.
+//! - `scope`: what a name stands for while it is loaded; `type_scope`: and once it was.
 //! - `associations`: steps with their associations; `transitions`; `actions`: actions with a body.
 #![tactic(auto)]
 
@@ -15,3 +15,4 @@ pub mod load;
 pub mod program_type;
 mod scope;
 mod transitions;
+pub mod type_scope;

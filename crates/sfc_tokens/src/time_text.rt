@@ -21,8 +21,8 @@ fn put_digit<W: Write>(digit: u64, writer: &mut W) -> Result<(), WriteFault>
     put_all(writer, &[byte])
 }
 
-// Writes a number in decimal digits.
-fn put_decimal<W: Write>(number: u64, writer: &mut W) -> Result<(), WriteFault>
+/// Writes a number in decimal digits. It takes no memory. After a fault a front of them was written.
+pub fn put_decimal<W: Write>(number: u64, writer: &mut W) -> Result<(), WriteFault>
     ensures { Writes (W.contents writer.old) (W.contents writer.new) result (decimal number) }
 {
     if number < 10 {

@@ -1,0 +1,67 @@
+//! What names stand for in a program type that was loaded (2.4.3, 2.6.2, 2.6.4.1).
+
+use crate::program_type::ProgramType;
+use sfc_expr::scope::Scope;
+use sfc_expr::variable::{GlobalId, LocalId, StepId, Variable};
+use sfc_tokens::var_type::VarType;
+use sfc_variables::variable_table::VariableTable;
+use std::marker::Model;
+
+/// A program type among the global variables of its plant, as an expression sees it that stands in none of its actions:
+/// a condition. It has at most 1,024 steps.
+#[derive(Drop)]
+pub struct TypeScope<'a> {
+    globals: &'a VariableTable,
+    program: &'a ProgramType,
+}
+
+impl<'a> Model for TypeScope<'a> {
+    ghost use Rattle.std.specs.Prelude.{◌≤◌, length};
+    ghost use Rattle.sfc_program.specs.Names.{Space, space_in};
+
+    ghost Value = { Space };
+
+    ghost view = { λ scope. space_in scope.globals.now scope.program.now };
+
+    ghost invariant = { λ scope. length scope.program.now.chart.steps ≤ 1024 };
+}
+
+ghost use Rattle.std.specs.Prelude.{◌≡◌, ◌≤◌, length, None};
+ghost use Rattle.sfc_program.specs.Names.{names_in, space_in};
+ghost use Rattle.sfc_program.specs.Scoping.AnyCase.{ignoring_case};
+
+impl<'a> TypeScope<'a> {
+    /// The program type among these global variables.
+    pub fn new(globals: &'a VariableTable, program: &'a ProgramType) -> TypeScope<'a>
+        requires { length program.now.chart.steps ≤ 1024 }
+        ensures { result ≡ space_in globals.now program.now }
+    {
+        TypeScope { globals, program }
+    }
+}
+
+impl Scope for TypeScope<'_> {
+    ghost names = { λ space. names_in space None };
+
+    fn variable(&self, name: &[u8]) -> Option<(Variable, VarType)> {
+        if let Some(place) = self.program.locals.find(name) {
+            let variable = self.program.locals.as_slice().get(place)?;
+            return Some((Variable::Local(LocalId(place)), variable.var_type));
+        }
+        let place = self.globals.find(name)?;
+        let variable = self.globals.as_slice().get(place)?;
+        Some((Variable::Global(GlobalId(place)), variable.var_type))
+    }
+
+    #[tactic(auto, using(crate::proofs::StepNames::step_place_among, crate::proofs::StepNames::step_place_below))]
+    fn step(&self, name: &[u8]) -> Option<StepId> {
+        let place = self.program.find_step(name)?;
+        Some(StepId(place as u16))
+    }
+
+    fn is_own_action(&self, _name: &[u8]) -> bool {
+        false
+    }
+
+    ghost ignores_case = { ignoring_case None };
+}
