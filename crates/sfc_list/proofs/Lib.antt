@@ -1,0 +1,8 @@
+pub mod Texts
+pub mod Indents
+pub mod Numbers
+pub mod Sunk
+pub mod NamesAt
+pub mod Operands
+pub mod Bodies
+pub mod Blocks

@@ -1,0 +1,107 @@
+-- The text of a plant (Annex B): its program types in order, and then the configuration, top down in blocks. It has all
+-- that the plant says, references in the spelling of their declarations.
+use Rattle.std.specs.Prelude.{◌++◌, ℕ, ℤ, List, [], map, flat_map, Option, Some, None, slice_get, if◌then◌else◌, codes, pos}
+use Rattle.std.specs.Ordering.{int_eq}
+use Rattle.std.specs.Fmt.{decimal}
+use Rattle.sfc_tokens.specs.declared.location.Location.{Location}
+use Rattle.sfc_tokens.specs.TimeText.{time_text}
+use Rattle.sfc_expr.specs.declared.variable.GlobalId.{GlobalId}
+use Rattle.sfc_variables.specs.declared.variable.Variable.{Variable}
+use Rattle.sfc_variables.specs.Finding.{names_of}
+use Rattle.sfc_tables.specs.declared.chart.Chart.{Chart}
+use Rattle.sfc_program.specs.declared.program_type.ProgramType.{ProgramType}
+use Rattle.sfc_program.specs.Names.{Space, space_in}
+use Rattle.sfc_chart.specs.declared.task.Task.{Task}
+use Rattle.sfc_chart.specs.declared.instance.Instance.{Instance}
+use Rattle.sfc_chart.specs.Plants.{PlantData}
+use Rattle.sfc_list.specs.Layout.{line, block}
+use Rattle.sfc_list.specs.Values.{type_text, literal_text, location_text}
+use Rattle.sfc_list.specs.Names.{name_at, external_name}
+use Rattle.sfc_list.specs.Charts.{step_text, transition_text, action_text}
+
+-- ---- variables (2.4.3)
+
+abbrev pub place_text : Option Location → List ℕ
+place_text None = []
+place_text (Some l) = codes " AT " ++ location_text l
+
+-- each with the value that it begins with
+abbrev pub variable_text : Variable → List ℕ
+variable_text v =
+    v.name ++ place_text v.location ++ codes " : " ++ type_text v.var_type ++ codes " := " ++ literal_text v.initial
+    ++ codes ";"
+
+-- the type of the global that an external is
+abbrev pub external_type : Option Variable → List ℕ
+external_type None = []
+external_type (Some v) = type_text v.var_type
+
+abbrev pub external_text : Space → GlobalId → List ℕ
+external_text space id =
+    external_name space id ++ codes " : " ++ external_type (slice_get space.globals id.0) ++ codes ";"
+
+-- ---- program types (2.5.3)
+
+abbrev pub program_head : ProgramType → List ℕ
+program_head p = codes "PROGRAM " ++ p.name
+
+-- steps, then transitions, then actions
+abbrev pub chart_text : Space → Chart → List ℕ
+chart_text space chart =
+    flat_map (step_text space) chart.steps ++ flat_map (transition_text space) chart.transitions
+    ++ flat_map (action_text space) chart.actions
+
+abbrev pub program_text : List Variable → ProgramType → List ℕ
+program_text globals p =
+    line 0 (program_head p)
+    ++ block 1 (codes "VAR") variable_text p.locals
+    ++ block 1 (codes "VAR_EXTERNAL") (external_text (space_in globals p)) p.externals
+    ++ chart_text (space_in globals p) p.chart
+    ++ line 0 (codes "END_PROGRAM")
+
+-- ---- the configuration (2.7.1, 2.7.2)
+
+abbrev pub single_text : List Variable → Option GlobalId → List ℕ
+single_text globals None = []
+single_text globals (Some id) = codes "SINGLE := " ++ name_at (names_of globals) id.0 ++ codes ", "
+
+-- an interval of 0 is none
+abbrev pub interval_text : ℤ → List ℕ
+interval_text t = if int_eq t (pos 0) then [] else codes "INTERVAL := " ++ time_text t ++ codes ", "
+
+abbrev pub task_text : List Variable → Task → List ℕ
+task_text globals t =
+    codes "TASK " ++ t.name ++ codes "(" ++ single_text globals t.single ++ interval_text t.interval
+    ++ codes "PRIORITY := " ++ decimal t.priority ++ codes ");"
+
+abbrev pub task_name : List Task → ℕ → List ℕ
+task_name tasks place = name_at (map (λ t. t.name) tasks) place
+
+abbrev pub type_name : List ProgramType → ℕ → List ℕ
+type_name types place = name_at (map (λ p. p.name) types) place
+
+abbrev pub instance_text : List Task → List ProgramType → Instance → List ℕ
+instance_text tasks types i =
+    codes "PROGRAM " ++ i.name ++ codes " WITH " ++ task_name tasks i.task.0 ++ codes " : " ++ type_name types i.program
+    ++ codes ";"
+
+abbrev pub configuration_head : PlantData → List ℕ
+configuration_head plant = codes "CONFIGURATION " ++ plant.configuration
+
+abbrev pub resource_head : PlantData → List ℕ
+resource_head plant = codes "RESOURCE " ++ plant.resource ++ codes " ON " ++ plant.processor
+
+abbrev pub configuration_text : PlantData → List ℕ
+configuration_text plant =
+    line 0 (configuration_head plant)
+    ++ line 1 (resource_head plant)
+    ++ block 2 (codes "VAR_GLOBAL") variable_text plant.globals
+    ++ flat_map (λ t. line 2 (task_text plant.globals t)) plant.tasks
+    ++ flat_map (λ i. line 2 (instance_text plant.tasks plant.types i)) plant.instances
+    ++ line 1 (codes "END_RESOURCE")
+    ++ line 0 (codes "END_CONFIGURATION")
+
+-- ---- the whole
+
+abbrev pub listing : PlantData → List ℕ
+listing plant = flat_map (program_text plant.globals) plant.types ++ configuration_text plant

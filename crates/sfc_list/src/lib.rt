@@ -1,0 +1,23 @@
+//! The text of a loaded plant (IEC 61131-3:2003, Annex B).
+//!
+//! - `list`: a plant to its text, and into a writer.
+//! - `program`, `configuration`: the two kinds of blocks that a text has.
+//! - `variables`, `step`, `transition`, `action`: what stands in them; `statement`, `expression`: what stands in bodies
+//!   and conditions; `value`: types, literals and locations.
+//! - `names`: the names of what stands in a program type as a number.
+//! - `layout`: lines and indentation; `sink`: writing that stops at the first fault.
+#![tactic(auto)]
+
+mod action;
+mod configuration;
+mod expression;
+mod layout;
+pub mod list;
+mod names;
+mod program;
+mod sink;
+mod statement;
+mod step;
+mod transition;
+mod value;
+mod variables;
