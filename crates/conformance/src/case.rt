@@ -3,7 +3,7 @@
 use crate::ending::Ending;
 use crate::frame::Frame;
 use anyhow::{Result, bail};
-use sfc_monitor::check::check_chart;
+use sfc_monitor::check::{check_chart, list_chart};
 use sfc_monitor::replay::replay;
 use std::alloc::{AllocError, Global};
 
@@ -12,6 +12,8 @@ use std::alloc::{AllocError, Global};
 enum Command {
     /// A chart is checked.
     Check,
+    /// A chart is listed.
+    List,
     /// A script is played on a chart.
     Replay,
 }
@@ -64,6 +66,7 @@ impl Case {
     pub fn set_command(&mut self, name: &str) -> Result<()> {
         match name {
             "check" => self.command = Command::Check,
+            "list" => self.command = Command::List,
             "replay" => self.command = Command::Replay,
             _ => bail!("there is no command {name}"),
         }
@@ -95,6 +98,27 @@ impl Case {
         Ok(ending)
     }
 
+    // Lists the chart.
+    fn listed(&self, alloc: Global, chart: &[u8]) -> Result<Ending, AllocError> {
+        let mut chart = chart;
+        let mut ending = Ending::new(alloc);
+        if let Err(error) = list_chart(alloc, &mut chart, &mut ending.output) {
+            ending.fault = format!(in alloc; "{error}")?;
+            ending.status = error.status();
+        }
+        Ok(ending)
+    }
+
+    // Whether the listing of the chart, if it has one, lists the same again.
+    fn lists_alike(&self, alloc: Global, chart: &[u8]) -> Result<bool, AllocError> {
+        let once = self.listed(alloc, chart)?;
+        if once.status != 0 {
+            return Ok(true);
+        }
+        let again = self.listed(alloc, &once.output)?;
+        Ok(again.status == 0 && again.output.as_slice() == once.output.as_slice())
+    }
+
     // Plays the script on the chart.
     fn replayed(&self, alloc: Global, chart: &[u8]) -> Result<Ending, AllocError> {
         let mut chart = chart;
@@ -107,12 +131,17 @@ impl Case {
         Ok(ending)
     }
 
-    // Runs the command on a chart.
+    // Runs the command on a chart. A listing that doesn't list the same again is told as a fault.
     fn ending_on(&self, alloc: Global, chart: &[u8]) -> Result<Ending, AllocError> {
-        match self.command {
-            Command::Check => self.checked(alloc, chart),
-            Command::Replay => self.replayed(alloc, chart),
+        let mut ending = match self.command {
+            Command::Check => self.checked(alloc, chart)?,
+            Command::List => self.listed(alloc, chart)?,
+            Command::Replay => self.replayed(alloc, chart)?,
+        };
+        if !self.lists_alike(alloc, chart)? {
+            ending.fault.push_str(" (and its listing lists another text)")?;
         }
+        Ok(ending)
     }
 
     /// How the command ends.

@@ -101,9 +101,9 @@ pub fn put_expression<W: Write>(names: &Names, own: &[u8], expr: &Expr, out: &mu
             out.put(b"NOT ");
             put_operand(names, own, PREFIX_LEVEL, operand, out);
         }
-        Expr::Minus(_, operand) => {
+        Expr::Minus(_, negated) => {
             out.put(b"-");
-            put_operand(names, own, PREFIX_LEVEL, operand, out);
+            put_operand(names, own, PREFIX_LEVEL, negated, out);
         }
         Expr::Binary(operator, _, left, right) => {
             put_operand(names, own, level(*operator), left, out);

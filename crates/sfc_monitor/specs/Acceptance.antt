@@ -1,35 +1,43 @@
--- What check_chart answers and writes: a stated function of the bytes that were read.
+-- What check_chart and list_chart answer and write: stated functions of the bytes that were read.
 use Rattle.std.specs.Prelude.{◌≡◌, ℕ, List, codes, None, Result, Ok, Err, ⊤}
 use Rattle.std.specs.Io.KnownBytes.{Appends}
 use Rattle.sfc_text.specs.Reads.{TextReads}
 use Rattle.sfc_text.specs.Trees.{SourceTree}
 use Rattle.sfc_tokens.specs.Writing.{AppendsFront}
-use Rattle.sfc_chart.specs.Built.{source_check}
+use Rattle.sfc_chart.specs.Built.{source_check, plant_of}
+use Rattle.sfc_chart.specs.Plants.{PlantData}
 use Rattle.sfc_monitor.specs.declared.monitor_error.MonitorError.{MonitorError}
 use Rattle.sfc_monitor.specs.declared.monitor_error.MonitorError.TheVariants.{Chart, Read, Write, Memory}
 use Rattle.sfc_monitor.specs.Reading.{Device, IsUntouched, LosesAtMost}
 use Rattle.sfc_monitor.specs.Replay.{IsRefusedFor, OfChart, most}
 
--- the text is read as a tree in which no check fails, whether it is run so far or not
-abbrev pub IsAccepted : List ℕ → Type 0
-IsAccepted text = (tree : SourceTree) × TextReads text (Ok tree) × (source_check tree ≡ None)
+-- The text is read as a tree in which no check fails, and the plant is its, whether it is run so far or not.
+pub record IsAccepted (text : List ℕ) (plant : PlantData) : Type 0 where
+  pub tree : SourceTree
+  pub read : TextReads text (Ok tree)
+  pub passes : source_check tree ≡ None
+  pub built : plant_of tree ≡ plant
 
--- what checking a text answers; want of memory says nothing
-abbrev pub ChecksText : List ℕ → {X : Type 0} → Result X MonitorError → Type 0
-ChecksText text (Ok done) = IsAccepted text
-ChecksText text (Err (Chart error)) = IsRefusedFor text error
-ChecksText text (Err Memory) = ⊤
-ChecksText text (Err _) = ⊥
+-- what loading a text answers; want of memory says nothing
+abbrev pub Accepts : List ℕ → Result PlantData MonitorError → Type 0
+Accepts text (Ok plant) = IsAccepted text plant
+Accepts text (Err (Chart error)) = IsRefusedFor text error
+Accepts text (Err Memory) = ⊤
+Accepts text (Err _) = ⊥
 
--- what is written of a chart that is accepted
-abbrev pub acceptance : List ℕ
-acceptance = codes "ok\n"
+-- the chart is a plant, and of what is to be written of it the writer was given so much
+abbrev pub Tells : (PlantData → List ℕ) → Device → (List ℕ → Type 0) → Type 0
+Tells output chart Given = OfChart chart (λ text. (plant : PlantData) × IsAccepted text plant × Given (output plant))
 
--- What check_chart answers, what it has taken from the reader, and what it has written.
-abbrev pub Checks : Device → Device → {X : Type 0} → Result X MonitorError → Type 0
-Checks chart w (Ok done) = OfChart chart IsAccepted × Appends w.0 w.1 acceptance
-Checks chart w (Err (Chart error)) = OfChart chart (λ text. IsRefusedFor text error) × IsUntouched w
-Checks chart w (Err Read) = LosesAtMost most chart × IsUntouched w
-Checks chart w (Err Write) = OfChart chart IsAccepted × AppendsFront w.0 w.1 acceptance
-Checks chart w (Err Memory) = LosesAtMost most chart × IsUntouched w
-Checks chart w (Err _) = ⊥
+-- What a call answers that writes this output of a plant, what it has taken from the reader, and what it has written.
+abbrev pub Answers : (PlantData → List ℕ) → Device → Device → {X : Type 0} → Result X MonitorError → Type 0
+Answers output chart w (Ok done) = Tells output chart (Appends w.0 w.1)
+Answers output chart w (Err (Chart error)) = OfChart chart (λ text. IsRefusedFor text error) × IsUntouched w
+Answers output chart w (Err Read) = LosesAtMost most chart × IsUntouched w
+Answers output chart w (Err Write) = Tells output chart (AppendsFront w.0 w.1)
+Answers output chart w (Err Memory) = LosesAtMost most chart × IsUntouched w
+Answers output chart w (Err _) = ⊥
+
+-- what check_chart writes of each plant
+abbrev pub acceptance : PlantData → List ℕ
+acceptance plant = codes "ok\n"

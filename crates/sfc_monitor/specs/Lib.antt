@@ -10,7 +10,7 @@ pub mod Output
 pub mod Reading
 -- what replay answers and writes
 pub mod Replay
--- what check_chart answers and writes
+-- what check_chart and list_chart answer and write
 pub mod Acceptance
 -- what each fault becomes; exit statuses and texts
 pub mod MonitorErrors

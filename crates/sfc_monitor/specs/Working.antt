@@ -4,3 +4,4 @@ pub mod Splitting
 pub mod ScriptReading
 pub mod ListParts
 pub mod Playing
+pub mod Telling

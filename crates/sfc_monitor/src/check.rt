@@ -1,21 +1,33 @@
-//! A chart that is checked, from bytes to bytes.
+//! Charts that are checked and listed, from bytes to bytes.
 
-ghost use Rattle.sfc_monitor.specs.Acceptance.{Checks, ChecksText};
+ghost use Rattle.sfc_list.specs.Listing.{listing};
+ghost use Rattle.sfc_monitor.specs.Acceptance.{Accepts, Answers, acceptance};
+ghost use Rattle.sfc_monitor.specs.Working.Telling.{Checks, Told};
 
 use crate::input::read_to_end;
 use crate::monitor_error::MonitorError;
 use sfc_chart::load::load;
+use sfc_chart::plant::Plant;
+use sfc_list::list::list_to;
 use sfc_text::read::read;
 use sfc_tokens::write_fault::put_all;
 use std::alloc::Global;
 use std::io::{Read, Write};
 
-// That the bytes of a chart are read and loaded.
-fn check_text(alloc: Global, text: &[u8]) -> Result<(), MonitorError>
-    ensures { ChecksText text.now result }
+// The plant that the bytes of a chart are, whether it is run so far or not.
+fn accept_text(alloc: Global, text: &[u8]) -> Result<Plant, MonitorError>
+    ensures { Accepts text.now result }
 {
     let tree = read(alloc, text)?;
-    let _plant = load(alloc, &tree)?;
+    let plant = load(alloc, &tree)?;
+    Ok(plant)
+}
+
+// That the bytes of a chart are read and loaded.
+fn check_text(alloc: Global, text: &[u8]) -> Result<(), MonitorError>
+    ensures { Checks text.now result }
+{
+    let _plant = accept_text(alloc, text)?;
     Ok(())
 }
 
@@ -29,10 +41,36 @@ pub fn check_chart<C: Read, W: Write>(
     chart: &mut C,
     w: &mut W,
 ) -> Result<(), MonitorError>
-    ensures { Checks (C.remaining chart.old, C.remaining chart.new) (W.contents w.old, W.contents w.new) result }
+    ensures { Answers acceptance (C.remaining chart.old, C.remaining chart.new) (W.contents w.old, W.contents w.new) result }
 {
     let text = read_to_end(alloc, chart)?;
     check_text(alloc, &text)?;
     put_all(w, b"ok\n")?;
     Ok(())
+}
+
+// Writes the text of a plant.
+fn put_listing<W: Write>(plant: &Plant, w: &mut W) -> Result<(), MonitorError>
+    ensures { Told (W.contents w.old, W.contents w.new) (listing plant.now) result }
+{
+    list_to(plant, w)?;
+    Ok(())
+}
+
+/// Writes the text of the plant where the chart is read and loaded, whether it is run so far or not: all that it says,
+/// in blocks (Annex B; our choice of layout).
+///
+/// At most 1,048,577 bytes are taken from the reader. `Chart` is answered where the chart is refused, `Read` where the
+/// reader failed, `Memory` where memory was refused: then nothing was written. `Write` is answered where the writer
+/// failed or took no byte: then a front of the text was written.
+pub fn list_chart<C: Read, W: Write>(
+    alloc: Global,
+    chart: &mut C,
+    w: &mut W,
+) -> Result<(), MonitorError>
+    ensures { Answers listing (C.remaining chart.old, C.remaining chart.new) (W.contents w.old, W.contents w.new) result }
+{
+    let text = read_to_end(alloc, chart)?;
+    let plant = accept_text(alloc, &text)?;
+    put_listing(&plant, w)
 }

@@ -11,6 +11,8 @@ use std::alloc::{AllocError, Global};
 pub enum Request {
     /// A chart to be checked, by the name of its file.
     Check { chart: String },
+    /// A chart to be listed, by the name of its file.
+    List { chart: String },
     /// A script to be played on a chart, by the names of their files.
     Replay { chart: String, script: String },
     /// The words were answered already: help, the version, or what is wrong with them. This exit status is left.
@@ -33,7 +35,7 @@ docs/LANGUAGE.md describes the text of charts, docs/FORMATS.md scripts and outpu
 
 // What stands at the end of the help on the program.
 const NOTES: &str = "\
-'sfcmon check --help' and 'sfcmon replay --help' tell the exit statuses, an example, and where the formats are described.";
+'sfcmon COMMAND --help' tells the exit statuses, an example, and where the formats are described.";
 
 // What stands at the end of the help on `check`.
 const CHECK_NOTES: &str = "\
@@ -49,6 +51,20 @@ Example:
 
 docs/LANGUAGE.md describes the text of charts and what is checked, docs/FORMATS.md the faults.";
 
+// What stands at the end of the help on `list`.
+const LIST_NOTES: &str = "\
+Exit status:
+  0  the chart has no fault: its text is printed
+  1  the chart is refused, for its first fault
+  2  the words of the command line are wrong
+  3  the file can't be read, or the output can't be written
+  4  memory was refused
+
+Example:
+  sfcmon list examples/lamp.chart
+
+docs/LANGUAGE.md describes the text of charts, docs/FORMATS.md how it is laid out, and the faults.";
+
 // The argument that names the file of a chart.
 fn chart_argument<'a>(alloc: Global) -> Arg<'a> {
     Arg::new(alloc, "FILE")
@@ -60,6 +76,13 @@ fn check_command<'a>(alloc: Global) -> Result<Command<'a>, AllocError> {
     Command::new(alloc, "check")
         .about("Reads a chart of the whole language and checks its names, types and limits")
         .after_help(CHECK_NOTES)
+        .arg(chart_argument(alloc))
+}
+
+fn list_command<'a>(alloc: Global) -> Result<Command<'a>, AllocError> {
+    Command::new(alloc, "list")
+        .about("Prints the text of a chart anew: all that it says, in one layout, each type and value written out")
+        .after_help(LIST_NOTES)
         .arg(chart_argument(alloc))
 }
 
@@ -76,6 +99,7 @@ fn replay_command<'a>(alloc: Global) -> Result<Command<'a>, AllocError> {
 
 fn sfcmon_command<'a>(alloc: Global) -> Result<Command<'a>, AllocError> {
     let check = check_command(alloc)?;
+    let list = list_command(alloc)?;
     let replay = replay_command(alloc)?;
     Command::new(alloc, "sfcmon")
         .bin_name("sfcmon")?
@@ -87,19 +111,8 @@ fn sfcmon_command<'a>(alloc: Global) -> Result<Command<'a>, AllocError> {
         .subcommand_required(true)
         .arg_required_else_help(true)
         .subcommand(check)?
+        .subcommand(list)?
         .subcommand(replay)
-}
-
-// The names of the files that a command has: its chart, and its script if it has one.
-fn file_names(alloc: Global, chart: &str, script: Option<&str>) -> Result<Request, AllocError> {
-    let chart = String::from_str(alloc, chart)?;
-    match script {
-        None => Ok(Request::Check { chart }),
-        Some(script) => {
-            let script = String::from_str(alloc, script)?;
-            Ok(Request::Replay { chart, script })
-        }
-    }
 }
 
 fn parsed(alloc: Global, words: &[String]) -> Result<Request, Error> {
@@ -107,12 +120,21 @@ fn parsed(alloc: Global, words: &[String]) -> Result<Request, Error> {
     let matches = command.try_get_matches_from(words)?;
     if let Some(check) = matches.subcommand_matches("check") {
         if let Some(chart) = check.get_str("FILE") {
-            return Ok(file_names(alloc, chart, None)?);
+            let chart = String::from_str(alloc, chart)?;
+            return Ok(Request::Check { chart });
+        }
+    }
+    if let Some(list) = matches.subcommand_matches("list") {
+        if let Some(chart) = list.get_str("FILE") {
+            let chart = String::from_str(alloc, chart)?;
+            return Ok(Request::List { chart });
         }
     }
     if let Some(replay) = matches.subcommand_matches("replay") {
         if let (Some(chart), Some(script)) = (replay.get_str("FILE"), replay.get_str("SCRIPT")) {
-            return Ok(file_names(alloc, chart, Some(script))?);
+            let chart = String::from_str(alloc, chart)?;
+            let script = String::from_str(alloc, script)?;
+            return Ok(Request::Replay { chart, script });
         }
     }
     Ok(Request::Answered(2))

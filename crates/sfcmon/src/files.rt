@@ -1,6 +1,6 @@
 //! Files, standard output and exit status.
 
-use sfc_monitor::check::check_chart;
+use sfc_monitor::check::{check_chart, list_chart};
 use sfc_monitor::monitor_error::MonitorError;
 use sfc_monitor::replay::replay;
 use std::rt::Files;
@@ -19,6 +19,18 @@ pub fn check_file<R: Print + Eprint + Files + AllocGlobal>(rt: &R, chart: &str) 
     };
     let mut out = io::writer(rt);
     match check_chart(rt.alloc(), &mut chart, &mut out) {
+        Ok(()) => 0,
+        Err(error) => end_with(rt, error),
+    }
+}
+
+/// Prints the text of the plant that a file's chart is: the exit status. A file that can't be opened is a read fault.
+pub fn list_file<R: Print + Eprint + Files + AllocGlobal>(rt: &R, chart: &str) -> u8 {
+    let Ok(mut chart) = fs::open(rt, chart) else {
+        return end_with(rt, MonitorError::Read);
+    };
+    let mut out = io::writer(rt);
+    match list_chart(rt.alloc(), &mut chart, &mut out) {
         Ok(()) => 0,
         Err(error) => end_with(rt, error),
     }

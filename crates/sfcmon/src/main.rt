@@ -1,4 +1,4 @@
-//! `sfcmon`: checks Sequential Function Charts, plays scripts on them and prints what happens.
+//! `sfcmon`: checks and lists Sequential Function Charts, plays scripts on them and prints what happens.
 #![tactic(auto)]
 
 mod arguments;
@@ -20,6 +20,7 @@ fn words_of(rt: &HostRuntime) -> io::Result<Vec<String>> {
 fn answer(rt: &HostRuntime, words: &[String]) -> u8 {
     match read_words(rt, words) {
         Request::Check { chart } => files::check_file(rt, chart.as_str()),
+        Request::List { chart } => files::list_file(rt, chart.as_str()),
         Request::Replay { chart, script } => files::replay_files(
             rt,
             chart.as_str(),

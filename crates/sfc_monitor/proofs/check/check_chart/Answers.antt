@@ -2,7 +2,8 @@ use Rattle.std.proofs.Common.{Err, subst}
 use Rattle.std.proofs.lemmas.Result.{err_from_is_err_and}
 use Rattle.sfc_monitor.specs.Reading.{Device}
 use Rattle.sfc_monitor.specs.Replay.{most}
-use Rattle.sfc_monitor.specs.Acceptance.{ChecksText}
+use Rattle.sfc_monitor.specs.Acceptance.{acceptance}
+use Rattle.sfc_monitor.specs.Working.Telling.{Checks}
 use Rattle.sfc_monitor.proofs.Taken.{lost}
 use Rattle.sfc_monitor.proofs.Replayed.{Keeps-same}
 use Rattle.sfc_monitor.proofs.Checked.{refused}
@@ -13,6 +14,6 @@ returns-in_err-check_text g c =
     let p = err_from_is_err_and c.from_residual-in_err-check_text.result c.from_residual-in_err-check_text.ensures.1 in
     let chart : Device = (g.C.Read.remaining c.args.chart.now, g.C.Read.remaining c.read_to_end.new.reader) in
     let w : Device = (g.W.Write.contents c.args.w.now, g.W.Write.contents c.args.w.now) in
-    rw (p.1, p.2) (refused chart w c.in_ok-text.text.items c.in_err-check_text.field-0.0 c.in_ok-text.ensures.taken
+    rw (p.1, p.2) (refused acceptance chart w c.in_ok-text.text.items c.in_err-check_text.field-0.0 c.in_ok-text.ensures.taken
     (lost most chart.0 chart.1 c.in_ok-text.text.items c.in_ok-text.ensures.taken) (Keeps-same w.0)
-    (subst (λ text. ChecksText text {X = Unit {0}} (Err c.in_err-check_text.field-0.0)) c.deref.ensures.value c.in_err-check_text.ensures))
+    (subst (λ text. Checks text {X = Unit {0}} (Err c.in_err-check_text.field-0.0)) c.deref.ensures.value c.in_err-check_text.ensures))

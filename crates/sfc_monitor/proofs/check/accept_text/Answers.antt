@@ -1,6 +1,6 @@
 use Rattle.std.proofs.lemmas.Result.{err_from_is_err_and}
 use Rattle.sfc_monitor.proofs.Checked.{read_refused}
-use Rattle.sfc_monitor.proofs.check.check_text.Goals as goal
+use Rattle.sfc_monitor.proofs.check.accept_text.Goals as goal
 
 pub returns-in_err-tree : goal.returns-in_err-tree
 returns-in_err-tree c =
