@@ -1,0 +1,5 @@
+pub mod Agreed
+pub mod Built
+pub mod Counting
+pub mod Tracked
+pub mod Written
