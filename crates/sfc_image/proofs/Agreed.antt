@@ -1,5 +1,5 @@
 -- What slots keep of one change more.
-use Rattle.std.proofs.Common.{◌≡◌, ◌≢◌, ◌⊎◌, inl, inr, ℕ, ◌+◌, ◌<◌, ◌≤◌, ◌==◌, ◌&&◌, nat_le, nat_lt, arith, Bool, true, false, List, [], ◌∷◌, ◌++◌, length, slice_set, Option, Some, None, refl, sym, ◌∙◌, ap, subst}
+use Rattle.std.proofs.Common.{◌≡◌, ◌≢◌, ◌⊎◌, inl, inr, ℕ, ◌+◌, ◌<◌, ◌≤◌, ◌&&◌, nat_le, nat_lt, arith, Bool, true, false, List, ◌∷◌, ◌++◌, length, slice_set, Option, Some, None, refl, sym, ◌∙◌, ap, subst}
 use Rattle.std.proofs.lemmas.Bool.Decides.{nat_tests}
 use Rattle.std.proofs.lemmas.List.{length-set}
 use Rattle.sfc_chart.specs.declared.ids.VarId.{VarId}
@@ -10,7 +10,7 @@ use Rattle.sfc_expr.specs.declared.value.Value.{Value}
 use Rattle.sfc_image.specs.declared.slot.Slot.{Slot}
 use Rattle.sfc_image.specs.declared.slot.Locals.{Locals}
 use Rattle.sfc_image.specs.Changes.{Change, Stored, Forced, Released, Reset, Told, settled, trying, tried_more, with_change}
-use Rattle.sfc_image.specs.Values.{is_local_of, stored_value}
+use Rattle.sfc_image.specs.Values.{is_local_of}
 use Rattle.sfc_image.specs.Private.Keeping.{slot_at, given, tried, with_force, closed, begun, locals_of, AreTracked, AreClosed, AreBegun, IsKept, AreKept}
 use Rattle.sfc_image.proofs.Counting.{bool_cases, same_number, other_numbers}
 use Rattle.sfc_image.proofs.Tracked.{by_slot, all_closed}
@@ -103,7 +103,7 @@ tried_kept plant slots locals count more b kept ts id v lt few h =
           let within : i < length slots = omega (arith, long, ilt) in
           by_slot (λ (slot : Slot). IsKept plant told i slot) slots id.0 i y lt
           (λ e. subst (λ (j : ℕ). IsKept plant told j y) (sym e)
-              (tried_given plant kept ts id v (slot_at slots id.0) (h.each id.0 lt)))
+          (tried_given plant kept ts id v (slot_at slots id.0) (h.each id.0 lt)))
           (λ ne. tried_beside plant kept ts id v i (slot_at slots i) ne (h.each i within));
     }
 
@@ -156,17 +156,17 @@ force_kept plant slots locals count b kept id v lt h =
             untried = at.untried;
           }))
           (λ ne.
-              let other = h.each i within in
-              let there = forced_there kept id v i (other_numbers id.0 i ne) in
-              record {
-                var_type = other.var_type;
-                initial = other.initial;
-                kept = other.kept;
-                stored = other.stored;
-                forced = other.forced ∙ sym there;
-                held = other.held ∙ sym there;
-                untried = other.untried;
-              });
+          let other = h.each i within in
+          let there = forced_there kept id v i (other_numbers id.0 i ne) in
+          record {
+            var_type = other.var_type;
+            initial = other.initial;
+            kept = other.kept;
+            stored = other.stored;
+            forced = other.forced ∙ sym there;
+            held = other.held ∙ sym there;
+            untried = other.untried;
+          });
     }
 
 -- a release
@@ -198,17 +198,17 @@ release_kept plant slots locals count b kept id lt h =
             untried = at.untried;
           }))
           (λ ne.
-              let other = h.each i within in
-              let there = released_there kept id i (other_numbers id.0 i ne) in
-              record {
-                var_type = other.var_type;
-                initial = other.initial;
-                kept = other.kept;
-                stored = other.stored;
-                forced = other.forced ∙ sym there;
-                held = other.held ∙ sym there;
-                untried = other.untried;
-              });
+          let other = h.each i within in
+          let there = released_there kept id i (other_numbers id.0 i ne) in
+          record {
+            var_type = other.var_type;
+            initial = other.initial;
+            kept = other.kept;
+            stored = other.stored;
+            forced = other.forced ∙ sym there;
+            held = other.held ∙ sym there;
+            untried = other.untried;
+          });
     }
 
 -- ---- many slots are changed
@@ -235,6 +235,7 @@ undo_kept plant old new locals written count b kept ts long tracked c h = record
     held = k.held;
     untried = λ off. refl;
   }
+
   same_slot : (i : ℕ) → (slot_at old i).is_tried ≡ false → IsKept plant (trying kept ts) i (slot_at old i)
       → IsKept plant (settled kept) i (slot_at old i)
   same_slot i off k = record {
@@ -246,14 +247,15 @@ undo_kept plant old new locals written count b kept ts long tracked c h = record
     held = k.held;
     untried = k.untried;
   }
+
   slot_kept : (i : ℕ) → IsKept plant (trying kept ts) i (slot_at old i) → IsKept plant (settled kept) i (slot_at new i)
   slot_kept i k =
       let off : (slot_at new i).is_tried ≡ false = all_closed false written count old new tracked c i in
       elim (c.each i).either as (λ _. IsKept plant (settled kept) i (slot_at new i)) [
-        inl e ↦
+        | inl e ↦
             subst (λ (slot : Slot). IsKept plant (settled kept) i slot) (sym e)
             (same_slot i (ap (λ (slot : Slot). slot.is_tried) (sym e) ∙ off) k)
-      | inr e ↦ subst (λ (slot : Slot). IsKept plant (settled kept) i slot) (sym e) (closed_slot i k)
+        | inr e ↦ subst (λ (slot : Slot). IsKept plant (settled kept) i slot) (sym e) (closed_slot i k)
       ]
 
 -- a scratch is kept
@@ -270,6 +272,7 @@ commit_kept plant old new locals written count b kept ts long tracked c h = reco
 } where
   told : Told
   told = settled (ts ++ kept)
+
   closed_slot : (i : ℕ) → IsKept plant (trying kept ts) i (slot_at old i)
       → IsKept plant (settled (ts ++ kept)) i (closed true (slot_at old i))
   closed_slot i k = record {
@@ -281,6 +284,7 @@ commit_kept plant old new locals written count b kept ts long tracked c h = reco
     held = k.forced;
     untried = λ off. refl;
   }
+
   same_slot : (i : ℕ) → (slot_at old i).is_tried ≡ false → IsKept plant (trying kept ts) i (slot_at old i)
       → IsKept plant (settled (ts ++ kept)) i (slot_at old i)
   same_slot i off k = record {
@@ -292,14 +296,15 @@ commit_kept plant old new locals written count b kept ts long tracked c h = reco
     held = k.forced;
     untried = k.untried;
   }
+
   slot_kept : (i : ℕ) → IsKept plant (trying kept ts) i (slot_at old i) → IsKept plant (settled (ts ++ kept)) i (slot_at new i)
   slot_kept i k =
       let off : (slot_at new i).is_tried ≡ false = all_closed true written count old new tracked c i in
       elim (c.each i).either as (λ _. IsKept plant (settled (ts ++ kept)) i (slot_at new i)) [
-        inl e ↦
+        | inl e ↦
             subst (λ (slot : Slot). IsKept plant (settled (ts ++ kept)) i slot) (sym e)
             (same_slot i (ap (λ (slot : Slot). slot.is_tried) (sym e) ∙ off) k)
-      | inr e ↦ subst (λ (slot : Slot). IsKept plant (settled (ts ++ kept)) i slot) (sym e) (closed_slot i k)
+        | inr e ↦ subst (λ (slot : Slot). IsKept plant (settled (ts ++ kept)) i slot) (sym e) (closed_slot i k)
       ]
 
 -- i is between these numbers
@@ -323,12 +328,16 @@ reset_kept plant old new locals count b kept p l long is begins h = record {
 } where
   told : Told
   told = settled (Reset p ∷ kept)
+
   first : ℕ
   first = first_local plant p
+
   n : ℕ
   n = length (instance_locals plant p)
+
   anew : AreBegun (first_local plant p) (length (instance_locals plant p)) old new
   anew = subst (λ (x : Locals). AreBegun x.first x.count old new) is begins
+
   begun_slot : (i : ℕ) → is_local_of plant p i ≡ true → IsKept plant (settled kept) i (slot_at old i)
       → IsKept plant (settled (Reset p ∷ kept)) i (begun (slot_at old i))
   begun_slot i e k = record {
@@ -340,6 +349,7 @@ reset_kept plant old new locals count b kept p l long is begins h = record {
     held = k.held;
     untried = λ off. refl;
   }
+
   same_slot : (i : ℕ) → is_local_of plant p i ≡ false → IsKept plant (settled kept) i (slot_at old i)
       → IsKept plant (settled (Reset p ∷ kept)) i (slot_at old i)
   same_slot i e k = record {
@@ -351,20 +361,21 @@ reset_kept plant old new locals count b kept p l long is begins h = record {
     held = k.held;
     untried = k.untried;
   }
+
   slot_kept : (i : ℕ) → IsKept plant (settled kept) i (slot_at old i) → IsKept plant (settled (Reset p ∷ kept)) i (slot_at new i)
   slot_kept i k =
       elim (bool_cases (is_local_of plant p i)) as (λ _. IsKept plant (settled (Reset p ∷ kept)) i (slot_at new i)) [
-        inl e ↦
+        | inl e ↦
             let within = between (first_local plant p) (length (instance_locals plant p)) i e in
             subst (λ (slot : Slot). IsKept plant (settled (Reset p ∷ kept)) i slot) (sym (anew.inside i within.0 within.1))
             (begun_slot i e k)
-      | inr e ↦
+        | inr e ↦
             elim (outside (first_local plant p) (length (instance_locals plant p)) i e)
-              as (λ _. IsKept plant (settled (Reset p ∷ kept)) i (slot_at new i)) [
-              inl below ↦
+            as (λ _. IsKept plant (settled (Reset p ∷ kept)) i (slot_at new i)) [
+              | inl below ↦
                   subst (λ (slot : Slot). IsKept plant (settled (Reset p ∷ kept)) i slot) (sym (anew.before i below))
                   (same_slot i e k)
-            | inr above ↦
+              | inr above ↦
                   subst (λ (slot : Slot). IsKept plant (settled (Reset p ∷ kept)) i slot) (sym (anew.behind i above))
                   (same_slot i e k)
             ]

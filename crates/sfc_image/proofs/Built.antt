@@ -1,23 +1,22 @@
 -- The slots of a plant's variables.
-use Rattle.std.proofs.Common.{◌≡◌, inl, inr, ℕ, zero, suc, ◌+◌, ◌<◌, ◌≤◌, arith, Bool, true, false, List, [], ◌∷◌, ◌++◌, length, map, flat_map, take, slice_get, get_or, All, Option, Some, None, refl, sym, ◌∙◌, ap, subst, append-nil}
+use Rattle.std.proofs.Common.{◌≡◌, inl, inr, ℕ, zero, suc, ◌+◌, ◌<◌, ◌≤◌, arith, false, List, [], ◌∷◌, ◌++◌, length, map, flat_map, take, slice_get, get_or, Option, Some, refl, sym, ◌∙◌, ap, subst, append-nil}
 use Rattle.std.proofs.lemmas.List.{append_assoc, length-append, length-map, map-append, get_or_push, get_or_append_left}
 use Rattle.std.proofs.lemmas.Grind.{flat_map-append}
-use Rattle.std.proofs.lemmas.Option.{slice_get_read, slice_get_cases, slice_get_within}
+use Rattle.std.proofs.lemmas.Option.{slice_get_read, slice_get_cases}
 use Rattle.std.proofs.Math.Seq.{take-suc}
 use borrow.Author.Count.{below_more}
 use Rattle.sfc_variables.specs.declared.variable.Variable.{Variable}
 use Rattle.sfc_program.specs.declared.program_type.ProgramType.{ProgramType}
-use Rattle.sfc_chart.specs.declared.ids.ProgId.{ProgId}
 use Rattle.sfc_chart.specs.declared.instance.Instance.{Instance}
 use Rattle.sfc_chart.specs.Plants.{PlantData}
 use Rattle.sfc_chart.specs.Image.{locals_of, image_of, image_variables}
-use Rattle.sfc_chart.specs.Finding.{first_local, instance_locals, locals_at as locals_at_instance}
+use Rattle.sfc_chart.specs.Finding.{locals_at as locals_at_instance}
 use Rattle.sfc_chart.proofs.Images.{starts_at}
 use Rattle.sfc_image.specs.declared.slot.Slot.{Slot}
 use Rattle.sfc_image.specs.declared.slot.Locals.{Locals}
 use Rattle.sfc_image.specs.Changes.{settled}
 use Rattle.sfc_image.specs.Values.{initial_in, type_in, initial_of, type_of_variable}
-use Rattle.sfc_image.specs.Private.Keeping.{fresh_slot, no_slot, slot_at, locals_at, locals_of as locals_for, AreTracked, AreWithin, IsKept, AreKept}
+use Rattle.sfc_image.specs.Private.Keeping.{fresh_slot, no_slot, slot_at, locals_at, AreTracked, AreWithin, IsKept, AreKept}
 use Rattle.sfc_image.proofs.Counting.{count_none}
 
 -- the locals of this instance
@@ -32,20 +31,20 @@ locals_here types instances k instance lt is =
 image_more : (globals : List Variable) (types : List ProgramType) (instances : List Instance) (k : ℕ) (instance : Instance)
     → k < length instances → instance ≡ get_or instances k instance
     → image_of globals types (take (k + 1) instances)
-      ≡ image_of globals types (take k instances) ++ locals_at_instance types (slice_get instances k)
+    ≡ image_of globals types (take k instances) ++ locals_at_instance types (slice_get instances k)
 image_more globals types instances k instance lt is =
     let found : slice_get instances k ≡ Some instance = slice_get_read instances (length instances) k instance refl lt is in
     let more : k + 1 ≡ suc k = omega arith in
     let front : take (k + 1) instances ≡ take k instances ++ instance ∷ [] =
-        ap (λ (n : ℕ). take n instances) more ∙ take-suc instances k instance lt
-        ∙ ap (λ (x : Instance). take k instances ++ x ∷ []) (sym is) in
+    ap (λ (n : ℕ). take n instances) more ∙ take-suc instances k instance lt
+    ∙ ap (λ (x : Instance). take k instances ++ x ∷ []) (sym is) in
     let locals : locals_at_instance types (slice_get instances k) ≡ locals_of types instance =
-        ap (λ (o : Option Instance). locals_at_instance types o) found in
+    ap (λ (o : Option Instance). locals_at_instance types o) found in
     let all : flat_map (locals_of types) (take (k + 1) instances)
-        ≡ flat_map (locals_of types) (take k instances) ++ locals_at_instance types (slice_get instances k) =
-        ap (flat_map (locals_of types)) front ∙ flat_map-append (locals_of types) (take k instances) (instance ∷ [])
-        ∙ ap (λ (xs : List Variable). flat_map (locals_of types) (take k instances) ++ xs)
-          (append-nil (locals_of types instance) ∙ sym locals) in
+    ≡ flat_map (locals_of types) (take k instances) ++ locals_at_instance types (slice_get instances k) =
+    ap (flat_map (locals_of types)) front ∙ flat_map-append (locals_of types) (take k instances) (instance ∷ [])
+    ∙ ap (λ (xs : List Variable). flat_map (locals_of types) (take k instances) ++ xs)
+    (append-nil (locals_of types instance) ∙ sym locals) in
     ap (λ (xs : List Variable). globals ++ xs) all
     ∙ sym (append_assoc globals (flat_map (locals_of types) (take k instances)) (locals_at_instance types (slice_get instances k)))
 
@@ -78,16 +77,16 @@ pub locals_more : (globals : List Variable) (types : List ProgramType) (instance
 locals_more globals types instances k instance variables slots locals new x lt is of_instance before long pushed first count done =
     let none : Locals = record { first = 0; count = 0 } in
     let first_is : x.first ≡ length (image_of globals types (take k instances)) =
-        first ∙ ap length before ∙ length-map (image_of globals types (take k instances)) fresh_slot in
+    first ∙ ap length before ∙ length-map (image_of globals types (take k instances)) fresh_slot in
     let count_is : x.count ≡ length (locals_at_instance types (slice_get instances k)) =
-        count ∙ ap length (of_instance ∙ sym (locals_here types instances k instance lt is)) in
+    count ∙ ap length (of_instance ∙ sym (locals_here types instances k instance lt is)) in
     let here : x ≡ places_of globals types instances k =
-        ap (λ (n : ℕ). record { first = n; count = x.count }) first_is
-        ∙ ap (λ (n : ℕ). record { first = length (image_of globals types (take k instances)); count = n }) count_is in
+    ap (λ (n : ℕ). record { first = n; count = x.count }) first_is
+    ∙ ap (λ (n : ℕ). record { first = length (image_of globals types (take k instances)); count = n }) count_is in
     below_more (λ (j : ℕ). locals_at new j ≡ places_of globals types instances j) k
     (λ j jlt.
-        ap (λ (xs : List Locals). locals_at xs j) pushed
-        ∙ get_or_append_left locals (x ∷ []) none j (omega (arith, jlt, long)) ∙ done j jlt)
+    ap (λ (xs : List Locals). locals_at xs j) pushed
+    ∙ get_or_append_left locals (x ∷ []) none j (omega (arith, jlt, long)) ∙ done j jlt)
     (ap (λ (xs : List Locals). locals_at xs k) pushed ∙ get_or_push locals x none k long ∙ here)
 
 -- ---- slots with which nothing was done
@@ -101,7 +100,7 @@ pub fresh_tracked : (variables : List Variable) (slots : List Slot) (written : L
     → length written ≡ length slots → AreTracked slots written 0
 fresh_tracked variables slots written is room =
     let untried : (i : ℕ) → (slot_at slots i).is_tried ≡ false =
-        λ i. ap (λ (xs : List Slot). (slot_at xs i).is_tried) is ∙ fresh_untried variables i in
+    λ i. ap (λ (xs : List Slot). (slot_at xs i).is_tried) is ∙ fresh_untried variables i in
     record {
       room = room;
       counted = count_none (λ (slot : Slot). slot.is_tried) slots no_slot (λ i lt. untried i);
@@ -158,17 +157,17 @@ fresh_within plant slots locals is long places k lt =
     let below : k < length plant.instances = omega (arith, lt, long) in
     let at : locals_at locals k ≡ places_of plant.globals plant.types plant.instances k = places k below in
     elim ((slice_get_cases plant.instances k).1)
-      as (λ _. (locals_at locals k).first + (locals_at locals k).count ≤ length slots) [
-      inl found ↦
+    as (λ _. (locals_at locals k).first + (locals_at locals k).count ≤ length slots) [
+      | inl found ↦
           let starts = starts_at (length plant.globals) plant.types plant.instances k found.0 found.2 in
           let all = length-append plant.globals (flat_map (locals_of plant.types) plant.instances) in
           let front = length-append plant.globals (flat_map (locals_of plant.types) (take k plant.instances)) in
           let first = ap (λ (l : Locals). l.first) at in
           let count : (locals_at locals k).count ≡ length (locals_of plant.types found.0) =
-              ap (λ (l : Locals). l.count) at
-              ∙ ap (λ (o : Option Instance). length (locals_at_instance plant.types o)) found.2 in
+          ap (λ (l : Locals). l.count) at
+          ∙ ap (λ (o : Option Instance). length (locals_at_instance plant.types o)) found.2 in
           omega (arith, starts.within, all, front, first, count, size)
-    | inr past ↦ absurd (omega (arith, past, below))
+      | inr past ↦ absurd (omega (arith, past, below))
     ]
 
 -- ---- what was built of the parts of a plant

@@ -1,8 +1,8 @@
 -- Lists with one element changed.
-use Rattle.std.proofs.Common.{◌≡◌, ◌≢◌, ◌⊎◌, inl, inr, ℕ, zero, suc, ◌+◌, ◌<◌, ◌≤◌, ◌==◌, ◌||◌, arith, Bool, true, false, cond, List, [], ◌∷◌, ◌++◌, length, take, slice_index_or, slice_set, count_by, sum_by, refl, sym, ◌∙◌, ap, subst}
+use Rattle.std.proofs.Common.{◌≡◌, ◌≢◌, ◌⊎◌, inl, inr, ℕ, zero, suc, ◌+◌, ◌<◌, ◌==◌, ◌||◌, arith, Bool, true, false, cond, List, [], ◌∷◌, ◌++◌, length, take, slice_index_or, slice_set, count_by, refl, sym, ◌∙◌, ap}
 use Rattle.std.specs.List.{list_any}
 use Rattle.std.proofs.lemmas.Bool.Decides.{eqb_tells}
-use Rattle.std.proofs.lemmas.List.{take-set, take_more_set, get_or-set_same, get_or-set_other}
+use Rattle.std.proofs.lemmas.List.{take_more_set}
 use Rattle.std.proofs.lemmas.List.Folds.{list_any-append}
 use Rattle.std.proofs.lemmas.List.Sums.{sum_by-set, sum_by-cons, count_by-le-length}
 use Rattle.std.proofs.Math.Seq.{take-suc}
@@ -44,9 +44,9 @@ count_room p (x ∷ xs) zero d lt off =
 count_room p (x ∷ xs) (suc i) d lt off =
     let rest : count_by p xs < length xs = count_room p xs i d (omega arith) off in
     elim (bool_cases (p x)) as (λ _. count_by p (x ∷ xs) < length (x ∷ xs)) [
-      inl w ↦
+      | inl w ↦
           let first : count_by p (x ∷ xs) ≡ 1 + count_by p xs = count_first p x xs true w in omega (arith, first, rest)
-    | inr w ↦
+      | inr w ↦
           let first : count_by p (x ∷ xs) ≡ 0 + count_by p xs = count_first p x xs false w in omega (arith, first, rest)
     ]
 
@@ -81,7 +81,7 @@ pub listed_more : (numbers : List ℕ) (n i : ℕ) → n < length numbers
 listed_more numbers n i lt =
     let more : n + 1 ≡ suc n = omega arith in
     let front : take (n + 1) numbers ≡ take n numbers ++ number_at numbers n ∷ [] =
-        ap (λ (k : ℕ). take k numbers) more ∙ take-suc numbers n 0 lt in
+    ap (λ (k : ℕ). take k numbers) more ∙ take-suc numbers n 0 lt in
     ap (λ (xs : List ℕ). list_any (λ number. number == i) xs) front
     ∙ list_any-append (λ number. number == i) (take n numbers) (number_at numbers n ∷ [])
     ∙ ap (λ (b : Bool). is_listed numbers n i || b) (or_false (number_at numbers n == i))

@@ -1,5 +1,6 @@
 pub mod Agreed
 pub mod Built
 pub mod Counting
+pub mod Happened
 pub mod Tracked
 pub mod Written

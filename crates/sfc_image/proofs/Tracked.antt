@@ -1,11 +1,11 @@
 -- Which slots are listed as written, after changes.
-use Rattle.std.proofs.Common.{◌≡◌, ◌≢◌, ◌⊎◌, inl, inr, ℕ, zero, suc, ◌+◌, ◌<◌, ◌≤◌, ◌==◌, ◌||◌, arith, Bool, true, false, List, [], ◌∷◌, length, get_or, slice_index_or, slice_set, count_by, refl, sym, ◌∙◌, ap, subst}
+use Rattle.std.proofs.Common.{◌≡◌, ◌≢◌, inl, inr, ℕ, ◌+◌, ◌<◌, ◌==◌, arith, Bool, true, false, List, length, get_or, slice_set, refl, sym, ◌∙◌, ap, subst}
 use Rattle.std.proofs.lemmas.Bool.Decides.{eqb_tells}
 use Rattle.std.proofs.lemmas.List.{get_or-set_same, get_or-set_other, length-set}
 use Rattle.std.proofs.lemmas.Option.{slice_get_read, get_or_from_slice_get}
 use Rattle.sfc_image.specs.declared.slot.Slot.{Slot}
 use Rattle.sfc_image.specs.declared.slot.Locals.{Locals}
-use Rattle.sfc_image.specs.Private.Keeping.{no_slot, slot_at, locals_at, number_at, tried_count, is_listed, AreNumbers, AreTracked, closed, MayClose, AreClosed, begun, AreBegun}
+use Rattle.sfc_image.specs.Private.Keeping.{no_slot, slot_at, locals_at, number_at, tried_count, is_listed, AreTracked, closed, MayClose, AreClosed, begun, AreBegun}
 use Rattle.sfc_image.proofs.Counting.{bool_cases, count_same, count_more, count_room, count_none, or_left, or_right, or_cases, listed_more, listed_set, same_number, equal_numbers}
 
 abbrev is_tried : Slot → Bool
@@ -22,9 +22,9 @@ pub by_slot : (P : Slot → Type 0) (slots : List Slot) (i j : ℕ) (y : Slot) �
     → (j ≢ i → P (slot_at slots j)) → P (slot_at (slice_set slots i y) j)
 by_slot P slots i j y lt here there =
     elim (eqb_tells j i) as (λ _. P (slot_at (slice_set slots i y) j)) [
-      inl w ↦
+      | inl w ↦
           subst P (sym (ap (λ (k : ℕ). slot_at (slice_set slots i y) k) w.1 ∙ slot_same slots i y lt)) (here w.1)
-    | inr w ↦ subst P (sym (slot_other slots i j y w.1)) (there w.1)
+      | inr w ↦ subst P (sym (slot_other slots i j y w.1)) (there w.1)
     ]
 
 -- a slot that is tried as much as before
@@ -60,13 +60,13 @@ tracked_more slots written count i y lt off on h =
       counted = count_more is_tried slots i y no_slot lt off on ∙ ap (λ (n : ℕ). n + 1) h.counted;
       numbers = λ j jlt.
           elim (eqb_tells j count) as (λ _. number_at (slice_set written count i) j < length (slice_set slots i y)) [
-            inl w ↦
+            | inl w ↦
                 let here : number_at (slice_set written count i) j ≡ i =
-                    ap (λ (k : ℕ). number_at (slice_set written count i) k) w.1 ∙ get_or-set_same written count i 0 room in
+                ap (λ (k : ℕ). number_at (slice_set written count i) k) w.1 ∙ get_or-set_same written count i 0 room in
                 omega (arith, here, lt, long)
-          | inr w ↦
+            | inr w ↦
                 let there : number_at (slice_set written count i) j ≡ number_at written j =
-                    get_or-set_other written count j i 0 w.1 in
+                get_or-set_other written count j i 0 w.1 in
                 let below : number_at written j < length slots = h.numbers j (omega (arith, w.1)) in
                 omega (arith, there, below, long)
           ];
@@ -74,10 +74,10 @@ tracked_more slots written count i y lt off on h =
           by_slot (λ (slot : Slot). slot.is_tried ≡ true → is_listed (slice_set written count i) (count + 1) j ≡ true)
           slots i j y lt
           (λ e tried.
-              listed_set written count i j room
-              ∙ or_right (is_listed written count j) (i == j) (ap (λ (k : ℕ). i == k) e ∙ same_number i))
+          listed_set written count i j room
+          ∙ or_right (is_listed written count j) (i == j) (ap (λ (k : ℕ). i == k) e ∙ same_number i))
           (λ ne tried.
-              listed_set written count i j room ∙ or_left (is_listed written count j) (i == j) (h.listed j tried));
+          listed_set written count i j room ∙ or_left (is_listed written count j) (i == j) (h.listed j tried));
     }
 
 -- ---- closing
@@ -93,8 +93,8 @@ closed_twice false slot = refl
 close_again : (keep : Bool) (old new : Slot) → MayClose keep old new → MayClose keep old (closed keep new)
 close_again keep old new may =
     elim may.either as (λ _. MayClose keep old (closed keep new)) [
-      inl e ↦ record { either = inr (ap (closed keep) e) }
-    | inr e ↦ record { either = inr (ap (closed keep) e ∙ closed_twice keep old) }
+      | inl e ↦ record { either = inr (ap (closed keep) e) }
+      | inr e ↦ record { either = inr (ap (closed keep) e ∙ closed_twice keep old) }
     ]
 
 pub closed_none : (keep : Bool) (numbers : List ℕ) (slots : List Slot) → AreClosed keep numbers 0 slots slots
@@ -106,7 +106,7 @@ closed_none keep numbers slots = record {
 pub closed_more : (keep : Bool) (numbers : List ℕ) (n : ℕ) (old new : List Slot) → n < length numbers
     → number_at numbers n < length new → AreClosed keep numbers n old new
     → AreClosed keep numbers (n + 1) old
-      (slice_set new (number_at numbers n) (closed keep (slot_at new (number_at numbers n))))
+    (slice_set new (number_at numbers n) (closed keep (slot_at new (number_at numbers n))))
 closed_more keep numbers n old new fits lt h =
     let k : ℕ = number_at numbers n in
     let y : Slot = closed keep (slot_at new k) in
@@ -114,16 +114,16 @@ closed_more keep numbers n old new fits lt h =
       each = λ i.
           by_slot (λ (slot : Slot). MayClose keep (slot_at old i) slot) new k i y lt
           (λ e. close_again keep (slot_at old i) (slot_at new k)
-              (subst (λ (j : ℕ). MayClose keep (slot_at old i) (slot_at new j)) e (h.each i)))
+          (subst (λ (j : ℕ). MayClose keep (slot_at old i) (slot_at new j)) e (h.each i)))
           (λ ne. h.each i);
       listed = λ i on.
           by_slot (λ (slot : Slot). slot.is_tried ≡ false) new k i y lt (λ e. closed_untried keep (slot_at new k))
           (λ ne.
-              elim (or_cases (is_listed numbers n i) (k == i) (sym (listed_more numbers n i fits) ∙ on))
-                as (λ _. (slot_at new i).is_tried ≡ false) [
-                inl w ↦ h.listed i w
-              | inr w ↦ absurd (ne (sym (equal_numbers k i w)))
-              ]);
+          elim (or_cases (is_listed numbers n i) (k == i) (sym (listed_more numbers n i fits) ∙ on))
+          as (λ _. (slot_at new i).is_tried ≡ false) [
+            | inl w ↦ h.listed i w
+            | inr w ↦ absurd (ne (sym (equal_numbers k i w)))
+          ]);
     }
 
 -- no slot is tried any more
@@ -131,11 +131,11 @@ pub all_closed : (keep : Bool) (written : List ℕ) (count : ℕ) (old new : Lis
     → AreClosed keep written count old new → (i : ℕ) → (slot_at new i).is_tried ≡ false
 all_closed keep written count old new h c i =
     elim (bool_cases (slot_at old i).is_tried) as (λ _. (slot_at new i).is_tried ≡ false) [
-      inl on ↦ c.listed i (h.listed i on)
-    | inr off ↦
+      | inl on ↦ c.listed i (h.listed i on)
+      | inr off ↦
           elim (c.each i).either as (λ _. (slot_at new i).is_tried ≡ false) [
-            inl e ↦ ap is_tried e ∙ off
-          | inr e ↦ ap is_tried e ∙ closed_untried keep (slot_at old i)
+            | inl e ↦ ap is_tried e ∙ off
+            | inr e ↦ ap is_tried e ∙ closed_untried keep (slot_at old i)
           ]
     ]
 
@@ -194,7 +194,7 @@ slot_read slots i slot lt is =
 pub locals_read : (locals : List Locals) (k : ℕ) (l : Locals) → k < length locals → l ≡ get_or locals k l → l ≡ locals_at locals k
 locals_read locals k l lt is =
     sym (get_or_from_slice_get locals k l (record { first = 0; count = 0 })
-      (slice_get_read locals (length locals) k l refl lt is))
+    (slice_get_read locals (length locals) k l refl lt is))
 
 -- the same by lists that are equal
 pub closed_at : (keep : Bool) (n : ℕ) (numbers numbers' : List ℕ) (old old' new : List Slot) → numbers ≡ numbers' → old ≡ old'

@@ -7,7 +7,7 @@ ghost use Rattle.sfc_chart.specs.Finding.{locals_at as locals_of_instance};
 ghost use Rattle.sfc_image.specs.Private.Keeping as keeping;
 ghost use Rattle.sfc_image.specs.Private.Keeping.{locals_at};
 
-use crate::slot::{fresh_slot, Locals, Slot};
+use crate::slot::{Locals, Slot, fresh_slot};
 use sfc_chart::instance::Instance;
 use sfc_program::program_type::ProgramType;
 use sfc_variables::variable::Variable;

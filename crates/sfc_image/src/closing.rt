@@ -4,7 +4,7 @@ ghost use Rattle.std.specs.Prelude.{◌≡◌, ◌+◌, ◌≤◌, length};
 ghost use Rattle.sfc_expr.specs.Ticks.{Within};
 ghost use Rattle.sfc_image.specs.Private.Keeping.{AreNumbers, AreClosed, AreBegun};
 
-use crate::slot::{begun, closed, Slot};
+use crate::slot::{Slot, begun, closed};
 use sfc_expr::ticks::Ticks;
 
 #[tactic(auto, using(crate::proofs::Tracked::closed_none, crate::proofs::Tracked::closed_more))]

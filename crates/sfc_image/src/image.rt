@@ -5,8 +5,9 @@ ghost use Rattle.sfc_image.specs.Private.Keeping.{AreTracked, AreWithin};
 
 use crate::building::build;
 use crate::closing::{begin_all, close_all};
+use crate::copying::{copy_locals, copy_slots};
 use crate::image_error::ImageError;
-use crate::slot::{given, value_fault, with_force, Locals, Slot};
+use crate::slot::{Locals, Slot, given, value_fault, with_force};
 use crate::trying::try_store;
 use sfc_chart::ids::{ProgId, VarId};
 use sfc_chart::plant::Plant;
@@ -29,7 +30,7 @@ pub struct Image {
 
 #[tactic(auto, unfolding(crate::specs::Agreement::ImageAgrees))]
 impl Image {
-    ghost use Rattle.std.specs.Prelude.{◌≡◌, ◌<◌, ◌∷◌, ◌++◌, [], true, false, List, Option, length, is_some, IfOk, OnOk, OnErr};
+    ghost use Rattle.std.specs.Prelude.{◌≡◌, ◌<◌, ◌+◌, ◌∷◌, ◌++◌, [], true, false, List, Option, length, is_some, IfOk, OnOk, OnErr};
     ghost use Rattle.sfc_expr.specs.Ticks.{Within};
     ghost use Rattle.sfc_chart.specs.Plants.{PlantData};
     ghost use Rattle.sfc_chart.specs.Finding.{instance_locals};
@@ -236,5 +237,26 @@ impl Image {
         close_all(&mut self.slots, &self.written, self.count, false, ticks);
         self.count = 0;
         self.is_trying = false;
+    }
+
+    /// Takes over what was done with the other image, which is for as many variables and instances, an open scratch
+    /// included. It takes no memory.
+    pub fn copy_from(&mut self, other: &Image, ticks: &mut Ticks)
+        requires { IsAsLarge other.now self.old }
+        ensures large { IsAsLarge self.old self.new }
+        ensures open { is_open self.new ≡ is_open other.now }
+        ensures kept { (plant : PlantData) (told : Told) → ImageAgrees plant other.now told → ImageAgrees plant self.new told }
+        ensures ticks { Within (variable_places self.old + instance_places self.old) ticks.old ticks.new }
+    {
+        copy_slots(
+            &mut self.slots,
+            &mut self.written,
+            &other.slots,
+            &other.written,
+            ticks,
+        );
+        copy_locals(&mut self.locals, &other.locals, ticks);
+        self.count = other.count;
+        self.is_trying = other.is_trying;
     }
 }

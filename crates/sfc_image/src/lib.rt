@@ -3,6 +3,7 @@
 //!
 //! - `building`: the slots of a plant's variables.
 //! - `closing`: what was tried is kept, or given up.
+//! - `copying`: what one image takes over from another.
 //! - `image`: the variables of a plant.
 //! - `image_error`: why a call is refused.
 //! - `laws`: what the definitions mean.
@@ -12,6 +13,7 @@
 
 mod building;
 mod closing;
+mod copying;
 pub mod image;
 pub mod image_error;
 pub mod laws;

@@ -3,7 +3,7 @@
 ghost use Rattle.std.specs.Prelude.{◌≡◌, ◌<◌, ◌≤◌, ◌+◌, length, slice_set};
 ghost use Rattle.sfc_image.specs.Private.Keeping.{AreTracked, slot_at, tried as tried_slot};
 
-use crate::slot::{tried, Slot};
+use crate::slot::{Slot, tried};
 use sfc_expr::value::Value;
 
 #[tactic(auto, using(crate::proofs::Tracked::tracked_same, crate::proofs::Tracked::tracked_more, crate::proofs::Tracked::room_left))]

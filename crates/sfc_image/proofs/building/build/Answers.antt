@@ -1,6 +1,5 @@
-use Rattle.std.proofs.Common.{rules, ◌≡◌, ◌+◌, ◌<◌, ◌∙◌, List, arith, length, ap, sym, refl}
+use Rattle.std.proofs.Common.{◌≡◌, ◌+◌, ◌<◌, ◌∙◌, length, ap, refl}
 use Rattle.std.proofs.lemmas.List.{length_push}
-use Rattle.sfc_variables.specs.declared.variable.Variable.{Variable}
 use Rattle.sfc_chart.specs.Image.{locals_of}
 use Rattle.sfc_image.specs.declared.slot.Locals.{Locals}
 use Rattle.sfc_image.proofs.Built.{slots_more, locals_more}
@@ -16,7 +15,7 @@ loop-k-preserved c =
     let variables = c.locals_of-variables.result.now in
     let lt : k < length instances = c.loop-k-test.true in
     let of_instance : variables ≡ locals_of types instance =
-        c.locals_of-variables.ensures in
+    c.locals_of-variables.ensures in
     let x : Locals = record { first = c.len.result; count = length variables } in
     record {
       slots =

@@ -1,6 +1,6 @@
-use Rattle.std.proofs.Common.{rules, ◌≡◌, ◌+◌, ◌<◌, arith, length, slice_set, sym, subst}
+use Rattle.std.proofs.Common.{rules, ◌+◌, ◌<◌, arith, length, slice_set, sym, subst}
 use Rattle.sfc_image.specs.declared.slot.Slot.{Slot}
-use Rattle.sfc_image.specs.Private.Keeping.{slot_at, begun, AreBegun}
+use Rattle.sfc_image.specs.Private.Keeping.{AreBegun}
 use Rattle.sfc_image.proofs.Tracked.{begun_more}
 use Rattle.sfc_image.proofs.closing.begin_all.Goals as goal
 

@@ -1,4 +1,3 @@
-use Rattle.std.proofs.Common.{◌≡◌}
 use Rattle.sfc_expr.specs.Ticks.{Within}
 use Rattle.sfc_image.specs.Private.Keeping.{AreClosed}
 use Rattle.sfc_image.proofs.closing.close_all.Given as goal

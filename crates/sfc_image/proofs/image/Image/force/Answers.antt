@@ -1,4 +1,4 @@
-use Rattle.std.proofs.Common.{◌≡◌, ◌<◌, ◌∙◌, ◌∷◌, List, Some, ap, arith, length, refl, slice_set, subst, sym}
+use Rattle.std.proofs.Common.{◌≡◌, ◌<◌, ◌∙◌, ◌∷◌, Some, ap, arith, length, slice_set, subst, sym}
 use Rattle.sfc_image.specs.declared.slot.Slot.{Slot}
 use Rattle.sfc_image.specs.Changes.{Forced, settled}
 use Rattle.sfc_image.specs.Private.Keeping.{AreKept, slot_at, with_force}
@@ -14,12 +14,12 @@ returns-clause-ok c plant kept h =
     let id = c.args.id in
     let slots = image.slots.items in
     let lt : id.0 < length slots =
-        let known = c.value_fault.ensures.known c.in_default.is in
-        let same = ap length c.deref.ensures.value in
-        omega (arith, known, same) in
+    let known = c.value_fault.ensures.known c.in_default.is in
+    let same = ap length c.deref.ensures.value in
+    omega (arith, known, same) in
     let read = slot_read slots id.0 c.index.result.now lt c.index.ensures in
     let made : with_force (Some c.args.value) (slot_at slots id.0) ≡ c.with_force.result =
-        sym (c.with_force.ensures ∙ ap (with_force (Some c.args.value)) read) in
+    sym (c.with_force.ensures ∙ ap (with_force (Some c.args.value)) read) in
     subst (λ (y : Slot). AreKept plant (slice_set slots id.0 y) image.locals.items image.count image.is_trying
-      (settled (Forced id c.args.value ∷ kept))) made
+    (settled (Forced id c.args.value ∷ kept))) made
     (force_kept plant slots image.locals.items image.count image.is_trying kept id c.args.value lt h)

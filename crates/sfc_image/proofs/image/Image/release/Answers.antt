@@ -14,10 +14,10 @@ returns-clause-ok c plant kept h =
     let id = c.args.id in
     let slots = image.slots.items in
     let lt : id.0 < length slots =
-        let long = c.len.ensures ∙ image.slots.ok.0 in omega (arith, c.if-i-len.false, long) in
+    let long = c.len.ensures ∙ image.slots.ok.0 in omega (arith, c.if-i-len.false, long) in
     let read = slot_read slots id.0 c.index.result.now lt c.index.ensures in
     let made : with_force None (slot_at slots id.0) ≡ c.with_force.result =
-        sym (c.with_force.ensures ∙ ap (with_force None) read) in
+    sym (c.with_force.ensures ∙ ap (with_force None) read) in
     subst (λ (y : Slot). AreKept plant (slice_set slots id.0 y) image.locals.items image.count image.is_trying
-      (settled (Released id ∷ kept))) made
+    (settled (Released id ∷ kept))) made
     (release_kept plant slots image.locals.items image.count image.is_trying kept id lt h)
