@@ -3,4 +3,5 @@ pub mod Built
 pub mod Counting
 pub mod Happened
 pub mod Tracked
+pub mod Viewed
 pub mod Written

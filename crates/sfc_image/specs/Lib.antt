@@ -4,6 +4,8 @@
 pub mod Changes
 -- which variables there are, and what each reads after changes
 pub mod Values
+-- what the expressions of a program instance read
+pub mod Environments
 -- what each call answers
 pub mod Answers
 -- what was written, forced and reset, by what happened

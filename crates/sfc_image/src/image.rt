@@ -9,10 +9,12 @@ use crate::copying::{copy_locals, copy_slots};
 use crate::image_error::ImageError;
 use crate::slot::{Locals, Slot, given, value_fault, with_force};
 use crate::trying::try_store;
+use crate::view::ImageView;
 use sfc_chart::ids::{ProgId, VarId};
 use sfc_chart::plant::Plant;
 use sfc_expr::ticks::Ticks;
 use sfc_expr::value::Value;
+use sfc_flags::flags::Flags;
 use std::alloc::{AllocError, Global};
 
 /// The stored and the forced values of a plant's variables. Where a scratch is open, what is stored may still be undone:
@@ -36,8 +38,9 @@ impl Image {
     ghost use Rattle.sfc_chart.specs.Finding.{instance_locals};
     ghost use Rattle.sfc_image.specs.Changes.{Change, Told, Stored, Forced, Released, Reset, settled, trying, all_of, with_change};
     ghost use Rattle.sfc_image.specs.Values.{variable_count, stored_value, forced_value};
+    ghost use Rattle.sfc_image.specs.Environments.{environment_of};
     ghost use Rattle.sfc_image.specs.Answers.{Answers, read_answer, value_fault, release_fault};
-    ghost use Rattle.sfc_image.specs.Agreement.{ImageAgrees, IsAsLarge, variable_places, instance_places, is_open};
+    ghost use Rattle.sfc_image.specs.Agreement.{ImageAgrees, IsAsLarge, environment_in, variable_places, instance_places, is_open};
 
     /// The variables of the plant with their initial values; none is forced, and no scratch is open. The one error is
     /// that memory was refused; no later call takes any.
@@ -109,6 +112,29 @@ impl Image {
             result ≡ is_some (forced_value (all_of told) id.0) }
     {
         self.slots[id.0 as usize].forced.is_some()
+    }
+
+    /// What the expressions of the instance's program read, where these of its steps are active, with these times, and
+    /// with this Q. It takes no memory.
+    pub fn view<'a>(
+        &'a self,
+        instance: ProgId,
+        active: &'a Flags,
+        times: &'a [i64],
+        q: bool,
+    ) -> ImageView<'a>
+        requires { instance.0 < instance_places self.now }
+        ensures { (plant : PlantData) (told : Told) → ImageAgrees plant self.now told →
+            environment_in result ≡ environment_of plant (all_of told) instance (record { active = active.now; times = times.now; q = q }) }
+    {
+        ImageView {
+            slots: self.slots.as_slice(),
+            globals: self.locals[0].first,
+            locals: self.locals[instance.0 as usize],
+            active,
+            times,
+            q,
+        }
     }
 
     /// Gives the variable a value, in the scratch where one is open; a force hides it until its release. `UnknownVar`

@@ -9,6 +9,7 @@
 //! - `laws`: what the definitions mean.
 //! - `slot`: what is kept for a variable.
 //! - `trying`: stores that may be undone.
+//! - `view`: what the expressions of a program instance read.
 #![tactic(auto)]
 
 mod building;
@@ -19,3 +20,4 @@ pub mod image_error;
 pub mod laws;
 mod slot;
 mod trying;
+pub mod view;

@@ -1,10 +1,13 @@
 -- What is kept of a variable in place of the changes.
-use Rattle.std.specs.Prelude.{ℕ, ◌≡◌, ◌<◌, ◌≤◌, ◌+◌, ◌⊎◌, Bool, true, false, List, length, Option, Some, None, cond, nat_lt, slice_index_or, count_by, take, is_some, ◌==◌}
+use Rattle.std.specs.Prelude.{ℕ, ◌≡◌, ◌<◌, ◌≤◌, ◌+◌, ◌⊎◌, Bool, true, false, List, length, Option, Some, None, cond, nat_lt, slice_index_or, count_by, take, is_some, ◌==◌, unwrap_or, ℤ, pos}
 use Rattle.std.specs.List.{list_any}
 use Rattle.sfc_chart.specs.declared.ids.ProgId.{ProgId}
 use Rattle.sfc_chart.specs.Plants.{PlantData}
 use Rattle.sfc_chart.specs.Finding.{first_local, instance_locals}
 use Rattle.sfc_image.specs.Changes.{Told, all_of, tried_of}
+use Rattle.sfc_flags.specs.Flags.{flag}
+use Rattle.sfc_expr.specs.Environment.{Environment}
+use Rattle.sfc_image.specs.Environments.{number_among, read_at}
 use Rattle.sfc_image.specs.Values.{variable_count, initial_of, type_of_variable, stored_value, forced_value}
 use Rattle.sfc_chart.specs.declared.ids.VarId.{VarId}
 use Rattle.sfc_tokens.specs.declared.var_type.VarType.TheVariants as types
@@ -137,3 +140,18 @@ pub record AreKept (plant : PlantData) (slots : List Slot) (locals : List Locals
   pub opened : is_trying ≡ is_some told.tried
   pub few : count ≤ length (tried_of told)
   pub each : (i : ℕ) → i < length slots → IsKept plant told i (slot_at slots i)
+
+-- ---- and what it reads
+
+-- what the variable reads by its slot
+abbrev pub shown : List Slot → ℕ → Value
+shown slots i = unwrap_or (slot_at slots i).forced (slot_at slots i).stored
+
+abbrev pub shown_by : List Slot → ℕ → Locals → List Bool → List ℤ → Bool → Environment
+shown_by slots globals locals active times q = record {
+  has = λ v. is_some (number_among globals locals.first locals.count v);
+  value_at = λ v. read_at (shown slots) (number_among globals locals.first locals.count v);
+  is_active = λ step. flag active step.0;
+  time_of = λ step. slice_index_or times step.0 (pos 0);
+  q = q;
+}
