@@ -40,7 +40,8 @@ pub fn build(
     types: &[ProgramType],
     instances: &[Instance],
 ) -> Result<(Vec<Slot>, Vec<Locals>), AllocError>
-    ensures slots { IfOk result (λ built. built.0.items ≡ map keeping.fresh_slot (image_of globals.now types.now instances.now)) }
+    ensures slots { IfOk result (λ built.
+        built.0.items ≡ map keeping.fresh_slot (image_of globals.now types.now instances.now)) }
     ensures instances { IfOk result (λ built. length built.1.items ≡ length instances.now) }
     ensures locals { IfOk result (λ built. (k : ℕ) → k < length instances.now →
         locals_at built.1.items k ≡ record {

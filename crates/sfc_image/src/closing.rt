@@ -1,6 +1,6 @@
 //! What was tried is kept, or given up; and variables that begin anew.
 
-ghost use Rattle.std.specs.Prelude.{◌≡◌, ◌+◌, ◌≤◌, length};
+ghost use Rattle.std.specs.Prelude.{◌+◌, ◌≤◌, length};
 ghost use Rattle.sfc_expr.specs.Ticks.{Within};
 ghost use Rattle.sfc_image.specs.Private.Keeping.{AreNumbers, AreClosed, AreBegun};
 

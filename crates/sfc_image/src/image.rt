@@ -1,6 +1,6 @@
 //! The variables of a plant, in running form (2.4).
 
-ghost use Rattle.std.specs.Prelude.{◌≡◌, ◌≤◌, length};
+ghost use Rattle.std.specs.Prelude.{length};
 ghost use Rattle.sfc_image.specs.Private.Keeping.{AreTracked, AreWithin};
 
 use crate::building::build;
@@ -125,7 +125,8 @@ impl Image {
     ) -> ImageView<'a>
         requires { instance.0 < instance_places self.now }
         ensures { (plant : PlantData) (told : Told) → ImageAgrees plant self.now told →
-            environment_in result ≡ environment_of plant (all_of told) instance (record { active = active.now; times = times.now; q = q }) }
+            environment_in result
+            ≡ environment_of plant (all_of told) instance (record { active = active.now; times = times.now; q = q }) }
     {
         ImageView {
             slots: self.slots.as_slice(),
@@ -271,7 +272,8 @@ impl Image {
         requires { IsAsLarge other.now self.old }
         ensures large { IsAsLarge self.old self.new }
         ensures open { is_open self.new ≡ is_open other.now }
-        ensures kept { (plant : PlantData) (told : Told) → ImageAgrees plant other.now told → ImageAgrees plant self.new told }
+        ensures kept { (plant : PlantData) (told : Told) → ImageAgrees plant other.now told →
+            ImageAgrees plant self.new told }
         ensures ticks { Within (variable_places self.old + instance_places self.old) ticks.old ticks.new }
     {
         copy_slots(

@@ -132,8 +132,8 @@ pub record IsKept (plant : PlantData) (told : Told) (i : ℕ) (slot : Slot) : Ty
 abbrev pub locals_of : PlantData → ProgId → Locals
 locals_of plant p = record { first = first_local plant p; count = length (instance_locals plant p) }
 
-pub record AreKept (plant : PlantData) (slots : List Slot) (locals : List Locals) (count : ℕ) (is_trying : Bool) (told : Told)
-    : Type 0 where
+pub record AreKept (plant : PlantData) (slots : List Slot) (locals : List Locals) (count : ℕ) (is_trying : Bool)
+    (told : Told) : Type 0 where
   pub variables : length slots ≡ variable_count plant
   pub instances : length locals ≡ length plant.instances
   pub locals_are : (p : ProgId) → p.0 < length locals → locals_at locals p.0 ≡ locals_of plant p
