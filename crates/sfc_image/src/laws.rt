@@ -1,12 +1,15 @@
 //! What the definitions mean: each law is a function with an empty body, whose contract is the law.
 
-ghost use Rattle.std.specs.Prelude.{◌≡◌, ◌++◌, ◌∷◌, ℕ, true, false, List, All};
+ghost use Rattle.std.specs.Prelude.{◌≡◌, ◌↔◌, ◌++◌, ◌∷◌, ℕ, true, false, List, All, Some};
 ghost use Rattle.sfc_chart.specs.declared.ids.ProgId.{ProgId};
 ghost use Rattle.sfc_chart.specs.declared.ids.VarId.{VarId};
 ghost use Rattle.sfc_chart.specs.Plants.{PlantData};
 ghost use Rattle.sfc_expr.specs.declared.value.Value.{Value};
+ghost use Rattle.sfc_expr.specs.declared.variable.LocalId.{LocalId};
+ghost use Rattle.sfc_expr.specs.declared.variable.Variable.TheVariants.{Local};
 ghost use Rattle.sfc_image.specs.Changes.{Change, Stored, Forced, Released, Reset};
 ghost use Rattle.sfc_image.specs.Values.{initial_of, is_local_of, stored_value, forced_value, value_of};
+ghost use Rattle.sfc_image.specs.Environments.{number_of};
 ghost use Rattle.sfc_image.specs.Events.{writes, turns};
 
 /// A forced variable reads the forced value whatever is written later, until it is released or forced anew; then it
@@ -29,6 +32,12 @@ pub fn stores()
         stored_value plant (later ++ Reset p ∷ earlier) i ≡ initial_of plant i }
     ensures never { (plant : PlantData) (changes : List Change) (i : ℕ) →
         All (λ change. writes plant i change ≡ false) changes → stored_value plant changes i ≡ initial_of plant i }
+{}
+
+/// The locals of an instance are those variables that its program's local variables stand for (2.4.3, 2.5.3).
+pub fn locals()
+    ensures { (plant : PlantData) (p : ProgId) (i : ℕ) →
+        (is_local_of plant p i ≡ true) ↔ ((id : LocalId) × (number_of plant p (Local id) ≡ Some i)) }
 {}
 
 /// A reset of an instance touches its locals alone, and no force.
