@@ -1,0 +1,25 @@
+use Rattle.std.proofs.Common.{◌≡◌, ◌<◌, ◌∙◌, ◌∷◌, Some, ap, arith, length, slice_set, subst, sym}
+use Rattle.sfc_image.specs.declared.slot.Slot.{Slot}
+use Rattle.sfc_image.specs.Changes.{Forced, settled}
+use Rattle.sfc_image.specs.Private.Keeping.{AreKept, slot_at, with_force}
+use Rattle.sfc_image.specs.Agreement.{ImageAgrees}
+use Rattle.sfc_image.proofs.Agreed.{force_kept}
+use Rattle.sfc_image.proofs.Tracked.{slot_read}
+use Rattle.sfc_image.proofs.image.Image.force.Goals as goal
+
+pub returns-clause-ok : goal.returns-clause-ok
+unfolding ImageAgrees
+returns-clause-ok c plant kept h =
+    let image = c.args.self.now in
+    let id = c.args.id in
+    let slots = image.slots.items in
+    let lt : id.0 < length slots =
+    let known = c.value_fault.ensures.known c.in_default.is in
+    let same = ap length c.deref.ensures.value in
+    omega (arith, known, same) in
+    let read = slot_read slots id.0 c.index.result.now lt c.index.ensures in
+    let made : with_force (Some c.args.value) (slot_at slots id.0) ≡ c.with_force.result =
+    sym (c.with_force.ensures ∙ ap (with_force (Some c.args.value)) read) in
+    subst (λ (y : Slot). AreKept plant (slice_set slots id.0 y) image.locals.items image.count image.is_trying
+    (settled (Forced id c.args.value ∷ kept))) made
+    (force_kept plant slots image.locals.items image.count image.is_trying kept id c.args.value lt h)

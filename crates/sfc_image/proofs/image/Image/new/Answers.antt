@@ -1,0 +1,37 @@
+use Rattle.std.proofs.Common.{◌≡◌, ◌∙◌, ap, length, map, sym}
+use Rattle.sfc_chart.specs.Image.{image_variables}
+use Rattle.sfc_image.specs.Private.Keeping.{fresh_slot}
+use Rattle.sfc_image.specs.Agreement.{ImageAgrees}
+use Rattle.sfc_image.proofs.Built.{built_slots, built_locals, fresh_tracked, fresh_within, fresh_kept}
+use Rattle.sfc_image.proofs.image.Image.new.Goals as goal
+
+pub invariant_of-result : goal.invariant_of-result
+invariant_of-result c =
+    let plant = c.args.plant.now in
+    let slots = c.in_ok-slots.slots.items in
+    let locals = c.in_ok-slots.locals.items in
+    let is : slots ≡ map fresh_slot (image_variables plant) =
+    built_slots plant c.globals.result.now c.types.result.now c.instances.result.now slots c.globals.ensures.value
+    c.types.ensures.value c.instances.ensures.value c.in_ok-slots.ensures.slots in
+    let room : length c.in_ok-written.written.items ≡ length slots =
+    sym c.in_ok-written.written.ok.0 ∙ c.in_ok-written.ensures.len ∙ c.len.ensures ∙ c.in_ok-slots.slots.ok.0 in
+    record {
+      tracked = fresh_tracked (image_variables plant) slots c.in_ok-written.written.items is room;
+      within =
+          fresh_within plant slots locals is (c.in_ok-slots.ensures.instances ∙ ap length c.instances.ensures.value)
+          (built_locals plant c.globals.result.now c.types.result.now c.instances.result.now locals c.globals.ensures.value
+          c.types.ensures.value c.instances.ensures.value c.in_ok-slots.ensures.locals);
+    }
+
+pub returns-clause-agrees : goal.returns-clause-agrees
+unfolding ImageAgrees
+returns-clause-agrees c =
+    let plant = c.args.plant.now in
+    let slots = c.in_ok-slots.slots.items in
+    let locals = c.in_ok-slots.locals.items in
+    fresh_kept plant slots locals
+    (built_slots plant c.globals.result.now c.types.result.now c.instances.result.now slots c.globals.ensures.value
+    c.types.ensures.value c.instances.ensures.value c.in_ok-slots.ensures.slots)
+    (c.in_ok-slots.ensures.instances ∙ ap length c.instances.ensures.value)
+    (built_locals plant c.globals.result.now c.types.result.now c.instances.result.now locals c.globals.ensures.value
+    c.types.ensures.value c.instances.ensures.value c.in_ok-slots.ensures.locals)

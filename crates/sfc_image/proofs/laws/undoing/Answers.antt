@@ -1,0 +1,8 @@
+use Rattle.sfc_image.proofs.Happened.{forces_left, values_left}
+use Rattle.sfc_image.proofs.laws.undoing.Goals as goal
+
+pub returns-clause-forces : goal.returns-clause-forces
+returns-clause-forces c tried kept i all = forces_left tried kept i all
+
+pub returns-clause-values : goal.returns-clause-values
+returns-clause-values c plant tried kept i written turned = values_left plant tried kept i written turned

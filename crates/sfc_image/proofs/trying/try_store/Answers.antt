@@ -1,0 +1,13 @@
+use Rattle.std.proofs.Common.{ap}
+use Rattle.sfc_image.specs.declared.slot.Slot.{Slot}
+use Rattle.sfc_image.proofs.Tracked.{room_left, tracked_more}
+use Rattle.sfc_image.proofs.trying.try_store.Goals as goal
+
+pub bounds-written-count : goal.bounds-written-count
+bounds-written-count c =
+    room_left c.args.slots.now c.args.written.now c.args.count c.args.i c.requires.place c.if-slot.false c.requires.tracked
+
+pub returns-clause-tracked : goal.returns-clause-tracked
+returns-clause-tracked c =
+    tracked_more c.args.slots.now c.args.written.now c.args.count c.args.i c.tried.result c.requires.place c.if-slot.false
+    (ap (λ (slot : Slot). slot.is_tried) c.tried.ensures) c.requires.tracked

@@ -1,0 +1,33 @@
+-- What an `Image` agrees with.
+use Rattle.std.specs.Prelude.{ℕ, ◌≡◌, Bool, length}
+use Rattle.sfc_chart.specs.Plants.{PlantData}
+use Rattle.sfc_image.specs.declared.image.Image.{Image}
+use Rattle.sfc_expr.specs.Environment.{Environment}
+use Rattle.sfc_image.specs.declared.view.ImageView.{ImageView}
+use Rattle.sfc_image.specs.Changes.{Told}
+use Rattle.sfc_image.specs.Private.Keeping.{AreKept, shown_by}
+
+-- how many variables and instances it is for
+abbrev pub variable_places : Image → ℕ
+variable_places image = length image.slots.items
+
+abbrev pub instance_places : Image → ℕ
+instance_places image = length image.locals.items
+
+-- a scratch is open
+abbrev pub is_open : Image → Bool
+is_open image = image.is_trying
+
+-- for as many variables and instances
+pub record IsAsLarge (old new : Image) : Type 0 where
+  pub variables : variable_places new ≡ variable_places old
+  pub instances : instance_places new ≡ instance_places old
+
+-- after what was done all answers are those of the definitions
+unfoldable pub ImageAgrees : PlantData → Image → Told → Type 0
+ImageAgrees plant image told = AreKept plant image.slots.items image.locals.items image.count image.is_trying told
+
+-- what a view reads
+unfoldable pub environment_in : ImageView → Environment
+environment_in view =
+    shown_by view.slots.now view.globals view.locals view.active.now view.times.now view.q

@@ -1,0 +1,16 @@
+-- The rules, in reading order.
+
+-- what is done with an image
+pub mod Changes
+-- which variables there are, and what each reads after changes
+pub mod Values
+-- what the expressions of a program instance read
+pub mod Environments
+-- what each call answers
+pub mod Answers
+-- what was written, forced and reset, by what happened
+pub mod Events
+-- what an `Image` agrees with; opaque to the crates above
+pub mod Agreement
+-- What private clauses cite.
+pub mod Private

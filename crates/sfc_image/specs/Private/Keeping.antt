@@ -1,0 +1,157 @@
+-- What is kept of a variable in place of the changes.
+use Rattle.std.specs.Prelude.{ℕ, ◌≡◌, ◌<◌, ◌≤◌, ◌+◌, ◌⊎◌, Bool, true, false, List, length, Option, Some, None, cond, nat_lt, slice_index_or, count_by, take, is_some, ◌==◌, unwrap_or, ℤ, pos}
+use Rattle.std.specs.List.{list_any}
+use Rattle.sfc_chart.specs.declared.ids.ProgId.{ProgId}
+use Rattle.sfc_chart.specs.Plants.{PlantData}
+use Rattle.sfc_chart.specs.Finding.{first_local, instance_locals}
+use Rattle.sfc_image.specs.Changes.{Told, all_of, tried_of}
+use Rattle.sfc_flags.specs.Flags.{flag}
+use Rattle.sfc_expr.specs.Environment.{Environment}
+use Rattle.sfc_image.specs.Environments.{number_among, read_at}
+use Rattle.sfc_image.specs.Values.{variable_count, initial_of, type_of_variable, stored_value, forced_value}
+use Rattle.sfc_chart.specs.declared.ids.VarId.{VarId}
+use Rattle.sfc_tokens.specs.declared.var_type.VarType.TheVariants as types
+use Rattle.sfc_variables.specs.declared.variable.Variable.{Variable}
+use Rattle.sfc_expr.specs.declared.value.Value.{Value}
+use Rattle.sfc_expr.specs.declared.value.Value.TheVariants as value
+use Rattle.sfc_expr.specs.Values.{type_of}
+use Rattle.sfc_expr.specs.Checking.{is_same_type}
+use Rattle.sfc_image.specs.declared.image_error.ImageError.{ImageError}
+use Rattle.sfc_image.specs.declared.image_error.ImageError.TheVariants.{UnknownVar, ValueType}
+use Rattle.sfc_image.specs.declared.slot.Slot.{Slot}
+use Rattle.sfc_image.specs.declared.slot.Locals.{Locals}
+
+-- of a variable with which nothing was done yet
+abbrev pub fresh_slot : Variable → Slot
+fresh_slot variable = record {
+  var_type = variable.var_type;
+  initial = variable.initial;
+  kept = variable.initial;
+  stored = variable.initial;
+  forced = None;
+  is_tried = false;
+}
+
+abbrev pub no_slot : Slot
+no_slot = record {
+  var_type = types.Bool;
+  initial = value.Bool false;
+  kept = value.Bool false;
+  stored = value.Bool false;
+  forced = None;
+  is_tried = false;
+}
+
+abbrev pub slot_at : List Slot → ℕ → Slot
+slot_at slots i = slice_index_or slots i no_slot
+
+abbrev pub number_at : List ℕ → ℕ → ℕ
+number_at numbers j = slice_index_or numbers j 0
+
+abbrev pub locals_at : List Locals → ℕ → Locals
+locals_at locals k = slice_index_or locals k (record { first = 0; count = 0 })
+
+-- how many variables were written since the scratch was opened
+abbrev pub tried_count : List Slot → ℕ
+tried_count slots = count_by (λ (slot : Slot). slot.is_tried) slots
+
+-- i is among the first n of these numbers
+abbrev pub is_listed : List ℕ → ℕ → ℕ → Bool
+is_listed numbers n i = list_any (λ number. number == i) (take n numbers)
+
+-- the first n of these numbers are numbers of slots
+abbrev pub AreNumbers : ℕ → List ℕ → ℕ → Type 0
+AreNumbers slots numbers n = (j : ℕ) → j < n → number_at numbers j < slots
+
+-- the numbers of the slots that were written since a scratch was opened, each once, and room for as many as there are
+pub record AreTracked (slots : List Slot) (written : List ℕ) (count : ℕ) : Type 0 where
+  pub room : length written ≡ length slots
+  pub counted : tried_count slots ≡ count
+  pub numbers : AreNumbers (length slots) written count
+  pub listed : (i : ℕ) → (slot_at slots i).is_tried ≡ true → is_listed written count i ≡ true
+
+-- the locals of each instance are among n slots
+abbrev pub AreWithin : ℕ → List Locals → Type 0
+AreWithin n locals = (k : ℕ) → k < length locals → (locals_at locals k).first + (locals_at locals k).count ≤ n
+
+-- what was tried becomes what is kept, or is given up
+abbrev pub closed : Bool → Slot → Slot
+closed true slot = record slot { kept = slot.stored; is_tried = false }
+closed false slot = record slot { stored = slot.kept; is_tried = false }
+
+-- a slot was closed, or is as before
+pub record MayClose (keep : Bool) (old new : Slot) : Type 0 where
+  pub either : (new ≡ old) ⊎ (new ≡ closed keep old)
+
+-- the first n listed slots are closed, and no other was changed
+pub record AreClosed (keep : Bool) (numbers : List ℕ) (n : ℕ) (old new : List Slot) : Type 0 where
+  pub each : (i : ℕ) → MayClose keep (slot_at old i) (slot_at new i)
+  pub listed : (i : ℕ) → is_listed numbers n i ≡ true → (slot_at new i).is_tried ≡ false
+
+-- a value is stored: for good, or in a scratch
+abbrev pub given : Value → Slot → Slot
+given v slot = record slot { kept = v; stored = v }
+
+abbrev pub tried : Value → Slot → Slot
+tried v slot = record slot { stored = v; is_tried = true }
+
+abbrev pub with_force : Option Value → Slot → Slot
+with_force v slot = record slot { forced = v }
+
+-- what is wrong with giving the variable of one of these slots a value
+abbrev pub fault_at : List Slot → VarId → Value → Option ImageError
+fault_at slots id v =
+    cond (nat_lt id.0 (length slots))
+    (cond (is_same_type (type_of v) (slot_at slots id.0).var_type) None (Some ValueType))
+    (Some UnknownVar)
+
+-- the slot of a variable that begins anew
+abbrev pub begun : Slot → Slot
+begun slot = record slot { kept = slot.initial; stored = slot.initial }
+
+-- those from `first` on begin anew, n of them
+pub record AreBegun (first n : ℕ) (old new : List Slot) : Type 0 where
+  pub inside : (i : ℕ) → first ≤ i → i < first + n → slot_at new i ≡ begun (slot_at old i)
+  pub before : (i : ℕ) → i < first → slot_at new i ≡ slot_at old i
+  pub behind : (i : ℕ) → first + n ≤ i → slot_at new i ≡ slot_at old i
+  pub flags : (i : ℕ) → (slot_at new i).is_tried ≡ (slot_at old i).is_tried
+  pub count : tried_count new ≡ tried_count old
+
+-- ---- and the changes that it agrees with
+
+-- what is kept of variable i is what the changes give
+pub record IsKept (plant : PlantData) (told : Told) (i : ℕ) (slot : Slot) : Type 0 where
+  pub var_type : slot.var_type ≡ type_of_variable plant i
+  pub initial : slot.initial ≡ initial_of plant i
+  pub kept : slot.kept ≡ stored_value plant told.kept i
+  pub stored : slot.stored ≡ stored_value plant (all_of told) i
+  pub forced : slot.forced ≡ forced_value (all_of told) i
+  pub held : slot.forced ≡ forced_value told.kept i
+  pub untried : slot.is_tried ≡ false → slot.stored ≡ slot.kept
+
+abbrev pub locals_of : PlantData → ProgId → Locals
+locals_of plant p = record { first = first_local plant p; count = length (instance_locals plant p) }
+
+pub record AreKept (plant : PlantData) (slots : List Slot) (locals : List Locals) (count : ℕ) (is_trying : Bool)
+    (told : Told) : Type 0 where
+  pub variables : length slots ≡ variable_count plant
+  pub instances : length locals ≡ length plant.instances
+  pub locals_are : (p : ProgId) → p.0 < length locals → locals_at locals p.0 ≡ locals_of plant p
+  pub opened : is_trying ≡ is_some told.tried
+  pub few : count ≤ length (tried_of told)
+  pub each : (i : ℕ) → i < length slots → IsKept plant told i (slot_at slots i)
+
+-- ---- and what it reads
+
+-- what the variable reads by its slot
+abbrev pub shown : List Slot → ℕ → Value
+shown slots i = unwrap_or (slot_at slots i).forced (slot_at slots i).stored
+
+abbrev pub shown_by : List Slot → ℕ → Locals → List Bool → List ℤ → Bool → Environment
+shown_by slots globals locals active times q = record {
+  has = λ v. is_some (number_among globals locals.first locals.count v);
+  value_at = λ v. read_at (shown slots) (number_among globals locals.first locals.count v);
+  is_active = λ step. flag active step.0;
+  time_of = λ step. slice_index_or times step.0 (pos 0);
+  q = q;
+}

@@ -1,0 +1,290 @@
+//! The variables of a plant, in running form (2.4).
+
+ghost use Rattle.std.specs.Prelude.{length};
+ghost use Rattle.sfc_image.specs.Private.Keeping.{AreTracked, AreWithin};
+
+use crate::building::build;
+use crate::closing::{begin_all, close_all};
+use crate::copying::{copy_locals, copy_slots};
+use crate::image_error::ImageError;
+use crate::slot::{Locals, Slot, given, value_fault, with_force};
+use crate::trying::try_store;
+use crate::view::ImageView;
+use sfc_chart::ids::{ProgId, VarId};
+use sfc_chart::plant::Plant;
+use sfc_expr::ticks::Ticks;
+use sfc_expr::value::Value;
+use sfc_flags::flags::Flags;
+use std::alloc::{AllocError, Global};
+
+/// The stored and the forced values of a plant's variables. Where a scratch is open, what is stored may still be undone:
+/// the variables that were written since then are listed, each once.
+#[derive(Drop)]
+pub struct Image {
+    slots: Vec<Slot>,
+    locals: Vec<Locals>,
+    written: Vec<usize>,
+    count: usize,
+    is_trying: bool,
+    ghost tracked: { AreTracked slots.items written.items count },
+    ghost within: { AreWithin (length slots.items) locals.items },
+}
+
+#[tactic(auto, unfolding(crate::specs::Agreement::ImageAgrees))]
+impl Image {
+    ghost use Rattle.std.specs.Prelude.{◌≡◌, ◌<◌, ◌+◌, ◌∷◌, ◌++◌, [], true, false, List, Option, length, is_some, IfOk, OnOk, OnErr};
+    ghost use Rattle.sfc_expr.specs.Ticks.{Within};
+    ghost use Rattle.sfc_chart.specs.Plants.{PlantData};
+    ghost use Rattle.sfc_chart.specs.Finding.{instance_locals};
+    ghost use Rattle.sfc_image.specs.Changes.{Change, Told, Stored, Forced, Released, Reset, settled, trying, all_of, with_change};
+    ghost use Rattle.sfc_image.specs.Values.{variable_count, stored_value, forced_value};
+    ghost use Rattle.sfc_image.specs.Environments.{environment_of};
+    ghost use Rattle.sfc_image.specs.Answers.{Answers, read_answer, value_fault, release_fault};
+    ghost use Rattle.sfc_image.specs.Agreement.{ImageAgrees, IsAsLarge, environment_in, variable_places, instance_places, is_open};
+
+    /// The variables of the plant with their initial values; none is forced, and no scratch is open. The one error is
+    /// that memory was refused; no later call takes any.
+    pub fn new(alloc: Global, plant: &Plant) -> Result<Image, AllocError>
+        ensures variables { IfOk result (λ image. variable_places image ≡ variable_count plant.now) }
+        ensures instances { IfOk result (λ image. instance_places image ≡ length plant.now.instances) }
+        ensures closed { IfOk result (λ image. is_open image ≡ false) }
+        ensures agrees { IfOk result (λ image. ImageAgrees plant.now image (settled [])) }
+    {
+        let (slots, locals) = build(alloc, plant.globals(), plant.types(), plant.instances())?;
+        let written = vec![in alloc; 0; slots.len()]?;
+        Ok(Image {
+            slots,
+            locals,
+            written,
+            count: 0,
+            is_trying: false,
+        })
+    }
+
+    /// How many variables there are.
+    pub fn variables(&self) -> usize
+        ensures { result ≡ variable_places self.now }
+    {
+        self.slots.len()
+    }
+
+    /// Whether a scratch is open.
+    pub fn is_open(&self) -> bool
+        ensures { result ≡ is_open self.now }
+    {
+        self.is_trying
+    }
+
+    /// What the variable reads: the value to which it is forced, if it is, else the stored one. In an open scratch the
+    /// stored one is that of the scratch. `UnknownVar` where there is no such variable.
+    pub fn read(&self, id: VarId) -> Result<Value, ImageError>
+        ensures { (plant : PlantData) (told : Told) → ImageAgrees plant self.now told →
+            result ≡ read_answer plant (all_of told) id }
+    {
+        match self.slots.get(id.0 as usize) {
+            Some(slot) => Ok(slot.forced.unwrap_or(slot.stored)),
+            None => Err(ImageError::UnknownVar),
+        }
+    }
+
+    /// The stored value of the variable, under whatever force.
+    pub fn stored(&self, id: VarId) -> Value
+        requires { id.0 < variable_places self.now }
+        ensures { (plant : PlantData) (told : Told) → ImageAgrees plant self.now told →
+            result ≡ stored_value plant (all_of told) id.0 }
+    {
+        self.slots[id.0 as usize].stored
+    }
+
+    /// The value to which the variable is forced, if it is.
+    pub fn forced(&self, id: VarId) -> Option<Value>
+        requires { id.0 < variable_places self.now }
+        ensures { (plant : PlantData) (told : Told) → ImageAgrees plant self.now told →
+            result ≡ forced_value (all_of told) id.0 }
+    {
+        self.slots[id.0 as usize].forced
+    }
+
+    /// Whether the variable is forced.
+    pub fn is_forced(&self, id: VarId) -> bool
+        requires { id.0 < variable_places self.now }
+        ensures { (plant : PlantData) (told : Told) → ImageAgrees plant self.now told →
+            result ≡ is_some (forced_value (all_of told) id.0) }
+    {
+        self.slots[id.0 as usize].forced.is_some()
+    }
+
+    /// What the expressions of the instance's program read, where these of its steps are active, with these times, and
+    /// with this Q. It takes no memory.
+    pub fn view<'a>(
+        &'a self,
+        instance: ProgId,
+        active: &'a Flags,
+        times: &'a [i64],
+        q: bool,
+    ) -> ImageView<'a>
+        requires { instance.0 < instance_places self.now }
+        ensures { (plant : PlantData) (told : Told) → ImageAgrees plant self.now told →
+            environment_in result
+            ≡ environment_of plant (all_of told) instance (record { active = active.now; times = times.now; q = q }) }
+    {
+        ImageView {
+            slots: self.slots.as_slice(),
+            globals: self.locals[0].first,
+            locals: self.locals[instance.0 as usize],
+            active,
+            times,
+            q,
+        }
+    }
+
+    /// Gives the variable a value, in the scratch where one is open; a force hides it until its release. `UnknownVar`
+    /// where there is no such variable, `ValueType` where the value is not of its type; then nothing changes.
+    pub fn store(&mut self, id: VarId, value: Value, ticks: &mut Ticks) -> Result<(), ImageError>
+        ensures large { IsAsLarge self.old self.new }
+        ensures open { is_open self.new ≡ is_open self.old }
+        ensures answer { (plant : PlantData) (told : Told) → ImageAgrees plant self.old told →
+            Answers result (value_fault plant id value) }
+        ensures ok { OnOk result ((plant : PlantData) (told : Told) → ImageAgrees plant self.old told →
+            ImageAgrees plant self.new (with_change (Stored id value) told)) }
+        ensures err { OnErr result (self.new ≡ self.old) }
+        ensures ticks { Within 1 ticks.old ticks.new }
+    {
+        ticks.tick();
+        if let Some(fault) = value_fault(&self.slots, id, value) {
+            return Err(fault);
+        }
+        let i = id.0 as usize;
+        if self.is_trying {
+            self.count = try_store(&mut self.slots, &mut self.written, self.count, i, value);
+        } else {
+            self.slots[i] = given(self.slots[i], value);
+        }
+        Ok(())
+    }
+
+    /// Forces the variable to a value: it reads this value until its release, whatever is stored meanwhile.
+    /// `UnknownVar` where there is no such variable, `ValueType` where the value is not of its type; then nothing
+    /// changes.
+    pub fn force(&mut self, id: VarId, value: Value) -> Result<(), ImageError>
+        requires { is_open self.old ≡ false }
+        ensures large { IsAsLarge self.old self.new }
+        ensures open { is_open self.new ≡ false }
+        ensures answer { (plant : PlantData) (told : Told) → ImageAgrees plant self.old told →
+            Answers result (value_fault plant id value) }
+        ensures ok { OnOk result ((plant : PlantData) (kept : List Change) → ImageAgrees plant self.old (settled kept) →
+            ImageAgrees plant self.new (settled (Forced id value ∷ kept))) }
+        ensures err { OnErr result (self.new ≡ self.old) }
+    {
+        if let Some(fault) = value_fault(&self.slots, id, value) {
+            return Err(fault);
+        }
+        let i = id.0 as usize;
+        self.slots[i] = with_force(self.slots[i], Some(value));
+        Ok(())
+    }
+
+    /// Releases the variable: it reads the stored value again. `UnknownVar` where there is no such variable,
+    /// `NotForced` where it is not forced; then nothing changes.
+    pub fn release(&mut self, id: VarId) -> Result<(), ImageError>
+        requires { is_open self.old ≡ false }
+        ensures large { IsAsLarge self.old self.new }
+        ensures open { is_open self.new ≡ false }
+        ensures answer { (plant : PlantData) (told : Told) → ImageAgrees plant self.old told →
+            Answers result (release_fault plant (all_of told) id) }
+        ensures ok { OnOk result ((plant : PlantData) (kept : List Change) → ImageAgrees plant self.old (settled kept) →
+            ImageAgrees plant self.new (settled (Released id ∷ kept))) }
+        ensures err { OnErr result (self.new ≡ self.old) }
+    {
+        let i = id.0 as usize;
+        if i >= self.slots.len() {
+            return Err(ImageError::UnknownVar);
+        }
+        let slot = self.slots[i];
+        if slot.forced.is_none() {
+            return Err(ImageError::NotForced);
+        }
+        self.slots[i] = with_force(slot, None);
+        Ok(())
+    }
+
+    /// The locals of the instance get their initial values (2.4.2); forces stay.
+    pub fn reset(&mut self, instance: ProgId, ticks: &mut Ticks)
+        requires instance { instance.0 < instance_places self.old }
+        requires closed { is_open self.old ≡ false }
+        ensures large { IsAsLarge self.old self.new }
+        ensures open { is_open self.new ≡ false }
+        ensures kept { (plant : PlantData) (kept : List Change) → ImageAgrees plant self.old (settled kept) →
+            ImageAgrees plant self.new (settled (Reset instance ∷ kept)) }
+        ensures ticks { (plant : PlantData) (told : Told) → ImageAgrees plant self.old told →
+            Within (length (instance_locals plant instance)) ticks.old ticks.new }
+    {
+        let Locals { first, count } = self.locals[instance.0 as usize];
+        begin_all(&mut self.slots, first, count, ticks);
+    }
+
+    /// Opens a scratch: what is stored from now on may still be undone.
+    pub fn begin(&mut self, ticks: &mut Ticks)
+        requires { is_open self.old ≡ false }
+        ensures large { IsAsLarge self.old self.new }
+        ensures open { is_open self.new ≡ true }
+        ensures kept { (plant : PlantData) (kept : List Change) → ImageAgrees plant self.old (settled kept) →
+            ImageAgrees plant self.new (trying kept []) }
+        ensures ticks { Within 1 ticks.old ticks.new }
+    {
+        ticks.tick();
+        self.is_trying = true;
+    }
+
+    /// Closes the scratch and keeps what was stored in it. It costs what was written, whatever the size of the image.
+    pub fn commit(&mut self, ticks: &mut Ticks)
+        requires { is_open self.old ≡ true }
+        ensures large { IsAsLarge self.old self.new }
+        ensures open { is_open self.new ≡ false }
+        ensures kept { (plant : PlantData) (kept tried : List Change) → ImageAgrees plant self.old (trying kept tried) →
+            ImageAgrees plant self.new (settled (tried ++ kept)) }
+        ensures ticks { (plant : PlantData) (kept tried : List Change) → ImageAgrees plant self.old (trying kept tried) →
+            Within (length tried) ticks.old ticks.new }
+    {
+        close_all(&mut self.slots, &self.written, self.count, true, ticks);
+        self.count = 0;
+        self.is_trying = false;
+    }
+
+    /// Closes the scratch and gives up what was stored in it. It costs what was written, whatever the size of the image.
+    pub fn undo(&mut self, ticks: &mut Ticks)
+        requires { is_open self.old ≡ true }
+        ensures large { IsAsLarge self.old self.new }
+        ensures open { is_open self.new ≡ false }
+        ensures kept { (plant : PlantData) (kept tried : List Change) → ImageAgrees plant self.old (trying kept tried) →
+            ImageAgrees plant self.new (settled kept) }
+        ensures ticks { (plant : PlantData) (kept tried : List Change) → ImageAgrees plant self.old (trying kept tried) →
+            Within (length tried) ticks.old ticks.new }
+    {
+        close_all(&mut self.slots, &self.written, self.count, false, ticks);
+        self.count = 0;
+        self.is_trying = false;
+    }
+
+    /// Takes over what was done with the other image, which is for as many variables and instances, an open scratch
+    /// included. It takes no memory.
+    pub fn copy_from(&mut self, other: &Image, ticks: &mut Ticks)
+        requires { IsAsLarge other.now self.old }
+        ensures large { IsAsLarge self.old self.new }
+        ensures open { is_open self.new ≡ is_open other.now }
+        ensures kept { (plant : PlantData) (told : Told) → ImageAgrees plant other.now told →
+            ImageAgrees plant self.new told }
+        ensures ticks { Within (variable_places self.old + instance_places self.old) ticks.old ticks.new }
+    {
+        copy_slots(
+            &mut self.slots,
+            &mut self.written,
+            &other.slots,
+            &other.written,
+            ticks,
+        );
+        copy_locals(&mut self.locals, &other.locals, ticks);
+        self.count = other.count;
+        self.is_trying = other.is_trying;
+    }
+}

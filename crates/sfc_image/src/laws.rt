@@ -1,0 +1,59 @@
+//! What the definitions mean: each law is a function with an empty body, whose contract is the law.
+
+ghost use Rattle.std.specs.Prelude.{◌≡◌, ◌↔◌, ◌++◌, ◌∷◌, ℕ, true, false, List, All, Some};
+ghost use Rattle.sfc_chart.specs.declared.ids.ProgId.{ProgId};
+ghost use Rattle.sfc_chart.specs.declared.ids.VarId.{VarId};
+ghost use Rattle.sfc_chart.specs.Plants.{PlantData};
+ghost use Rattle.sfc_expr.specs.declared.value.Value.{Value};
+ghost use Rattle.sfc_expr.specs.declared.variable.LocalId.{LocalId};
+ghost use Rattle.sfc_expr.specs.declared.variable.Variable.TheVariants.{Local};
+ghost use Rattle.sfc_image.specs.Changes.{Change, Stored, Forced, Released, Reset};
+ghost use Rattle.sfc_image.specs.Values.{initial_of, is_local_of, stored_value, forced_value, value_of};
+ghost use Rattle.sfc_image.specs.Environments.{number_of};
+ghost use Rattle.sfc_image.specs.Events.{writes, turns};
+
+/// A forced variable reads the forced value whatever is written later, until it is released or forced anew; then it
+/// reads the stored value (2.4).
+pub fn forces()
+    ensures hides { (plant : PlantData) (later earlier : List Change) (id : VarId) (v : Value) →
+        All (λ change. turns id.0 change ≡ false) later → value_of plant (later ++ Forced id v ∷ earlier) id.0 ≡ v }
+    ensures shows { (plant : PlantData) (changes : List Change) (id : VarId) →
+        value_of plant (Released id ∷ changes) id.0 ≡ stored_value plant changes id.0 }
+{}
+
+/// The stored value of a variable is that of the latest write to it, under whatever force; its initial value where
+/// nothing wrote to it, and after a reset of the instance that it is a local of (2.4.2).
+pub fn stores()
+    ensures latest { (plant : PlantData) (later earlier : List Change) (id : VarId) (v : Value) →
+        All (λ change. writes plant id.0 change ≡ false) later →
+        stored_value plant (later ++ Stored id v ∷ earlier) id.0 ≡ v }
+    ensures reset { (plant : PlantData) (later earlier : List Change) (p : ProgId) (i : ℕ) → is_local_of plant p i ≡ true →
+        All (λ change. writes plant i change ≡ false) later →
+        stored_value plant (later ++ Reset p ∷ earlier) i ≡ initial_of plant i }
+    ensures never { (plant : PlantData) (changes : List Change) (i : ℕ) →
+        All (λ change. writes plant i change ≡ false) changes → stored_value plant changes i ≡ initial_of plant i }
+{}
+
+/// The locals of an instance are those variables that its program's local variables stand for (2.4.3, 2.5.3).
+pub fn locals()
+    ensures { (plant : PlantData) (p : ProgId) (i : ℕ) →
+        (is_local_of plant p i ≡ true) ↔ ((id : LocalId) × (number_of plant p (Local id) ≡ Some i)) }
+{}
+
+/// A reset of an instance touches its locals alone, and no force.
+pub fn resets()
+    ensures others { (plant : PlantData) (changes : List Change) (p : ProgId) (i : ℕ) → is_local_of plant p i ≡ false →
+        value_of plant (Reset p ∷ changes) i ≡ value_of plant changes i }
+    ensures forces { (changes : List Change) (p : ProgId) (i : ℕ) →
+        forced_value (Reset p ∷ changes) i ≡ forced_value changes i }
+{}
+
+/// Where a scratch only stores, as it does, its undoing takes back no force; and it takes back the value of no variable
+/// that the scratch did not write.
+pub fn undoing()
+    ensures forces { (tried kept : List Change) (i : ℕ) → All (λ change. turns i change ≡ false) tried →
+        forced_value (tried ++ kept) i ≡ forced_value kept i }
+    ensures values { (plant : PlantData) (tried kept : List Change) (i : ℕ) →
+        All (λ change. writes plant i change ≡ false) tried → All (λ change. turns i change ≡ false) tried →
+        value_of plant (tried ++ kept) i ≡ value_of plant kept i }
+{}

@@ -1,0 +1,23 @@
+//! The variables of a plant (IEC 61131-3:2003, 2.4): the values that are stored, the values to which variables are
+//! forced, and what is tried and may be undone.
+//!
+//! - `building`: the slots of a plant's variables.
+//! - `closing`: what was tried is kept, or given up.
+//! - `copying`: what one image takes over from another.
+//! - `image`: the variables of a plant.
+//! - `image_error`: why a call is refused.
+//! - `laws`: what the definitions mean.
+//! - `slot`: what is kept for a variable.
+//! - `trying`: stores that may be undone.
+//! - `view`: what the expressions of a program instance read.
+#![tactic(auto)]
+
+mod building;
+mod closing;
+mod copying;
+pub mod image;
+pub mod image_error;
+pub mod laws;
+mod slot;
+mod trying;
+pub mod view;

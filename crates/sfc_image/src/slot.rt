@@ -1,0 +1,112 @@
+//! What is kept for a variable (2.4).
+
+ghost use Rattle.std.specs.Prelude.{◌≡◌, ◌<◌, length, None};
+ghost use Rattle.sfc_image.specs.Private.Keeping as keeping;
+
+use crate::image_error::ImageError;
+use sfc_chart::ids::VarId;
+use sfc_expr::value::Value;
+use sfc_tokens::var_type::VarType;
+use sfc_variables::variable::Variable;
+
+/// The type of a variable and its initial value; its value when a scratch was opened, or now if none is open; its value
+/// now; the value to which it is forced, if it is; and whether it was written since a scratch was opened.
+#[derive(Clone, Copy)]
+pub struct Slot {
+    pub var_type: VarType,
+    pub initial: Value,
+    pub kept: Value,
+    pub stored: Value,
+    pub forced: Option<Value>,
+    pub is_tried: bool,
+}
+
+/// Where the locals of an instance are among the variables.
+#[derive(Clone, Copy)]
+pub struct Locals {
+    pub first: usize,
+    pub count: usize,
+}
+
+/// Of a variable with which nothing was done yet.
+pub fn fresh_slot(variable: &Variable) -> Slot
+    ensures { result ≡ keeping.fresh_slot variable.now }
+{
+    Slot {
+        var_type: variable.var_type,
+        initial: variable.initial,
+        kept: variable.initial,
+        stored: variable.initial,
+        forced: None,
+        is_tried: false,
+    }
+}
+
+/// What was tried is kept, or given up.
+pub fn closed(slot: Slot, keep: bool) -> Slot
+    ensures { result ≡ keeping.closed keep slot }
+{
+    let mut next = slot;
+    if keep {
+        next.kept = slot.stored;
+    } else {
+        next.stored = slot.kept;
+    }
+    next.is_tried = false;
+    next
+}
+
+/// The variable begins anew.
+pub fn begun(slot: Slot) -> Slot
+    ensures { result ≡ keeping.begun slot }
+{
+    let mut next = slot;
+    next.kept = slot.initial;
+    next.stored = slot.initial;
+    next
+}
+
+/// A value is stored for good.
+pub fn given(slot: Slot, value: Value) -> Slot
+    ensures { result ≡ keeping.given value slot }
+{
+    let mut next = slot;
+    next.kept = value;
+    next.stored = value;
+    next
+}
+
+/// A value is stored in a scratch.
+pub fn tried(slot: Slot, value: Value) -> Slot
+    ensures { result ≡ keeping.tried value slot }
+{
+    let mut next = slot;
+    next.stored = value;
+    next.is_tried = true;
+    next
+}
+
+/// The variable is forced to a value, or released.
+pub fn with_force(slot: Slot, value: Option<Value>) -> Slot
+    ensures { result ≡ keeping.with_force value slot }
+{
+    let mut next = slot;
+    next.forced = value;
+    next
+}
+
+/// What is wrong with giving a variable a value: it is not there, or of another type.
+pub fn value_fault(slots: &[Slot], id: VarId, value: Value) -> Option<ImageError>
+    ensures fault { result ≡ keeping.fault_at slots.now id value }
+    ensures known { result ≡ None → id.0 < length slots.now }
+{
+    let i = id.0 as usize;
+    if i >= slots.len() {
+        return Some(ImageError::UnknownVar);
+    }
+    if value.var_type() != slots[i].var_type {
+        Some(ImageError::ValueType)
+    } else {
+        None
+    }
+}

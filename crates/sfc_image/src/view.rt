@@ -1,0 +1,73 @@
+//! What the expressions of a program instance read (2.4.3, 2.5.3).
+
+ghost use Rattle.std.specs.Prelude.{◌≡◌, ◌<◌, ◌+◌, ◌^◌};
+ghost use Rattle.sfc_image.specs.Environments.{number_among};
+
+use crate::slot::{Locals, Slot};
+use sfc_expr::value::Value;
+use sfc_expr::variable::{GlobalId, LocalId, StepId, Variable};
+use sfc_expr::view::View;
+use sfc_flags::flags::Flags;
+
+/// The variables of a program instance in an image, which of its steps are active and their times, by the steps'
+/// numbers, and Q.
+#[derive(Clone, Copy)]
+pub struct ImageView<'a> {
+    pub(crate) slots: &'a [Slot],
+    pub(crate) globals: usize,
+    pub(crate) locals: Locals,
+    pub(crate) active: &'a Flags,
+    pub(crate) times: &'a [i64],
+    pub(crate) q: bool,
+    ghost small: { locals.first + locals.count < 2 ^ 64 },
+}
+
+// The number of the variable in the image, if there is such a variable.
+fn number_of(globals: usize, locals: Locals, variable: Variable) -> Option<usize>
+    requires { locals.first + locals.count < 2 ^ 64 }
+    ensures { result ≡ number_among globals locals.first locals.count variable }
+{
+    match variable {
+        Variable::Global(GlobalId(place)) => { if place < globals { Some(place) } else { None } }
+        Variable::Local(LocalId(place)) => {
+            if place < locals.count {
+                Some(locals.first + place)
+            } else {
+                None
+            }
+        }
+    }
+}
+
+#[tactic(auto, unfolding(crate::specs::Agreement::environment_in))]
+impl<'a> View for ImageView<'a> {
+    ghost use Rattle.sfc_image.specs.Agreement.{environment_in};
+
+    ghost environment = { environment_in };
+
+    fn value_at(&self, variable: Variable) -> Value {
+        match number_of(self.globals, self.locals, variable) {
+            Some(i) => match self.slots.get(i) {
+                Some(slot) => slot.forced.unwrap_or(slot.stored),
+                None => Value::Bool(false),
+            },
+            None => Value::Bool(false),
+        }
+    }
+
+    fn is_active(&self, step: StepId) -> bool {
+        let s = step.0 as usize;
+        s < self.active.places() && self.active.get(s)
+    }
+
+    fn time_of(&self, step: StepId) -> i64 {
+        match self.times.get(step.0 as usize) {
+            Some(time) => *time,
+            None => 0,
+        }
+    }
+
+    fn q(&self) -> bool {
+        self.q
+    }
+}

@@ -1,0 +1,6 @@
+pub mod Firsts
+pub mod Kept
+pub mod MultipleLemmas
+pub mod Rising
+pub mod Tables
+pub mod Waited
