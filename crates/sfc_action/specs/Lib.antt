@@ -1,0 +1,4 @@
+-- The rules, in reading order.
+
+-- what each action's control block gets and gives, scan by scan
+pub mod ActionControl
