@@ -1,0 +1,2 @@
+//! What the active steps give as inputs.
+
