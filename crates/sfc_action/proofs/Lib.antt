@@ -1,3 +1,4 @@
+pub mod Elements
 pub mod Moments
 pub mod Sizes
 pub mod Works

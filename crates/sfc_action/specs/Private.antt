@@ -1,3 +1,5 @@
 -- What private clauses cite.
 pub mod TimedSets
 pub mod Marking
+pub mod Storing
+pub mod Delays
