@@ -9,6 +9,8 @@ use Rattle.sfc_tables.specs.declared.association.Qualifier.{Qualifier}
 use Rattle.sfc_tables.specs.declared.association.Qualifier.TheVariants.{NonStored, Reset, Set, Pulse, RisingPulse, FallingPulse, Timed}
 use Rattle.sfc_action.specs.declared.inputs.Inputs.{Inputs}
 use Rattle.sfc_action.specs.declared.timed.Timed as timed
+use Rattle.sfc_action.specs.declared.stores.Stores.{Stores}
+use Rattle.sfc_action.specs.Private.Storing.{AreStores, no_stores}
 use Rattle.sfc_action.specs.Private.TimedSets.{AreAll, none, with_action}
 use Rattle.sfc_action.specs.Private.Marking.{AreSized, cleared, marked, marked_timed}
 
@@ -90,3 +92,18 @@ sized_cleared n = record {
   any_time = length-replicate n false; more_times = length-replicate n false;
   timed = all_none n;
 }
+
+pub sized_stores : (n : ℕ) → AreStores n (no_stores n)
+sized_stores n = record {
+  set = length-replicate n false; stored_delayed = length-replicate n false; stored_limited = length-replicate n false;
+}
+
+-- what is equal to empty tables is as large
+pub are_sized : (n : ℕ) (i : Inputs) → i ≡ cleared n → AreSized n i
+are_sized n i e = rw e (sized_cleared n)
+
+pub are_stores : (n : ℕ) (stores : Stores) → stores ≡ no_stores n → AreStores n stores
+are_stores n stores e = rw e (sized_stores n)
+
+pub are_all : (n : ℕ) (sets : Sets) → sets ≡ none n → AreAll n sets
+are_all n sets e = rw e (all_none n)

@@ -3,3 +3,5 @@ pub mod TimedSets
 pub mod Marking
 pub mod Storing
 pub mod Delays
+pub mod Failing
+pub mod Rooms
