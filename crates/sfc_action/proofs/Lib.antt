@@ -1,3 +1,4 @@
+pub mod Choices
 pub mod Elements
 pub mod Failures
 pub mod Moments

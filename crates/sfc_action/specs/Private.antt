@@ -5,3 +5,4 @@ pub mod Storing
 pub mod Delays
 pub mod Failing
 pub mod Rooms
+pub mod Outputs

@@ -8,6 +8,7 @@
 //! - `kept`: what is kept from scan to scan.
 //! - `listing`: which on-delays there are.
 //! - `marking`: what the active steps give as inputs.
+//! - `outputs`: on-delays of a scan, and Q.
 //! - `scratch`: room for a scan.
 //! - `sets`: work on whole sets of actions.
 //! - `stores`: flip-flops of actions.
@@ -22,6 +23,7 @@ mod inputs;
 //mod kept;
 //mod listing;
 mod marking;
+mod outputs;
 mod scratch;
 mod sets;
 mod stores;
