@@ -6,3 +6,5 @@ pub mod Delays
 pub mod Failing
 pub mod Rooms
 pub mod Outputs
+pub mod Copies
+pub mod Keeping

@@ -7,6 +7,7 @@ ghost use Rattle.sfc_action.specs.Private.TimedSets.{AreAll};
 ghost use Rattle.sfc_action.specs.Private.Marking.{AreSized};
 ghost use Rattle.sfc_action.specs.Private.Storing.{AreStores};
 ghost use Rattle.sfc_action.specs.Private.Delays.{input_of, preset_of, IsStepped, AreStepped, gathered, AreOf};
+ghost use Rattle.sfc_action.specs.Private.Copies.{IsCopied, AreCopied};
 
 use crate::inputs::Inputs;
 use crate::stores::Stores;
@@ -114,5 +115,27 @@ pub fn gather(elapsed: &mut Timed, blocks: &[Block], ticks: &mut Ticks)
         if block.elapsed {
             elapsed.add(block.qualifier, block.action.0);
         }
+    }
+}
+
+// Takes over what the other has seen.
+fn copy_block(block: &mut Block, from: &Block)
+    ensures { IsCopied from.now block.new }
+{
+    block.action = from.action;
+    block.qualifier = from.qualifier;
+    block.elapsed = from.elapsed;
+    block.delay.copy_from(&from.delay);
+}
+
+/// Takes over what the others have seen.
+pub fn copy_blocks(blocks: &mut [Block], from: &[Block], ticks: &mut Ticks)
+    requires { length from.now ≡ length blocks.old }
+    ensures copied { AreCopied from.now blocks.new }
+    ensures ticks { Within (length blocks.old) ticks.old ticks.new }
+{
+    for place in 0..blocks.len() {
+        ticks.tick();
+        copy_block(&mut blocks[place], &from[place]);
     }
 }

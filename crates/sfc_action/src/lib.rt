@@ -20,7 +20,7 @@ mod blocks;
 pub mod fault;
 mod faults;
 mod inputs;
-//mod kept;
+mod kept;
 //mod listing;
 mod marking;
 mod outputs;

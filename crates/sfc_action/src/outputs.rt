@@ -1,6 +1,6 @@
 //! On-delays of a scan, and Q.
 
-ghost use Rattle.std.specs.Prelude.{◌≡◌, ◌+◌, ◌*◌, ◌^◌, ◌≤ℤ◌, pos, ℕ, length};
+ghost use Rattle.std.specs.Prelude.{◌≡◌, ◌+◌, ◌*◌, ◌^◌, ◌||◌, ◌&&◌, ◌≤ℤ◌, not, pos, ℕ, length};
 ghost use Rattle.sfc_expr.specs.Ticks.{Within};
 ghost use Rattle.sfc_flags.specs.Flags.{flag};
 ghost use Rattle.sfc_action.specs.Private.TimedSets.{none};
@@ -96,4 +96,40 @@ pub fn update_q(
         ticks,
     );
     q.subtract(&scratch.inputs.reset, ticks);
+}
+
+/// Adds the actions with an edge: a rising one of P1, and a falling one of P0. `rising` and `falling` have these inputs
+/// of the scan before.
+pub fn add_edges(
+    executed: &mut Flags,
+    rising: &Flags,
+    falling: &Flags,
+    scratch: &mut Scratch,
+    ticks: &mut Ticks,
+)
+    requires sized { IsScratch (length executed.old) scratch.old }
+    requires rising { length rising.now ≡ length executed.old }
+    requires falling { length falling.now ≡ length executed.old }
+    ensures len { length executed.new ≡ length executed.old }
+    ensures room { length scratch.new.room ≡ length scratch.old.room }
+    ensures scratch { scratch.new ≡ record scratch.old { room = scratch.new.room } }
+    ensures flags { (a : ℕ) → flag executed.new a
+        ≡ ((flag executed.old a || (flag scratch.old.inputs.rising_pulse a && not (flag rising.now a)))
+        || (flag falling.now a && not (flag scratch.old.inputs.falling_pulse a))) }
+    ensures ticks { Within (6 * length executed.old) ticks.old ticks.new }
+{
+    add_without(
+        executed,
+        &scratch.inputs.rising_pulse,
+        rising,
+        &mut scratch.room,
+        ticks,
+    );
+    add_without(
+        executed,
+        falling,
+        &scratch.inputs.falling_pulse,
+        &mut scratch.room,
+        ticks,
+    );
 }
