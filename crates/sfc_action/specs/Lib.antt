@@ -2,5 +2,9 @@
 
 -- what each action's control block gets and gives, scan by scan
 pub mod ActionControl
+-- how much a scan handles
+pub mod Work
+-- what a `Controls` agrees with
+pub mod Agreement
 -- What private clauses cite.
 pub mod Private

@@ -8,3 +8,4 @@ pub mod Rooms
 pub mod Outputs
 pub mod Copies
 pub mod Keeping
+pub mod Listing

@@ -16,12 +16,12 @@
 #![tactic(auto)]
 
 mod blocks;
-//pub mod controls;
+pub mod controls;
 pub mod fault;
 mod faults;
 mod inputs;
 mod kept;
-//mod listing;
+mod listing;
 mod marking;
 mod outputs;
 mod scratch;

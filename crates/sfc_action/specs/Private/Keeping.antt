@@ -14,12 +14,14 @@ use Rattle.sfc_action.specs.declared.inputs.Inputs.{Inputs}
 use Rattle.sfc_action.specs.declared.stores.Stores.{Stores}
 use Rattle.sfc_action.specs.declared.blocks.Block.{Block}
 use Rattle.sfc_action.specs.declared.kept.Kept.{Kept}
+use Rattle.sfc_action.specs.declared.scratch.Scratch.{Scratch}
 use Rattle.sfc_action.specs.ActionControl.{Scan, S, L, D, P, SD, DS, SL, P1, P0}
 use Rattle.sfc_action.specs.ActionControl.{input, stored, delayed_then_stored, reading, column, q, executed}
 use Rattle.sfc_action.specs.Private.TimedSets.{none}
 use Rattle.sfc_action.specs.Private.Storing.{AreStores, no_stores, IsNext}
 use Rattle.sfc_action.specs.Private.Delays.{AreStepped, AreOf, gathered}
 use Rattle.sfc_action.specs.Private.Copies.{AreCopied}
+use Rattle.sfc_action.specs.Private.Rooms.{IsScratch}
 use Rattle.sfc_action.specs.Private.Outputs.{q_at}
 
 -- for n actions
@@ -32,6 +34,11 @@ pub record AreKeptSized (n : ℕ) (kept : Kept) : Type 0 where
   pub q : length kept.q ≡ n
   pub executed : length kept.executed ≡ n
   pub blocks : AreOf n kept.blocks.items
+
+-- and room for a scan of as many
+pub record AreRooms (kept : Kept) (scratch : Scratch) : Type 0 where
+  pub kept_sized : AreKeptSized (length kept.q) kept
+  pub scratch_sized : IsScratch (length kept.q) scratch
 
 -- with no flag, and these on-delays
 pub record IsFresh (n : ℕ) (delays : List Block) (kept : Kept) : Type 0 where

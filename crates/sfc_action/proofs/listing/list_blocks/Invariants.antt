@@ -1,0 +1,14 @@
+use Rattle.std.proofs.Common.{◌≡◌, ◌<◌, ◌≤◌, ℕ, length}
+use Rattle.std.specs.Prelude.{slice_index_or}
+use Rattle.sfc_tables.specs.declared.step_action.StepAction.{StepAction}
+use Rattle.sfc_action.specs.Private.Keeping.{IsCovered}
+use Rattle.sfc_action.specs.Private.Listing.{IsListing}
+use Rattle.sfc_action.proofs.listing.list_blocks.Given as goal
+
+abbrev pub invariant-loop-association : goal.invariant-loop-association
+invariant-loop-association l = record {
+  sized : length l.seen.limited ≡ length l.initial.seen.limited;
+  listing : IsListing (length l.initial.seen.limited) l.seen l.blocks.items;
+  few : length l.blocks.items ≤ l.association-index;
+  covered : (k : ℕ) (d : StepAction) → k < l.association-index → IsCovered l.blocks.items (slice_index_or l.associations k d);
+}
