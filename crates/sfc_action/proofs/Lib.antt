@@ -3,5 +3,7 @@ pub mod Elements
 pub mod Failures
 pub mod Moments
 pub mod Sizes
+pub mod Timings
+pub mod Told
 pub mod Walks
 pub mod Works
