@@ -1,4 +1,5 @@
 pub mod Choices
+pub mod Elapsed
 pub mod Elements
 pub mod Failures
 pub mod Moments
