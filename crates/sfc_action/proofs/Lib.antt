@@ -3,6 +3,7 @@ pub mod Elapsed
 pub mod Elements
 pub mod Failures
 pub mod Moments
+pub mod Next
 pub mod Sizes
 pub mod Timings
 pub mod Told
