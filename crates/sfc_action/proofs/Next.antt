@@ -9,6 +9,8 @@ use Rattle.sfc_text.specs.declared.tree.TimedQualifier.TheVariants.{Limited, Del
 use Rattle.sfc_flags.specs.Flags.{flag, places_from}
 use Rattle.sfc_timers.specs.Timers.{Reading, has_elapsed}
 use Rattle.sfc_timers.specs.Agreement.{OnDelayAgrees}
+use Rattle.sfc_tables.specs.declared.association.Qualifier.{Qualifier}
+use Rattle.sfc_tables.specs.declared.association.Qualifier.TheVariants as qualifier
 use Rattle.sfc_tables.specs.declared.step_action.StepAction.{StepAction}
 use Rattle.sfc_tables.specs.Tables.{Tabled, AreTables}
 use Rattle.sfc_action.specs.declared.fault.ControlFault.{ControlFault}
@@ -26,7 +28,7 @@ use Rattle.sfc_action.specs.Private.Storing.{AreNext}
 use Rattle.sfc_action.specs.Private.Delays.{input_of, preset_of, IsStepped, gathered, AreOf}
 use Rattle.sfc_action.specs.Private.Failing.{fault_at}
 use Rattle.sfc_action.specs.Private.Outputs.{q_at}
-use Rattle.sfc_action.specs.Private.Keeping.{AreFor, AreKept, IsActed, BlockAgrees, IsCovered, AreEach, called, readings, has_block}
+use Rattle.sfc_action.specs.Private.Keeping.{AreFor, AreKept, IsActed, BlockAgrees, IsCovered, AreEach, called, readings, has_block, is_of, same_timed, AreKeptSized}
 use Rattle.sfc_action.proofs.Choices.{executions}
 use Rattle.sfc_action.proofs.Elapsed.{bool_cases, is_on_next, elapsed_are}
 use Rattle.sfc_action.proofs.Timings.{inputs_are, timing_is, more_are, preset_is}
@@ -206,3 +208,85 @@ module _ (tables : Tabled) (kept new : Kept) (scan : Scan) (h : List Scan) (i : 
       (preset_of i ps old.action.0) (each.blocks k d within) (acted.blocks k d within)
       (called_is old.qualifier old.action.0 lt_action)
       (told.times old.action.0 (few_times tables scan i ps next told faultless old.action.0))
+
+  -- ---- outputs
+
+  same_any : (a : ℕ) (p : TimedQualifier) (xs ys : List Block) → length ys ≡ length xs
+      → ((k : ℕ) (d : Block) → k < length xs → (get_or ys k d).action ≡ (get_or xs k d).action)
+      → ((k : ℕ) (d : Block) → k < length xs → (get_or ys k d).qualifier ≡ (get_or xs k d).qualifier)
+      → list_any (is_of a p) ys ≡ list_any (is_of a p) xs
+  same_any a p [] [] e actions qualifiers = refl
+  same_any a p [] (y ∷ ys) e actions qualifiers = absurd (omega arith)
+  same_any a p (x ∷ xs) [] e actions qualifiers = absurd (omega arith)
+  same_any a p (x ∷ xs) (y ∷ ys) e actions qualifiers =
+      let first = actions 0 x (omega arith) in
+      let second = qualifiers 0 x (omega arith) in
+      let rest = same_any a p xs ys (omega arith) (λ k d lt. actions (suc k) d (omega arith))
+      (λ k d lt. qualifiers (suc k) d (omega arith)) in
+      (λ k. (((first k).0 == a) && same_timed p (second k)) || rest k)
+
+  same_block : (a : ℕ) (p : Qualifier) → has_block new.blocks.items a p ≡ has_block kept.blocks.items a p
+  same_block a (qualifier.Timed p time) =
+      same_any a p kept.blocks.items new.blocks.items acted.same_blocks (λ k d lt. (acted.blocks k d lt).action)
+      (λ k d lt. (acted.blocks k d lt).qualifier)
+  same_block a _ = refl
+
+  covered : All (IsCovered new.blocks.items) tables.associations
+  covered = λ k d lt. same_block (slice_index_or tables.associations k d).action.0 (slice_index_or tables.associations k d).qualifier
+      ∙ size.covered k d lt
+
+  abbrev elapsed : Timed
+  elapsed = gathered new.blocks.items (none (length kept.q))
+
+  elapsed_is : (p : TimedQualifier) (a : ℕ) → flag (by p elapsed) a ≡ on_delay tables a (called tables a p) now
+  elapsed_is p a = elapsed_are tables scan h (length kept.q) new.blocks.items p a acted.sized.blocks blocks_agree covered
+
+  delayed_stored_is : (a : ℕ) → a < m → flag new.delayed_stored a ≡ delayed_then_stored tables a DS now
+  delayed_stored_is a lt =
+      acted.delayed_stored a
+      ∙ (λ k. (each.delayed_stored a lt k || elapsed_is DelayedStored a k) && not (told.letters a R k))
+      ∙ sym (is_on_next (delayed tables a DS now) (input tables a R now) _)
+
+  q_is : (a : ℕ) → a < m → flag new.q a ≡ q tables a now
+  q_is a lt =
+      acted.outputs a
+      ∙ (λ k. not (told.letters a R k) && (
+          told.letters a N k
+          || set_is tables kept scan h i ps next each told stores a lt k
+          || (told.letters a L k && not (elapsed_is Limited a k))
+          || elapsed_is Delayed a k
+          || (told.letters a P k && not (each.pulse a lt k))
+          || elapsed_is StoredDelayed a k
+          || delayed_stored_is a lt k
+          || (stored_limited_is tables kept scan h i ps next each told stores a lt k && not (elapsed_is StoredLimited a k))))
+
+  executed_is : (a : ℕ) → a < m → flag new.executed a ≡ executed tables a now
+  executed_is a lt =
+      acted.executions a
+      ∙ (λ k. ((each.q a lt k || q_is a lt k) || (told.letters a P1 k && not (each.rising_pulse a lt k)))
+      || (each.falling_pulse a lt k && not (told.letters a P0 k)))
+      ∙ executions (q tables a h) (q tables a now) (input tables a P1 now && not (input tables a P1 h))
+      (input tables a P0 h && not (input tables a P0 now))
+
+  pub next_size : AreFor tables new
+  next_size = record {
+    sized = subst (λ n. AreKeptSized n new) size.sized.q acted.sized;
+    few = let e = acted.same_blocks in let few = size.few in omega arith;
+    covered = covered;
+  }
+
+  pub next_kept : AreKept tables new now
+  next_kept = record {
+    pulse = λ a lt. ap (λ xs. flag xs a) acted.pulse ∙ told.letters a P;
+    rising_pulse = λ a lt. ap (λ xs. flag xs a) acted.rising_pulse ∙ told.letters a P1;
+    falling_pulse = λ a lt. ap (λ xs. flag xs a) acted.falling_pulse ∙ told.letters a P0;
+    set = λ a lt. ap (λ (s : Stores). flag s.set a) acted.stores ∙ set_is tables kept scan h i ps next each told stores a lt;
+    stored_delayed = λ a lt. ap (λ (s : Stores). flag s.stored_delayed a) acted.stores
+        ∙ stored_delayed_is tables kept scan h i ps next each told stores a lt;
+    stored_limited = λ a lt. ap (λ (s : Stores). flag s.stored_limited a) acted.stores
+        ∙ stored_limited_is tables kept scan h i ps next each told stores a lt;
+    delayed_stored = delayed_stored_is;
+    q = q_is;
+    executed = executed_is;
+    blocks = blocks_agree;
+  }
