@@ -5,6 +5,7 @@ pub mod Failures
 pub mod Moments
 pub mod Next
 pub mod Sizes
+pub mod Starts
 pub mod Timings
 pub mod Told
 pub mod Walks

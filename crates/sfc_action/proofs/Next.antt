@@ -165,6 +165,41 @@ few_times tables scan i ps next told e a =
     none_more : nat_lt 1 0 ≡ false
     none_more = grind (arith, nat_tests)
 
+-- ---- sizes
+
+module _ (tables : Tabled) (kept new : Kept) (i : Inputs) (ps : List ℤ) (next : Stores) (t : ℤ) (size : AreFor tables kept)
+  (acted : IsActed i next ps t kept new) where
+  same_any : (a : ℕ) (p : TimedQualifier) (xs ys : List Block) → length ys ≡ length xs
+      → ((k : ℕ) (d : Block) → k < length xs → (get_or ys k d).action ≡ (get_or xs k d).action)
+      → ((k : ℕ) (d : Block) → k < length xs → (get_or ys k d).qualifier ≡ (get_or xs k d).qualifier)
+      → list_any (is_of a p) ys ≡ list_any (is_of a p) xs
+  same_any a p [] [] e actions qualifiers = refl
+  same_any a p [] (y ∷ ys) e actions qualifiers = absurd (omega arith)
+  same_any a p (x ∷ xs) [] e actions qualifiers = absurd (omega arith)
+  same_any a p (x ∷ xs) (y ∷ ys) e actions qualifiers =
+      let first = actions 0 x (omega arith) in
+      let second = qualifiers 0 x (omega arith) in
+      let rest = same_any a p xs ys (omega arith) (λ k d lt. actions (suc k) d (omega arith))
+      (λ k d lt. qualifiers (suc k) d (omega arith)) in
+      (λ k. (((first k).0 == a) && same_timed p (second k)) || rest k)
+
+  same_block : (a : ℕ) (p : Qualifier) → has_block new.blocks.items a p ≡ has_block kept.blocks.items a p
+  same_block a (qualifier.Timed p time) =
+      same_any a p kept.blocks.items new.blocks.items acted.same_blocks (λ k d lt. (acted.blocks k d lt).action)
+      (λ k d lt. (acted.blocks k d lt).qualifier)
+  same_block a _ = refl
+
+  covered : All (IsCovered new.blocks.items) tables.associations
+  covered = λ k d lt. same_block (slice_index_or tables.associations k d).action.0 (slice_index_or tables.associations k d).qualifier
+      ∙ size.covered k d lt
+
+  pub next_size : AreFor tables new
+  next_size = record {
+    sized = subst (λ n. AreKeptSized n new) size.sized.q acted.sized;
+    few = let e = acted.same_blocks in let few = size.few in omega arith;
+    covered = covered;
+  }
+
 -- ---- on-delays
 
 module _ (tables : Tabled) (kept new : Kept) (scan : Scan) (h : List Scan) (i : Inputs) (ps : List ℤ) (next : Stores)
@@ -211,35 +246,12 @@ module _ (tables : Tabled) (kept new : Kept) (scan : Scan) (h : List Scan) (i : 
 
   -- ---- outputs
 
-  same_any : (a : ℕ) (p : TimedQualifier) (xs ys : List Block) → length ys ≡ length xs
-      → ((k : ℕ) (d : Block) → k < length xs → (get_or ys k d).action ≡ (get_or xs k d).action)
-      → ((k : ℕ) (d : Block) → k < length xs → (get_or ys k d).qualifier ≡ (get_or xs k d).qualifier)
-      → list_any (is_of a p) ys ≡ list_any (is_of a p) xs
-  same_any a p [] [] e actions qualifiers = refl
-  same_any a p [] (y ∷ ys) e actions qualifiers = absurd (omega arith)
-  same_any a p (x ∷ xs) [] e actions qualifiers = absurd (omega arith)
-  same_any a p (x ∷ xs) (y ∷ ys) e actions qualifiers =
-      let first = actions 0 x (omega arith) in
-      let second = qualifiers 0 x (omega arith) in
-      let rest = same_any a p xs ys (omega arith) (λ k d lt. actions (suc k) d (omega arith))
-      (λ k d lt. qualifiers (suc k) d (omega arith)) in
-      (λ k. (((first k).0 == a) && same_timed p (second k)) || rest k)
-
-  same_block : (a : ℕ) (p : Qualifier) → has_block new.blocks.items a p ≡ has_block kept.blocks.items a p
-  same_block a (qualifier.Timed p time) =
-      same_any a p kept.blocks.items new.blocks.items acted.same_blocks (λ k d lt. (acted.blocks k d lt).action)
-      (λ k d lt. (acted.blocks k d lt).qualifier)
-  same_block a _ = refl
-
-  covered : All (IsCovered new.blocks.items) tables.associations
-  covered = λ k d lt. same_block (slice_index_or tables.associations k d).action.0 (slice_index_or tables.associations k d).qualifier
-      ∙ size.covered k d lt
-
   abbrev elapsed : Timed
   elapsed = gathered new.blocks.items (none (length kept.q))
 
   elapsed_is : (p : TimedQualifier) (a : ℕ) → flag (by p elapsed) a ≡ on_delay tables a (called tables a p) now
-  elapsed_is p a = elapsed_are tables scan h (length kept.q) new.blocks.items p a acted.sized.blocks blocks_agree covered
+  elapsed_is p a = elapsed_are tables scan h (length kept.q) new.blocks.items p a acted.sized.blocks blocks_agree
+      (covered tables kept new i ps next scan.at size acted)
 
   delayed_stored_is : (a : ℕ) → a < m → flag new.delayed_stored a ≡ delayed_then_stored tables a DS now
   delayed_stored_is a lt =
@@ -268,13 +280,6 @@ module _ (tables : Tabled) (kept new : Kept) (scan : Scan) (h : List Scan) (i : 
       ∙ executions (q tables a h) (q tables a now) (input tables a P1 now && not (input tables a P1 h))
       (input tables a P0 h && not (input tables a P0 now))
 
-  pub next_size : AreFor tables new
-  next_size = record {
-    sized = subst (λ n. AreKeptSized n new) size.sized.q acted.sized;
-    few = let e = acted.same_blocks in let few = size.few in omega arith;
-    covered = covered;
-  }
-
   pub next_kept : AreKept tables new now
   next_kept = record {
     pulse = λ a lt. ap (λ xs. flag xs a) acted.pulse ∙ told.letters a P;
@@ -290,3 +295,37 @@ module _ (tables : Tabled) (kept new : Kept) (scan : Scan) (h : List Scan) (i : 
     executed = executed_is;
     blocks = blocks_agree;
   }
+
+-- ---- a scan that was read
+
+-- what reading a scan left: `active` are the active steps after it
+pub record IsRead (tables : Tabled) (kept : Kept) (active : List Bool) (times ps : List ℤ) (i : Inputs) (new_ps : List ℤ)
+    (next : Stores) : Type 0 where
+  pub sound : AreTables tables
+  pub same_times : length times ≡ length tables.associations
+  pub room : length ps ≡ length tables.actions
+  pub inputs : i ≡ marked_at tables.associations (places_from active 0) (cleared (length tables.actions))
+  pub presets : new_ps ≡ presets_at times tables.associations (places_from active 0) ps
+  pub stores : AreNext kept.stores i next
+
+-- the scan with these active steps
+abbrev pub scan_of : List Bool → List ℤ → ℤ → Scan
+scan_of active times t = record { active = active; times = times; at = t }
+
+module _ (tables : Tabled) (kept : Kept) (active : List Bool) (times ps : List ℤ) (i : Inputs) (new_ps : List ℤ) (next : Stores)
+  (t : ℤ) (h : List Scan) (read : IsRead tables kept active times ps i new_ps next) (each : AreKept tables kept h) where
+  what : AreTold tables (scan_of active times t) i new_ps
+  what = are_told tables read.sound (scan_of active times t) ps new_ps i read.same_times read.room read.inputs read.presets
+
+  pub fault_read : (steps : List Bool) → active ≡ steps
+      → first_in (fault_at i next) tables.associations ≡ first_fault tables (scan_of steps times t ∷ h)
+  fault_read steps e =
+      first_fault_is tables kept (scan_of active times t) h i new_ps next each what read.stores read.sound
+      ∙ ap (λ xs. first_fault tables (scan_of xs times t ∷ h)) e
+
+  pub kept_read : (new : Kept) (steps : List Bool) → active ≡ steps → AreFor tables kept
+      → first_in (fault_at i next) tables.associations ≡ None → IsActed i next new_ps t kept new
+      → AreKept tables new (scan_of steps times t ∷ h)
+  kept_read new steps e size faultless acted =
+      subst (λ (xs : List Bool). AreKept tables new (scan_of xs times t ∷ h)) e
+      (next_kept tables kept new (scan_of active times t) h i new_ps next size each what read.stores faultless acted)

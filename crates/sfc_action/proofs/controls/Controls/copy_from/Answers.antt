@@ -1,7 +1,20 @@
+use Rattle.std.proofs.Common.{◌≡◌, subst}
+use Rattle.sfc_action.specs.declared.kept.Kept.{Kept}
+use Rattle.sfc_action.specs.Private.Keeping.{IsCopy}
+use Rattle.sfc_action.specs.Agreement.{IsFor, ControlsAgree}
+use Rattle.sfc_action.proofs.Starts.{copied_for, copied_kept}
 use Rattle.sfc_action.proofs.controls.Controls.copy_from.Goals as goal
 
+copy : (c : goal.After-copy_from) → IsCopy c.args.other.now c.copy_from.new.self
+copy c = subst (λ (k : Kept). IsCopy k c.copy_from.new.self) c.other.view_is c.copy_from.ensures.copy
+
 pub returns-clause-sizes : goal.returns-clause-sizes
-returns-clause-sizes c = ?
+unfolding IsFor
+returns-clause-sizes c tables for = copied_for tables c.args.other.now c.copy_from.new.self (copy c) for
 
 pub returns-clause-kept : goal.returns-clause-kept
-returns-clause-kept c = ?
+unfolding ControlsAgree
+returns-clause-kept c tables h agrees = record {
+  size = copied_for tables c.args.other.now c.copy_from.new.self (copy c) agrees.size;
+  each = copied_kept tables c.args.other.now c.copy_from.new.self h (copy c) agrees.each;
+}
