@@ -1,7 +1,7 @@
 //! What is kept from scan to scan.
 
 use crate::blocks::{copy_blocks, Block};
-use crate::outputs::{add_edges, step_delays, update_q};
+use crate::outputs::{add_edges, step_delays, update_outputs};
 use crate::scratch::Scratch;
 use crate::stores::Stores;
 use sfc_expr::ticks::Ticks;
@@ -61,15 +61,14 @@ impl Kept {
             t,
             ticks,
         );
-        self.executed.copy_from(&self.q, ticks);
-        update_q(
+        update_outputs(
             &mut self.q,
+            &mut self.executed,
             &self.pulse,
             &self.delayed_stored,
             scratch,
             ticks,
         );
-        self.executed.union_with(&self.q, ticks);
         add_edges(
             &mut self.executed,
             &self.rising_pulse,

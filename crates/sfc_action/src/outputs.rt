@@ -50,9 +50,9 @@ pub fn step_delays(
     delayed_stored.subtract(&scratch.inputs.reset, ticks);
 }
 
-/// Q of all actions: what the qualifiers contribute, where R does not block it. `pulse` has the input P of the scan
-/// before.
-pub fn update_q(
+// Q of all actions: what the qualifiers contribute, where R does not block it. `pulse` has the input P of the scan
+// before.
+fn update_q(
     q: &mut Flags,
     pulse: &Flags,
     delayed_stored: &Flags,
@@ -96,6 +96,34 @@ pub fn update_q(
         ticks,
     );
     q.subtract(&scratch.inputs.reset, ticks);
+}
+
+/// Q of all actions, and in `executed` those that have it or had it in the scan before. `pulse` has the input P of the
+/// scan before.
+pub fn update_outputs(
+    q: &mut Flags,
+    executed: &mut Flags,
+    pulse: &Flags,
+    delayed_stored: &Flags,
+    scratch: &mut Scratch,
+    ticks: &mut Ticks,
+)
+    requires sized { IsScratch (length q.old) scratch.old }
+    requires executed { length executed.old ≡ length q.old }
+    requires pulse { length pulse.now ≡ length q.old }
+    requires delayed_stored { length delayed_stored.now ≡ length q.old }
+    ensures len { length q.new ≡ length q.old }
+    ensures executed_len { length executed.new ≡ length q.old }
+    ensures room { length scratch.new.room ≡ length scratch.old.room }
+    ensures scratch { scratch.new ≡ record scratch.old { room = scratch.new.room } }
+    ensures flags { (a : ℕ) → flag q.new a
+        ≡ q_at scratch.old.inputs scratch.old.stores scratch.old.elapsed pulse.now delayed_stored.now a }
+    ensures executed { (a : ℕ) → flag executed.new a ≡ (flag q.old a || flag q.new a) }
+    ensures ticks { Within (17 * length q.old) ticks.old ticks.new }
+{
+    executed.copy_from(q, ticks);
+    update_q(q, pulse, delayed_stored, scratch, ticks);
+    executed.union_with(q, ticks);
 }
 
 /// Adds the actions with an edge: a rising one of P1, and a falling one of P0. `rising` and `falling` have these inputs

@@ -28,11 +28,11 @@ returns-clause-acted c =
     ap (λ (x : Scratch). x.elapsed) c.step_delays.ensures.scratch ∙ (λ i. gathered (sym items i) (none (size i))) in
     let inputs : delays.scratch.inputs ≡ s.inputs = ap (λ (x : Scratch). x.inputs) c.step_delays.ensures.scratch in
     let stores : delays.scratch.stores ≡ s.stores = ap (λ (x : Scratch). x.stores) c.step_delays.ensures.scratch in
-    let inputs_2 : c.update_q.new.scratch.inputs ≡ s.inputs = ap (λ (x : Scratch). x.inputs) c.update_q.ensures.scratch ∙ inputs in
+    let inputs_2 : c.update_outputs.new.scratch.inputs ≡ s.inputs = ap (λ (x : Scratch). x.inputs) c.update_outputs.ensures.scratch ∙ inputs in
     let inputs_3 : c.add_edges.new.scratch.inputs ≡ s.inputs =
     ap (λ (x : Scratch). x.inputs) c.add_edges.ensures.scratch ∙ inputs_2 in
     let stores_3 : c.add_edges.new.scratch.stores ≡ s.stores =
-    ap (λ (x : Scratch). x.stores) c.add_edges.ensures.scratch ∙ ap (λ (x : Scratch). x.stores) c.update_q.ensures.scratch
+    ap (λ (x : Scratch). x.stores) c.add_edges.ensures.scratch ∙ ap (λ (x : Scratch). x.stores) c.update_outputs.ensures.scratch
     ∙ stores in
     let stepped : AreStepped s.inputs s.stores s.presets.items (to_z w64 (of_z w64 c.args.t)) old.blocks.items new_blocks.items =
     subst (λ (xs : List Block). AreStepped s.inputs s.stores s.presets.items (to_z w64 (of_z w64 c.args.t)) old.blocks.items xs)
@@ -45,17 +45,17 @@ returns-clause-acted c =
     let same_blocks : length new_blocks.items ≡ length old.blocks.items = ap length items ∙ same_length in
     record {
       sized = record {
-        pulse = ap length c.copy_from-2.ensures.flags ∙ ap (λ i. length i.pulse) inputs_3 ∙ c.requires.scratch.inputs.pulse;
+        pulse = ap length c.copy_from.ensures.flags ∙ ap (λ i. length i.pulse) inputs_3 ∙ c.requires.scratch.inputs.pulse;
         rising_pulse =
-            ap length c.copy_from-3.ensures.flags ∙ ap (λ i. length i.rising_pulse) inputs_3
+            ap length c.copy_from-2.ensures.flags ∙ ap (λ i. length i.rising_pulse) inputs_3
             ∙ c.requires.scratch.inputs.rising_pulse;
         falling_pulse =
-            ap length c.copy_from-4.ensures.flags ∙ ap (λ i. length i.falling_pulse) inputs_3
+            ap length c.copy_from-3.ensures.flags ∙ ap (λ i. length i.falling_pulse) inputs_3
             ∙ c.requires.scratch.inputs.falling_pulse;
-        stores = sized_as n s.stores c.copy_from-5.new.self (c.copy_from-5.ensures.stores ∙ stores_3) c.requires.scratch.stores;
+        stores = sized_as n s.stores c.copy_from-4.new.self (c.copy_from-4.ensures.stores ∙ stores_3) c.requires.scratch.stores;
         delayed_stored = c.step_delays.ensures.len ∙ size;
-        q = c.update_q.ensures.len;
-        executed = c.add_edges.ensures.len ∙ c.union_with.ensures.len ∙ ap length c.copy_from.ensures.flags;
+        q = c.update_outputs.ensures.len;
+        executed = c.add_edges.ensures.len ∙ c.update_outputs.ensures.executed_len;
         blocks = stepped_of n s.inputs s.stores s.presets.items (to_z w64 (of_z w64 c.args.t)) old.blocks.items new_blocks.items
             same_blocks stepped c.requires.sized.blocks;
       };
@@ -63,15 +63,14 @@ returns-clause-acted c =
       blocks = stepped_at;
       delayed_stored = subst (λ (e : Timed). IsNext old.delayed_stored e.delayed_stored s.inputs.reset delays.delayed_stored) elapsed
           c.step_delays.ensures.delayed_stored;
-      outputs = λ a. c.update_q.ensures.flags a
+      outputs = λ a. c.update_outputs.ensures.flags a
           ∙ (λ i. q_at (inputs i) (stores i) (elapsed i) old.pulse delays.delayed_stored a);
       executions = λ a. c.add_edges.ensures.flags a
-          ∙ (λ i. (((c.union_with.ensures.flags a
-          ∙ ap (λ (xs : List Bool). flag xs a || flag c.update_q.new.q a) c.copy_from.ensures.flags) i
+          ∙ (λ i. ((c.update_outputs.ensures.executed a i
           || (flag (inputs_2 i).rising_pulse a && not (flag old.rising_pulse a)))
           || (flag old.falling_pulse a && not (flag (inputs_2 i).falling_pulse a))));
-      pulse = c.copy_from-2.ensures.flags ∙ ap (λ i. i.pulse) inputs_3;
-      rising_pulse = c.copy_from-3.ensures.flags ∙ ap (λ i. i.rising_pulse) inputs_3;
-      falling_pulse = c.copy_from-4.ensures.flags ∙ ap (λ i. i.falling_pulse) inputs_3;
-      stores = c.copy_from-5.ensures.stores ∙ stores_3;
+      pulse = c.copy_from.ensures.flags ∙ ap (λ i. i.pulse) inputs_3;
+      rising_pulse = c.copy_from-2.ensures.flags ∙ ap (λ i. i.rising_pulse) inputs_3;
+      falling_pulse = c.copy_from-3.ensures.flags ∙ ap (λ i. i.falling_pulse) inputs_3;
+      stores = c.copy_from-4.ensures.stores ∙ stores_3;
     }
