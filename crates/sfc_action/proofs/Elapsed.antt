@@ -18,7 +18,8 @@ use Rattle.sfc_action.specs.declared.blocks.Block.{Block}
 use Rattle.sfc_action.specs.ActionControl.{Scan, Letter, L, D, SD, DS, SL, R, is, acts, input, stored, on_delay, column, reading, preset}
 use Rattle.sfc_action.specs.Private.TimedSets.{AreAll, none, by, with_action}
 use Rattle.sfc_action.specs.Private.Delays.{gathered, AreOf}
-use Rattle.sfc_action.specs.Private.Keeping.{same_timed, is_of, has_block, IsCovered, called, readings, BlockAgrees}
+use Rattle.sfc_action.specs.Private.Keeping.{is_of, has_block, IsCovered, called, readings, BlockAgrees}
+use Rattle.sfc_action.specs.Delays.{same_timed, delay_count, with_delays}
 use Rattle.sfc_action.proofs.Sizes.{all_added, all_none}
 use Rattle.sfc_action.proofs.Told.{one_set}
 use Rattle.sfc_action.proofs.Timings.{flag-replicate}

@@ -1,7 +1,9 @@
 pub mod Choices
+pub mod DelayLists
 pub mod Elapsed
 pub mod Elements
 pub mod Failures
+pub mod Fitting
 pub mod Moments
 pub mod Next
 pub mod Sizes

@@ -28,7 +28,8 @@ use Rattle.sfc_action.specs.Private.Storing.{AreNext}
 use Rattle.sfc_action.specs.Private.Delays.{input_of, preset_of, IsStepped, gathered, AreOf}
 use Rattle.sfc_action.specs.Private.Failing.{fault_at}
 use Rattle.sfc_action.specs.Private.Outputs.{q_at}
-use Rattle.sfc_action.specs.Private.Keeping.{AreFor, AreKept, IsActed, BlockAgrees, IsCovered, AreEach, called, readings, has_block, is_of, same_timed, AreKeptSized}
+use Rattle.sfc_action.specs.Private.Keeping.{AreFor, AreKept, IsActed, BlockAgrees, IsCovered, AreEach, called, readings, has_block, is_of, AreKeptSized}
+use Rattle.sfc_action.specs.Delays.{same_timed, delay_count, with_delays}
 use Rattle.sfc_action.proofs.Choices.{executions}
 use Rattle.sfc_action.proofs.Elapsed.{bool_cases, is_on_next, elapsed_are}
 use Rattle.sfc_action.proofs.Timings.{inputs_are, timing_is, more_are, preset_is}
@@ -196,6 +197,7 @@ module _ (tables : Tabled) (kept new : Kept) (i : Inputs) (ps : List ℤ) (next 
   pub next_size : AreFor tables new
   next_size = record {
     sized = subst (λ n. AreKeptSized n new) size.sized.q acted.sized;
+    count = acted.same_blocks ∙ size.count;
     few = let e = acted.same_blocks in let few = size.few in omega arith;
     covered = covered;
   }

@@ -2,7 +2,7 @@
 use Rattle.std.proofs.Common.{◌≡◌, ℕ, zero, suc, ◌+◌, ◌<◌, ◌==◌, Bool, true, false, cond, not, ◌&&◌, ◌||◌, List, [], ◌∷◌, length, arith, refl, sym, subst, ◌∙◌, ap, get_or}
 use Rattle.std.specs.Prelude.{All, slice_index_or, replicate}
 use Rattle.std.specs.List.{list_any}
-use Rattle.std.proofs.lemmas.List.{length-replicate}
+use Rattle.std.proofs.lemmas.List.{length-replicate, length-map}
 use Rattle.sfc_text.specs.declared.tree.TimedQualifier.{TimedQualifier}
 use Rattle.sfc_text.specs.declared.tree.TimedQualifier.TheVariants.{Limited, Delayed, StoredDelayed, DelayedStored, StoredLimited}
 use Rattle.sfc_flags.specs.Flags.{flag}
@@ -21,7 +21,8 @@ use Rattle.sfc_action.specs.Private.TimedSets.{AreAll, none, by}
 use Rattle.sfc_action.specs.Private.Storing.{AreStores, no_stores}
 use Rattle.sfc_action.specs.Private.Delays.{AreOf}
 use Rattle.sfc_action.specs.Private.Copies.{AreCopied}
-use Rattle.sfc_action.specs.Private.Keeping.{AreKeptSized, IsFresh, IsCopy, AreFor, AreKept, BlockAgrees, IsCovered, has_block, is_of, same_timed, readings}
+use Rattle.sfc_action.specs.Private.Keeping.{AreKeptSized, IsFresh, IsCopy, AreFor, AreKept, BlockAgrees, IsCovered, has_block, is_of, delay_of, readings}
+use Rattle.sfc_action.specs.Delays.{same_timed, delay_count, with_delays}
 use Rattle.sfc_action.specs.Private.Listing.{IsNew, IsListing, IsList}
 use Rattle.sfc_action.proofs.Sizes.{all_none, sized_stores}
 use Rattle.sfc_action.proofs.Timings.{flag-replicate}
@@ -32,7 +33,7 @@ pub no_listing : (n : ℕ) (seen : Timed) → seen ≡ none n → IsListing n se
 no_listing n seen e = rw e record {
   sized = all_none n;
   actions = λ k d lt. absurd (omega arith);
-  listed = λ q a bad. absurd (let no : false ≡ true = sym (none_by q a) ∙ bad in cc);
+  listed = λ q a lt. none_by q a;
   fresh = λ k d lt. absurd (omega arith);
 }
   where
@@ -72,6 +73,9 @@ pub fresh_for : (tables : Tabled) (n : ℕ) (associations : List StepAction) (bl
     → AreFor tables kept
 fresh_for tables n associations blocks kept en ea fresh listed = record {
   sized = subst (λ k. AreKeptSized k kept) en (fresh_sized n blocks kept fresh listed.actions);
+  count =
+      ap length fresh.blocks ∙ sym (length-map blocks delay_of) ∙ ap length listed.delays
+      ∙ ap (λ (xs : List StepAction). length (with_delays [] xs)) ea;
   few = let e = ap length fresh.blocks in let same = ap length ea in let few = listed.few in omega arith;
   covered = subst (λ (xs : List Block). All (IsCovered xs) tables.associations) (sym fresh.blocks)
       (subst (λ (xs : List StepAction). All (IsCovered blocks) xs) ea listed.covered);
@@ -129,6 +133,7 @@ same_block from to copy a _ = refl
 pub copied_for : (tables : Tabled) (from to : Kept) → IsCopy from to → AreFor tables from → AreFor tables to
 copied_for tables from to copy for = record {
   sized = copied_sized (length tables.actions) from to copy for.sized;
+  count = copy.same_blocks ∙ for.count;
   few = let e = copy.same_blocks in let few = for.few in omega arith;
   covered = λ k d lt.
       same_block from to copy (slice_index_or tables.associations k d).action.0 (slice_index_or tables.associations k d).qualifier

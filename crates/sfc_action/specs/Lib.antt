@@ -2,6 +2,8 @@
 
 -- what each action's control block gets and gives, scan by scan
 pub mod ActionControl
+-- which on-delays there are
+pub mod Delays
 -- how much a scan handles
 pub mod Work
 -- what a `Controls` agrees with

@@ -45,7 +45,7 @@ use sfc_tables::ids::ActionNumber;
 use sfc_tables::tables::Tables;
 use std::alloc::{AllocError, Global};
 
-#[tactic(auto, unfolding(crate::specs::Agreement::IsFor, crate::specs::Agreement::ControlsAgree))]
+#[tactic(auto, unfolding(crate::specs::Agreement::HasDelays, crate::specs::Agreement::ControlsAgree))]
 impl Controls {
     /// Before the first scan of a life. The one error is that memory was refused.
     pub fn new(alloc: Global, tables: &Tables) -> Result<Controls, AllocError>

@@ -1,8 +1,9 @@
 //! Which on-delays there are.
 
-ghost use Rattle.std.specs.Prelude.{◌≡◌, ◌<◌, [], All, length, IfOk, OnOk};
+ghost use Rattle.std.specs.Prelude.{◌≡◌, ◌<◌, [], All, length, map, IfOk, OnOk};
+ghost use Rattle.sfc_action.specs.Delays.{with_delay};
 ghost use Rattle.sfc_action.specs.Private.Listing.{IsListing, IsLonger, IsList};
-ghost use Rattle.sfc_action.specs.Private.Keeping.{IsCovered};
+ghost use Rattle.sfc_action.specs.Private.Keeping.{IsCovered, delay_of};
 
 use crate::blocks::Block;
 use crate::timed::Timed;
@@ -23,6 +24,8 @@ fn add_block(
     ensures listing { OnOk result (IsListing (length seen.old.limited) seen.new blocks.new.items) }
     ensures longer { OnOk result (IsLonger blocks.old.items blocks.new.items) }
     ensures covered { OnOk result (IsCovered blocks.new.items association.now) }
+    ensures delays { OnOk result (map delay_of blocks.new.items
+        ≡ with_delay (map delay_of blocks.old.items) association.now.action.0 association.now.qualifier) }
 {
     if let Qualifier::Timed(qualifier, _) = association.qualifier {
         let action = association.action;

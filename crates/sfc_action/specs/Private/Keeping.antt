@@ -17,6 +17,7 @@ use Rattle.sfc_action.specs.declared.kept.Kept.{Kept}
 use Rattle.sfc_action.specs.declared.scratch.Scratch.{Scratch}
 use Rattle.sfc_action.specs.ActionControl.{Scan, S, L, D, P, SD, DS, SL, P1, P0}
 use Rattle.sfc_action.specs.ActionControl.{input, stored, delayed_then_stored, reading, column, q, executed}
+use Rattle.sfc_action.specs.Delays.{Delay, is_delay, delay_count}
 use Rattle.sfc_action.specs.Private.TimedSets.{none}
 use Rattle.sfc_action.specs.Private.Storing.{AreStores, no_stores, IsNext}
 use Rattle.sfc_action.specs.Private.Delays.{AreStepped, AreOf, gathered}
@@ -81,17 +82,12 @@ pub record IsCopy (from to : Kept) : Type 0 where
 
 -- ---- which on-delays there are
 
-abbrev pub same_timed : TimedQualifier → TimedQualifier → Bool
-same_timed Limited Limited = true
-same_timed Delayed Delayed = true
-same_timed StoredDelayed StoredDelayed = true
-same_timed DelayedStored DelayedStored = true
-same_timed StoredLimited StoredLimited = true
-same_timed _ _ = false
+abbrev pub delay_of : Block → Delay
+delay_of block = record { action = block.action.0; qualifier = block.qualifier }
 
 -- the block is that of the action by the qualifier
 abbrev pub is_of : ℕ → TimedQualifier → Block → Bool
-is_of a qualifier block = (block.action.0 == a) && same_timed qualifier block.qualifier
+is_of a qualifier block = is_delay a qualifier (delay_of block)
 
 abbrev pub has_block : List Block → ℕ → Qualifier → Bool
 has_block blocks a (Timed qualifier time) = list_any (is_of a qualifier) blocks
@@ -103,6 +99,7 @@ IsCovered blocks x = has_block blocks x.action.0 x.qualifier ≡ true
 -- for the actions of these tables, with an on-delay for each qualifier with a time that an action has
 pub record AreFor (tables : Tabled) (kept : Kept) : Type 0 where
   pub sized : AreKeptSized (length tables.actions) kept
+  pub count : length kept.blocks.items ≡ delay_count tables
   pub few : length kept.blocks.items ≤ length tables.associations
   pub covered : All (IsCovered kept.blocks.items) tables.associations
 

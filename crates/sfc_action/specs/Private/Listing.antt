@@ -1,5 +1,5 @@
 -- Which on-delays there are.
-use Rattle.std.specs.Prelude.{ℕ, ◌≡◌, ◌+◌, ◌≤◌, Bool, true, false, List, [], length, All}
+use Rattle.std.specs.Prelude.{ℕ, ◌≡◌, ◌+◌, ◌<◌, ◌≤◌, Bool, true, false, List, [], length, map, All}
 use Rattle.std.specs.List.{list_any}
 use Rattle.sfc_text.specs.declared.tree.TimedQualifier.{TimedQualifier}
 use Rattle.sfc_flags.specs.Flags.{flag}
@@ -7,21 +7,21 @@ use Rattle.sfc_timers.specs.Agreement.{OnDelayAgrees}
 use Rattle.sfc_tables.specs.declared.step_action.StepAction.{StepAction}
 use Rattle.sfc_action.specs.declared.timed.Timed.{Timed}
 use Rattle.sfc_action.specs.declared.blocks.Block.{Block}
+use Rattle.sfc_action.specs.Delays.{with_delays}
 use Rattle.sfc_action.specs.Private.TimedSets.{AreAll, by}
 use Rattle.sfc_action.specs.Private.Delays.{AreOf}
-use Rattle.sfc_action.specs.Private.Keeping.{is_of, IsCovered}
+use Rattle.sfc_action.specs.Private.Keeping.{delay_of, is_of, IsCovered}
 
 -- an on-delay that has seen no call
 pub record IsNew (block : Block) : Type 0 where
   pub delay : OnDelayAgrees block.delay []
   pub elapsed : block.elapsed ≡ false
 
--- the on-delays so far, of n actions; `seen` has none but those
+-- the on-delays so far, of n actions; `seen` tells which those are
 pub record IsListing (n : ℕ) (seen : Timed) (blocks : List Block) : Type 0 where
   pub sized : AreAll n seen
   pub actions : AreOf n blocks
-  pub listed : (qualifier : TimedQualifier) (a : ℕ) → flag (by qualifier seen) a ≡ true
-      → list_any (is_of a qualifier) blocks ≡ true
+  pub listed : (qualifier : TimedQualifier) (a : ℕ) → a < n → flag (by qualifier seen) a ≡ list_any (is_of a qualifier) blocks
   pub fresh : All IsNew blocks
 
 -- by one at most, and no on-delay is gone
@@ -33,5 +33,6 @@ pub record IsLonger (old new : List Block) : Type 0 where
 pub record IsList (n : ℕ) (associations : List StepAction) (blocks : List Block) : Type 0 where
   pub actions : AreOf n blocks
   pub few : length blocks ≤ length associations
+  pub delays : map delay_of blocks ≡ with_delays [] associations
   pub covered : All (IsCovered blocks) associations
   pub fresh : All IsNew blocks

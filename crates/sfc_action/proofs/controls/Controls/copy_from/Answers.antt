@@ -1,7 +1,8 @@
 use Rattle.std.proofs.Common.{◌≡◌, subst}
 use Rattle.sfc_action.specs.declared.kept.Kept.{Kept}
 use Rattle.sfc_action.specs.Private.Keeping.{IsCopy}
-use Rattle.sfc_action.specs.Agreement.{IsFor, ControlsAgree}
+use Rattle.sfc_action.specs.Agreement.{ControlsAgree}
+use Rattle.sfc_action.proofs.Fitting.{is_for, are_for}
 use Rattle.sfc_action.proofs.Starts.{copied_for, copied_kept}
 use Rattle.sfc_action.proofs.controls.Controls.copy_from.Goals as goal
 
@@ -9,8 +10,9 @@ copy : (c : goal.After-copy_from) → IsCopy c.args.other.now c.copy_from.new.se
 copy c = subst (λ (k : Kept). IsCopy k c.copy_from.new.self) c.other.view_is c.copy_from.ensures.copy
 
 pub returns-clause-sizes : goal.returns-clause-sizes
-unfolding IsFor
-returns-clause-sizes c tables for = copied_for tables c.args.other.now c.copy_from.new.self (copy c) for
+returns-clause-sizes c tables for =
+    is_for tables c.copy_from.new.self
+    (copied_for tables c.args.other.now c.copy_from.new.self (copy c) (are_for tables c.args.other.now for))
 
 pub returns-clause-kept : goal.returns-clause-kept
 unfolding ControlsAgree

@@ -1,7 +1,8 @@
 use Rattle.std.proofs.Common.{◌≡◌, sym, subst}
 use Rattle.sfc_action.specs.Private.Keeping.{AreKeptSized}
 use Rattle.sfc_action.specs.Private.Rooms.{IsScratch}
-use Rattle.sfc_action.specs.Agreement.{IsFor, ControlsAgree}
+use Rattle.sfc_action.specs.Agreement.{ControlsAgree}
+use Rattle.sfc_action.proofs.Fitting.{is_for}
 use Rattle.sfc_action.proofs.Starts.{all_listed, fresh_sized, fresh_for, fresh_kept}
 use Rattle.sfc_action.proofs.controls.Controls.new.Goals as goal
 
@@ -17,13 +18,13 @@ invariant_of-result c =
     }
 
 pub returns-clause-sizes : goal.returns-clause-sizes
-unfolding IsFor
 returns-clause-sizes c =
     let n = c.actions-n.result in
     let blocks = c.in_ok-blocks.blocks.items in
     let listed = all_listed n c.in_ok-seen.seen c.step_actions.result.now blocks c.in_ok-seen.ensures c.in_ok-blocks.ensures in
-    fresh_for c.args.tables.now n c.step_actions.result.now blocks c.in_ok-kept.kept c.actions-n.ensures c.step_actions.ensures
-    c.in_ok-kept.ensures listed
+    is_for c.args.tables.now c.in_ok-kept.kept
+    (fresh_for c.args.tables.now n c.step_actions.result.now blocks c.in_ok-kept.kept c.actions-n.ensures c.step_actions.ensures
+    c.in_ok-kept.ensures listed)
 
 pub returns-clause-agrees : goal.returns-clause-agrees
 unfolding ControlsAgree

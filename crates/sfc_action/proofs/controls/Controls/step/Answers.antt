@@ -6,12 +6,13 @@ use Rattle.sfc_action.specs.ActionControl.{first_in}
 use Rattle.sfc_action.specs.Private.Failing.{fault_at}
 use Rattle.sfc_action.specs.Private.Storing.{AreNext}
 use Rattle.sfc_action.specs.Private.Keeping.{IsActed}
-use Rattle.sfc_action.specs.Agreement.{IsFor, ControlsAgree}
+use Rattle.sfc_action.specs.Agreement.{ControlsAgree}
+use Rattle.sfc_action.proofs.Fitting.{is_for, are_for}
 use Rattle.sfc_action.proofs.Next.{IsRead, fault_read, kept_read, next_size}
 use Rattle.sfc_action.proofs.controls.Controls.step.Goals as goal
 
 pub returns-in-Some-clause-fault : goal.returns-in-Some-clause-fault
-unfolding ControlsAgree IsFor
+unfolding ControlsAgree
 returns-in-Some-clause-fault c scans h steps agrees =
     let tables = c.args.tables.now in
     let scratch = c.read.new.self in
@@ -19,7 +20,7 @@ returns-in-Some-clause-fault c scans h steps agrees =
     scratch.inputs scratch.presets.items scratch.stores = record {
       sound = c.steps-steps.ensures.tables;
       same_times = c.requires.times;
-      room = c.self.invariant.scratch_sized.presets ∙ ap (λ (k : Kept). length k.q) c.self.view_is ∙ c.requires.sizes.sized.q;
+      room = c.self.invariant.scratch_sized.presets ∙ ap (λ (k : Kept). length k.q) c.self.view_is ∙ c.requires.sizes.same_actions;
       inputs = c.read.ensures.inputs;
       presets = c.read.ensures.presets;
       stores = subst (λ (k : Kept). AreNext k.stores scratch.inputs scratch.stores) c.self.view_is c.read.ensures.next;
@@ -31,22 +32,21 @@ returns-in-Some-clause-fault c scans h steps agrees =
     (evolution.active_steps tables (evolution.rows_of tables scans)) (c.active_flags.ensures.flags tables scans steps)
 
 pub returns-clause-sizes : goal.returns-clause-sizes
-unfolding IsFor
 returns-clause-sizes c =
     let scratch = c.read.new.self in
     let same : c.self.inside.kept ≡ c.args.self.now = c.self.view_is in
     let t = to_z w64 (of_z w64 c.args.t) in
-    next_size c.args.tables.now c.args.self.now c.act.new.self scratch.inputs scratch.presets.items scratch.stores t c.requires.sizes
-    (subst (λ (k : Kept). IsActed scratch.inputs scratch.stores scratch.presets.items t k c.act.new.self) same c.act.ensures.acted)
+    is_for c.args.tables.now c.act.new.self (next_size c.args.tables.now c.args.self.now c.act.new.self scratch.inputs scratch.presets.items scratch.stores t
+    (are_for c.args.tables.now c.args.self.now c.requires.sizes)
+    (subst (λ (k : Kept). IsActed scratch.inputs scratch.stores scratch.presets.items t k c.act.new.self) same c.act.ensures.acted))
 
 -- what the scratch has read
 read_of : (c : goal.After-act) → IsRead c.args.tables.now c.args.self.now c.active_flags.result.now c.args.times.now
     c.self.inside.scratch.presets.items c.read.new.self.inputs c.read.new.self.presets.items c.read.new.self.stores
-unfolding IsFor
 read_of c = record {
   sound = c.steps-steps.ensures.tables;
   same_times = c.requires.times;
-  room = c.self.invariant.scratch_sized.presets ∙ ap (λ (k : Kept). length k.q) c.self.view_is ∙ c.requires.sizes.sized.q;
+  room = c.self.invariant.scratch_sized.presets ∙ ap (λ (k : Kept). length k.q) c.self.view_is ∙ c.requires.sizes.same_actions;
   inputs = c.read.ensures.inputs;
   presets = c.read.ensures.presets;
   stores = subst (λ (k : Kept). AreNext k.stores c.read.new.self.inputs c.read.new.self.stores) c.self.view_is c.read.ensures.next;
@@ -64,7 +64,7 @@ returns-clause-fault c scans h steps agrees =
     (evolution.active_steps tables (evolution.rows_of tables scans)) (c.active_flags.ensures.flags tables scans steps)
 
 pub returns-clause-kept : goal.returns-clause-kept
-unfolding ControlsAgree IsFor
+unfolding ControlsAgree
 returns-clause-kept c scans h steps agrees =
     let tables = c.args.tables.now in
     let scratch = c.read.new.self in
@@ -80,9 +80,9 @@ returns-clause-kept c scans h steps agrees =
     ∙ c.in_default.is in
     record {
       size = next_size tables c.args.self.now c.act.new.self scratch.inputs scratch.presets.items scratch.stores c.args.t
-          c.requires.sizes at;
+          (are_for tables c.args.self.now c.requires.sizes) at;
       each = kept_read tables c.args.self.now c.active_flags.result.now c.args.times.now c.self.inside.scratch.presets.items
           scratch.inputs scratch.presets.items scratch.stores c.args.t h (read_of c) agrees.each c.act.new.self
           (evolution.active_steps tables (evolution.rows_of tables scans)) (c.active_flags.ensures.flags tables scans steps)
-          c.requires.sizes faultless at;
+          (are_for tables c.args.self.now c.requires.sizes) faultless at;
     }
