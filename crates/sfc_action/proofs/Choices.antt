@@ -1,5 +1,5 @@
 -- Facts on Booleans.
-use Rattle.std.proofs.Common.{◌≡◌, Bool, true, false, not, ◌&&◌, ◌||◌, refl, sym, ◌∙◌, ap}
+use Rattle.std.proofs.Common.{◌≡◌, Bool, true, false, not, ◌&&◌, ◌||◌, refl, ◌∙◌}
 
 -- what contributes to Q, one after another, and R taken away
 pub contributed : (r n s l d p sd ds sl : Bool)
@@ -15,6 +15,7 @@ contributed false n s l d p sd ds sl = all (((((((n || s) || l) || d) || p) || s
     all : (b : Bool) → (b && true) ≡ b
     all true = refl
     all false = refl
+
     turn : (n s l d p sd ds sl : Bool)
         → (((((((n || s) || l) || d) || p) || sd) || ds) || sl) ≡ (n || s || l || d || p || sd || ds || sl)
     turn true s l d p sd ds sl = refl

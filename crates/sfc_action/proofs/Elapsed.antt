@@ -1,5 +1,5 @@
 -- The on-delays that have elapsed are those of the definitions.
-use Rattle.std.proofs.Common.{◌≡◌, ◌⊎◌, ℕ, zero, suc, ◌+◌, ◌<◌, ◌==◌, Bool, true, false, cond, not, ◌&&◌, ◌||◌, List, [], ◌∷◌, length, arith, refl, sym, subst, ◌∙◌, ap, inl, inr, ℤ, pos}
+use Rattle.std.proofs.Common.{◌≡◌, ◌⊎◌, ℕ, ◌<◌, ◌==◌, Bool, true, false, cond, not, ◌&&◌, ◌||◌, List, [], ◌∷◌, length, arith, refl, sym, ◌∙◌, ap, inl, inr, ℤ}
 use Rattle.std.specs.Prelude.{slice_set, All}
 use Rattle.std.specs.List.{list_any}
 use Rattle.std.proofs.lemmas.Bool.Decides.{nat_tests}
@@ -15,11 +15,11 @@ use Rattle.sfc_tables.specs.declared.step_action.StepAction.{StepAction}
 use Rattle.sfc_tables.specs.Tables.{Tabled}
 use Rattle.sfc_action.specs.declared.timed.Timed.{Timed}
 use Rattle.sfc_action.specs.declared.blocks.Block.{Block}
-use Rattle.sfc_action.specs.ActionControl.{Scan, Letter, L, D, SD, DS, SL, R, is, acts, input, stored, on_delay, column, reading, preset}
+use Rattle.sfc_action.specs.ActionControl.{Scan, Letter, L, D, SD, DS, SL, R, is, acts, input, stored, on_delay, preset}
 use Rattle.sfc_action.specs.Private.TimedSets.{AreAll, none, by, with_action}
 use Rattle.sfc_action.specs.Private.Delays.{gathered, AreOf}
 use Rattle.sfc_action.specs.Private.Keeping.{is_of, has_block, IsCovered, called, readings, BlockAgrees}
-use Rattle.sfc_action.specs.Delays.{same_timed, delay_count, with_delays}
+use Rattle.sfc_action.specs.Delays.{same_timed}
 use Rattle.sfc_action.proofs.Sizes.{all_added, all_none}
 use Rattle.sfc_action.proofs.Told.{one_set}
 use Rattle.sfc_action.proofs.Timings.{flag-replicate}
@@ -206,7 +206,7 @@ all_silent blocks a q scan (x ∷ xs) covered empty =
     ∙ all_silent blocks a q scan xs (All-tail (IsCovered blocks) x xs covered) empty
 
 module _ (tables : Tabled) (blocks : List Block) (a : ℕ) (q : TimedQualifier) (covered : All (IsCovered blocks) tables.associations)
-  (empty : list_any (is_of a q) blocks ≡ false) where
+    (empty : list_any (is_of a q) blocks ≡ false) where
   no_input : (h : List Scan) → input tables a (letter_for q) h ≡ false
   no_input [] = refl
   no_input (scan ∷ h) = all_silent blocks a q scan tables.associations covered empty

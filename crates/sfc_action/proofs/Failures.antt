@@ -1,12 +1,12 @@
 -- When no action has a fault.
-use Rattle.std.proofs.Common.{◌≡◌, ℕ, zero, suc, Bool, true, false, ◌&&◌, List, [], ◌∷◌, refl, sym, ◌∙◌, ap}
+use Rattle.std.proofs.Common.{◌≡◌, ℕ, zero, suc, Bool, true, false, ◌&&◌, List, [], ◌∷◌, refl}
 use Rattle.std.specs.Prelude.{Option, Some, None, is_some}
 use Rattle.sfc_flags.specs.Flags.{flag, set_from, places_from}
 use Rattle.sfc_tables.specs.declared.step_action.StepAction.{StepAction}
 use Rattle.sfc_action.specs.declared.fault.ControlFault.{ControlFault}
 use Rattle.sfc_action.specs.declared.inputs.Inputs.{Inputs}
 use Rattle.sfc_action.specs.declared.stores.Stores.{Stores}
-use Rattle.sfc_action.specs.ActionControl.{fault_by, first_in}
+use Rattle.sfc_action.specs.ActionControl.{first_in}
 use Rattle.sfc_action.specs.Private.Failing.{fault_at}
 
 none_from : (i : ℕ) (flags : List Bool) → set_from i flags ≡ [] → (a : ℕ) → flag flags a ≡ false

@@ -1,5 +1,4 @@
 -- What fits tables.
-use Rattle.std.proofs.Common.{◌≡◌, length}
 use Rattle.sfc_tables.specs.Tables.{Tabled}
 use Rattle.sfc_action.specs.declared.kept.Kept.{Kept}
 use Rattle.sfc_action.specs.Private.Keeping.{AreFor}

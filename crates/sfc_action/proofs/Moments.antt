@@ -2,11 +2,9 @@
 use Rattle.std.proofs.Common.{◌≡◌, ℕ, zero, suc, Bool, true, false, List, [], ◌∷◌, ℤ, pos, refl, Some, None}
 use Rattle.std.specs.Prelude.{filter}
 use Rattle.sfc_text.specs.declared.tree.TimedQualifier.TheVariants.{Limited, Delayed, StoredDelayed, DelayedStored, StoredLimited}
-use Rattle.sfc_expr.specs.declared.variable.Variable.TheVariants as variable
 use Rattle.sfc_tables.specs.declared.association.Qualifier.{Qualifier}
 use Rattle.sfc_tables.specs.declared.association.Qualifier.TheVariants.{NonStored, Reset, Set, Pulse, RisingPulse, FallingPulse, Timed}
 use Rattle.sfc_tables.specs.declared.association.Time.TheVariants.{Literal}
-use Rattle.sfc_tables.specs.declared.association.Target.TheVariants as target
 use Rattle.sfc_tables.specs.declared.step_action.StepAction.{StepAction}
 use Rattle.sfc_tables.specs.Tables.{Tabled}
 use Rattle.sfc_action.specs.declared.fault.ControlFault.TheVariants.{TwoTimed, SdWhileSl, SlWhileSd}
@@ -22,24 +20,34 @@ tables_of associations = record { initial = true ∷ false ∷ []; sides = []; r
 -- each action has one qualifier, all at step 0, with times of 20 ms; by their numbers
 abbrev bN : ℕ
 bN = 0
+
 abbrev bR : ℕ
 bR = 1
+
 abbrev bS : ℕ
 bS = 2
+
 abbrev bL : ℕ
 bL = 3
+
 abbrev bD : ℕ
 bD = 4
+
 abbrev bP : ℕ
 bP = 5
+
 abbrev bSD : ℕ
 bSD = 6
+
 abbrev bDS : ℕ
 bDS = 7
+
 abbrev bSL : ℕ
 bSL = 8
+
 abbrev bP1 : ℕ
 bP1 = 9
+
 abbrev bP0 : ℕ
 bP0 = 10
 
@@ -64,14 +72,19 @@ scan_at t active = record { active = active ∷ false ∷ []; times = twenty 11;
 
 abbrev scan_1 : List Scan
 scan_1 = scan_at 0 true ∷ []
+
 abbrev scan_2 : List Scan
 scan_2 = scan_at 10_000 true ∷ scan_1
+
 abbrev scan_3 : List Scan
 scan_3 = scan_at 20_000 true ∷ scan_2
+
 abbrev scan_4 : List Scan
 scan_4 = scan_at 30_000 true ∷ scan_3
+
 abbrev scan_5 : List Scan
 scan_5 = scan_at 40_000 false ∷ scan_4
+
 abbrev scan_6 : List Scan
 scan_6 = scan_at 50_000 false ∷ scan_5
 

@@ -1,5 +1,5 @@
 -- One scan of action control leaves what the definitions say.
-use Rattle.std.proofs.Common.{◌≡◌, ◌⊎◌, ℕ, zero, suc, ◌+◌, ◌<◌, ◌==◌, Bool, true, false, cond, not, ◌&&◌, ◌||◌, List, [], ◌∷◌, length, arith, refl, sym, subst, ◌∙◌, ap, inl, inr, ℤ, pos, nat_lt, get_or, Some, None}
+use Rattle.std.proofs.Common.{◌≡◌, ℕ, suc, ◌<◌, ◌==◌, Bool, true, false, cond, not, ◌&&◌, ◌||◌, List, [], ◌∷◌, length, arith, refl, sym, subst, ◌∙◌, ap, inl, inr, ℤ, pos, nat_lt, get_or, Some, None}
 use Rattle.std.specs.Prelude.{All, slice_index_or, map, filter, Option}
 use Rattle.std.specs.List.{list_any}
 use Rattle.std.proofs.lemmas.Bool.Decides.{nat_tests}
@@ -7,7 +7,7 @@ use Rattle.std.proofs.lemmas.List.Elements.{All-head, All-tail}
 use Rattle.sfc_text.specs.declared.tree.TimedQualifier.{TimedQualifier}
 use Rattle.sfc_text.specs.declared.tree.TimedQualifier.TheVariants.{Limited, Delayed, StoredDelayed, DelayedStored, StoredLimited}
 use Rattle.sfc_flags.specs.Flags.{flag, places_from}
-use Rattle.sfc_timers.specs.Timers.{Reading, has_elapsed}
+use Rattle.sfc_timers.specs.Timers.{has_elapsed}
 use Rattle.sfc_timers.specs.Agreement.{OnDelayAgrees}
 use Rattle.sfc_tables.specs.declared.association.Qualifier.{Qualifier}
 use Rattle.sfc_tables.specs.declared.association.Qualifier.TheVariants as qualifier
@@ -20,16 +20,15 @@ use Rattle.sfc_action.specs.declared.stores.Stores.{Stores}
 use Rattle.sfc_action.specs.declared.blocks.Block.{Block}
 use Rattle.sfc_action.specs.declared.kept.Kept.{Kept}
 use Rattle.sfc_action.specs.ActionControl.{Scan, Letter, N, R, S, L, D, P, SD, DS, SL, P1, P0, is, acts, is_timed, input, preset}
-use Rattle.sfc_action.specs.ActionControl.{stored, on_delay, delayed, delayed_then_stored, column, q, executed, acting_times, is_two_timed}
+use Rattle.sfc_action.specs.ActionControl.{stored, on_delay, delayed, delayed_then_stored, q, executed, acting_times}
 use Rattle.sfc_action.specs.ActionControl.{fault_by, fault_of, first_in, first_fault}
 use Rattle.sfc_action.specs.Private.TimedSets.{none, by}
 use Rattle.sfc_action.specs.Private.Marking.{cleared, marked_at, presets_at, IsWithin}
 use Rattle.sfc_action.specs.Private.Storing.{AreNext}
-use Rattle.sfc_action.specs.Private.Delays.{input_of, preset_of, IsStepped, gathered, AreOf}
+use Rattle.sfc_action.specs.Private.Delays.{input_of, preset_of, IsStepped, gathered}
 use Rattle.sfc_action.specs.Private.Failing.{fault_at}
-use Rattle.sfc_action.specs.Private.Outputs.{q_at}
-use Rattle.sfc_action.specs.Private.Keeping.{AreFor, AreKept, IsActed, BlockAgrees, IsCovered, AreEach, called, readings, has_block, is_of, AreKeptSized}
-use Rattle.sfc_action.specs.Delays.{same_timed, delay_count, with_delays}
+use Rattle.sfc_action.specs.Private.Keeping.{AreFor, AreKept, IsActed, BlockAgrees, IsCovered, called, readings, has_block, is_of, AreKeptSized}
+use Rattle.sfc_action.specs.Delays.{same_timed}
 use Rattle.sfc_action.proofs.Choices.{executions}
 use Rattle.sfc_action.proofs.Elapsed.{bool_cases, is_on_next, elapsed_are}
 use Rattle.sfc_action.proofs.Timings.{inputs_are, timing_is, more_are, preset_is}
@@ -75,7 +74,7 @@ both_none (Some f) rest e = absurd cc
 -- ---- flip-flops
 
 module _ (tables : Tabled) (kept : Kept) (scan : Scan) (h : List Scan) (i : Inputs) (ps : List ℤ) (next : Stores)
-  (each : AreKept tables kept h) (told : AreTold tables scan i ps) (stores : AreNext kept.stores i next) where
+    (each : AreKept tables kept h) (told : AreTold tables scan i ps) (stores : AreNext kept.stores i next) where
   abbrev n : ℕ
   n = length tables.actions
 
@@ -141,6 +140,7 @@ no_times b scan (x ∷ xs) e =
     or_left : (x y : Bool) → (x || y) ≡ false → x ≡ false
     or_left true y e = e
     or_left false y e = refl
+
     or_right : (x y : Bool) → (x || y) ≡ false → y ≡ false
     or_right true y e = absurd cc
     or_right false y e = e
@@ -163,13 +163,14 @@ few_times tables scan i ps next told e a =
     no_more : (m b c : Bool) → fault_by m b c ≡ None → m ≡ false
     no_more true b c e = absurd cc
     no_more false b c e = refl
+
     none_more : nat_lt 1 0 ≡ false
     none_more = grind (arith, nat_tests)
 
 -- ---- sizes
 
 module _ (tables : Tabled) (kept new : Kept) (i : Inputs) (ps : List ℤ) (next : Stores) (t : ℤ) (size : AreFor tables kept)
-  (acted : IsActed i next ps t kept new) where
+    (acted : IsActed i next ps t kept new) where
   same_any : (a : ℕ) (p : TimedQualifier) (xs ys : List Block) → length ys ≡ length xs
       → ((k : ℕ) (d : Block) → k < length xs → (get_or ys k d).action ≡ (get_or xs k d).action)
       → ((k : ℕ) (d : Block) → k < length xs → (get_or ys k d).qualifier ≡ (get_or xs k d).qualifier)
@@ -205,9 +206,9 @@ module _ (tables : Tabled) (kept new : Kept) (i : Inputs) (ps : List ℤ) (next 
 -- ---- on-delays
 
 module _ (tables : Tabled) (kept new : Kept) (scan : Scan) (h : List Scan) (i : Inputs) (ps : List ℤ) (next : Stores)
-  (size : AreFor tables kept) (each : AreKept tables kept h) (told : AreTold tables scan i ps)
-  (stores : AreNext kept.stores i next) (faultless : first_in (fault_at i next) tables.associations ≡ None)
-  (acted : IsActed i next ps scan.at kept new) where
+    (size : AreFor tables kept) (each : AreKept tables kept h) (told : AreTold tables scan i ps)
+    (stores : AreNext kept.stores i next) (faultless : first_in (fault_at i next) tables.associations ≡ None)
+    (acted : IsActed i next ps scan.at kept new) where
   abbrev m : ℕ
   m = length tables.actions
 
@@ -265,14 +266,14 @@ module _ (tables : Tabled) (kept new : Kept) (scan : Scan) (h : List Scan) (i : 
   q_is a lt =
       acted.outputs a
       ∙ (λ k. not (told.letters a R k) && (
-          told.letters a N k
-          || set_is tables kept scan h i ps next each told stores a lt k
-          || (told.letters a L k && not (elapsed_is Limited a k))
-          || elapsed_is Delayed a k
-          || (told.letters a P k && not (each.pulse a lt k))
-          || elapsed_is StoredDelayed a k
-          || delayed_stored_is a lt k
-          || (stored_limited_is tables kept scan h i ps next each told stores a lt k && not (elapsed_is StoredLimited a k))))
+      told.letters a N k
+      || set_is tables kept scan h i ps next each told stores a lt k
+      || (told.letters a L k && not (elapsed_is Limited a k))
+      || elapsed_is Delayed a k
+      || (told.letters a P k && not (each.pulse a lt k))
+      || elapsed_is StoredDelayed a k
+      || delayed_stored_is a lt k
+      || (stored_limited_is tables kept scan h i ps next each told stores a lt k && not (elapsed_is StoredLimited a k))))
 
   executed_is : (a : ℕ) → a < m → flag new.executed a ≡ executed tables a now
   executed_is a lt =
@@ -315,7 +316,7 @@ abbrev pub scan_of : List Bool → List ℤ → ℤ → Scan
 scan_of active times t = record { active = active; times = times; at = t }
 
 module _ (tables : Tabled) (kept : Kept) (active : List Bool) (times ps : List ℤ) (i : Inputs) (new_ps : List ℤ) (next : Stores)
-  (t : ℤ) (h : List Scan) (read : IsRead tables kept active times ps i new_ps next) (each : AreKept tables kept h) where
+    (t : ℤ) (h : List Scan) (read : IsRead tables kept active times ps i new_ps next) (each : AreKept tables kept h) where
   what : AreTold tables (scan_of active times t) i new_ps
   what = are_told tables read.sound (scan_of active times t) ps new_ps i read.same_times read.room read.inputs read.presets
 

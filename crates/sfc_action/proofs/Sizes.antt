@@ -1,6 +1,6 @@
 -- Tables keep their sizes.
-use Rattle.std.proofs.Common.{◌≡◌, ℕ, Bool, true, false, cond, List, [], ◌∷◌, length, arith, refl, sym, ◌∙◌, ap, ℤ}
-use Rattle.std.specs.Prelude.{slice_set, replicate}
+use Rattle.std.proofs.Common.{◌≡◌, ℕ, Bool, true, false, cond, List, length, arith, ◌∙◌, ap, ℤ}
+use Rattle.std.specs.Prelude.{slice_set}
 use Rattle.std.proofs.lemmas.List.{length-set, length-replicate}
 use Rattle.sfc_text.specs.declared.tree.TimedQualifier.{TimedQualifier}
 use Rattle.sfc_text.specs.declared.tree.TimedQualifier.TheVariants.{Limited, Delayed, StoredDelayed, DelayedStored, StoredLimited}
@@ -14,7 +14,7 @@ use Rattle.sfc_action.specs.declared.blocks.Block.{Block}
 use Rattle.sfc_action.specs.Private.Storing.{AreStores, no_stores}
 use Rattle.sfc_action.specs.Private.Delays.{AreStepped, AreOf}
 use Rattle.sfc_action.specs.Private.TimedSets.{AreAll, none, with_action}
-use Rattle.sfc_action.specs.Private.Marking.{AreSized, cleared, marked, marked_timed}
+use Rattle.sfc_action.specs.Private.Marking.{AreSized, cleared, marked}
 
 abbrev Sets : Type 0
 Sets = timed.Timed
@@ -28,59 +28,123 @@ set_where_length n a false xs e = e
 
 pub all_added : (n : ℕ) (q : TimedQualifier) (a : ℕ) (sets : Sets) → AreAll n sets → AreAll n (with_action q a sets)
 all_added n Limited a sets h = record {
-  limited = set_length n a sets.limited h.limited; delayed = h.delayed; stored_delayed = h.stored_delayed;
-  delayed_stored = h.delayed_stored; stored_limited = h.stored_limited;
+  limited = set_length n a sets.limited h.limited;
+  delayed = h.delayed;
+  stored_delayed = h.stored_delayed;
+  delayed_stored = h.delayed_stored;
+  stored_limited = h.stored_limited;
 }
 all_added n Delayed a sets h = record {
-  limited = h.limited; delayed = set_length n a sets.delayed h.delayed; stored_delayed = h.stored_delayed;
-  delayed_stored = h.delayed_stored; stored_limited = h.stored_limited;
+  limited = h.limited;
+  delayed = set_length n a sets.delayed h.delayed;
+  stored_delayed = h.stored_delayed;
+  delayed_stored = h.delayed_stored;
+  stored_limited = h.stored_limited;
 }
 all_added n StoredDelayed a sets h = record {
-  limited = h.limited; delayed = h.delayed; stored_delayed = set_length n a sets.stored_delayed h.stored_delayed;
-  delayed_stored = h.delayed_stored; stored_limited = h.stored_limited;
+  limited = h.limited;
+  delayed = h.delayed;
+  stored_delayed = set_length n a sets.stored_delayed h.stored_delayed;
+  delayed_stored = h.delayed_stored;
+  stored_limited = h.stored_limited;
 }
 all_added n DelayedStored a sets h = record {
-  limited = h.limited; delayed = h.delayed; stored_delayed = h.stored_delayed;
-  delayed_stored = set_length n a sets.delayed_stored h.delayed_stored; stored_limited = h.stored_limited;
+  limited = h.limited;
+  delayed = h.delayed;
+  stored_delayed = h.stored_delayed;
+  delayed_stored = set_length n a sets.delayed_stored h.delayed_stored;
+  stored_limited = h.stored_limited;
 }
 all_added n StoredLimited a sets h = record {
-  limited = h.limited; delayed = h.delayed; stored_delayed = h.stored_delayed;
-  delayed_stored = h.delayed_stored; stored_limited = set_length n a sets.stored_limited h.stored_limited;
+  limited = h.limited;
+  delayed = h.delayed;
+  stored_delayed = h.stored_delayed;
+  delayed_stored = h.delayed_stored;
+  stored_limited = set_length n a sets.stored_limited h.stored_limited;
 }
 
 pub all_none : (n : ℕ) → AreAll n (none n)
 all_none n = record {
-  limited = length-replicate n false; delayed = length-replicate n false; stored_delayed = length-replicate n false;
-  delayed_stored = length-replicate n false; stored_limited = length-replicate n false;
+  limited = length-replicate n false;
+  delayed = length-replicate n false;
+  stored_delayed = length-replicate n false;
+  delayed_stored = length-replicate n false;
+  stored_limited = length-replicate n false;
 }
 
 pub sized_marked : (n : ℕ) (q : Qualifier) (a : ℕ) (i : Inputs) → AreSized n i → AreSized n (marked q a i)
 sized_marked n NonStored a i h = record {
-  non_stored = set_length n a i.non_stored h.non_stored; reset = h.reset; set = h.set; pulse = h.pulse; rising_pulse = h.rising_pulse;
-  falling_pulse = h.falling_pulse; any_time = h.any_time; more_times = h.more_times; timed = h.timed;
+  non_stored = set_length n a i.non_stored h.non_stored;
+  reset = h.reset;
+  set = h.set;
+  pulse = h.pulse;
+  rising_pulse = h.rising_pulse;
+  falling_pulse = h.falling_pulse;
+  any_time = h.any_time;
+  more_times = h.more_times;
+  timed = h.timed;
 }
 sized_marked n Reset a i h = record {
-  non_stored = h.non_stored; reset = set_length n a i.reset h.reset; set = h.set; pulse = h.pulse; rising_pulse = h.rising_pulse;
-  falling_pulse = h.falling_pulse; any_time = h.any_time; more_times = h.more_times; timed = h.timed;
+  non_stored = h.non_stored;
+  reset = set_length n a i.reset h.reset;
+  set = h.set;
+  pulse = h.pulse;
+  rising_pulse = h.rising_pulse;
+  falling_pulse = h.falling_pulse;
+  any_time = h.any_time;
+  more_times = h.more_times;
+  timed = h.timed;
 }
 sized_marked n Set a i h = record {
-  non_stored = h.non_stored; reset = h.reset; set = set_length n a i.set h.set; pulse = h.pulse; rising_pulse = h.rising_pulse;
-  falling_pulse = h.falling_pulse; any_time = h.any_time; more_times = h.more_times; timed = h.timed;
+  non_stored = h.non_stored;
+  reset = h.reset;
+  set = set_length n a i.set h.set;
+  pulse = h.pulse;
+  rising_pulse = h.rising_pulse;
+  falling_pulse = h.falling_pulse;
+  any_time = h.any_time;
+  more_times = h.more_times;
+  timed = h.timed;
 }
 sized_marked n Pulse a i h = record {
-  non_stored = h.non_stored; reset = h.reset; set = h.set; pulse = set_length n a i.pulse h.pulse; rising_pulse = h.rising_pulse;
-  falling_pulse = h.falling_pulse; any_time = h.any_time; more_times = h.more_times; timed = h.timed;
+  non_stored = h.non_stored;
+  reset = h.reset;
+  set = h.set;
+  pulse = set_length n a i.pulse h.pulse;
+  rising_pulse = h.rising_pulse;
+  falling_pulse = h.falling_pulse;
+  any_time = h.any_time;
+  more_times = h.more_times;
+  timed = h.timed;
 }
 sized_marked n RisingPulse a i h = record {
-  non_stored = h.non_stored; reset = h.reset; set = h.set; pulse = h.pulse; rising_pulse = set_length n a i.rising_pulse h.rising_pulse;
-  falling_pulse = h.falling_pulse; any_time = h.any_time; more_times = h.more_times; timed = h.timed;
+  non_stored = h.non_stored;
+  reset = h.reset;
+  set = h.set;
+  pulse = h.pulse;
+  rising_pulse = set_length n a i.rising_pulse h.rising_pulse;
+  falling_pulse = h.falling_pulse;
+  any_time = h.any_time;
+  more_times = h.more_times;
+  timed = h.timed;
 }
 sized_marked n FallingPulse a i h = record {
-  non_stored = h.non_stored; reset = h.reset; set = h.set; pulse = h.pulse; rising_pulse = h.rising_pulse;
-  falling_pulse = set_length n a i.falling_pulse h.falling_pulse; any_time = h.any_time; more_times = h.more_times; timed = h.timed;
+  non_stored = h.non_stored;
+  reset = h.reset;
+  set = h.set;
+  pulse = h.pulse;
+  rising_pulse = h.rising_pulse;
+  falling_pulse = set_length n a i.falling_pulse h.falling_pulse;
+  any_time = h.any_time;
+  more_times = h.more_times;
+  timed = h.timed;
 }
 sized_marked n (Timed q time) a i h = record {
-  non_stored = h.non_stored; reset = h.reset; set = h.set; pulse = h.pulse; rising_pulse = h.rising_pulse;
+  non_stored = h.non_stored;
+  reset = h.reset;
+  set = h.set;
+  pulse = h.pulse;
+  rising_pulse = h.rising_pulse;
   falling_pulse = h.falling_pulse;
   timed = all_added n q a i.timed h.timed;
   any_time = set_length n a i.any_time h.any_time;
@@ -89,15 +153,22 @@ sized_marked n (Timed q time) a i h = record {
 
 pub sized_cleared : (n : ℕ) → AreSized n (cleared n)
 sized_cleared n = record {
-  non_stored = length-replicate n false; reset = length-replicate n false; set = length-replicate n false;
-  pulse = length-replicate n false; rising_pulse = length-replicate n false; falling_pulse = length-replicate n false;
-  any_time = length-replicate n false; more_times = length-replicate n false;
+  non_stored = length-replicate n false;
+  reset = length-replicate n false;
+  set = length-replicate n false;
+  pulse = length-replicate n false;
+  rising_pulse = length-replicate n false;
+  falling_pulse = length-replicate n false;
+  any_time = length-replicate n false;
+  more_times = length-replicate n false;
   timed = all_none n;
 }
 
 pub sized_stores : (n : ℕ) → AreStores n (no_stores n)
 sized_stores n = record {
-  set = length-replicate n false; stored_delayed = length-replicate n false; stored_limited = length-replicate n false;
+  set = length-replicate n false;
+  stored_delayed = length-replicate n false;
+  stored_limited = length-replicate n false;
 }
 
 -- what is equal to empty tables is as large

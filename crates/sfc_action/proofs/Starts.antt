@@ -1,5 +1,5 @@
 -- Before the first scan, and copies.
-use Rattle.std.proofs.Common.{◌≡◌, ℕ, zero, suc, ◌+◌, ◌<◌, ◌==◌, Bool, true, false, cond, not, ◌&&◌, ◌||◌, List, [], ◌∷◌, length, arith, refl, sym, subst, ◌∙◌, ap, get_or}
+use Rattle.std.proofs.Common.{◌≡◌, ℕ, suc, ◌<◌, ◌==◌, Bool, false, ◌&&◌, ◌||◌, List, [], ◌∷◌, length, arith, refl, sym, subst, ◌∙◌, ap}
 use Rattle.std.specs.Prelude.{All, slice_index_or, replicate}
 use Rattle.std.specs.List.{list_any}
 use Rattle.std.proofs.lemmas.List.{length-replicate, length-map}
@@ -17,12 +17,12 @@ use Rattle.sfc_action.specs.declared.timed.Timed.{Timed}
 use Rattle.sfc_action.specs.declared.blocks.Block.{Block}
 use Rattle.sfc_action.specs.declared.kept.Kept.{Kept}
 use Rattle.sfc_action.specs.ActionControl.{Scan}
-use Rattle.sfc_action.specs.Private.TimedSets.{AreAll, none, by}
-use Rattle.sfc_action.specs.Private.Storing.{AreStores, no_stores}
+use Rattle.sfc_action.specs.Private.TimedSets.{none, by}
+use Rattle.sfc_action.specs.Private.Storing.{AreStores}
 use Rattle.sfc_action.specs.Private.Delays.{AreOf}
 use Rattle.sfc_action.specs.Private.Copies.{AreCopied}
 use Rattle.sfc_action.specs.Private.Keeping.{AreKeptSized, IsFresh, IsCopy, AreFor, AreKept, BlockAgrees, IsCovered, has_block, is_of, delay_of, readings}
-use Rattle.sfc_action.specs.Delays.{same_timed, delay_count, with_delays}
+use Rattle.sfc_action.specs.Delays.{same_timed, with_delays}
 use Rattle.sfc_action.specs.Private.Listing.{IsNew, IsListing, IsList}
 use Rattle.sfc_action.proofs.Sizes.{all_none, sized_stores}
 use Rattle.sfc_action.proofs.Timings.{flag-replicate}

@@ -1,21 +1,18 @@
 -- The times of an action's associations that act: none, one, or more than one.
-use Rattle.std.proofs.Common.{◌≡◌, ◌⊎◌, ℕ, zero, suc, ◌+◌, ◌<◌, ◌==◌, Bool, true, false, cond, not, ◌&&◌, ◌||◌, List, [], ◌∷◌, length, arith, refl, sym, ◌∙◌, ap, inl, inr, ℤ, pos, nat_lt}
+use Rattle.std.proofs.Common.{◌≡◌, ◌⊎◌, ℕ, zero, suc, ◌<◌, ◌==◌, Bool, true, false, cond, ◌&&◌, ◌||◌, List, [], ◌∷◌, length, arith, refl, sym, ◌∙◌, ap, inl, inr, ℤ, pos, nat_lt}
 use Rattle.std.specs.Prelude.{slice_set, slice_index_or, filter, map, All, replicate}
 use Rattle.std.specs.List.{list_any}
 use Rattle.std.proofs.lemmas.Bool.Decides.{nat_tests}
 use Rattle.std.proofs.lemmas.Grind.{common_steps}
-use Rattle.std.proofs.lemmas.List.{length-replicate}
 use Rattle.sfc_flags.specs.Flags.{flag, places_from}
 use Rattle.sfc_tables.specs.declared.association.Qualifier.{Qualifier}
-use Rattle.sfc_tables.specs.declared.association.Qualifier.TheVariants.{NonStored, Reset, Set, Pulse, RisingPulse, FallingPulse, Timed}
+use Rattle.sfc_tables.specs.declared.association.Qualifier.TheVariants.{Timed}
 use Rattle.sfc_tables.specs.declared.step_action.StepAction.{StepAction}
-use Rattle.sfc_tables.specs.Tables.{Tabled, AreTables}
 use Rattle.sfc_action.specs.declared.inputs.Inputs.{Inputs}
-use Rattle.sfc_action.specs.ActionControl.{Scan, Letter, N, is, is_timed, acts, input, acting_times, preset, is_two_timed}
-use Rattle.sfc_action.specs.Private.Marking.{AreSized, cleared, marked, marked_at, with_preset, presets_at, IsWithin}
-use Rattle.sfc_action.specs.Private.Delays.{preset_of}
+use Rattle.sfc_action.specs.ActionControl.{Scan, Letter, N, is, is_timed, acts}
+use Rattle.sfc_action.specs.Private.Marking.{AreSized, cleared, marked, marked_at, presets_at, IsWithin}
 use Rattle.sfc_action.proofs.Sizes.{sized_cleared}
-use Rattle.sfc_action.proofs.Walks.{Gathering, total, same, unit_right}
+use Rattle.sfc_action.proofs.Walks.{Gathering, total}
 use Rattle.sfc_action.proofs.Told.{one_set, flags_at, letter_marked, gathered_at}
 use Rattle.sfc_action.proofs.Works.{within}
 
@@ -40,6 +37,7 @@ either = record {
     or_comm true false = refl
     or_comm false true = refl
     or_comm false false = refl
+
     or_assoc : (x y z : Bool) → ((x || y) || z) ≡ (x || (y || z))
     or_assoc true y z = refl
     or_assoc false y z = refl
@@ -97,6 +95,7 @@ times_together = record { join = joined; unit = Untimed; unit_left = λ t. refl;
     comm Often Untimed = refl
     comm Often (Once t) = refl
     comm Often Often = refl
+
     assoc : (s t u : Timing) → joined (joined s t) u ≡ joined s (joined t u)
     assoc Untimed t u = refl
     assoc (Once s) Untimed u = refl
@@ -235,6 +234,7 @@ module _ (n m : ℕ) (times : List ℤ) (b : ℕ) where
       kept true any p = refl
       kept false true p = refl
       kept false false p = refl
+
       told : (ts : List ℤ) → is_often (listed ts) ≡ nat_lt 1 (length ts)
       told [] = grind (arith, nat_tests)
       told (t ∷ []) = grind (arith, nat_tests)

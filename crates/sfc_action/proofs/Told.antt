@@ -1,26 +1,22 @@
 -- What the walk over the active steps leaves as inputs and times is what the definitions say.
-use Rattle.std.proofs.Common.{◌≡◌, ℕ, zero, suc, ◌+◌, ◌<◌, ◌==◌, Bool, true, false, cond, not, ◌&&◌, ◌||◌, ◌⊎◌, List, [], ◌∷◌, length, arith, refl, sym, ◌∙◌, ap, inl, inr, ℤ, pos, nat_lt}
-use Rattle.std.specs.Prelude.{slice_set, slice_index_or, filter, map, All, replicate}
-use Rattle.std.specs.List.{list_any}
+use Rattle.std.proofs.Common.{◌≡◌, ℕ, ◌<◌, ◌==◌, Bool, true, false, cond, ◌&&◌, ◌||◌, ◌⊎◌, List, [], ◌∷◌, length, arith, refl, sym, ◌∙◌, ap, inl, inr, ℤ, pos}
+use Rattle.std.specs.Prelude.{slice_set, slice_index_or, All}
 use Rattle.std.proofs.lemmas.Bool.Decides.{nat_tests}
 use Rattle.std.proofs.lemmas.Grind.{common_steps}
 use Rattle.std.proofs.lemmas.List.{length-set}
 use Rattle.std.proofs.lemmas.List.Elements.{All-head, All-tail, All-filter}
-use Rattle.sfc_text.specs.declared.tree.TimedQualifier.{TimedQualifier}
 use Rattle.sfc_text.specs.declared.tree.TimedQualifier.TheVariants.{Limited, Delayed, StoredDelayed, DelayedStored, StoredLimited}
 use Rattle.sfc_flags.specs.Flags.{flag, places_from}
 use Rattle.sfc_tables.specs.declared.association.Qualifier.{Qualifier}
 use Rattle.sfc_tables.specs.declared.association.Qualifier.TheVariants.{NonStored, Reset, Set, Pulse, RisingPulse, FallingPulse, Timed}
 use Rattle.sfc_tables.specs.declared.step_action.StepAction.{StepAction}
-use Rattle.sfc_tables.specs.Tables.{Tabled, AreTables}
 use Rattle.sfc_action.specs.declared.inputs.Inputs.{Inputs}
-use Rattle.sfc_action.specs.ActionControl.{Scan, Letter, N, R, S, L, D, P, SD, DS, SL, P1, P0}
-use Rattle.sfc_action.specs.ActionControl.{is, is_timed, acts, input, acting_times, preset, is_two_timed}
-use Rattle.sfc_action.specs.Private.TimedSets.{with_action}
-use Rattle.sfc_action.specs.Private.Marking.{AreSized, cleared, marked, marked_timed, all_marked, with_preset, all_presets}
+use Rattle.sfc_action.specs.ActionControl.{Letter, N, R, S, L, D, P, SD, DS, SL, P1, P0}
+use Rattle.sfc_action.specs.ActionControl.{is, is_timed}
+use Rattle.sfc_action.specs.Private.Marking.{AreSized, marked, all_marked, with_preset, all_presets}
 use Rattle.sfc_action.specs.Private.Marking.{of_step, marked_at, presets_at, IsWithin}
-use Rattle.sfc_action.proofs.Sizes.{sized_marked, sized_cleared}
-use Rattle.sfc_action.proofs.Walks.{Gathering, total, walked, same, unit_right}
+use Rattle.sfc_action.proofs.Sizes.{sized_marked}
+use Rattle.sfc_action.proofs.Walks.{Gathering, total, walked, unit_right}
 
 -- ---- one write
 
@@ -38,6 +34,7 @@ one_set flags a b lt = elim (bool_cases (a == b)) [
     or_true : (b : Bool) → (b || true) ≡ true
     or_true true = refl
     or_true false = refl
+
     or_false : (b : Bool) → (b || false) ≡ b
     or_false true = refl
     or_false false = refl
@@ -114,8 +111,8 @@ preset_length n times x ps e = by_test (is_timed x.qualifier)
     by_test false = e
 
 module _ {M : Type 0} (g : Gathering M) (n m : ℕ) (times : List ℤ) (o : Inputs → List ℤ → M) (f : StepAction → M)
-  (each : (x : StepAction) (i : Inputs) (ps : List ℤ) → IsWithin n m x → AreSized n i → length ps ≡ n
-      → o (marked x.qualifier x.action.0 i) (with_preset times x ps) ≡ g.join (o i ps) (f x)) where
+    (each : (x : StepAction) (i : Inputs) (ps : List ℤ) → IsWithin n m x → AreSized n i → length ps ≡ n
+    → o (marked x.qualifier x.action.0 i) (with_preset times x ps) ≡ g.join (o i ps) (f x)) where
   record Left (i : Inputs) (ps : List ℤ) (value : M) : Type 0 where
     sized : AreSized n i
     presets : length ps ≡ n

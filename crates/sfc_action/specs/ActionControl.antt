@@ -1,5 +1,5 @@
 -- What the control block of each action gets and gives, scan by scan: Q, A and control faults (2.6.4.4, 2.6.4.5).
-use Rattle.std.specs.Prelude.{ℕ, ◌==◌, nat_lt, Bool, true, false, cond, not, ◌&&◌, ◌||◌}
+use Rattle.std.specs.Prelude.{ℕ, ◌==◌, nat_lt, Bool, true, false, not, ◌&&◌, ◌||◌}
 use Rattle.std.specs.Prelude.{List, [], ◌∷◌, length, map, filter, slice_index_or, Option, Some, None, ℤ, pos}
 use Rattle.std.specs.List.{list_any}
 use Rattle.sfc_text.specs.declared.tree.TimedQualifier.TheVariants.{Limited, Delayed, StoredDelayed, DelayedStored, StoredLimited}

@@ -1,6 +1,6 @@
 //! What is kept from scan to scan.
 
-use crate::blocks::{copy_blocks, Block};
+use crate::blocks::{Block, copy_blocks};
 use crate::outputs::{add_edges, step_delays, update_outputs};
 use crate::scratch::Scratch;
 use crate::stores::Stores;
@@ -77,8 +77,10 @@ impl Kept {
             ticks,
         );
         self.pulse.copy_from(&scratch.inputs.pulse, ticks);
-        self.rising_pulse.copy_from(&scratch.inputs.rising_pulse, ticks);
-        self.falling_pulse.copy_from(&scratch.inputs.falling_pulse, ticks);
+        self.rising_pulse
+            .copy_from(&scratch.inputs.rising_pulse, ticks);
+        self.falling_pulse
+            .copy_from(&scratch.inputs.falling_pulse, ticks);
         self.stores.copy_from(&scratch.stores, ticks);
     }
 

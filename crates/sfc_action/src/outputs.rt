@@ -9,7 +9,7 @@ ghost use Rattle.sfc_action.specs.Private.Delays.{AreStepped, AreOf, gathered};
 ghost use Rattle.sfc_action.specs.Private.Rooms.{IsScratch};
 ghost use Rattle.sfc_action.specs.Private.Outputs.{q_at};
 
-use crate::blocks::{gather, step_blocks, Block};
+use crate::blocks::{Block, gather, step_blocks};
 use crate::scratch::Scratch;
 use crate::sets::add_without;
 use sfc_expr::ticks::Ticks;
@@ -79,13 +79,7 @@ fn update_q(
         ticks,
     );
     q.union_with(&scratch.elapsed.delayed, ticks);
-    add_without(
-        q,
-        &scratch.inputs.pulse,
-        pulse,
-        &mut scratch.room,
-        ticks,
-    );
+    add_without(q, &scratch.inputs.pulse, pulse, &mut scratch.room, ticks);
     q.union_with(&scratch.elapsed.stored_delayed, ticks);
     q.union_with(delayed_stored, ticks);
     add_without(

@@ -23,7 +23,13 @@ pub fn store(next: &mut Flags, stored: &Flags, sets: &Flags, resets: &Flags, tic
 }
 
 /// Adds what is in one set and not in the other; `room` is used up.
-pub fn add_without(into: &mut Flags, set: &Flags, other: &Flags, room: &mut Flags, ticks: &mut Ticks)
+pub fn add_without(
+    into: &mut Flags,
+    set: &Flags,
+    other: &Flags,
+    room: &mut Flags,
+    ticks: &mut Ticks,
+)
     requires set { length set.now ≡ length into.old }
     requires other { length other.now ≡ length into.old }
     requires room { length room.old ≡ length into.old }

@@ -1,5 +1,5 @@
 -- What the associations that act leave as inputs.
-use Rattle.std.specs.Prelude.{ℕ, ◌≡◌, ◌==◌, ◌<◌, Bool, true, false, cond}
+use Rattle.std.specs.Prelude.{ℕ, ◌≡◌, ◌==◌, ◌<◌, true, false, cond}
 use Rattle.std.specs.Prelude.{List, [], ◌∷◌, length, filter, replicate, slice_set, slice_index_or, ℤ, pos}
 use Rattle.sfc_text.specs.declared.tree.TimedQualifier.{TimedQualifier}
 use Rattle.sfc_flags.specs.Flags.{flag}

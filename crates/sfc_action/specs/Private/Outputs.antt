@@ -1,5 +1,5 @@
 -- Q of all actions, and what else a scan keeps.
-use Rattle.std.specs.Prelude.{ℕ, ◌≡◌, Bool, not, ◌&&◌, ◌||◌, List, length, ℤ}
+use Rattle.std.specs.Prelude.{ℕ, Bool, not, ◌&&◌, ◌||◌, List}
 use Rattle.sfc_flags.specs.Flags.{flag}
 use Rattle.sfc_action.specs.declared.timed.Timed.{Timed}
 use Rattle.sfc_action.specs.declared.inputs.Inputs.{Inputs}

@@ -1,4 +1,4 @@
-use Rattle.std.proofs.Common.{◌≡◌, drop, length}
+use Rattle.std.proofs.Common.{◌≡◌, drop}
 use Rattle.sfc_expr.specs.Ticks.{Within}
 use Rattle.sfc_action.specs.ActionControl.{first_in}
 use Rattle.sfc_action.specs.Private.Failing.{fault_at}

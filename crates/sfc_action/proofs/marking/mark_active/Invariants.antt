@@ -1,4 +1,4 @@
-use Rattle.std.proofs.Common.{◌≡◌, ◌≤◌, ◌+◌, ◌-◌, drop, length}
+use Rattle.std.proofs.Common.{◌≡◌, ◌≤◌, ◌+◌, ◌-◌, length}
 use Rattle.sfc_flags.specs.Flags.{places_from}
 use Rattle.sfc_action.specs.Private.Marking.{AreSized, marked_at, presets_at}
 use Rattle.sfc_action.proofs.Works.{left}

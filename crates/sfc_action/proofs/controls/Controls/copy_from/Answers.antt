@@ -1,4 +1,4 @@
-use Rattle.std.proofs.Common.{◌≡◌, subst}
+use Rattle.std.proofs.Common.{subst}
 use Rattle.sfc_action.specs.declared.kept.Kept.{Kept}
 use Rattle.sfc_action.specs.Private.Keeping.{IsCopy}
 use Rattle.sfc_action.specs.Agreement.{ControlsAgree}

@@ -1,4 +1,4 @@
-use Rattle.std.proofs.Common.{◌≡◌, sym, subst}
+use Rattle.std.proofs.Common.{sym, subst}
 use Rattle.sfc_action.specs.Private.Keeping.{AreKeptSized}
 use Rattle.sfc_action.specs.Private.Rooms.{IsScratch}
 use Rattle.sfc_action.specs.Agreement.{ControlsAgree}

@@ -1,4 +1,4 @@
-use Rattle.std.proofs.Common.{◌≡◌, ◌∙◌, ap, sym, subst, List, ◌∷◌, length, arith, SFits, w64, to_z, of_z, ℤ, Some, None}
+use Rattle.std.proofs.Common.{◌≡◌, ◌∙◌, ap, sym, subst, length, SFits, w64, to_z, of_z, None}
 use Rattle.std.proofs.lemmas.Int.{to_z-of_z}
 use Rattle.sfc_evolve.specs.Evolution as evolution
 use Rattle.sfc_action.specs.declared.kept.Kept.{Kept}
