@@ -34,3 +34,14 @@ executions true false p1 p0 = refl
 executions false true p1 p0 = refl
 executions false false true p0 = refl
 executions false false false p0 = refl
+
+-- Q now or before is what executes an action without an edge
+pub without_edges : (was now p1 p0 : Bool) → p1 ≡ false → p0 ≡ false → (now || (was && not now) || p1 || p0) ≡ (now || was)
+without_edges was true p1 p0 e f = refl
+without_edges true false p1 p0 e f = refl
+without_edges false false true p0 e f = absurd cc
+without_edges false false false p0 e f = f
+
+pub never : (b : Bool) → (b && false) ≡ false
+never true = refl
+never false = refl

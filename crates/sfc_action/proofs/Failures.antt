@@ -1,8 +1,9 @@
 -- When no action has a fault.
-use Rattle.std.proofs.Common.{◌≡◌, ℕ, zero, suc, Bool, true, false, ◌&&◌, List, [], ◌∷◌, refl}
+use Rattle.std.proofs.Common.{◌≡◌, ℕ, zero, suc, Bool, true, false, ◌&&◌, List, [], ◌∷◌, refl, ◌∙◌, ap}
 use Rattle.std.specs.Prelude.{Option, Some, None, is_some}
 use Rattle.sfc_flags.specs.Flags.{flag, set_from, places_from}
 use Rattle.sfc_tables.specs.declared.step_action.StepAction.{StepAction}
+use Rattle.sfc_evolve.specs.Lookback.{or_else}
 use Rattle.sfc_action.specs.declared.fault.ControlFault.{ControlFault}
 use Rattle.sfc_action.specs.declared.inputs.Inputs.{Inputs}
 use Rattle.sfc_action.specs.declared.stores.Stores.{Stores}
@@ -25,7 +26,7 @@ faultless i stores a e f g = rw (e, f, g) refl
 
 pub first_none : (fault : ℕ → Option ControlFault) (xs : List StepAction) → ((a : ℕ) → fault a ≡ None) → first_in fault xs ≡ None
 first_none fault [] none = refl
-first_none fault (x ∷ xs) none = rw (none x.action.0, first_in) (first_none fault xs none)
+first_none fault (x ∷ xs) none = ap (λ o. or_else o (first_in fault xs)) (none x.action.0) ∙ first_none fault xs none
 
 pub not_some : (o : Option ℕ) → is_some o ≡ false → o ≡ None
 not_some None e = refl

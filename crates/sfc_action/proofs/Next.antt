@@ -13,6 +13,7 @@ use Rattle.sfc_tables.specs.declared.association.Qualifier.{Qualifier}
 use Rattle.sfc_tables.specs.declared.association.Qualifier.TheVariants as qualifier
 use Rattle.sfc_tables.specs.declared.step_action.StepAction.{StepAction}
 use Rattle.sfc_tables.specs.Tables.{Tabled, AreTables}
+use Rattle.sfc_evolve.specs.Lookback.{or_else}
 use Rattle.sfc_action.specs.declared.fault.ControlFault.{ControlFault}
 use Rattle.sfc_action.specs.declared.timed.Timed.{Timed}
 use Rattle.sfc_action.specs.declared.inputs.Inputs.{Inputs}
@@ -63,11 +64,8 @@ are_told tables sound scan ps new_ps i et ep ei en =
     } in
     rw (ei, en) told
 
--- the first of two faults
-abbrev or_first : Option ControlFault → Option ControlFault → Option ControlFault
-or_first o rest = elim o as (λ _. Option ControlFault) [ Some f ↦ Some f | None ↦ rest ]
-
-both_none : (o rest : Option ControlFault) → or_first o rest ≡ None → (o ≡ None) × (rest ≡ None)
+-- neither of two faults is one
+both_none : (o rest : Option ControlFault) → or_else o rest ≡ None → (o ≡ None) × (rest ≡ None)
 both_none None rest e = (refl, e)
 both_none (Some f) rest e = absurd cc
 
@@ -110,7 +108,7 @@ module _ (tables : Tabled) (kept : Kept) (scan : Scan) (h : List Scan) (i : Inpu
   faults_in [] below = refl
   faults_in (x ∷ xs) below =
       let here = All-head (λ (x : StepAction). x.action.0 < n) x xs below in
-      (λ k. or_first (fault_is x.action.0 here k) (faults_in xs (All-tail (λ (x : StepAction). x.action.0 < n) x xs below) k))
+      (λ k. or_else (fault_is x.action.0 here k) (faults_in xs (All-tail (λ (x : StepAction). x.action.0 < n) x xs below) k))
 
   pub first_fault_is : AreTables tables → first_in (fault_at i next) tables.associations ≡ first_fault tables h'
   first_fault_is sound = faults_in tables.associations (λ k d lt. (sound.associations k d lt).action)

@@ -2,13 +2,16 @@
 use Rattle.std.specs.Prelude.{ℕ, ◌==◌, nat_lt, Bool, true, false, not, ◌&&◌, ◌||◌}
 use Rattle.std.specs.Prelude.{List, [], ◌∷◌, length, map, filter, slice_index_or, Option, Some, None, ℤ, pos}
 use Rattle.std.specs.List.{list_any}
-use Rattle.sfc_text.specs.declared.tree.TimedQualifier.TheVariants.{Limited, Delayed, StoredDelayed, DelayedStored, StoredLimited}
+use Rattle.sfc_text.specs.declared.tree.TimedQualifier.TheVariants.{Limited, Delayed, StoredDelayed}
+use Rattle.sfc_text.specs.declared.tree.TimedQualifier.TheVariants.{DelayedStored, StoredLimited}
 use Rattle.sfc_flags.specs.Flags.{flag}
 use Rattle.sfc_timers.specs.Timers.{Reading, Bistable, has_elapsed, is_on}
 use Rattle.sfc_tables.specs.declared.association.Qualifier.{Qualifier}
-use Rattle.sfc_tables.specs.declared.association.Qualifier.TheVariants.{NonStored, Reset, Set, Pulse, RisingPulse, FallingPulse, Timed}
+use Rattle.sfc_tables.specs.declared.association.Qualifier.TheVariants.{NonStored, Reset, Set, Pulse}
+use Rattle.sfc_tables.specs.declared.association.Qualifier.TheVariants.{RisingPulse, FallingPulse, Timed}
 use Rattle.sfc_tables.specs.declared.step_action.StepAction.{StepAction}
 use Rattle.sfc_tables.specs.Tables.{Tabled}
+use Rattle.sfc_evolve.specs.Lookback.{or_else}
 use Rattle.sfc_action.specs.declared.fault.ControlFault.{ControlFault}
 use Rattle.sfc_action.specs.declared.fault.ControlFault.TheVariants.{TwoTimed, SdWhileSl, SlWhileSd}
 
@@ -66,7 +69,8 @@ input tables a letter (scan ∷ h) = list_any (λ x. acts a scan x && is letter 
 -- the times of those that act and have one, in text order
 abbrev pub acting_times : Tabled → ℕ → Scan → List ℤ
 acting_times tables a scan =
-    map (λ x. slice_index_or scan.times x.number.0 (pos 0)) (filter (λ x. acts a scan x && is_timed x.qualifier) tables.associations)
+    let timed = filter (λ x. acts a scan x && is_timed x.qualifier) tables.associations in
+    map (λ x. slice_index_or scan.times x.number.0 (pos 0)) timed
 
 -- T of the block: that time; 0 where none acts that has one
 abbrev pub preset : Tabled → ℕ → Scan → ℤ
@@ -88,9 +92,13 @@ reading tables a value (scan ∷ h) = (value (scan ∷ h), preset tables a scan,
 abbrev pub on_delay : Tabled → ℕ → (List Scan → Bool) → List Scan → Bool
 on_delay tables a value h = has_elapsed (column (reading tables a value) h)
 
+-- what a flip-flop set by this input gets at the newest scan: S, and R
+abbrev pub set_reset : Tabled → ℕ → (List Scan → Bool) → List Scan → Bistable
+set_reset tables a value h = (value h, input tables a R h)
+
 -- the flip-flop that this input sets and R resets
 abbrev pub flip_flop : Tabled → ℕ → (List Scan → Bool) → List Scan → Bool
-flip_flop tables a value h = is_on (column (λ (g : List Scan). let call : Bistable = (value g, input tables a R g) in call) h)
+flip_flop tables a value h = is_on (column (set_reset tables a value) h)
 
 -- 0 at the scan before the newest, and 1 at the newest
 abbrev pub rises : (List Scan → Bool) → List Scan → Bool
@@ -163,7 +171,7 @@ fault_of tables a h = fault_by (is_two_timed tables a h) (sd_while_sl tables a h
 -- the fault of the first of these whose action has one
 abbrev pub first_in : (ℕ → Option ControlFault) → List StepAction → Option ControlFault
 first_in fault [] = None
-first_in fault (x ∷ xs) = elim (fault x.action.0) as (λ _. Option ControlFault) [ Some f ↦ Some f | None ↦ first_in fault xs ]
+first_in fault (x ∷ xs) = or_else (fault x.action.0) (first_in fault xs)
 
 -- the fault of a scan: of the actions by their first associations, the first that has one
 abbrev pub first_fault : Tabled → List Scan → Option ControlFault

@@ -2,7 +2,8 @@
 use Rattle.std.specs.Prelude.{ℕ, ◌==◌, Bool, true, false, cond, ◌&&◌, List, [], ◌∷◌, ◌++◌, length}
 use Rattle.std.specs.List.{list_any}
 use Rattle.sfc_text.specs.declared.tree.TimedQualifier.{TimedQualifier}
-use Rattle.sfc_text.specs.declared.tree.TimedQualifier.TheVariants.{Limited, Delayed, StoredDelayed, DelayedStored, StoredLimited}
+use Rattle.sfc_text.specs.declared.tree.TimedQualifier.TheVariants.{Limited, Delayed, StoredDelayed}
+use Rattle.sfc_text.specs.declared.tree.TimedQualifier.TheVariants.{DelayedStored, StoredLimited}
 use Rattle.sfc_tables.specs.declared.association.Qualifier.{Qualifier}
 use Rattle.sfc_tables.specs.declared.association.Qualifier.TheVariants.{Timed}
 use Rattle.sfc_tables.specs.declared.step_action.StepAction.{StepAction}

@@ -2,6 +2,8 @@
 
 -- what each action's control block gets and gives, scan by scan
 pub mod ActionControl
+-- the same by the numbers of scans
+pub mod ScanNumbers
 -- which on-delays there are
 pub mod Delays
 -- how much a scan handles

@@ -6,6 +6,7 @@
 //! - `faults`: the first fault of a scan.
 //! - `inputs`: the inputs of all blocks in one scan.
 //! - `kept`: what is kept from scan to scan.
+//! - `laws`: what holds of the definitions themselves.
 //! - `listing`: which on-delays there are.
 //! - `marking`: what the active steps give as inputs.
 //! - `outputs`: on-delays of a scan, and Q.
@@ -21,6 +22,7 @@ pub mod fault;
 mod faults;
 mod inputs;
 mod kept;
+pub mod laws;
 mod listing;
 mod marking;
 mod outputs;

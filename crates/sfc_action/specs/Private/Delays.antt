@@ -1,7 +1,8 @@
 -- On-delays of actions.
 use Rattle.std.specs.Prelude.{ℕ, ◌≡◌, ◌<◌, Bool, cond, List, [], ◌∷◌, length, slice_index_or, All, ℤ, pos}
 use Rattle.sfc_text.specs.declared.tree.TimedQualifier.{TimedQualifier}
-use Rattle.sfc_text.specs.declared.tree.TimedQualifier.TheVariants.{Limited, Delayed, StoredDelayed, DelayedStored, StoredLimited}
+use Rattle.sfc_text.specs.declared.tree.TimedQualifier.TheVariants.{Limited, Delayed, StoredDelayed}
+use Rattle.sfc_text.specs.declared.tree.TimedQualifier.TheVariants.{DelayedStored, StoredLimited}
 use Rattle.sfc_flags.specs.Flags.{flag}
 use Rattle.sfc_timers.specs.Timers.{Reading, has_elapsed}
 use Rattle.sfc_timers.specs.Agreement.{OnDelayAgrees}
@@ -33,8 +34,8 @@ pub record IsStepped (input : Bool) (pt t : ℤ) (old new : Block) : Type 0 wher
 abbrev pub AreStepped : Inputs → Stores → List ℤ → ℤ → List Block → List Block → Type 0
 AreStepped inputs stores presets t old new = (k : ℕ) (d : Block) → k < length old →
     let block = slice_index_or old k d in
-    IsStepped (flag (input_of block.qualifier inputs stores) block.action.0) (preset_of inputs presets block.action.0) t block
-    (slice_index_or new k d)
+    IsStepped (flag (input_of block.qualifier inputs stores) block.action.0) (preset_of inputs presets block.action.0) t
+    block (slice_index_or new k d)
 
 -- each is of one of n actions
 abbrev pub AreOf : ℕ → List Block → Type 0

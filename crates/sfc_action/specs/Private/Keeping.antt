@@ -2,7 +2,8 @@
 use Rattle.std.specs.Prelude.{ℕ, ◌≡◌, ◌<◌, ◌≤◌, Bool, true, false, not, ◌&&◌, ◌||◌, List, length, replicate, All, ℤ}
 use Rattle.std.specs.List.{list_any}
 use Rattle.sfc_text.specs.declared.tree.TimedQualifier.{TimedQualifier}
-use Rattle.sfc_text.specs.declared.tree.TimedQualifier.TheVariants.{Limited, Delayed, StoredDelayed, DelayedStored, StoredLimited}
+use Rattle.sfc_text.specs.declared.tree.TimedQualifier.TheVariants.{Limited, Delayed, StoredDelayed}
+use Rattle.sfc_text.specs.declared.tree.TimedQualifier.TheVariants.{DelayedStored, StoredLimited}
 use Rattle.sfc_flags.specs.Flags.{flag}
 use Rattle.sfc_timers.specs.Timers.{Reading, has_elapsed}
 use Rattle.sfc_timers.specs.Agreement.{OnDelayAgrees}
@@ -57,8 +58,8 @@ pub record IsActed (inputs : Inputs) (next : Stores) (presets : List ℤ) (t : �
   pub sized : AreKeptSized (length old.q) new
   pub same_blocks : length new.blocks.items ≡ length old.blocks.items
   pub blocks : AreStepped inputs next presets t old.blocks.items new.blocks.items
-  pub delayed_stored : IsNext old.delayed_stored (gathered new.blocks.items (none (length old.q))).delayed_stored inputs.reset
-      new.delayed_stored
+  pub delayed_stored : IsNext old.delayed_stored (gathered new.blocks.items (none (length old.q))).delayed_stored
+      inputs.reset new.delayed_stored
   pub outputs : (a : ℕ) → flag new.q a
       ≡ q_at inputs next (gathered new.blocks.items (none (length old.q))) old.pulse new.delayed_stored a
   pub executions : (a : ℕ) → flag new.executed a

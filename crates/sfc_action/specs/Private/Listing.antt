@@ -21,7 +21,8 @@ pub record IsNew (block : Block) : Type 0 where
 pub record IsListing (n : ℕ) (seen : Timed) (blocks : List Block) : Type 0 where
   pub sized : AreAll n seen
   pub actions : AreOf n blocks
-  pub listed : (qualifier : TimedQualifier) (a : ℕ) → a < n → flag (by qualifier seen) a ≡ list_any (is_of a qualifier) blocks
+  pub listed : (qualifier : TimedQualifier) (a : ℕ) → a < n
+      → flag (by qualifier seen) a ≡ list_any (is_of a qualifier) blocks
   pub fresh : All IsNew blocks
 
 -- by one at most, and no on-delay is gone

@@ -4,7 +4,8 @@ use Rattle.std.specs.Prelude.{List, [], ◌∷◌, length, filter, replicate, sl
 use Rattle.sfc_text.specs.declared.tree.TimedQualifier.{TimedQualifier}
 use Rattle.sfc_flags.specs.Flags.{flag}
 use Rattle.sfc_tables.specs.declared.association.Qualifier.{Qualifier}
-use Rattle.sfc_tables.specs.declared.association.Qualifier.TheVariants.{NonStored, Reset, Set, Pulse, RisingPulse, FallingPulse, Timed}
+use Rattle.sfc_tables.specs.declared.association.Qualifier.TheVariants.{NonStored, Reset, Set, Pulse}
+use Rattle.sfc_tables.specs.declared.association.Qualifier.TheVariants.{RisingPulse, FallingPulse, Timed}
 use Rattle.sfc_tables.specs.declared.step_action.StepAction.{StepAction}
 use Rattle.sfc_action.specs.declared.inputs.Inputs.{Inputs}
 use Rattle.sfc_action.specs.ActionControl.{is_timed}
