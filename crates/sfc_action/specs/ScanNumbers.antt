@@ -1,5 +1,6 @@
 -- The same by the numbers of scans: the scans of a life are numbered from 1, and the newest has the highest number.
-use Rattle.std.specs.Prelude.{ℕ, suc, ◌-◌, ◌<◌, ◌≤◌, ◌≡◌, ◌==◌, Bool, true, false, cond, List, [], ◌∷◌, length, ℤ, pos, ◌≤ℤ◌, ◌-ℤ◌}
+use Rattle.std.specs.Prelude.{ℕ, suc, ◌-◌, ◌<◌, ◌≤◌, ◌≡◌, ◌==◌, Bool, true}
+use Rattle.std.specs.Prelude.{false, cond, List, [], ◌∷◌, length, ℤ, pos, ◌≤ℤ◌, ◌-ℤ◌}
 use Rattle.sfc_tables.specs.Tables.{Tabled}
 use Rattle.sfc_action.specs.ActionControl.{Scan, Letter, R, input, preset}
 
