@@ -72,7 +72,7 @@ acting_times tables a scan =
     let timed = filter (λ x. acts a scan x && is_timed x.qualifier) tables.associations in
     map (λ x. slice_index_or scan.times x.number.0 (pos 0)) timed
 
--- T of the block: that time; 0 where none acts that has one
+-- T of the block: that time, the first where there are more; 0 where none acts that has one (our choice)
 abbrev pub preset : Tabled → ℕ → Scan → ℤ
 preset tables a scan = slice_index_or (acting_times tables a scan) 0 (pos 0)
 
@@ -100,7 +100,7 @@ set_reset tables a value h = (value h, input tables a R h)
 abbrev pub flip_flop : Tabled → ℕ → (List Scan → Bool) → List Scan → Bool
 flip_flop tables a value h = is_on (column (set_reset tables a value) h)
 
--- 0 at the scan before the newest, and 1 at the newest
+-- 0 at the scan before the newest, and 1 at the newest; before the first scan all is 0 (our choice)
 abbrev pub rises : (List Scan → Bool) → List Scan → Bool
 rises value [] = false
 rises value (scan ∷ h) = value (scan ∷ h) && not (value h)
@@ -112,15 +112,19 @@ falls value (scan ∷ h) = value h && not (value (scan ∷ h))
 
 -- ---- Figure 15
 
+-- S_FF, SD_FF and SL_FF
 abbrev pub stored : Tabled → ℕ → Letter → List Scan → Bool
 stored tables a letter h = flip_flop tables a (input tables a letter) h
 
+-- L_TMR, D_TMR and DS_TMR
 abbrev pub delayed : Tabled → ℕ → Letter → List Scan → Bool
 delayed tables a letter h = on_delay tables a (input tables a letter) h
 
+-- SD_TMR and SL_TMR
 abbrev pub stored_then_delayed : Tabled → ℕ → Letter → List Scan → Bool
 stored_then_delayed tables a letter h = on_delay tables a (stored tables a letter) h
 
+-- DS_FF
 abbrev pub delayed_then_stored : Tabled → ℕ → Letter → List Scan → Bool
 delayed_then_stored tables a letter h = flip_flop tables a (delayed tables a letter) h
 
@@ -145,16 +149,18 @@ q tables a h = not (input tables a R h) && contributes tables a h
 abbrev pub executed : Tabled → ℕ → List Scan → Bool
 executed tables a h = q tables a h || falls (q tables a) h || rises (input tables a P1) h || falls (input tables a P0) h
 
--- ---- control faults
+-- ---- control faults: what is an error by 2.6.4.5; which comes first is our choice
 
 -- more than one association with a time acts
 abbrev pub is_two_timed : Tabled → ℕ → List Scan → Bool
 is_two_timed tables a [] = false
 is_two_timed tables a (scan ∷ h) = nat_lt 1 (length (acting_times tables a scan))
 
+-- the input SD is 1 while SL_FF is
 abbrev pub sd_while_sl : Tabled → ℕ → List Scan → Bool
 sd_while_sl tables a h = input tables a SD h && stored tables a SL h
 
+-- the input SL is 1 while SD_FF is
 abbrev pub sl_while_sd : Tabled → ℕ → List Scan → Bool
 sl_while_sd tables a h = input tables a SL h && stored tables a SD h
 

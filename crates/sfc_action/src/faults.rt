@@ -1,6 +1,6 @@
 //! The first fault of a scan.
 
-ghost use Rattle.std.specs.Prelude.{◌≡◌, ◌<◌, ◌+◌, ◌*◌, ℕ, All, None, true, length};
+ghost use Rattle.std.specs.Prelude.{◌≡◌, ◌↔◌, ◌<◌, ◌+◌, ◌*◌, ℕ, All, None, true, length};
 ghost use Rattle.sfc_expr.specs.Ticks.{Within};
 ghost use Rattle.sfc_action.specs.ActionControl.{first_in};
 ghost use Rattle.sfc_action.specs.Private.Marking.{AreSized};
@@ -33,16 +33,16 @@ fn fault_of(inputs: &Inputs, stores: &Stores, action: usize) -> Option<ControlFa
     }
 }
 
-// Whether no action has a fault, as far as sets show it; `room` is used up.
+// Whether no action has a fault; `room` is used up.
 fn is_faultless(inputs: &Inputs, stores: &Stores, room: &mut Flags, ticks: &mut Ticks) -> bool
     requires inputs { AreSized (length inputs.now.any_time) inputs.now }
     requires stores { AreStores (length inputs.now.any_time) stores.now }
     requires room { length room.old ≡ length inputs.now.any_time }
     ensures room { length room.new ≡ length room.old }
-    ensures none { result ≡ true → (a : ℕ) → fault_at inputs.now stores.now a ≡ None }
+    ensures none { (result ≡ true) ↔ ((a : ℕ) → fault_at inputs.now stores.now a ≡ None) }
     ensures ticks { Within (7 * length inputs.now.any_time) ticks.old ticks.new }
 {
-    if inputs.more_times.next_set(0, ticks).is_some() {
+    if let Some(_action) = inputs.more_times.next_set(0, ticks) {
         return false;
     }
     if !are_apart(

@@ -1,6 +1,6 @@
 //! Work on whole sets of actions.
 
-ghost use Rattle.std.specs.Prelude.{◌≡◌, ◌*◌, ◌||◌, ◌&&◌, ℕ, not, true, false, length};
+ghost use Rattle.std.specs.Prelude.{◌≡◌, ◌↔◌, ◌*◌, ◌||◌, ◌&&◌, ℕ, not, true, false, length};
 ghost use Rattle.sfc_expr.specs.Ticks.{Within};
 ghost use Rattle.sfc_flags.specs.Flags.{flag};
 
@@ -49,7 +49,7 @@ pub fn are_apart(set: &Flags, other: &Flags, room: &mut Flags, ticks: &mut Ticks
     requires other { length other.now ≡ length set.now }
     requires room { length room.old ≡ length set.now }
     ensures room { length room.new ≡ length room.old }
-    ensures apart { result ≡ true → (a : ℕ) → (flag set.now a && flag other.now a) ≡ false }
+    ensures apart { (result ≡ true) ↔ ((a : ℕ) → (flag set.now a && flag other.now a) ≡ false) }
     ensures ticks { Within (3 * length set.now) ticks.old ticks.new }
 {
     room.copy_from(set, ticks);
