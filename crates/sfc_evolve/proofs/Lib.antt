@@ -1,6 +1,7 @@
 pub mod Cleared
 pub mod FirstScan
 pub mod Flagged
+pub mod Listed
 pub mod Looks
 pub mod Next
 pub mod NumberedLooks

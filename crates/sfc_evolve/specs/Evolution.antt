@@ -1,6 +1,6 @@
 -- Which transitions a scan clears, which steps are active, and for how long (2.6.2, 2.6.3, 2.6.5).
-use Rattle.std.specs.Prelude.{ℕ, Bool, false, cond, not, ◌&&◌, ◌||◌, List, [], ◌∷◌, length, ℤ, replicate, slice_set}
-use Rattle.std.specs.List.{list_any, list_all}
+use Rattle.std.specs.Prelude.{ℕ, Bool, false, cond, not, ◌&&◌, ◌||◌, List, [], ◌∷◌, length, map, ℤ, replicate, slice_set}
+use Rattle.std.specs.List.{list_any, list_all, range_with_len}
 use Rattle.sfc_expr.specs.declared.variable.StepId.{StepId}
 use Rattle.sfc_flags.specs.Flags.{flag, places_from}
 use Rattle.sfc_tables.specs.declared.ids.TransitionId.{TransitionId}
@@ -79,6 +79,10 @@ is_deactivated tables s row = not (is_activated tables s row) && leaves tables r
 -- The step is active after these scans: one activated it, and no later one deactivated it (2.6.2).
 abbrev pub is_active : Tabled → List Row → ℕ → Bool
 is_active tables rows s = is_in (is_activated tables s) (is_deactivated tables s) rows
+
+-- of each step, by its number, whether it is active after these scans
+abbrev pub active_steps : Tabled → List Row → List Bool
+active_steps tables rows = map (is_active tables rows) (range_with_len 0 (step_count tables))
 
 -- The step's time up to now: since its latest activation, and up to the scan that deactivated it then, if one did; 0
 -- where it was never activated (2.6.2; our choice where it was never active).

@@ -39,7 +39,7 @@ impl Steps {
     ghost use Rattle.sfc_expr.specs.Ticks.{Within};
     ghost use Rattle.sfc_flags.specs.Flags.{flag};
     ghost use Rattle.sfc_tables.specs.Tables.{Tabled};
-    ghost use Rattle.sfc_evolve.specs.Evolution.{Scan, rows_of, is_active, is_enabled, step_time};
+    ghost use Rattle.sfc_evolve.specs.Evolution.{Scan, rows_of, is_active, active_steps, is_enabled, step_time};
     ghost use Rattle.sfc_evolve.specs.Evolution.{was_cleared, was_activated, preceding_of};
     ghost use Rattle.sfc_evolve.specs.Work.{advance_work};
     ghost use Rattle.sfc_evolve.specs.Agreement.{IsFor, StepsAgree, step_places, transition_places};
@@ -107,7 +107,7 @@ impl Steps {
     pub fn active_flags(&self) -> &Flags
         ensures len { length result.now ≡ step_places self.now }
         ensures flags { (tables : Tabled) (scans : List Scan) → StepsAgree tables self.now scans →
-            (s : ℕ) → s < step_places self.now → flag result.now s ≡ is_active tables (rows_of tables scans) s }
+            result.now ≡ active_steps tables (rows_of tables scans) }
     {
         &self.active
     }

@@ -1,0 +1,15 @@
+pub mod Choices
+pub mod DelayLists
+pub mod Elapsed
+pub mod Elements
+pub mod Failures
+pub mod Fitting
+pub mod Moments
+pub mod Next
+pub mod Numbers
+pub mod Sizes
+pub mod Starts
+pub mod Timings
+pub mod Told
+pub mod Walks
+pub mod Works

@@ -1,0 +1,39 @@
+use Rattle.std.proofs.Common.{sym, subst}
+use Rattle.sfc_action.specs.Private.Keeping.{AreKeptSized}
+use Rattle.sfc_action.specs.Private.Rooms.{IsScratch}
+use Rattle.sfc_action.specs.Agreement.{ControlsAgree}
+use Rattle.sfc_action.proofs.Fitting.{is_for}
+use Rattle.sfc_action.proofs.Starts.{all_listed, fresh_sized, fresh_for, fresh_kept}
+use Rattle.sfc_action.proofs.controls.Controls.new.Goals as goal
+
+pub invariant_of-result : goal.invariant_of-result
+invariant_of-result c =
+    let n = c.actions-n.result in
+    let blocks = c.in_ok-blocks.blocks.items in
+    let listed = all_listed n c.in_ok-seen.seen c.step_actions.result.now blocks c.in_ok-seen.ensures c.in_ok-blocks.ensures in
+    let sized = fresh_sized n blocks c.in_ok-kept.kept c.in_ok-kept.ensures listed.actions in
+    record {
+      kept_sized = subst (λ k. AreKeptSized k c.in_ok-kept.kept) (sym sized.q) sized;
+      scratch_sized = subst (λ k. IsScratch k c.in_ok-scratch.scratch) (sym sized.q) c.in_ok-scratch.ensures;
+    }
+
+pub returns-clause-sizes : goal.returns-clause-sizes
+returns-clause-sizes c =
+    let n = c.actions-n.result in
+    let blocks = c.in_ok-blocks.blocks.items in
+    let listed = all_listed n c.in_ok-seen.seen c.step_actions.result.now blocks c.in_ok-seen.ensures c.in_ok-blocks.ensures in
+    is_for c.args.tables.now c.in_ok-kept.kept
+    (fresh_for c.args.tables.now n c.step_actions.result.now blocks c.in_ok-kept.kept c.actions-n.ensures c.step_actions.ensures
+    c.in_ok-kept.ensures listed)
+
+pub returns-clause-agrees : goal.returns-clause-agrees
+unfolding ControlsAgree
+returns-clause-agrees c =
+    let n = c.actions-n.result in
+    let blocks = c.in_ok-blocks.blocks.items in
+    let listed = all_listed n c.in_ok-seen.seen c.step_actions.result.now blocks c.in_ok-seen.ensures c.in_ok-blocks.ensures in
+    record {
+      size = fresh_for c.args.tables.now n c.step_actions.result.now blocks c.in_ok-kept.kept c.actions-n.ensures
+          c.step_actions.ensures c.in_ok-kept.ensures listed;
+      each = fresh_kept c.args.tables.now n blocks c.in_ok-kept.kept c.in_ok-kept.ensures listed.fresh;
+    }

@@ -1,0 +1,88 @@
+use Rattle.std.proofs.Common.{◌≡◌, ◌∙◌, ap, sym, subst, length, SFits, w64, to_z, of_z, None}
+use Rattle.std.proofs.lemmas.Int.{to_z-of_z}
+use Rattle.sfc_evolve.specs.Evolution as evolution
+use Rattle.sfc_action.specs.declared.kept.Kept.{Kept}
+use Rattle.sfc_action.specs.ActionControl.{first_in}
+use Rattle.sfc_action.specs.Private.Failing.{fault_at}
+use Rattle.sfc_action.specs.Private.Storing.{AreNext}
+use Rattle.sfc_action.specs.Private.Keeping.{IsActed}
+use Rattle.sfc_action.specs.Agreement.{ControlsAgree}
+use Rattle.sfc_action.proofs.Fitting.{is_for, are_for}
+use Rattle.sfc_action.proofs.Next.{IsRead, fault_read, kept_read, next_size}
+use Rattle.sfc_action.proofs.controls.Controls.step.Goals as goal
+
+pub returns-in-Some-clause-fault : goal.returns-in-Some-clause-fault
+unfolding ControlsAgree
+returns-in-Some-clause-fault c scans h steps agrees =
+    let tables = c.args.tables.now in
+    let scratch = c.read.new.self in
+    let read : IsRead tables c.args.self.now c.active_flags.result.now c.args.times.now c.self.inside.scratch.presets.items
+    scratch.inputs scratch.presets.items scratch.stores = record {
+      sound = c.steps-steps.ensures.tables;
+      same_times = c.requires.times;
+      room = c.self.invariant.scratch_sized.presets ∙ ap (λ (k : Kept). length k.q) c.self.view_is ∙ c.requires.sizes.same_actions;
+      inputs = c.read.ensures.inputs;
+      presets = c.read.ensures.presets;
+      stores = subst (λ (k : Kept). AreNext k.stores scratch.inputs scratch.stores) c.self.view_is c.read.ensures.next;
+    } in
+    sym c.in-Some.is ∙ c.first_fault.ensures.fault
+    ∙ ap (first_in (fault_at scratch.inputs scratch.stores)) c.step_actions.ensures
+    ∙ fault_read tables c.args.self.now c.active_flags.result.now c.args.times.now c.self.inside.scratch.presets.items scratch.inputs
+    scratch.presets.items scratch.stores c.args.t h read agrees.each
+    (evolution.active_steps tables (evolution.rows_of tables scans)) (c.active_flags.ensures.flags tables scans steps)
+
+pub returns-clause-sizes : goal.returns-clause-sizes
+returns-clause-sizes c =
+    let scratch = c.read.new.self in
+    let same : c.self.inside.kept ≡ c.args.self.now = c.self.view_is in
+    let t = to_z w64 (of_z w64 c.args.t) in
+    is_for c.args.tables.now c.act.new.self (next_size c.args.tables.now c.args.self.now c.act.new.self scratch.inputs scratch.presets.items scratch.stores t
+    (are_for c.args.tables.now c.args.self.now c.requires.sizes)
+    (subst (λ (k : Kept). IsActed scratch.inputs scratch.stores scratch.presets.items t k c.act.new.self) same c.act.ensures.acted))
+
+-- what the scratch has read
+read_of : (c : goal.After-act) → IsRead c.args.tables.now c.args.self.now c.active_flags.result.now c.args.times.now
+    c.self.inside.scratch.presets.items c.read.new.self.inputs c.read.new.self.presets.items c.read.new.self.stores
+read_of c = record {
+  sound = c.steps-steps.ensures.tables;
+  same_times = c.requires.times;
+  room = c.self.invariant.scratch_sized.presets ∙ ap (λ (k : Kept). length k.q) c.self.view_is ∙ c.requires.sizes.same_actions;
+  inputs = c.read.ensures.inputs;
+  presets = c.read.ensures.presets;
+  stores = subst (λ (k : Kept). AreNext k.stores c.read.new.self.inputs c.read.new.self.stores) c.self.view_is c.read.ensures.next;
+}
+
+pub returns-clause-fault : goal.returns-clause-fault
+unfolding ControlsAgree
+returns-clause-fault c scans h steps agrees =
+    let tables = c.args.tables.now in
+    let scratch = c.read.new.self in
+    sym c.in_default.is ∙ c.first_fault.ensures.fault
+    ∙ ap (first_in (fault_at scratch.inputs scratch.stores)) c.step_actions.ensures
+    ∙ fault_read tables c.args.self.now c.active_flags.result.now c.args.times.now c.self.inside.scratch.presets.items scratch.inputs
+    scratch.presets.items scratch.stores c.args.t h (read_of c) agrees.each
+    (evolution.active_steps tables (evolution.rows_of tables scans)) (c.active_flags.ensures.flags tables scans steps)
+
+pub returns-clause-kept : goal.returns-clause-kept
+unfolding ControlsAgree
+returns-clause-kept c scans h steps agrees =
+    let tables = c.args.tables.now in
+    let scratch = c.read.new.self in
+    let same : c.self.inside.kept ≡ c.args.self.now = c.self.view_is in
+    let fits : SFits w64 c.args.t = c.ranges.t in
+    let there = to_z w64 (of_z w64 c.args.t) in
+    let acted : IsActed scratch.inputs scratch.stores scratch.presets.items there c.args.self.now c.act.new.self =
+    subst (λ (k : Kept). IsActed scratch.inputs scratch.stores scratch.presets.items there k c.act.new.self) same c.act.ensures.acted in
+    let at : IsActed scratch.inputs scratch.stores scratch.presets.items c.args.t c.args.self.now c.act.new.self =
+    simp to_z-of_z at acted in
+    let faultless : first_in (fault_at scratch.inputs scratch.stores) tables.associations ≡ None =
+    sym (ap (first_in (fault_at scratch.inputs scratch.stores)) c.step_actions.ensures) ∙ sym c.first_fault.ensures.fault
+    ∙ c.in_default.is in
+    record {
+      size = next_size tables c.args.self.now c.act.new.self scratch.inputs scratch.presets.items scratch.stores c.args.t
+          (are_for tables c.args.self.now c.requires.sizes) at;
+      each = kept_read tables c.args.self.now c.active_flags.result.now c.args.times.now c.self.inside.scratch.presets.items
+          scratch.inputs scratch.presets.items scratch.stores c.args.t h (read_of c) agrees.each c.act.new.self
+          (evolution.active_steps tables (evolution.rows_of tables scans)) (c.active_flags.ensures.flags tables scans steps)
+          (are_for tables c.args.self.now c.requires.sizes) faultless at;
+    }

@@ -1,0 +1,14 @@
+-- The rules, in reading order.
+
+-- what each action's control block gets and gives, scan by scan
+pub mod ActionControl
+-- the same by the numbers of scans
+pub mod ScanNumbers
+-- which on-delays there are
+pub mod Delays
+-- how much a scan handles
+pub mod Work
+-- what a `Controls` agrees with
+pub mod Agreement
+-- What private clauses cite.
+pub mod Private

@@ -1,0 +1,11 @@
+-- What private clauses cite.
+pub mod TimedSets
+pub mod Marking
+pub mod Storing
+pub mod Delays
+pub mod Failing
+pub mod Rooms
+pub mod Outputs
+pub mod Copies
+pub mod Keeping
+pub mod Listing

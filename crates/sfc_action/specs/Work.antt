@@ -1,0 +1,8 @@
+-- How much a scan handles, at most: steps, associations and actions. A set of actions is worked on by words, and each
+-- counts as at most one for each action.
+use Rattle.std.specs.Prelude.{ℕ, ◌+◌, ◌*◌, length}
+use Rattle.sfc_tables.specs.Tables.{Tabled}
+
+-- of action control in a scan
+abbrev pub control_work : Tabled → ℕ
+control_work tables = length tables.initial + 4 * length tables.associations + 65 * length tables.actions

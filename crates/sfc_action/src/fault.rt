@@ -1,0 +1,12 @@
+//! Control faults.
+
+/// Why a scan can't tell what an action's control block does (2.6.4.5).
+#[derive(Clone, Copy, Debug, PartialEq, Eq)]
+pub enum ControlFault {
+    /// More than one association with a time is active.
+    TwoTimed,
+    /// The input SD is TRUE while SL is stored.
+    SdWhileSl,
+    /// The input SL is TRUE while SD is stored.
+    SlWhileSd,
+}

@@ -1,0 +1,80 @@
+//! Room for a scan.
+
+use crate::inputs::Inputs;
+use crate::marking::mark_active;
+use crate::stores::Stores;
+use crate::timed::Timed;
+use sfc_expr::ticks::Ticks;
+use sfc_flags::flags::Flags;
+use sfc_tables::tables::Tables;
+use std::alloc::{AllocError, Global};
+
+/// The inputs and times of a scan, the flip-flops after it, and the on-delays that have elapsed. Each scan writes all
+/// anew; `room` is used up time and again.
+#[derive(Drop)]
+pub struct Scratch {
+    pub inputs: Inputs,
+    pub presets: Vec<i64>,
+    pub stores: Stores,
+    pub elapsed: Timed,
+    pub room: Flags,
+}
+
+impl Scratch {
+    ghost use Rattle.std.specs.Prelude.{◌≡◌, ◌+◌, ◌*◌, length, IfOk};
+    ghost use Rattle.sfc_expr.specs.Ticks.{Within};
+    ghost use Rattle.sfc_flags.specs.Flags.{places_from};
+    ghost use Rattle.sfc_tables.specs.Tables.{AreTables};
+    ghost use Rattle.sfc_action.specs.Private.Marking.{cleared, marked_at, presets_at};
+    ghost use Rattle.sfc_action.specs.Private.Storing.{AreStores, AreNext};
+    ghost use Rattle.sfc_action.specs.Private.Rooms.{IsScratch};
+
+    /// Room for so many actions.
+    #[tactic(auto, using(crate::proofs::Sizes::are_sized, crate::proofs::Sizes::are_stores, crate::proofs::Sizes::are_all))]
+    pub fn new(alloc: Global, actions: usize) -> Result<Self, AllocError>
+        ensures { IfOk result (λ scratch. IsScratch actions scratch) }
+    {
+        Ok(Scratch {
+            inputs: Inputs::new(alloc, actions)?,
+            presets: vec![in alloc; 0; actions]?,
+            stores: Stores::new(alloc, actions)?,
+            elapsed: Timed::new(alloc, actions)?,
+            room: Flags::new(alloc, actions)?,
+        })
+    }
+
+    /// Reads what a scan is told: the inputs of all blocks, the times, and what the flip-flops become.
+    pub fn read(
+        &mut self,
+        stored: &Stores,
+        tables: &Tables,
+        active: &Flags,
+        times: &[i64],
+        ticks: &mut Ticks,
+    )
+        requires tables { AreTables tables.now }
+        requires sized { IsScratch (length tables.now.actions) self.old }
+        requires stored { AreStores (length tables.now.actions) stored.now }
+        requires steps { length active.now ≡ length tables.now.initial }
+        requires times { length times.now ≡ length tables.now.associations }
+        ensures sized { IsScratch (length tables.now.actions) self.new }
+        ensures inputs { self.new.inputs
+            ≡ marked_at tables.now.associations (places_from active.now 0) (cleared (length tables.now.actions)) }
+        ensures presets { self.new.presets.items
+            ≡ presets_at times.now tables.now.associations (places_from active.now 0) self.old.presets.items }
+        ensures next { AreNext stored.now self.new.inputs self.new.stores }
+        ensures ticks { Within (22 * length tables.now.actions + length active.now + length tables.now.associations)
+            ticks.old ticks.new }
+    {
+        self.inputs.clear(ticks);
+        mark_active(
+            &mut self.inputs,
+            &mut self.presets,
+            tables,
+            active,
+            times,
+            ticks,
+        );
+        self.stores.update(stored, &self.inputs, ticks);
+    }
+}
