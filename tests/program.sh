@@ -44,6 +44,8 @@ usage "no script" "<SCRIPT>" replay "$chart"
 usage "a third file" "unexpected argument" replay "$chart" "$script" "$script"
 usage "no file to check" "<FILE>" check
 usage "a second file to check" "unexpected argument" check "$chart" "$script"
+usage "no file to list" "<FILE>" list
+usage "a second file to list" "unexpected argument" list "$chart" "$script"
 usage "no such option" "unexpected argument" replay --fast "$chart" "$script"
 usage "a name that isn't UTF-8" "invalid UTF-8" replay $'caf\xe9.chart' "$script"
 
@@ -65,6 +67,23 @@ for example in "$examples"/*.chart "$work/press.chart"; do
   ends 0 && [ "$(cat "$work/out")" = ok ] && says ""
   note $? "$(basename "$example"), checked"
 done
+# a listing is what docs/FORMATS.md shows, is checked without fault, and lists the same again
+awk '/^## Listing/ { seen = 1 } seen && /^```/ { if (++fence == 2) exit; next } fence == 1' "$top/docs/FORMATS.md" >"$work/shown.chart"
+run list "$work/shown.chart"
+ends 0 && cmp -s "$work/out" "$work/shown.chart" && says ""
+note $? "the listing that is shown"
+for example in "$examples"/*.chart "$work/press.chart"; do
+  run list "$example"
+  ends 0 && says "" && cp "$work/out" "$work/listed.chart" && run list "$work/listed.chart" && ends 0 && cmp -s "$work/out" "$work/listed.chart" \
+    && run check "$work/listed.chart" && ends 0
+  note $? "$(basename "$example"), listed"
+done
+run list --help
+ends 0 && mentions "Exit status:" out && mentions "docs/FORMATS.md" out && mentions "Example:" out && says ""
+note $? "the help on list"
+fails "a chart that is listed, and that the reader refuses" 1 "refused 4 Syntax line 2" list "$work/faulty.chart"
+fails "a chart that is listed, and that the loader refuses" 1 "refused 14 NoInitial" list "$work/dark.chart"
+fails "a chart to be listed that isn't there" 3 "read fault" list "$work/no.chart"
 fails "a chart that is checked, and that the reader refuses" 1 "refused 4 Syntax line 2" check "$work/faulty.chart"
 fails "a chart that is checked, and that the loader refuses" 1 "refused 14 NoInitial" check "$work/dark.chart"
 fails "a chart to be checked that isn't there" 3 "read fault" check "$work/no.chart"
