@@ -139,7 +139,9 @@ impl Case {
             Command::Replay => self.replayed(alloc, chart)?,
         };
         if !self.lists_alike(alloc, chart)? {
-            ending.fault.push_str(" (and its listing lists another text)")?;
+            ending
+                .fault
+                .push_str(" (and its listing lists another text)")?;
         }
         Ok(ending)
     }

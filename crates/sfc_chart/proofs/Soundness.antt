@@ -1,5 +1,5 @@
 -- Where no check fails, the plant is sound.
-use Rattle.std.proofs.Common.{◌≡◌, ℕ, ◌<◌, ◌≤◌, ℤ, pos, ◌≤ℤ◌, int_lt, nat_lt, Bool, false, List, [], ◌∷◌, ◌++◌, length, map, All, Option, Some, None, unwrap_or, is_none, refl, sym, subst, ◌∙◌, rules}
+use Rattle.std.proofs.Common.{◌≡◌, ℕ, ◌<◌, ◌≤◌, ℤ, pos, ◌≤ℤ◌, int_lt, nat_lt, false, List, [], ◌∷◌, ◌++◌, length, map, All, Option, Some, None, unwrap_or, is_none, refl, sym, subst, ◌∙◌, rules}
 use Rattle.std.specs.Option.{option_map}
 use Rattle.std.proofs.lemmas.List.{length-map}
 use Rattle.std.proofs.lemmas.List.Elements.{All-nil, All-cons, All-map}
@@ -16,7 +16,7 @@ use Rattle.sfc_expr.specs.NameLists.{has, place_of}
 use Rattle.sfc_variables.specs.declared.load_error.LoadError.TheVariants as fault
 use Rattle.sfc_variables.specs.declared.load_error.Limit.TheVariants as limit
 use Rattle.sfc_variables.specs.declared.variable.Variable.{Variable}
-use Rattle.sfc_variables.specs.Checks.{◌then◌, when, in_turn, typed}
+use Rattle.sfc_variables.specs.Checks.{when, in_turn, typed}
 use Rattle.sfc_variables.specs.Declarations.{globals_check, globals_of}
 use Rattle.sfc_variables.specs.Finding.{names_of, variable_place, typed_at}
 use Rattle.sfc_variables.specs.Own.{global_id}

@@ -1,5 +1,5 @@
 -- The plant that a text without fault is, and the whole walk: each name that was looked up stands as its number.
-use Rattle.std.specs.Prelude.{ℕ, List, map, Option, unwrap_or}
+use Rattle.std.specs.Prelude.{ℕ, List, map, unwrap_or}
 use Rattle.std.specs.Option.{option_map}
 use Rattle.sfc_text.specs.declared.tree.Instance as text_instance
 use Rattle.sfc_text.specs.declared.tree.Task as text_task

@@ -1,5 +1,6 @@
 -- What a variable reads (2.4).
-use Rattle.std.specs.Prelude.{ℕ, ◌+◌, ◌==◌, ◌&&◌, nat_le, nat_lt, cond, Bool, false, List, [], ◌∷◌, length, Option, Some, None, slice_get, unwrap_or}
+use Rattle.std.specs.Prelude.{ℕ, ◌+◌, ◌==◌, ◌&&◌, nat_le, nat_lt, cond, Bool, false}
+use Rattle.std.specs.Prelude.{List, [], ◌∷◌, length, Option, Some, None, slice_get, unwrap_or}
 use Rattle.sfc_chart.specs.declared.ids.ProgId.{ProgId}
 use Rattle.sfc_chart.specs.Plants.{PlantData}
 use Rattle.sfc_chart.specs.Image.{image_variables}

@@ -1,5 +1,5 @@
 -- The step of a name, among the steps and among their names.
-use Rattle.std.proofs.Common.{◌≡◌, ℕ, ◌<◌, ◌≤◌, nat_lt, Bool, true, false, not, cond, List, [], ◌∷◌, length, map, Option, Some, None, position, ◌+◌, refl, ap, ◌∙◌, sym}
+use Rattle.std.proofs.Common.{◌≡◌, ℕ, ◌<◌, nat_lt, Bool, true, false, not, cond, List, [], ◌∷◌, length, map, Some, None, ◌+◌, refl, ap, ◌∙◌, sym}
 use Rattle.std.specs.List.{position_or_len}
 use Rattle.std.proofs.lemmas.List.{length-map}
 use Rattle.std.proofs.lemmas.List.Quantifiers.{position-Some}
@@ -23,7 +23,7 @@ step_place_among chart name =
     let n : length (map (λ (s : Step). s.name) chart.steps) ≡ length chart.steps = length-map chart.steps (λ s. s.name) in
     ap (λ i. cond (nat_lt i (length chart.steps)) (Some i) None) at
     ∙ ap (λ m. cond (nat_lt (position_or_len (same_word name) (map (λ s. s.name) chart.steps)) m)
-        (Some (position_or_len (same_word name) (map (λ s. s.name) chart.steps))) None) (sym n)
+    (Some (position_or_len (same_word name) (map (λ s. s.name) chart.steps))) None) (sym n)
 
 pub step_place_below : (chart : Chart) (name : List ℕ) (i : ℕ) → step_place chart name ≡ Some i → i < length chart.steps
 step_place_below chart name i e = (position-Some (λ s. same_word name s.name) chart.steps i (record { name = []; is_initial = false; associations = [] }) e).0

@@ -81,7 +81,9 @@ fn check_command<'a>(alloc: Global) -> Result<Command<'a>, AllocError> {
 
 fn list_command<'a>(alloc: Global) -> Result<Command<'a>, AllocError> {
     Command::new(alloc, "list")
-        .about("Prints the text of a chart anew: all that it says, in one layout, each type and value written out")
+        .about(
+            "Prints the text of a chart anew: all that it says, in one layout, each type and value written out",
+        )
         .after_help(LIST_NOTES)
         .arg(chart_argument(alloc))
 }
