@@ -6,6 +6,7 @@ use Rattle.std.specs.Fmt.{decimal}
 use Rattle.sfc_tokens.specs.declared.location.Location.{Location}
 use Rattle.sfc_tokens.specs.TimeText.{time_text}
 use Rattle.sfc_expr.specs.declared.variable.GlobalId.{GlobalId}
+use Rattle.sfc_expr.specs.declared.variable.Variable.TheVariants.{Global}
 use Rattle.sfc_variables.specs.declared.variable.Variable.{Variable}
 use Rattle.sfc_variables.specs.Finding.{names_of}
 use Rattle.sfc_tables.specs.declared.chart.Chart.{Chart}
@@ -16,7 +17,7 @@ use Rattle.sfc_chart.specs.declared.instance.Instance.{Instance}
 use Rattle.sfc_chart.specs.Plants.{PlantData}
 use Rattle.sfc_list.specs.Layout.{line, block}
 use Rattle.sfc_list.specs.Values.{type_text, literal_text, location_text}
-use Rattle.sfc_list.specs.Names.{name_at, external_name}
+use Rattle.sfc_list.specs.Names.{name_at, variable_name}
 use Rattle.sfc_list.specs.Charts.{step_text, transition_text, action_text}
 
 -- ---- variables (2.4.3)
@@ -36,9 +37,10 @@ abbrev pub external_type : Option Variable → List ℕ
 external_type None = []
 external_type (Some v) = type_text v.var_type
 
+-- an external has the name of the global that it is
 abbrev pub external_text : Space → GlobalId → List ℕ
 external_text space id =
-    external_name space id ++ codes " : " ++ external_type (slice_get space.globals id.0) ++ codes ";"
+    variable_name space (Global id) ++ codes " : " ++ external_type (slice_get space.globals id.0) ++ codes ";"
 
 -- ---- program types (2.5.3)
 

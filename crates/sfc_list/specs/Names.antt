@@ -1,6 +1,5 @@
 -- Names as they were declared (2.1.2), of what stands in a program type as a number.
 use Rattle.std.specs.Prelude.{ℕ, List, [], slice_index_or}
-use Rattle.sfc_expr.specs.declared.variable.GlobalId.{GlobalId}
 use Rattle.sfc_expr.specs.declared.variable.Variable.{Variable}
 use Rattle.sfc_expr.specs.declared.variable.Variable.TheVariants.{Global, Local}
 use Rattle.sfc_expr.specs.declared.variable.StepId.{StepId}
@@ -21,7 +20,3 @@ step_name space id = name_at space.steps id.0
 
 abbrev pub action_name : Space → ActionId → List ℕ
 action_name space id = name_at space.actions id.0
-
--- an external has the name of the global that it is
-abbrev pub external_name : Space → GlobalId → List ℕ
-external_name space id = name_at (names_of space.globals) id.0

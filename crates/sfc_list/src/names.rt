@@ -79,13 +79,6 @@ impl<'a> Names<'a> {
         }
     }
 
-    /// The name of an external, which is that of its global variable.
-    pub fn external(&self, external: GlobalId) -> &[u8]
-        ensures { result.now ≡ names.external_name self.now external }
-    {
-        variable_at(self.globals, external.0)
-    }
-
     /// The type of an external, which is that of its global variable.
     pub fn external_type(&self, external: GlobalId) -> &'static [u8]
         ensures { result.now ≡ external_type (slice_get self.now.globals external.0) }

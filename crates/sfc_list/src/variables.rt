@@ -10,7 +10,7 @@ use crate::layout::put_indent;
 use crate::names::Names;
 use crate::sink::Sink;
 use crate::value::{put_literal, put_location, type_word};
-use sfc_expr::variable::GlobalId;
+use sfc_expr::variable::{GlobalId, Variable as Named};
 use sfc_tokens::location::Location;
 use sfc_variables::variable::Variable;
 use std::io::Write;
@@ -64,7 +64,7 @@ pub fn put_variables<W: Write>(level: usize, variables: &[Variable], out: &mut S
 fn put_external<W: Write>(names: &Names, external: GlobalId, out: &mut Sink<'_, W>)
     ensures { Puts W.contents out.old out.new (text.external_text names.now external) }
 {
-    out.put(names.external(external));
+    out.put(names.variable(Named::Global(external)));
     out.put(b" : ");
     out.put(names.external_type(external));
     out.put(b";");

@@ -1,5 +1,6 @@
 -- What is kept of the scans of a life, in place of their rows.
-use Rattle.std.specs.Prelude.{ℕ, ◌≡◌, ◌<◌, ◌≤◌, Bool, true, false, not, ◌&&◌, ◌||◌, List, length, replicate, All, ℤ}
+use Rattle.std.specs.Prelude.{ℕ, ◌≡◌, ◌<◌, ◌≤◌, Bool, true, false}
+use Rattle.std.specs.Prelude.{not, ◌&&◌, ◌||◌, List, length, replicate, All, ℤ}
 use Rattle.std.specs.List.{list_any}
 use Rattle.sfc_text.specs.declared.tree.TimedQualifier.{TimedQualifier}
 use Rattle.sfc_text.specs.declared.tree.TimedQualifier.TheVariants.{Limited, Delayed, StoredDelayed}
