@@ -23,11 +23,12 @@ value_same (Binary o t a b) one other h = rw (value_same a one other h.0, value_
 -- ---- statements
 
 same : (env : Environment) → KeepsAllButValues env env
-same env = record { variables = refl; steps = refl; times = refl; q = refl }
+same env = record { variables = refl; forces = refl; steps = refl; times = refl; q = refl }
 
 then_same : (a b c : Environment) → KeepsAllButValues a b → KeepsAllButValues b c → KeepsAllButValues a c
 then_same a b c h k = record {
   variables = k.variables ∙ h.variables;
+  forces = k.forces ∙ h.forces;
   steps = k.steps ∙ h.steps;
   times = k.times ∙ h.times;
   q = k.q ∙ h.q;
@@ -48,7 +49,7 @@ either env false o p h k = k
 mutual
   pub effect_same : (body : Body) (env : Environment) → KeepsAllButValues env (effect body env).environment
   effect_same Nothing env = same env
-  effect_same (Assign v e rest) env = on_value_same env (value_of env e) _ (λ x. then_same env (assigned env v x) _ (record { variables = refl; steps = refl; times = refl; q = refl }) (effect_same rest (assigned env v x)))
+  effect_same (Assign v e rest) env = on_value_same env (value_of env e) _ (λ x. then_same env (assigned env v x) _ (record { variables = refl; forces = refl; steps = refl; times = refl; q = refl }) (effect_same rest (assigned env v x)))
   effect_same (If bs rest) env = on_end_same env (branch_effect bs env).result (branch_effect bs env).environment _ (branches_same bs env) (effect_same rest (branch_effect bs env).environment)
 
   branches_same : (bs : Branches) (env : Environment) → KeepsAllButValues env (branch_effect bs env).environment

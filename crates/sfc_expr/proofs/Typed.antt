@@ -1,5 +1,5 @@
 -- Typed trees have values of their types.
-use Rattle.std.proofs.Common.{◌≡◌, ◌&&◌, ℕ, Bool, true, false, cond, Some, ℤ, pos, int_div, Result, Ok, Err, IfOk, refl, sym, ap, subst, ◌∙◌}
+use Rattle.std.proofs.Common.{◌≡◌, ◌&&◌, ℕ, Bool, true, false, cond, Option, Some, None, unwrap_or, IfSome, ℤ, pos, int_div, Result, Ok, Err, IfOk, refl, sym, ap, subst, ◌∙◌}
 use Rattle.std.specs.Ordering.{int_eq}
 use Rattle.sfc_tokens.specs.declared.var_type.VarType.{VarType}
 use Rattle.sfc_tokens.specs.declared.var_type.VarType.TheVariants as types
@@ -99,10 +99,14 @@ operated_of op.Modulo t u x y e = along t u _ (same-integer_type t u e) (in_type
 
 -- ---- expressions
 
+read_typed : (forced : Option Value) (stored : Value) (t : VarType) → IfSome forced (IsOf t) → IsOf t stored → IsOf t (unwrap_or forced stored)
+read_typed (Some x) stored t f s = f
+read_typed None stored t f s = s
+
 module _ (declared : Declared) (env : Environment) (gives : GivesTypes declared env) where
   pub value_typed : (e : Expression) (t : VarType) → HasType declared e t → IfOk (value_of env e) (IsOf t)
   value_typed (Literal x) t h = h
-  value_typed (Read v) t h = gives.variables v t h
+  value_typed (Read v) t h = read_typed (env.forced_at v) (env.stored_at v) t (gives.forced v t h) (gives.stored v t h)
   value_typed (StepActive s) t h = (sym h, refl)
   value_typed (StepTime s) t h = (sym h, gives.times s)
   value_typed ActionQ t h = (sym h, refl)
@@ -131,16 +135,17 @@ module _ (declared : Declared) where
   -- an assignment of a value of the target's type keeps the types
   assigned_typed : (env : Environment) (v : Variable) (t : VarType) (x : Value) → GivesTypes declared env → declared v ≡ Some t → IsOf t x → GivesTypes declared (assigned env v x)
   assigned_typed env v t x gives is_declared typed = record {
-    variables = λ w u h. at w u h (env.has v && is_same w v) refl;
+    stored = λ w u h. at w u h (env.has v && is_same w v) refl;
+    forced = gives.forced;
     times = gives.times;
   }
     where
-      at : (w : Variable) (u : VarType) → declared w ≡ Some u → (b : Bool) → (env.has v && is_same w v) ≡ b → IsOf u (cond b x (env.value_at w))
+      at : (w : Variable) (u : VarType) → declared w ≡ Some u → (b : Bool) → (env.has v && is_same w v) ≡ b → IsOf u (cond b x (env.stored_at w))
       at w u h true e =
           let same : w ≡ v = same_variable w v (and-right (env.has v) (is_same w v) e) in
           let types : t ≡ u = some_same t u (sym is_declared ∙ sym (ap declared same) ∙ h) in
           subst (λ (z : VarType). IsOf z x) types typed
-      at w u h false e = gives.variables w u h
+      at w u h false e = gives.stored w u h
 
   on_value_typed : (env : Environment) (r : Result Value Fault) (P : Value → Type 0) (go : Value → Outcome) → GivesTypes declared env → IfOk r P → ((x : Value) → P x → GivesTypes declared (go x).environment) → GivesTypes declared (on_value env r go).environment
   on_value_typed env (Ok x) P go gives typed k = k x typed

@@ -13,7 +13,7 @@ use Rattle.sfc_expr.specs.declared.operator.Operator.{Operator}
 use Rattle.sfc_expr.specs.declared.operator.Operator.TheVariants as op
 use Rattle.sfc_expr.specs.Values.{truth, number, in_type}
 use Rattle.sfc_expr.specs.Trees.{Expression, Literal, Read, StepActive, StepTime, ActionQ, Not, Minus, Binary}
-use Rattle.sfc_expr.specs.Environment.{Environment}
+use Rattle.sfc_expr.specs.Environment.{Environment, value_at}
 
 -- what follows from a value; a fault stays
 infixl 10 ◌>>=◌
@@ -57,7 +57,7 @@ operated op.Modulo t x y = remainder t (number x) (number y)
 -- operands from left to right, and always both, also those of AND and OR (our choice)
 abbrev pub value_of : Environment → Expression → Result Value Fault
 value_of env (Literal x) = Ok x
-value_of env (Read v) = Ok (env.value_at v)
+value_of env (Read v) = Ok (value_at env v)
 value_of env (StepActive s) = of_truth (env.is_active s)
 value_of env (StepTime s) = Ok (value.Time (env.time_of s))
 value_of env ActionQ = of_truth env.q

@@ -1,5 +1,5 @@
 -- The types of expressions and statements (3.3.1, 3.3.2).
-use Rattle.std.specs.Prelude.{◌≡◌, Bool, true, Option, Some, None, IsTrue, ⊤}
+use Rattle.std.specs.Prelude.{◌≡◌, Bool, true, Option, Some, None, IfSome, IsTrue, ⊤}
 use Rattle.sfc_tokens.specs.declared.var_type.VarType.{VarType}
 use Rattle.sfc_tokens.specs.declared.var_type.VarType.TheVariants as types
 use Rattle.sfc_expr.specs.declared.value.Value.{Value}
@@ -96,7 +96,8 @@ abbrev mutual
 
 -- ---- environments
 
--- each declared variable has a value of its type, and the time of each step lies in the range of TIME
+-- each declared variable is given and forced to values of its type, and the time of each step lies in the range of TIME
 pub record GivesTypes (declared : Declared) (env : Environment) : Type 0 where
-  pub variables : (v : Variable) (t : VarType) → declared v ≡ Some t → IsOf t (env.value_at v)
+  pub stored : (v : Variable) (t : VarType) → declared v ≡ Some t → IsOf t (env.stored_at v)
+  pub forced : (v : Variable) (t : VarType) → declared v ≡ Some t → IfSome (env.forced_at v) (IsOf t)
   pub times : (s : StepId) → IsTrue (is_in_range types.Time (env.time_of s))

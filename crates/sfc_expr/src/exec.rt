@@ -24,6 +24,7 @@ pub fn exec<S: Scratch>(
     ensures result { result ≡ (effect (body_of statements.now) (S.environment scratch.old)).result }
     ensures after { S.environment scratch.new
         ≡ (effect (body_of statements.now) (S.environment scratch.old)).environment }
+    ensures reached { S.reaches scratch.old scratch.new }
     ensures ticks { Within (body_nodes (body_of statements.now)) ticks.old ticks.new }
 {
     for statement in statements {
@@ -43,6 +44,7 @@ fn exec_statement<S: Scratch>(
     ensures result { result ≡ (effect (before statement.now Nothing) (S.environment scratch.old)).result }
     ensures after { S.environment scratch.new
         ≡ (effect (before statement.now Nothing) (S.environment scratch.old)).environment }
+    ensures reached { S.reaches scratch.old scratch.new }
     ensures ticks { Within (body_nodes (before statement.now Nothing)) ticks.old ticks.new }
 {
     ticks.tick();
@@ -67,6 +69,7 @@ fn exec_first<S: Scratch>(
     ensures result { result ≡ (branch_effect (branches_of branches.now) (S.environment scratch.old)).result }
     ensures after { S.environment scratch.new
         ≡ (branch_effect (branches_of branches.now) (S.environment scratch.old)).environment }
+    ensures reached { S.reaches scratch.old scratch.new }
     ensures ticks { Within (branch_nodes (branches_of branches.now)) ticks.old ticks.new }
 {
     for branch in branches {

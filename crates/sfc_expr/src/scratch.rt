@@ -7,9 +7,17 @@ use crate::value::Value;
 use crate::variable::Variable;
 use crate::view::View;
 
-/// What the statements of a program read and write.
+/// What the statements of a program read and write. The member `reaches` says what writes alone can make of it, also
+/// of what no expression reads.
 pub trait Scratch: View {
-    /// Gives a variable a new value and changes nothing else. Where there is no such variable nothing changes.
+    ghost reaches: { Self → Self → Type 0 };
+
+    /// Stores a new value in a variable and changes nothing else. Where there is no such variable nothing changes.
     fn assign(&mut self, variable: Variable, value: Value)
-        ensures { Self.environment self.new ≡ assigned (Self.environment self.old) variable value };
+        ensures after { Self.environment self.new ≡ assigned (Self.environment self.old) variable value }
+        ensures reached { reaches self.old self.new };
+
+    ghost nothing: { (x : Self) → reaches x x };
+
+    ghost one_more: { (x y z : Self) → reaches x y → reaches y z → reaches x z };
 }

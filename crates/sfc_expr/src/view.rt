@@ -1,7 +1,7 @@
 //! What expressions read.
 
 ghost use Rattle.std.specs.Prelude.{◌≡◌};
-ghost use Rattle.sfc_expr.specs.Environment.{Environment};
+ghost use Rattle.sfc_expr.specs.Environment.{Environment, value_at};
 
 use crate::value::Value;
 use crate::variable::{StepId, Variable};
@@ -11,9 +11,9 @@ use crate::variable::{StepId, Variable};
 pub trait View {
     ghost environment: { Self → Environment };
 
-    /// The value of a variable.
+    /// What a variable reads: the value to which it is forced, if it is, else the stored one.
     fn value_at(&self, variable: Variable) -> Value
-        ensures { result ≡ (environment self.now).value_at variable };
+        ensures { result ≡ value_at (environment self.now) variable };
 
     /// Whether a step is active (2.6.2).
     fn is_active(&self, step: StepId) -> bool
