@@ -1,0 +1,16 @@
+-- The rules, in reading order.
+
+-- the scans of a life
+pub mod Life
+-- what a program instance stands for in a plant
+pub mod Setting
+-- one scan of a program
+pub mod ProgramScan
+-- how much a scan handles
+pub mod Work
+-- what a program shows
+pub mod Answers
+-- what a `Program` agrees with; opaque to the crates above
+pub mod Agreement
+-- What private clauses cite.
+pub mod Private

@@ -1,0 +1,6 @@
+-- What private clauses cite.
+
+-- one transition of a scan
+pub mod Evaluating
+-- what the actions of a scan do with the variables
+pub mod Acting

@@ -1,0 +1,56 @@
+-- What the actions of a scan do with the variables.
+use Rattle.std.specs.Prelude.{◌≡◌, ◌++◌, ◌∷◌, List, ℤ, Result, Ok, Err}
+use Rattle.sfc_expr.specs.declared.fault.Fault.{Fault}
+use Rattle.sfc_tables.specs.Tables.{Tabled}
+use Rattle.sfc_chart.specs.Plants.{PlantData}
+use Rattle.sfc_image.specs.declared.image.Image.{Image}
+use Rattle.sfc_image.specs.Changes.{Change, settled, trying}
+use Rattle.sfc_image.specs.Agreement.{ImageAgrees}
+use Rattle.sfc_instance.specs.declared.acting.Acting.{Acting}
+use Rattle.sfc_instance.specs.declared.scan_fault.ScanFault.{ScanFault}
+use Rattle.sfc_instance.specs.declared.state.State.{State}
+use Rattle.sfc_instance.specs.Life.{Life, Row}
+use Rattle.sfc_instance.specs.Setting.{IsSettingOf}
+use Rattle.sfc_instance.specs.ProgramScan.{step_times}
+use Rattle.sfc_instance.specs.Agreement.{StateAgrees}
+
+-- it stands after these scans, at t
+pub record IsAfter (plant : PlantData) (acting : Acting) (life : Life) (t : ℤ) : Type 0 where
+  pub setting : IsSettingOf plant acting.setting
+  pub state : StateAgrees acting.setting.tables.now acting.state.now life
+  pub times : acting.times.now ≡ step_times acting.setting.tables.now life t
+
+-- these changes are wanted where it succeeded, and else its fault
+abbrev pub Ends : Result (Unit {0}) Fault → Result (List Change) Fault → List Change → Type 0
+Ends (Ok u) wanted changes = wanted ≡ Ok changes
+Ends (Err f) wanted changes = wanted ≡ Err f
+
+-- in an open scratch over what is kept the image now has what is wanted; after a fault it has something
+pub record Acts (plant : PlantData) (kept : List Change) (image : Image) (answer : Result (Unit {0}) Fault)
+    (wanted : Result (List Change) Fault) : Type 0 where
+  pub tried : List Change
+  pub agrees : ImageAgrees plant image (trying kept tried)
+  pub ends : Ends answer wanted (tried ++ kept)
+
+-- it left in the image what is wanted, or what was there before
+abbrev pub Leaves : PlantData → List Change → Image → Result (Unit {0}) Fault → Result (List Change) Fault → Type 0
+Leaves plant before image (Ok u) wanted = (done : List Change) × (wanted ≡ Ok done) × ImageAgrees plant image (settled done)
+Leaves plant before image (Err f) wanted = (wanted ≡ Err f) × ImageAgrees plant image (settled before)
+
+unfoldable pub HasActed : PlantData → List Change → Image → Result (Unit {0}) Fault → Result (List Change) Fault → Type 0
+HasActed plant before image answer wanted = Leaves plant before image answer wanted
+
+-- ---- a scan
+
+abbrev pub Leaves_scan : PlantData → Tabled → Life → List Change → Row → State → Image → Result (Unit {0}) ScanFault
+    → Result (List Change) ScanFault → Type 0
+Leaves_scan plant tables life before row state image (Ok u) wanted =
+    (done : List Change) × (wanted ≡ Ok done) × StateAgrees tables state (row ∷ life) × ImageAgrees plant image (settled done)
+Leaves_scan plant tables life before row state image (Err f) wanted =
+    (wanted ≡ Err f) × StateAgrees tables state life × ImageAgrees plant image (settled before)
+
+-- it left the steps, the action control and the image that are wanted, or what was there before
+unfoldable pub HasScanned : PlantData → Tabled → Life → List Change → Row → State → Image → Result (Unit {0}) ScanFault
+    → Result (List Change) ScanFault → Type 0
+HasScanned plant tables life before row state image answer wanted =
+    Leaves_scan plant tables life before row state image answer wanted

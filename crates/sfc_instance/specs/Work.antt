@@ -1,0 +1,49 @@
+-- How much a scan of a program instance handles, at most.
+use Rattle.std.specs.Prelude.{ℕ, ◌+◌, ◌*◌, List, length, sum_by, slice_get}
+use Rattle.sfc_expr.specs.Nodes.{nodes, body_nodes}
+use Rattle.sfc_tables.specs.declared.association.Target.{Target}
+use Rattle.sfc_tables.specs.declared.association.Target.TheVariants.{Boolean, Declared}
+use Rattle.sfc_tables.specs.declared.chart.Chart.{Chart}
+use Rattle.sfc_tables.specs.declared.ids.TransitionId.{TransitionId}
+use Rattle.sfc_tables.specs.Tables.{Tabled}
+use Rattle.sfc_evolve.specs.Evolution.{preceding_of}
+use Rattle.sfc_evolve.specs.Work.{advance_work}
+use Rattle.sfc_action.specs.Work.{control_work}
+use Rattle.sfc_instance.specs.ProgramScan.{condition_in, body_in}
+
+-- a transition, its links to preceding steps, and the nodes of its condition
+abbrev pub transition_work : Tabled → Chart → TransitionId → ℕ
+transition_work tables chart tr =
+    1 + length (preceding_of tables.sides tr.0) + nodes (condition_in (slice_get chart.transitions tr.0))
+
+-- the conditions
+abbrev pub condition_work : Tabled → Chart → List TransitionId → ℕ
+condition_work tables chart ranked = sum_by (transition_work tables chart) ranked
+
+-- what copying steps and action control handles
+abbrev pub copy_work : Tabled → ℕ
+copy_work tables =
+    3 * length tables.initial + length tables.sides + 9 * length tables.actions + length tables.associations
+
+-- what one action handles: a Boolean action's variable, or a declared action with the statements of its body
+abbrev pub action_work : Chart → Target → ℕ
+action_work chart (Boolean v) = 1
+action_work chart (Declared id) = 1 + body_nodes (body_in (slice_get chart.actions id.0))
+
+abbrev pub actions_work : Chart → List Target → ℕ
+actions_work chart targets = sum_by (action_work chart) targets
+
+-- A scan of a program instance among so many variables: the times of the steps before and after it, the conditions, the
+-- times of the associations, steps and action control on a copy, the actions, and the variables that are then kept or
+-- given up.
+abbrev pub scan_work : Tabled → Chart → ℕ → ℕ
+scan_work tables chart variables =
+    2 * length tables.initial
+    + condition_work tables chart tables.ranked
+    + length tables.associations
+    + copy_work tables
+    + advance_work tables
+    + control_work tables
+    + actions_work chart tables.actions
+    + variables
+    + 1

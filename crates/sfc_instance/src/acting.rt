@@ -1,0 +1,116 @@
+//! What the actions of a scan do with the variables (2.6.4.1, 2.6.4.5).
+
+ghost use Rattle.std.specs.Prelude.{◌≡◌, ◌<◌, ◌++◌, List, ℤ, Some, length, slice_get};
+ghost use Rattle.sfc_expr.specs.Trees.{body_of as statements_body};
+ghost use Rattle.sfc_tables.specs.declared.association.Target.{Target};
+ghost use Rattle.sfc_expr.specs.Ticks.{Within};
+ghost use Rattle.sfc_chart.specs.Plants.{PlantData};
+ghost use Rattle.sfc_image.specs.Changes.{Change, trying};
+ghost use Rattle.sfc_image.specs.Agreement.{ImageAgrees, IsAsLarge, instance_places, is_open};
+ghost use Rattle.sfc_instance.specs.Life.{Life, evolution_rows};
+ghost use Rattle.sfc_tables.specs.Tables.{Tabled};
+ghost use Rattle.sfc_evolve.specs.Evolution.{active_steps};
+ghost use Rattle.sfc_instance.specs.ProgramScan.{acted, after_actions, body_in};
+ghost use Rattle.sfc_instance.specs.Agreement.{IsStateFor, StateAgrees};
+ghost use Rattle.sfc_instance.specs.Work.{action_work, actions_work};
+ghost use Rattle.sfc_instance.specs.Private.Acting.{IsAfter, Acts};
+
+use crate::setting::Setting;
+use crate::state::State;
+use sfc_expr::fault::Fault;
+use sfc_expr::statement::Statement;
+use sfc_expr::ticks::Ticks;
+use sfc_expr::value::Value;
+use sfc_image::image::Image;
+use sfc_image::step_readings::StepReadings;
+use sfc_tables::action::ActionId;
+use sfc_tables::association::Target;
+use sfc_tables::chart::Chart;
+use sfc_tables::ids::ActionNumber;
+
+/// After a scan: its setting, its steps and action control, and the times of the steps, by number.
+#[derive(Clone, Copy)]
+pub struct Acting<'a> {
+    pub setting: Setting<'a>,
+    pub state: &'a State,
+    pub times: &'a [i64],
+}
+
+// The statements of a declared action.
+fn body_of(chart: &Chart, id: ActionId) -> &[Statement]
+    ensures { statements_body result.now ≡ body_in (slice_get chart.now.actions id.0) }
+{
+    match chart.actions.as_slice().get(id.0) {
+        Some(action) => action.body.as_slice(),
+        None => &[],
+    }
+}
+
+impl<'a> Acting<'a> {
+    // What bodies read of the steps.
+    fn readings(self) -> StepReadings<'a>
+        ensures active { (tables : Tabled) (life : Life) → StateAgrees tables self.state.now life →
+            result.active.now ≡ active_steps tables (evolution_rows tables life) }
+        ensures times { result.times.now ≡ self.times.now }
+    {
+        StepReadings {
+            active: self.state.steps.active_flags(),
+            times: self.times,
+        }
+    }
+}
+
+// One action: a Boolean action's variable is assigned its Q; the body of a declared action is executed where A is 1.
+fn act_one(
+    acting: Acting<'_>,
+    image: &mut Image,
+    action: ActionNumber,
+    ticks: &mut Ticks,
+) -> Result<(), Fault>
+    requires sizes { IsStateFor acting.setting.tables.now acting.state.now }
+    requires action { action.0 < length acting.setting.tables.now.actions }
+    requires instance { acting.setting.instance.0 < instance_places image.old }
+    ensures large { IsAsLarge image.old image.new }
+    ensures open { is_open image.new ≡ is_open image.old }
+    ensures kept { (plant : PlantData) (life : Life) (t : ℤ) (kept tried : List Change) (target : Target) →
+        IsAfter plant acting life t → slice_get acting.setting.tables.now.actions action.0 ≡ Some target →
+        ImageAgrees plant image.old (trying kept tried) → Acts plant kept image.new result
+        (acted plant acting.setting.instance life t action.0 target (tried ++ kept)) }
+    ensures ticks { (target : Target) → slice_get acting.setting.tables.now.actions action.0 ≡ Some target →
+        Within (action_work acting.setting.chart.now target) ticks.old ticks.new }
+{
+    let Setting { tables, chart, instance } = acting.setting;
+    let controls = &acting.state.controls;
+    let q = controls.q(action);
+    match tables.target(action) {
+        Target::Boolean(variable) => {
+            image.assign(instance, variable, Value::Bool(q), ticks);
+            Ok(())
+        }
+        Target::Declared(id) => {
+            ticks.tick();
+            if !controls.executed(action) {
+                return Ok(());
+            }
+            let body = body_of(chart, id);
+            image.execute(instance, body, acting.readings(), q, ticks)
+        }
+    }
+}
+
+/// All actions, one after the other; the first fault of a body ends them. The image's scratch is open.
+pub fn act(acting: Acting<'_>, image: &mut Image, ticks: &mut Ticks) -> Result<(), Fault>
+    requires sizes { IsStateFor acting.setting.tables.now acting.state.now }
+    requires instance { acting.setting.instance.0 < instance_places image.old }
+    ensures large { IsAsLarge image.old image.new }
+    ensures open { is_open image.new ≡ is_open image.old }
+    ensures kept { (plant : PlantData) (life : Life) (t : ℤ) (kept tried : List Change) → IsAfter plant acting life t →
+        ImageAgrees plant image.old (trying kept tried) → Acts plant kept image.new result
+        (after_actions plant acting.setting.instance life t 0 acting.setting.tables.now.actions (tried ++ kept)) }
+    ensures ticks { Within (actions_work acting.setting.chart.now acting.setting.tables.now.actions) ticks.old ticks.new }
+{
+    for action in 0..acting.setting.tables.actions() {
+        act_one(acting, image, ActionNumber(action), ticks)?;
+    }
+    Ok(())
+}

@@ -1,0 +1,68 @@
+//! The conditions of transitions (2.6.3).
+
+ghost use Rattle.std.specs.Prelude.{◌≡◌, ◌<◌, length, OnOk};
+ghost use Rattle.std.specs.Result.{result_err};
+ghost use Rattle.sfc_expr.specs.Ticks.{Within};
+ghost use Rattle.sfc_tables.specs.Tables.{tables_of};
+ghost use Rattle.sfc_evolve.specs.Agreement.{IsFor, StepsAgree};
+ghost use Rattle.sfc_instance.specs.Life.{Life, evolution_scans};
+ghost use Rattle.sfc_instance.specs.ProgramScan.{condition_fault, condition_flags};
+ghost use Rattle.sfc_instance.specs.Private.Evaluating.{evaluated};
+ghost use Rattle.sfc_instance.specs.Work.{condition_work, transition_work};
+
+use crate::setting::Setting;
+use sfc_evolve::steps::Steps;
+use sfc_expr::eval::eval;
+use sfc_expr::fault::Fault;
+use sfc_expr::ticks::Ticks;
+use sfc_expr::view::View;
+use sfc_tables::ids::TransitionId;
+
+// Whether the transition is enabled and its condition TRUE; that of one that isn't enabled is not evaluated.
+fn evaluate<V: View>(
+    setting: Setting<'_>,
+    steps: &Steps,
+    view: &V,
+    transition: TransitionId,
+    ticks: &mut Ticks,
+) -> Result<bool, Fault>
+    requires tables { setting.tables.now ≡ tables_of setting.chart.now }
+    requires sizes { IsFor setting.tables.now steps.now }
+    requires transition { transition.0 < length setting.tables.now.sides }
+    ensures value { (life : Life) → StepsAgree setting.tables.now steps.now (evolution_scans life) →
+        result ≡ evaluated setting.tables.now setting.chart.now (V.environment view.now) life transition.0 }
+    ensures ticks { Within (transition_work setting.tables.now setting.chart.now transition) ticks.old ticks.new }
+{
+    ticks.tick();
+    if !steps.enabled(setting.tables, transition, ticks) {
+        return Ok(false);
+    }
+    let condition = &setting.chart.transitions.as_slice()[transition.0 as usize].condition;
+    Ok(eval(condition.expr(), view, ticks)?.is_true())
+}
+
+/// The conditions of all enabled transitions, by number, and FALSE for the others; or the first fault in rank order.
+pub fn evaluate_all<V: View>(
+    setting: Setting<'_>,
+    steps: &Steps,
+    view: &V,
+    conditions: &mut [bool],
+    ticks: &mut Ticks,
+) -> Result<(), Fault>
+    requires tables { setting.tables.now ≡ tables_of setting.chart.now }
+    requires sizes { IsFor setting.tables.now steps.now }
+    requires len { length conditions.old ≡ length setting.tables.now.sides }
+    ensures len { length conditions.new ≡ length conditions.old }
+    ensures fault { (life : Life) → StepsAgree setting.tables.now steps.now (evolution_scans life) →
+        result_err result
+        ≡ condition_fault setting.tables.now setting.chart.now (V.environment view.now) life setting.tables.now.ranked }
+    ensures flags { OnOk result ((life : Life) → StepsAgree setting.tables.now steps.now (evolution_scans life) →
+        conditions.new ≡ condition_flags setting.tables.now setting.chart.now (V.environment view.now) life) }
+    ensures ticks { Within (condition_work setting.tables.now setting.chart.now setting.tables.now.ranked) ticks.old ticks.new }
+{
+    conditions.fill(false);
+    for transition in setting.tables.ranked() {
+        conditions[transition.0 as usize] = evaluate(setting, steps, view, *transition, ticks)?;
+    }
+    Ok(())
+}

@@ -1,0 +1,84 @@
+//! What a scan of a program instance works on.
+
+use crate::room::Room;
+use crate::state::State;
+
+/// The steps and the action control after the latest scan, and those on which the next one is tried.
+#[derive(Drop)]
+pub struct Scanner {
+    pub now: State,
+    pub spare: State,
+    pub room: Room,
+}
+
+ghost use Rattle.std.specs.Prelude.{◌≡◌, ◌<◌, ◌≤ℤ◌, ◌^◌, ◌∷◌, [], List, false, pos, length, IfOk, OnOk, OnErr};
+ghost use Rattle.std.specs.Result.{result_err};
+ghost use Rattle.sfc_expr.specs.Ticks.{Within};
+ghost use Rattle.sfc_tables.specs.Tables.{tables_of};
+ghost use Rattle.sfc_chart.specs.Plants.{PlantData};
+ghost use Rattle.sfc_image.specs.Changes.{Change, settled};
+ghost use Rattle.sfc_image.specs.Agreement.{ImageAgrees, IsAsLarge, instance_places, variable_places, is_open};
+ghost use Rattle.sfc_instance.specs.Life.{Life};
+ghost use Rattle.sfc_instance.specs.Setting.{IsSettingOf};
+ghost use Rattle.sfc_instance.specs.ProgramScan.{attempt, next_row};
+ghost use Rattle.sfc_instance.specs.Work.{scan_work};
+ghost use Rattle.sfc_instance.specs.Agreement.{IsScannerFor, StateAgrees};
+ghost use Rattle.sfc_instance.specs.Private.Acting.{HasScanned};
+
+use crate::scan_fault::ScanFault;
+use crate::setting::Setting;
+use sfc_expr::ticks::Ticks;
+use sfc_image::image::Image;
+use sfc_tables::tables::Tables;
+use std::alloc::{AllocError, Global};
+
+impl Scanner {
+    /// Before the first scan of a life. The one error is that memory was refused.
+    pub fn new(alloc: Global, tables: &Tables) -> Result<Scanner, AllocError>
+        ensures sizes { IfOk result (λ scanner. IsScannerFor tables.now scanner) }
+        ensures agrees { IfOk result (λ scanner. StateAgrees tables.now scanner.now []) }
+    {
+        Ok(Scanner {
+            now: State::new(alloc, tables)?,
+            spare: State::new(alloc, tables)?,
+            room: Room::new(alloc, tables)?,
+        })
+    }
+
+    /// One scan at t. After a fault steps, action control and variables are as before.
+    pub fn scan(
+        &mut self,
+        setting: Setting<'_>,
+        image: &mut Image,
+        t: i64,
+        ticks: &mut Ticks,
+    ) -> Result<(), ScanFault>
+        requires tables { setting.tables.now ≡ tables_of setting.chart.now }
+        requires sizes { IsScannerFor setting.tables.now self.old }
+        requires instance { setting.instance.0 < instance_places image.old }
+        requires closed { is_open image.old ≡ false }
+        requires low { pos 0 ≤ℤ t }
+        requires high { t ≤ℤ pos (2 ^ 62) }
+        ensures sizes { IsScannerFor setting.tables.now self.new }
+        ensures large { IsAsLarge image.old image.new }
+        ensures closed { is_open image.new ≡ false }
+        ensures kept { (plant : PlantData) (life : Life) (changes : List Change) → IsSettingOf plant setting →
+            StateAgrees setting.tables.now self.old.now life → ImageAgrees plant image.old (settled changes) →
+            HasScanned plant setting.tables.now life changes (next_row plant setting.instance life changes t)
+            self.new.now image.new result (attempt plant setting.instance life changes t) }
+        ensures ticks { Within (scan_work setting.tables.now setting.chart.now (variable_places image.old)) ticks.old ticks.new }
+    {
+        self.room
+            .read(setting, &self.now, image, t, ticks)
+            .map_err(ScanFault::Expression)?;
+        self.spare.copy_from(setting.tables, &self.now, ticks);
+        self.spare
+            .advance(setting.tables, &self.room.conditions, &self.room.times, t, ticks)
+            .map_err(ScanFault::Control)?;
+        self.room
+            .act(setting, &self.spare, image, t, ticks)
+            .map_err(ScanFault::Expression)?;
+        std::mem::swap(&mut self.now, &mut self.spare);
+        Ok(())
+    }
+}

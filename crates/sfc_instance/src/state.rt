@@ -1,0 +1,79 @@
+//! The steps and the action control of a program instance.
+
+use sfc_action::controls::Controls;
+use sfc_evolve::steps::Steps;
+
+/// The steps and the action control of a program instance.
+#[derive(Drop)]
+pub struct State {
+    pub steps: Steps,
+    pub controls: Controls,
+}
+
+ghost use Rattle.std.specs.Prelude.{◌≡◌, ◌≤ℤ◌, ◌^◌, ◌+◌, ◌∷◌, [], pos, length, IfOk, OnOk};
+ghost use Rattle.std.specs.Result.{result_err};
+ghost use Rattle.sfc_expr.specs.Ticks.{Within};
+ghost use Rattle.sfc_tables.specs.Tables.{Tabled};
+ghost use Rattle.sfc_evolve.specs.Work.{advance_work};
+ghost use Rattle.sfc_action.specs.ActionControl.{first_fault};
+ghost use Rattle.sfc_action.specs.Work.{control_work};
+ghost use Rattle.sfc_instance.specs.Life.{Life, Row, control_scans};
+ghost use Rattle.sfc_instance.specs.Work.{copy_work};
+ghost use Rattle.sfc_instance.specs.Agreement.{IsStateFor, StateAgrees};
+
+use sfc_action::fault::ControlFault;
+use sfc_expr::ticks::Ticks;
+use sfc_tables::tables::Tables;
+use std::alloc::{AllocError, Global};
+
+#[tactic(auto, unfolding(crate::specs::Agreement::StateAgrees))]
+impl State {
+    /// Before the first scan of a life. The one error is that memory was refused.
+    pub fn new(alloc: Global, tables: &Tables) -> Result<State, AllocError>
+        ensures sizes { IfOk result (λ state. IsStateFor tables.now state) }
+        ensures agrees { IfOk result (λ state. StateAgrees tables.now state []) }
+    {
+        Ok(State {
+            steps: Steps::new(alloc, tables)?,
+            controls: Controls::new(alloc, tables)?,
+        })
+    }
+
+    /// Takes over what the other keeps, which was made from the same tables. It takes no memory.
+    pub fn copy_from(&mut self, tables: &Tables, other: &State, ticks: &mut Ticks)
+        requires own { IsStateFor tables.now self.old }
+        requires others { IsStateFor tables.now other.now }
+        ensures sizes { IsStateFor tables.now self.new }
+        ensures kept { (life : Life) → StateAgrees tables.now other.now life → StateAgrees tables.now self.new life }
+        ensures ticks { Within (copy_work tables.now) ticks.old ticks.new }
+    {
+        self.steps.copy_from(&other.steps, ticks);
+        self.controls.copy_from(&other.controls, ticks);
+    }
+
+    /// One scan at t, with the condition of each transition and the time of each association. It takes no memory. The
+    /// error is the fault of action control; then the steps have gone on and the control has not.
+    pub fn advance(
+        &mut self,
+        tables: &Tables,
+        conditions: &[bool],
+        times: &[i64],
+        t: i64,
+        ticks: &mut Ticks,
+    ) -> Result<(), ControlFault>
+        requires sizes { IsStateFor tables.now self.old }
+        requires conditions { length conditions.now ≡ length tables.now.sides }
+        requires times { length times.now ≡ length tables.now.associations }
+        requires low { pos 0 ≤ℤ t }
+        requires high { t ≤ℤ pos (2 ^ 62) }
+        ensures sizes { IsStateFor tables.now self.new }
+        ensures fault { (life : Life) → StateAgrees tables.now self.old life → result_err result ≡
+            first_fault tables.now (control_scans tables.now (record { conditions = conditions.now; times = times.now; at = t } ∷ life)) }
+        ensures kept { OnOk result ((life : Life) → StateAgrees tables.now self.old life →
+            StateAgrees tables.now self.new (record { conditions = conditions.now; times = times.now; at = t } ∷ life)) }
+        ensures ticks { Within (advance_work tables.now + control_work tables.now) ticks.old ticks.new }
+    {
+        self.steps.advance(tables, conditions, t, ticks);
+        self.controls.step(tables, &self.steps, t, times, ticks)
+    }
+}
