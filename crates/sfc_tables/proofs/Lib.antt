@@ -4,5 +4,6 @@ pub mod Listings
 pub mod Numberings
 pub mod Parts
 pub mod Places
+pub mod RankOrders
 pub mod Rankings
 pub mod Sound

@@ -24,7 +24,7 @@ pairs i (p ∷ priorities) = (key p, i) ∷ pairs (i + 1) priorities
 abbrev pub place_of : ℕ × ℕ → TransitionId
 place_of x = record { 0 = x.1 }
 
-abbrev id_of : ℕ → TransitionId
+abbrev pub id_of : ℕ → TransitionId
 id_of i = record { 0 = i }
 
 abbrev number : TransitionId → ℕ

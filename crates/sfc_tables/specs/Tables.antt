@@ -10,7 +10,7 @@ use Rattle.sfc_tables.specs.declared.chart.Transition.{Transition}
 use Rattle.sfc_tables.specs.declared.ids.TransitionId.{TransitionId}
 use Rattle.sfc_tables.specs.declared.step_action.StepAction.{StepAction}
 use Rattle.sfc_tables.specs.Actions.{actions_of, number_of}
-use Rattle.sfc_tables.specs.Ranks.{priorities_of, IsRankOrder, transitions_to}
+use Rattle.sfc_tables.specs.Ranks.{priorities_of, IsRankOrder, rank_order, transitions_to}
 
 -- the steps before and after a transition, in text order
 pub record Sides : Type 0 where
@@ -62,6 +62,16 @@ pub record IsTablesOf (chart : Chart) (tables : Tabled) : Type 0 where
   pub ranked : IsRankOrder (priorities_of chart.transitions) tables.ranked
   pub actions : tables.actions ≡ actions_of chart
   pub associations : tables.associations ≡ associations_of chart
+
+-- the tables of a chart
+abbrev pub tables_of : Chart → Tabled
+tables_of chart = record {
+  initial = map (λ step. step.is_initial) chart.steps;
+  sides = map sides_of chart.transitions;
+  ranked = rank_order (priorities_of chart.transitions);
+  actions = actions_of chart;
+  associations = associations_of chart;
+}
 
 -- among n steps: at least one preceding and one following step
 pub record AreSides (n : ℕ) (sides : Sides) : Type 0 where

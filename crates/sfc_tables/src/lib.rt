@@ -7,6 +7,7 @@
 //! - `chart`: one chart, its steps, transitions and actions in text order.
 //! - `groups`: associations in groups of one step or one action.
 //! - `ids`: numbers of transitions, actions and associations.
+//! - `laws`: what holds of the definitions themselves.
 //! - `links`: the steps before and after each transition.
 //! - `rank`: the order in which transitions are considered.
 //! - `step_action`: an association by numbers.
@@ -22,6 +23,7 @@ pub mod association;
 pub mod chart;
 mod groups;
 pub mod ids;
+pub mod laws;
 mod links;
 mod rank;
 pub mod step_action;

@@ -29,7 +29,7 @@ ghost use Rattle.std.specs.Prelude.{◌≡◌, ◌<◌, ◌≤◌, ◌==◌, ◌
 ghost use Rattle.sfc_flags.specs.Flags.{flag};
 ghost use Rattle.sfc_tables.specs.Actions.{number_of};
 ghost use Rattle.sfc_tables.specs.Chart.{Space, IsChart};
-ghost use Rattle.sfc_tables.specs.Tables.{sides_at, IsTablesOf, AreTables};
+ghost use Rattle.sfc_tables.specs.Tables.{sides_at, tables_of, IsTablesOf, AreTables};
 
 use crate::association::Target;
 use crate::chart::{Chart, Step};
@@ -50,7 +50,8 @@ impl Tables {
     /// The tables of this chart. The one error is that memory was refused.
     pub fn build(alloc: Global, chart: &Chart) -> Result<Tables, AllocError>
         requires chart { (space : Space) × IsChart space chart.now }
-        ensures { IfOk result (λ tables. IsTablesOf chart.now tables) }
+        ensures relation { IfOk result (λ tables. IsTablesOf chart.now tables) }
+        ensures tables { IfOk result (λ tables. tables ≡ tables_of chart.now) }
     {
         let initial = initial_steps(alloc, chart.steps.as_slice())?;
         let links = Links::build(alloc, chart.transitions.as_slice())?;

@@ -1,13 +1,20 @@
-use Rattle.std.proofs.Common.{◌∙◌, ap, sym, length, subst, List}
+use Rattle.std.proofs.Common.{◌≡◌, ◌∙◌, ap, refl, sym, length, subst, List}
 use Rattle.std.specs.Prelude.{map}
 use Rattle.std.proofs.lemmas.List.{length-map}
+use Rattle.sfc_tables.specs.declared.chart.Chart.{Chart}
 use Rattle.sfc_tables.specs.declared.chart.Step.{Step}
 use Rattle.sfc_tables.specs.declared.chart.Transition.{Transition}
-use Rattle.sfc_tables.specs.Ranks.{IsRankOrder}
-use Rattle.sfc_tables.specs.Tables.{sides_of, IsTablesOf}
+use Rattle.sfc_tables.specs.Ranks.{priorities_of, IsRankOrder}
+use Rattle.sfc_tables.specs.Tables.{Tabled, sides_of, tables_of, IsTablesOf}
 use Rattle.sfc_tables.specs.Private.Blocks.{tabled}
+use Rattle.sfc_tables.proofs.RankOrders.{ranked_is}
 use Rattle.sfc_tables.proofs.Sound.{tables_sound}
 use Rattle.sfc_tables.proofs.tables.Tables.build.Goals as goal
+
+tables_are : (chart : Chart) (tables : Tabled) → IsTablesOf chart tables → tables ≡ tables_of chart
+tables_are chart tables made =
+    let ranked = ranked_is (priorities_of chart.transitions) tables.ranked made.ranked in
+    rw (← made.associations, ← made.actions, ← ranked, ← made.sides, ← made.initial) refl
 
 made : (c : goal.In_ok-blocks)
     → IsTablesOf c.args.chart.now
@@ -32,5 +39,8 @@ invariant_of-result c = record {
       ∙ length-map c.args.chart.now.steps (λ (step : Step). step.is_initial));
 }
 
-pub returns : goal.returns
-returns c = made c
+pub returns-clause-relation : goal.returns-clause-relation
+returns-clause-relation c = made c
+
+pub returns-clause-tables : goal.returns-clause-tables
+returns-clause-tables c = tables_are _ _ (made c)
