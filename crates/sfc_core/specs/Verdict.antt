@@ -1,5 +1,5 @@
 -- The answer to an event: what it is refused for, else what it gives.
-use Rattle.std.specs.Prelude.{ℕ, suc, ◌+◌, ◌*◌, ◌==◌, ◌^◌, nat_lt, Bool, true, false, cond, not, ◌||◌, is_none, is_ok, List, [], ◌∷◌, length}
+use Rattle.std.specs.Prelude.{ℕ, suc, ◌+◌, ◌==◌, ◌^◌, nat_lt, Bool, true, false, cond, not, ◌||◌, is_none, is_ok, List, [], ◌∷◌, length}
 use Rattle.std.specs.Prelude.{ℤ, pos, int_lt, Option, Some, None, Result, Ok, Err, slice_get}
 use Rattle.sfc_tokens.specs.declared.location.Area.{Area}
 use Rattle.sfc_tokens.specs.declared.location.Area.TheVariants as areas
@@ -109,18 +109,19 @@ is_so Faulted Faulted = true
 is_so Skipped Skipped = true
 is_so _ _ = false
 
--- One bit for each of the task's instances whose scan ends so; the first of these instances has number k and this bit.
-abbrev pub bits_of : Ended → PlantData → TaskId → ℤ → ℕ → ℕ → List Instance → Table → ℕ
-bits_of how plant task t k bit [] table = 0
-bits_of how plant task t k bit (instance ∷ instances) table =
+-- One bit for each of the task's instances whose scan ends so, that of number k for instance k; the first of these
+-- instances has number k.
+abbrev pub bits_of : Ended → PlantData → TaskId → ℤ → ℕ → List Instance → Table → ℕ
+bits_of how plant task t k [] table = 0
+bits_of how plant task t k (instance ∷ instances) table =
     let after = program_scan plant t k table in
     let next = after_program (record { 0 = k }) after table in
     cond (instance.task.0 == task.0)
-    (cond (is_so how after.ended) bit 0 + bits_of how plant task t (suc k) (2 * bit) instances next)
-    (bits_of how plant task t (suc k) (2 * bit) instances table)
+    (cond (is_so how after.ended) (2 ^ k) 0 + bits_of how plant task t (suc k) instances next)
+    (bits_of how plant task t (suc k) instances table)
 
 abbrev pub bits : Ended → PlantData → History → TaskId → ℤ → ℕ
-bits how plant h task t = bits_of how plant task t 0 1 plant.instances (table_of plant h)
+bits how plant h task t = bits_of how plant task t 0 plant.instances (table_of plant h)
 
 -- the task's overruns after a history
 abbrev pub overruns_of : PlantData → History → TaskId → ℕ

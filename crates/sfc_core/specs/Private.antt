@@ -1,0 +1,4 @@
+-- What private clauses cite.
+
+-- a scan of a task
+pub mod Scanning
