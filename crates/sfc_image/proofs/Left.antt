@@ -1,5 +1,5 @@
 -- What a body leaves.
-use Rattle.std.proofs.Common.{◌≡◌, ◌≢◌, ◌⊎◌, inl, inr, ℕ, ◌+◌, ◌<◌, ◌≤◌, ◌==◌, arith, Bool, true, false, List, [], ◌∷◌, ◌++◌, length, map, flat_map, filter_map, take, get_or, All, Option, Some, None, is_some, refl, sym, ◌∙◌, ap, subst}
+use Rattle.std.proofs.Common.{◌≡◌, ◌≢◌, ◌⊎◌, inl, inr, ℕ, ◌+◌, ◌<◌, ◌≤◌, arith, Bool, false, List, [], ◌∷◌, ◌++◌, length, map, flat_map, filter_map, take, get_or, All, Option, Some, None, is_some, refl, sym, ◌∙◌, ap, subst}
 use Rattle.std.specs.List.{range_with_len, cons_option}
 use Rattle.std.specs.Option.{option_map}
 use Rattle.std.proofs.lemmas.Bool.Decides.{eqb_tells}
@@ -21,9 +21,9 @@ use Rattle.sfc_image.specs.Values.{stored_value, forced_value}
 use Rattle.sfc_image.specs.Environments.{number_of, read_at}
 use Rattle.sfc_image.specs.Events.{writes, turns}
 use Rattle.sfc_image.specs.Bodies.{global_at, local_at, variables_of, stored_to, left_in, left_by, tried_all, with_changes}
-use Rattle.sfc_image.specs.Private.Keeping.{slot_at, locals_of, IsKept, AreKept}
+use Rattle.sfc_image.specs.Private.Keeping.{locals_of, AreKept}
 use Rattle.sfc_image.specs.Private.Scratches.{IsWriteAmong}
-use Rattle.sfc_image.proofs.Counting.{same_number, other_numbers}
+use Rattle.sfc_image.proofs.Counting.{other_numbers}
 use Rattle.sfc_image.proofs.Happened.{stores_left, forces_left}
 use Rattle.sfc_image.proofs.Written.{stored_here, stored_there}
 use Rattle.sfc_image.proofs.Numbers.{below_some, one_variable}
@@ -219,37 +219,37 @@ pub left_kept : (plant : PlantData) (p : ProgId) (env : Environment) (slots : Li
     → AreKept plant slots locals count b (with_changes (left_by plant p env) told)
 left_kept plant p env slots locals count b told made writes =
     by_tried told.tried where
-  forces : (rest : List Change) (i : ℕ) → forced_value (made ++ rest) i ≡ forced_value (left_by plant p env ++ rest) i
-  forces rest i =
-      forces_stay plant p made rest i writes ∙ sym (forces_left_by plant p env rest i)
+      forces : (rest : List Change) (i : ℕ) → forced_value (made ++ rest) i ≡ forced_value (left_by plant p env ++ rest) i
+      forces rest i =
+          forces_stay plant p made rest i writes ∙ sym (forces_left_by plant p env rest i)
 
-  by_tried : (o : Option (List Change))
-      → ((v : Variable) → env.stored_at v ≡ read_at (stored_value plant (all_of (tried_all made o told.kept))) (number_of plant p v))
-      → AreKept plant slots locals count b (tried_all made o told.kept)
-      → AreKept plant slots locals count b (tried_all (left_by plant p env) o told.kept)
-  by_tried None gives =
-      let stored : (i : ℕ) → stored_value plant (made ++ told.kept) i ≡ stored_value plant (left_by plant p env ++ told.kept) i =
-      λ i. sym (stored_left plant p env made told.kept writes gives i) in
-      same_kept plant slots locals count b (settled (made ++ told.kept)) (settled (left_by plant p env ++ told.kept))
-      (record { opened = refl; kept = stored; stored = stored; forced = forces told.kept; held = forces told.kept })
-  by_tried (Some tried) gives =
-      let joined : (changes : List Change) → changes ++ tried ++ told.kept ≡ changes ++ (tried ++ told.kept) =
-      λ changes. append_assoc changes tried told.kept in
-      let gives' : (v : Variable) → env.stored_at v ≡ read_at (stored_value plant (made ++ (tried ++ told.kept))) (number_of plant p v) =
-      λ v. gives v ∙ ap (λ (changes : List Change). read_at (stored_value plant changes) (number_of plant p v)) (joined made) in
-      same_kept plant slots locals count b (trying told.kept (made ++ tried)) (trying told.kept (left_by plant p env ++ tried))
-      (record {
-        opened = refl;
-        kept = λ i. refl;
-        stored = λ i.
-            ap (λ (changes : List Change). stored_value plant changes i) (joined made)
-            ∙ sym (stored_left plant p env made (tried ++ told.kept) writes gives' i)
-            ∙ ap (λ (changes : List Change). stored_value plant changes i) (sym (joined (left_by plant p env)));
-        forced = λ i.
-            ap (λ (changes : List Change). forced_value changes i) (joined made) ∙ forces (tried ++ told.kept) i
-            ∙ ap (λ (changes : List Change). forced_value changes i) (sym (joined (left_by plant p env)));
-        held = λ i. refl;
-      })
+      by_tried : (o : Option (List Change))
+          → ((v : Variable) → env.stored_at v ≡ read_at (stored_value plant (all_of (tried_all made o told.kept))) (number_of plant p v))
+          → AreKept plant slots locals count b (tried_all made o told.kept)
+          → AreKept plant slots locals count b (tried_all (left_by plant p env) o told.kept)
+      by_tried None gives =
+          let stored : (i : ℕ) → stored_value plant (made ++ told.kept) i ≡ stored_value plant (left_by plant p env ++ told.kept) i =
+          λ i. sym (stored_left plant p env made told.kept writes gives i) in
+          same_kept plant slots locals count b (settled (made ++ told.kept)) (settled (left_by plant p env ++ told.kept))
+          (record { opened = refl; kept = stored; stored = stored; forced = forces told.kept; held = forces told.kept })
+      by_tried (Some tried) gives =
+          let joined : (changes : List Change) → changes ++ tried ++ told.kept ≡ changes ++ (tried ++ told.kept) =
+          λ changes. append_assoc changes tried told.kept in
+          let gives' : (v : Variable) → env.stored_at v ≡ read_at (stored_value plant (made ++ (tried ++ told.kept))) (number_of plant p v) =
+          λ v. gives v ∙ ap (λ (changes : List Change). read_at (stored_value plant changes) (number_of plant p v)) (joined made) in
+          same_kept plant slots locals count b (trying told.kept (made ++ tried)) (trying told.kept (left_by plant p env ++ tried))
+          (record {
+            opened = refl;
+            kept = λ i. refl;
+            stored = λ i.
+                ap (λ (changes : List Change). stored_value plant changes i) (joined made)
+                ∙ sym (stored_left plant p env made (tried ++ told.kept) writes gives' i)
+                ∙ ap (λ (changes : List Change). stored_value plant changes i) (sym (joined (left_by plant p env)));
+            forced = λ i.
+                ap (λ (changes : List Change). forced_value changes i) (joined made) ∙ forces (tried ++ told.kept) i
+                ∙ ap (λ (changes : List Change). forced_value changes i) (sym (joined (left_by plant p env)));
+            held = λ i. refl;
+          })
 
 -- one change more
 pub one_change : (change : Change) (told : Told) → with_change change told ≡ with_changes (change ∷ []) told

@@ -1,5 +1,5 @@
 -- The numbers of variables: which variable has which, and that two have two.
-use Rattle.std.proofs.Common.{◌≡◌, ◌≢◌, ◌⊎◌, inl, inr, ℕ, ◌+◌, ◌<◌, ◌≤◌, ◌==◌, nat_lt, cond, arith, Bool, true, false, Option, Some, None, is_some, refl, sym, ◌∙◌, ap, subst}
+use Rattle.std.proofs.Common.{◌≡◌, ℕ, ◌+◌, ◌<◌, ◌≤◌, nat_lt, cond, arith, Bool, true, false, Option, Some, None, refl, sym, ◌∙◌, ap}
 use Rattle.std.proofs.lemmas.Bool.Decides.{nat_tests}
 use Rattle.sfc_expr.specs.declared.variable.Variable.{Variable}
 use Rattle.sfc_expr.specs.declared.variable.Variable.TheVariants.{Global, Local}

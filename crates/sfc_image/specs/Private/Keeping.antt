@@ -1,6 +1,6 @@
 -- What is kept of a variable in place of the changes.
 use Rattle.std.specs.Prelude.{ℕ, ◌≡◌, ◌≢◌, ◌<◌, ◌≤◌, ◌+◌, ◌⊎◌, Bool, true, false, List, length, Option}
-use Rattle.std.specs.Prelude.{Some, None, cond, nat_lt, slice_index_or, count_by, take, is_some, ◌==◌, unwrap_or, ℤ, pos}
+use Rattle.std.specs.Prelude.{Some, None, cond, nat_lt, slice_index_or, count_by, take, is_some, ◌==◌, unwrap_or, pos}
 use Rattle.std.specs.List.{list_any}
 use Rattle.sfc_chart.specs.declared.ids.ProgId.{ProgId}
 use Rattle.sfc_chart.specs.Plants.{PlantData}

@@ -2,12 +2,11 @@ use Rattle.std.proofs.Common.{rules, ◌≡◌, ◌∙◌, ◌+◌, ◌<◌, ◌
 use Rattle.sfc_expr.specs.Environment.{Environment}
 use Rattle.sfc_expr.specs.Trees.{body_of}
 use Rattle.sfc_expr.specs.Effect.{effect}
-use Rattle.sfc_image.specs.declared.image.Image.{Image}
 use Rattle.sfc_image.specs.declared.slot.Locals.{Locals}
 use Rattle.sfc_image.specs.Changes.{all_of}
 use Rattle.sfc_image.specs.Environments.{Moment, moment_of, environment_of}
 use Rattle.sfc_image.specs.Bodies.{left_by, with_changes}
-use Rattle.sfc_image.specs.Private.Keeping.{locals_at, locals_of, shown_by}
+use Rattle.sfc_image.specs.Private.Keeping.{locals_at, locals_of}
 use Rattle.sfc_image.specs.Private.Scratches.{environment_of_scratch, IsWriteAmong}
 use Rattle.sfc_image.specs.Agreement.{ImageAgrees}
 use Rattle.sfc_image.proofs.Left.{AreWrites, left_kept}
@@ -69,7 +68,7 @@ returns-clause-kept c plant told h =
     let writes : AreWrites plant p made =
     subst (λ (n : ℕ). All (IsWriteAmong n (locals_of plant p)) made) ends
     (subst (λ (x : Locals). All (IsWriteAmong g x) made) of_instance done.writes) in
-    let same : c.self-1.given.0 ≡ new = search rules in
-    subst (λ (x : Image). ImageAgrees plant x (with_changes (left_by plant p env) told)) (sym same)
-    (left_kept plant p env new.slots.items new.locals.items new.count new.is_trying told made writes
-    (λ v. ap (λ (e : Environment). e.stored_at v) left) done.agrees)
+    let kept : ImageAgrees plant new (with_changes (left_by plant p env) told) =
+    left_kept plant p env new.slots.items new.locals.items new.count new.is_trying told made writes
+    (λ v. ap (λ (e : Environment). e.stored_at v) left) done.agrees in
+    search rules

@@ -2,7 +2,7 @@ use Rattle.std.proofs.Common.{◌≡◌, ◌∙◌, ◌+◌, ◌<◌, ◌≤◌,
 use Rattle.sfc_image.specs.declared.slot.Slot.{Slot}
 use Rattle.sfc_image.specs.declared.slot.Locals.{Locals}
 use Rattle.sfc_image.specs.Environments.{Moment, moment_of}
-use Rattle.sfc_image.specs.Private.Keeping.{locals_at, locals_of, shown_by}
+use Rattle.sfc_image.specs.Private.Keeping.{locals_at, shown_by}
 use Rattle.sfc_image.specs.Agreement.{ImageAgrees, environment_in}
 use Rattle.sfc_image.proofs.Tracked.{locals_read}
 use Rattle.sfc_image.proofs.Viewed.{globals_end, viewed}

@@ -1,4 +1,4 @@
-use Rattle.std.proofs.Common.{rules, ◌≡◌, ◌∷◌, [], Option, Some, None, refl, sym, ◌∙◌, subst}
+use Rattle.std.proofs.Common.{◌≡◌, ◌∷◌, [], Some, refl, sym, ◌∙◌, subst}
 use Rattle.std.proofs.lemmas.List.Elements.{All-nil, All-cons}
 use Rattle.sfc_image.specs.Changes.{Told}
 use Rattle.sfc_image.specs.Environments.{number_among, moment_of}
