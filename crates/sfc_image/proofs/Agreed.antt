@@ -54,7 +54,6 @@ given_kept plant slots locals count b kept id v lt h =
       instances = h.instances;
       locals_are = h.locals_are;
       opened = h.opened;
-      few = h.few;
       each = λ i ilt.
           let within : i < length slots = omega (arith, long, ilt) in
           by_slot (λ (slot : Slot). IsKept plant told i slot) slots id.0 i y lt
@@ -87,9 +86,9 @@ tried_beside plant kept ts id v i slot ne h = record {
 }
 
 tried_kept : (plant : PlantData) (slots : List Slot) (locals : List Locals) (count more : ℕ) (b : Bool) (kept ts : List Change)
-    (id : VarId) (v : Value) → id.0 < length slots → more ≤ count + 1 → AreKept plant slots locals count b (trying kept ts)
+    (id : VarId) (v : Value) → id.0 < length slots → AreKept plant slots locals count b (trying kept ts)
     → AreKept plant (slice_set slots id.0 (tried v (slot_at slots id.0))) locals more b (trying kept (Stored id v ∷ ts))
-tried_kept plant slots locals count more b kept ts id v lt few h =
+tried_kept plant slots locals count more b kept ts id v lt h =
     let y : Slot = tried v (slot_at slots id.0) in
     let told : Told = trying kept (Stored id v ∷ ts) in
     let long : length (slice_set slots id.0 y) ≡ length slots = length-set slots id.0 y in
@@ -98,7 +97,6 @@ tried_kept plant slots locals count more b kept ts id v lt few h =
       instances = h.instances;
       locals_are = h.locals_are;
       opened = h.opened;
-      few = let before : count ≤ length ts = h.few in omega (arith, few, before);
       each = λ i ilt.
           let within : i < length slots = omega (arith, long, ilt) in
           by_slot (λ (slot : Slot). IsKept plant told i slot) slots id.0 i y lt
@@ -119,13 +117,13 @@ stored_for_good plant slots locals count b told id v e lt h = by_tried told.trie
 
 -- a store in a scratch
 pub stored_in_scratch : (plant : PlantData) (slots : List Slot) (locals : List Locals) (count more : ℕ) (b : Bool) (told : Told)
-    (id : VarId) (v : Value) → b ≡ true → id.0 < length slots → more ≤ count + 1 → AreKept plant slots locals count b told
+    (id : VarId) (v : Value) → b ≡ true → id.0 < length slots → AreKept plant slots locals count b told
     → AreKept plant (slice_set slots id.0 (tried v (slot_at slots id.0))) locals more b (with_change (Stored id v) told)
-stored_in_scratch plant slots locals count more b told id v e lt few h = by_tried told.tried h where
+stored_in_scratch plant slots locals count more b told id v e lt h = by_tried told.tried h where
   by_tried : (o : Option (List Change)) → AreKept plant slots locals count b (record { kept = told.kept; tried = o })
       → AreKept plant (slice_set slots id.0 (tried v (slot_at slots id.0))) locals more b (tried_more (Stored id v) o told.kept)
   by_tried None k = absurd (let f = k.opened in cc)
-  by_tried (Some ts) k = tried_kept plant slots locals count more b told.kept ts id v lt few k
+  by_tried (Some ts) k = tried_kept plant slots locals count more b told.kept ts id v lt k
 
 -- a force
 pub force_kept : (plant : PlantData) (slots : List Slot) (locals : List Locals) (count : ℕ) (b : Bool) (kept : List Change)
@@ -142,7 +140,6 @@ force_kept plant slots locals count b kept id v lt h =
       instances = h.instances;
       locals_are = h.locals_are;
       opened = h.opened;
-      few = h.few;
       each = λ i ilt.
           let within : i < length slots = omega (arith, long, ilt) in
           by_slot (λ (slot : Slot). IsKept plant told i slot) slots id.0 i y lt
@@ -184,7 +181,6 @@ release_kept plant slots locals count b kept id lt h =
       instances = h.instances;
       locals_are = h.locals_are;
       opened = h.opened;
-      few = h.few;
       each = λ i ilt.
           let within : i < length slots = omega (arith, long, ilt) in
           by_slot (λ (slot : Slot). IsKept plant told i slot) slots id.0 i y lt
@@ -222,7 +218,6 @@ undo_kept plant old new locals written count b kept ts long tracked c h = record
   instances = h.instances;
   locals_are = h.locals_are;
   opened = refl;
-  few = omega arith;
   each = λ i lt. slot_kept i (h.each i (omega (arith, long, lt)));
 } where
   closed_slot : (i : ℕ) → IsKept plant (trying kept ts) i (slot_at old i) → IsKept plant (settled kept) i (closed false (slot_at old i))
@@ -267,7 +262,6 @@ commit_kept plant old new locals written count b kept ts long tracked c h = reco
   instances = h.instances;
   locals_are = h.locals_are;
   opened = refl;
-  few = omega arith;
   each = λ i lt. slot_kept i (h.each i (omega (arith, long, lt)));
 } where
   told : Told
@@ -323,7 +317,6 @@ reset_kept plant old new locals count b kept p l long is begins h = record {
   instances = h.instances;
   locals_are = h.locals_are;
   opened = h.opened;
-  few = h.few;
   each = λ i lt. slot_kept i (h.each i (omega (arith, long, lt)));
 } where
   told : Told

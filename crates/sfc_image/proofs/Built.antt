@@ -141,13 +141,12 @@ fresh_kept plant slots locals is long places =
       instances = long;
       locals_are = λ p lt. places p.0 (omega (arith, lt, long));
       opened = refl;
-      few = omega arith;
       each = λ i lt.
           let fresh = fresh_at (image_variables plant) i (omega (arith, lt, size)) in
           fresh_slot_kept plant i fresh.0 (slot_at slots i) fresh.1 (ap (λ (xs : List Slot). slot_at xs i) is ∙ fresh.2);
     }
 
--- the locals of each instance are among the variables
+-- the locals of each instance are among the variables, behind the globals
 pub fresh_within : (plant : PlantData) (slots : List Slot) (locals : List Locals) → slots ≡ map fresh_slot (image_variables plant)
     → length locals ≡ length plant.instances
     → ((k : ℕ) → k < length plant.instances → locals_at locals k ≡ places_of plant.globals plant.types plant.instances k)
@@ -155,18 +154,22 @@ pub fresh_within : (plant : PlantData) (slots : List Slot) (locals : List Locals
 fresh_within plant slots locals is long places k lt =
     let size : length slots ≡ length (image_variables plant) = ap length is ∙ length-map (image_variables plant) fresh_slot in
     let below : k < length plant.instances = omega (arith, lt, long) in
+    let some : 0 < length plant.instances = omega (arith, below) in
     let at : locals_at locals k ≡ places_of plant.globals plant.types plant.instances k = places k below in
+    let first = ap (λ (l : Locals). l.first) at in
+    let front = length-append plant.globals (flat_map (locals_of plant.types) (take k plant.instances)) in
+    let zeroth : (locals_at locals 0).first ≡ length plant.globals =
+    ap (λ (l : Locals). l.first) (places 0 some) ∙ ap length (append-nil plant.globals) in
     elim ((slice_get_cases plant.instances k).1)
-    as (λ _. (locals_at locals k).first + (locals_at locals k).count ≤ length slots) [
+    as (λ _. ((locals_at locals 0).first ≤ (locals_at locals k).first)
+    × ((locals_at locals k).first + (locals_at locals k).count ≤ length slots)) [
       | inl found ↦
           let starts = starts_at (length plant.globals) plant.types plant.instances k found.0 found.2 in
           let all = length-append plant.globals (flat_map (locals_of plant.types) plant.instances) in
-          let front = length-append plant.globals (flat_map (locals_of plant.types) (take k plant.instances)) in
-          let first = ap (λ (l : Locals). l.first) at in
           let count : (locals_at locals k).count ≡ length (locals_of plant.types found.0) =
           ap (λ (l : Locals). l.count) at
           ∙ ap (λ (o : Option Instance). length (locals_at_instance plant.types o)) found.2 in
-          omega (arith, starts.within, all, front, first, count, size)
+          (omega (arith, front, first, zeroth), omega (arith, starts.within, all, front, first, count, size))
       | inr past ↦ absurd (omega (arith, past, below))
     ]
 

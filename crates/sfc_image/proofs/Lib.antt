@@ -2,7 +2,10 @@ pub mod Agreed
 pub mod Built
 pub mod Counting
 pub mod Happened
+pub mod Left
 pub mod LocalNumbers
+pub mod Numbers
+pub mod Puts
 pub mod Tracked
 pub mod Viewed
 pub mod Written

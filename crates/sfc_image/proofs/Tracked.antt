@@ -1,7 +1,8 @@
 -- Which slots are listed as written, after changes.
-use Rattle.std.proofs.Common.{◌≡◌, ◌≢◌, inl, inr, ℕ, ◌+◌, ◌<◌, ◌==◌, arith, Bool, true, false, List, length, get_or, slice_set, refl, sym, ◌∙◌, ap, subst}
+use Rattle.std.proofs.Common.{◌≡◌, ◌≢◌, inl, inr, ℕ, ◌+◌, ◌<◌, ◌≤◌, ◌==◌, arith, Bool, true, false, List, length, get_or, slice_set, refl, sym, ◌∙◌, ap, subst}
 use Rattle.std.proofs.lemmas.Bool.Decides.{eqb_tells}
 use Rattle.std.proofs.lemmas.List.{get_or-set_same, get_or-set_other, length-set}
+use Rattle.std.proofs.lemmas.List.Sums.{count_by-le-length}
 use Rattle.std.proofs.lemmas.Option.{slice_get_read, get_or_from_slice_get}
 use Rattle.sfc_image.specs.declared.slot.Slot.{Slot}
 use Rattle.sfc_image.specs.declared.slot.Locals.{Locals}
@@ -79,6 +80,12 @@ tracked_more slots written count i y lt off on h =
           (λ ne tried.
           listed_set written count i j room ∙ or_left (is_listed written count j) (i == j) (h.listed j tried));
     }
+
+-- no more are listed than there are
+pub few_listed : (slots : List Slot) (written : List ℕ) (count : ℕ) → AreTracked slots written count → count ≤ length slots
+few_listed slots written count h =
+    let few : tried_count slots ≤ length slots = count_by-le-length is_tried slots in
+    omega (arith, few, h.counted)
 
 -- ---- closing
 

@@ -5,6 +5,7 @@ use Rattle.sfc_image.specs.declared.image.Image.{Image}
 use Rattle.sfc_expr.specs.Environment.{Environment}
 use Rattle.sfc_image.specs.declared.view.ImageView.{ImageView}
 use Rattle.sfc_image.specs.Changes.{Told}
+use Rattle.sfc_image.specs.Environments.{moment_of}
 use Rattle.sfc_image.specs.Private.Keeping.{AreKept, shown_by}
 
 -- how many variables and instances it is for
@@ -29,5 +30,4 @@ ImageAgrees plant image told = AreKept plant image.slots.items image.locals.item
 
 -- what a view reads
 unfoldable pub environment_in : ImageView → Environment
-environment_in view =
-    shown_by view.slots.now view.globals view.locals view.active.now view.times.now view.q
+environment_in view = shown_by view.slots.now view.globals view.locals (moment_of view.steps view.q)

@@ -10,7 +10,8 @@ use Rattle.sfc_chart.specs.declared.ids.ProgId.{ProgId}
 use Rattle.sfc_chart.specs.Plants.{PlantData}
 use Rattle.sfc_chart.specs.Finding.{first_local, instance_locals}
 use Rattle.sfc_image.specs.Changes.{Change}
-use Rattle.sfc_image.specs.Values.{value_of}
+use Rattle.sfc_image.specs.declared.step_readings.StepReadings.{StepReadings}
+use Rattle.sfc_image.specs.Values.{stored_value, forced_value}
 
 -- The number of a variable where there are so many globals, and so many locals from number `first` on: a global has its
 -- own place, a local its place behind the first.
@@ -27,17 +28,26 @@ abbrev pub read_at : (ℕ → Value) → Option ℕ → Value
 read_at reads None = value.Bool false
 read_at reads (Some i) = reads i
 
+-- where there is no such variable none is forced
+abbrev pub force_at : (ℕ → Option Value) → Option ℕ → Option Value
+force_at forces None = None
+force_at forces (Some i) = forces i
+
 -- Which steps are active and their times are handed in, by the steps' numbers, and so is Q.
 pub record Moment : Type 0 where
   pub active : List Bool
   pub times : List ℤ
   pub q : Bool
 
--- what the expressions of the instance's program read after these changes
+abbrev pub moment_of : StepReadings → Bool → Moment
+moment_of steps q = record { active = steps.active.now; times = steps.times.now; q = q }
+
+-- what the expressions of the instance's program read after these changes, and what its statements write to
 abbrev pub environment_of : PlantData → List Change → ProgId → Moment → Environment
 environment_of plant changes p moment = record {
   has = λ v. is_some (number_of plant p v);
-  value_at = λ v. read_at (value_of plant changes) (number_of plant p v);
+  stored_at = λ v. read_at (stored_value plant changes) (number_of plant p v);
+  forced_at = λ v. force_at (forced_value changes) (number_of plant p v);
   is_active = λ step. flag moment.active step.0;
   time_of = λ step. slice_index_or moment.times step.0 (pos 0);
   q = moment.q;

@@ -6,6 +6,8 @@ pub mod Changes
 pub mod Values
 -- what the expressions of a program instance read
 pub mod Environments
+-- what a body of a program leaves in the variables
+pub mod Bodies
 -- what each call answers
 pub mod Answers
 -- what was written, forced and reset, by what happened

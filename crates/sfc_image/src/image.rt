@@ -7,14 +7,18 @@ use crate::building::build;
 use crate::closing::{begin_all, close_all};
 use crate::copying::{copy_locals, copy_slots};
 use crate::image_error::ImageError;
+use crate::scratch::ImageScratch;
 use crate::slot::{Locals, Slot, given, value_fault, with_force};
+use crate::step_readings::StepReadings;
 use crate::trying::try_store;
 use crate::view::ImageView;
 use sfc_chart::ids::{ProgId, VarId};
 use sfc_chart::plant::Plant;
+use sfc_expr::exec::exec;
+use sfc_expr::fault::Fault;
+use sfc_expr::statement::Statement;
 use sfc_expr::ticks::Ticks;
 use sfc_expr::value::Value;
-use sfc_flags::flags::Flags;
 use std::alloc::{AllocError, Global};
 
 /// The stored and the forced values of a plant's variables. Where a scratch is open, what is stored may still be undone:
@@ -38,7 +42,12 @@ impl Image {
     ghost use Rattle.sfc_chart.specs.Finding.{instance_locals};
     ghost use Rattle.sfc_image.specs.Changes.{Change, Told, Stored, Forced, Released, Reset, settled, trying, all_of, with_change};
     ghost use Rattle.sfc_image.specs.Values.{variable_count, stored_value, forced_value};
-    ghost use Rattle.sfc_image.specs.Environments.{environment_of};
+    ghost use Rattle.sfc_expr.specs.Trees.{body_of};
+    ghost use Rattle.sfc_expr.specs.Effect.{effect};
+    ghost use Rattle.sfc_expr.specs.Nodes.{body_nodes};
+    ghost use Rattle.sfc_image.specs.Environments.{moment_of, environment_of};
+    ghost use Rattle.sfc_image.specs.Bodies.{left_by, with_changes};
+    ghost use Rattle.sfc_image.specs.Private.Keeping.{IsPut};
     ghost use Rattle.sfc_image.specs.Answers.{Answers, read_answer, value_fault, release_fault};
     ghost use Rattle.sfc_image.specs.Agreement.{ImageAgrees, IsAsLarge, environment_in, variable_places, instance_places, is_open};
 
@@ -116,25 +125,73 @@ impl Image {
 
     /// What the expressions of the instance's program read, where these of its steps are active, with these times, and
     /// with this Q. It takes no memory.
-    pub fn view<'a>(
-        &'a self,
-        instance: ProgId,
-        active: &'a Flags,
-        times: &'a [i64],
-        q: bool,
-    ) -> ImageView<'a>
+    pub fn view<'a>(&'a self, instance: ProgId, steps: StepReadings<'a>, q: bool) -> ImageView<'a>
         requires { instance.0 < instance_places self.now }
         ensures { (plant : PlantData) (told : Told) → ImageAgrees plant self.now told →
-            environment_in result
-            ≡ environment_of plant (all_of told) instance (record { active = active.now; times = times.now; q = q }) }
+            environment_in result ≡ environment_of plant (all_of told) instance (moment_of steps.entry q) }
     {
         ImageView {
             slots: self.slots.as_slice(),
             globals: self.locals[0].first,
             locals: self.locals[instance.0 as usize],
-            active,
-            times,
+            steps,
             q,
+        }
+    }
+
+    /// Executes the statements of an action of the instance's program, where these of its steps are active, with these
+    /// times, and with this Q of the action (2.6.4.1, 3.3.2). What they write goes where `store` puts it, and forces stay.
+    /// The first fault of an expression ends them and is answered; what was written before it stays. It takes no memory.
+    pub fn execute(
+        &mut self,
+        instance: ProgId,
+        body: &[Statement],
+        steps: StepReadings<'_>,
+        q: bool,
+        ticks: &mut Ticks,
+    ) -> Result<(), Fault>
+        requires { instance.0 < instance_places self.old }
+        ensures large { IsAsLarge self.old self.new }
+        ensures open { is_open self.new ≡ is_open self.old }
+        ensures result { (plant : PlantData) (told : Told) → ImageAgrees plant self.old told →
+            result ≡ (effect (body_of body.now) (environment_of plant (all_of told) instance (moment_of steps.entry q))).result }
+        ensures kept { (plant : PlantData) (told : Told) → ImageAgrees plant self.old told →
+            ImageAgrees plant self.new (with_changes (left_by plant instance
+            (effect (body_of body.now) (environment_of plant (all_of told) instance (moment_of steps.entry q))).environment) told) }
+        ensures ticks { Within (body_nodes (body_of body.now)) ticks.old ticks.new }
+    {
+        let globals = self.locals[0].first;
+        let locals = self.locals[instance.0 as usize];
+        let mut scratch = ImageScratch {
+            image: self,
+            globals,
+            locals,
+            steps,
+            q,
+        };
+        exec(body, &mut scratch, ticks)
+    }
+
+    /// All slots.
+    pub(crate) fn slots(&self) -> &[Slot]
+        ensures { result.now ≡ self.now.slots.items }
+    {
+        self.slots.as_slice()
+    }
+
+    /// Stores a value of whatever type, in the scratch where one is open.
+    pub(crate) fn put(&mut self, i: usize, value: Value)
+        requires { i < variable_places self.old }
+        ensures large { IsAsLarge self.old self.new }
+        ensures open { is_open self.new ≡ is_open self.old }
+        ensures put { IsPut i value self.old.slots.items self.new.slots.items }
+        ensures kept { (plant : PlantData) (told : Told) → ImageAgrees plant self.old told →
+            ImageAgrees plant self.new (with_change (Stored (record { 0 = i }) value) told) }
+    {
+        if self.is_trying {
+            self.count = try_store(&mut self.slots, &mut self.written, self.count, i, value);
+        } else {
+            self.slots[i] = given(self.slots[i], value);
         }
     }
 
@@ -154,12 +211,7 @@ impl Image {
         if let Some(fault) = value_fault(&self.slots, id, value) {
             return Err(fault);
         }
-        let i = id.0 as usize;
-        if self.is_trying {
-            self.count = try_store(&mut self.slots, &mut self.written, self.count, i, value);
-        } else {
-            self.slots[i] = given(self.slots[i], value);
-        }
+        self.put(id.0 as usize, value);
         Ok(())
     }
 
@@ -243,8 +295,7 @@ impl Image {
         ensures open { is_open self.new ≡ false }
         ensures kept { (plant : PlantData) (kept tried : List Change) → ImageAgrees plant self.old (trying kept tried) →
             ImageAgrees plant self.new (settled (tried ++ kept)) }
-        ensures ticks { (plant : PlantData) (kept tried : List Change) → ImageAgrees plant self.old (trying kept tried) →
-            Within (length tried) ticks.old ticks.new }
+        ensures ticks { Within (variable_places self.old) ticks.old ticks.new }
     {
         close_all(&mut self.slots, &self.written, self.count, true, ticks);
         self.count = 0;
@@ -258,8 +309,7 @@ impl Image {
         ensures open { is_open self.new ≡ false }
         ensures kept { (plant : PlantData) (kept tried : List Change) → ImageAgrees plant self.old (trying kept tried) →
             ImageAgrees plant self.new (settled kept) }
-        ensures ticks { (plant : PlantData) (kept tried : List Change) → ImageAgrees plant self.old (trying kept tried) →
-            Within (length tried) ticks.old ticks.new }
+        ensures ticks { Within (variable_places self.old) ticks.old ticks.new }
     {
         close_all(&mut self.slots, &self.written, self.count, false, ticks);
         self.count = 0;

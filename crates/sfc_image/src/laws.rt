@@ -1,15 +1,18 @@
 //! What the definitions mean: each law is a function with an empty body, whose contract is the law.
 
-ghost use Rattle.std.specs.Prelude.{◌≡◌, ◌↔◌, ◌++◌, ◌∷◌, ℕ, true, false, List, All, Some};
+ghost use Rattle.std.specs.Prelude.{◌≡◌, ◌≢◌, ◌↔◌, ◌++◌, ◌∷◌, ℕ, true, false, List, All, Some};
 ghost use Rattle.sfc_chart.specs.declared.ids.ProgId.{ProgId};
 ghost use Rattle.sfc_chart.specs.declared.ids.VarId.{VarId};
 ghost use Rattle.sfc_chart.specs.Plants.{PlantData};
 ghost use Rattle.sfc_expr.specs.declared.value.Value.{Value};
 ghost use Rattle.sfc_expr.specs.declared.variable.LocalId.{LocalId};
+ghost use Rattle.sfc_expr.specs.declared.variable.Variable.{Variable};
 ghost use Rattle.sfc_expr.specs.declared.variable.Variable.TheVariants.{Local};
+ghost use Rattle.sfc_expr.specs.Environment.{Environment};
 ghost use Rattle.sfc_image.specs.Changes.{Change, Stored, Forced, Released, Reset};
 ghost use Rattle.sfc_image.specs.Values.{initial_of, is_local_of, stored_value, forced_value, value_of};
 ghost use Rattle.sfc_image.specs.Environments.{number_of};
+ghost use Rattle.sfc_image.specs.Bodies.{left_by};
 ghost use Rattle.sfc_image.specs.Events.{writes, turns};
 
 /// A forced variable reads the forced value whatever is written later, until it is released or forced anew; then it
@@ -56,4 +59,16 @@ pub fn undoing()
     ensures values { (plant : PlantData) (tried kept : List Change) (i : ℕ) →
         All (λ change. writes plant i change ≡ false) tried → All (λ change. turns i change ≡ false) tried →
         value_of plant (tried ++ kept) i ≡ value_of plant kept i }
+{}
+
+/// A body leaves in each variable that its program can name the value that the statements leave there, and what is stored
+/// in every other variable. It forces and releases none (2.4.3, 3.3.2).
+pub fn bodies()
+    ensures named { (plant : PlantData) (p : ProgId) (env : Environment) (changes : List Change) (v : Variable) (i : ℕ) →
+        number_of plant p v ≡ Some i → stored_value plant (left_by plant p env ++ changes) i ≡ env.stored_at v }
+    ensures others { (plant : PlantData) (p : ProgId) (env : Environment) (changes : List Change) (i : ℕ) →
+        ((v : Variable) → number_of plant p v ≢ Some i) →
+        stored_value plant (left_by plant p env ++ changes) i ≡ stored_value plant changes i }
+    ensures forces { (plant : PlantData) (p : ProgId) (env : Environment) (changes : List Change) (i : ℕ) →
+        forced_value (left_by plant p env ++ changes) i ≡ forced_value changes i }
 {}

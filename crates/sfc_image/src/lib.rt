@@ -7,7 +7,9 @@
 //! - `image`: the variables of a plant.
 //! - `image_error`: why a call is refused.
 //! - `laws`: what the definitions mean.
+//! - `scratch`: what the statements of a program instance write to.
 //! - `slot`: what is kept for a variable.
+//! - `step_readings`: which steps of a program instance are active, and their times.
 //! - `trying`: stores that may be undone.
 //! - `view`: what the expressions of a program instance read.
 #![tactic(auto)]
@@ -18,6 +20,8 @@ mod copying;
 pub mod image;
 pub mod image_error;
 pub mod laws;
+mod scratch;
 mod slot;
+pub mod step_readings;
 mod trying;
 pub mod view;

@@ -1,6 +1,6 @@
 //! Stores that may be undone.
 
-ghost use Rattle.std.specs.Prelude.{◌≡◌, ◌<◌, ◌≤◌, ◌+◌, length, slice_set};
+ghost use Rattle.std.specs.Prelude.{◌≡◌, ◌<◌, length, slice_set};
 ghost use Rattle.sfc_image.specs.Private.Keeping.{AreTracked, slot_at, tried as tried_slot};
 
 use crate::slot::{Slot, tried};
@@ -20,7 +20,6 @@ pub fn try_store(
     requires tracked { AreTracked slots.old written.old count }
     ensures slots { slots.new ≡ slice_set slots.old i (tried_slot value (slot_at slots.old i)) }
     ensures tracked { AreTracked slots.new written.new result }
-    ensures few { result ≤ count + 1 }
 {
     let slot = slots[i];
     slots[i] = tried(slot, value);

@@ -2,12 +2,13 @@
 
 ghost use Rattle.std.specs.Prelude.{◌≡◌, ◌<◌, ◌+◌, ◌^◌};
 ghost use Rattle.sfc_image.specs.Environments.{number_among};
+ghost use Rattle.sfc_image.specs.Private.Keeping.{shown};
 
 use crate::slot::{Locals, Slot};
+use crate::step_readings::StepReadings;
 use sfc_expr::value::Value;
 use sfc_expr::variable::{GlobalId, LocalId, StepId, Variable};
 use sfc_expr::view::View;
-use sfc_flags::flags::Flags;
 
 /// The variables of a program instance in an image, which of its steps are active and their times, by the steps'
 /// numbers, and Q.
@@ -16,14 +17,13 @@ pub struct ImageView<'a> {
     pub(crate) slots: &'a [Slot],
     pub(crate) globals: usize,
     pub(crate) locals: Locals,
-    pub(crate) active: &'a Flags,
-    pub(crate) times: &'a [i64],
+    pub(crate) steps: StepReadings<'a>,
     pub(crate) q: bool,
     ghost small: { locals.first + locals.count < 2 ^ 64 },
 }
 
-// The number of the variable in the image, if there is such a variable.
-fn number_of(globals: usize, locals: Locals, variable: Variable) -> Option<usize>
+/// The number of the variable in the image, if there is such a variable.
+pub(crate) fn number_of(globals: usize, locals: Locals, variable: Variable) -> Option<usize>
     requires { locals.first + locals.count < 2 ^ 64 }
     ensures { result ≡ number_among globals locals.first locals.count variable }
 {
@@ -39,6 +39,20 @@ fn number_of(globals: usize, locals: Locals, variable: Variable) -> Option<usize
     }
 }
 
+/// What the variable reads: the forced value, if it is forced, else the stored one; FALSE where it is not there.
+pub(crate) fn read(slots: &[Slot], globals: usize, locals: Locals, variable: Variable) -> Value
+    requires { locals.first + locals.count < 2 ^ 64 }
+    ensures { result ≡ shown slots.now (number_among globals locals.first locals.count variable) }
+{
+    match number_of(globals, locals, variable) {
+        Some(i) => match slots.get(i) {
+            Some(slot) => slot.forced.unwrap_or(slot.stored),
+            None => Value::Bool(false),
+        },
+        None => Value::Bool(false),
+    }
+}
+
 #[tactic(auto, unfolding(crate::specs::Agreement::environment_in))]
 impl<'a> View for ImageView<'a> {
     ghost use Rattle.sfc_image.specs.Agreement.{environment_in};
@@ -46,25 +60,15 @@ impl<'a> View for ImageView<'a> {
     ghost environment = { environment_in };
 
     fn value_at(&self, variable: Variable) -> Value {
-        match number_of(self.globals, self.locals, variable) {
-            Some(i) => match self.slots.get(i) {
-                Some(slot) => slot.forced.unwrap_or(slot.stored),
-                None => Value::Bool(false),
-            },
-            None => Value::Bool(false),
-        }
+        read(self.slots, self.globals, self.locals, variable)
     }
 
     fn is_active(&self, step: StepId) -> bool {
-        let s = step.0 as usize;
-        s < self.active.places() && self.active.get(s)
+        self.steps.is_active(step)
     }
 
     fn time_of(&self, step: StepId) -> i64 {
-        match self.times.get(step.0 as usize) {
-            Some(time) => *time,
-            None => 0,
-        }
+        self.steps.time_of(step)
     }
 
     fn q(&self) -> bool {

@@ -1,14 +1,14 @@
 -- What is kept of a variable in place of the changes.
-use Rattle.std.specs.Prelude.{ℕ, ◌≡◌, ◌<◌, ◌≤◌, ◌+◌, ◌⊎◌, Bool, true, false, List, length, Option}
-use Rattle.std.specs.Prelude.{Some, None, cond, nat_lt, slice_index_or, count_by, take, is_some, ◌==◌, unwrap_or, ℤ, pos}
+use Rattle.std.specs.Prelude.{ℕ, ◌≡◌, ◌≢◌, ◌<◌, ◌≤◌, ◌+◌, ◌⊎◌, Bool, true, false, List, length, Option}
+use Rattle.std.specs.Prelude.{Some, None, cond, nat_lt, slice_index_or, count_by, take, is_some, ◌==◌, unwrap_or, pos}
 use Rattle.std.specs.List.{list_any}
 use Rattle.sfc_chart.specs.declared.ids.ProgId.{ProgId}
 use Rattle.sfc_chart.specs.Plants.{PlantData}
 use Rattle.sfc_chart.specs.Finding.{first_local, instance_locals}
-use Rattle.sfc_image.specs.Changes.{Told, all_of, tried_of}
+use Rattle.sfc_image.specs.Changes.{Told, all_of}
 use Rattle.sfc_flags.specs.Flags.{flag}
 use Rattle.sfc_expr.specs.Environment.{Environment}
-use Rattle.sfc_image.specs.Environments.{number_among, read_at}
+use Rattle.sfc_image.specs.Environments.{number_among, read_at, force_at, Moment}
 use Rattle.sfc_image.specs.Values.{variable_count, initial_of, type_of_variable, stored_value, forced_value}
 use Rattle.sfc_chart.specs.declared.ids.VarId.{VarId}
 use Rattle.sfc_tokens.specs.declared.var_type.VarType.TheVariants as types
@@ -71,9 +71,11 @@ pub record AreTracked (slots : List Slot) (written : List ℕ) (count : ℕ) : T
   pub numbers : AreNumbers (length slots) written count
   pub listed : (i : ℕ) → (slot_at slots i).is_tried ≡ true → is_listed written count i ≡ true
 
--- the locals of each instance are among n slots
+-- the locals of each instance are among n slots, behind the globals, which end where the locals of the first instance begin
 abbrev pub AreWithin : ℕ → List Locals → Type 0
-AreWithin n locals = (k : ℕ) → k < length locals → (locals_at locals k).first + (locals_at locals k).count ≤ n
+AreWithin n locals = (k : ℕ) → k < length locals →
+    ((locals_at locals 0).first ≤ (locals_at locals k).first)
+    × ((locals_at locals k).first + (locals_at locals k).count ≤ n)
 
 -- what was tried becomes what is kept, or is given up
 abbrev pub closed : Bool → Slot → Slot
@@ -98,6 +100,12 @@ tried v slot = record slot { stored = v; is_tried = true }
 
 abbrev pub with_force : Option Value → Slot → Slot
 with_force v slot = record slot { forced = v }
+
+-- a value is stored in the variable of number i, and all else is as before
+pub record IsPut (i : ℕ) (v : Value) (old new : List Slot) : Type 0 where
+  pub here : (slot_at new i).stored ≡ v
+  pub others : (j : ℕ) → j ≢ i → (slot_at new j).stored ≡ (slot_at old j).stored
+  pub forces : (j : ℕ) → (slot_at new j).forced ≡ (slot_at old j).forced
 
 -- what is wrong with giving the variable of one of these slots a value
 abbrev pub fault_at : List Slot → VarId → Value → Option ImageError
@@ -139,20 +147,26 @@ pub record AreKept (plant : PlantData) (slots : List Slot) (locals : List Locals
   pub instances : length locals ≡ length plant.instances
   pub locals_are : (p : ProgId) → p.0 < length locals → locals_at locals p.0 ≡ locals_of plant p
   pub opened : is_trying ≡ is_some told.tried
-  pub few : count ≤ length (tried_of told)
   pub each : (i : ℕ) → i < length slots → IsKept plant told i (slot_at slots i)
 
 -- ---- and what it reads
 
--- what the variable reads by its slot
-abbrev pub shown : List Slot → ℕ → Value
-shown slots i = unwrap_or (slot_at slots i).forced (slot_at slots i).stored
+abbrev pub stored_in : List Slot → ℕ → Value
+stored_in slots i = (slot_at slots i).stored
 
-abbrev pub shown_by : List Slot → ℕ → Locals → List Bool → List ℤ → Bool → Environment
-shown_by slots globals locals active times q = record {
+abbrev pub forced_in : List Slot → ℕ → Option Value
+forced_in slots i = (slot_at slots i).forced
+
+-- what the variable of this number reads by its slot
+abbrev pub shown : List Slot → Option ℕ → Value
+shown slots number = unwrap_or (force_at (forced_in slots) number) (read_at (stored_in slots) number)
+
+abbrev pub shown_by : List Slot → ℕ → Locals → Moment → Environment
+shown_by slots globals locals moment = record {
   has = λ v. is_some (number_among globals locals.first locals.count v);
-  value_at = λ v. read_at (shown slots) (number_among globals locals.first locals.count v);
-  is_active = λ step. flag active step.0;
-  time_of = λ step. slice_index_or times step.0 (pos 0);
-  q = q;
+  stored_at = λ v. read_at (stored_in slots) (number_among globals locals.first locals.count v);
+  forced_at = λ v. force_at (forced_in slots) (number_among globals locals.first locals.count v);
+  is_active = λ step. flag moment.active step.0;
+  time_of = λ step. slice_index_or moment.times step.0 (pos 0);
+  q = moment.q;
 }

@@ -1,0 +1,61 @@
+use Rattle.std.proofs.Common.{◌≡◌, ◌∙◌, List, ap, length, slice_set, subst, sym, refl}
+use Rattle.std.proofs.lemmas.List.{with_items_is}
+use Rattle.sfc_image.specs.declared.slot.Slot.{Slot}
+use Rattle.sfc_image.specs.Changes.{Stored, with_change}
+use Rattle.sfc_image.specs.Private.Keeping.{AreKept, IsPut, slot_at, given, tried}
+use Rattle.sfc_image.specs.Agreement.{ImageAgrees}
+use Rattle.sfc_image.proofs.Agreed.{stored_for_good, stored_in_scratch}
+use Rattle.sfc_image.proofs.Puts.{put_slot}
+use Rattle.sfc_image.proofs.Tracked.{slot_read}
+use Rattle.sfc_image.proofs.image.Image.put.Goals as goal
+
+pub returns-else-self-clause-put : goal.returns-else-self-clause-put
+returns-else-self-clause-put c =
+    let slots = c.args.self.now.slots.items in
+    let i = c.args.i in
+    let read = slot_read slots i c.index.result.now c.requires c.index.ensures in
+    put_slot slots i c.args.value c.given.result c.requires (ap (λ (slot : Slot). slot.stored) c.given.ensures)
+    (ap (λ (slot : Slot). slot.forced) (c.given.ensures ∙ ap (given c.args.value) read))
+
+pub returns-else-self-clause-kept : goal.returns-else-self-clause-kept
+unfolding ImageAgrees
+returns-else-self-clause-kept c plant told h =
+    let image = c.args.self.now in
+    let i = c.args.i in
+    let slots = image.slots.items in
+    let read = slot_read slots i c.index.result.now c.requires c.index.ensures in
+    let made : given c.args.value (slot_at slots i) ≡ c.given.result = sym (c.given.ensures ∙ ap (given c.args.value) read) in
+    subst (λ (y : Slot). AreKept plant (slice_set slots i y) image.locals.items image.count image.is_trying
+    (with_change (Stored (record { 0 = i }) c.args.value) told)) made
+    (stored_for_good plant slots image.locals.items image.count image.is_trying told (record { 0 = i }) c.args.value
+    c.if-self.false c.requires h)
+
+pub returns-then-self-clause-put : goal.returns-then-self-clause-put
+returns-then-self-clause-put c =
+    let image = c.args.self.now in
+    let i = c.args.i in
+    let slots = image.slots.items in
+    let long : length c.try_store-self.new.slots ≡ image.slots.len = c.try_store-self.auto.slots ∙ c.deref_mut.ensures.len in
+    let made : slice_set slots i (tried c.args.value (slot_at slots i)) ≡ c.try_store-self.new.slots =
+    sym (c.try_store-self.ensures.slots
+    ∙ ap (λ (xs : List Slot). slice_set xs i (tried c.args.value (slot_at xs i))) c.deref_mut.ensures.value) in
+    subst (λ (xs : List Slot). IsPut i c.args.value slots xs)
+    (made ∙ sym (with_items_is image.slots c.try_store-self.new.slots long))
+    (put_slot slots i c.args.value (tried c.args.value (slot_at slots i)) c.requires refl refl)
+
+pub returns-then-self-clause-kept : goal.returns-then-self-clause-kept
+unfolding ImageAgrees
+returns-then-self-clause-kept c plant told h =
+    let image = c.args.self.now in
+    let i = c.args.i in
+    let slots = image.slots.items in
+    let more = c.try_store-self.result in
+    let long : length c.try_store-self.new.slots ≡ image.slots.len = c.try_store-self.auto.slots ∙ c.deref_mut.ensures.len in
+    let made : slice_set slots i (tried c.args.value (slot_at slots i)) ≡ c.try_store-self.new.slots =
+    sym (c.try_store-self.ensures.slots
+    ∙ ap (λ (xs : List Slot). slice_set xs i (tried c.args.value (slot_at xs i))) c.deref_mut.ensures.value) in
+    subst (λ (xs : List Slot). AreKept plant xs image.locals.items more image.is_trying
+    (with_change (Stored (record { 0 = i }) c.args.value) told))
+    (made ∙ sym (with_items_is image.slots c.try_store-self.new.slots long))
+    (stored_in_scratch plant slots image.locals.items image.count more image.is_trying told (record { 0 = i }) c.args.value
+    c.if-self.true c.requires h)
