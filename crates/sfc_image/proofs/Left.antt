@@ -257,3 +257,10 @@ one_change change told = by_tried told.tried where
   by_tried : (o : Option (List Change)) → tried_more change o told.kept ≡ tried_all (change ∷ []) o told.kept
   by_tried None = refl
   by_tried (Some tried) = refl
+
+-- no change more
+pub no_change : (told : Told) → with_changes [] told ≡ told
+no_change told = by_tried told.kept told.tried where
+  by_tried : (kept : List Change) (o : Option (List Change)) → tried_all [] o kept ≡ record { kept = kept; tried = o }
+  by_tried kept None = refl
+  by_tried kept (Some tried) = refl

@@ -1,5 +1,5 @@
 -- What a body of a program leaves in the variables (2.4.3, 2.6.4.1, 3.3.2).
-use Rattle.std.specs.Prelude.{ℕ, List, ◌++◌, length, map, filter_map, Option, Some, None}
+use Rattle.std.specs.Prelude.{ℕ, List, [], ◌∷◌, ◌++◌, length, map, filter_map, Option, Some, None}
 use Rattle.std.specs.List.{range_with_len}
 use Rattle.std.specs.Option.{option_map}
 use Rattle.sfc_expr.specs.declared.value.Value.{Value}
@@ -35,6 +35,14 @@ left_in plant p env v = option_map (stored_to (env.stored_at v)) (number_of plan
 -- A body leaves in each variable that its program can name the value that the statements leave there.
 abbrev pub left_by : PlantData → ProgId → Environment → List Change
 left_by plant p env = filter_map (left_in plant p env) (variables_of plant p)
+
+abbrev pub changes_in : Option Change → List Change
+changes_in None = []
+changes_in (Some change) = change ∷ []
+
+-- an assignment to a variable of the instance's program; where there is no such variable nothing changes
+abbrev pub assignment : PlantData → ProgId → Variable → Value → List Change
+assignment plant p v x = changes_in (option_map (stored_to x) (number_of plant p v))
 
 abbrev pub tried_all : List Change → Option (List Change) → List Change → Told
 tried_all changes None kept = settled (changes ++ kept)

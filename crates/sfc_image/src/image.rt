@@ -11,7 +11,7 @@ use crate::scratch::ImageScratch;
 use crate::slot::{Locals, Slot, given, value_fault, with_force};
 use crate::step_readings::StepReadings;
 use crate::trying::try_store;
-use crate::view::ImageView;
+use crate::view::{ImageView, number_of};
 use sfc_chart::ids::{ProgId, VarId};
 use sfc_chart::plant::Plant;
 use sfc_expr::exec::exec;
@@ -19,6 +19,7 @@ use sfc_expr::fault::Fault;
 use sfc_expr::statement::Statement;
 use sfc_expr::ticks::Ticks;
 use sfc_expr::value::Value;
+use sfc_expr::variable::Variable;
 use std::alloc::{AllocError, Global};
 
 /// The stored and the forced values of a plant's variables. Where a scratch is open, what is stored may still be undone:
@@ -46,7 +47,7 @@ impl Image {
     ghost use Rattle.sfc_expr.specs.Effect.{effect};
     ghost use Rattle.sfc_expr.specs.Nodes.{body_nodes};
     ghost use Rattle.sfc_image.specs.Environments.{moment_of, environment_of};
-    ghost use Rattle.sfc_image.specs.Bodies.{left_by, with_changes};
+    ghost use Rattle.sfc_image.specs.Bodies.{assignment, left_by, with_changes};
     ghost use Rattle.sfc_image.specs.Private.Keeping.{IsPut};
     ghost use Rattle.sfc_image.specs.Answers.{Answers, read_answer, value_fault, release_fault};
     ghost use Rattle.sfc_image.specs.Agreement.{ImageAgrees, IsAsLarge, environment_in, variable_places, instance_places, is_open};
@@ -170,6 +171,43 @@ impl Image {
             q,
         };
         exec(body, &mut scratch, ticks)
+    }
+
+    /// Gives a variable of the instance's program a value of its type, in the scratch where one is open; a force hides it
+    /// until its release. Where there is no such variable nothing changes. It takes no memory.
+    pub fn assign(&mut self, instance: ProgId, variable: Variable, value: Value, ticks: &mut Ticks)
+        requires { instance.0 < instance_places self.old }
+        ensures large { IsAsLarge self.old self.new }
+        ensures open { is_open self.new ≡ is_open self.old }
+        ensures kept { (plant : PlantData) (told : Told) → ImageAgrees plant self.old told →
+            ImageAgrees plant self.new (with_changes (assignment plant instance variable value) told) }
+        ensures ticks { Within 1 ticks.old ticks.new }
+    {
+        ticks.tick();
+        let globals = self.locals[0].first;
+        let locals = self.locals[instance.0 as usize];
+        if let Some(i) = number_of(globals, locals, variable) {
+            self.put(i, value);
+        }
+    }
+
+    /// What is wrong with a value for the variable, by `store` or `force`: there is no such variable, or the value is not
+    /// of its type.
+    pub fn value_fault(&self, id: VarId, value: Value) -> Option<ImageError>
+        ensures { (plant : PlantData) (told : Told) → ImageAgrees plant self.now told → result ≡ value_fault plant id value }
+    {
+        value_fault(&self.slots, id, value)
+    }
+
+    /// What is wrong with a release of the variable: there is no such variable, or it is not forced.
+    pub fn release_fault(&self, id: VarId) -> Option<ImageError>
+        ensures { (plant : PlantData) (told : Told) → ImageAgrees plant self.now told →
+            result ≡ release_fault plant (all_of told) id }
+    {
+        match self.slots.get(id.0 as usize) {
+            Some(slot) => { if slot.forced.is_some() { None } else { Some(ImageError::NotForced) } }
+            None => Some(ImageError::UnknownVar),
+        }
     }
 
     /// All slots.
