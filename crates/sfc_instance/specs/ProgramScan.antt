@@ -1,6 +1,6 @@
 -- One scan of a program instance (2.6.5; the order of its parts is our choice).
 use Rattle.std.specs.Prelude.{ℕ, suc, Bool, false, cond, ◌&&◌, List, [], ◌∷◌, ◌++◌, length, map, ℤ, pos}
-use Rattle.std.specs.Prelude.{Option, Some, None, slice_index_or, Result, Ok, Err}
+use Rattle.std.specs.Prelude.{Option, Some, None, slice_get, Result, Ok, Err}
 use Rattle.std.specs.List.{range_with_len}
 use Rattle.std.specs.Result.{result_err}
 use Rattle.sfc_expr.specs.declared.value.Value.{Value}

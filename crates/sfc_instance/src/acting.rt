@@ -49,9 +49,9 @@ fn body_of(chart: &Chart, id: ActionId) -> &[Statement]
 impl<'a> Acting<'a> {
     // What bodies read of the steps.
     fn readings(self) -> StepReadings<'a>
-        ensures active { (tables : Tabled) (life : Life) → StateAgrees tables self.state.now life →
+        ensures active { (tables : Tabled) (life : Life) → StateAgrees tables self.entry.state.now life →
             result.active.now ≡ active_steps tables (evolution_rows tables life) }
-        ensures times { result.times.now ≡ self.times.now }
+        ensures times { result.times.now ≡ self.entry.times.now }
     {
         StepReadings {
             active: self.state.steps.active_flags(),
@@ -73,11 +73,11 @@ fn act_one(
     ensures large { IsAsLarge image.old image.new }
     ensures open { is_open image.new ≡ is_open image.old }
     ensures kept { (plant : PlantData) (life : Life) (t : ℤ) (kept tried : List Change) (target : Target) →
-        IsAfter plant acting life t → slice_get acting.setting.tables.now.actions action.0 ≡ Some target →
+        IsAfter plant acting.entry life t → slice_get acting.entry.setting.tables.now.actions action.0 ≡ Some target →
         ImageAgrees plant image.old (trying kept tried) → Acts plant kept image.new result
-        (acted plant acting.setting.instance life t action.0 target (tried ++ kept)) }
-    ensures ticks { (target : Target) → slice_get acting.setting.tables.now.actions action.0 ≡ Some target →
-        Within (action_work acting.setting.chart.now target) ticks.old ticks.new }
+        (acted plant acting.entry.setting.instance life t action.0 target (tried ++ kept)) }
+    ensures ticks { (target : Target) → slice_get acting.entry.setting.tables.now.actions action.0 ≡ Some target →
+        Within (action_work acting.entry.setting.chart.now target) ticks.old ticks.new }
 {
     let Setting { tables, chart, instance } = acting.setting;
     let controls = &acting.state.controls;
@@ -104,10 +104,10 @@ pub fn act(acting: Acting<'_>, image: &mut Image, ticks: &mut Ticks) -> Result<(
     requires instance { acting.setting.instance.0 < instance_places image.old }
     ensures large { IsAsLarge image.old image.new }
     ensures open { is_open image.new ≡ is_open image.old }
-    ensures kept { (plant : PlantData) (life : Life) (t : ℤ) (kept tried : List Change) → IsAfter plant acting life t →
+    ensures kept { (plant : PlantData) (life : Life) (t : ℤ) (kept tried : List Change) → IsAfter plant acting.entry life t →
         ImageAgrees plant image.old (trying kept tried) → Acts plant kept image.new result
-        (after_actions plant acting.setting.instance life t 0 acting.setting.tables.now.actions (tried ++ kept)) }
-    ensures ticks { Within (actions_work acting.setting.chart.now acting.setting.tables.now.actions) ticks.old ticks.new }
+        (after_actions plant acting.entry.setting.instance life t 0 acting.entry.setting.tables.now.actions (tried ++ kept)) }
+    ensures ticks { Within (actions_work acting.entry.setting.chart.now acting.entry.setting.tables.now.actions) ticks.old ticks.new }
 {
     for action in 0..acting.setting.tables.actions() {
         act_one(acting, image, ActionNumber(action), ticks)?;

@@ -29,9 +29,9 @@ fn evaluate<V: View>(
     requires tables { setting.tables.now ≡ tables_of setting.chart.now }
     requires sizes { IsFor setting.tables.now steps.now }
     requires transition { transition.0 < length setting.tables.now.sides }
-    ensures value { (life : Life) → StepsAgree setting.tables.now steps.now (evolution_scans life) →
-        result ≡ evaluated setting.tables.now setting.chart.now (V.environment view.now) life transition.0 }
-    ensures ticks { Within (transition_work setting.tables.now setting.chart.now transition) ticks.old ticks.new }
+    ensures value { (life : Life) → StepsAgree setting.entry.tables.now steps.now (evolution_scans life) →
+        result ≡ evaluated setting.entry.tables.now setting.entry.chart.now (V.environment view.now) life transition.0 }
+    ensures ticks { Within (transition_work setting.entry.tables.now setting.entry.chart.now transition) ticks.old ticks.new }
 {
     ticks.tick();
     if !steps.enabled(setting.tables, transition, ticks) {
@@ -41,6 +41,7 @@ fn evaluate<V: View>(
     Ok(eval(condition.expr(), view, ticks)?.is_true())
 }
 
+#[tactic(auto, using(crate::proofs::Evaluated::conditions))]
 /// The conditions of all enabled transitions, by number, and FALSE for the others; or the first fault in rank order.
 pub fn evaluate_all<V: View>(
     setting: Setting<'_>,
@@ -53,12 +54,12 @@ pub fn evaluate_all<V: View>(
     requires sizes { IsFor setting.tables.now steps.now }
     requires len { length conditions.old ≡ length setting.tables.now.sides }
     ensures len { length conditions.new ≡ length conditions.old }
-    ensures fault { (life : Life) → StepsAgree setting.tables.now steps.now (evolution_scans life) →
+    ensures fault { (life : Life) → StepsAgree setting.entry.tables.now steps.now (evolution_scans life) →
         result_err result
-        ≡ condition_fault setting.tables.now setting.chart.now (V.environment view.now) life setting.tables.now.ranked }
-    ensures flags { OnOk result ((life : Life) → StepsAgree setting.tables.now steps.now (evolution_scans life) →
-        conditions.new ≡ condition_flags setting.tables.now setting.chart.now (V.environment view.now) life) }
-    ensures ticks { Within (condition_work setting.tables.now setting.chart.now setting.tables.now.ranked) ticks.old ticks.new }
+        ≡ condition_fault setting.entry.tables.now setting.entry.chart.now (V.environment view.now) life setting.entry.tables.now.ranked }
+    ensures flags { OnOk result ((life : Life) → StepsAgree setting.entry.tables.now steps.now (evolution_scans life) →
+        conditions.new ≡ condition_flags setting.entry.tables.now setting.entry.chart.now (V.environment view.now) life) }
+    ensures ticks { Within (condition_work setting.entry.tables.now setting.entry.chart.now setting.entry.tables.now.ranked) ticks.old ticks.new }
 {
     conditions.fill(false);
     for transition in setting.tables.ranked() {

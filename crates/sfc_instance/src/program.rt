@@ -27,10 +27,9 @@ pub struct Program {
     ghost at_high: { at ≤ℤ pos (2 ^ 62) },
 }
 
-#[tactic(auto, unfolding(crate::specs::Agreement::IsFor, crate::specs::Agreement::ProgramAgrees))]
+#[tactic(auto, unfolding(crate::specs::Agreement::IsFor, crate::specs::Agreement::ProgramAgrees, crate::specs::Agreement::StateAgrees))]
 impl Program {
-    ghost use Rattle.std.specs.Prelude.{◌≡◌, ◌<◌, ◌+◌, ◌++◌, ◌∷◌, ℤ, List, None, length, IfOk, OnOk, OnErr};
-    ghost use Rattle.std.specs.Result.{result_err};
+    ghost use Rattle.std.specs.Prelude.{◌≡◌, ◌<◌, ◌≤ℤ◌, ◌^◌, pos, false, List, length, IfOk};
     ghost use Rattle.sfc_expr.specs.Ticks.{Within};
     ghost use Rattle.sfc_tables.specs.Tables.{Tabled, tables_of};
     ghost use Rattle.sfc_chart.specs.Plants.{PlantData};
@@ -67,19 +66,19 @@ impl Program {
         requires closed { is_open image.old ≡ false }
         requires low { pos 0 ≤ℤ t }
         requires high { t ≤ℤ pos (2 ^ 62) }
-        ensures sizes { IsFor setting.tables.now self.new }
+        ensures sizes { IsFor setting.entry.tables.now self.new }
         ensures large { IsAsLarge image.old image.new }
         ensures closed { is_open image.new ≡ false }
-        ensures ended { (plant : PlantData) (standing : Standing) (changes : List Change) → IsSettingOf plant setting →
-            ProgramAgrees setting.tables.now self.old standing → ImageAgrees plant image.old (settled changes) →
-            result ≡ (after_scan plant setting.instance standing changes t).ended }
-        ensures program { (plant : PlantData) (standing : Standing) (changes : List Change) → IsSettingOf plant setting →
-            ProgramAgrees setting.tables.now self.old standing → ImageAgrees plant image.old (settled changes) →
-            ProgramAgrees setting.tables.now self.new (after_scan plant setting.instance standing changes t).standing }
-        ensures image { (plant : PlantData) (standing : Standing) (changes : List Change) → IsSettingOf plant setting →
-            ProgramAgrees setting.tables.now self.old standing → ImageAgrees plant image.old (settled changes) →
-            ImageAgrees plant image.new (settled (after_scan plant setting.instance standing changes t).changes) }
-        ensures ticks { Within (scan_work setting.tables.now setting.chart.now (variable_places image.old)) ticks.old ticks.new }
+        ensures ended { (plant : PlantData) (standing : Standing) (changes : List Change) → IsSettingOf plant setting.entry →
+            ProgramAgrees setting.entry.tables.now self.old standing → ImageAgrees plant image.old (settled changes) →
+            result ≡ (after_scan plant setting.entry.instance standing changes t).ended }
+        ensures program { (plant : PlantData) (standing : Standing) (changes : List Change) → IsSettingOf plant setting.entry →
+            ProgramAgrees setting.entry.tables.now self.old standing → ImageAgrees plant image.old (settled changes) →
+            ProgramAgrees setting.entry.tables.now self.new (after_scan plant setting.entry.instance standing changes t).standing }
+        ensures image { (plant : PlantData) (standing : Standing) (changes : List Change) → IsSettingOf plant setting.entry →
+            ProgramAgrees setting.entry.tables.now self.old standing → ImageAgrees plant image.old (settled changes) →
+            ImageAgrees plant image.new (settled (after_scan plant setting.entry.instance standing changes t).changes) }
+        ensures ticks { Within (scan_work setting.entry.tables.now setting.entry.chart.now (variable_places image.old)) ticks.old ticks.new }
     {
         if self.fault.is_some() {
             return Ended::Skipped;

@@ -62,18 +62,18 @@ impl Room {
         requires instance { setting.instance.0 < instance_places image.now }
         requires low { pos 0 ≤ℤ t }
         requires high { t ≤ℤ pos (2 ^ 62) }
-        ensures sizes { IsRoomFor setting.tables.now self.new }
-        ensures fault { (plant : PlantData) (life : Life) (changes : List Change) → IsSettingOf plant setting →
-            StateAgrees setting.tables.now state.now life → ImageAgrees plant image.now (settled changes) →
-            result_err result ≡ condition_fault setting.tables.now setting.chart.now
-            (environment plant setting.instance life changes t false) life setting.tables.now.ranked }
-        ensures row { OnOk result ((plant : PlantData) (life : Life) (changes : List Change) → IsSettingOf plant setting →
-            StateAgrees setting.tables.now state.now life → ImageAgrees plant image.now (settled changes) →
+        ensures sizes { IsRoomFor setting.entry.tables.now self.new }
+        ensures fault { (plant : PlantData) (life : Life) (changes : List Change) → IsSettingOf plant setting.entry →
+            StateAgrees setting.entry.tables.now state.now life → ImageAgrees plant image.now (settled changes) →
+            result_err result ≡ condition_fault setting.entry.tables.now setting.entry.chart.now
+            (environment plant setting.entry.instance life changes t false) life setting.entry.tables.now.ranked }
+        ensures row { OnOk result ((plant : PlantData) (life : Life) (changes : List Change) → IsSettingOf plant setting.entry →
+            StateAgrees setting.entry.tables.now state.now life → ImageAgrees plant image.now (settled changes) →
             record { conditions = self.new.conditions.items; times = self.new.times.items; at = t }
-            ≡ next_row plant setting.instance life changes t) }
-        ensures ticks { Within (length setting.tables.now.initial
-            + condition_work setting.tables.now setting.chart.now setting.tables.now.ranked
-            + length setting.tables.now.associations) ticks.old ticks.new }
+            ≡ next_row plant setting.entry.instance life changes t) }
+        ensures ticks { Within (length setting.entry.tables.now.initial
+            + condition_work setting.entry.tables.now setting.entry.chart.now setting.entry.tables.now.ranked
+            + length setting.entry.tables.now.associations) ticks.old ticks.new }
     {
         read_step_times(&mut self.step_times, &state.steps, t, ticks);
         let readings = StepReadings {
@@ -102,15 +102,15 @@ impl Room {
         requires closed { is_open image.old ≡ false }
         requires low { pos 0 ≤ℤ t }
         requires high { t ≤ℤ pos (2 ^ 62) }
-        ensures sizes { IsRoomFor setting.tables.now self.new }
+        ensures sizes { IsRoomFor setting.entry.tables.now self.new }
         ensures large { IsAsLarge image.old image.new }
         ensures closed { is_open image.new ≡ false }
-        ensures kept { (plant : PlantData) (life : Life) (changes : List Change) → IsSettingOf plant setting →
-            StateAgrees setting.tables.now state.now life → ImageAgrees plant image.old (settled changes) →
+        ensures kept { (plant : PlantData) (life : Life) (changes : List Change) → IsSettingOf plant setting.entry →
+            StateAgrees setting.entry.tables.now state.now life → ImageAgrees plant image.old (settled changes) →
             HasActed plant changes image.new result
-            (after_actions plant setting.instance life t 0 setting.tables.now.actions changes) }
-        ensures ticks { Within (length setting.tables.now.initial
-            + actions_work setting.chart.now setting.tables.now.actions
+            (after_actions plant setting.entry.instance life t 0 setting.entry.tables.now.actions changes) }
+        ensures ticks { Within (length setting.entry.tables.now.initial
+            + actions_work setting.entry.chart.now setting.entry.tables.now.actions
             + variable_places image.old + 1) ticks.old ticks.new }
     {
         read_step_times(&mut self.step_times, &state.steps, t, ticks);

@@ -59,14 +59,14 @@ impl Scanner {
         requires closed { is_open image.old ≡ false }
         requires low { pos 0 ≤ℤ t }
         requires high { t ≤ℤ pos (2 ^ 62) }
-        ensures sizes { IsScannerFor setting.tables.now self.new }
+        ensures sizes { IsScannerFor setting.entry.tables.now self.new }
         ensures large { IsAsLarge image.old image.new }
         ensures closed { is_open image.new ≡ false }
-        ensures kept { (plant : PlantData) (life : Life) (changes : List Change) → IsSettingOf plant setting →
-            StateAgrees setting.tables.now self.old.now life → ImageAgrees plant image.old (settled changes) →
-            HasScanned plant setting.tables.now life changes (next_row plant setting.instance life changes t)
-            self.new.now image.new result (attempt plant setting.instance life changes t) }
-        ensures ticks { Within (scan_work setting.tables.now setting.chart.now (variable_places image.old)) ticks.old ticks.new }
+        ensures kept { (plant : PlantData) (life : Life) (changes : List Change) → IsSettingOf plant setting.entry →
+            StateAgrees setting.entry.tables.now self.old.now life → ImageAgrees plant image.old (settled changes) →
+            HasScanned plant setting.entry.tables.now life changes (next_row plant setting.entry.instance life changes t)
+            self.new.now image.new result (attempt plant setting.entry.instance life changes t) }
+        ensures ticks { Within (scan_work setting.entry.tables.now setting.entry.chart.now (variable_places image.old)) ticks.old ticks.new }
     {
         self.room
             .read(setting, &self.now, image, t, ticks)

@@ -123,7 +123,8 @@ impl Tables {
     /// All transitions in rank order: those of lower priority numbers first, then those without a number, and each time
     /// in text order (2.6.5).
     pub fn ranked(&self) -> &[TransitionId]
-        ensures { result.now ≡ self.now.ranked }
+        ensures value { result.now ≡ self.now.ranked }
+        ensures tables { AreTables self.now }
     {
         &self.ranked
     }

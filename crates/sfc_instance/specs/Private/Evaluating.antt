@@ -1,5 +1,8 @@
 -- One transition of a scan.
-use Rattle.std.specs.Prelude.{ℕ, Bool, true, false, cond, Result, Ok, Err}
+use Rattle.std.specs.Prelude.{ℕ, ◌≡◌, ◌==◌, ◌&&◌, Bool, false, cond, List, Result, Ok, Err}
+use Rattle.std.specs.List.{list_any}
+use Rattle.sfc_flags.specs.Flags.{flag}
+use Rattle.sfc_tables.specs.declared.ids.TransitionId.{TransitionId}
 use Rattle.sfc_expr.specs.declared.fault.Fault.{Fault}
 use Rattle.sfc_expr.specs.declared.value.Value.{Value}
 use Rattle.sfc_expr.specs.Values.{truth}
@@ -7,7 +10,7 @@ use Rattle.sfc_expr.specs.Environment.{Environment}
 use Rattle.sfc_tables.specs.declared.chart.Chart.{Chart}
 use Rattle.sfc_tables.specs.Tables.{Tabled}
 use Rattle.sfc_instance.specs.Life.{Life}
-use Rattle.sfc_instance.specs.ProgramScan.{enabled, condition_result}
+use Rattle.sfc_instance.specs.ProgramScan.{enabled, condition_result, condition_flag}
 
 abbrev pub as_flag : Result Value Fault → Result Bool Fault
 as_flag (Ok x) = Ok (truth x)
@@ -17,3 +20,12 @@ as_flag (Err f) = Err f
 abbrev pub evaluated : Tabled → Chart → Environment → Life → ℕ → Result Bool Fault
 evaluated tables chart env life tr =
     cond (enabled tables life tr) (as_flag (condition_result chart env tr)) (Ok false)
+
+-- the transition is among these
+abbrev pub is_among : List TransitionId → ℕ → Bool
+is_among ids tr = list_any (λ id. id.0 == tr) ids
+
+-- of those that are among these the flags are those that are wanted, and of the others FALSE
+unfoldable pub AreEvaluated : Tabled → Chart → Environment → Life → List TransitionId → List Bool → Type 0
+AreEvaluated tables chart env life ids flags =
+    (tr : ℕ) → flag flags tr ≡ (is_among ids tr && condition_flag tables chart env life tr)

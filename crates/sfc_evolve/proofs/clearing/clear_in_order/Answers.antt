@@ -4,7 +4,7 @@ use Rattle.sfc_evolve.proofs.clearing.clear_in_order.Goals as goal
 
 pub preceding-requires : goal.preceding-requires
 preceding-requires c =
-    ranked_at c.args.tables.now c.requires.tables c.ranked-tr-items.result.now c.ranked-tr-items.ensures c.loop-tr.tr-index record {
+    ranked_at c.args.tables.now c.requires.tables c.ranked-tr-items.result.now c.ranked-tr-items.ensures.value c.loop-tr.tr-index record {
       0 =
           0;
     } c.loop-tr-test.true
@@ -12,7 +12,7 @@ preceding-requires c =
 pub bounds-conditions-tr : goal.bounds-conditions-tr
 bounds-conditions-tr c =
     let below =
-    ranked_at c.args.tables.now c.requires.tables c.ranked-tr-items.result.now c.ranked-tr-items.ensures c.loop-tr.tr-index record {
+    ranked_at c.args.tables.now c.requires.tables c.ranked-tr-items.result.now c.ranked-tr-items.ensures.value c.loop-tr.tr-index record {
       0 =
           0;
     } c.loop-tr-test.true in
@@ -21,7 +21,7 @@ bounds-conditions-tr c =
 pub set-requires : goal.set-requires
 set-requires c =
     let below =
-    ranked_at c.args.tables.now c.requires.tables c.ranked-tr-items.result.now c.ranked-tr-items.ensures c.loop-tr.tr-index record {
+    ranked_at c.args.tables.now c.requires.tables c.ranked-tr-items.result.now c.ranked-tr-items.ensures.value c.loop-tr.tr-index record {
       0 =
           0;
     } c.loop-tr-test.true in
@@ -30,7 +30,7 @@ set-requires c =
 pub clear_one-clears-requires : goal.clear_one-clears-requires
 clear_one-clears-requires c =
     let below =
-    ranked_at c.args.tables.now c.requires.tables c.ranked-tr-items.result.now c.ranked-tr-items.ensures c.loop-tr.tr-index record {
+    ranked_at c.args.tables.now c.requires.tables c.ranked-tr-items.result.now c.ranked-tr-items.ensures.value c.loop-tr.tr-index record {
       0 =
           0;
     } c.loop-tr-test.true in
