@@ -9,15 +9,15 @@ use Rattle.sfc_expr.specs.declared.variable.Variable.{Variable}
 use Rattle.sfc_expr.specs.declared.variable.Variable.TheVariants.{Global, Local}
 use Rattle.sfc_expr.specs.declared.variable.GlobalId.{GlobalId}
 use Rattle.sfc_expr.specs.Environment.{Environment, is_same, assigned}
-use Rattle.expressions.specs.Values.{has, value_at, environment_of}
+use Rattle.expressions.specs.Values.{has, stored_at, environment_of}
 
 -- the same but for which variables there are and what they are
 abbrev with_variables : List Value → (Variable → Bool) → (Variable → Value) → Environment
-with_variables values h f = record (environment_of values) { has = h; value_at = f }
+with_variables values h f = record (environment_of values) { has = h; stored_at = f }
 
 -- what a write to a variable leaves of it, where it may be one that is not there
 abbrev after : Bool → List Value → Variable → Value → Variable → Value
-after there values v x w = if there && is_same w v then x else value_at values w
+after there values v x w = if there && is_same w v then x else stored_at values w
 
 has_same : (values : List Value) (i : ℕ) (x : Value) → has (set values i x) ≡ has values
 has_same values i x = fun_ext (λ w. elim w as (λ v. has (set values i x) v ≡ has values v) [
@@ -33,8 +33,8 @@ at_place values i x d k lt = elim (cases_eq k i) [
 ]
 
 written_value : (values : List Value) (g : GlobalId) (x : Value) → g.0 < length values →
-    value_at (set values g.0 x) ≡ after true values (Global g) x
-written_value values g x lt = fun_ext (λ w. elim w as (λ v. value_at (set values g.0 x) v ≡ after true values (Global g) x v) [
+    stored_at (set values g.0 x) ≡ after true values (Global g) x
+written_value values g x lt = fun_ext (λ w. elim w as (λ v. stored_at (set values g.0 x) v ≡ after true values (Global g) x v) [
   | Global h ↦ at_place values g.0 x (value.Bool false) h.0 lt
   | Local l ↦ refl
 ])
@@ -42,6 +42,6 @@ written_value values g x lt = fun_ext (λ w. elim w as (λ v. value_at (set valu
 pub written : (values : List Value) (g : GlobalId) (x : Value) → g.0 < length values →
     environment_of (set values g.0 x) ≡ assigned (environment_of values) (Global g) x
 written values g x lt =
-    ap (λ h. with_variables values h (value_at (set values g.0 x))) (has_same values g.0 x)
+    ap (λ h. with_variables values h (stored_at (set values g.0 x))) (has_same values g.0 x)
     ∙ ap (with_variables values (has values)) (written_value values g x lt)
     ∙ ap (λ b. with_variables values (has values) (after b values (Global g) x)) (sym (lt-ltb g.0 (length values) lt))

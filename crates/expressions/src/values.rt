@@ -1,5 +1,6 @@
 //! The values that the expressions read, and what the statements write.
 
+ghost use Rattle.std.proofs.Common.{◌≡◌, ◌∙◌, refl, length};
 ghost use Rattle.expressions.specs.Values as values;
 
 use sfc_expr::scratch::Scratch;
@@ -65,6 +66,13 @@ impl View for Values {
 }
 
 impl Scratch for Values {
+    // as many variables as before
+    ghost reaches = { λ old new. length new.values.items ≡ length old.values.items };
+
+    ghost nothing = { λ x. refl };
+
+    ghost one_more = { λ x y z h k. k ∙ h };
+
     fn assign(&mut self, variable: Variable, value: Value) {
         if let Variable::Global(GlobalId(place)) = variable {
             if let Some(old) = self.values.get_mut(place) {

@@ -151,7 +151,7 @@ impl Image {
         q: bool,
         ticks: &mut Ticks,
     ) -> Result<(), Fault>
-        requires { instance.0 < instance_places self.old }
+        requires instance { instance.0 < instance_places self.old }
         ensures large { IsAsLarge self.old self.new }
         ensures open { is_open self.new ≡ is_open self.old }
         ensures result { (plant : PlantData) (told : Told) → ImageAgrees plant self.old told →
@@ -326,7 +326,8 @@ impl Image {
         self.is_trying = true;
     }
 
-    /// Closes the scratch and keeps what was stored in it. It costs what was written, whatever the size of the image.
+    /// Closes the scratch and keeps what was stored in it. It costs a tick for each variable that was written in it, however
+    /// often it was.
     pub fn commit(&mut self, ticks: &mut Ticks)
         requires { is_open self.old ≡ true }
         ensures large { IsAsLarge self.old self.new }
@@ -340,7 +341,8 @@ impl Image {
         self.is_trying = false;
     }
 
-    /// Closes the scratch and gives up what was stored in it. It costs what was written, whatever the size of the image.
+    /// Closes the scratch and gives up what was stored in it. It costs a tick for each variable that was written in it, however
+    /// often it was.
     pub fn undo(&mut self, ticks: &mut Ticks)
         requires { is_open self.old ≡ true }
         ensures large { IsAsLarge self.old self.new }

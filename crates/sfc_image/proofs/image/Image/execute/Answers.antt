@@ -23,17 +23,17 @@ returns-clause-result c plant told h =
     let g = c.index.result.now.first in
     let l = c.index-locals.result.now in
     let moment : Moment = moment_of c.args.steps c.args.q in
-    let some : 0 < length locals = omega (arith, c.requires) in
+    let some : 0 < length locals = omega (arith, c.requires.instance) in
     let first : g ≡ (locals_at locals 0).first =
     ap (λ (x : Locals). x.first) (locals_read locals 0 c.index.result.now some c.index.ensures) in
-    let is : l ≡ locals_at locals p.0 = locals_read locals p.0 l c.requires c.index-locals.ensures in
+    let is : l ≡ locals_at locals p.0 = locals_read locals p.0 l c.requires.instance c.index-locals.ensures in
     let within : l.first + l.count ≤ length image.slots.items =
-    subst (λ (x : Locals). x.first + x.count ≤ length image.slots.items) (sym is) ((image.within p.0 c.requires).1) in
+    subst (λ (x : Locals). x.first + x.count ≤ length image.slots.items) (sym is) ((image.within p.0 c.requires.instance).1) in
     c.exec.ensures.result
     ∙ ap (λ (env : Environment). (effect (body_of c.args.body.now) env).result)
     (viewed plant image.slots.items locals image.count image.is_trying told p g l moment
     (globals_end plant image.slots.items locals image.count image.is_trying told g some first h)
-    (is ∙ h.locals_are p c.requires) within h)
+    (is ∙ h.locals_are p c.requires.instance) within h)
 
 pub returns-clause-kept : goal.returns-clause-kept
 unfolding ImageAgrees environment_of_scratch
@@ -44,15 +44,15 @@ returns-clause-kept c plant told h =
     let g = c.index.result.now.first in
     let l = c.index-locals.result.now in
     let moment : Moment = moment_of c.args.steps c.args.q in
-    let some : 0 < length locals = omega (arith, c.requires) in
+    let some : 0 < length locals = omega (arith, c.requires.instance) in
     let first : g ≡ (locals_at locals 0).first =
     ap (λ (x : Locals). x.first) (locals_read locals 0 c.index.result.now some c.index.ensures) in
-    let is : l ≡ locals_at locals p.0 = locals_read locals p.0 l c.requires c.index-locals.ensures in
+    let is : l ≡ locals_at locals p.0 = locals_read locals p.0 l c.requires.instance c.index-locals.ensures in
     let within : l.first + l.count ≤ length image.slots.items =
-    subst (λ (x : Locals). x.first + x.count ≤ length image.slots.items) (sym is) ((image.within p.0 c.requires).1) in
+    subst (λ (x : Locals). x.first + x.count ≤ length image.slots.items) (sym is) ((image.within p.0 c.requires.instance).1) in
     let ends : g ≡ length plant.globals =
     globals_end plant image.slots.items locals image.count image.is_trying told g some first h in
-    let of_instance : l ≡ locals_of plant p = is ∙ h.locals_are p c.requires in
+    let of_instance : l ≡ locals_of plant p = is ∙ h.locals_are p c.requires.instance in
     let before = viewed plant image.slots.items locals image.count image.is_trying told p g l moment ends of_instance within h in
     let scratch = c.exec.new.scratch in
     let reached = c.exec.ensures.reached in
