@@ -136,6 +136,6 @@ evaluated_all tables chart env life flags i sound long all h =
     ∙ ap (λ (ids : List TransitionId). is_among ids k && condition_flag tables chart env life k) (take_all i tables.ranked all)
     ∙ ap (λ b. b && condition_flag tables chart env life k)
     (sym (list_any-IsPermutation (λ (id : TransitionId). id.0 == k) (transitions_to (length tables.sides)) tables.ranked sound.ranked)
-    ∙ among_range 0 (length tables.sides) k (omega arith) lt))
+    ∙ among_range 0 (length tables.sides) k (omega arith) (omega (arith, lt))))
 
 pub ruleset conditions = (fault_passed, fault_found, work_split, evaluated_more, evaluated_none, evaluated_all)
