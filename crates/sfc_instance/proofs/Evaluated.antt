@@ -2,7 +2,7 @@
 use Rattle.std.proofs.Common.{◌≡◌, ℕ, zero, suc, ◌+◌, ◌<◌, ◌≤◌, ◌==◌, ◌&&◌, ◌||◌, arith, Bool, true, false, cond, List, [], ◌∷◌, ◌++◌, length, map, take, drop, replicate, get_or, slice_set, Option, Some, None, Result, Ok, Err, refl, sym, ap, subst, ◌∙◌}
 use Rattle.std.specs.List.{list_any, range_with_len}
 use Rattle.std.specs.Result.{result_err}
-use Rattle.std.proofs.lemmas.List.{take_more, take_all, drop_more}
+use Rattle.std.proofs.lemmas.List.{take_more, take_all, drop_more, get_or_default}
 use Rattle.std.proofs.lemmas.List.Sorted.{list_any-IsPermutation}
 use Rattle.std.proofs.lemmas.List.Sums.{sum_by-cons}
 use Rattle.std.proofs.lemmas.Bool.Decides.{nat_tests}
@@ -22,6 +22,10 @@ use Rattle.sfc_instance.specs.Life.{Life}
 use Rattle.sfc_instance.specs.ProgramScan.{enabled, condition_result, condition_flag, condition_flags, condition_fault, is_true}
 use Rattle.sfc_instance.specs.Work.{condition_work, transition_work}
 use Rattle.sfc_instance.specs.Private.Evaluating.{as_flag, evaluated, is_among, AreEvaluated}
+
+-- the element of a list that is another list
+pub item_at : (xs ys : List TransitionId) (i : ℕ) (d : TransitionId) → xs ≡ ys → i < length xs → get_or xs i d ≡ get_or ys i (get_or xs i d)
+item_at xs ys i d same lt = get_or_default xs i d (get_or xs i d) lt ∙ ap (λ (l : List TransitionId). get_or l i (get_or xs i d)) same
 
 -- ---- one transition
 

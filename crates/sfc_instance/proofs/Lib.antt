@@ -1,4 +1,6 @@
 -- conditions of all transitions
 pub mod Evaluated
+-- numbers that are known at each place
+pub mod Timed
 -- actions one after the other
 pub mod Acted

@@ -1,6 +1,6 @@
 //! The conditions of transitions (2.6.3).
 
-ghost use Rattle.std.specs.Prelude.{◌≡◌, ◌<◌, length, OnOk};
+ghost use Rattle.std.specs.Prelude.{◌≡◌, ◌<◌, false, length, replicate, OnOk};
 ghost use Rattle.std.specs.Result.{result_err};
 ghost use Rattle.sfc_expr.specs.Ticks.{Within};
 ghost use Rattle.sfc_tables.specs.Tables.{tables_of};
@@ -41,7 +41,13 @@ fn evaluate<V: View>(
     Ok(eval(condition.expr(), view, ticks)?.is_true())
 }
 
-#[tactic(auto, using(crate::proofs::Evaluated::conditions))]
+// No flag is set.
+fn clear(flags: &mut [bool])
+    ensures { flags.new ≡ replicate (length flags.old) false }
+{
+    flags.fill(false);
+}
+
 /// The conditions of all enabled transitions, by number, and FALSE for the others; or the first fault in rank order.
 pub fn evaluate_all<V: View>(
     setting: Setting<'_>,
@@ -61,7 +67,7 @@ pub fn evaluate_all<V: View>(
         conditions.new ≡ condition_flags setting.entry.tables.now setting.entry.chart.now (V.environment view.now) life) }
     ensures ticks { Within (condition_work setting.entry.tables.now setting.entry.chart.now setting.entry.tables.now.ranked) ticks.old ticks.new }
 {
-    conditions.fill(false);
+    clear(conditions);
     for transition in setting.tables.ranked() {
         conditions[transition.0 as usize] = evaluate(setting, steps, view, *transition, ticks)?;
     }
