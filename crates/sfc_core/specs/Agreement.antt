@@ -1,53 +1,14 @@
 -- Which histories a resource agrees with.
-use Rattle.std.specs.Prelude.{ℕ, ◌≡◌, ◌<◌, false, List, length, map, slice_index_or}
-use Rattle.sfc_tables.specs.Tables.{tables_of}
-use Rattle.sfc_program.specs.declared.program_type.ProgramType.{ProgramType}
-use Rattle.sfc_chart.specs.declared.ids.ProgId.{ProgId}
-use Rattle.sfc_chart.specs.Plants.{PlantData}
-use Rattle.sfc_image.specs.Changes.{settled}
-use Rattle.sfc_image.specs.Values.{variable_count}
-use Rattle.sfc_image.specs.Agreement as image
-use Rattle.sfc_instance.specs.declared.program.Program.{Program}
-use Rattle.sfc_instance.specs.Setting.{chart_of}
-use Rattle.sfc_instance.specs.Agreement as program
-use Rattle.sfc_tasks.specs.Agreement as tasks
-use Rattle.sfc_core.specs.declared.machine.Machine.{Machine}
+use Rattle.std.specs.Prelude.{◌≡◌, ◌<◌, length}
+use Rattle.sfc_chart.specs.declared.ids.TaskId.{TaskId}
+use Rattle.sfc_single.specs.Chart.{PlantData}
 use Rattle.sfc_core.specs.declared.resource.Resource.{Resource}
-use Rattle.sfc_core.specs.History.{History, last_instant}
-use Rattle.sfc_core.specs.Table.{Table, table_of}
-use Rattle.sfc_core.specs.Due.{calls_of}
-
--- ---- the variables and the program instances
-
--- each program of these is for the tables of its instance
-abbrev pub AreFor : PlantData → List Program → Type 0
-AreFor plant programs =
-    (k : ℕ) (d : Program) → k < length programs → program.IsFor (tables_of (chart_of plant (record { 0 = k }))) (slice_index_or programs k d)
-
--- it has the tables, the variables and the programs of the plant
-pub record IsMachineOf (plant : PlantData) (machine : Machine) : Type 0 where
-  pub tables : machine.tables.items ≡ map (λ (p : ProgramType). tables_of p.chart) plant.types
-  pub variables : image.variable_places machine.image ≡ variable_count plant
-  pub instances : image.instance_places machine.image ≡ length plant.instances
-  pub closed : image.is_open machine.image ≡ false
-  pub programs : length machine.programs.items ≡ length plant.instances
-  pub each : AreFor plant machine.programs.items
-
--- each program agrees with how its instance stands
-abbrev pub AreKept : PlantData → List Program → Table → Type 0
-AreKept plant programs table =
-    (k : ℕ) (d : Program) → k < length programs → program.ProgramAgrees
-    (tables_of (chart_of plant (record { 0 = k }))) (slice_index_or programs k d) (table.standing k)
-
-pub record MachineKeeps (plant : PlantData) (machine : Machine) (table : Table) : Type 0 where
-  pub image : image.ImageAgrees plant machine.image (settled table.changes)
-  pub programs : AreKept plant machine.programs.items table
-
--- all its answers are those of the table
-unfoldable pub MachineAgrees : PlantData → Machine → Table → Type 0
-MachineAgrees plant machine table = MachineKeeps plant machine table
-
--- ---- a resource
+use Rattle.sfc_core.specs.History.{History, last_instant, waiting, overruns}
+use Rattle.sfc_core.specs.Table.{table_of}
+use Rattle.sfc_core.specs.Verdict.{interval_of}
+use Rattle.sfc_core.specs.Answers.{life_of}
+use Rattle.sfc_core.specs.Keeping.SingleInstance.{single_chart}
+use Rattle.sfc_core.specs.Keeping.ProgramAgrees.{ProgramAgrees}
 
 -- the plant that it runs
 unfoldable pub plant_of : Resource → PlantData
@@ -55,9 +16,13 @@ plant_of resource = resource.plant
 
 -- what it keeps is what its plant's table gives for the history
 pub record Keeps (resource : Resource) (h : History) : Type 0 where
-  pub machine : MachineAgrees resource.plant resource.machine (table_of resource.plant h)
-  pub tasks : tasks.TasksAgree resource.plant.tasks resource.tasks (calls_of resource.plant h)
-  pub last : resource.last ≡ last_instant h
+  pub instant : resource.last ≡ last_instant h
+  pub image : resource.values.items ≡ (table_of resource.plant h).image
+  pub program : ProgramAgrees (single_chart resource.plant) resource.program (life_of resource.plant h (record { 0 = 0 }))
+  pub releases : (task : TaskId) → task.0 < length resource.plant.tasks →
+      resource.task.waiting ≡ waiting (interval_of resource.plant task) task h
+  pub late : (task : TaskId) → task.0 < length resource.plant.tasks →
+      resource.task.overruns ≡ overruns (interval_of resource.plant task) task h
 
 -- each answer that the resource gives is the definition's over the history
 unfoldable pub Agrees : Resource → History → Type 0

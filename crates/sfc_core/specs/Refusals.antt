@@ -3,13 +3,12 @@ use Rattle.std.specs.Prelude.{ℕ, List, ◌++◌, codes}
 use Rattle.std.specs.Fmt.{decimal}
 use Rattle.sfc_core.specs.declared.refusal.Refusal.{Refusal}
 use Rattle.sfc_core.specs.declared.refusal.Refusal.TheVariants.{InstantRange, ClockBack, UnknownTask, UnknownProgram}
-use Rattle.sfc_core.specs.declared.refusal.Refusal.TheVariants.{UnknownVar, ValueType, NotInput, NotForced, NotDue, Yield}
+use Rattle.sfc_core.specs.declared.refusal.Refusal.TheVariants.{UnknownVar, ValueType, NotInput, NotDue, Yield}
 
 abbrev pub number_of : Refusal → ℕ
 number_of UnknownVar = 24
 number_of ValueType = 25
 number_of NotInput = 26
-number_of NotForced = 27
 number_of ClockBack = 28
 number_of (NotDue next) = 29
 number_of (Yield task) = 30
@@ -21,7 +20,6 @@ abbrev pub name_of : Refusal → List ℕ
 name_of UnknownVar = codes "UnknownVar"
 name_of ValueType = codes "ValueType"
 name_of NotInput = codes "NotInput"
-name_of NotForced = codes "NotForced"
 name_of ClockBack = codes "ClockBack"
 name_of (NotDue next) = codes "NotDue"
 name_of (Yield task) = codes "Yield"

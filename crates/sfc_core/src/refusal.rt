@@ -24,8 +24,6 @@ pub enum Refusal {
     ValueType,
     /// The variable is not located at an input.
     NotInput,
-    /// The variable is not forced.
-    NotForced,
     /// No release of the task waits for a scan. The next one by its interval is at this instant, if there is one.
     NotDue(Option<i64>),
     /// This other task goes first.
@@ -41,7 +39,6 @@ impl Refusal {
             Refusal::UnknownVar => 24,
             Refusal::ValueType => 25,
             Refusal::NotInput => 26,
-            Refusal::NotForced => 27,
             Refusal::ClockBack => 28,
             Refusal::NotDue(_) => 29,
             Refusal::Yield(_) => 30,
@@ -59,7 +56,6 @@ impl Refusal {
             Refusal::UnknownVar => "UnknownVar",
             Refusal::ValueType => "ValueType",
             Refusal::NotInput => "NotInput",
-            Refusal::NotForced => "NotForced",
             Refusal::ClockBack => "ClockBack",
             Refusal::NotDue(_) => "NotDue",
             Refusal::Yield(_) => "Yield",

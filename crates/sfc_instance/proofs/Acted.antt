@@ -1,6 +1,7 @@
 -- One action after the other.
-use Rattle.std.proofs.Common.{◌≡◌, ℕ, zero, suc, ◌+◌, ◌<◌, ◌++◌, ◌∷◌, [], arith, Bool, true, false, cond, List, length, drop, get_or, ℤ, Option, Some, None, Result, Ok, Err, refl, sym, ap, subst, ◌∙◌, append_assoc}
-use Rattle.std.proofs.lemmas.List.{drop_more, drop_all}
+use Rattle.std.proofs.Common.{◌≡◌, ℕ, zero, suc, ◌+◌, ◌<◌, ◌≤◌, ◌++◌, ◌∷◌, [], arith, Bool, true, false, cond, List, length, drop, get_or, ℤ, Some, Result, Ok, Err, is_err, refl, sym, ap, subst, ◌∙◌, append_assoc}
+use Rattle.std.proofs.lemmas.List.{drop_all}
+use Rattle.std.proofs.lemmas.List.Sums.{sum_by-cons}
 use Rattle.sfc_expr.specs.declared.fault.Fault.{Fault}
 use Rattle.sfc_expr.specs.declared.value.Value.TheVariants as value
 use Rattle.sfc_expr.specs.Environment.{Environment}
@@ -10,6 +11,7 @@ use Rattle.sfc_expr.specs.declared.variable.Variable.{Variable}
 use Rattle.sfc_tables.specs.declared.action.ActionId.{ActionId}
 use Rattle.sfc_tables.specs.declared.association.Target.{Target}
 use Rattle.sfc_tables.specs.declared.association.Target.TheVariants.{Boolean, Declared}
+use Rattle.sfc_tables.specs.declared.chart.Chart.{Chart}
 use Rattle.sfc_tables.specs.Tables.{Tabled, tables_of}
 use Rattle.sfc_evolve.specs.Evolution.{active_steps}
 use Rattle.sfc_action.specs.ActionControl as control
@@ -23,8 +25,12 @@ use Rattle.sfc_image.specs.Agreement.{ImageAgrees}
 use Rattle.sfc_instance.specs.Life.{Life, evolution_rows, control_scans}
 use Rattle.sfc_instance.specs.Setting.{chart_of}
 use Rattle.sfc_instance.specs.ProgramScan.{acted, after_actions, after_body, and_then, body_in, moment, environment, step_times}
-use Rattle.sfc_instance.specs.Private.Acting.{Acts, Ends}
+use Rattle.sfc_instance.specs.Work.{action_work, actions_work}
+use Rattle.sfc_instance.specs.Private.Acting.{Acts, Ends, Follows}
 use Rattle.std.specs.Prelude.{slice_get}
+
+pub some_target : (x y : Target) → Some x ≡ Some y → x ≡ y
+some_target x y e = cc
 
 module _ (plant : PlantData) (p : ProgId) (life : Life) (t : ℤ) (a : ℕ) (kept tried : List Change) (image : Image) where
   abbrev tables : Tabled
@@ -90,30 +96,70 @@ module _ (plant : PlantData) (p : ProgId) (life : Life) (t : ℤ) (a : ℕ) (kep
 
 -- ---- all of them
 
-module _ (plant : PlantData) (p : ProgId) (life : Life) (t : ℤ) (kept : List Change) (targets : List Target) (i : ℕ) (target : Target) where
+module _ (targets : List Target) (i : ℕ) (target : Target) where
   split : i < length targets → slice_get targets i ≡ Some target → drop i targets ≡ target ∷ drop (i + 1) targets
   split lt is = at targets i is
     where
       at : (targets : List Target) (i : ℕ) → slice_get targets i ≡ Some target → drop i targets ≡ target ∷ drop (i + 1) targets
       at [] i e = absurd cc
       at (x ∷ xs) zero e = cc
-      at (x ∷ xs) (suc i) e = at xs i e
+      at (x ∷ xs) (suc i) e =
+          let next : suc i + 1 ≡ suc (i + 1) = omega arith in
+          at xs i e ∙ ap (λ (n : ℕ). target ∷ drop n (x ∷ xs)) (sym next)
 
+  pub work_split : (chart : Chart) → i < length targets → slice_get targets i ≡ Some target
+      → actions_work chart (drop i targets) ≡ action_work chart target + actions_work chart (drop (i + 1) targets)
+  work_split chart lt is = ap (actions_work chart) (split lt is) ∙ sum_by-cons (action_work chart) target (drop (i + 1) targets)
+
+module _ (plant : PlantData) (p : ProgId) (life : Life) (t : ℤ) (kept : List Change) (targets : List Target) (i : ℕ) (target : Target) where
   -- where an action succeeded the others follow
-  pub acts_on : (image : Image) (changes : List Change) → i < length targets → slice_get targets i ≡ Some target
-      → Acts plant kept image (Ok tt) (acted plant p life t i target changes)
-      → (tried : List Change) × ImageAgrees plant image (trying kept tried)
-      × (after_actions plant p life t i (drop i targets) changes ≡ after_actions plant p life t (i + 1) (drop (i + 1) targets) (tried ++ kept))
-  acts_on image changes lt is h = (h.tried, h.agrees,
-    ap (λ (ts : List Target). after_actions plant p life t i ts changes) (split lt is)
-    ∙ ap (λ (r : Result (List Change) Fault). and_then r (λ after. after_actions plant p life t (suc i) (drop (i + 1) targets) after)) h.ends
-    ∙ ap (λ (k : ℕ). after_actions plant p life t k (drop (i + 1) targets) (h.tried ++ kept)) (omega arith))
+  pub acts_on : (image : Image) (before changes : List Change) (answer : Result (Unit {0}) Fault) → is_err answer ≡ false
+      → i < length targets → slice_get targets i ≡ Some target
+      → Acts plant kept image answer (acted plant p life t i target changes)
+      → after_actions plant p life t i (drop i targets) changes ≡ after_actions plant p life t 0 targets (before ++ kept)
+      → Follows plant p life t kept targets before (i + 1) image
+  acts_on image before changes (Err f) off lt is h so = absurd cc
+  acts_on image before changes (Ok u) off lt is h so = record {
+    tried = h.tried;
+    agrees = h.agrees;
+    rest =
+        sym (ap (λ (ts : List Target). after_actions plant p life t i ts changes) (split targets i target lt is)
+        ∙ ap (λ (r : Result (List Change) Fault). and_then r (λ after. after_actions plant p life t (suc i) (drop (i + 1) targets) after)) h.ends
+        ∙ ap (λ (k : ℕ). after_actions plant p life t k (drop (i + 1) targets) (h.tried ++ kept)) (next i))
+        ∙ so;
+  }
+    where
+      next : (i : ℕ) → suc i ≡ i + 1
+      next i = omega arith
 
   -- where it failed its fault is that of all
-  pub acts_end : (image : Image) (changes : List Change) (f : Fault) → i < length targets → slice_get targets i ≡ Some target
-      → Acts plant kept image (Err f) (acted plant p life t i target changes)
-      → (tried : List Change) × ImageAgrees plant image (trying kept tried)
-      × (after_actions plant p life t i (drop i targets) changes ≡ Err f)
-  acts_end image changes f lt is h = (h.tried, h.agrees,
-    ap (λ (ts : List Target). after_actions plant p life t i ts changes) (split lt is)
-    ∙ ap (λ (r : Result (List Change) Fault). and_then r (λ after. after_actions plant p life t (suc i) (drop (i + 1) targets) after)) h.ends)
+  pub acts_end : (image : Image) (before changes : List Change) (answer : Result (Unit {0}) Fault) → is_err answer ≡ true
+      → i < length targets → slice_get targets i ≡ Some target
+      → Acts plant kept image answer (acted plant p life t i target changes)
+      → after_actions plant p life t i (drop i targets) changes ≡ after_actions plant p life t 0 targets (before ++ kept)
+      → Acts plant kept image answer (after_actions plant p life t 0 targets (before ++ kept))
+  acts_end image before changes (Ok u) on lt is h so = absurd cc
+  acts_end image before changes (Err f) on lt is h so = record {
+    tried = h.tried;
+    agrees = h.agrees;
+    ends =
+        sym so
+        ∙ ap (λ (ts : List Target). after_actions plant p life t i ts changes) (split targets i target lt is)
+        ∙ ap (λ (r : Result (List Change) Fault). and_then r (λ after. after_actions plant p life t (suc i) (drop (i + 1) targets) after)) h.ends;
+  }
+
+-- there is an action of each number
+pub some_at : (targets : List Target) (i : ℕ) → i < length targets → (target : Target) × (slice_get targets i ≡ Some target)
+some_at [] i lt = absurd (omega (arith, lt))
+some_at (x ∷ xs) zero lt = (x, refl)
+some_at (x ∷ xs) (suc i) lt = some_at xs i (omega (arith, lt))
+
+-- after the last action
+pub acts_all : (plant : PlantData) (p : ProgId) (life : Life) (t : ℤ) (kept : List Change) (targets : List Target) (before : List Change) (i : ℕ)
+    (image : Image) → length targets ≤ i → Follows plant p life t kept targets before i image
+    → Acts plant kept image (Ok tt) (after_actions plant p life t 0 targets (before ++ kept))
+acts_all plant p life t kept targets before i image le h = record {
+  tried = h.tried;
+  agrees = h.agrees;
+  ends = sym h.rest ∙ ap (λ (ts : List Target). after_actions plant p life t i ts (h.tried ++ kept)) (drop_all i targets le);
+}

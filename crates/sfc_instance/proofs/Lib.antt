@@ -4,3 +4,5 @@ pub mod Evaluated
 pub mod Timed
 -- actions one after the other
 pub mod Acted
+-- what the actions of a scan leave in the image
+pub mod Left

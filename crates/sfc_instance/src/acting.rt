@@ -110,7 +110,10 @@ pub fn act(acting: Acting<'_>, image: &mut Image, ticks: &mut Ticks) -> Result<(
     ensures ticks { Within (actions_work acting.entry.setting.chart.now acting.entry.setting.tables.now.actions) ticks.old ticks.new }
 {
     for action in 0..acting.setting.tables.actions() {
-        act_one(acting, image, ActionNumber(action), ticks)?;
+        let answer = act_one(acting, image, ActionNumber(action), ticks);
+        if answer.is_err() {
+            return answer;
+        }
     }
     Ok(())
 }

@@ -1,7 +1,9 @@
 -- What the actions of a scan do with the variables.
-use Rattle.std.specs.Prelude.{◌≡◌, ◌++◌, ◌∷◌, List, ℤ, Result, Ok, Err}
+use Rattle.std.specs.Prelude.{ℕ, drop, ◌≡◌, ◌++◌, ◌∷◌, List, ℤ, Result, Ok, Err}
 use Rattle.sfc_expr.specs.declared.fault.Fault.{Fault}
 use Rattle.sfc_tables.specs.Tables.{Tabled}
+use Rattle.sfc_tables.specs.declared.association.Target.{Target}
+use Rattle.sfc_chart.specs.declared.ids.ProgId.{ProgId}
 use Rattle.sfc_chart.specs.Plants.{PlantData}
 use Rattle.sfc_image.specs.declared.image.Image.{Image}
 use Rattle.sfc_image.specs.Changes.{Change, settled, trying}
@@ -11,7 +13,7 @@ use Rattle.sfc_instance.specs.declared.scan_fault.ScanFault.{ScanFault}
 use Rattle.sfc_instance.specs.declared.state.State.{State}
 use Rattle.sfc_instance.specs.Life.{Life, Row}
 use Rattle.sfc_instance.specs.Setting.{IsSettingOf}
-use Rattle.sfc_instance.specs.ProgramScan.{step_times}
+use Rattle.sfc_instance.specs.ProgramScan.{step_times, after_actions}
 use Rattle.sfc_instance.specs.Agreement.{StateAgrees}
 
 -- it stands after these scans, at t
@@ -54,3 +56,10 @@ unfoldable pub HasScanned : PlantData → Tabled → Life → List Change → Ro
     → Result (List Change) ScanFault → Type 0
 HasScanned plant tables life before row state image answer wanted =
     Leaves_scan plant tables life before row state image answer wanted
+
+-- after the first i actions the image has tried changes from which the others go on
+pub record Follows (plant : PlantData) (p : ProgId) (life : Life) (t : ℤ) (kept : List Change) (targets : List Target)
+    (before : List Change) (i : ℕ) (image : Image) : Type 0 where
+  pub tried : List Change
+  pub agrees : ImageAgrees plant image (trying kept tried)
+  pub rest : after_actions plant p life t i (drop i targets) (tried ++ kept) ≡ after_actions plant p life t 0 targets (before ++ kept)

@@ -1,0 +1,17 @@
+pub mod Looks
+pub mod Accepted
+pub mod Waiting
+pub mod Values
+pub mod FirstScan
+pub mod Multiples
+pub mod Cleared
+pub mod NumberedLooks
+pub mod Runs
+pub mod Events
+pub mod FirstAssociations
+pub mod Named
+pub mod Targets
+pub mod Zeros
+pub mod Marks
+pub mod Next
+pub mod Moments

@@ -1,0 +1,21 @@
+use Rattle.std.proofs.Common.{◌≡◌, ◌+◌, ◌≤◌, ◌++◌, ℕ, List, length, drop, ℤ}
+use Rattle.sfc_chart.specs.Plants.{PlantData}
+use Rattle.sfc_image.specs.Changes.{Change, trying}
+use Rattle.sfc_image.specs.Agreement.{ImageAgrees, IsAsLarge, is_open}
+use Rattle.sfc_instance.specs.Life.{Life}
+use Rattle.sfc_instance.specs.Work.{actions_work}
+use Rattle.sfc_instance.specs.Private.Acting.{IsAfter, Follows}
+use Rattle.sfc_instance.proofs.acting.act.Given as goal
+
+abbrev pub invariant-loop-action : goal.invariant-loop-action
+invariant-loop-action l =
+    let targets = l.acting.setting.tables.now.actions in
+    record {
+      large : IsAsLarge l.initial.image l.image;
+      «open» : is_open l.image ≡ is_open l.initial.image;
+      kept : (plant : PlantData) (life : Life) (t : ℤ) (kept tried : List Change) → IsAfter plant l.acting life t →
+        ImageAgrees plant l.initial.image (trying kept tried) → Follows plant l.acting.setting.instance life t kept targets tried l.action l.image;
+      rises : l.initial.ticks.count ≤ l.ticks.count;
+      ticks : l.ticks.count + actions_work l.acting.setting.chart.now (drop l.action targets)
+        ≤ l.initial.ticks.count + actions_work l.acting.setting.chart.now targets;
+    }
