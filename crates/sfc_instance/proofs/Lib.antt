@@ -6,3 +6,5 @@ pub mod Timed
 pub mod Acted
 -- what the actions of a scan leave in the image
 pub mod Left
+-- what the expressions of a scan read
+pub mod Readings

@@ -81,9 +81,11 @@ impl Room {
             times: &self.step_times,
         };
         let view = image.view(setting.instance, readings, false);
-        evaluate_all(setting, &state.steps, &view, &mut self.conditions, ticks)?;
-        read_association_times(&mut self.times, setting.tables.step_actions(), &view, ticks);
-        Ok(())
+        let answer = evaluate_all(setting, &state.steps, &view, &mut self.conditions, ticks);
+        if answer.is_ok() {
+            read_association_times(&mut self.times, setting.tables.step_actions(), &view, ticks);
+        }
+        answer
     }
 
     /// What the actions do after a scan at t that left these steps and this action control. After a fault of a body the

@@ -1,11 +1,73 @@
-use Rattle.std.proofs.Common.{rules, ◌≡◌, ◌≤◌, [], arith, length, map, List, ℕ, sym, ap, ◌∙◌}
+use Rattle.std.proofs.Common.{rules, ◌≡◌, Bool, true, false, None, Option, arith, length, map, List, ℤ, sym, ap, ◌∙◌, to_z-of_z}
+use Rattle.std.specs.Result.{result_err}
+use Rattle.std.proofs.lemmas.List.{with_items_is}
+use Rattle.sfc_expr.specs.declared.fault.Fault.{Fault}
+use Rattle.sfc_expr.specs.Environment.{Environment}
+use Rattle.sfc_image.specs.Changes.{settled}
+use Rattle.sfc_image.specs.Agreement.{environment_in}
+use Rattle.sfc_tables.specs.declared.step_action.StepAction.{StepAction}
+use Rattle.sfc_tables.specs.declared.chart.Chart.{Chart}
+use Rattle.sfc_tables.specs.Tables.{Tabled, tables_of}
+use Rattle.sfc_instance.specs.Life.{Life, evolution_scans}
+use Rattle.sfc_instance.specs.Setting.{chart_of}
+use Rattle.sfc_instance.specs.ProgramScan.{association_times, time_of, condition_fault, condition_flags, environment, step_times}
+use Rattle.sfc_instance.specs.Agreement.{StateAgrees}
+use Rattle.sfc_instance.proofs.Left.{on_ok, hold_ok}
+use Rattle.sfc_instance.proofs.Readings.{environment_is, tables_is, times_are}
 use Rattle.sfc_instance.proofs.room.Room.read.Goals as goal
 
-pub returns-in_err-evaluate_all-clause-fault : goal.returns-in_err-evaluate_all-clause-fault
-returns-in_err-evaluate_all-clause-fault c plant life changes setting state h = ?
+pub returns-then-is_ok-clause-fault : goal.returns-then-is_ok-clause-fault
+unfolding StateAgrees
+returns-then-is_ok-clause-fault c plant life changes setting state h =
+    let tables = c.args.setting.tables.now in
+    let chart = c.args.setting.chart.now in
+    let long : length c.deref_mut.result.now ≡ length tables.initial = omega (arith, c.deref_mut.ensures.len, c.requires.sizes.step_times) in
+    let read = simp (to_z-of_z, c.ranges.t) at (c.read_step_times.ensures.times tables (evolution_scans life) state.steps) in
+    let times : c.read_step_times.new.times ≡ step_times tables life c.args.t =
+    times_are tables life c.args.t c.read_step_times.new.times (length c.deref_mut.result.now) long read in
+    let env = c.view-view.ensures plant (settled changes) h
+    ∙ environment_is plant c.args.setting life changes c.args.t false c.active_flags.result.now c.deref.result.now setting
+    (c.active_flags.ensures.flags tables (evolution_scans life) state.steps)
+    (c.deref.ensures.value ∙ with_items_is c.args.self.now.step_times c.read_step_times.new.times (omega arith) ∙ times) in
+    c.evaluate_all-answer.ensures.fault life state.steps ∙ ap (λ (e : Environment). condition_fault tables chart e life tables.ranked) env
 
-pub returns-clause-fault : goal.returns-clause-fault
-returns-clause-fault c plant life changes setting state h = ?
+pub returns-else-is_ok-clause-fault : goal.returns-else-is_ok-clause-fault
+unfolding StateAgrees
+returns-else-is_ok-clause-fault c plant life changes setting state h =
+    let tables = c.args.setting.tables.now in
+    let chart = c.args.setting.chart.now in
+    let long : length c.deref_mut.result.now ≡ length tables.initial = omega (arith, c.deref_mut.ensures.len, c.requires.sizes.step_times) in
+    let read = simp (to_z-of_z, c.ranges.t) at (c.read_step_times.ensures.times tables (evolution_scans life) state.steps) in
+    let times : c.read_step_times.new.times ≡ step_times tables life c.args.t =
+    times_are tables life c.args.t c.read_step_times.new.times (length c.deref_mut.result.now) long read in
+    let env = c.view-view.ensures plant (settled changes) h
+    ∙ environment_is plant c.args.setting life changes c.args.t false c.active_flags.result.now c.deref.result.now setting
+    (c.active_flags.ensures.flags tables (evolution_scans life) state.steps)
+    (c.deref.ensures.value ∙ with_items_is c.args.self.now.step_times c.read_step_times.new.times (omega arith) ∙ times) in
+    c.evaluate_all-answer.ensures.fault life state.steps ∙ ap (λ (e : Environment). condition_fault tables chart e life tables.ranked) env
 
-pub returns-clause-row : goal.returns-clause-row
-returns-clause-row c plant life changes setting state h = ?
+pub returns-then-is_ok-clause-row : goal.returns-then-is_ok-clause-row
+unfolding StateAgrees
+returns-then-is_ok-clause-row c = hold_ok c.evaluate_all-answer.result _ (λ plant life changes setting state h.
+    let tables = c.args.setting.tables.now in
+    let chart = c.args.setting.chart.now in
+    let p = c.args.setting.instance in
+    let long : length c.deref_mut.result.now ≡ length tables.initial = omega (arith, c.deref_mut.ensures.len, c.requires.sizes.step_times) in
+    let read = simp (to_z-of_z, c.ranges.t) at (c.read_step_times.ensures.times tables (evolution_scans life) state.steps) in
+    let times : c.read_step_times.new.times ≡ step_times tables life c.args.t =
+    times_are tables life c.args.t c.read_step_times.new.times (length c.deref_mut.result.now) long read in
+    let env = c.view-view.ensures plant (settled changes) h
+    ∙ environment_is plant c.args.setting life changes c.args.t false c.active_flags.result.now c.deref.result.now setting
+    (c.active_flags.ensures.flags tables (evolution_scans life) state.steps)
+    (c.deref.ensures.value ∙ with_items_is c.args.self.now.step_times c.read_step_times.new.times (omega arith) ∙ times) in
+    let flags = with_items_is c.args.self.now.conditions c.evaluate_all-answer.new.conditions (omega arith)
+    ∙ on_ok c.evaluate_all-answer.result _ (sym c.is_ok.ensures.value ∙ c.if-is_ok.true) c.evaluate_all-answer.ensures.flags life state.steps
+    ∙ ap (λ (e : Environment). condition_flags tables chart e life) env
+    ∙ ap (λ (x : Tabled). condition_flags x chart (environment plant p life changes c.args.t false) life) (tables_is plant c.args.setting setting)
+    ∙ ap (λ (x : Chart). condition_flags (tables_of (chart_of plant p)) x (environment plant p life changes c.args.t false) life) setting.chart in
+    let association = with_items_is c.args.self.now.times c.read_association_times.new.times (omega arith)
+    ∙ c.read_association_times.ensures.times
+    ∙ ap (λ (xs : List StepAction). map (λ x. time_of (environment_in c.view-view.result) x.qualifier) xs) c.step_actions.ensures
+    ∙ ap (λ (e : Environment). association_times tables e) env
+    ∙ ap (λ (x : Tabled). association_times x (environment plant p life changes c.args.t false)) (tables_is plant c.args.setting setting) in
+    (λ i. record { conditions = flags i; times = association i; at = c.args.t }))

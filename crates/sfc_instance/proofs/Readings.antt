@@ -1,0 +1,35 @@
+-- What the expressions of a scan read.
+use Rattle.std.proofs.Common.{◌≡◌, Bool, List, length, map, ℤ, ap, sym, ◌∙◌}
+use Rattle.std.specs.List.{range_with_len}
+use Rattle.sfc_expr.specs.Environment.{Environment}
+use Rattle.sfc_tables.specs.Tables.{Tabled, tables_of}
+use Rattle.sfc_evolve.specs.Evolution.{active_steps, step_time, rows_of}
+use Rattle.sfc_chart.specs.Plants.{PlantData}
+use Rattle.sfc_image.specs.Changes.{Change}
+use Rattle.sfc_image.specs.Environments.{Moment, environment_of}
+use Rattle.sfc_instance.specs.declared.setting.Setting.{Setting}
+use Rattle.sfc_instance.specs.Life.{Life, evolution_rows}
+use Rattle.sfc_instance.specs.Setting.{chart_of, IsSettingOf}
+use Rattle.sfc_instance.specs.ProgramScan.{environment, moment, step_times}
+
+-- the tables of a setting are those of its instance's chart
+pub tables_is : (plant : PlantData) (setting : Setting) → IsSettingOf plant setting → setting.tables.now ≡ tables_of (chart_of plant setting.instance)
+tables_is plant setting is = is.tables ∙ ap tables_of is.chart
+
+-- the times of n steps
+pub times_are : (tables : Tabled) (life : Life) (t : ℤ) (times : List ℤ) (n : _) → n ≡ length tables.initial
+    → times ≡ map (λ s. step_time tables (evolution_rows tables life) s t) (range_with_len 0 n) → times ≡ step_times tables life t
+times_are tables life t times n long is =
+    is ∙ ap (λ m. map (λ s. step_time tables (evolution_rows tables life) s t) (range_with_len 0 m)) long
+
+-- what is read
+pub environment_is : (plant : PlantData) (setting : Setting) (life : Life) (changes : List Change) (t : ℤ) (q : Bool)
+    (active : List Bool) (times : List ℤ) → IsSettingOf plant setting
+    → active ≡ active_steps setting.tables.now (evolution_rows setting.tables.now life) → times ≡ step_times setting.tables.now life t
+    → environment_of plant changes setting.instance (record { active = active; times = times; q = q })
+    ≡ environment plant setting.instance life changes t q
+environment_is plant setting life changes t q active times is active_is times_is =
+    let made = tables_is plant setting is in
+    let a = active_is ∙ ap (λ (x : Tabled). active_steps x (evolution_rows x life)) made in
+    let b = times_is ∙ ap (λ (x : Tabled). step_times x life t) made in
+    (λ i. environment_of plant changes setting.instance (record { active = a i; times = b i; q = q }))
