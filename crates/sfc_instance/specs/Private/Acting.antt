@@ -1,7 +1,6 @@
 -- What the actions of a scan do with the variables.
-use Rattle.std.specs.Prelude.{ℕ, drop, ◌≡◌, ◌++◌, ◌∷◌, List, ℤ, Result, Ok, Err}
+use Rattle.std.specs.Prelude.{ℕ, drop, ◌≡◌, ◌++◌, List, ℤ, Result, Ok, Err}
 use Rattle.sfc_expr.specs.declared.fault.Fault.{Fault}
-use Rattle.sfc_tables.specs.Tables.{Tabled}
 use Rattle.sfc_tables.specs.declared.association.Target.{Target}
 use Rattle.sfc_chart.specs.declared.ids.ProgId.{ProgId}
 use Rattle.sfc_chart.specs.Plants.{PlantData}
@@ -9,9 +8,7 @@ use Rattle.sfc_image.specs.declared.image.Image.{Image}
 use Rattle.sfc_image.specs.Changes.{Change, settled, trying}
 use Rattle.sfc_image.specs.Agreement.{ImageAgrees}
 use Rattle.sfc_instance.specs.declared.acting.Acting.{Acting}
-use Rattle.sfc_instance.specs.declared.scan_fault.ScanFault.{ScanFault}
-use Rattle.sfc_instance.specs.declared.state.State.{State}
-use Rattle.sfc_instance.specs.Life.{Life, Row}
+use Rattle.sfc_instance.specs.Life.{Life}
 use Rattle.sfc_instance.specs.Setting.{IsSettingOf}
 use Rattle.sfc_instance.specs.ProgramScan.{step_times, after_actions}
 use Rattle.sfc_instance.specs.Agreement.{StateAgrees}
@@ -41,21 +38,6 @@ Leaves plant before image (Err f) wanted = (wanted ≡ Err f) × ImageAgrees pla
 
 unfoldable pub HasActed : PlantData → List Change → Image → Result (Unit {0}) Fault → Result (List Change) Fault → Type 0
 HasActed plant before image answer wanted = Leaves plant before image answer wanted
-
--- ---- a scan
-
-abbrev pub Leaves_scan : PlantData → Tabled → Life → List Change → Row → State → Image → Result (Unit {0}) ScanFault
-    → Result (List Change) ScanFault → Type 0
-Leaves_scan plant tables life before row state image (Ok u) wanted =
-    (done : List Change) × (wanted ≡ Ok done) × StateAgrees tables state (row ∷ life) × ImageAgrees plant image (settled done)
-Leaves_scan plant tables life before row state image (Err f) wanted =
-    (wanted ≡ Err f) × StateAgrees tables state life × ImageAgrees plant image (settled before)
-
--- it left the steps, the action control and the image that are wanted, or what was there before
-unfoldable pub HasScanned : PlantData → Tabled → Life → List Change → Row → State → Image → Result (Unit {0}) ScanFault
-    → Result (List Change) ScanFault → Type 0
-HasScanned plant tables life before row state image answer wanted =
-    Leaves_scan plant tables life before row state image answer wanted
 
 -- after the first i actions the image has tried changes from which the others go on
 pub record Follows (plant : PlantData) (p : ProgId) (life : Life) (t : ℤ) (kept : List Change) (targets : List Target)
