@@ -1,0 +1,4 @@
+//! The commands of a script.
+#![tactic(auto)]
+
+mod split;
