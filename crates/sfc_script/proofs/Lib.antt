@@ -1,1 +1,4 @@
+pub mod Digits
+pub mod Said
 pub mod Splits
+pub mod Types

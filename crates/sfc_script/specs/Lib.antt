@@ -10,5 +10,7 @@ pub mod Names
 pub mod Commands
 -- whole scripts
 pub mod Scripts
+-- what a reader of scripts answers
+pub mod Answers
 -- What private clauses cite.
 pub mod Private
