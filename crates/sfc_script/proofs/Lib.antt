@@ -1,3 +1,4 @@
+pub mod Decimals
 pub mod Digits
 pub mod Said
 pub mod Splits

@@ -1,5 +1,6 @@
 //! The commands of a script, over the names of a plant: events, with their instants.
 //!
+//! - `laws`: what the definitions mean.
 //! - `script`: whole scripts.
 //! - `command`: a line: an instant, a keyword, and what stands behind it.
 //! - `names`: tasks, program instances and variables by their names.
@@ -8,6 +9,7 @@
 #![tactic(auto)]
 
 mod command;
+pub mod laws;
 mod names;
 mod number;
 pub mod script;
