@@ -1,11 +1,12 @@
 -- Decimal numbers, and the values that words are (our choice of format).
-use Rattle.std.specs.Prelude.{ℕ, ◌+◌, ◌-◌, ◌*◌, ◌==◌, nat_le, ◌&&◌, if◌then◌else◌, List, [], ◌∷◌, codes, true, false}
+use Rattle.std.specs.Prelude.{ℕ, ◌+◌, ◌-◌, ◌*◌, ◌==◌, if◌then◌else◌, List, [], ◌∷◌, codes, true, false}
 use Rattle.std.specs.Prelude.{ℤ, pos, neg_ℤ, Option, Some, None, option_map, option_and_then}
 use Rattle.std.specs.Option.{option_or}
 use Rattle.std.specs.Ordering.{int_eq}
 use Rattle.sfc_tokens.specs.declared.var_type.VarType.{VarType}
 use Rattle.sfc_tokens.specs.declared.var_type.VarType.TheVariants as types
 use Rattle.sfc_tokens.specs.Case.{same_word}
+use Rattle.sfc_tokens.specs.Classes.{between}
 use Rattle.sfc_tokens.specs.Scanning.DurationWords.{duration_value}
 use Rattle.sfc_expr.specs.declared.value.Value.{Value}
 use Rattle.sfc_expr.specs.declared.value.Value.TheVariants as value
@@ -13,10 +14,10 @@ use Rattle.sfc_expr.specs.Values.{is_in_range}
 
 -- ---- numbers
 
--- the number that the digits 0 to 9 make behind the number n
+-- the number that decimal digits make behind the number n; 48 to 57 are the digits 0 to 9
 abbrev pub digits_from : ℕ → List ℕ → Option ℕ
 digits_from n [] = Some n
-digits_from n (b ∷ digits) = if nat_le 48 b && nat_le b 57 then digits_from (n * 10 + (b - 48)) digits else None
+digits_from n (b ∷ digits) = if between 48 57 b then digits_from (n * 10 + (b - 48)) digits else None
 
 -- one decimal digit or more
 abbrev pub decimal_of : List ℕ → Option ℕ

@@ -62,8 +62,10 @@ fn read_lines(alloc: Global, plant: &Plant, bytes: &[u8]) -> Result<Vec<(Event, 
 /// The events that a script says, with their instants in microseconds, over the names of a plant. A name that isn't
 /// found stands as a number that no plant has: 65,535 for a variable, 255 for a task or a program instance.
 ///
+/// Instants are from -2^62 to 2^62, and in any order. It takes memory for its answer alone.
+///
 /// `Faulty` tells the first line that is no command, counted from 1, or 0 where the script is longer than 1,048,576
-/// bytes; `Memory` that memory was refused. Instants are from -2^62 to 2^62, and in any order.
+/// bytes; `Memory` that memory was refused. Nothing is left of a script that was refused.
 pub fn read_script(
     alloc: Global,
     plant: &Plant,
