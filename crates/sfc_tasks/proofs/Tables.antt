@@ -1,5 +1,5 @@
 -- What a table keeps of one call more.
-use Rattle.std.proofs.Common.{◌≡◌, ◌≢◌, ℕ, ◌+◌, ◌<◌, ◌==◌, arith, List, [], ◌∷◌, ◌++◌, length, ℤ, Bool, true, false, cond, refl, sym, ◌∙◌, ap, subst, append-nil, inl, inr, add-zero, slice_set, pos}
+use Rattle.std.proofs.Common.{◌≡◌, ◌≢◌, ℕ, ◌+◌, ◌<◌, ◌==◌, arith, List, [], ◌∷◌, ◌++◌, length, ℤ, None, Bool, true, false, cond, refl, sym, ◌∙◌, ap, subst, append-nil, inl, inr, add-zero, slice_set, pos}
 use Rattle.std.proofs.lemmas.List.{get_or-set_same, get_or-set_other}
 use borrow.Author.Count.{below_more}
 use Rattle.std.proofs.lemmas.Bool.Decides.{eqb_tells}
@@ -9,8 +9,8 @@ use Rattle.sfc_tasks.specs.declared.place.Place.{Place}
 use Rattle.sfc_tasks.specs.declared.table.TaskTable.{TaskTable}
 use Rattle.sfc_tasks.specs.Calls.{Call, Elapsed, Rose, single_of, last_instant}
 use Rattle.sfc_tasks.specs.Releases.{interval_of, waiting, overruns, capped}
-use Rattle.sfc_tasks.specs.Pick.{RanksBefore, rank_of, IsPicked}
-use Rattle.sfc_tasks.specs.Private.Keeping.{place_at, empty_place, rank_at, IsFirst, KeepsReleases, Gains, elapsed_releases}
+use Rattle.sfc_tasks.specs.Pick.{RanksBefore, rank_of, IsPicked, NoneWaits}
+use Rattle.sfc_tasks.specs.Private.Keeping.{place_at, empty_place, rank_at, IsFirst, FirstOf, KeepsReleases, Gains, elapsed_releases}
 use Rattle.sfc_tasks.specs.Agreement.{IsKept, Keeps}
 
 -- a call that releases `us` for task k, and does not serve it
@@ -109,6 +109,11 @@ picked tasks table calls k kept first =
           (subst (λ (x : ℕ). RanksBefore (rank_at table.places k first.since) (record { priority = x; since = other; number = j }))
           i.priority (first.first j other (omega (arith, jlt, kept.size)) ne (i.releases.since ∙ e)));
     }
+
+pub none_waits : (tasks : List Task) (table : TaskTable) (calls : List Call) → Keeps tasks table calls
+    → FirstOf table.places table.count None → NoneWaits tasks calls
+none_waits tasks table calls kept none k lt =
+    let h = kept.each k lt in sym h.releases.since ∙ none k (omega (arith, lt, kept.size))
 
 -- a place more is done
 module _ (P : ℕ → Place → Type 0) where

@@ -1,11 +1,12 @@
 //! What the definitions mean: each law is a function with an empty body, whose contract is the law.
 
 ghost use Rattle.std.specs.Prelude.{◌≡◌, ◌↔◌, ◌<ℤ◌, ◌≤ℤ◌, ◌^◌, ℤ, ℕ, pos, List, All, AllPairs, Contains, Some, None};
+ghost use Rattle.sfc_chart.specs.declared.ids.TaskId.{TaskId};
 ghost use Rattle.sfc_chart.specs.declared.task.Task.{Task};
 ghost use Rattle.sfc_tasks.specs.Multiples.{multiple, multiples_between, next_multiple};
 ghost use Rattle.sfc_tasks.specs.Calls.{Call};
 ghost use Rattle.sfc_tasks.specs.Releases.{waiting, first_of};
-ghost use Rattle.sfc_tasks.specs.Pick.{IsPicked};
+ghost use Rattle.sfc_tasks.specs.Pick.{picked, IsPicked, NoneWaits};
 ghost use Rattle.sfc_tasks.specs.Meaning.{IsMultipleBetween, IsNext, IsReleasedSince, AreInOrder};
 
 /// An instant is among the multiples between two instants exactly when it is a multiple of the interval, after the
@@ -35,6 +36,15 @@ pub fn waiting_releases()
 pub fn earliest()
     ensures { (interval : ℤ) (k : ℕ) (calls : List Call) (since : ℤ) → AreInOrder calls →
         first_of (waiting interval k calls) ≡ Some since → All (λ u. since ≤ℤ u) (waiting interval k calls) }
+{}
+
+/// The task that goes first is the one that waits and ranks before each other task that waits, and there is none exactly
+/// where no task waits (2.7.2).
+#[tactic(auto, using(crate::proofs::Picking::picked_is, crate::proofs::Picking::is_picked))]
+pub fn picked_task()
+    ensures task { (tasks : List Task) (calls : List Call) (task : TaskId) →
+        picked tasks calls ≡ Some task ↔ IsPicked tasks calls task.0 }
+    ensures none { (tasks : List Task) (calls : List Call) → picked tasks calls ≡ None ↔ NoneWaits tasks calls }
 {}
 
 /// At most one task is picked.

@@ -57,13 +57,13 @@ fn place_all(places: &mut [Place], tasks: &[Task])
 
 #[tactic(auto, unfolding(crate::specs::Agreement::TasksAgree), using(crate::proofs::Tables::elapse_kept, crate::proofs::Tables::rise_kept))]
 impl TaskTable {
-    ghost use Rattle.std.specs.Prelude.{◌≡◌, ◌<◌, ◌≤ℤ◌, ◌^◌, ◌∷◌, [], List, ℕ, pos, length, is_some, IfSome, IfNone};
+    ghost use Rattle.std.specs.Prelude.{◌≡◌, ◌<◌, ◌≤ℤ◌, ◌^◌, ◌∷◌, [], List, ℕ, pos, length, is_some};
     ghost use Rattle.sfc_expr.specs.Ticks.{Within};
     ghost use Rattle.sfc_chart.specs.declared.task.Task.{Task};
     ghost use Rattle.sfc_tasks.specs.Multiples.{next_release};
     ghost use Rattle.sfc_tasks.specs.Calls.{Call, Elapsed, Rose, Served, single_of};
     ghost use Rattle.sfc_tasks.specs.Releases.{interval_of, waits_since, overruns};
-    ghost use Rattle.sfc_tasks.specs.Pick.{IsPicked, NoneWaits};
+    ghost use Rattle.sfc_tasks.specs.Pick.{picked};
     ghost use Rattle.sfc_tasks.specs.Agreement.{TasksAgree, task_places};
 
     /// The tasks of the plant, none of which was told anything. It takes no memory.
@@ -113,10 +113,8 @@ impl TaskTable {
     /// Of the tasks that wait, the one that goes first: that of the lowest priority, then the one that waits longest,
     /// then the first in the table (2.7.2). `None` where no task waits.
     pub fn pick(&self, ticks: &mut Ticks) -> Option<TaskId>
-        ensures picked { (tasks : List Task) (calls : List Call) → TasksAgree tasks self.now calls →
-            IfSome result (λ task. IsPicked tasks calls task.0) }
-        ensures none { (tasks : List Task) (calls : List Call) → TasksAgree tasks self.now calls →
-            IfNone result (NoneWaits tasks calls) }
+        ensures value { (tasks : List Task) (calls : List Call) → TasksAgree tasks self.now calls →
+            result ≡ picked tasks calls }
         ensures ticks { Within (task_places self.now) ticks.old ticks.new }
     {
         match first_of(&self.places, self.count, ticks) {

@@ -1,0 +1,5 @@
+pub mod Decimals
+pub mod Digits
+pub mod Said
+pub mod Splits
+pub mod Types

@@ -1,0 +1,152 @@
+-- Lines, and the bytes up to a mark.
+use Rattle.std.proofs.Common.{◌≡◌, ℕ, suc, ◌<◌, ◌≤◌, ◌==◌, Bool, true, false, ◌&&◌, if◌then◌else◌, List, [], ◌∷◌, ◌++◌, length, refl, sym, ap, ◌∙◌, subst, arith}
+use Rattle.std.proofs.Math.Bool.{and-false}
+use Rattle.std.proofs.lemmas.Bool.Decides.{nat_tests}
+use Rattle.sfc_script.specs.Lines.{in_line, begins_with_lf, lines_of, split_before}
+use Rattle.sfc_script.specs.Private.Splitting.{without_cr, is_lf}
+
+split_more : (p : ℕ → Bool) (b : ℕ) (bytes : List ℕ) → p b ≡ false → split_before p (b ∷ bytes) ≡ (b ∷ (split_before p bytes).0, (split_before p bytes).1)
+unfolding split_before
+split_more p b bytes e = ap (λ t. if t then ([], b ∷ bytes) else (b ∷ (split_before p bytes).0, (split_before p bytes).1)) e
+
+split_stop : (p : ℕ → Bool) (b : ℕ) (bytes : List ℕ) → p b ≡ true → split_before p (b ∷ bytes) ≡ ([], b ∷ bytes)
+unfolding split_before
+split_stop p b bytes e = ap (λ t. if t then ([], b ∷ bytes) else (b ∷ (split_before p bytes).0, (split_before p bytes).1)) e
+
+split_nothing : (p : ℕ → Bool) → split_before p [] ≡ ([], [])
+unfolding split_before
+split_nothing p = refl
+
+-- ---- lines
+
+lines_end : (b : ℕ) (bytes : List ℕ) → (b == 10) ≡ true → lines_of (b ∷ bytes) ≡ [] ∷ lines_of bytes
+lines_end b bytes e = ap (λ t. if t then [] ∷ lines_of bytes else if b == 13 && begins_with_lf bytes then lines_of bytes else in_line b (lines_of bytes)) e
+
+lines_more : (b : ℕ) (bytes : List ℕ) → (b == 10) ≡ false → lines_of (b ∷ bytes) ≡ (if b == 13 && begins_with_lf bytes then lines_of bytes else in_line b (lines_of bytes))
+lines_more b bytes e = ap (λ t. if t then [] ∷ lines_of bytes else if b == 13 && begins_with_lf bytes then lines_of bytes else in_line b (lines_of bytes)) e
+
+lines_byte : (b : ℕ) (bytes : List ℕ) → (b == 10) ≡ false → begins_with_lf bytes ≡ false → lines_of (b ∷ bytes) ≡ in_line b (lines_of bytes)
+lines_byte b bytes e f = lines_more b bytes e ∙ ap (λ t. if b == 13 && t then lines_of bytes else in_line b (lines_of bytes)) f
+    ∙ ap (λ t. if t then lines_of bytes else in_line b (lines_of bytes)) (and-false (b == 13))
+
+no_end : (b : ℕ) (bytes : List ℕ) → (b == 10) ≡ true → (split_before is_lf (b ∷ bytes)).1 ≡ [] → ⊥
+no_end b bytes e none = let bad : b ∷ bytes ≡ [] = sym (ap (λ s. s.1) (split_stop is_lf b bytes e)) ∙ none in cc
+
+behind_byte : (b : ℕ) (bytes r : List ℕ) → (b == 10) ≡ false → (split_before is_lf (b ∷ bytes)).1 ≡ r → (split_before is_lf bytes).1 ≡ r
+behind_byte b bytes r e f = sym (ap (λ s. s.1) (split_more is_lf b bytes e)) ∙ f
+
+-- bytes without an LF are one line
+pub last_line : (b : ℕ) (bytes : List ℕ) → (split_before is_lf (b ∷ bytes)).1 ≡ [] → lines_of (b ∷ bytes) ≡ (split_before is_lf (b ∷ bytes)).0 ∷ []
+last_line b [] none = by (b == 10) refl
+  where
+    by : (t : Bool) → (b == 10) ≡ t → lines_of (b ∷ []) ≡ (split_before is_lf (b ∷ [])).0 ∷ []
+    by true e = absurd (no_end b [] e none)
+    by false e = lines_byte b [] e refl ∙ sym (ap (λ s. (b ∷ s.0) ∷ []) (split_nothing is_lf)) ∙ sym (ap (λ s. s.0 ∷ []) (split_more is_lf b [] e))
+last_line b (c ∷ bytes) none = by (λ f. last_line c bytes f) (b == 10) refl
+  where
+    after : ((split_before is_lf (c ∷ bytes)).1 ≡ [] → lines_of (c ∷ bytes) ≡ (split_before is_lf (c ∷ bytes)).0 ∷ []) → (b == 10) ≡ false → (split_before is_lf (c ∷ bytes)).1 ≡ [] → (t : Bool) → (c == 10) ≡ t
+        → lines_of (b ∷ c ∷ bytes) ≡ (b ∷ (split_before is_lf (c ∷ bytes)).0) ∷ []
+    after again e f true g = absurd (no_end c bytes g f)
+    after again e f false g = lines_byte b (c ∷ bytes) e g ∙ ap (λ lines. in_line b lines) (again f)
+
+    by : ((split_before is_lf (c ∷ bytes)).1 ≡ [] → lines_of (c ∷ bytes) ≡ (split_before is_lf (c ∷ bytes)).0 ∷ []) → (t : Bool) → (b == 10) ≡ t → lines_of (b ∷ c ∷ bytes) ≡ (split_before is_lf (b ∷ c ∷ bytes)).0 ∷ []
+    by again true e = absurd (no_end b (c ∷ bytes) e none)
+    by again false e = after again e (behind_byte b (c ∷ bytes) [] e none) (c == 10) refl ∙ sym (ap (λ s. s.0 ∷ []) (split_more is_lf b (c ∷ bytes) e))
+
+tail_of : (x y : ℕ) (xs ys : List ℕ) → x ∷ xs ≡ y ∷ ys → xs ≡ ys
+tail_of x y xs ys e = cc
+
+nothing_behind : (m : ℕ) (rest : List ℕ) → (split_before is_lf []).1 ≡ m ∷ rest → ⊥
+nothing_behind m rest found = let bad : [] ≡ m ∷ rest = sym (ap (λ s. s.1) (split_nothing is_lf)) ∙ found in cc
+
+-- an LF ends an empty line
+end_first : (b : ℕ) (bytes : List ℕ) (m : ℕ) (rest : List ℕ) → (b == 10) ≡ true → (split_before is_lf (b ∷ bytes)).1 ≡ m ∷ rest → lines_of (b ∷ bytes) ≡ without_cr (split_before is_lf (b ∷ bytes)).0 ∷ lines_of rest
+end_first b bytes m rest e found =
+    let same : bytes ≡ rest = tail_of b m bytes rest (sym (ap (λ s. s.1) (split_stop is_lf b bytes e)) ∙ found) in
+    lines_end b bytes e ∙ ap (λ r. [] ∷ lines_of r) same ∙ sym (ap (λ s. without_cr s.0 ∷ lines_of rest) (split_stop is_lf b bytes e))
+
+-- a byte directly before an LF
+byte_then_end : (b c : ℕ) (bytes : List ℕ) → (b == 10) ≡ false → (c == 10) ≡ true → lines_of (b ∷ c ∷ bytes) ≡ without_cr (b ∷ []) ∷ lines_of bytes
+byte_then_end b c bytes e g = lines_more b (c ∷ bytes) e ∙ by (b == 13) refl
+  where
+    by : (t : Bool) → (b == 13) ≡ t → (if t && begins_with_lf (c ∷ bytes) then lines_of (c ∷ bytes) else in_line b (lines_of (c ∷ bytes))) ≡ without_cr (b ∷ []) ∷ lines_of bytes
+    by true h = ap (λ t. if t then lines_of (c ∷ bytes) else in_line b (lines_of (c ∷ bytes))) g ∙ lines_end c bytes g ∙ sym (ap (λ t. (if t then [] else b ∷ []) ∷ lines_of bytes) h)
+    by false h = ap (λ lines. in_line b lines) (lines_end c bytes g) ∙ sym (ap (λ t. (if t then [] else b ∷ []) ∷ lines_of bytes) h)
+
+-- bytes with an LF begin with a line that ends there
+pub ended_line : (bytes : List ℕ) (m : ℕ) (rest : List ℕ) → (split_before is_lf bytes).1 ≡ m ∷ rest → lines_of bytes ≡ without_cr (split_before is_lf bytes).0 ∷ lines_of rest
+ended_line [] m rest found = absurd (nothing_behind m rest found)
+ended_line (b ∷ []) m rest found = by (b == 10) refl
+  where
+    by : (t : Bool) → (b == 10) ≡ t → lines_of (b ∷ []) ≡ without_cr (split_before is_lf (b ∷ [])).0 ∷ lines_of rest
+    by true e = end_first b [] m rest e found
+    by false e = absurd (nothing_behind m rest (behind_byte b [] (m ∷ rest) e found))
+ended_line (b ∷ c ∷ bytes) m rest found = by (λ f. ended_line (c ∷ bytes) m rest f) (b == 10) refl
+  where
+    after : ((split_before is_lf (c ∷ bytes)).1 ≡ m ∷ rest → lines_of (c ∷ bytes) ≡ without_cr (split_before is_lf (c ∷ bytes)).0 ∷ lines_of rest) → (b == 10) ≡ false → (split_before is_lf (c ∷ bytes)).1 ≡ m ∷ rest → (t : Bool) → (c == 10) ≡ t
+        → lines_of (b ∷ c ∷ bytes) ≡ without_cr (b ∷ (split_before is_lf (c ∷ bytes)).0) ∷ lines_of rest
+    after again e f true g =
+        let same : bytes ≡ rest = tail_of c m bytes rest (sym (ap (λ s. s.1) (split_stop is_lf c bytes g)) ∙ f) in
+        byte_then_end b c bytes e g ∙ ap (λ r. without_cr (b ∷ []) ∷ lines_of r) same ∙ sym (ap (λ s. without_cr (b ∷ s.0) ∷ lines_of rest) (split_stop is_lf c bytes g))
+    after again e f false g =
+        lines_byte b (c ∷ bytes) e g ∙ ap (λ lines. in_line b lines) (again f)
+        ∙ ap (λ s. (b ∷ without_cr s.0) ∷ lines_of rest) (split_more is_lf c bytes g) ∙ sym (ap (λ s. without_cr (b ∷ s.0) ∷ lines_of rest) (split_more is_lf c bytes g))
+
+    by : ((split_before is_lf (c ∷ bytes)).1 ≡ m ∷ rest → lines_of (c ∷ bytes) ≡ without_cr (split_before is_lf (c ∷ bytes)).0 ∷ lines_of rest) → (t : Bool) → (b == 10) ≡ t → lines_of (b ∷ c ∷ bytes) ≡ without_cr (split_before is_lf (b ∷ c ∷ bytes)).0 ∷ lines_of rest
+    by again true e = end_first b (c ∷ bytes) m rest e found
+    by again false e = after again e (behind_byte b (c ∷ bytes) (m ∷ rest) e found) (c == 10) refl ∙ sym (ap (λ s. without_cr s.0 ∷ lines_of rest) (split_more is_lf b (c ∷ bytes) e))
+
+-- what stands from the mark on is no longer than the bytes
+pub behind_short : (p : ℕ → Bool) (bytes : List ℕ) → length (split_before p bytes).1 ≤ length bytes
+behind_short p [] = rw (split_nothing p) (omega arith)
+behind_short p (b ∷ bytes) = by (behind_short p bytes) (p b) refl
+  where
+    by : length (split_before p bytes).1 ≤ length bytes → (t : Bool) → p b ≡ t → length (split_before p (b ∷ bytes)).1 ≤ suc (length bytes)
+    by shorter true e = rw (split_stop p b bytes e) (omega arith)
+    by shorter false e = rw (split_more p b bytes e) (omega arith)
+
+-- a CR before the end
+pub without_cr-last : (front : List ℕ) (b : ℕ) → without_cr (front ++ b ∷ []) ≡ (if b == 13 then front else front ++ b ∷ [])
+without_cr-last [] b = refl
+without_cr-last (c ∷ []) b = by (b == 13) refl
+  where
+    by : (t : Bool) → (b == 13) ≡ t → c ∷ (if t then [] else b ∷ []) ≡ (if t then c ∷ [] else c ∷ b ∷ [])
+    by true e = refl
+    by false e = refl
+without_cr-last (c ∷ d ∷ front) b = ap (λ line. c ∷ line) (without_cr-last (d ∷ front) b) ∙ by (b == 13)
+  where
+    by : (t : Bool) → c ∷ (if t then d ∷ front else d ∷ front ++ b ∷ []) ≡ (if t then c ∷ d ∷ front else c ∷ d ∷ front ++ b ∷ [])
+    by true = refl
+    by false = refl
+
+-- the only line of bytes without an LF
+pub line_alone : (bytes line behind : List ℕ) → (bytes ≡ [] → ⊥) → (line, behind) ≡ split_before is_lf bytes → behind ≡ [] → (lines_of bytes ≡ line ∷ lines_of behind) × (length behind < length bytes)
+line_alone [] line behind some split none = absurd (some refl)
+line_alone (b ∷ bytes) line behind some split none =
+    let e : (split_before is_lf (b ∷ bytes)).1 ≡ [] = sym (ap (λ s. s.1) split) ∙ none in
+    (last_line b bytes e ∙ ap (λ s. s.0 ∷ []) (sym split) ∙ ap (λ r. line ∷ lines_of r) (sym none), rw none (omega arith))
+
+-- a line that ends, and what stands behind its LF
+pub line_ended : (bytes line behind rest trimmed : List ℕ) (m : ℕ) → (line, behind) ≡ split_before is_lf bytes → behind ≡ m ∷ rest → trimmed ≡ without_cr line → (lines_of bytes ≡ trimmed ∷ lines_of rest) × (length rest < length bytes)
+line_ended bytes line behind rest trimmed m split found cut =
+    let e : (split_before is_lf bytes).1 ≡ m ∷ rest = sym (ap (λ s. s.1) split) ∙ found in
+    let short : length (split_before is_lf bytes).1 ≤ length bytes = behind_short is_lf bytes in
+    let shorter : suc (length rest) ≤ length bytes = subst (λ r. length r ≤ length bytes) e short in
+    (ended_line bytes m rest e ∙ ap (λ s. without_cr s.0 ∷ lines_of rest) (sym split) ∙ ap (λ l. l ∷ lines_of rest) (sym cut), omega arith)
+
+pub cr_last : (line front : List ℕ) (b : ℕ) → line ≡ front ++ b ∷ [] → (b == 13) ≡ true → front ≡ without_cr line
+cr_last line front b e h = sym (ap without_cr e ∙ without_cr-last front b ∙ ap (λ t. if t then front else front ++ b ∷ []) h)
+
+pub no_cr_last : (line front : List ℕ) (b : ℕ) → line ≡ front ++ b ∷ [] → (b == 13) ≡ false → line ≡ without_cr line
+no_cr_last line front b e h = e ∙ sym (ap without_cr e ∙ without_cr-last front b ∙ ap (λ t. if t then front else front ++ b ∷ []) h)
+
+pub other_number : (m n : ℕ) → (m ≡ n → ⊥) → (m == n) ≡ false
+other_number m n h = by (m == n) refl
+  where
+    by : (t : Bool) → (m == n) ≡ t → (m == n) ≡ false
+    by true e = absurd (h (grind (arith, nat_tests)))
+    by false e = e
+
+pub none_left : (bytes : List ℕ) → length bytes ≡ 0 → bytes ≡ []
+none_left [] e = refl
+none_left (b ∷ bytes) e = absurd (omega arith)

@@ -1,0 +1,80 @@
+//! Names of tasks, of program instances and of variables.
+
+ghost use Rattle.std.specs.Prelude.{◌≡◌, ◌<◌, length, option_map, slice_get, IfSome};
+ghost use Rattle.sfc_chart.specs.Finding.{instance_locals};
+ghost use Rattle.sfc_script.specs.Names as names;
+
+use sfc_chart::ids::{ProgId, TaskId, VarId};
+use sfc_chart::image_variable::ImageVariable;
+use sfc_chart::plant::Plant;
+use sfc_tokens::var_type::VarType;
+
+/// The task with this name; else a number that no plant has.
+pub fn task_of(plant: &Plant, word: &[u8]) -> TaskId
+    ensures { result ≡ names.task_of plant.now word.now }
+{
+    plant.find_task(word).unwrap_or(TaskId(255))
+}
+
+/// The program instance with this name; else a number that no plant has.
+pub fn program_of(plant: &Plant, word: &[u8]) -> ProgId
+    ensures { result ≡ names.program_of plant.now word.now }
+{
+    plant.find_instance(word).unwrap_or(ProgId(255))
+}
+
+// Where the first dot stands, if there is one.
+fn first_dot(word: &[u8]) -> Option<usize>
+    ensures place { result ≡ names.first_dot word.now }
+    ensures within { IfSome result (λ dot. dot < length word.now) }
+{
+    word.iter().position(|byte| *byte == b'.')
+}
+
+// The variable with this name, if there is one: a local variable where the name has a dot.
+fn find_variable(plant: &Plant, word: &[u8]) -> Option<VarId>
+    ensures { result ≡ names.variable_at_dot plant.now word.now (names.first_dot word.now) }
+{
+    let Some(dot) = first_dot(word) else {
+        return plant.find_variable(word);
+    };
+    let instance = plant.find_instance(&word[..dot])?;
+    plant.find_local(instance, &word[dot + 1..])
+}
+
+/// The variable with this name: `NAME` for a global, `INST.NAME` for a local of a program instance; else a number that
+/// no plant has.
+pub fn variable_of(plant: &Plant, word: &[u8]) -> VarId
+    ensures { result ≡ names.variable_of plant.now word.now }
+{
+    find_variable(plant, word).unwrap_or(VarId(65535))
+}
+
+// The type of a global variable.
+fn global_type(plant: &Plant, place: usize) -> Option<VarType>
+    ensures { result ≡ option_map (λ v. v.var_type) (slice_get plant.now.globals place) }
+{
+    let variable = plant.globals().get(place)?;
+    Some(variable.var_type)
+}
+
+// The type of a local variable of a program instance.
+fn local_type(plant: &Plant, instance: ProgId, place: usize) -> Option<VarType>
+    ensures { result ≡ option_map (λ v. v.var_type) (slice_get (instance_locals plant.now instance) place) }
+{
+    let instance = plant.instances().get(instance.0 as usize)?;
+    let program = plant.types().get(instance.program)?;
+    let variable = program.locals.as_slice().get(place)?;
+    Some(variable.var_type)
+}
+
+/// The type of a variable, if there is one with this number.
+
+pub fn type_of(plant: &Plant, id: VarId) -> Option<VarType>
+    ensures { result ≡ names.type_of plant.now id }
+{
+    match plant.image_variable(id)? {
+        ImageVariable::Global(global) => global_type(plant, global.0),
+        ImageVariable::Local(instance, local) => local_type(plant, instance, local.0),
+    }
+}

@@ -1,0 +1,80 @@
+//! Scripts.
+
+ghost use Rattle.std.specs.Prelude.{◌≡◌};
+ghost use Rattle.sfc_script.specs.declared.script.ScriptError.TheVariants.{Memory};
+ghost use Rattle.sfc_script.specs.Lines.{lines_of};
+ghost use Rattle.sfc_script.specs.Scripts.{commands_of_lines, commands_of_script};
+ghost use Rattle.sfc_script.specs.Answers.{ReadsScript};
+
+use crate::command::{Line, read_line};
+use crate::split::next_line;
+use sfc_chart::plant::Plant;
+use sfc_core::Event;
+use std::alloc::{AllocError, AllocFailed, Global};
+
+/// The most bytes of a script.
+const LONGEST: usize = 1_048_576;
+
+/// Why a script was refused.
+#[derive(Clone, Copy, Debug, PartialEq, Eq)]
+pub enum ScriptError {
+    /// The first line that is no command, counted from 1; 0 where the script is longer than 1,048,576 bytes.
+    Faulty(usize),
+    /// Memory was refused.
+    Memory,
+}
+
+impl From<AllocError> for ScriptError {
+    ghost from_gives = { λ _ error. error ≡ Memory };
+
+    fn from(_error: AllocError) -> ScriptError {
+        ScriptError::Memory
+    }
+}
+
+impl<T: Drop> From<AllocFailed<T>> for ScriptError {
+    ghost from_gives = { λ _ error. error ≡ Memory };
+
+    fn from(_error: AllocFailed<T>) -> ScriptError {
+        ScriptError::Memory
+    }
+}
+
+// The commands of the lines.
+fn read_lines(alloc: Global, plant: &Plant, bytes: &[u8]) -> Result<Vec<(Event, i64)>, ScriptError>
+    ensures { ReadsScript result (commands_of_lines plant.now 1 (lines_of bytes.now)) }
+{
+    let mut entries = Vec::new(alloc);
+    let mut number = 1;
+    let mut rest = bytes;
+    'lines: while let Some((line, after)) = next_line(rest) {
+        match read_line(plant, line) {
+            Line::Skipped => {}
+            Line::Command(event, t) => entries.push((event, t))?,
+            Line::Faulty => return Err(ScriptError::Faulty(number)),
+        }
+        number += 1;
+        rest = after;
+    }
+    Ok(entries)
+}
+
+/// The events that a script says, with their instants in microseconds, over the names of a plant. A name that isn't
+/// found stands as a number that no plant has: 65,535 for a variable, 255 for a task or a program instance.
+///
+/// Instants are from -2^62 to 2^62, and in any order. It takes memory for its answer alone.
+///
+/// `Faulty` tells the first line that is no command, counted from 1, or 0 where the script is longer than 1,048,576
+/// bytes; `Memory` that memory was refused. Nothing is left of a script that was refused.
+pub fn read_script(
+    alloc: Global,
+    plant: &Plant,
+    bytes: &[u8],
+) -> Result<Vec<(Event, i64)>, ScriptError>
+    ensures { ReadsScript result (commands_of_script plant.now bytes.now) }
+{
+    if bytes.len() > LONGEST {
+        return Err(ScriptError::Faulty(0));
+    }
+    read_lines(alloc, plant, bytes)
+}
