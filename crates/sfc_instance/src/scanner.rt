@@ -34,15 +34,7 @@ use sfc_tables::tables::Tables;
 use std::alloc::{AllocError, Global};
 
 impl Scanner {
-    // experiment
-    #[tactic(none)]
-    fn pair(now: State, alloc: Global, tables: &Tables) -> Result<(State, State), AllocError> {
-        let spare = State::new(alloc, tables)?;
-        Ok((now, spare))
-    }
-
     /// Before the first scan of a life. The one error is that memory was refused.
-    #[tactic(none)]
     pub fn new(alloc: Global, tables: &Tables) -> Result<Scanner, AllocError>
         ensures sizes { IfOk result (λ scanner. IsScannerFor tables.now scanner) }
         ensures agrees { IfOk result (λ scanner. StateAgrees tables.now scanner.now []) }

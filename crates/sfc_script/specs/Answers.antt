@@ -1,7 +1,7 @@
 -- What a reader of scripts answers.
 use Rattle.std.specs.Prelude.{◌≡◌, ℕ, List, Result, Ok, Err, ⊤}
 use Rattle.std.specs.Global.{Vec}
-use Rattle.sfc_core.specs.History.{Entry}
+use Rattle.sfc_events.specs.History.{Entry}
 use Rattle.sfc_script.specs.declared.script.ScriptError.{ScriptError}
 use Rattle.sfc_script.specs.declared.script.ScriptError.TheVariants.{Faulty, Memory}
 

@@ -6,8 +6,8 @@ use Rattle.sfc_tokens.specs.Scanning.DurationWords.{duration_value}
 use Rattle.sfc_expr.specs.declared.value.Value.{Value}
 use Rattle.sfc_chart.specs.declared.ids.VarId.{VarId}
 use Rattle.sfc_chart.specs.Plants.{PlantData}
-use Rattle.sfc_core.specs.declared.event.Event.{Event}
-use Rattle.sfc_core.specs.declared.event.Event.TheVariants.{Scan, Input, Force, Release, Reset}
+use Rattle.sfc_events.specs.declared.event.Event.{Event}
+use Rattle.sfc_events.specs.declared.event.Event.TheVariants.{Scan, Input, Force, Release, Reset}
 use Rattle.sfc_script.specs.declared.command.Line.{Line}
 use Rattle.sfc_script.specs.declared.command.Line.TheVariants.{Skipped, Command, Faulty}
 use Rattle.sfc_script.specs.Lines.{first_word, only_word, two_words}

@@ -1,7 +1,7 @@
 -- Whole scripts: events with their instants, or the number of the first line that is no command.
 use Rattle.std.specs.Prelude.{ℕ, suc, nat_lt, if◌then◌else◌, List, [], ◌∷◌, length, Result, Ok, Err}
 use Rattle.sfc_chart.specs.Plants.{PlantData}
-use Rattle.sfc_core.specs.History.{Entry}
+use Rattle.sfc_events.specs.History.{Entry}
 use Rattle.sfc_script.specs.declared.command.Line.{Line}
 use Rattle.sfc_script.specs.declared.command.Line.TheVariants.{Skipped, Command, Faulty}
 use Rattle.sfc_script.specs.Lines.{lines_of}

@@ -8,7 +8,7 @@ use crate::split::{first_word, only_word, two_words};
 use crate::value::value_of_word;
 use sfc_chart::ids::VarId;
 use sfc_chart::plant::Plant;
-use sfc_core::Event;
+use sfc_events::event::Event;
 use sfc_expr::value::Value;
 use sfc_tokens::case::is_same_word;
 use sfc_tokens::duration::duration;

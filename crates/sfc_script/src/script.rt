@@ -9,7 +9,7 @@ ghost use Rattle.sfc_script.specs.Answers.{ReadsScript};
 use crate::command::{Line, read_line};
 use crate::split::next_line;
 use sfc_chart::plant::Plant;
-use sfc_core::Event;
+use sfc_events::event::Event;
 use std::alloc::{AllocError, AllocFailed, Global};
 
 /// The most bytes of a script.

@@ -1,0 +1,39 @@
+//! What may happen to a resource, and what it answers.
+
+use sfc_chart::ids::{ProgId, TaskId, VarId};
+use sfc_expr::value::Value;
+
+/// What may happen to a resource.
+#[derive(Clone, Copy, Debug, PartialEq, Eq)]
+pub enum Event {
+    /// A scan of a task that is due: each of its programs is scanned once, in text order (2.7.2).
+    Scan(TaskId),
+    /// A scan of a task, whether it is due or not.
+    ForcedScan(TaskId),
+    /// A value for a variable that is located at an input (2.4.1.1).
+    Input(VarId, Value),
+    /// The variable reads this value until its release, whatever is stored meanwhile.
+    Force(VarId, Value),
+    /// The variable reads its stored value again.
+    Release(VarId),
+    /// The program instance begins a new life, and its locals get their initial values.
+    Reset(ProgId),
+}
+
+/// What an accepted event answers.
+#[derive(Clone, Copy, Debug, PartialEq, Eq)]
+pub enum Outcome {
+    /// The event is done, and there is nothing to tell.
+    Done,
+    /// A task was scanned. The first three have one bit for each program instance of the plant, the lowest for the first.
+    Scanned {
+        /// The task's instances that ran without a fault.
+        ran: u64,
+        /// Those whose scan ended with a fault.
+        faulted: u64,
+        /// Those that were passed over because of an earlier fault.
+        skipped: u64,
+        /// The task's overruns since the opening; at most 2^64 - 1, where the count stays.
+        overruns: u64,
+    },
+}
