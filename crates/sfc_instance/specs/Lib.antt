@@ -8,9 +8,7 @@ pub mod Setting
 pub mod ProgramScan
 -- how much a scan handles
 pub mod Work
--- what a program shows
-pub mod Answers
--- what a `Program` agrees with; opaque to the crates above
+-- what a `State` agrees with; opaque to the crates above
 pub mod Agreement
 -- What private clauses cite.
 pub mod Private

@@ -1,0 +1,26 @@
+//! What the definitions mean: each law is a function with an empty body, whose contract is the law.
+
+ghost use Rattle.std.specs.Prelude.{◌≡◌, ℤ, List, None, Some};
+ghost use Rattle.sfc_chart.specs.declared.ids.ProgId.{ProgId};
+ghost use Rattle.sfc_chart.specs.Plants.{PlantData};
+ghost use Rattle.sfc_image.specs.Changes.{Change};
+ghost use Rattle.sfc_instance.specs.declared.scan_fault.ScanFault.{ScanFault};
+ghost use Rattle.sfc_instance.specs.Life.{Standing};
+ghost use Rattle.sfc_instance.specs.ProgramScan.{after_scan};
+
+/// A scan that a fault ends, and one that is passed over because of an earlier fault, leave the life of the instance and
+/// the variables as they were (our choice).
+pub fn nothing_stays_of_a_fault()
+    ensures life { (plant : PlantData) (p : ProgId) (standing : Standing) (changes : List Change) (t : ℤ) (f : ScanFault) →
+        (after_scan plant p standing changes t).standing.fault ≡ Some f →
+        (after_scan plant p standing changes t).standing.life ≡ standing.life }
+    ensures variables { (plant : PlantData) (p : ProgId) (standing : Standing) (changes : List Change) (t : ℤ) (f : ScanFault) →
+        (after_scan plant p standing changes t).standing.fault ≡ Some f →
+        (after_scan plant p standing changes t).changes ≡ changes }
+{}
+
+/// After a fault the instance is passed over, and how it stands is as it was, until its reset (our choice).
+pub fn faulted_instance_stays()
+    ensures { (plant : PlantData) (p : ProgId) (standing : Standing) (changes : List Change) (t : ℤ) (f : ScanFault) →
+        standing.fault ≡ Some f → (after_scan plant p standing changes t).standing ≡ standing }
+{}
