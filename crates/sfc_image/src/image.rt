@@ -184,9 +184,9 @@ impl Image {
         ensures ticks { Within 1 ticks.old ticks.new }
     {
         ticks.tick();
-        let globals = self.locals[0].first;
-        let locals = self.locals[instance.0 as usize];
-        if let Some(i) = number_of(globals, locals, variable) {
+        let shared = self.locals[0].first;
+        let own = self.locals[instance.0 as usize];
+        if let Some(i) = number_of(shared, own, variable) {
             self.put(i, value);
         }
     }

@@ -1,10 +1,9 @@
 -- One action after the other.
-use Rattle.std.proofs.Common.{◌≡◌, ℕ, zero, suc, ◌+◌, ◌<◌, ◌≤◌, ◌++◌, ◌∷◌, [], arith, Bool, true, false, cond, List, length, drop, get_or, ℤ, Some, Result, Ok, Err, is_err, refl, sym, ap, subst, ◌∙◌, append_assoc}
+use Rattle.std.proofs.Common.{◌≡◌, ℕ, zero, suc, ◌+◌, ◌<◌, ◌≤◌, ◌++◌, ◌∷◌, [], arith, Bool, true, false, cond, List, length, drop, ℤ, Some, Result, Ok, Err, is_err, refl, sym, ap, subst, ◌∙◌, append_assoc}
 use Rattle.std.proofs.lemmas.List.{drop_all}
 use Rattle.std.proofs.lemmas.List.Sums.{sum_by-cons}
 use Rattle.sfc_expr.specs.declared.fault.Fault.{Fault}
 use Rattle.sfc_expr.specs.declared.value.Value.TheVariants as value
-use Rattle.sfc_expr.specs.Environment.{Environment}
 use Rattle.sfc_expr.specs.Trees.{Body}
 use Rattle.sfc_expr.specs.Effect.{Outcome, effect}
 use Rattle.sfc_expr.specs.declared.variable.Variable.{Variable}
@@ -13,7 +12,6 @@ use Rattle.sfc_tables.specs.declared.association.Target.{Target}
 use Rattle.sfc_tables.specs.declared.association.Target.TheVariants.{Boolean, Declared}
 use Rattle.sfc_tables.specs.declared.chart.Chart.{Chart}
 use Rattle.sfc_tables.specs.Tables.{Tabled, tables_of}
-use Rattle.sfc_evolve.specs.Evolution.{active_steps}
 use Rattle.sfc_action.specs.ActionControl as control
 use Rattle.sfc_chart.specs.declared.ids.ProgId.{ProgId}
 use Rattle.sfc_chart.specs.Plants.{PlantData}
@@ -22,9 +20,9 @@ use Rattle.sfc_image.specs.Changes.{Change, trying}
 use Rattle.sfc_image.specs.Environments.{Moment, environment_of}
 use Rattle.sfc_image.specs.Bodies.{assignment, left_by, with_changes}
 use Rattle.sfc_image.specs.Agreement.{ImageAgrees}
-use Rattle.sfc_instance.specs.Life.{Life, evolution_rows, control_scans}
+use Rattle.sfc_instance.specs.Life.{Life, control_scans}
 use Rattle.sfc_instance.specs.Setting.{chart_of}
-use Rattle.sfc_instance.specs.ProgramScan.{acted, after_actions, after_body, and_then, body_in, moment, environment, step_times}
+use Rattle.sfc_instance.specs.ProgramScan.{acted, after_actions, after_body, and_then, body_in, moment, environment}
 use Rattle.sfc_instance.specs.Work.{action_work, actions_work}
 use Rattle.sfc_instance.specs.Private.Acting.{Acts, Ends, Follows}
 use Rattle.std.specs.Prelude.{slice_get}

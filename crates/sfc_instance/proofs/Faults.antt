@@ -4,8 +4,8 @@ use Rattle.sfc_chart.specs.declared.ids.ProgId.{ProgId}
 use Rattle.sfc_chart.specs.Plants.{PlantData}
 use Rattle.sfc_image.specs.Changes.{Change}
 use Rattle.sfc_instance.specs.declared.scan_fault.ScanFault.{ScanFault}
-use Rattle.sfc_instance.specs.Life.{Life, Row, Standing}
-use Rattle.sfc_instance.specs.ProgramScan.{After, after_attempt, after_scan, attempt, next_row, unless_faulted}
+use Rattle.sfc_instance.specs.Life.{Life, Row}
+use Rattle.sfc_instance.specs.ProgramScan.{after_attempt, attempt, next_row, unless_faulted}
 
 module _ (life : Life) (changes : List Change) (row : Row) (f : ScanFault) where
   attempt_life : (r : Result (List Change) ScanFault) → (after_attempt life changes row r).standing.fault ≡ Some f

@@ -1,5 +1,5 @@
 -- What the actions of a scan leave in the image.
-use Rattle.std.proofs.Common.{◌≡◌, ◌++◌, true, false, List, Result, Ok, Err, is_ok, OnOk}
+use Rattle.std.proofs.Common.{◌≡◌, ◌++◌, true, false, List, Result, Ok, Err, is_ok, OnOk, refl}
 use Rattle.sfc_expr.specs.declared.fault.Fault.{Fault}
 use Rattle.sfc_chart.specs.Plants.{PlantData}
 use Rattle.sfc_image.specs.declared.image.Image.{Image}
@@ -17,18 +17,11 @@ hold_ok (Ok x) P h = h
 hold_ok (Err f) P h = tt
 
 module _ (plant : PlantData) (changes : List Change) (mid image : Image) (wanted : Result (List Change) Fault) where
-  -- a scratch that is kept
-  pub committed : (answer : Result (Unit {0}) Fault) → is_ok answer ≡ true → Acts plant changes mid answer wanted
-      → ((tried : List Change) → ImageAgrees plant mid (trying changes tried) → ImageAgrees plant image (settled (tried ++ changes)))
+  -- a scratch that is kept where the call succeeded, and else given up
+  pub closed : (answer : Result (Unit {0}) Fault) → Acts plant changes mid answer wanted
+      → (is_ok answer ≡ true → (tried : List Change) → ImageAgrees plant mid (trying changes tried) → ImageAgrees plant image (settled (tried ++ changes)))
+      → (is_ok answer ≡ false → (tried : List Change) → ImageAgrees plant mid (trying changes tried) → ImageAgrees plant image (settled changes))
       → HasActed plant changes image answer wanted
   unfolding HasActed
-  committed (Ok u) on acts keep = (acts.tried ++ changes, acts.ends, keep acts.tried acts.agrees)
-  committed (Err f) on acts keep = absurd cc
-
-  -- a scratch that is given up
-  pub undone : (answer : Result (Unit {0}) Fault) → is_ok answer ≡ false → Acts plant changes mid answer wanted
-      → ((tried : List Change) → ImageAgrees plant mid (trying changes tried) → ImageAgrees plant image (settled changes))
-      → HasActed plant changes image answer wanted
-  unfolding HasActed
-  undone (Ok u) off acts give = absurd cc
-  undone (Err f) off acts give = (acts.ends, give acts.tried acts.agrees)
+  closed (Ok u) acts keep give = (acts.tried ++ changes, acts.ends, keep refl acts.tried acts.agrees)
+  closed (Err f) acts keep give = (acts.ends, give refl acts.tried acts.agrees)

@@ -1,16 +1,15 @@
 -- What the expressions of a scan read.
-use Rattle.std.proofs.Common.{◌≡◌, Bool, List, length, map, ℤ, ap, sym, ◌∙◌}
+use Rattle.std.proofs.Common.{◌≡◌, Bool, List, length, map, ℤ, ap, ◌∙◌}
 use Rattle.std.specs.List.{range_with_len}
-use Rattle.sfc_expr.specs.Environment.{Environment}
 use Rattle.sfc_tables.specs.Tables.{Tabled, tables_of}
-use Rattle.sfc_evolve.specs.Evolution.{active_steps, step_time, rows_of}
+use Rattle.sfc_evolve.specs.Evolution.{active_steps, step_time}
 use Rattle.sfc_chart.specs.Plants.{PlantData}
 use Rattle.sfc_image.specs.Changes.{Change}
-use Rattle.sfc_image.specs.Environments.{Moment, environment_of}
+use Rattle.sfc_image.specs.Environments.{environment_of}
 use Rattle.sfc_instance.specs.declared.setting.Setting.{Setting}
 use Rattle.sfc_instance.specs.Life.{Life, evolution_rows}
 use Rattle.sfc_instance.specs.Setting.{chart_of, IsSettingOf}
-use Rattle.sfc_instance.specs.ProgramScan.{environment, moment, step_times}
+use Rattle.sfc_instance.specs.ProgramScan.{environment, step_times}
 
 -- the tables of a setting are those of its instance's chart
 pub tables_is : (plant : PlantData) (setting : Setting) → IsSettingOf plant setting → setting.tables.now ≡ tables_of (chart_of plant setting.instance)

@@ -1,5 +1,5 @@
 -- One scan of a program instance (2.6.5; the order of its parts is our choice).
-use Rattle.std.specs.Prelude.{ℕ, suc, Bool, false, cond, ◌&&◌, List, [], ◌∷◌, ◌++◌, length, map, ℤ, pos}
+use Rattle.std.specs.Prelude.{ℕ, suc, Bool, false, cond, ◌&&◌, List, [], ◌∷◌, ◌++◌, map, ℤ, pos}
 use Rattle.std.specs.Prelude.{Option, Some, None, slice_get, Result, Ok, Err}
 use Rattle.std.specs.List.{range_with_len}
 use Rattle.std.specs.Result.{result_err}
@@ -16,7 +16,6 @@ use Rattle.sfc_tables.specs.declared.association.Qualifier.{Qualifier}
 use Rattle.sfc_tables.specs.declared.association.Qualifier.TheVariants.{Timed}
 use Rattle.sfc_tables.specs.declared.association.Target.{Target}
 use Rattle.sfc_tables.specs.declared.association.Target.TheVariants.{Boolean, Declared}
-use Rattle.sfc_tables.specs.declared.association.Time.{Time}
 use Rattle.sfc_tables.specs.declared.association.Time.TheVariants as time
 use Rattle.sfc_tables.specs.declared.chart.Chart.{Chart}
 use Rattle.sfc_tables.specs.declared.chart.Transition.{Transition}

@@ -1,7 +1,7 @@
 -- What a program instance stands for in a plant (2.5.3, 2.7.1).
 use Rattle.std.specs.Prelude.{◌≡◌, List, [], Option, Some, None, slice_get}
 use Rattle.sfc_tables.specs.declared.chart.Chart.{Chart}
-use Rattle.sfc_tables.specs.Tables.{Tabled, tables_of}
+use Rattle.sfc_tables.specs.Tables.{tables_of}
 use Rattle.sfc_program.specs.declared.program_type.ProgramType.{ProgramType}
 use Rattle.sfc_chart.specs.declared.ids.ProgId.{ProgId}
 use Rattle.sfc_chart.specs.declared.instance.Instance.{Instance}

@@ -79,7 +79,11 @@ fn act_one(
     ensures ticks { (target : Target) → slice_get acting.entry.setting.tables.now.actions action.0 ≡ Some target →
         Within (action_work acting.entry.setting.chart.now target) ticks.old ticks.new }
 {
-    let Setting { tables, chart, instance } = acting.setting;
+    let Setting {
+        tables,
+        chart,
+        instance,
+    } = acting.setting;
     let controls = &acting.state.controls;
     let q = controls.q(action);
     match tables.target(action) {

@@ -8,12 +8,12 @@ pub struct Room {
     pub step_times: Vec<i64>,
 }
 
-ghost use Rattle.std.specs.Prelude.{◌≡◌, ◌<◌, ◌≤ℤ◌, ◌^◌, ◌+◌, List, false, pos, length, IfOk, OnOk};
+ghost use Rattle.std.specs.Prelude.{◌≡◌, ◌<◌, ◌≤ℤ◌, ◌^◌, ◌+◌, ◌++◌, List, false, true, pos, length, IfOk, OnOk};
 ghost use Rattle.std.specs.Result.{result_err};
 ghost use Rattle.sfc_expr.specs.Ticks.{Within};
 ghost use Rattle.sfc_tables.specs.Tables.{tables_of};
 ghost use Rattle.sfc_chart.specs.Plants.{PlantData};
-ghost use Rattle.sfc_image.specs.Changes.{Change, settled};
+ghost use Rattle.sfc_image.specs.Changes.{Change, settled, trying};
 ghost use Rattle.sfc_image.specs.Agreement.{ImageAgrees, IsAsLarge, instance_places, variable_places, is_open};
 ghost use Rattle.sfc_instance.specs.Life.{Life};
 ghost use Rattle.sfc_instance.specs.Setting.{IsSettingOf};
@@ -33,6 +33,24 @@ use sfc_image::image::Image;
 use sfc_image::step_readings::StepReadings;
 use sfc_tables::tables::Tables;
 use std::alloc::{AllocError, Global};
+
+// What was tried is kept, or given up.
+fn close(image: &mut Image, keep: bool, ticks: &mut Ticks)
+    requires { is_open image.old ≡ true }
+    ensures large { IsAsLarge image.old image.new }
+    ensures closed { is_open image.new ≡ false }
+    ensures kept { keep ≡ true → (plant : PlantData) (kept tried : List Change) →
+        ImageAgrees plant image.old (trying kept tried) → ImageAgrees plant image.new (settled (tried ++ kept)) }
+    ensures given_up { keep ≡ false → (plant : PlantData) (kept tried : List Change) →
+        ImageAgrees plant image.old (trying kept tried) → ImageAgrees plant image.new (settled kept) }
+    ensures ticks { Within (variable_places image.old) ticks.old ticks.new }
+{
+    if keep {
+        image.commit(ticks);
+    } else {
+        image.undo(ticks);
+    }
+}
 
 impl Room {
     /// Room for scans of a chart with these tables. The one error is that memory was refused.
@@ -123,11 +141,7 @@ impl Room {
         };
         image.begin(ticks);
         let answer = act(acting, image, ticks);
-        if answer.is_ok() {
-            image.commit(ticks);
-        } else {
-            image.undo(ticks);
-        }
+        close(image, answer.is_ok(), ticks);
         answer
     }
 }

@@ -1,4 +1,4 @@
-use Rattle.std.proofs.Common.{◌≡◌, ◌+◌, ◌<◌, ◌≤◌, ◌++◌, arith, length, sym, subst, refl, ◌∙◌}
+use Rattle.std.proofs.Common.{◌<◌, ◌++◌, arith, length, sym, refl, ◌∙◌}
 use Rattle.sfc_instance.proofs.Acted.{acts_on, acts_end, acts_all, some_at, work_split}
 use Rattle.sfc_instance.proofs.acting.act.Goals as goal
 

@@ -1,13 +1,12 @@
-use Rattle.std.proofs.Common.{◌≡◌, ◌++◌, Bool, true, false, List, ℤ, Some, Ok, Result, slice_get, sym, ap, subst, ◌∙◌}
-use Rattle.sfc_expr.specs.declared.fault.Fault.{Fault}
-use Rattle.sfc_expr.specs.Trees.{Body, body_of}
+use Rattle.std.proofs.Common.{◌≡◌, ◌++◌, true, false, Ok, slice_get, sym, ap, subst, ◌∙◌}
+use Rattle.sfc_expr.specs.Trees.{body_of}
 use Rattle.sfc_tables.specs.declared.association.Target.{Target}
 use Rattle.sfc_tables.specs.declared.association.Target.TheVariants.{Boolean, Declared}
 use Rattle.sfc_tables.specs.declared.chart.Chart.{Chart}
 use Rattle.sfc_tables.specs.Tables.{Tabled, tables_of}
 use Rattle.sfc_action.specs.ActionControl as control
 use Rattle.sfc_image.specs.Changes.{trying}
-use Rattle.sfc_image.specs.Environments.{Moment, moment_of}
+use Rattle.sfc_image.specs.Environments.{moment_of}
 use Rattle.sfc_instance.specs.Life.{control_scans, evolution_rows}
 use Rattle.sfc_evolve.specs.Evolution.{active_steps}
 use Rattle.sfc_instance.specs.Setting.{chart_of}

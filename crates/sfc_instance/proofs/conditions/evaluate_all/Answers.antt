@@ -1,4 +1,4 @@
-use Rattle.std.proofs.Common.{◌≡◌, ◌+◌, ◌<◌, ◌≤◌, arith, length, get_or, Bool, false, List, Ok, refl, sym, subst, ap, ◌∙◌}
+use Rattle.std.proofs.Common.{◌≡◌, ◌<◌, ◌≤◌, arith, length, get_or, Bool, false, List, Ok, refl, sym, subst, ap, ◌∙◌}
 use Rattle.std.proofs.lemmas.List.{length-replicate, length-set}
 use Rattle.sfc_tables.specs.declared.ids.TransitionId.{TransitionId}
 use Rattle.sfc_evolve.specs.Agreement.{StepsAgree}

@@ -1,4 +1,4 @@
-use Rattle.std.proofs.Common.{◌≡◌, ◌<◌, ◌≤◌, ◌+◌, ℕ, drop, take, length}
+use Rattle.std.proofs.Common.{◌≡◌, ◌≤◌, ◌+◌, drop, take, length}
 use Rattle.sfc_evolve.specs.Agreement.{StepsAgree}
 use Rattle.sfc_instance.specs.Life.{Life, evolution_scans}
 use Rattle.sfc_instance.specs.ProgramScan.{condition_fault}
@@ -14,11 +14,11 @@ invariant-loop-transition g l =
     record {
       len : length l.conditions ≡ length l.initial.conditions;
       faults : (life : Life) → StepsAgree tables l.steps (evolution_scans life) →
-        condition_fault tables chart env life tables.ranked
-        ≡ condition_fault tables chart env life (drop l.transition-index tables.ranked);
+          condition_fault tables chart env life tables.ranked
+          ≡ condition_fault tables chart env life (drop l.transition-index tables.ranked);
       flags : (life : Life) → StepsAgree tables l.steps (evolution_scans life) →
-        AreEvaluated tables chart env life (take l.transition-index tables.ranked) l.conditions;
+          AreEvaluated tables chart env life (take l.transition-index tables.ranked) l.conditions;
       rises : l.initial.ticks.count ≤ l.ticks.count;
       ticks : l.ticks.count + condition_work tables chart (drop l.transition-index tables.ranked)
-        ≤ l.initial.ticks.count + condition_work tables chart tables.ranked;
+          ≤ l.initial.ticks.count + condition_work tables chart tables.ranked;
     }

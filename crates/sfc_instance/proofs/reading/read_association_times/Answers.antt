@@ -1,4 +1,4 @@
-use Rattle.std.proofs.Common.{◌≡◌, ◌<◌, ◌≤◌, arith, length, ◌∙◌}
+use Rattle.std.proofs.Common.{arith, ◌∙◌}
 use Rattle.sfc_instance.specs.ProgramScan.{time_of}
 use Rattle.sfc_instance.proofs.Timed.{all_by_element}
 use Rattle.sfc_instance.proofs.reading.read_association_times.Goals as goal

@@ -1,4 +1,4 @@
-use Rattle.std.proofs.Common.{rules, ◌≡◌, ◌+◌, ◌<◌, ◌≤◌, ℕ, arith, length, List, ℤ, pos, sym, ◌∙◌}
+use Rattle.std.proofs.Common.{rules, ◌<◌, arith, length, ◌∙◌}
 use Rattle.std.proofs.lemmas.List.{length-set}
 use Rattle.sfc_evolve.specs.Evolution.{rows_of, step_time}
 use Rattle.sfc_instance.proofs.Timed.{put_next, all_by_number}

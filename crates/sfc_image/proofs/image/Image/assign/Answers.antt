@@ -20,11 +20,11 @@ returns-in-Some-clause-kept c plant told h =
     let p = c.args.instance in
     let v = c.args.variable in
     let g = c.index.result.now.first in
-    let l = c.index-locals.result.now in
+    let l = c.index-own.result.now in
     let some : 0 < length locals = omega (arith, c.requires) in
     let first : g ≡ (locals_at locals 0).first =
     ap (λ (x : Locals). x.first) (locals_read locals 0 c.index.result.now some c.index.ensures) in
-    let is : l ≡ locals_at locals p.0 = locals_read locals p.0 l c.requires c.index-locals.ensures in
+    let is : l ≡ locals_at locals p.0 = locals_read locals p.0 l c.requires c.index-own.ensures in
     let ends : g ≡ length plant.globals =
     globals_end plant image.slots.items locals image.count image.is_trying told g some first h in
     let of_instance : l ≡ locals_of plant p = is ∙ h.locals_are p c.requires in
@@ -45,11 +45,11 @@ returns-in_default-clause-kept c plant told h =
     let p = c.args.instance in
     let v = c.args.variable in
     let g = c.index.result.now.first in
-    let l = c.index-locals.result.now in
+    let l = c.index-own.result.now in
     let some : 0 < length locals = omega (arith, c.requires) in
     let first : g ≡ (locals_at locals 0).first =
     ap (λ (x : Locals). x.first) (locals_read locals 0 c.index.result.now some c.index.ensures) in
-    let is : l ≡ locals_at locals p.0 = locals_read locals p.0 l c.requires c.index-locals.ensures in
+    let is : l ≡ locals_at locals p.0 = locals_read locals p.0 l c.requires c.index-own.ensures in
     let ends : g ≡ length plant.globals =
     globals_end plant image.slots.items locals image.count image.is_trying told g some first h in
     let of_instance : l ≡ locals_of plant p = is ∙ h.locals_are p c.requires in

@@ -1,14 +1,12 @@
-use Rattle.std.proofs.Common.{rules, ◌≡◌, Bool, true, false, None, Option, arith, length, map, List, ℤ, sym, ap, ◌∙◌, to_z-of_z}
-use Rattle.std.specs.Result.{result_err}
+use Rattle.std.proofs.Common.{◌≡◌, false, arith, length, map, List, sym, ap, ◌∙◌, to_z-of_z}
 use Rattle.std.proofs.lemmas.List.{with_items_is}
-use Rattle.sfc_expr.specs.declared.fault.Fault.{Fault}
 use Rattle.sfc_expr.specs.Environment.{Environment}
 use Rattle.sfc_image.specs.Changes.{settled}
 use Rattle.sfc_image.specs.Agreement.{environment_in}
 use Rattle.sfc_tables.specs.declared.step_action.StepAction.{StepAction}
 use Rattle.sfc_tables.specs.declared.chart.Chart.{Chart}
 use Rattle.sfc_tables.specs.Tables.{Tabled, tables_of}
-use Rattle.sfc_instance.specs.Life.{Life, evolution_scans}
+use Rattle.sfc_instance.specs.Life.{evolution_scans}
 use Rattle.sfc_instance.specs.Setting.{chart_of}
 use Rattle.sfc_instance.specs.ProgramScan.{association_times, time_of, condition_fault, condition_flags, environment, step_times}
 use Rattle.sfc_instance.specs.Agreement.{StateAgrees}
