@@ -1,4 +1,0 @@
--- What private clauses cite.
-
--- a scan of a task
-pub mod Scanning
