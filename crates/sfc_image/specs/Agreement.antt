@@ -15,6 +15,10 @@ variable_places image = length image.slots.items
 abbrev pub instance_places : Image → ℕ
 instance_places image = length image.locals.items
 
+-- how many variables were written since a scratch was opened, each counted once
+abbrev pub written_places : Image → ℕ
+written_places image = image.count
+
 -- a scratch is open
 abbrev pub is_open : Image → Bool
 is_open image = image.is_trying

@@ -37,7 +37,7 @@ pub struct Image {
 
 #[tactic(auto, unfolding(crate::specs::Agreement::ImageAgrees))]
 impl Image {
-    ghost use Rattle.std.specs.Prelude.{◌≡◌, ◌<◌, ◌+◌, ◌∷◌, ◌++◌, [], true, false, List, Option, length, is_some, IfOk, OnOk, OnErr};
+    ghost use Rattle.std.specs.Prelude.{◌≡◌, ◌<◌, ◌≤◌, ◌+◌, ◌∷◌, ◌++◌, [], true, false, List, Option, length, is_some, IfOk, OnOk, OnErr};
     ghost use Rattle.sfc_expr.specs.Ticks.{Within};
     ghost use Rattle.sfc_chart.specs.Plants.{PlantData};
     ghost use Rattle.sfc_chart.specs.Finding.{instance_locals};
@@ -50,7 +50,7 @@ impl Image {
     ghost use Rattle.sfc_image.specs.Bodies.{assignment, left_by, with_changes};
     ghost use Rattle.sfc_image.specs.Private.Keeping.{IsPut};
     ghost use Rattle.sfc_image.specs.Answers.{Answers, read_answer, value_fault, release_fault};
-    ghost use Rattle.sfc_image.specs.Agreement.{ImageAgrees, IsAsLarge, environment_in, variable_places, instance_places, is_open};
+    ghost use Rattle.sfc_image.specs.Agreement.{ImageAgrees, IsAsLarge, environment_in, variable_places, instance_places, written_places, is_open};
 
     /// The variables of the plant with their initial values; none is forced, and no scratch is open. The one error is
     /// that memory was refused; no later call takes any.
@@ -58,6 +58,7 @@ impl Image {
         ensures variables { IfOk result (λ image. variable_places image ≡ variable_count plant.now) }
         ensures instances { IfOk result (λ image. instance_places image ≡ length plant.now.instances) }
         ensures closed { IfOk result (λ image. is_open image ≡ false) }
+        ensures unwritten { IfOk result (λ image. written_places image ≡ 0) }
         ensures agrees { IfOk result (λ image. ImageAgrees plant.now image (settled [])) }
     {
         let (slots, locals) = build(alloc, plant.globals(), plant.types(), plant.instances())?;
@@ -181,6 +182,7 @@ impl Image {
         ensures open { is_open self.new ≡ is_open self.old }
         ensures kept { (plant : PlantData) (told : Told) → ImageAgrees plant self.old told →
             ImageAgrees plant self.new (with_changes (assignment plant instance variable value) told) }
+        ensures written { written_places self.new ≤ written_places self.old + 1 }
         ensures ticks { Within 1 ticks.old ticks.new }
     {
         ticks.tick();
@@ -222,6 +224,7 @@ impl Image {
         requires { i < variable_places self.old }
         ensures large { IsAsLarge self.old self.new }
         ensures open { is_open self.new ≡ is_open self.old }
+        ensures written { written_places self.new ≤ written_places self.old + 1 }
         ensures put { IsPut i value self.old.slots.items self.new.slots.items }
         ensures kept { (plant : PlantData) (told : Told) → ImageAgrees plant self.old told →
             ImageAgrees plant self.new (with_change (Stored (record { 0 = i }) value) told) }
@@ -243,6 +246,7 @@ impl Image {
         ensures ok { OnOk result ((plant : PlantData) (told : Told) → ImageAgrees plant self.old told →
             ImageAgrees plant self.new (with_change (Stored id value) told)) }
         ensures err { OnErr result (self.new ≡ self.old) }
+        ensures written { written_places self.new ≤ written_places self.old + 1 }
         ensures ticks { Within 1 ticks.old ticks.new }
     {
         ticks.tick();
@@ -320,6 +324,7 @@ impl Image {
         ensures open { is_open self.new ≡ true }
         ensures kept { (plant : PlantData) (kept : List Change) → ImageAgrees plant self.old (settled kept) →
             ImageAgrees plant self.new (trying kept []) }
+        ensures written { written_places self.new ≡ written_places self.old }
         ensures ticks { Within 1 ticks.old ticks.new }
     {
         ticks.tick();
@@ -334,6 +339,8 @@ impl Image {
         ensures open { is_open self.new ≡ false }
         ensures kept { (plant : PlantData) (kept tried : List Change) → ImageAgrees plant self.old (trying kept tried) →
             ImageAgrees plant self.new (settled (tried ++ kept)) }
+        ensures unwritten { written_places self.new ≡ 0 }
+        ensures cost { Within (written_places self.old) ticks.old ticks.new }
         ensures ticks { Within (variable_places self.old) ticks.old ticks.new }
     {
         close_all(&mut self.slots, &self.written, self.count, true, ticks);
@@ -349,6 +356,8 @@ impl Image {
         ensures open { is_open self.new ≡ false }
         ensures kept { (plant : PlantData) (kept tried : List Change) → ImageAgrees plant self.old (trying kept tried) →
             ImageAgrees plant self.new (settled kept) }
+        ensures unwritten { written_places self.new ≡ 0 }
+        ensures cost { Within (written_places self.old) ticks.old ticks.new }
         ensures ticks { Within (variable_places self.old) ticks.old ticks.new }
     {
         close_all(&mut self.slots, &self.written, self.count, false, ticks);

@@ -69,7 +69,6 @@ fn local_type(plant: &Plant, instance: ProgId, place: usize) -> Option<VarType>
 }
 
 /// The type of a variable, if there is one with this number.
-
 pub fn type_of(plant: &Plant, id: VarId) -> Option<VarType>
     ensures { result ≡ names.type_of plant.now id }
 {
