@@ -68,7 +68,7 @@ module _ (plant : PlantData) (sound : IsPlant plant) (tables : List Tabled) (ins
       let within : i.program < length plant.types =
       subst (λ (x : Instance). x.program < length plant.types) read (sound.instances k i lt).program in
       elim (slice_get_cases plant.types i.program).1 as (λ _. IsOpened (tables_of (chart_of plant (record { 0 = k }))) (get_or programs k d)) [
-        | inl w ↦ of_type i w.0 is w.2.1
+        | inl w ↦ of_type i w.0 is w.2
         | inr w ↦ absurd (omega (arith, w.0, within))
       ]
 
@@ -76,6 +76,6 @@ module _ (plant : PlantData) (sound : IsPlant plant) (tables : List Tabled) (ins
   pub opened_for : k < length plant.instances → IsOpened (tables_of (chart_of plant (record { 0 = k }))) (get_or programs k d)
   opened_for lt =
       elim (slice_get_cases plant.instances k).1 as (λ _. IsOpened (tables_of (chart_of plant (record { 0 = k }))) (get_or programs k d)) [
-        | inl w ↦ of_instance w.0 lt w.2.1
+        | inl w ↦ of_instance w.0 lt w.2
         | inr w ↦ absurd (omega (arith, w.0, lt))
       ]
