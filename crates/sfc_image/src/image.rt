@@ -207,7 +207,13 @@ impl Image {
             result ≡ release_fault plant (all_of told) id }
     {
         match self.slots.get(id.0 as usize) {
-            Some(slot) => { if slot.forced.is_some() { None } else { Some(ImageError::NotForced) } }
+            Some(slot) => {
+                if slot.forced.is_some() {
+                    None
+                } else {
+                    Some(ImageError::NotForced)
+                }
+            }
             None => Some(ImageError::UnknownVar),
         }
     }
