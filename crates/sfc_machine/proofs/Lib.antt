@@ -1,3 +1,5 @@
 pub mod Built
+pub mod Ended
 pub mod Scanned
+pub mod Standing
 pub mod Told

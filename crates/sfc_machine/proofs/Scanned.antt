@@ -1,5 +1,5 @@
 -- What a machine keeps of a scan of one instance.
-use Rattle.std.proofs.Common.{◌≡◌, ◌≢◌, inl, inr, ℕ, ◌<◌, ◌==◌, arith, Bool, true, false, cond, List, length, map, get_or, slice_set, slice_get, Some, refl, sym, ◌∙◌, ap, subst}
+use Rattle.std.proofs.Common.{◌≡◌, inl, inr, ℕ, ◌<◌, arith, Bool, cond, List, length, map, get_or, slice_set, sym, ◌∙◌, ap, subst}
 use Rattle.std.proofs.lemmas.Bool.Decides.{eqb_tells}
 use Rattle.std.proofs.lemmas.List.{get_or-set_same, get_or-set_other, get_or-map, length-set}
 use Rattle.std.proofs.lemmas.Option.{slice_get-get_or}

@@ -1,5 +1,5 @@
 -- A scan of a task, instance by instance.
-use Rattle.std.proofs.Common.{◌≡◌, subst, ℕ, suc, ◌+◌, ◌<◌, ◌≤◌, ◌^◌, arith, Bool, true, false, List, ◌∷◌, drop, length, get_or, refl, sym, ◌∙◌, ap, cond, ℤ}
+use Rattle.std.proofs.Common.{◌≡◌, subst, ℕ, suc, ◌+◌, ◌<◌, ◌≤◌, ◌^◌, arith, Bool, true, false, List, ◌∷◌, drop, length, get_or, sym, ◌∙◌, ap, cond, ℤ}
 use Rattle.std.proofs.lemmas.Bool.{eq-eqb, ne_eqb}
 use Rattle.std.proofs.Math.Nat.{two-pow-succ}
 use Rattle.std.proofs.Math.Seq.{drop-cons}
@@ -74,7 +74,7 @@ module _ (plant : PlantData) (task : TaskId) (t : ℤ) (k : ℕ) (instance : Ins
   pub follows_scanned : (table : Table) (machine new : Machine) (bits more : Bits) (ended : Ended) → instance.task.0 ≡ task.0
       → ((now : Table) → MachineAgrees plant machine now → ended ≡ (program_scan plant t k now).ended)
       → ((now : Table) → MachineAgrees plant machine now
-        → MachineAgrees plant new (after_program (record { 0 = k }) (program_scan plant t k now) now))
+      → MachineAgrees plant new (after_program (record { 0 = k }) (program_scan plant t k now) now))
       → more.ran ≡ bits.ran + bit_of Ran k ended → more.faulted ≡ bits.faulted + bit_of Faulted k ended
       → more.skipped ≡ bits.skipped + bit_of Skipped k ended
       → Follows plant task t table k machine bits → Follows plant task t table (suc k) new more

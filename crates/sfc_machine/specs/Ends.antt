@@ -5,7 +5,6 @@ use Rattle.sfc_chart.specs.declared.instance.Instance.{Instance}
 use Rattle.sfc_chart.specs.Plants.{PlantData}
 use Rattle.sfc_instance.specs.declared.ended.Ended.{Ended}
 use Rattle.sfc_instance.specs.declared.ended.Ended.TheVariants.{Ran, Faulted, Skipped}
-use Rattle.sfc_instance.specs.ProgramScan.{After}
 use Rattle.sfc_machine.specs.declared.bits.Bits.{Bits}
 use Rattle.sfc_machine.specs.Table.{Table, program_scan, after_instance}
 

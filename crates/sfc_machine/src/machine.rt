@@ -221,13 +221,7 @@ impl Machine {
     }
 
     // A scan of one instance.
-    fn scan_program(
-        &mut self,
-        plant: &Plant,
-        instance: ProgId,
-        t: i64,
-        ticks: &mut Ticks,
-    ) -> Ended
+    fn scan_program(&mut self, plant: &Plant, instance: ProgId, t: i64, ticks: &mut Ticks) -> Ended
         requires sizes { IsMachineOf plant.now self.old }
         requires instance { instance.0 < length plant.now.instances }
         requires low { pos 0 ≤ℤ t }

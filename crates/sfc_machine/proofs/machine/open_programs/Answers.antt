@@ -1,4 +1,4 @@
-use Rattle.std.proofs.Common.{◌≡◌, ◌∙◌, ◌<◌, ◌+◌, [], ◌∷◌, ◌++◌, List, length, arith, ap, subst, sym}
+use Rattle.std.proofs.Common.{◌∙◌, ◌<◌, ◌+◌, List, length, arith, ap, subst, sym}
 use Rattle.std.proofs.lemmas.List.{length_push}
 use Rattle.std.proofs.lemmas.Option.{slice_get_within}
 use Rattle.sfc_instance.specs.declared.program.Program.{Program}

@@ -1,6 +1,6 @@
 use Rattle.std.proofs.Common.{◌≡◌, ◌∙◌, ◌<◌, List, ap, arith, get_or, length, map, subst, sym}
 use Rattle.sfc_program.specs.declared.program_type.ProgramType.{ProgramType}
-use Rattle.sfc_tables.specs.Tables.{Tabled, tables_of}
+use Rattle.sfc_tables.specs.Tables.{tables_of}
 use Rattle.sfc_chart.specs.Sound.{IsProgram}
 use Rattle.sfc_machine.specs.Agreement.{MachineAgrees}
 use Rattle.sfc_machine.proofs.Built.{opened_for}
@@ -8,10 +8,12 @@ use Rattle.sfc_machine.proofs.machine.Machine.new.Goals as goal
 
 pub build_tables-requires : goal.build_tables-requires
 build_tables-requires c =
-    let plant = c.args.plant.now in
-    (length plant.globals, λ k d lt.
-      subst (λ (xs : List ProgramType). k < length xs → IsProgram (length plant.globals) (get_or xs k d)) (sym c.types.ensures.value)
-      (c.types.ensures.sound.types k d) lt)
+    let plant = c.args.plant.now in (
+      length plant.globals,
+      λ k d lt.
+          subst (λ (xs : List ProgramType). k < length xs → IsProgram (length plant.globals) (get_or xs k d)) (sym c.types.ensures.value)
+          (c.types.ensures.sound.types k d) lt,
+    )
 
 pub returns-clause-sizes : goal.returns-clause-sizes
 returns-clause-sizes c =

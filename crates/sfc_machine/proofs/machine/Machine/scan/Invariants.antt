@@ -1,4 +1,4 @@
-use Rattle.std.proofs.Common.{◌≡◌, ◌<◌, ◌≤◌, ◌+◌, ◌^◌, drop}
+use Rattle.std.proofs.Common.{◌<◌, ◌≤◌, ◌+◌, ◌^◌, drop}
 use Rattle.sfc_machine.specs.Agreement.{IsMachineOf, MachineAgrees}
 use Rattle.sfc_machine.specs.Table.{Table}
 use Rattle.sfc_machine.specs.Work.{task_work}

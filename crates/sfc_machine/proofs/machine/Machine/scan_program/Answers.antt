@@ -1,9 +1,7 @@
-use Rattle.std.proofs.Common.{◌≡◌, ◌<◌, ◌+◌, ◌≤◌, ◌∙◌, arith, rules, ap, length, sym, subst, w64, SFits, to_z-of_z}
+use Rattle.std.proofs.Common.{◌<◌, ◌∙◌, arith, rules, ap, length, w64, SFits, to_z-of_z}
 use Rattle.sfc_tables.specs.Tables.{tables_of}
-use Rattle.sfc_instance.specs.Setting.{chart_of}
 use Rattle.sfc_instance.specs.ProgramScan.{after_scan}
-use Rattle.sfc_machine.specs.Agreement.{variable_places}
-use Rattle.sfc_machine.specs.Agreement.{MachineAgrees}
+use Rattle.sfc_machine.specs.Agreement.{MachineAgrees, variable_places}
 use Rattle.sfc_machine.specs.Table.{program_scan}
 use Rattle.sfc_machine.proofs.Scanned.{chart_at, tables_at, agreed, kept, same_work}
 use Rattle.sfc_machine.proofs.machine.Machine.scan_program.Goals as goal
