@@ -6,10 +6,19 @@ use std::marker::Model;
 
 /// Action control of a program instance: of each action the edges, flip-flops and on-delays of its control block, its Q,
 /// and whether the newest scan executed it (2.6.4.5). Clauses see what it keeps from scan to scan.
-#[derive(Drop)]
 pub struct Controls {
     kept: Kept,
     scratch: Scratch,
+}
+
+// By hand, so that a caller that drops one proves one call.
+impl Drop for Controls {
+    fn drop(self) {
+        let Controls {
+            kept: _,
+            scratch: _,
+        } = self;
+    }
 }
 
 impl Model for Controls {

@@ -8,5 +8,7 @@ pub mod Acted
 pub mod Left
 -- what the expressions of a scan read
 pub mod Readings
+-- how a scan ends
+pub mod Scanned
 -- what stays of a scan that faults
 pub mod Faults

@@ -1,11 +1,14 @@
--- What a `State` agrees with.
-use Rattle.std.specs.Prelude.{◌≡◌, ◌≤◌, length}
+-- What a `Program` agrees with.
+use Rattle.std.specs.Prelude.{ℕ, ◌≡◌, ◌≤◌, [], length}
 use Rattle.sfc_tables.specs.Tables.{Tabled}
 use Rattle.sfc_evolve.specs.Agreement as evolve
 use Rattle.sfc_action.specs.Agreement as action
 use Rattle.sfc_instance.specs.declared.state.State.{State}
 use Rattle.sfc_instance.specs.declared.room.Room.{Room}
-use Rattle.sfc_instance.specs.Life.{Life, evolution_scans, control_scans}
+use Rattle.sfc_instance.specs.declared.scanner.Scanner.{Scanner}
+use Rattle.sfc_instance.specs.declared.program.Program.{Program}
+use Rattle.sfc_instance.specs.Life.{Life, Standing, evolution_scans, control_scans, latest_instant}
+use Rattle.sfc_instance.specs.Answers.{scan_count}
 
 -- it has room for what these tables show
 pub record IsStateFor (tables : Tabled) (state : State) : Type 0 where
@@ -20,9 +23,43 @@ pub record StateKeeps (tables : Tabled) (state : State) (life : Life) : Type 0 w
 unfoldable pub StateAgrees : Tabled → State → Life → Type 0
 StateAgrees tables state life = StateKeeps tables state life
 
+-- how many steps, transitions and actions it shows
+abbrev pub step_places : Program → ℕ
+step_places program = evolve.step_places program.scanner.now.steps
+
+abbrev pub transition_places : Program → ℕ
+transition_places program = evolve.transition_places program.scanner.now.steps
+
+abbrev pub action_places : Program → ℕ
+action_places program = action.action_places program.scanner.now.controls
+
 -- it has room for what these tables show
 pub record IsRoomFor (tables : Tabled) (room : Room) : Type 0 where
   pub conditions : length room.conditions.items ≡ length tables.sides
   pub times : length room.times.items ≡ length tables.associations
   pub step_times : length room.step_times.items ≡ length tables.initial
   pub few : length tables.initial ≤ 1024
+
+pub record IsScannerFor (tables : Tabled) (scanner : Scanner) : Type 0 where
+  pub now : IsStateFor tables scanner.now
+  pub spare : IsStateFor tables scanner.spare
+  pub room : IsRoomFor tables scanner.room
+
+pub record HasRoom (tables : Tabled) (program : Program) : Type 0 where
+  pub scanner : IsScannerFor tables program.scanner
+  pub fresh : IsStateFor tables program.fresh
+
+unfoldable pub IsFor : Tabled → Program → Type 0
+IsFor tables program = HasRoom tables program
+
+-- what it keeps is how the instance stands
+pub record Keeps (tables : Tabled) (program : Program) (standing : Standing) : Type 0 where
+  pub now : StateAgrees tables program.scanner.now standing.life
+  pub fresh : StateAgrees tables program.fresh []
+  pub scans : program.scans ≡ scan_count standing
+  pub at : program.at ≡ latest_instant standing.life
+  pub fault : program.fault ≡ standing.fault
+
+-- all answers are those of an instance that stands so
+unfoldable pub ProgramAgrees : Tabled → Program → Standing → Type 0
+ProgramAgrees tables program standing = Keeps tables program standing

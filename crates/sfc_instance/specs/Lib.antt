@@ -8,7 +8,9 @@ pub mod Setting
 pub mod ProgramScan
 -- how much a scan handles
 pub mod Work
--- what a `State` agrees with; opaque to the crates above
+-- what a `Program` shows
+pub mod Answers
+-- what a `Program` agrees with; opaque to the crates above
 pub mod Agreement
 -- What private clauses cite.
 pub mod Private

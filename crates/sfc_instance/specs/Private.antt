@@ -4,3 +4,5 @@
 pub mod Evaluating
 -- what the actions of a scan do with the variables
 pub mod Acting
+-- how a scan ends
+pub mod Scanning

@@ -4,10 +4,19 @@ use sfc_action::controls::Controls;
 use sfc_evolve::steps::Steps;
 
 /// The steps and the action control of a program instance.
-#[derive(Drop)]
 pub struct State {
     pub steps: Steps,
     pub controls: Controls,
+}
+
+// By hand, so that a caller that drops one proves one call.
+impl Drop for State {
+    fn drop(self) {
+        let State {
+            steps: _,
+            controls: _,
+        } = self;
+    }
 }
 
 ghost use Rattle.std.specs.Prelude.{◌≡◌, ◌≤ℤ◌, ◌^◌, ◌+◌, ◌∷◌, [], pos, length, IfOk, OnOk};

@@ -1,0 +1,119 @@
+-- How a scan ends.
+use Rattle.std.proofs.Common.{◌≡◌, ◌∷◌, true, false, List, ℤ, Option, Some, None, Result, Ok, Err, is_ok, refl, sym, ap, subst, ◌∙◌}
+use Rattle.sfc_expr.specs.declared.fault.Fault.{Fault}
+use Rattle.sfc_expr.specs.Environment.{Environment}
+use Rattle.sfc_tables.specs.declared.chart.Chart.{Chart}
+use Rattle.sfc_tables.specs.Tables.{Tabled, tables_of}
+use Rattle.sfc_action.specs.ActionControl as control
+use Rattle.sfc_action.specs.declared.fault.ControlFault.{ControlFault}
+use Rattle.sfc_chart.specs.declared.ids.ProgId.{ProgId}
+use Rattle.sfc_chart.specs.Plants.{PlantData}
+use Rattle.sfc_image.specs.declared.image.Image.{Image}
+use Rattle.sfc_image.specs.Changes.{Change, settled}
+use Rattle.sfc_image.specs.Agreement.{ImageAgrees}
+use Rattle.sfc_instance.specs.declared.scan_fault.ScanFault.{ScanFault}
+use Rattle.sfc_instance.specs.declared.scan_fault.ScanFault.TheVariants as fault
+use Rattle.sfc_instance.specs.declared.setting.Setting.{Setting}
+use Rattle.sfc_instance.specs.declared.state.State.{State}
+use Rattle.sfc_instance.specs.Life.{Life, Row, control_scans}
+use Rattle.sfc_instance.specs.Setting.{chart_of, IsSettingOf}
+use Rattle.sfc_instance.specs.ProgramScan.{after_actions, attempt, condition_fault, environment, next_row, of_body, of_condition, of_control, unless, with_row}
+use Rattle.sfc_instance.specs.Agreement.{StateAgrees}
+use Rattle.sfc_instance.specs.Private.Acting.{HasActed}
+use Rattle.sfc_instance.specs.Private.Scanning.{HasScanned, Moves}
+use Rattle.sfc_instance.proofs.Readings.{tables_is}
+
+-- ---- the steps and the action control
+
+pub moved_ok : (tables : Tabled) (life : Life) (answer : Result (Unit {0}) Fault) (old new : State) → is_ok answer ≡ true
+    → StateAgrees tables new life → Moves tables life answer old new
+unfolding Moves
+moved_ok tables life (Ok u) old new on h = h
+moved_ok tables life (Err f) old new on h = absurd cc
+
+pub moved_err : (tables : Tabled) (life : Life) (answer : Result (Unit {0}) Fault) (old new : State) → is_ok answer ≡ false
+    → new ≡ old → Moves tables life answer old new
+unfolding Moves
+moved_err tables life (Ok u) old new off h = absurd cc
+moved_err tables life (Err f) old new off h = h
+
+module _ (plant : PlantData) (setting : Setting) (is : IsSettingOf plant setting) (life : Life) (changes : List Change) (t : ℤ) where
+  abbrev p : ProgId
+  p = setting.instance
+
+  abbrev wanted : Row → Result (List Change) Fault
+  wanted row = after_actions plant p (row ∷ life) t 0 setting.tables.now.actions changes
+
+  row_of_control : (row : Row) (o : Option ControlFault) → o ≡ control.first_fault setting.tables.now (control_scans setting.tables.now (row ∷ life))
+      → with_row plant p life changes t row ≡ unless (of_control o) (of_body (wanted row))
+  row_of_control row o e =
+      sym (ap (λ (x : Option ControlFault). unless (of_control x) (of_body (wanted row))) e
+      ∙ ap (λ (x : Tabled). unless (of_control (control.first_fault x (control_scans x (row ∷ life))))
+      (of_body (after_actions plant p (row ∷ life) t 0 x.actions changes))) (tables_is plant setting is))
+
+  -- action control has a fault
+  pub control_ends : (row : Row) (f : ControlFault) (state : State) (image : Image)
+      → Some f ≡ control.first_fault setting.tables.now (control_scans setting.tables.now (row ∷ life))
+      → StateAgrees setting.tables.now state life → ImageAgrees plant image (settled changes)
+      → HasScanned plant setting.tables.now life changes row state image (Err (fault.Control f)) (with_row plant p life changes t row)
+  unfolding HasScanned
+  control_ends row f state image e s h = (row_of_control row (Some f) e, s, h)
+
+  -- a body has a fault
+  pub body_ends : (row : Row) (f : Fault) (answer : Result (Unit {0}) Fault) (old new : State) (image : Image)
+      → None ≡ control.first_fault setting.tables.now (control_scans setting.tables.now (row ∷ life))
+      → answer ≡ Err f → Moves setting.tables.now (row ∷ life) answer old new
+      → HasActed plant changes image answer (wanted row) → StateAgrees setting.tables.now old life
+      → HasScanned plant setting.tables.now life changes row new image (Err (fault.Expression f)) (with_row plant p life changes t row)
+  unfolding HasScanned HasActed Moves
+  body_ends row f answer old new image e is_err moves acted s =
+      let stays : new ≡ old = subst (λ (a : Result (Unit {0}) Fault). Moves setting.tables.now (row ∷ life) a old new) is_err moves in
+      let left = subst (λ (a : Result (Unit {0}) Fault). HasActed plant changes image a (wanted row)) is_err acted in (
+        row_of_control row None e ∙ ap (λ (r : Result (List Change) Fault). of_body r) left.0,
+        subst (λ (x : State). StateAgrees setting.tables.now x life) (sym stays) s,
+        left.1,
+      )
+
+  -- no fault ended it
+  pub ends_well : (row : Row) (u : Unit {0}) (answer : Result (Unit {0}) Fault) (old new : State) (image : Image)
+      → None ≡ control.first_fault setting.tables.now (control_scans setting.tables.now (row ∷ life))
+      → answer ≡ Ok u → Moves setting.tables.now (row ∷ life) answer old new
+      → HasActed plant changes image answer (wanted row)
+      → HasScanned plant setting.tables.now life changes row new image (Ok tt) (with_row plant p life changes t row)
+  unfolding HasScanned HasActed Moves
+  ends_well row u answer old new image e is_ok moves acted =
+      let moved : StateAgrees setting.tables.now new (row ∷ life) =
+      subst (λ (a : Result (Unit {0}) Fault). Moves setting.tables.now (row ∷ life) a old new) is_ok moves in
+      let left = subst (λ (a : Result (Unit {0}) Fault). HasActed plant changes image a (wanted row)) is_ok acted in
+      (left.0, row_of_control row None e ∙ ap (λ (r : Result (List Change) Fault). of_body r) left.1, moved, left.2)
+
+  -- ---- the conditions
+
+  attempt_of_condition : (o : Option Fault)
+      → o ≡ condition_fault setting.tables.now setting.chart.now (environment plant p life changes t false) life setting.tables.now.ranked
+      → attempt plant p life changes t ≡ unless (of_condition o) (with_row plant p life changes t (next_row plant p life changes t))
+  attempt_of_condition o e =
+      let rest = with_row plant p life changes t (next_row plant p life changes t) in
+      let env : Environment = environment plant p life changes t false in
+      sym (ap (λ (x : Option Fault). unless (of_condition x) rest) e
+      ∙ ap (λ (x : Tabled). unless (of_condition (condition_fault x setting.chart.now env life x.ranked)) rest) (tables_is plant setting is)
+      ∙ ap (λ (x : Chart). unless (of_condition (condition_fault (tables_of (chart_of plant p)) x env life (tables_of (chart_of plant p)).ranked)) rest) is.chart)
+
+  -- a condition has a fault
+  pub condition_ends : (row : Row) (f : Fault) (state : State) (image : Image)
+      → Some f ≡ condition_fault setting.tables.now setting.chart.now (environment plant p life changes t false) life setting.tables.now.ranked
+      → StateAgrees setting.tables.now state life → ImageAgrees plant image (settled changes)
+      → HasScanned plant setting.tables.now life changes row state image (Err (fault.Expression f)) (attempt plant p life changes t)
+  unfolding HasScanned
+  condition_ends row f state image e s h = (attempt_of_condition (Some f) e, s, h)
+
+  -- the conditions have none
+  pub goes_on : (row : Row) (answer : Result (Unit {0}) ScanFault) (state : State) (image : Image)
+      → None ≡ condition_fault setting.tables.now setting.chart.now (environment plant p life changes t false) life setting.tables.now.ranked
+      → row ≡ next_row plant p life changes t
+      → HasScanned plant setting.tables.now life changes row state image answer (with_row plant p life changes t row)
+      → HasScanned plant setting.tables.now life changes (next_row plant p life changes t) state image answer (attempt plant p life changes t)
+  goes_on row answer state image e same h =
+      subst (λ (w : Result (List Change) ScanFault). HasScanned plant setting.tables.now life changes (next_row plant p life changes t) state image answer w)
+      (sym (attempt_of_condition None e))
+      (subst (λ (r : Row). HasScanned plant setting.tables.now life changes r state image answer (with_row plant p life changes t r)) same h)

@@ -1,0 +1,48 @@
+-- How a scan ends.
+use Rattle.std.specs.Prelude.{ℕ, ◌≡◌, ◌+◌, ◌∷◌, List, ℤ, length, Result, Ok, Err}
+use Rattle.sfc_expr.specs.declared.fault.Fault.{Fault}
+use Rattle.sfc_tables.specs.declared.chart.Chart.{Chart}
+use Rattle.sfc_tables.specs.Tables.{Tabled}
+use Rattle.sfc_evolve.specs.Work.{advance_work}
+use Rattle.sfc_action.specs.Work.{control_work}
+use Rattle.sfc_chart.specs.Plants.{PlantData}
+use Rattle.sfc_image.specs.declared.image.Image.{Image}
+use Rattle.sfc_image.specs.Changes.{Change, settled}
+use Rattle.sfc_image.specs.Agreement.{ImageAgrees}
+use Rattle.sfc_instance.specs.declared.room.Room.{Room}
+use Rattle.sfc_instance.specs.declared.scan_fault.ScanFault.{ScanFault}
+use Rattle.sfc_instance.specs.declared.state.State.{State}
+use Rattle.sfc_instance.specs.Life.{Life, Row}
+use Rattle.sfc_instance.specs.Work.{actions_work, copy_work}
+use Rattle.sfc_instance.specs.Agreement.{StateAgrees}
+
+-- the row of which the room has the conditions and the times
+abbrev pub row_in : Room → ℤ → Row
+row_in room t = record { conditions = room.conditions.items; times = room.times.items; at = t }
+
+-- where it succeeded the state is that after these scans, and else what it was
+abbrev pub Moved : Tabled → Life → Result (Unit {0}) Fault → State → State → Type 0
+Moved tables life (Ok u) old new = StateAgrees tables new life
+Moved tables life (Err f) old new = new ≡ old
+
+unfoldable pub Moves : Tabled → Life → Result (Unit {0}) Fault → State → State → Type 0
+Moves tables life answer old new = Moved tables life answer old new
+
+-- what a scan handles behind the conditions and times
+abbrev pub go_work : Tabled → Chart → ℕ → ℕ
+go_work tables chart variables =
+    copy_work tables + advance_work tables + control_work tables
+    + (length tables.initial + actions_work chart tables.actions + variables + 1)
+
+abbrev pub Leaves_scan : PlantData → Tabled → Life → List Change → Row → State → Image → Result (Unit {0}) ScanFault
+    → Result (List Change) ScanFault → Type 0
+Leaves_scan plant tables life before row state image (Ok u) wanted =
+    (done : List Change) × (wanted ≡ Ok done) × StateAgrees tables state (row ∷ life) × ImageAgrees plant image (settled done)
+Leaves_scan plant tables life before row state image (Err f) wanted =
+    (wanted ≡ Err f) × StateAgrees tables state life × ImageAgrees plant image (settled before)
+
+-- it left the steps, the action control and the image that are wanted, or what was there before
+unfoldable pub HasScanned : PlantData → Tabled → Life → List Change → Row → State → Image → Result (Unit {0}) ScanFault
+    → Result (List Change) ScanFault → Type 0
+HasScanned plant tables life before row state image answer wanted =
+    Leaves_scan plant tables life before row state image answer wanted
