@@ -12,3 +12,5 @@ pub mod Readings
 pub mod Scanned
 -- what stays of a scan that faults
 pub mod Faults
+-- what a program shows of its tables
+pub mod Places

@@ -1,5 +1,5 @@
 -- How a scan ends.
-use Rattle.std.proofs.Common.{◌≡◌, ◌∷◌, true, false, List, ℤ, Option, Some, None, Result, Ok, Err, is_ok, refl, sym, ap, subst, ◌∙◌}
+use Rattle.std.proofs.Common.{◌≡◌, ◌∷◌, true, false, List, ℤ, Option, Some, None, is_some, Result, Ok, Err, is_ok, refl, sym, ap, subst, ◌∙◌}
 use Rattle.sfc_expr.specs.declared.fault.Fault.{Fault}
 use Rattle.sfc_expr.specs.Environment.{Environment}
 use Rattle.sfc_tables.specs.declared.chart.Chart.{Chart}
@@ -13,14 +13,16 @@ use Rattle.sfc_image.specs.Changes.{Change, settled}
 use Rattle.sfc_image.specs.Agreement.{ImageAgrees}
 use Rattle.sfc_instance.specs.declared.scan_fault.ScanFault.{ScanFault}
 use Rattle.sfc_instance.specs.declared.scan_fault.ScanFault.TheVariants as fault
+use Rattle.sfc_instance.specs.declared.ended.Ended.TheVariants.{Ran, Faulted}
 use Rattle.sfc_instance.specs.declared.setting.Setting.{Setting}
 use Rattle.sfc_instance.specs.declared.state.State.{State}
-use Rattle.sfc_instance.specs.Life.{Life, Row, control_scans}
+use Rattle.sfc_instance.specs.Life.{Life, Row, Standing, control_scans}
 use Rattle.sfc_instance.specs.Setting.{chart_of, IsSettingOf}
-use Rattle.sfc_instance.specs.ProgramScan.{after_actions, attempt, condition_fault, environment, next_row, of_body, of_condition, of_control, unless, with_row}
+use Rattle.sfc_instance.specs.ProgramScan.{after_actions, after_attempt, after_scan, attempt, condition_fault, environment, next_row}
+use Rattle.sfc_instance.specs.ProgramScan.{of_body, of_condition, of_control, unless, unless_faulted, with_row}
 use Rattle.sfc_instance.specs.Agreement.{StateAgrees}
 use Rattle.sfc_instance.specs.Private.Acting.{HasActed}
-use Rattle.sfc_instance.specs.Private.Scanning.{HasScanned, Moves}
+use Rattle.sfc_instance.specs.Private.Scanning.{HasScanned, Leaves_scan, Moves}
 use Rattle.sfc_instance.proofs.Readings.{tables_is}
 
 -- ---- the steps and the action control
@@ -117,3 +119,39 @@ module _ (plant : PlantData) (setting : Setting) (is : IsSettingOf plant setting
       subst (λ (w : Result (List Change) ScanFault). HasScanned plant setting.tables.now life changes (next_row plant p life changes t) state image answer w)
       (sym (attempt_of_condition None e))
       (subst (λ (r : Row). HasScanned plant setting.tables.now life changes r state image answer (with_row plant p life changes t r)) same h)
+
+-- ---- the answers of a scan
+
+module _ (plant : PlantData) (tables : Tabled) (life : Life) (before : List Change) (row : Row) (state : State) (image : Image)
+    (answer : Result (Unit {0}) ScanFault) (wanted : Result (List Change) ScanFault) where
+  pub scan_ran : (u : Unit {0}) → answer ≡ Ok u → HasScanned plant tables life before row state image answer wanted
+      → (done : List Change) × (wanted ≡ Ok done) × StateAgrees tables state (row ∷ life) × ImageAgrees plant image (settled done)
+  unfolding HasScanned
+  scan_ran u e h = subst (λ (a : Result (Unit {0}) ScanFault). Leaves_scan plant tables life before row state image a wanted) e h
+
+  pub scan_faulted : (f : ScanFault) → answer ≡ Err f → HasScanned plant tables life before row state image answer wanted
+      → (wanted ≡ Err f) × StateAgrees tables state life × ImageAgrees plant image (settled before)
+  unfolding HasScanned
+  scan_faulted f e h = subst (λ (a : Result (Unit {0}) ScanFault). Leaves_scan plant tables life before row state image a wanted) e h
+
+pub no_fault : (o : Option ScanFault) → false ≡ is_some o → o ≡ None
+no_fault None e = refl
+no_fault (Some f) e = cc
+
+-- how the instance stands after a scan, where no fault stood before it
+module _ (plant : PlantData) (p : ProgId) (standing : Standing) (changes : List Change) (t : ℤ) (on : standing.fault ≡ None) where
+  abbrev row : Row
+  row = next_row plant p standing.life changes t
+
+  unfaulted : after_scan plant p standing changes t ≡ after_attempt standing.life changes row (attempt plant p standing.life changes t)
+  unfaulted = ap (λ (o : Option ScanFault). unless_faulted plant p standing.life changes t o) on
+
+  pub after_run : (done : List Change) → attempt plant p standing.life changes t ≡ Ok done
+      → after_scan plant p standing changes t
+      ≡ record { standing = record { life = row ∷ standing.life; fault = None }; changes = done; ended = Ran }
+  after_run done e = unfaulted ∙ ap (λ (r : Result (List Change) ScanFault). after_attempt standing.life changes row r) e
+
+  pub after_fault : (f : ScanFault) → attempt plant p standing.life changes t ≡ Err f
+      → after_scan plant p standing changes t
+      ≡ record { standing = record { life = standing.life; fault = Some f }; changes = changes; ended = Faulted }
+  after_fault f e = unfaulted ∙ ap (λ (r : Result (List Change) ScanFault). after_attempt standing.life changes row r) e

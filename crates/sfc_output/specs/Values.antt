@@ -1,0 +1,22 @@
+-- The text of values (our choice of format).
+use Rattle.std.specs.Prelude.{ℕ, suc, true, false, List, [], ◌∷◌, ℤ, pos, negsuc, codes}
+use Rattle.std.specs.Fmt.{decimal}
+use Rattle.sfc_tokens.specs.TimeText.{time_text}
+use Rattle.sfc_expr.specs.declared.value.Value.{Value}
+use Rattle.sfc_expr.specs.declared.value.Value.TheVariants as value
+
+-- the end of a line
+abbrev pub line_end : List ℕ
+line_end = 10 ∷ []
+
+-- decimal digits, with a minus below 0
+abbrev pub signed_text : ℤ → List ℕ
+signed_text (pos n) = decimal n
+signed_text (negsuc n) = 45 ∷ decimal (suc n)
+
+abbrev pub value_text : Value → List ℕ
+value_text (value.Bool true) = codes "TRUE"
+value_text (value.Bool false) = codes "FALSE"
+value_text (value.Int n) = signed_text n
+value_text (value.Dint n) = signed_text n
+value_text (value.Time t) = time_text t

@@ -1,0 +1,58 @@
+//! Pieces of text, put at the end of a buffer.
+
+ghost use Rattle.std.specs.Prelude.{◌≡◌, ◌++◌, OnOk};
+ghost use Rattle.std.specs.Fmt.{decimal};
+ghost use Rattle.sfc_tokens.specs.TimeText.{time_text};
+ghost use Rattle.sfc_output.specs.Values.{signed_text, value_text as text_of_value};
+
+use sfc_expr::value::Value;
+use sfc_tokens::time_text::put_time;
+use std::alloc::{AllocError, Global};
+
+/// Puts the bytes at the end.
+pub fn append(out: &mut Vec<u8>, bytes: &[u8]) -> Result<(), AllocError>
+    ensures { OnOk result (out.new.items ≡ out.old.items ++ bytes.now) }
+{
+    out.extend_from_slice(bytes)?;
+    Ok(())
+}
+
+/// Puts a number in decimal digits at the end.
+pub fn append_number(alloc: Global, out: &mut Vec<u8>, number: u64) -> Result<(), AllocError>
+    ensures { OnOk result (out.new.items ≡ out.old.items ++ decimal number) }
+{
+    let digits = number.to_string(alloc)?;
+    append(out, digits.as_bytes())
+}
+
+/// Puts the TIME text of so many microseconds at the end.
+pub fn append_time(out: &mut Vec<u8>, micros: i64) -> Result<(), AllocError>
+    ensures { OnOk result (out.new.items ≡ out.old.items ++ time_text micros) }
+{
+    match put_time(micros, out) {
+        Ok(()) => Ok(()),
+        Err(_) => Err(AllocError),
+    }
+}
+
+fn append_signed(alloc: Global, out: &mut Vec<u8>, number: i64) -> Result<(), AllocError>
+    ensures { OnOk result (out.new.items ≡ out.old.items ++ signed_text number) }
+{
+    if number < 0 {
+        append(out, b"-")?;
+    }
+    append_number(alloc, out, number.unsigned_abs())
+}
+
+/// Puts a value at the end: TRUE, FALSE, decimal digits, or the TIME text.
+pub fn append_value(alloc: Global, out: &mut Vec<u8>, value: Value) -> Result<(), AllocError>
+    ensures { OnOk result (out.new.items ≡ out.old.items ++ text_of_value value) }
+{
+    match value {
+        Value::Bool(true) => append(out, b"TRUE"),
+        Value::Bool(false) => append(out, b"FALSE"),
+        Value::Int(number) => append_signed(alloc, out, i64::from(number)),
+        Value::Dint(number) => append_signed(alloc, out, i64::from(number)),
+        Value::Time(micros) => append_time(out, micros),
+    }
+}

@@ -1,0 +1,17 @@
+//! What is written of commands, of their answers, of program instances and of the image, as lines of text (our choice of
+//! format). The names, times and marks are those of IEC 61131-3:2003.
+//!
+//! - `append`: pieces of text, put at the end of a buffer.
+//! - `command`: the lines of commands and of their answers.
+//! - `image_line`: the lines of the image.
+//! - `list`: lists in a line.
+//! - `naming`: names as they were declared.
+//! - `program`: the line of a program after a scan.
+#![tactic(auto)]
+
+pub mod append;
+pub mod command;
+pub mod image_line;
+mod list;
+mod naming;
+pub mod program;

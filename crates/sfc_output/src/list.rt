@@ -1,0 +1,21 @@
+//! Lists in a line of text.
+
+ghost use Rattle.std.specs.Prelude.{◌≡◌, ◌++◌, [], OnOk};
+ghost use Rattle.sfc_output.specs.Private.ListParts.{continued, separator};
+
+use crate::append::append;
+use std::alloc::AllocError;
+
+/// What parts the next text from one before it.
+pub fn append_separator(out: &mut Vec<u8>, is_first: bool) -> Result<(), AllocError>
+    ensures { OnOk result (out.new.items ≡ out.old.items ++ separator is_first) }
+{
+    if is_first { Ok(()) } else { append(out, b",") }
+}
+
+/// The end of a list: a dash where it is empty.
+pub fn append_end(out: &mut Vec<u8>, is_empty: bool) -> Result<(), AllocError>
+    ensures { OnOk result (out.new.items ≡ out.old.items ++ continued is_empty []) }
+{
+    if is_empty { append(out, b"-") } else { Ok(()) }
+}
