@@ -13,7 +13,7 @@ mod configuration;
 mod expression;
 mod layout;
 pub mod list;
-mod names;
+pub mod names;
 mod program;
 mod sink;
 mod statement;

@@ -1,5 +1,5 @@
 -- Texts of numbered places, one after the other.
-use Rattle.std.proofs.Common.{◌≡◌, ◌<◌, ◌+◌, ◌-◌, ℕ, suc, Bool, true, false, cond, List, [], ◌∷◌, ◌++◌, map, filter, arith, refl, ap, ◌∙◌}
+use Rattle.std.proofs.Common.{◌≡◌, ◌<◌, ◌≤◌, ◌+◌, ◌-◌, ℕ, suc, Bool, true, false, cond, List, [], ◌∷◌, ◌++◌, map, filter, arith, refl, ap, ◌∙◌}
 use Rattle.std.specs.List.{range_with_len}
 use Rattle.sfc_output.specs.Lists.{wanted}
 use Rattle.sfc_output.specs.Programs.{texts_from}
@@ -20,7 +20,7 @@ module _ (is_in : ℕ → Bool) (text : ℕ → List ℕ) where
       ap (λ (m : ℕ). texts_from is_in text k m) e ∙ head_of k (n - (k + 1))
 
   -- there are no more
-  pub texts_end : (k n : ℕ) → k ≡ n → texts_from is_in text k (n - k) ≡ []
+  pub texts_end : (k n : ℕ) → n ≤ k → texts_from is_in text k (n - k) ≡ []
   unfolding texts_from
   texts_end k n e =
       let none : n - k ≡ 0 = omega (arith, e) in

@@ -76,6 +76,7 @@ fn append_outcome(alloc: Global, out: &mut Vec<u8>, outcome: Outcome) -> Result<
 
 /// Puts the line of an accepted command at the end: its instant in microseconds, its words, and what its answer adds. The
 /// one error is that memory was refused; then a front of it may stand there.
+#[tactic(auto, unfolding(crate::specs::Commands::command_line))]
 pub fn append_command(
     alloc: Global,
     out: &mut Vec<u8>,
@@ -112,6 +113,7 @@ fn append_detail(out: &mut Vec<u8>, plant: &Plant, refusal: Refusal) -> Result<(
 
 /// Puts the line of a refused command at the end. The one error is that memory was refused; then a front of it may stand
 /// there.
+#[tactic(auto, unfolding(crate::specs::Commands::refusal_line))]
 pub fn append_refusal(
     alloc: Global,
     out: &mut Vec<u8>,

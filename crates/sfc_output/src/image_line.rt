@@ -22,6 +22,7 @@ fn append_forced(out: &mut Vec<u8>, forced: Option<Value>) -> Result<(), AllocEr
 
 /// Puts the line of a variable of the image at the end: its name, what it reads, and whether it is forced. The one error
 /// is that memory was refused; then a front of it may stand there.
+#[tactic(auto, unfolding(crate::specs::ImageLines::image_line))]
 pub fn append_variable(
     alloc: Global,
     out: &mut Vec<u8>,

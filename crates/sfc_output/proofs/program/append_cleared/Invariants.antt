@@ -12,5 +12,5 @@ invariant-loop-tr l =
     let tables = l.named.tables.now in
     let n = length tables.sides in
     (standing : Standing) → ProgramAgrees tables l.named.program.now standing →
-        l.initial.out.items ++ listed (texts_from (is_transition_cleared tables standing) (transition_text) 0 n)
-        ≡ l.out.items ++ continued l.is_first (texts_from (is_transition_cleared tables standing) (transition_text) l.tr (n - l.tr))
+    l.initial.out.items ++ listed (texts_from (is_transition_cleared tables standing) (transition_text) 0 n)
+    ≡ l.out.items ++ continued l.is_first (texts_from (is_transition_cleared tables standing) (transition_text) l.tr (n - l.tr))

@@ -13,5 +13,5 @@ invariant-loop-action l =
     let tables = l.named.tables.now in
     let n = length tables.actions in
     (standing : Standing) → ProgramAgrees tables l.named.program.now standing →
-        l.initial.out.items ++ listed (texts_from (is_action_executed tables standing) (numbered_action l.named.names.now tables) 0 n)
-        ≡ l.out.items ++ continued l.is_first (texts_from (is_action_executed tables standing) (numbered_action l.named.names.now tables) l.action (n - l.action))
+    l.initial.out.items ++ listed (texts_from (is_action_executed tables standing) (numbered_action l.named.names.now tables) 0 n)
+    ≡ l.out.items ++ continued l.is_first (texts_from (is_action_executed tables standing) (numbered_action l.named.names.now tables) l.action (n - l.action))

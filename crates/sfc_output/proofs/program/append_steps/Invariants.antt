@@ -12,5 +12,5 @@ invariant-loop-s l =
     let tables = l.named.tables.now in
     let n = length tables.initial in
     (standing : Standing) → ProgramAgrees tables l.named.program.now standing →
-        l.initial.out.items ++ listed (texts_from (is_step_active tables standing) (step_text l.named.names.now tables standing) 0 n)
-        ≡ l.out.items ++ continued l.is_first (texts_from (is_step_active tables standing) (step_text l.named.names.now tables standing) l.s (n - l.s))
+    l.initial.out.items ++ listed (texts_from (is_step_active tables standing) (step_text l.named.names.now tables standing) 0 n)
+    ≡ l.out.items ++ continued l.is_first (texts_from (is_step_active tables standing) (step_text l.named.names.now tables standing) l.s (n - l.s))
