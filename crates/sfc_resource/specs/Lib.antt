@@ -1,0 +1,16 @@
+-- The rules, in reading order.
+
+-- how the variables and the program instances stand after a history
+pub mod Table
+-- what SINGLE reads, and what the table of tasks is told
+pub mod Due
+-- what the readers of a resource answer
+pub mod Answers
+-- what an event is refused for, and what it gives
+pub mod Verdict
+-- how much an event handles
+pub mod Work
+-- which histories a resource agrees with; opaque to the crates above
+pub mod Agreement
+-- What private clauses cite.
+pub mod Private

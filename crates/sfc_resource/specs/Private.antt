@@ -1,0 +1,8 @@
+-- What private clauses cite.
+
+-- which tasks and program instances an event names
+pub mod Naming
+-- the tasks at the instant of an event, before it
+pub mod Ready
+-- what the end of an event tells
+pub mod Ending

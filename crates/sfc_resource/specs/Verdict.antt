@@ -1,0 +1,174 @@
+-- The answer to an event: what it is refused for, else what it gives.
+use Rattle.std.specs.Prelude.{ℕ, ◌+◌, ◌==◌, ◌^◌, nat_lt, Bool, true, false, cond, not, ◌||◌, is_none, is_ok, List, [], ◌∷◌, length}
+use Rattle.std.specs.Prelude.{ℤ, pos, int_lt, Option, Some, None, Result, Ok, Err, slice_get}
+use Rattle.sfc_tokens.specs.declared.location.Area.{Area}
+use Rattle.sfc_tokens.specs.declared.location.Area.TheVariants as areas
+use Rattle.sfc_tokens.specs.declared.location.Location.{Location}
+use Rattle.sfc_expr.specs.declared.value.Value.{Value}
+use Rattle.sfc_variables.specs.declared.variable.Variable.{Variable}
+use Rattle.sfc_chart.specs.declared.ids.ProgId.{ProgId}
+use Rattle.sfc_chart.specs.declared.ids.TaskId.{TaskId}
+use Rattle.sfc_chart.specs.declared.ids.VarId.{VarId}
+use Rattle.sfc_chart.specs.declared.task.Task.{Task}
+use Rattle.sfc_chart.specs.Plants.{PlantData}
+use Rattle.sfc_chart.specs.Image.{image_variables}
+use Rattle.sfc_image.specs.declared.image_error.ImageError.{ImageError}
+use Rattle.sfc_image.specs.declared.image_error.ImageError.TheVariants as image
+use Rattle.sfc_image.specs.Changes.{Change}
+use Rattle.sfc_image.specs.Answers.{value_fault, release_fault}
+use Rattle.sfc_instance.specs.declared.ended.Ended.{Ended}
+use Rattle.sfc_instance.specs.declared.ended.Ended.TheVariants.{Ran, Faulted, Skipped}
+use Rattle.sfc_tasks.specs.Multiples.{next_release}
+use Rattle.sfc_tasks.specs.Calls.{Call, single_of}
+use Rattle.sfc_tasks.specs.Releases.{interval_of, waits_since}
+use Rattle.sfc_tasks.specs.Pick.{picked}
+use Rattle.sfc_events.specs.declared.event.Event.{Event}
+use Rattle.sfc_events.specs.declared.event.Event.TheVariants.{Scan, ForcedScan, Input, Force, Release, Reset}
+use Rattle.sfc_events.specs.declared.event.Outcome.{Outcome}
+use Rattle.sfc_events.specs.declared.event.Outcome.TheVariants.{Done, Scanned}
+use Rattle.sfc_events.specs.declared.refusal.Refusal.{Refusal}
+use Rattle.sfc_events.specs.declared.refusal.Refusal.TheVariants.{InstantRange, ClockBack, UnknownTask, UnknownProgram}
+use Rattle.sfc_events.specs.declared.refusal.Refusal.TheVariants.{UnknownVar, ValueType, NotInput, NotForced, NotDue, Yield}
+use Rattle.sfc_events.specs.History.{Entry, History, last_instant}
+use Rattle.sfc_machine.specs.Ends.{bits_of}
+use Rattle.sfc_resource.specs.Table.{table_of}
+use Rattle.sfc_resource.specs.Due.{singles_of, calls_at}
+use Rattle.sfc_resource.specs.Answers.{overruns_of}
+
+-- ---- refusals
+
+abbrev pub refused_if : Bool → Refusal → Option Refusal
+refused_if b refusal = cond b (Some refusal) None
+
+-- the first of two
+abbrev pub or_then : Option Refusal → Option Refusal → Option Refusal
+or_then (Some refusal) other = Some refusal
+or_then None other = other
+
+-- an instant is from 0 to 2^62 microseconds (our choice)
+abbrev pub is_out_of_range : ℤ → Bool
+is_out_of_range t = int_lt t (pos 0) || int_lt (pos (2 ^ 62)) t
+
+-- by the instant of an event, after one at `last`
+abbrev pub instant_refusal : ℤ → ℤ → Option Refusal
+instant_refusal last t = or_then (refused_if (is_out_of_range t) InstantRange) (refused_if (int_lt t last) ClockBack)
+
+abbrev pub task_refusal : PlantData → TaskId → Option Refusal
+task_refusal plant task = refused_if (not (nat_lt task.0 (length plant.tasks))) UnknownTask
+
+abbrev pub program_refusal : PlantData → ProgId → Option Refusal
+program_refusal plant p = refused_if (not (nat_lt p.0 (length plant.instances))) UnknownProgram
+
+-- what is told of a fault of the variables
+abbrev pub of_image : Option ImageError → Option Refusal
+of_image None = None
+of_image (Some image.UnknownVar) = Some UnknownVar
+of_image (Some image.ValueType) = Some ValueType
+of_image (Some image.NotForced) = Some NotForced
+
+abbrev pub is_input_area : Area → Bool
+is_input_area areas.Input = true
+is_input_area areas.Output = false
+is_input_area areas.Memory = false
+
+abbrev pub is_located_input : Option Location → Bool
+is_located_input None = false
+is_located_input (Some location) = is_input_area location.area
+
+-- located at %I (2.4.1.1)
+abbrev pub is_input : Option Variable → Bool
+is_input None = false
+is_input (Some variable) = is_located_input variable.location
+
+abbrev pub input_refusal : PlantData → VarId → Option Refusal
+input_refusal plant id = refused_if (not (is_input (slice_get (image_variables plant) id.0))) NotInput
+
+-- by what the event names, where this was done with the variables
+abbrev pub event_refusal : PlantData → List Change → Event → Option Refusal
+event_refusal plant changes (Scan task) = task_refusal plant task
+event_refusal plant changes (ForcedScan task) = task_refusal plant task
+event_refusal plant changes (Input id v) = or_then (of_image (value_fault plant id v)) (input_refusal plant id)
+event_refusal plant changes (Force id v) = of_image (value_fault plant id v)
+event_refusal plant changes (Release id) = of_image (release_fault plant changes id)
+event_refusal plant changes (Reset p) = program_refusal plant p
+
+-- no release of the task waits; the next one by its interval is told
+abbrev pub due_refusal : List Task → List Bool → List Call → TaskId → ℤ → Option Refusal
+due_refusal tasks singles calls task t =
+    refused_if (is_none (waits_since tasks calls task.0))
+    (NotDue (next_release (interval_of tasks task.0) (single_of singles task.0) t))
+
+abbrev pub yield_to : TaskId → Option TaskId → Option Refusal
+yield_to task None = None
+yield_to task (Some first) = refused_if (not (first.0 == task.0)) (Yield first)
+
+-- another task goes first
+abbrev pub yield_refusal : List Task → List Call → TaskId → Option Refusal
+yield_refusal tasks calls task = yield_to task (picked tasks calls)
+
+-- A scan at t is not the task's turn, where the tasks were told so, and each SINGLE reads so. A forced scan, and what is no
+-- scan, waits for no turn.
+unfoldable pub turn_refusal : List Task → List Bool → List Call → Event → ℤ → Option Refusal
+turn_refusal tasks singles calls (Scan task) t =
+    or_then (due_refusal tasks singles calls task t) (yield_refusal tasks calls task)
+turn_refusal tasks singles calls (ForcedScan task) t = None
+turn_refusal tasks singles calls (Input id v) t = None
+turn_refusal tasks singles calls (Force id v) t = None
+turn_refusal tasks singles calls (Release id) t = None
+turn_refusal tasks singles calls (Reset p) t = None
+
+-- The first refusal that applies, in one order (our choice): of the instant, of what the event names, and of its turn.
+unfoldable pub first_refusal : PlantData → History → Event → ℤ → Option Refusal
+first_refusal plant h event t =
+    or_then (instant_refusal (last_instant h) t)
+    (or_then (event_refusal plant (table_of plant h).changes event)
+    (turn_refusal plant.tasks (singles_of plant h) (calls_at plant h t) event t))
+
+-- ---- answers
+
+-- one bit for each instance of which a scan of the task after a history ends so
+abbrev pub ended_bits : Ended → PlantData → History → TaskId → ℤ → ℕ
+ended_bits how plant h task t = bits_of how plant task t 0 plant.instances (table_of plant h)
+
+-- to an event at t that is a scan of this task
+unfoldable pub scan_answer : PlantData → History → Event → TaskId → ℤ → Outcome
+scan_answer plant h event task t =
+    Scanned (ended_bits Ran plant h task t) (ended_bits Faulted plant h task t) (ended_bits Skipped plant h task t)
+    (overruns_of plant ((event, t) ∷ h) task)
+
+-- what an accepted event answers
+abbrev pub answer : PlantData → History → Event → ℤ → Outcome
+answer plant h (Scan task) t = scan_answer plant h (Scan task) task t
+answer plant h (ForcedScan task) t = scan_answer plant h (ForcedScan task) task t
+answer plant h (Input id v) t = Done
+answer plant h (Force id v) t = Done
+answer plant h (Release id) t = Done
+answer plant h (Reset p) t = Done
+
+abbrev pub verdict_by : Option Refusal → Outcome → Result Outcome Refusal
+verdict_by (Some refusal) outcome = Err refusal
+verdict_by None outcome = Ok outcome
+
+abbrev pub verdict : PlantData → History → Event → ℤ → Result Outcome Refusal
+verdict plant h event t = verdict_by (first_refusal plant h event t) (answer plant h event t)
+
+-- ---- many events
+
+-- the history after an event that was answered so
+abbrev pub history_by : Result Outcome Refusal → History → Entry → History
+history_by (Ok outcome) h entry = entry ∷ h
+history_by (Err refusal) h entry = h
+
+abbrev pub after : PlantData → History → Entry → History
+after plant h entry = history_by (verdict plant h entry.0 entry.1) h entry
+
+-- the history after a list of events, the first of them first
+abbrev pub after_all : PlantData → History → List Entry → History
+after_all plant h [] = h
+after_all plant h (entry ∷ entries) = after_all plant (after plant h entry) entries
+
+-- how many of them are accepted
+abbrev pub accepted : PlantData → History → List Entry → ℕ
+accepted plant h [] = 0
+accepted plant h (entry ∷ entries) =
+    cond (is_ok (verdict plant h entry.0 entry.1)) 1 0 + accepted plant (after plant h entry) entries

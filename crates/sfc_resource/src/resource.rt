@@ -1,0 +1,204 @@
+//! One resource of a controller (2.7.1): a plant that runs by events.
+
+ghost use Rattle.std.specs.Prelude.{◌≡◌, ◌<◌, ◌≤ℤ◌, ◌^◌, length, pos, negsuc};
+ghost use Rattle.sfc_tasks.specs.Agreement.{task_places};
+ghost use Rattle.sfc_instance.proofs.Sized.{for_prop};
+ghost use Rattle.sfc_machine.specs.Agreement.{IsMachineOf};
+ghost use Rattle.sfc_machine.proofs.Kept.{machine_prop};
+
+use crate::changing::{change, outcome};
+use crate::due::Due;
+use crate::refusing::{refuse_event, refuse_instant};
+use crate::singles::Singles;
+use sfc_chart::ids::{ProgId, TaskId, VarId};
+use sfc_chart::plant::Plant;
+use sfc_events::event::{Event, Outcome};
+use sfc_events::refusal::Refusal;
+use sfc_expr::ticks::Ticks;
+use sfc_expr::value::Value;
+use sfc_instance::program::Program;
+use sfc_machine::machine::Machine;
+use sfc_tasks::table::TaskTable;
+use std::alloc::{AllocError, Global};
+
+/// A plant that runs by scans, inputs, forces and resets. It keeps what the next event needs, and no history: what an event
+/// costs is bounded by the plant.
+#[derive(Drop)]
+pub struct Resource {
+    plant: Plant,
+    machine: Machine,
+    tasks: TaskTable,
+    last: i64,
+    ghost whole: { IsMachineOf plant machine } by { machine_prop for_prop plant machine },
+    ghost places: { task_places tasks ≡ length plant.tasks },
+    ghost last_low: { negsuc 0 ≤ℤ last },
+    ghost last_high: { last ≤ℤ pos (2 ^ 62) },
+}
+
+#[tactic(auto, unfolding(crate::specs::Agreement::Agrees, crate::specs::Agreement::plant_of))]
+impl Resource {
+    ghost use Rattle.std.specs.Prelude.{◌∷◌, [], List, None, OnOk, OnErr, IfOk, is_ok, ◌+◌};
+    ghost use Rattle.sfc_expr.specs.Ticks.{Within};
+    ghost use Rattle.sfc_tables.specs.Tables.{tables_of};
+    ghost use Rattle.sfc_image.specs.Values.{variable_count};
+    ghost use Rattle.sfc_instance.specs.Setting.{chart_of};
+    ghost use Rattle.sfc_instance.specs.Agreement.{IsFor, ProgramAgrees};
+    ghost use Rattle.sfc_events.specs.History.{Entry, History, last_instant};
+    ghost use Rattle.sfc_resource.specs.Table.{table_of};
+    ghost use Rattle.sfc_resource.specs.Answers.{value_of, forced_of, standing_of, overruns_of};
+    ghost use Rattle.sfc_resource.specs.Verdict.{instant_refusal, event_refusal, or_then, answer, verdict, after, after_all, accepted};
+    ghost use Rattle.sfc_resource.specs.Work.{event_work, machine_work};
+    ghost use Rattle.sfc_resource.specs.Agreement.{Agrees, plant_of};
+    ghost use Rattle.sfc_resource.specs.Private.Naming.{IsKnown};
+    ghost use Rattle.sfc_resource.specs.Private.Ready.{IsDueOf, IsReady};
+
+    /// A resource that has seen no event: each variable has its initial value, none is forced, and no instance was
+    /// scanned. All room that events need is made here; the one error is that memory was refused.
+    pub fn open(alloc: Global, plant: Plant) -> Result<Resource, AllocError>
+        ensures agrees { IfOk result (λ resource. Agrees resource []) }
+        ensures plant { IfOk result (λ resource. plant_of resource ≡ plant) }
+    {
+        let machine = Machine::new(alloc, &plant)?;
+        let tasks = TaskTable::new(&plant);
+        Ok(Resource {
+            plant,
+            machine,
+            tasks,
+            last: -1,
+        })
+    }
+
+    // Why the event at t is refused by its instant and by what it names.
+    fn refuse_named(&self, event: Event, t: i64) -> Option<Refusal>
+        ensures value { (h : History) → Agrees self.now h → result ≡ or_then (instant_refusal (last_instant h) t)
+            (event_refusal (plant_of self.now) (table_of (plant_of self.now) h).changes event) }
+        ensures known { result ≡ None → IsKnown (plant_of self.now) event }
+        ensures low { result ≡ None → pos 0 ≤ℤ t }
+        ensures high { result ≡ None → t ≤ℤ pos (2 ^ 62) }
+    {
+        match refuse_instant(self.last, t) {
+            Some(refusal) => Some(refusal),
+            None => refuse_event(&self.plant, &self.machine, event),
+        }
+    }
+
+    // An event that is not refused.
+    fn accept(&mut self, mut due: Due, event: Event, t: i64, ticks: &mut Ticks) -> Outcome
+        requires low { pos 0 ≤ℤ t }
+        requires high { t ≤ℤ pos (2 ^ 62) }
+        requires known { IsKnown (plant_of self.old) event }
+        requires sizes { IsDueOf (plant_of self.old) due }
+        ensures plant { plant_of self.new ≡ plant_of self.old }
+        ensures value { (h : History) → Agrees self.old h → IsReady (plant_of self.old) h event t due →
+            result ≡ answer (plant_of self.old) h event t }
+        ensures kept { (h : History) → Agrees self.old h → IsReady (plant_of self.old) h event t due →
+            Agrees self.new ((event, t) ∷ h) }
+        ensures ticks { (h : History) → Agrees self.old h →
+            Within (machine_work (plant_of self.old) event + length (plant_of self.old).tasks + 1) ticks.old ticks.new }
+    {
+        due.serve(event, ticks);
+        let bits = change(&mut self.machine, &self.plant, event, t, ticks);
+        let after = Singles::read(&self.machine, &self.plant);
+        due.rise(&after, t, ticks);
+        self.tasks.copy_from(&due.tasks);
+        self.last = t;
+        outcome(event, bits, &self.tasks)
+    }
+
+    /// One event at the instant t, in microseconds: what it is refused for, else what it answers. After a refusal the
+    /// resource is as it was. It takes no memory.
+    ///
+    /// The refusals, of which the first that applies is given: `InstantRange` where t is below 0 or above 2^62,
+    /// `ClockBack` where it is before the latest accepted event, `UnknownTask`, `UnknownProgram`, `UnknownVar`,
+    /// `ValueType` where the value is not of the variable's type, `NotInput` where the variable is not located at %I,
+    /// `NotForced`, `NotDue` where no release of the task waits, with the next one by its interval, and `Yield` where
+    /// another task goes first. A forced scan is never refused for these last two.
+    pub fn apply(&mut self, event: Event, t: i64, ticks: &mut Ticks) -> Result<Outcome, Refusal>
+        ensures plant { plant_of self.new ≡ plant_of self.old }
+        ensures answer { (h : History) → Agrees self.old h → result ≡ verdict (plant_of self.old) h event t }
+        ensures ok { OnOk result ((h : History) → Agrees self.old h → Agrees self.new ((event, t) ∷ h)) }
+        ensures err { OnErr result (self.new ≡ self.old) }
+        ensures ticks { (h : History) → Agrees self.old h → Within (event_work (plant_of self.old) event) ticks.old ticks.new }
+    {
+        if let Some(refusal) = self.refuse_named(event, t) {
+            return Err(refusal);
+        }
+        let due = Due::at(&self.plant, &self.machine, &self.tasks, t, ticks);
+        match due.refuse_turn(event, t, ticks) {
+            Some(refusal) => Err(refusal),
+            None => Ok(self.accept(due, event, t, ticks)),
+        }
+    }
+
+    // One event, and whether it is accepted.
+    fn is_accepted(&mut self, event: Event, t: i64, ticks: &mut Ticks) -> bool
+        ensures plant { plant_of self.new ≡ plant_of self.old }
+        ensures value { (h : History) → Agrees self.old h → result ≡ is_ok (verdict (plant_of self.old) h event t) }
+        ensures kept { (h : History) → Agrees self.old h → Agrees self.new (after (plant_of self.old) h (event, t)) }
+    {
+        match self.apply(event, t, ticks) {
+            Ok(_) => true,
+            Err(_) => false,
+        }
+    }
+
+    /// Applies each of the events in turn, and goes on after refusals. It answers how many were accepted. It takes no
+    /// memory.
+    pub fn run(&mut self, events: &[(Event, i64)]) -> u64
+        ensures plant { plant_of self.new ≡ plant_of self.old }
+        ensures count { (h : History) → Agrees self.old h → result ≡ accepted (plant_of self.old) h events.now }
+        ensures kept { (h : History) → Agrees self.old h → Agrees self.new (after_all (plant_of self.old) h events.now) }
+    {
+        let mut ticks = Ticks::new();
+        let mut count: u64 = 0;
+        for (event, t) in events {
+            if self.is_accepted(*event, *t, &mut ticks) {
+                count += 1;
+            }
+        }
+        count
+    }
+
+    /// The program instance, as its latest scan left it. The instance is one of the plant's.
+    pub fn program(&self, instance: ProgId) -> &Program
+        requires { instance.0 < length (plant_of self.now).instances }
+        ensures sizes { IsFor (tables_of (chart_of (plant_of self.now) instance)) result.now }
+        ensures agrees { (h : History) → Agrees self.now h →
+            ProgramAgrees (tables_of (chart_of (plant_of self.now) instance)) result.now (standing_of (plant_of self.now) h instance) }
+    {
+        self.machine.program(instance)
+    }
+
+    /// What the variable reads: the value to which it is forced, if it is, else the stored one. The variable is one of the
+    /// plant's.
+    pub fn value(&self, id: VarId) -> Value
+        requires { id.0 < variable_count (plant_of self.now) }
+        ensures { (h : History) → Agrees self.now h → result ≡ value_of (plant_of self.now) h id }
+    {
+        self.machine.value(id)
+    }
+
+    /// The value to which the variable is forced, if it is. The variable is one of the plant's.
+    pub fn forced(&self, id: VarId) -> Option<Value>
+        requires { id.0 < variable_count (plant_of self.now) }
+        ensures { (h : History) → Agrees self.now h → result ≡ forced_of (plant_of self.now) h id }
+    {
+        self.machine.forced(id)
+    }
+
+    /// The overruns of the task since the opening: of all its scans, how many releases beyond the first they served; at most
+    /// 2^64 - 1, where the count stays. The task is one of the plant's.
+    pub fn overruns(&self, task: TaskId) -> u64
+        requires { task.0 < length (plant_of self.now).tasks }
+        ensures { (h : History) → Agrees self.now h → result ≡ overruns_of (plant_of self.now) h task }
+    {
+        self.tasks.overruns(task)
+    }
+
+    /// The plant that was opened.
+    pub fn plant(&self) -> &Plant
+        ensures { result.now ≡ plant_of self.now }
+    {
+        &self.plant
+    }
+}
