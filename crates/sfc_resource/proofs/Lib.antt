@@ -1,0 +1,2 @@
+-- what a variable of the image is
+pub mod Places

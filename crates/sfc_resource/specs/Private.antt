@@ -6,3 +6,5 @@ pub mod Naming
 pub mod Ready
 -- what the end of an event tells
 pub mod Ending
+-- which SINGLE rises
+pub mod Rising

@@ -10,18 +10,12 @@ pub struct Due {
     pub singles: Singles,
 }
 
-ghost use Rattle.std.specs.Prelude.{◌≡◌, ◌<◌, ◌≤◌, ◌+◌, ◌∷◌, ◌≤ℤ◌, ◌^◌, pos, List, length};
+ghost use Rattle.std.specs.Prelude.{◌≡◌, ◌≤◌, List, length};
 ghost use Rattle.sfc_expr.specs.Ticks.{Within};
 ghost use Rattle.sfc_chart.specs.declared.task.Task.{Task};
-ghost use Rattle.sfc_tasks.specs.Calls.{Call, Elapsed};
+ghost use Rattle.sfc_tasks.specs.Calls.{Call};
 ghost use Rattle.sfc_tasks.specs.Agreement.{TasksAgree, task_places};
-ghost use Rattle.sfc_machine.specs.Agreement.{IsMachineOf, MachineAgrees};
-ghost use Rattle.sfc_machine.specs.Singles.{singles_in};
-ghost use Rattle.sfc_machine.specs.Table.{Table};
-ghost use Rattle.sfc_resource.specs.Due.{with_rises, with_service};
-ghost use Rattle.sfc_resource.specs.Verdict.{due_refusal, yield_refusal, turn_refusal};
-ghost use Rattle.sfc_resource.specs.Private.Naming.{NamesTask};
-ghost use Rattle.sfc_resource.specs.Private.Ready.{IsDueOf, flags_of};
+ghost use Rattle.sfc_resource.specs.Due.{with_rises};
 
 use sfc_chart::ids::TaskId;
 use sfc_chart::plant::Plant;
@@ -48,6 +42,20 @@ fn tell_rises(tasks: &mut TaskTable, t: i64, before: &[bool], after: &[bool], ti
 }
 
 impl Due {
+    ghost use Rattle.std.specs.Prelude.{◌≡◌, ◌<◌, ◌≤◌, ◌+◌, ◌∷◌, ◌≤ℤ◌, ◌^◌, pos, List, length};
+    ghost use Rattle.sfc_expr.specs.Ticks.{Within};
+    ghost use Rattle.sfc_chart.specs.declared.task.Task.{Task};
+    ghost use Rattle.sfc_tasks.specs.Calls.{Call, Elapsed};
+    ghost use Rattle.sfc_tasks.specs.Agreement.{TasksAgree, task_places};
+    ghost use Rattle.sfc_events.specs.declared.event.Event.TheVariants as Event;
+    ghost use Rattle.sfc_machine.specs.Agreement.{IsMachineOf, MachineAgrees};
+    ghost use Rattle.sfc_machine.specs.Singles.{singles_in};
+    ghost use Rattle.sfc_machine.specs.Table.{Table};
+    ghost use Rattle.sfc_resource.specs.Due.{with_rises, with_service};
+    ghost use Rattle.sfc_resource.specs.Verdict.{due_refusal, yield_refusal, turn_refusal};
+    ghost use Rattle.sfc_resource.specs.Private.Naming.{NamesTask};
+    ghost use Rattle.sfc_resource.specs.Private.Ready.{IsDueOf, flags_of};
+
     /// At t, from 0 to 2^62 microseconds and not before the latest event, after which the machine and the tasks of the
     /// plant stand so.
     pub fn at(plant: &Plant, machine: &Machine, tasks: &TaskTable, t: i64, ticks: &mut Ticks) -> Due
@@ -106,6 +114,7 @@ impl Due {
     }
 
     // Why a scan is not the task's turn.
+    #[tactic(auto, unfolding(crate::specs::Verdict::turn_refusal))]
     fn refuse_scan(&self, task: TaskId, t: i64, ticks: &mut Ticks) -> Option<Refusal>
         requires task { task.0 < task_places self.now.tasks }
         requires singles { length (flags_of self.now.singles) ≡ task_places self.now.tasks }
@@ -120,6 +129,7 @@ impl Due {
     }
 
     /// Why a scan at t is not its task's turn: no release of it waits, or another task goes first.
+    #[tactic(auto, unfolding(crate::specs::Verdict::turn_refusal))]
     pub fn refuse_turn(&self, event: Event, t: i64, ticks: &mut Ticks) -> Option<Refusal>
         requires task { NamesTask (task_places self.now.tasks) event }
         requires singles { length (flags_of self.now.singles) ≡ task_places self.now.tasks }

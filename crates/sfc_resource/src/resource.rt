@@ -54,6 +54,7 @@ impl Resource {
 
     /// A resource that has seen no event: each variable has its initial value, none is forced, and no instance was
     /// scanned. All room that events need is made here; the one error is that memory was refused.
+    #[tactic(auto, unfolding(crate::specs::Agreement::Agrees, crate::specs::Agreement::plant_of, crate::specs::Table::table_of, crate::specs::Due::calls_of))]
     pub fn open(alloc: Global, plant: Plant) -> Result<Resource, AllocError>
         ensures agrees { IfOk result (λ resource. Agrees resource []) }
         ensures plant { IfOk result (λ resource. plant_of resource ≡ plant) }

@@ -1,5 +1,10 @@
 //! What the SINGLE of tasks reads (2.7.2).
 
+ghost use Rattle.std.specs.Prelude.{◌≤◌};
+
+use sfc_chart::plant::Plant;
+use sfc_machine::machine::Machine;
+
 /// The most tasks.
 const TASKS: usize = 16;
 
@@ -11,16 +16,13 @@ pub struct Singles {
     ghost few: { count ≤ 16 },
 }
 
-ghost use Rattle.std.specs.Prelude.{◌≡◌, ◌≤◌, length};
-ghost use Rattle.sfc_machine.specs.Agreement.{IsMachineOf, MachineAgrees};
-ghost use Rattle.sfc_machine.specs.Singles.{singles_in};
-ghost use Rattle.sfc_machine.specs.Table.{Table};
-ghost use Rattle.sfc_resource.specs.Private.Ready.{flags_of};
-
-use sfc_chart::plant::Plant;
-use sfc_machine::machine::Machine;
-
 impl Singles {
+    ghost use Rattle.std.specs.Prelude.{◌≡◌, ◌≤◌, length};
+    ghost use Rattle.sfc_machine.specs.Agreement.{IsMachineOf, MachineAgrees};
+    ghost use Rattle.sfc_machine.specs.Singles.{singles_in};
+    ghost use Rattle.sfc_machine.specs.Table.{Table};
+    ghost use Rattle.sfc_resource.specs.Private.Ready.{flags_of};
+
     /// As the variables of the machine stand, which is the plant's.
     pub fn read(machine: &Machine, plant: &Plant) -> Singles
         requires { IsMachineOf plant.now machine.now }

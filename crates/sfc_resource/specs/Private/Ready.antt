@@ -27,5 +27,5 @@ pub record IsDueAt (plant : PlantData) (h : History) (t : ℤ) (due : Due) : Typ
 
 -- and the event may be
 pub record IsReady (plant : PlantData) (h : History) (event : Event) (t : ℤ) (due : Due) : Type 0 where
-  pub due : IsDueAt plant h t due
+  pub told : IsDueAt plant h t due
   pub named : event_refusal plant (table_of plant h).changes event ≡ None
