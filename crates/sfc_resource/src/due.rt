@@ -10,7 +10,7 @@ pub struct Due {
     pub singles: Singles,
 }
 
-ghost use Rattle.std.specs.Prelude.{◌≡◌, ◌≤◌, List, length};
+ghost use Rattle.std.specs.Prelude.{◌≡◌, ◌≤◌, ◌&&◌, not, List, length};
 ghost use Rattle.sfc_expr.specs.Ticks.{Within};
 ghost use Rattle.sfc_chart.specs.declared.task.Task.{Task};
 ghost use Rattle.sfc_tasks.specs.Calls.{Call};
@@ -24,6 +24,13 @@ use sfc_events::refusal::Refusal;
 use sfc_expr::ticks::Ticks;
 use sfc_machine::machine::Machine;
 
+// Whether it was FALSE and is TRUE.
+fn rose(before: bool, after: bool) -> bool
+    ensures { result ≡ (not before && after) }
+{
+    !before && after
+}
+
 // Each SINGLE that read FALSE before and reads TRUE after rose at t.
 fn tell_rises(tasks: &mut TaskTable, t: i64, before: &[bool], after: &[bool], ticks: &mut Ticks)
     requires before { length before.now ≡ task_places tasks.old }
@@ -35,7 +42,7 @@ fn tell_rises(tasks: &mut TaskTable, t: i64, before: &[bool], after: &[bool], ti
     ensures ticks { Within (task_places tasks.old) ticks.old ticks.new }
 {
     for k in 0..before.len() {
-        if !before[k] && after[k] {
+        if rose(before[k], after[k]) {
             tasks.edge(TaskId(k as u8), t, ticks);
         }
     }

@@ -1,0 +1,111 @@
+-- What an accepted event leaves.
+use Rattle.std.proofs.Common.{◌≡◌, ◌∙◌, ℕ, List, ◌∷◌, Bool, Option, Some, None, ℤ, refl, sym, ap, subst}
+use Rattle.sfc_chart.specs.Plants.{PlantData}
+use Rattle.sfc_image.specs.declared.image_error.ImageError.{ImageError}
+use Rattle.sfc_image.specs.declared.image_error.ImageError.TheVariants as image
+use Rattle.sfc_image.specs.Answers.{value_fault, release_fault}
+use Rattle.sfc_image.specs.Changes.{Change}
+use Rattle.sfc_tasks.specs.Agreement.{TasksAgree}
+use Rattle.sfc_tasks.specs.Calls.{Call}
+use Rattle.sfc_tasks.specs.declared.table.TaskTable.{TaskTable}
+use Rattle.sfc_events.specs.declared.event.Event.{Event}
+use Rattle.sfc_events.specs.declared.event.Event.TheVariants.{Scan, ForcedScan, Input, Force, Release, Reset}
+use Rattle.sfc_events.specs.declared.event.Outcome.{Outcome}
+use Rattle.sfc_events.specs.declared.event.Outcome.TheVariants.{Scanned}
+use Rattle.sfc_events.specs.declared.refusal.Refusal.{Refusal}
+use Rattle.sfc_events.specs.History.{History}
+use Rattle.sfc_chart.specs.declared.ids.TaskId.{TaskId}
+use Rattle.sfc_instance.specs.declared.ended.Ended.TheVariants.{Ran, Faulted, Skipped}
+use Rattle.sfc_machine.specs.declared.bits.Bits.{Bits}
+use Rattle.sfc_machine.specs.declared.machine.Machine.{Machine}
+use Rattle.sfc_machine.specs.Agreement.{MachineAgrees}
+use Rattle.sfc_machine.specs.Ends.{AreBits}
+use Rattle.sfc_machine.specs.Singles.{singles_in}
+use Rattle.sfc_machine.specs.Table.{Table}
+use Rattle.sfc_resource.specs.declared.due.Due.{Due}
+use Rattle.sfc_resource.specs.declared.singles.Singles.{Singles}
+use Rattle.sfc_resource.specs.Table.{after_event, table_of}
+use Rattle.sfc_resource.specs.Due.{singles_of, calls_of, calls_at, with_rises, with_service}
+use Rattle.sfc_resource.specs.Answers.{overruns_of}
+use Rattle.sfc_resource.specs.Verdict.{or_then, of_image, input_refusal, event_refusal, ended_bits, scan_answer, answer}
+use Rattle.sfc_resource.specs.Private.Naming.{IsTaken}
+use Rattle.sfc_resource.specs.Private.Ready.{flags_of, IsDueAt, IsReady}
+use Rattle.sfc_resource.specs.Private.Ending.{AreEventBits, scanned, outcome_by}
+
+-- ---- the variables take it
+
+no_fault : (fault : Option ImageError) → of_image fault ≡ None → fault ≡ None
+no_fault None e = refl
+no_fault (Some image.UnknownVar) e = absurd cc
+no_fault (Some image.ValueType) e = absurd cc
+no_fault (Some image.NotForced) e = absurd cc
+
+first_none : (a b : Option Refusal) → or_then a b ≡ None → a ≡ None
+first_none (Some x) b e = absurd cc
+first_none None b e = refl
+
+pub taken : (plant : PlantData) (changes : List Change) (event : Event) → event_refusal plant changes event ≡ None
+    → IsTaken plant changes event
+taken plant changes (Scan task) e = tt
+taken plant changes (ForcedScan task) e = tt
+taken plant changes (Input id v) e =
+    no_fault (value_fault plant id v) (first_none (of_image (value_fault plant id v)) (input_refusal plant id) e)
+taken plant changes (Force id v) e = no_fault (value_fault plant id v) e
+taken plant changes (Release id) e = no_fault (release_fault plant changes id) e
+taken plant changes (Reset p) e = tt
+
+-- ---- what is kept of it
+
+module _ (plant : PlantData) (h : History) (event : Event) (t : ℤ) (old new : Machine) (due served risen : Due) (after : Singles)
+    (tasks : TaskTable)
+    (changed : (table : Table) → MachineAgrees plant old table → IsTaken plant table.changes event
+    → MachineAgrees plant new (after_event plant event t table))
+    (read : (table : Table) → MachineAgrees plant new table → flags_of after ≡ singles_in plant table.changes)
+    (same : served.singles ≡ due.singles)
+    (serves : (calls : List Call) → TasksAgree plant.tasks due.tasks calls → TasksAgree plant.tasks served.tasks (with_service event calls))
+    (rises : (calls : List Call) → TasksAgree plant.tasks served.tasks calls
+    → TasksAgree plant.tasks risen.tasks (with_rises t 0 (flags_of served.singles) (flags_of after) calls))
+    (copied : (calls : List Call) → TasksAgree plant.tasks risen.tasks calls → TasksAgree plant.tasks tasks calls)
+    (agrees : MachineAgrees plant old (table_of plant h)) (ready : IsReady plant h event t due) where
+  pub machine_after : MachineAgrees plant new (table_of plant ((event, t) ∷ h))
+  unfolding table_of
+  machine_after = changed (table_of plant h) agrees (taken plant (table_of plant h).changes event ready.named)
+
+  read_after : flags_of after ≡ singles_of plant ((event, t) ∷ h)
+  unfolding singles_of
+  read_after = read (table_of plant ((event, t) ∷ h)) machine_after
+
+  read_before : flags_of served.singles ≡ singles_of plant h
+  read_before = ap flags_of same ∙ ready.told.singles
+
+  told_so : with_rises t 0 (flags_of served.singles) (flags_of after) (with_service event (calls_at plant h t)) ≡ calls_of plant ((event, t) ∷ h)
+  unfolding calls_of
+  told_so =
+      ap (λ (xs : List Bool). with_rises t 0 xs (flags_of after) (with_service event (calls_at plant h t))) read_before
+      ∙ ap (λ (ys : List Bool). with_rises t 0 (singles_of plant h) ys (with_service event (calls_at plant h t))) read_after
+
+  pub tasks_after : TasksAgree plant.tasks tasks (calls_of plant ((event, t) ∷ h))
+  tasks_after =
+      subst (λ (calls : List Call). TasksAgree plant.tasks tasks calls) told_so
+      (copied _ (rises _ (serves (calls_at plant h t) ready.told.tasks)))
+
+-- ---- what it answers
+
+scan_answered : (plant : PlantData) (h : History) (event : Event) (task : TaskId) (t : ℤ) (bits : Bits)
+    → AreBits plant task t (table_of plant h) bits
+    → scanned plant.tasks (calls_of plant ((event, t) ∷ h)) bits task ≡ scan_answer plant h event task t
+unfolding scan_answer
+scan_answered plant h event task t bits are =
+    let count : ℕ = overruns_of plant ((event, t) ∷ h) task in
+    ap (λ (n : ℕ). Scanned n bits.faulted bits.skipped count) are.ran
+    ∙ ap (λ (n : ℕ). Scanned (ended_bits Ran plant h task t) n bits.skipped count) are.faulted
+    ∙ ap (λ (n : ℕ). Scanned (ended_bits Ran plant h task t) (ended_bits Faulted plant h task t) n count) are.skipped
+
+pub answered : (plant : PlantData) (h : History) (event : Event) (t : ℤ) (bits : Bits) → AreEventBits plant event t (table_of plant h) bits
+    → outcome_by plant.tasks (calls_of plant ((event, t) ∷ h)) bits event ≡ answer plant h event t
+answered plant h (Scan task) t bits are = scan_answered plant h (Scan task) task t bits are
+answered plant h (ForcedScan task) t bits are = scan_answered plant h (ForcedScan task) task t bits are
+answered plant h (Input id v) t bits are = refl
+answered plant h (Force id v) t bits are = refl
+answered plant h (Release id) t bits are = refl
+answered plant h (Reset p) t bits are = refl
