@@ -27,6 +27,7 @@ use Rattle.sfc_resource.specs.declared.singles.Singles.{Singles}
 use Rattle.sfc_resource.specs.Table.{after_event, table_of}
 use Rattle.sfc_resource.specs.Due.{singles_of, calls_of, calls_at, with_rises, with_service}
 use Rattle.sfc_resource.specs.Answers.{overruns_of}
+use Rattle.sfc_resource.specs.Keeping.{Keeps}
 use Rattle.sfc_resource.specs.Verdict.{or_then, of_image, input_refusal, event_refusal, ended_bits, scan_answer, answer}
 use Rattle.sfc_resource.specs.Private.Naming.{IsTaken}
 use Rattle.sfc_resource.specs.Private.Ready.{flags_of, IsDueAt, IsReady}
@@ -56,8 +57,7 @@ taken plant changes (Reset p) e = tt
 
 -- ---- what is kept of it
 
-module _ (plant : PlantData) (h : History) (event : Event) (t : ℤ) (old new : Machine) (due served risen : Due) (after : Singles)
-    (tasks : TaskTable)
+module _ (plant : PlantData) (event : Event) (t : ℤ) (old new : Machine) (due served risen : Due) (after : Singles) (tasks : TaskTable)
     (changed : (table : Table) → MachineAgrees plant old table → IsTaken plant table.changes event
     → MachineAgrees plant new (after_event plant event t table))
     (read : (table : Table) → MachineAgrees plant new table → flags_of after ≡ singles_in plant table.changes)
@@ -65,9 +65,9 @@ module _ (plant : PlantData) (h : History) (event : Event) (t : ℤ) (old new : 
     (serves : (calls : List Call) → TasksAgree plant.tasks due.tasks calls → TasksAgree plant.tasks served.tasks (with_service event calls))
     (rises : (calls : List Call) → TasksAgree plant.tasks served.tasks calls
     → TasksAgree plant.tasks risen.tasks (with_rises t 0 (flags_of served.singles) (flags_of after) calls))
-    (copied : (calls : List Call) → TasksAgree plant.tasks risen.tasks calls → TasksAgree plant.tasks tasks calls)
+    (copied : (calls : List Call) → TasksAgree plant.tasks risen.tasks calls → TasksAgree plant.tasks tasks calls) (h : History)
     (agrees : MachineAgrees plant old (table_of plant h)) (ready : IsReady plant h event t due) where
-  pub machine_after : MachineAgrees plant new (table_of plant ((event, t) ∷ h))
+  machine_after : MachineAgrees plant new (table_of plant ((event, t) ∷ h))
   unfolding table_of
   machine_after = changed (table_of plant h) agrees (taken plant (table_of plant h).changes event ready.named)
 
@@ -84,10 +84,15 @@ module _ (plant : PlantData) (h : History) (event : Event) (t : ℤ) (old new : 
       ap (λ (xs : List Bool). with_rises t 0 xs (flags_of after) (with_service event (calls_at plant h t))) read_before
       ∙ ap (λ (ys : List Bool). with_rises t 0 (singles_of plant h) ys (with_service event (calls_at plant h t))) read_after
 
-  pub tasks_after : TasksAgree plant.tasks tasks (calls_of plant ((event, t) ∷ h))
-  tasks_after =
-      subst (λ (calls : List Call). TasksAgree plant.tasks tasks calls) told_so
-      (copied _ (rises _ (serves (calls_at plant h t) ready.told.tasks)))
+  -- the event is the latest of the history
+  pub kept_after : Keeps plant new tasks t ((event, t) ∷ h)
+  kept_after = record {
+    instant = refl;
+    machines = machine_after;
+    tasked =
+        subst (λ (calls : List Call). TasksAgree plant.tasks tasks calls) told_so
+        (copied _ (rises _ (serves (calls_at plant h t) ready.told.tasks)));
+  }
 
 -- ---- what it answers
 

@@ -10,6 +10,8 @@ pub mod Answers
 pub mod Verdict
 -- how much an event handles
 pub mod Work
+-- what a resource keeps of a history
+pub mod Keeping
 -- which histories a resource agrees with; opaque to the crates above
 pub mod Agreement
 -- What private clauses cite.

@@ -3,8 +3,10 @@
 ghost use Rattle.std.specs.Prelude.{◌≡◌, ◌<◌, ◌≤ℤ◌, ◌^◌, length, pos, negsuc};
 ghost use Rattle.sfc_tasks.specs.Agreement.{task_places};
 ghost use Rattle.sfc_instance.proofs.Sized.{for_prop};
+ghost use Rattle.sfc_events.specs.History.{History};
 ghost use Rattle.sfc_machine.specs.Agreement.{IsMachineOf};
 ghost use Rattle.sfc_machine.proofs.Kept.{machine_prop};
+ghost use Rattle.sfc_resource.specs.Keeping.{Keeps};
 
 use crate::changing::{change, outcome};
 use crate::due::Due;
@@ -33,6 +35,7 @@ pub struct Resource {
     ghost places: { task_places tasks ≡ length plant.tasks },
     ghost last_low: { negsuc 0 ≤ℤ last },
     ghost last_high: { last ≤ℤ pos (2 ^ 62) },
+    ghost told: { ∥ ((h : History) × Keeps plant machine tasks last h) ∥₁ },
 }
 
 #[tactic(auto, unfolding(crate::specs::Agreement::Agrees, crate::specs::Agreement::plant_of))]
@@ -89,13 +92,11 @@ impl Resource {
         requires high { t ≤ℤ pos (2 ^ 62) }
         requires known { IsKnown (plant_of self.old) event }
         requires sizes { IsDueOf (plant_of self.old) due }
+        requires ready { (h : History) → Agrees self.old h → IsReady (plant_of self.old) h event t due }
         ensures plant { plant_of self.new ≡ plant_of self.old }
-        ensures value { (h : History) → Agrees self.old h → IsReady (plant_of self.old) h event t due →
-            result ≡ answer (plant_of self.old) h event t }
-        ensures kept { (h : History) → Agrees self.old h → IsReady (plant_of self.old) h event t due →
-            Agrees self.new ((event, t) ∷ h) }
-        ensures ticks { (h : History) → Agrees self.old h →
-            Within (machine_work (plant_of self.old) event + length (plant_of self.old).tasks + 1) ticks.old ticks.new }
+        ensures value { (h : History) → Agrees self.old h → result ≡ answer (plant_of self.old) h event t }
+        ensures kept { (h : History) → Agrees self.old h → Agrees self.new ((event, t) ∷ h) }
+        ensures ticks { Within (machine_work (plant_of self.old) event + length (plant_of self.old).tasks + 1) ticks.old ticks.new }
     {
         due.serve(event, ticks);
         let bits = change(&mut self.machine, &self.plant, event, t, ticks);
@@ -119,7 +120,7 @@ impl Resource {
         ensures answer { (h : History) → Agrees self.old h → result ≡ verdict (plant_of self.old) h event t }
         ensures ok { OnOk result ((h : History) → Agrees self.old h → Agrees self.new ((event, t) ∷ h)) }
         ensures err { OnErr result (self.new ≡ self.old) }
-        ensures ticks { (h : History) → Agrees self.old h → Within (event_work (plant_of self.old) event) ticks.old ticks.new }
+        ensures ticks { Within (event_work (plant_of self.old) event) ticks.old ticks.new }
     {
         if let Some(refusal) = self.refuse_named(event, t) {
             return Err(refusal);

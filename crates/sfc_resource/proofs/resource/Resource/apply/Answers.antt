@@ -5,6 +5,18 @@ use Rattle.sfc_resource.specs.Table.{table_of}
 use Rattle.sfc_resource.proofs.Verdicts.{none_of, due_there, refused_named, refused_turn, granted, ready_there}
 use Rattle.sfc_resource.proofs.resource.Resource.apply.Goals as goal
 
+pub accept-requires-clause-ready : goal.accept-requires-clause-ready
+unfolding Agrees plant_of
+accept-requires-clause-ready c h a =
+    let plant = c.args.self.now.plant in
+    let fits : SFits w64 c.args.t = c.ranges.t in
+    let there =
+    due_there plant h c.args.t c.at-due.result (c.at-due.ensures.singles (table_of plant h) a.machines)
+    (simp (to_z-of_z, fits) at (c.at-due.ensures.tasks (calls_of plant h) a.tasked)) in
+    simp (to_z-of_z, fits)
+    (ready_there plant h c.args.event c.args.t c.refuse_named.result (simp (to_z-of_z, fits) at (c.refuse_named.ensures.value h a))
+    (none_of c.refuse_named.result c.in_default.not-Some) c.at-due.result there)
+
 pub returns-in-Some-clause-answer : goal.returns-in-Some-clause-answer
 unfolding Agrees plant_of
 returns-in-Some-clause-answer c h a =
@@ -18,8 +30,8 @@ returns-in-Some-refuse_turn-clause-answer c h a =
     let plant = c.args.self.now.plant in
     let fits : SFits w64 c.args.t = c.ranges.t in
     let there =
-    due_there plant h c.args.t c.at-due.result (c.at-due.ensures.singles (table_of plant h) a.machine)
-    (simp (to_z-of_z, fits) at (c.at-due.ensures.tasks (calls_of plant h) a.tasks)) in
+    due_there plant h c.args.t c.at-due.result (c.at-due.ensures.singles (table_of plant h) a.machines)
+    (simp (to_z-of_z, fits) at (c.at-due.ensures.tasks (calls_of plant h) a.tasked)) in
     refused_turn plant h c.args.event c.args.t c.refuse_named.result (simp (to_z-of_z, fits) at (c.refuse_named.ensures.value h a))
     (none_of c.refuse_named.result c.in_default.not-Some) c.at-due.result there c.refuse_turn.result
     (simp (to_z-of_z, fits) at (c.refuse_turn.ensures.value plant.tasks (calls_at plant h c.args.t) there.tasks))
@@ -31,25 +43,9 @@ returns-in-None-clause-answer c h a =
     let plant = c.args.self.now.plant in
     let fits : SFits w64 c.args.t = c.ranges.t in
     let there =
-    due_there plant h c.args.t c.at-due.result (c.at-due.ensures.singles (table_of plant h) a.machine)
-    (simp (to_z-of_z, fits) at (c.at-due.ensures.tasks (calls_of plant h) a.tasks)) in
-    let named = simp (to_z-of_z, fits) at (c.refuse_named.ensures.value h a) in
-    let none = none_of c.refuse_named.result c.in_default.not-Some in
-    granted plant h c.args.event c.args.t c.refuse_named.result named none c.at-due.result there c.refuse_turn.result
+    due_there plant h c.args.t c.at-due.result (c.at-due.ensures.singles (table_of plant h) a.machines)
+    (simp (to_z-of_z, fits) at (c.at-due.ensures.tasks (calls_of plant h) a.tasked)) in
+    granted plant h c.args.event c.args.t c.refuse_named.result (simp (to_z-of_z, fits) at (c.refuse_named.ensures.value h a))
+    (none_of c.refuse_named.result c.in_default.not-Some) c.at-due.result there c.refuse_turn.result
     (simp (to_z-of_z, fits) at (c.refuse_turn.ensures.value plant.tasks (calls_at plant h c.args.t) there.tasks))
-    c.accept.result c.in-None.is
-    ((simp (to_z-of_z, fits) at (c.accept.ensures.value h (record { instant = a.instant; machine = a.machine; tasks = a.tasks })))
-    (ready_there plant h c.args.event c.args.t c.refuse_named.result named none c.at-due.result there))
-
-pub returns-in-None-clause-ok : goal.returns-in-None-clause-ok
-unfolding Agrees plant_of
-returns-in-None-clause-ok c h a =
-    let plant = c.args.self.now.plant in
-    let fits : SFits w64 c.args.t = c.ranges.t in
-    let there =
-    due_there plant h c.args.t c.at-due.result (c.at-due.ensures.singles (table_of plant h) a.machine)
-    (simp (to_z-of_z, fits) at (c.at-due.ensures.tasks (calls_of plant h) a.tasks)) in
-    let named = simp (to_z-of_z, fits) at (c.refuse_named.ensures.value h a) in
-    let none = none_of c.refuse_named.result c.in_default.not-Some in
-    (simp (to_z-of_z, fits) at (c.accept.ensures.kept h (record { instant = a.instant; machine = a.machine; tasks = a.tasks })))
-    (ready_there plant h c.args.event c.args.t c.refuse_named.result named none c.at-due.result there)
+    c.accept.result c.in-None.is (simp (to_z-of_z, fits) at (c.accept.ensures.value h a))

@@ -1,0 +1,16 @@
+use Rattle.std.proofs.Common.{[], arith, refl}
+use Rattle.std.proofs.lemmas.Int.{ints}
+use Rattle.sfc_resource.specs.Agreement.{Agrees, plant_of}
+use Rattle.sfc_resource.specs.Due.{calls_of}
+use Rattle.sfc_resource.specs.Table.{table_of}
+use Rattle.sfc_resource.proofs.resource.Resource.open.Goals as goal
+
+pub invariant_of-result : goal.invariant_of-result
+unfolding Agrees plant_of calls_of table_of
+invariant_of-result c = record {
+  whole = c.in_ok-machine.ensures.sizes;
+  places = c.new-tasks.ensures.size;
+  last_low = omega (arith, ints);
+  last_high = omega (arith, ints);
+  told = ∣ ([], record { instant = refl; machines = c.in_ok-machine.ensures.agrees; tasked = c.new-tasks.ensures.agrees }) ∣₁;
+}
