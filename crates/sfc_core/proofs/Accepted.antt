@@ -1,46 +1,116 @@
--- The events that were accepted are in the order of their instants.
-use Rattle.std.proofs.Common.{◌≡◌, ◌^◌, Bool, true, false, cond, List, [], ◌∷◌, arith, refl, ℤ, pos, ◌≤ℤ◌, int_lt, Option, Some, Result, Ok, Err}
-use Rattle.std.proofs.lemmas.Int.{ints}
-use Rattle.sfc_single.specs.Chart.{PlantData}
-use Rattle.sfc_core.specs.declared.event.Outcome.{Outcome}
-use Rattle.sfc_core.specs.declared.refusal.Refusal.{Refusal}
-use Rattle.sfc_core.specs.History.{Entry, History, last_instant}
-use Rattle.sfc_core.specs.Verdict.{is_out_of_range, verdict, verdict_by, history_by, after, after_all}
-use Rattle.sfc_core.specs.EventOrder.{AreInOrder}
+-- What an accepted event leaves.
+use Rattle.std.proofs.Common.{◌≡◌, ◌∙◌, ℕ, List, ◌∷◌, Bool, Option, Some, None, ℤ, refl, sym, ap, subst}
+use Rattle.sfc_chart.specs.Plants.{PlantData}
+use Rattle.sfc_image.specs.declared.image_error.ImageError.{ImageError}
+use Rattle.sfc_image.specs.declared.image_error.ImageError.TheVariants as image
+use Rattle.sfc_image.specs.Answers.{value_fault, release_fault}
+use Rattle.sfc_image.specs.Changes.{Change}
+use Rattle.sfc_tasks.specs.Agreement.{TasksAgree}
+use Rattle.sfc_tasks.specs.Calls.{Call}
+use Rattle.sfc_tasks.specs.declared.table.TaskTable.{TaskTable}
+use Rattle.sfc_events.specs.declared.event.Event.{Event}
+use Rattle.sfc_events.specs.declared.event.Event.TheVariants.{Scan, ForcedScan, Input, Force, Release, Reset}
+use Rattle.sfc_events.specs.declared.event.Outcome.{Outcome}
+use Rattle.sfc_events.specs.declared.event.Outcome.TheVariants.{Scanned}
+use Rattle.sfc_events.specs.declared.refusal.Refusal.{Refusal}
+use Rattle.sfc_events.specs.History.{History}
+use Rattle.sfc_chart.specs.declared.ids.TaskId.{TaskId}
+use Rattle.sfc_instance.specs.declared.ended.Ended.TheVariants.{Ran, Faulted, Skipped}
+use Rattle.sfc_machine.specs.declared.bits.Bits.{Bits}
+use Rattle.sfc_machine.specs.declared.machine.Machine.{Machine}
+use Rattle.sfc_machine.specs.Agreement.{MachineAgrees}
+use Rattle.sfc_machine.specs.Ends.{AreBits}
+use Rattle.sfc_machine.specs.Singles.{singles_in}
+use Rattle.sfc_machine.specs.Table.{Table}
+use Rattle.sfc_core.specs.declared.due.Due.{Due}
+use Rattle.sfc_core.specs.declared.singles.Singles.{Singles}
+use Rattle.sfc_core.specs.Table.{after_event, table_of}
+use Rattle.sfc_core.specs.Due.{singles_of, calls_of, calls_at, with_rises, with_service}
+use Rattle.sfc_core.specs.Answers.{overruns_of}
+use Rattle.sfc_core.specs.Keeping.{Keeps}
+use Rattle.sfc_core.specs.Verdict.{or_then, of_image, input_refusal, event_refusal, ended_bits, scan_answer, answer}
+use Rattle.sfc_core.specs.Private.Naming.{IsTaken}
+use Rattle.sfc_core.specs.Private.Ready.{flags_of, IsDueAt, IsReady}
+use Rattle.sfc_core.specs.Private.Ending.{AreEventBits, scanned, outcome_by}
 
--- of a chain of refusals, the first two do not stand where the answer is Ok
-two_fail : (a b : Bool) (r s : Refusal) (rest : Option Refusal) (answer o : Outcome) → verdict_by (cond a (Some r) (cond b (Some s) rest)) answer ≡ Ok o → (a ≡ false) × (b ≡ false)
-two_fail true b r s rest answer o e = absurd (cc)
-two_fail false true r s rest answer o e = absurd (cc)
-two_fail false false r s rest answer o e = (refl, refl)
+-- ---- the variables take it
 
-not_below : (t : ℤ) → is_out_of_range t ≡ false → t ≤ℤ pos (2 ^ 62)
-not_below t e = grind (arith, ints)
+no_fault : (fault : Option ImageError) → of_image fault ≡ None → fault ≡ None
+no_fault None e = refl
+no_fault (Some image.UnknownVar) e = absurd cc
+no_fault (Some image.ValueType) e = absurd cc
+no_fault (Some image.NotForced) e = absurd cc
 
-not_back : (t last : ℤ) → int_lt t last ≡ false → last ≤ℤ t
-not_back t last e = grind (arith, ints)
+first_none : (a b : Option Refusal) → or_then a b ≡ None → a ≡ None
+first_none (Some x) b e = absurd cc
+first_none None b e = refl
 
-ordered_now : (h : History) (t : ℤ) → AreInOrder h (last_instant h) → last_instant h ≤ℤ t → t ≤ℤ pos (2 ^ 62) → AreInOrder h t
-ordered_now [] t o le high = (le, high)
-ordered_now (entry ∷ h) t o le high = (le, high, o.2)
+pub taken : (plant : PlantData) (changes : List Change) (event : Event) → event_refusal plant changes event ≡ None
+    → IsTaken plant changes event
+taken plant changes (Scan task) e = tt
+taken plant changes (ForcedScan task) e = tt
+taken plant changes (Input id v) e =
+    no_fault (value_fault plant id v) (first_none (of_image (value_fault plant id v)) (input_refusal plant id) e)
+taken plant changes (Force id v) e = no_fault (value_fault plant id v) e
+taken plant changes (Release id) e = no_fault (release_fault plant changes id) e
+taken plant changes (Reset p) e = tt
 
-itself : (t : ℤ) → t ≤ℤ t
-itself t = omega (arith, ints)
+-- ---- what is kept of it
 
-ordered_by : (h : History) (entry : Entry) (v : Result Outcome Refusal) → AreInOrder h (last_instant h) → ((o : Outcome) → v ≡ Ok o → AreInOrder h entry.1 × (entry.1 ≤ℤ pos (2 ^ 62))) → AreInOrder (history_by v h entry) (last_instant (history_by v h entry))
-ordered_by h entry (Ok outcome) o accepted = let p = accepted outcome refl in (itself entry.1, p.1, p.0)
-ordered_by h entry (Err refusal) o accepted = o
+module _ (plant : PlantData) (event : Event) (t : ℤ) (old new : Machine) (due served risen : Due) (after : Singles) (tasks : TaskTable)
+    (changed : (table : Table) → MachineAgrees plant old table → IsTaken plant table.changes event
+    → MachineAgrees plant new (after_event plant event t table))
+    (read : (table : Table) → MachineAgrees plant new table → flags_of after ≡ singles_in plant table.changes)
+    (same : served.singles ≡ due.singles)
+    (serves : (calls : List Call) → TasksAgree plant.tasks due.tasks calls → TasksAgree plant.tasks served.tasks (with_service event calls))
+    (rises : (calls : List Call) → TasksAgree plant.tasks served.tasks calls
+    → TasksAgree plant.tasks risen.tasks (with_rises t 0 (flags_of served.singles) (flags_of after) calls))
+    (copied : (calls : List Call) → TasksAgree plant.tasks risen.tasks calls → TasksAgree plant.tasks tasks calls) (h : History)
+    (agrees : MachineAgrees plant old (table_of plant h)) (ready : IsReady plant h event t due) where
+  machine_after : MachineAgrees plant new (table_of plant ((event, t) ∷ h))
+  unfolding table_of
+  machine_after = changed (table_of plant h) agrees (taken plant (table_of plant h).changes event ready.named)
 
-ordered_after : (plant : PlantData) (h : History) (entry : Entry) → AreInOrder h (last_instant h) → AreInOrder (after plant h entry) (last_instant (after plant h entry))
-ordered_after plant h entry o = ordered_by h entry (verdict plant h entry.0 entry.1) o
-    (λ outcome e.
-    let (range, back) = two_fail (is_out_of_range entry.1) (int_lt entry.1 (last_instant h)) _ _ _ _ outcome e in
-    let high : entry.1 ≤ℤ pos (2 ^ 62) = not_below entry.1 range in
-    (ordered_now h entry.1 o (not_back entry.1 (last_instant h) back) high, high))
+  read_after : flags_of after ≡ singles_of plant ((event, t) ∷ h)
+  unfolding singles_of
+  read_after = read (table_of plant ((event, t) ∷ h)) machine_after
 
-pub all_in_order : (plant : PlantData) (events : List Entry) (h : History) → AreInOrder h (last_instant h) → AreInOrder (after_all plant h events) (last_instant (after_all plant h events))
-all_in_order plant [] h o = o
-all_in_order plant (entry ∷ events) h o = all_in_order plant events (after plant h entry) (ordered_after plant h entry o)
+  read_before : flags_of served.singles ≡ singles_of plant h
+  read_before = ap flags_of same ∙ ready.told.singles
 
-pub at_first : AreInOrder [] (last_instant [])
-at_first = (omega (arith, ints), omega (arith, ints))
+  told_so : with_rises t 0 (flags_of served.singles) (flags_of after) (with_service event (calls_at plant h t)) ≡ calls_of plant ((event, t) ∷ h)
+  unfolding calls_of
+  told_so =
+      ap (λ (xs : List Bool). with_rises t 0 xs (flags_of after) (with_service event (calls_at plant h t))) read_before
+      ∙ ap (λ (ys : List Bool). with_rises t 0 (singles_of plant h) ys (with_service event (calls_at plant h t))) read_after
+
+  -- the event is the latest of the history
+  pub kept_after : Keeps plant new tasks t ((event, t) ∷ h)
+  kept_after = record {
+    instant = refl;
+    machines = machine_after;
+    tasked =
+        subst (λ (calls : List Call). TasksAgree plant.tasks tasks calls) told_so
+        (copied _ (rises _ (serves (calls_at plant h t) ready.told.tasks)));
+  }
+
+-- ---- what it answers
+
+scan_answered : (plant : PlantData) (h : History) (event : Event) (task : TaskId) (t : ℤ) (bits : Bits)
+    → AreBits plant task t (table_of plant h) bits
+    → scanned plant.tasks (calls_of plant ((event, t) ∷ h)) bits task ≡ scan_answer plant h event task t
+unfolding scan_answer
+scan_answered plant h event task t bits are =
+    let count : ℕ = overruns_of plant ((event, t) ∷ h) task in
+    ap (λ (n : ℕ). Scanned n bits.faulted bits.skipped count) are.ran
+    ∙ ap (λ (n : ℕ). Scanned (ended_bits Ran plant h task t) n bits.skipped count) are.faulted
+    ∙ ap (λ (n : ℕ). Scanned (ended_bits Ran plant h task t) (ended_bits Faulted plant h task t) n count) are.skipped
+
+pub answered : (plant : PlantData) (h : History) (event : Event) (t : ℤ) (bits : Bits) → AreEventBits plant event t (table_of plant h) bits
+    → outcome_by plant.tasks (calls_of plant ((event, t) ∷ h)) bits event ≡ answer plant h event t
+answered plant h (Scan task) t bits are = scan_answered plant h (Scan task) task t bits are
+answered plant h (ForcedScan task) t bits are = scan_answered plant h (ForcedScan task) task t bits are
+answered plant h (Input id v) t bits are = refl
+answered plant h (Force id v) t bits are = refl
+answered plant h (Release id) t bits are = refl
+answered plant h (Reset p) t bits are = refl

@@ -1,17 +1,10 @@
-pub mod Looks
-pub mod Accepted
-pub mod Waiting
-pub mod Values
-pub mod FirstScan
-pub mod Multiples
-pub mod Cleared
-pub mod NumberedLooks
+-- what a variable of the image is
+pub mod Places
+-- which SINGLE rises
+pub mod Rises
+-- many events
 pub mod Runs
-pub mod Events
-pub mod FirstAssociations
-pub mod Named
-pub mod Targets
-pub mod Zeros
-pub mod Marks
-pub mod Next
-pub mod Moments
+-- the first refusal, by parts
+pub mod Verdicts
+-- what an accepted event leaves
+pub mod Accepted

@@ -1,8 +1,8 @@
 -- One more event at the end of a list.
 use Rattle.std.proofs.Common.{◌≡◌, ℕ, ◌+◌, ◌<◌, cond, List, [], ◌∷◌, ◌++◌, refl, arith, is_ok, length, take, get_or}
 use Rattle.std.proofs.lemmas.List.{take_more}
-use Rattle.sfc_single.specs.Chart.{PlantData}
-use Rattle.sfc_core.specs.History.{Entry, History}
+use Rattle.sfc_chart.specs.Plants.{PlantData}
+use Rattle.sfc_events.specs.History.{Entry, History}
 use Rattle.sfc_core.specs.Verdict.{verdict, after, after_all, accepted}
 
 after_all-push : (plant : PlantData) (xs : List Entry) (x : Entry) (h : History) → after_all plant h (xs ++ x ∷ []) ≡ after plant (after_all plant h xs) x

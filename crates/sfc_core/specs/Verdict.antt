@@ -1,125 +1,149 @@
--- What a resource answers to an event after a history: the first refusal whose condition stands, in one order,
--- else the answer (our choice of order).
-use Rattle.std.specs.Prelude.{ℕ, ◌+◌, ◌*◌, ◌^◌, ◌==◌, nat_lt, Bool, true, false, cond, not, ◌||◌, List, [], ◌∷◌, length, slice_index_or, ℤ, pos, int_lt, Option, Some, None, Result, Ok, Err, is_ok}
-use Rattle.sfc_tokens.specs.declared.var_type.VarType.{VarType}
-use Rattle.sfc_tokens.specs.declared.var_type.VarType.TheVariants as types
-use Rattle.sfc_tokens.specs.declared.location.Location.{Location}
+-- The answer to an event: what it is refused for, else what it gives.
+use Rattle.std.specs.Prelude.{ℕ, ◌+◌, ◌==◌, ◌^◌, nat_lt, Bool, true, false, cond, not, ◌||◌, is_none, is_ok, List, [], ◌∷◌, length}
+use Rattle.std.specs.Prelude.{ℤ, pos, int_lt, Option, Some, None, Result, Ok, Err, slice_get}
 use Rattle.sfc_tokens.specs.declared.location.Area.{Area}
 use Rattle.sfc_tokens.specs.declared.location.Area.TheVariants as areas
-use Rattle.sfc_chart.specs.declared.ids.VarId.{VarId}
-use Rattle.sfc_chart.specs.declared.ids.TaskId.{TaskId}
-use Rattle.sfc_variables.specs.declared.variable.Variable.{Variable}
-use Rattle.sfc_chart.specs.declared.task.Task.{Task}
-use Rattle.sfc_chart.specs.declared.instance.Instance.{Instance}
+use Rattle.sfc_tokens.specs.declared.location.Location.{Location}
 use Rattle.sfc_expr.specs.declared.value.Value.{Value}
-use Rattle.sfc_expr.specs.declared.value.Value.TheVariants as value
-use Rattle.sfc_expr.specs.Values.{type_of}
-use Rattle.sfc_single.specs.Chart.{PlantData}
-use Rattle.sfc_core.specs.declared.event.Event.{Event}
-use Rattle.sfc_core.specs.declared.event.Event.TheVariants.{Scan, Input}
-use Rattle.sfc_core.specs.declared.event.Outcome.{Outcome}
-use Rattle.sfc_core.specs.declared.event.Outcome.TheVariants.{Done, Scanned}
-use Rattle.sfc_core.specs.declared.refusal.Refusal.{Refusal}
-use Rattle.sfc_core.specs.declared.refusal.Refusal.TheVariants.{InstantRange, ClockBack, UnknownTask, UnknownVar, ValueType, NotInput, NotDue}
-use Rattle.sfc_core.specs.History.{Entry, History, last_instant, waiting_at, overruns}
-use Rattle.sfc_core.specs.Releases.{next_release}
+use Rattle.sfc_variables.specs.declared.variable.Variable.{Variable}
+use Rattle.sfc_chart.specs.declared.ids.ProgId.{ProgId}
+use Rattle.sfc_chart.specs.declared.ids.TaskId.{TaskId}
+use Rattle.sfc_chart.specs.declared.ids.VarId.{VarId}
+use Rattle.sfc_chart.specs.declared.task.Task.{Task}
+use Rattle.sfc_chart.specs.Plants.{PlantData}
+use Rattle.sfc_chart.specs.Image.{image_variables}
+use Rattle.sfc_image.specs.declared.image_error.ImageError.{ImageError}
+use Rattle.sfc_image.specs.declared.image_error.ImageError.TheVariants as image
+use Rattle.sfc_image.specs.Changes.{Change}
+use Rattle.sfc_image.specs.Answers.{value_fault, release_fault}
+use Rattle.sfc_instance.specs.declared.ended.Ended.{Ended}
+use Rattle.sfc_instance.specs.declared.ended.Ended.TheVariants.{Ran, Faulted, Skipped}
+use Rattle.sfc_tasks.specs.Multiples.{next_release}
+use Rattle.sfc_tasks.specs.Calls.{Call, single_of}
+use Rattle.sfc_tasks.specs.Releases.{interval_of, waits_since}
+use Rattle.sfc_tasks.specs.Pick.{picked}
+use Rattle.sfc_events.specs.declared.event.Event.{Event}
+use Rattle.sfc_events.specs.declared.event.Event.TheVariants.{Scan, ForcedScan, Input, Force, Release, Reset}
+use Rattle.sfc_events.specs.declared.event.Outcome.{Outcome}
+use Rattle.sfc_events.specs.declared.event.Outcome.TheVariants.{Done, Scanned}
+use Rattle.sfc_events.specs.declared.refusal.Refusal.{Refusal}
+use Rattle.sfc_events.specs.declared.refusal.Refusal.TheVariants.{InstantRange, ClockBack, UnknownTask, UnknownProgram}
+use Rattle.sfc_events.specs.declared.refusal.Refusal.TheVariants.{UnknownVar, ValueType, NotInput, NotForced, NotDue, Yield}
+use Rattle.sfc_events.specs.History.{Entry, History, last_instant}
+use Rattle.sfc_machine.specs.Ends.{bits_of}
+use Rattle.sfc_core.specs.Table.{table_of}
+use Rattle.sfc_core.specs.Due.{singles_of, calls_at}
+use Rattle.sfc_core.specs.Answers.{overruns_of}
 
-abbrev pub no_task : Task
-no_task = record { name = []; single = None; interval = pos 0; priority = 0 }
+-- ---- refusals
 
-abbrev pub interval_of : PlantData → TaskId → ℤ
-interval_of plant task = (slice_index_or plant.tasks task.0 no_task).interval
+abbrev pub refused_if : Bool → Refusal → Option Refusal
+refused_if b refusal = cond b (Some refusal) None
 
-abbrev pub no_variable : Variable
-no_variable = record { name = []; var_type = types.Bool; location = None; initial = value.Bool false }
+-- the first of two
+abbrev pub or_then : Option Refusal → Option Refusal → Option Refusal
+or_then (Some refusal) other = Some refusal
+or_then None other = other
 
-abbrev pub variable_of : PlantData → VarId → Variable
-variable_of plant id = slice_index_or plant.variables id.0 no_variable
-
-abbrev pub same_type : VarType → VarType → Bool
-same_type types.Bool types.Bool = true
-same_type types.Int types.Int = true
-same_type types.Dint types.Dint = true
-same_type types.Time types.Time = true
-same_type _ _ = false
-
-abbrev pub is_input_area : Area → Bool
-is_input_area areas.Input = true
-is_input_area _ = false
-
--- located at %I (2.4.1.1)
-abbrev pub is_input : Option Location → Bool
-is_input None = false
-is_input (Some location) = is_input_area location.area
-
+-- an instant is from 0 to 2^62 microseconds (our choice)
 abbrev pub is_out_of_range : ℤ → Bool
 is_out_of_range t = int_lt t (pos 0) || int_lt (pos (2 ^ 62)) t
 
-abbrev pub has_unknown_task : PlantData → Event → Bool
-has_unknown_task plant (Scan task) = not (nat_lt task.0 (length plant.tasks))
-has_unknown_task plant (Input id v) = false
+-- by the instant of an event, after one at `last`
+abbrev pub instant_refusal : ℤ → ℤ → Option Refusal
+instant_refusal last t = or_then (refused_if (is_out_of_range t) InstantRange) (refused_if (int_lt t last) ClockBack)
 
-abbrev pub has_unknown_variable : PlantData → Event → Bool
-has_unknown_variable plant (Scan task) = false
-has_unknown_variable plant (Input id v) = not (nat_lt id.0 (length plant.variables))
+abbrev pub task_refusal : PlantData → TaskId → Option Refusal
+task_refusal plant task = refused_if (not (nat_lt task.0 (length plant.tasks))) UnknownTask
 
-abbrev pub has_wrong_type : PlantData → Event → Bool
-has_wrong_type plant (Scan task) = false
-has_wrong_type plant (Input id v) = not (same_type (type_of v) (variable_of plant id).var_type)
+abbrev pub program_refusal : PlantData → ProgId → Option Refusal
+program_refusal plant p = refused_if (not (nat_lt p.0 (length plant.instances))) UnknownProgram
 
-abbrev pub has_no_input : PlantData → Event → Bool
-has_no_input plant (Scan task) = false
-has_no_input plant (Input id v) = not (is_input (variable_of plant id).location)
+-- what is told of a fault of the variables
+abbrev pub of_image : Option ImageError → Option Refusal
+of_image None = None
+of_image (Some image.UnknownVar) = Some UnknownVar
+of_image (Some image.ValueType) = Some ValueType
+of_image (Some image.NotForced) = Some NotForced
 
--- no release of the scan's task waits
-abbrev pub is_not_due : PlantData → History → Event → ℤ → Bool
-is_not_due plant h (Scan task) t = waiting_at (interval_of plant task) task h t == 0
-is_not_due plant h (Input id v) t = false
+abbrev pub is_input_area : Area → Bool
+is_input_area areas.Input = true
+is_input_area areas.Output = false
+is_input_area areas.Memory = false
 
--- the next release of the scan's task by its interval
-abbrev pub next_due : PlantData → Event → ℤ → Option ℤ
-next_due plant (Scan task) t = next_release (interval_of plant task) t
-next_due plant (Input id v) t = None
+abbrev pub is_located_input : Option Location → Bool
+is_located_input None = false
+is_located_input (Some location) = is_input_area location.area
 
--- the first of these refusals whose condition stands
-abbrev pub first_of : List (Bool × Refusal) → Option Refusal
-first_of [] = None
-first_of (entry ∷ entries) = cond entry.0 (Some entry.1) (first_of entries)
+-- located at %I (2.4.1.1)
+abbrev pub is_input : Option Variable → Bool
+is_input None = false
+is_input (Some variable) = is_located_input variable.location
 
-abbrev pub first_refusal : PlantData → History → Event → ℤ → Option Refusal
-first_refusal plant h event t = first_of (
-    (is_out_of_range t, InstantRange)
-    ∷ (int_lt t (last_instant h), ClockBack)
-    ∷ (has_unknown_task plant event, UnknownTask)
-    ∷ (has_unknown_variable plant event, UnknownVar)
-    ∷ (has_wrong_type plant event, ValueType)
-    ∷ (has_no_input plant event, NotInput)
-    ∷ (is_not_due plant h event t, NotDue (next_due plant event t))
-    ∷ [])
+abbrev pub input_refusal : PlantData → VarId → Option Refusal
+input_refusal plant id = refused_if (not (is_input (slice_get (image_variables plant) id.0))) NotInput
 
--- the same for an input alone: the variable is unknown, the value is of another type, or the variable is no input
-abbrev pub input_refusal : List Variable → VarId → Value → Option Refusal
-input_refusal variables id v =
-    cond (not (nat_lt id.0 (length variables))) (Some UnknownVar)
-    (cond (not (same_type (type_of v) (slice_index_or variables id.0 no_variable).var_type)) (Some ValueType)
-    (cond (not (is_input (slice_index_or variables id.0 no_variable).location)) (Some NotInput) None))
+-- by what the event names, where this was done with the variables
+abbrev pub event_refusal : PlantData → List Change → Event → Option Refusal
+event_refusal plant changes (Scan task) = task_refusal plant task
+event_refusal plant changes (ForcedScan task) = task_refusal plant task
+event_refusal plant changes (Input id v) = or_then (of_image (value_fault plant id v)) (input_refusal plant id)
+event_refusal plant changes (Force id v) = of_image (value_fault plant id v)
+event_refusal plant changes (Release id) = of_image (release_fault plant changes id)
+event_refusal plant changes (Reset p) = program_refusal plant p
 
--- the same for a scan alone: the task is unknown, or none of its releases waits
-abbrev pub scan_refusal : PlantData → History → TaskId → ℤ → Option Refusal
-scan_refusal plant h task t =
-    cond (not (nat_lt task.0 (length plant.tasks))) (Some UnknownTask)
-    (cond (waiting_at (interval_of plant task) task h t == 0) (Some (NotDue (next_release (interval_of plant task) t))) None)
+-- no release of the task waits; the next one by its interval is told
+abbrev pub due_refusal : List Task → List Bool → List Call → TaskId → ℤ → Option Refusal
+due_refusal tasks singles calls task t =
+    refused_if (is_none (waits_since tasks calls task.0))
+    (NotDue (next_release (interval_of tasks task.0) (single_of singles task.0) t))
 
--- one bit for each instance of the task; the first of these instances has this bit
-abbrev pub bits_of : TaskId → ℕ → List Instance → ℕ
-bits_of task bit [] = 0
-bits_of task bit (instance ∷ instances) = cond (instance.task.0 == task.0) bit 0 + bits_of task (2 * bit) instances
+abbrev pub yield_to : TaskId → Option TaskId → Option Refusal
+yield_to task None = None
+yield_to task (Some first) = refused_if (not (first.0 == task.0)) (Yield first)
+
+-- another task goes first
+abbrev pub yield_refusal : List Task → List Call → TaskId → Option Refusal
+yield_refusal tasks calls task = yield_to task (picked tasks calls)
+
+-- A scan at t is not the task's turn, where the tasks were told so, and each SINGLE reads so. A forced scan, and what is no
+-- scan, waits for no turn.
+unfoldable pub turn_refusal : List Task → List Bool → List Call → Event → ℤ → Option Refusal
+turn_refusal tasks singles calls (Scan task) t =
+    or_then (due_refusal tasks singles calls task t) (yield_refusal tasks calls task)
+turn_refusal tasks singles calls (ForcedScan task) t = None
+turn_refusal tasks singles calls (Input id v) t = None
+turn_refusal tasks singles calls (Force id v) t = None
+turn_refusal tasks singles calls (Release id) t = None
+turn_refusal tasks singles calls (Reset p) t = None
+
+-- The first refusal that applies, in one order (our choice): of the instant, of what the event names, and of its turn.
+unfoldable pub first_refusal : PlantData → History → Event → ℤ → Option Refusal
+first_refusal plant h event t =
+    or_then (instant_refusal (last_instant h) t)
+    (or_then (event_refusal plant (table_of plant h).changes event)
+    (turn_refusal plant.tasks (singles_of plant h) (calls_at plant h t) event t))
+
+-- ---- answers
+
+-- one bit for each instance of which a scan of the task after a history ends so
+abbrev pub ended_bits : Ended → PlantData → History → TaskId → ℤ → ℕ
+ended_bits how plant h task t = bits_of how plant task t 0 plant.instances (table_of plant h)
+
+-- to an event at t that is a scan of this task
+unfoldable pub scan_answer : PlantData → History → Event → TaskId → ℤ → Outcome
+scan_answer plant h event task t =
+    Scanned (ended_bits Ran plant h task t) (ended_bits Faulted plant h task t) (ended_bits Skipped plant h task t)
+    (overruns_of plant ((event, t) ∷ h) task)
 
 -- what an accepted event answers
 abbrev pub answer : PlantData → History → Event → ℤ → Outcome
-answer plant h (Scan task) t =
-    Scanned (bits_of task 1 plant.instances) 0 0 (overruns (interval_of plant task) task ((Scan task, t) ∷ h))
+answer plant h (Scan task) t = scan_answer plant h (Scan task) task t
+answer plant h (ForcedScan task) t = scan_answer plant h (ForcedScan task) task t
 answer plant h (Input id v) t = Done
+answer plant h (Force id v) t = Done
+answer plant h (Release id) t = Done
+answer plant h (Reset p) t = Done
 
 abbrev pub verdict_by : Option Refusal → Outcome → Result Outcome Refusal
 verdict_by (Some refusal) outcome = Err refusal
@@ -127,6 +151,8 @@ verdict_by None outcome = Ok outcome
 
 abbrev pub verdict : PlantData → History → Event → ℤ → Result Outcome Refusal
 verdict plant h event t = verdict_by (first_refusal plant h event t) (answer plant h event t)
+
+-- ---- many events
 
 -- the history after an event that was answered so
 abbrev pub history_by : Result Outcome Refusal → History → Entry → History

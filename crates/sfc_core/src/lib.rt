@@ -1,30 +1,18 @@
-//! One resource over scans and inputs: the steps, actions and variables of its programs after any list of
-//! events (IEC 61131-3:2003, 2.6 and 2.7.2).
+//! One resource of a controller (IEC 61131-3:2003, 2.7.1): a plant that runs by events.
+//!
+//! - `changing`: what an event does with the variables and the program instances.
+//! - `due`: the tasks at the instant of an event.
+//! - `inputs`: which variables are inputs.
+//! - `laws`: what the definitions mean.
+//! - `refusing`: why an event is refused.
+//! - `resource`: a plant that runs.
+//! - `singles`: what the SINGLE of tasks reads.
 #![tactic(auto)]
 
-mod actions;
-mod boolean_actions;
-mod clearing;
-mod event;
-mod evolution;
-mod flags;
-mod image;
+mod changing;
+mod due;
 mod inputs;
-mod instants;
 pub mod laws;
-mod marking;
-mod outputs;
-mod program;
-mod refusal;
-mod releases;
-mod resource;
-mod single;
-mod steps;
-mod task;
-mod update;
-mod view;
-
-pub use event::{Event, Outcome};
-pub use refusal::Refusal;
-pub use resource::Resource;
-pub use view::ProgramView;
+mod refusing;
+pub mod resource;
+mod singles;

@@ -1,207 +1,160 @@
 //! One resource of a controller (2.7.1): a plant that runs by events.
 
 ghost use Rattle.std.specs.Prelude.{◌≡◌, ◌<◌, ◌≤ℤ◌, ◌^◌, length, pos, negsuc};
-ghost use Rattle.sfc_single.specs.Chart.{IsSingle};
-ghost use Rattle.sfc_core.specs.Keeping.SingleInstance.{single_chart as the_chart, IsInterval, IsMain};
-ghost use Rattle.sfc_core.specs.Keeping.ProgramAgrees.{HasRoom};
+ghost use Rattle.sfc_tasks.specs.Agreement.{task_places};
+ghost use Rattle.sfc_instance.proofs.Places.{for_prop};
+ghost use Rattle.sfc_events.specs.History.{History};
+ghost use Rattle.sfc_machine.specs.Agreement.{IsMachineOf};
+ghost use Rattle.sfc_machine.proofs.Kept.{machine_prop};
+ghost use Rattle.sfc_core.specs.Keeping.{Keeps};
 
-use crate::event::{Event, Outcome};
-use crate::image::initial_values;
-use crate::inputs::input_refusal;
-use crate::instants::LATEST;
-use crate::program::Program;
-use crate::refusal::Refusal;
-use crate::releases::next_release;
-use crate::single::single_chart;
-use crate::task::TaskState;
-use crate::view::ProgramView;
+use crate::changing::{change, outcome};
+use crate::due::Due;
+use crate::refusing::{refuse_event, refuse_instant};
+use crate::singles::Singles;
 use sfc_chart::ids::{ProgId, TaskId, VarId};
+use sfc_chart::plant::Plant;
+use sfc_events::event::{Event, Outcome};
+use sfc_events::refusal::Refusal;
+use sfc_expr::ticks::Ticks;
 use sfc_expr::value::Value;
-use sfc_single::plant::Plant;
+use sfc_instance::program::Program;
+use sfc_machine::machine::Machine;
+use sfc_tasks::table::TaskTable;
 use std::alloc::{AllocError, Global};
 
-/// A plant that runs by scans and inputs. It keeps what the next event needs, and no history: what an event
+/// A plant that runs by scans, inputs, forces and resets. It keeps what the next event needs, and no history: what an event
 /// costs is bounded by the plant.
 #[derive(Drop)]
 pub struct Resource {
     plant: Plant,
-    values: Vec<Value>,
+    machine: Machine,
+    tasks: TaskTable,
     last: i64,
-    task: TaskState,
-    program: Program,
-    ghost single: { IsSingle plant },
-    ghost values_len: { length values.items ≡ length plant.variables },
-    ghost room: { HasRoom (length plant.variables) (the_chart plant) program },
-    ghost main: { IsMain plant },
-    ghost interval: { IsInterval plant task.interval },
+    ghost whole: { IsMachineOf plant machine } by { machine_prop for_prop plant machine },
+    ghost places: { task_places tasks ≡ length plant.tasks },
     ghost last_low: { negsuc 0 ≤ℤ last },
     ghost last_high: { last ≤ℤ pos (2 ^ 62) },
+    ghost told: { ∥ ((h : History) × Keeps plant machine tasks last h) ∥₁ },
 }
 
-#[tactic(auto, unfolding(crate::specs::Agreement::Agrees, crate::specs::Agreement::plant_of, crate::specs::ViewAgrees::IsViewOf, crate::specs::ViewAgrees::shown_steps, crate::specs::ViewAgrees::shown_transitions))]
+#[tactic(auto, unfolding(crate::specs::Agreement::Agrees, crate::specs::Agreement::plant_of))]
 impl Resource {
-    ghost use Rattle.std.specs.Prelude.{◌∷◌, [], List, None, OnOk, OnErr, IfOk, is_ok};
-    ghost use Rattle.sfc_single.specs.Chart.{PlantData};
-    ghost use Rattle.sfc_core.specs.History.{Entry, History};
-    ghost use Rattle.sfc_core.specs.Verdict.{first_refusal, scan_refusal as refusal_of_scan, answer, verdict, after, after_all, accepted};
-    ghost use Rattle.sfc_core.specs.Answers.{value_of, overruns_of};
-    ghost use Rattle.sfc_core.specs.Keeping.KnownEvents.{IsKnown};
+    ghost use Rattle.std.specs.Prelude.{◌∷◌, [], List, None, OnOk, OnErr, IfOk, is_ok, ◌+◌};
+    ghost use Rattle.sfc_expr.specs.Ticks.{Within};
+    ghost use Rattle.sfc_tables.specs.Tables.{tables_of};
+    ghost use Rattle.sfc_image.specs.Values.{variable_count};
+    ghost use Rattle.sfc_instance.specs.Setting.{chart_of};
+    ghost use Rattle.sfc_instance.specs.Agreement.{IsFor, ProgramAgrees};
+    ghost use Rattle.sfc_events.specs.History.{Entry, History, last_instant};
+    ghost use Rattle.sfc_core.specs.Table.{table_of};
+    ghost use Rattle.sfc_core.specs.Answers.{value_of, forced_of, standing_of, overruns_of};
+    ghost use Rattle.sfc_core.specs.Verdict.{instant_refusal, event_refusal, or_then, answer, verdict, after, after_all, accepted};
+    ghost use Rattle.sfc_core.specs.Work.{event_work, machine_work};
     ghost use Rattle.sfc_core.specs.Agreement.{Agrees, plant_of};
-    ghost use Rattle.sfc_core.specs.ViewAgrees.{IsViewOf, HasRoomFor};
-    ghost use Rattle.sfc_chart.specs.declared.ids.TaskId.{TaskId};
-    ghost use Rattle.sfc_core.specs.declared.event.Event.TheVariants as Event;
+    ghost use Rattle.sfc_core.specs.Private.Naming.{IsKnown};
+    ghost use Rattle.sfc_core.specs.Private.Ready.{IsDueOf, IsReady};
 
-    /// A resource that has seen no event: each variable has its initial value, no step is active. All room that
-    /// events need is made here.
+    /// A resource that has seen no event: each variable has its initial value, none is forced, and no instance was
+    /// scanned. All room that events need is made here; the one error is that memory was refused.
+    #[tactic(auto, unfolding(crate::specs::Agreement::Agrees, crate::specs::Agreement::plant_of, crate::specs::Table::table_of, crate::specs::Due::calls_of))]
     pub fn open(alloc: Global, plant: Plant) -> Result<Resource, AllocError>
-        requires { IsSingle plant }
         ensures agrees { IfOk result (λ resource. Agrees resource []) }
         ensures plant { IfOk result (λ resource. plant_of resource ≡ plant) }
     {
-        let values = initial_values(alloc, plant.variables())?;
-        let chart = single_chart(&plant);
-        let program = Program::new(alloc, chart, plant.variables().len())?;
-        let task = TaskState {
-            interval: plant.tasks()[0].interval,
-            waiting: 0,
-            overruns: 0,
-        };
+        let machine = Machine::new(alloc, &plant)?;
+        let tasks = TaskTable::new(&plant);
         Ok(Resource {
             plant,
-            values,
+            machine,
+            tasks,
             last: -1,
-            task,
-            program,
         })
     }
 
-    // Why the event is refused.
-    fn refusal(&self, event: Event, t: i64) -> Option<Refusal>
-        ensures value { (h : History) → Agrees self.now h → result ≡ first_refusal (plant_of self.now) h event t }
+    // Why the event at t is refused by its instant and by what it names.
+    fn refuse_named(&self, event: Event, t: i64) -> Option<Refusal>
+        ensures value { (h : History) → Agrees self.now h → result ≡ or_then (instant_refusal (last_instant h) t)
+            (event_refusal (plant_of self.now) (table_of (plant_of self.now) h).changes event) }
         ensures known { result ≡ None → IsKnown (plant_of self.now) event }
         ensures low { result ≡ None → pos 0 ≤ℤ t }
         ensures high { result ≡ None → t ≤ℤ pos (2 ^ 62) }
     {
-        if t < 0 || t > LATEST {
-            return Some(Refusal::InstantRange);
+        match refuse_instant(self.last, t) {
+            Some(refusal) => Some(refusal),
+            None => refuse_event(&self.plant, &self.machine, event),
         }
-        if t < self.last {
-            return Some(Refusal::ClockBack);
-        }
-        match event {
-            Event::Scan(task) => self.scan_refusal(task, t),
-            Event::Input(id, value) => input_refusal(self.plant.variables(), id, value),
-        }
-    }
-
-    // Why a scan of the task is refused: there is no such task, or none of its releases waits.
-    fn scan_refusal(&self, task: TaskId, t: i64) -> Option<Refusal>
-        ensures value { (h : History) → Agrees self.now h → result ≡ refusal_of_scan (plant_of self.now) h task t }
-        ensures known { result ≡ None → task.0 < length (plant_of self.now).tasks }
-    {
-        if task.0 as usize >= self.plant.tasks().len() {
-            Some(Refusal::UnknownTask)
-        } else if self.task.waiting_at(self.last, t) == 0 {
-            Some(Refusal::NotDue(next_release(self.task.interval, t)))
-        } else {
-            None
-        }
-    }
-
-    // A scan of the task at t, which is its only one: the one program is scanned.
-    fn scan(&mut self, t: i64)
-        requires low { pos 0 ≤ℤ t }
-        requires high { t ≤ℤ pos (2 ^ 62) }
-        ensures plant { plant_of self.new ≡ plant_of self.old }
-        ensures kept { (h : History) (task : TaskId) → task.0 < length (plant_of self.old).tasks →
-            Agrees self.old h → Agrees self.new ((Event.Scan task, t) ∷ h) }
-    {
-        let chart = single_chart(&self.plant);
-        self.program.scan(chart, &mut self.values, t);
-        self.task.serve(self.last, t);
-        self.last = t;
-    }
-
-    // A value for a variable at t.
-    fn input(&mut self, id: VarId, value: Value, t: i64)
-        requires low { pos 0 ≤ℤ t }
-        requires high { t ≤ℤ pos (2 ^ 62) }
-        requires known { id.0 < length (plant_of self.old).variables }
-        ensures plant { plant_of self.new ≡ plant_of self.old }
-        ensures kept { (h : History) → Agrees self.old h → Agrees self.new ((Event.Input id value, t) ∷ h) }
-    {
-        let place = id.0 as usize;
-        self.values[place] = value;
-        self.task.elapse(self.last, t);
-        self.last = t;
     }
 
     // An event that is not refused.
-    fn accept(&mut self, event: Event, t: i64) -> Outcome
+    fn accept(&mut self, mut due: Due, event: Event, t: i64, ticks: &mut Ticks) -> Outcome
         requires low { pos 0 ≤ℤ t }
         requires high { t ≤ℤ pos (2 ^ 62) }
         requires known { IsKnown (plant_of self.old) event }
+        requires sizes { IsDueOf (plant_of self.old) due }
+        requires ready { (h : History) → Agrees self.old h → IsReady (plant_of self.old) h event t due }
         ensures plant { plant_of self.new ≡ plant_of self.old }
         ensures value { (h : History) → Agrees self.old h → result ≡ answer (plant_of self.old) h event t }
         ensures kept { (h : History) → Agrees self.old h → Agrees self.new ((event, t) ∷ h) }
+        ensures ticks { Within (machine_work (plant_of self.old) event + length (plant_of self.old).tasks + 1) ticks.old ticks.new }
     {
-        match event {
-            Event::Scan(_) => {
-                self.scan(t);
-                Outcome::Scanned {
-                    ran: 1,
-                    faulted: 0,
-                    skipped: 0,
-                    overruns: self.task.overruns,
-                }
-            }
-            Event::Input(id, value) => {
-                self.input(id, value, t);
-                Outcome::Done
-            }
-        }
+        due.serve(event, ticks);
+        let bits = change(&mut self.machine, &self.plant, event, t, ticks);
+        let after = Singles::read(&self.machine, &self.plant);
+        due.rise(&after, t, ticks);
+        self.tasks.copy_from(&due.tasks);
+        self.last = t;
+        outcome(event, bits, &self.tasks)
     }
 
-    /// One event at the instant t, in microseconds: what it is refused for, else what it answers. After a refusal
-    /// the resource is as it was.
+    /// One event at the instant t, in microseconds: what it is refused for, else what it answers. After a refusal the
+    /// resource is as it was. It takes no memory.
     ///
     /// The refusals, of which the first that applies is given: `InstantRange` where t is below 0 or above 2^62,
-    /// `ClockBack` where it is before the latest accepted event, `UnknownTask`, `UnknownVar`, `ValueType` where
-    /// the value is not of the variable's type, `NotInput` where the variable is not located at %I, and `NotDue`
-    /// where no release of the task waits, with the next one by its interval.
-    pub fn apply(&mut self, event: Event, t: i64) -> Result<Outcome, Refusal>
+    /// `ClockBack` where it is before the latest accepted event, `UnknownTask`, `UnknownProgram`, `UnknownVar`,
+    /// `ValueType` where the value is not of the variable's type, `NotInput` where the variable is not located at %I,
+    /// `NotForced`, `NotDue` where no release of the task waits, with the next one by its interval, and `Yield` where
+    /// another task goes first. A forced scan is never refused for these last two.
+    pub fn apply(&mut self, event: Event, t: i64, ticks: &mut Ticks) -> Result<Outcome, Refusal>
         ensures plant { plant_of self.new ≡ plant_of self.old }
         ensures answer { (h : History) → Agrees self.old h → result ≡ verdict (plant_of self.old) h event t }
         ensures ok { OnOk result ((h : History) → Agrees self.old h → Agrees self.new ((event, t) ∷ h)) }
         ensures err { OnErr result (self.new ≡ self.old) }
+        ensures ticks { Within (event_work (plant_of self.old) event) ticks.old ticks.new }
     {
-        match self.refusal(event, t) {
+        if let Some(refusal) = self.refuse_named(event, t) {
+            return Err(refusal);
+        }
+        let due = Due::at(&self.plant, &self.machine, &self.tasks, t, ticks);
+        match due.refuse_turn(event, t, ticks) {
             Some(refusal) => Err(refusal),
-            None => Ok(self.accept(event, t)),
+            None => Ok(self.accept(due, event, t, ticks)),
         }
     }
 
     // One event, and whether it is accepted.
-    fn is_accepted(&mut self, event: Event, t: i64) -> bool
+    fn is_accepted(&mut self, event: Event, t: i64, ticks: &mut Ticks) -> bool
         ensures plant { plant_of self.new ≡ plant_of self.old }
         ensures value { (h : History) → Agrees self.old h → result ≡ is_ok (verdict (plant_of self.old) h event t) }
         ensures kept { (h : History) → Agrees self.old h → Agrees self.new (after (plant_of self.old) h (event, t)) }
     {
-        match self.apply(event, t) {
+        match self.apply(event, t, ticks) {
             Ok(_) => true,
             Err(_) => false,
         }
     }
 
-    /// Applies each of the events in turn, and goes on after refusals. It answers how many were accepted.
+    /// Applies each of the events in turn, and goes on after refusals. It answers how many were accepted. It takes no
+    /// memory.
     pub fn run(&mut self, events: &[(Event, i64)]) -> u64
         ensures plant { plant_of self.new ≡ plant_of self.old }
         ensures count { (h : History) → Agrees self.old h → result ≡ accepted (plant_of self.old) h events.now }
         ensures kept { (h : History) → Agrees self.old h → Agrees self.new (after_all (plant_of self.old) h events.now) }
     {
+        let mut ticks = Ticks::new();
         let mut count: u64 = 0;
         for (event, t) in events {
-            if self.is_accepted(*event, *t) {
+            if self.is_accepted(*event, *t, &mut ticks) {
                 count += 1;
             }
         }
@@ -209,31 +162,39 @@ impl Resource {
     }
 
     /// The program instance, as its latest scan left it. The instance is one of the plant's.
-    pub fn program(&self, program: ProgId) -> ProgramView<'_>
-        requires { program.0 < length (plant_of self.now).instances }
-        ensures agrees { (h : History) → Agrees self.now h → IsViewOf (plant_of self.now) h program result }
-        ensures room { HasRoomFor (plant_of self.now) program result }
+    pub fn program(&self, instance: ProgId) -> &Program
+        requires { instance.0 < length (plant_of self.now).instances }
+        ensures sizes { IsFor (tables_of (chart_of (plant_of self.now) instance)) result.now }
+        ensures agrees { (h : History) → Agrees self.now h →
+            ProgramAgrees (tables_of (chart_of (plant_of self.now) instance)) result.now (standing_of (plant_of self.now) h instance) }
     {
-        let _only = program;
-        ProgramView::new(&self.program)
+        self.machine.program(instance)
     }
 
-    /// The value of the variable, which is one of the plant's.
+    /// What the variable reads: the value to which it is forced, if it is, else the stored one. The variable is one of the
+    /// plant's.
     pub fn value(&self, id: VarId) -> Value
-        requires { id.0 < length (plant_of self.now).variables }
+        requires { id.0 < variable_count (plant_of self.now) }
         ensures { (h : History) → Agrees self.now h → result ≡ value_of (plant_of self.now) h id }
     {
-        self.values[id.0 as usize]
+        self.machine.value(id)
     }
 
-    /// The task's releases that came too late for a scan of their own, since the opening; at most 2^64 - 1. The
-    /// task is one of the plant's.
+    /// The value to which the variable is forced, if it is. The variable is one of the plant's.
+    pub fn forced(&self, id: VarId) -> Option<Value>
+        requires { id.0 < variable_count (plant_of self.now) }
+        ensures { (h : History) → Agrees self.now h → result ≡ forced_of (plant_of self.now) h id }
+    {
+        self.machine.forced(id)
+    }
+
+    /// The overruns of the task since the opening: of all its scans, how many releases beyond the first they served; at most
+    /// 2^64 - 1, where the count stays. The task is one of the plant's.
     pub fn overruns(&self, task: TaskId) -> u64
         requires { task.0 < length (plant_of self.now).tasks }
         ensures { (h : History) → Agrees self.now h → result ≡ overruns_of (plant_of self.now) h task }
     {
-        let _only = task;
-        self.task.overruns
+        self.tasks.overruns(task)
     }
 
     /// The plant that was opened.

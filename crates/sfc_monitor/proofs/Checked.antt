@@ -11,12 +11,11 @@ use Rattle.sfc_variables.specs.declared.load_error.LoadError.TheVariants as load
 use Rattle.sfc_variables.specs.Checks.{Fails}
 use Rattle.sfc_chart.specs.Built.{source_check}
 use Rattle.sfc_monitor.specs.declared.monitor_error.MonitorError.{MonitorError}
-use Rattle.sfc_monitor.specs.declared.monitor_error.MonitorError.TheVariants.{Chart, Unsupported, Script, Read, Write, Memory}
+use Rattle.sfc_monitor.specs.declared.monitor_error.MonitorError.TheVariants.{Chart, Script, Read, Write, Memory}
 use Rattle.sfc_monitor.specs.MonitorErrors.{of_read, of_kind, of_load}
 use Rattle.sfc_monitor.specs.Reading.{Device, IsUntouched, TakesAtMost, LosesAtMost}
-use Rattle.sfc_monitor.specs.Replay.{most}
 use Rattle.sfc_chart.specs.Plants.{PlantData}
-use Rattle.sfc_monitor.specs.Acceptance.{IsAccepted, Accepts, Answers}
+use Rattle.sfc_monitor.specs.Acceptance.{IsAccepted, Accepts, Answers, most}
 use Rattle.sfc_monitor.specs.Working.Telling.{Checks, Told}
 use Rattle.sfc_monitor.specs.Working.Faults.{IsInputFault}
 
@@ -38,7 +37,6 @@ module _ (output : PlantData → List ℕ) where
   pub unread : (chart w : Device) (error : MonitorError) → IsInputFault error → LosesAtMost most chart → IsUntouched w
       → Answers output chart w {X = Unit {0}} (Err error)
   unread chart w (Chart e) h lost unwritten = absurd h
-  unread chart w Unsupported h lost unwritten = absurd h
   unread chart w (Script n) h lost unwritten = absurd h
   unread chart w Read h lost unwritten = (lost, unwritten)
   unread chart w Write h lost unwritten = absurd h
@@ -48,7 +46,6 @@ module _ (output : PlantData → List ℕ) where
   pub refused : (chart w : Device) (text : List ℕ) (error : MonitorError) → TakesAtMost most chart text → LosesAtMost most chart
       → IsUntouched w → Checks text {X = Unit {0}} (Err error) → Answers output chart w {X = Unit {0}} (Err error)
   refused chart w text (Chart e) taken lost unwritten h = ((text, taken, h), unwritten)
-  refused chart w text Unsupported taken lost unwritten h = absurd h
   refused chart w text (Script n) taken lost unwritten h = absurd h
   refused chart w text Read taken lost unwritten h = absurd h
   refused chart w text Write taken lost unwritten h = absurd h
@@ -60,7 +57,6 @@ module _ (output : PlantData → List ℕ) where
   told chart w text plant (Ok done) taken accepted h = (text, taken, (plant, accepted, h))
   told chart w text plant (Err Write) taken accepted h = (text, taken, (plant, accepted, h))
   told chart w text plant (Err (Chart e)) taken accepted h = absurd h
-  told chart w text plant (Err Unsupported) taken accepted h = absurd h
   told chart w text plant (Err (Script n)) taken accepted h = absurd h
   told chart w text plant (Err Read) taken accepted h = absurd h
   told chart w text plant (Err Memory) taken accepted h = absurd h
@@ -69,7 +65,6 @@ module _ (output : PlantData → List ℕ) where
 pub alike : (text : List ℕ) (error : MonitorError) → Accepts text (Err error) → Checks text {X = Unit {0}} (Err error)
 alike text (Chart e) h = h
 alike text Memory h = tt
-alike text Unsupported h = absurd h
 alike text (Script n) h = absurd h
 alike text Read h = absurd h
 alike text Write h = absurd h

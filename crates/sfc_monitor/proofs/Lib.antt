@@ -1,8 +1,8 @@
-pub mod Appended
-pub mod Splits
-pub mod Said
+-- a script that is being played
 pub mod Playing
+-- bytes that were taken from a reader
 pub mod Taken
-pub mod Refused
-pub mod Replayed
+-- where the checking of a chart ends
 pub mod Checked
+-- where replay ends
+pub mod Replayed

@@ -1,45 +1,68 @@
 -- A script that is being played.
-use Rattle.std.proofs.Common.{◌≡◌, ℕ, List, ◌∷◌, ◌++◌, Option, sym, ap, subst, ◌∙◌, append_assoc}
+use Rattle.std.proofs.Common.{◌≡◌, ℕ, List, [], ◌∷◌, ◌++◌, Option, sym, ap, subst, ◌∙◌, append_assoc}
+use Rattle.std.proofs.lemmas.List.{append-nil}
 use Rattle.std.specs.Io.KnownBytes.{Appends}
 use Rattle.sfc_tokens.specs.Writing.{AppendsFront}
-use Rattle.sfc_tokens.proofs.Written.{Appends-more, front_first, front_second}
+use Rattle.sfc_tokens.proofs.Written.{UpTo, UpTo-more, front_first, front_second}
+use Rattle.sfc_chart.specs.Plants.{PlantData}
+use Rattle.sfc_events.specs.History.{History, Entry}
 use Rattle.sfc_core.specs.declared.resource.Resource.{Resource}
-use Rattle.sfc_core.specs.History.{History, Entry}
-use Rattle.sfc_core.specs.Agreement.{Agrees, plant_of}
+use Rattle.sfc_core.specs.Agreement.{Agrees}
 use Rattle.sfc_core.specs.Verdict.{after, after_all}
 use Rattle.sfc_monitor.specs.Output.{command_lines, commands_lines}
 
--- The commands before `rest` were played: the resource agrees with the history after them, and their lines were written.
-pub record IsUnderWay (old now : Option (List ℕ)) (resource : Resource) (h : History) (entries rest : List Entry) : Type 0 where
+-- The commands before `rest` were played: the resource agrees with the history after them. Of the text before and their
+-- lines the first bytes were written, and these wait.
+pub record IsUnderWay (plant : PlantData) (old now : Option (List ℕ)) (before waits : List ℕ) (resource : Resource) (h : History)
+    (entries rest : List Entry) : Type 0 where
   pub history : History
   pub agrees : Agrees resource history
-  pub after_same : after_all (plant_of resource) h entries ≡ after_all (plant_of resource) history rest
-  pub done : List ℕ
-  pub lines_same : commands_lines (plant_of resource) h entries ≡ done ++ commands_lines (plant_of resource) history rest
-  pub written : Appends old now done
+  pub after_same : after_all plant h entries ≡ after_all plant history rest
+  pub up : UpTo old now (before ++ commands_lines plant h entries) (waits ++ commands_lines plant history rest)
 
-module _ (old mid new : Option (List ℕ)) (resource resource' : Resource) (h : History) (entries rest : List Entry) (entry : Entry) (u : IsUnderWay old mid resource h entries (entry ∷ rest))
-    (same : plant_of resource' ≡ plant_of resource) (text : List ℕ) (lines : text ≡ command_lines (plant_of resource) u.history entry) where
-  rest_lines : List ℕ
-  rest_lines = commands_lines (plant_of resource) (after (plant_of resource) u.history entry) rest
+module _ (plant : PlantData) (old mid : Option (List ℕ)) (before waits : List ℕ) (resource : Resource) (h : History) (entries : List Entry) where
+  -- one more command was played, and its lines wait
+  pub ran : (entry : Entry) (rest : List Entry) (u : IsUnderWay plant old mid before waits resource h entries (entry ∷ rest)) (next : Resource)
+      (text : List ℕ) → Agrees next (after plant u.history entry) → text ≡ waits ++ command_lines plant u.history entry
+      → IsUnderWay plant old mid before text next h entries rest
+  ran entry rest u next text agrees lines =
+      let others = commands_lines plant (after plant u.history entry) rest in
+      record {
+        history = after plant u.history entry;
+        agrees = agrees;
+        after_same = u.after_same;
+        up = record {
+          done = u.up.done;
+          parts = u.up.parts ∙ ap (λ (x : List ℕ). u.up.done ++ x)
+              (sym (append_assoc waits (command_lines plant u.history entry) others) ∙ ap (λ (x : List ℕ). x ++ others) (sym lines));
+          appends = u.up.appends;
+        };
+      }
 
-  all_lines : commands_lines (plant_of resource) h entries ≡ u.done ++ (text ++ rest_lines)
-  unfolding rest_lines
-  all_lines = u.lines_same ∙ ap (λ t. u.done ++ (t ++ rest_lines)) (sym lines)
+  -- some of what waits was written
+  pub passed : (rest : List Entry) (new : Option (List ℕ)) (text done : List ℕ) → IsUnderWay plant old mid before waits resource h entries rest
+      → waits ≡ done ++ text → Appends mid new done → IsUnderWay plant old new before text resource h entries rest
+  passed rest new text done u parts appends =
+      let others = commands_lines plant u.history rest in
+      record {
+        history = u.history;
+        agrees = u.agrees;
+        after_same = u.after_same;
+        up = UpTo-more old mid new (before ++ commands_lines plant h entries) (waits ++ others) done (text ++ others) u.up
+            (ap (λ (x : List ℕ). x ++ others) parts ∙ append_assoc done text others) appends;
+      }
 
-  -- one more command was played, and its lines were written
-  pub stepped : Agrees resource' (after (plant_of resource) u.history entry) → Appends mid new text → IsUnderWay old new resource' h entries rest
-  unfolding rest_lines
-  stepped agrees appended = record {
-    history = after (plant_of resource) u.history entry;
-    agrees = agrees;
-    after_same = subst (λ p. after_all p h entries ≡ after_all p (after (plant_of resource) u.history entry) rest) (sym same) u.after_same;
-    done = u.done ++ text;
-    lines_same = subst (λ p. commands_lines p h entries ≡ (u.done ++ text) ++ commands_lines p (after (plant_of resource) u.history entry) rest) (sym same) (all_lines ∙ sym (append_assoc u.done text rest_lines));
-    written = Appends-more old mid new u.done text u.written appended;
-  }
+  -- a fault came behind a front of what waits
+  pub stopped : (rest : List Entry) (new : Option (List ℕ)) → IsUnderWay plant old mid before waits resource h entries rest
+      → AppendsFront mid new waits → AppendsFront old new (before ++ commands_lines plant h entries)
+  stopped rest new u front =
+      subst (λ (t : List ℕ). AppendsFront old new t) (sym u.up.parts)
+      (front_second old mid new u.up.done (waits ++ commands_lines plant u.history rest) u.up.appends
+      (front_first mid new waits (commands_lines plant u.history rest) front))
 
-  -- a front of the command's lines was written
-  pub stopped : AppendsFront mid new text → AppendsFront old new (commands_lines (plant_of resource') h entries)
-  stopped front = subst (λ p. AppendsFront old new (commands_lines p h entries)) (sym same)
-      (subst (λ t. AppendsFront old new t) (sym all_lines) (front_second old mid new u.done (text ++ rest_lines) u.written (front_first mid new text rest_lines front)))
+  -- all were played
+  pub all_written : (u : IsUnderWay plant old mid before waits resource h entries []) → before ++ commands_lines plant h entries ≡ u.up.done ++ waits
+  all_written u = u.up.parts ∙ ap (λ (x : List ℕ). u.up.done ++ x) (append-nil waits)
+
+  pub all_played : (u : IsUnderWay plant old mid before waits resource h entries []) → Agrees resource (after_all plant h entries)
+  all_played u = subst (λ (x : History). Agrees resource x) (sym u.after_same) u.agrees

@@ -3,19 +3,20 @@ use Rattle.std.proofs.Common.{◌≡◌, ℕ, List, [], Option, Some, None, Resu
 use Rattle.std.specs.Result.{IfErr}
 use Rattle.std.specs.Io.KnownBytes.{Appends, Keeps}
 use Rattle.sfc_tokens.specs.Writing.{Writes, AppendsFront}
-use Rattle.sfc_single.specs.Chart.{PlantData}
-use Rattle.sfc_core.specs.History.{Entry}
-use Rattle.sfc_monitor.specs.declared.script.ScriptError.{ScriptError}
-use Rattle.sfc_monitor.specs.declared.script.ScriptError.TheVariants as script_error
+use Rattle.sfc_chart.specs.Plants.{PlantData}
+use Rattle.sfc_events.specs.History.{Entry}
+use Rattle.sfc_script.specs.declared.script.ScriptError.{ScriptError}
+use Rattle.sfc_script.specs.declared.script.ScriptError.TheVariants as script_error
 use Rattle.sfc_monitor.specs.declared.monitor_error.MonitorError.{MonitorError}
-use Rattle.sfc_monitor.specs.declared.monitor_error.MonitorError.TheVariants.{Chart, Unsupported, Script, Read, Write, Memory}
+use Rattle.sfc_monitor.specs.declared.monitor_error.MonitorError.TheVariants.{Chart, Script, Read, Write, Memory}
 use Rattle.sfc_monitor.specs.MonitorErrors.{of_script}
 use Rattle.sfc_monitor.specs.Working.Faults.{IsInputFault, IsOutputFault}
-use Rattle.sfc_monitor.specs.Script.{commands_of_script}
-use Rattle.sfc_monitor.specs.Working.ScriptReading.{ReadsScript}
+use Rattle.sfc_script.specs.Scripts.{commands_of_script}
+use Rattle.sfc_script.specs.Answers.{ReadsScript}
 use Rattle.sfc_monitor.specs.Output.{lines_of_play}
 use Rattle.sfc_monitor.specs.Reading.{Device, IsUntouched, TakesAtMost, LosesAtMost}
-use Rattle.sfc_monitor.specs.Replay.{IsPlantOf, IsOutput, LoadsText, most, Outputs, Replays}
+use Rattle.sfc_monitor.specs.Acceptance.{Accepts, IsAccepted, most}
+use Rattle.sfc_monitor.specs.Replay.{IsOutput, Outputs, Replays}
 
 pub Keeps-same : (known : Option (List ℕ)) → Keeps known known
 Keeps-same None = tt
@@ -26,7 +27,6 @@ module _ (chart script w : Device) where
   pub chart_unread : (error : MonitorError) → IsInputFault error → LosesAtMost most chart → IsUntouched script → IsUntouched w
       → Replays chart script w {X = Unit {0}} (Err error)
   chart_unread (Chart e) h lost kept unwritten = absurd h
-  chart_unread Unsupported h lost kept unwritten = absurd h
   chart_unread (Script n) h lost kept unwritten = absurd h
   chart_unread Read h lost kept unwritten = (inl (lost, kept), unwritten)
   chart_unread Write h lost kept unwritten = absurd h
@@ -34,9 +34,8 @@ module _ (chart script w : Device) where
 
   -- the chart was taken, and isn't a plant
   pub chart_stopped : (text : List ℕ) (error : MonitorError) → TakesAtMost most chart text → LosesAtMost most chart → IsUntouched script
-      → IsUntouched w → LoadsText text (Err error) → Replays chart script w {X = Unit {0}} (Err error)
+      → IsUntouched w → Accepts text (Err error) → Replays chart script w {X = Unit {0}} (Err error)
   chart_stopped text (Chart e) taken lost kept unwritten h = ((text, taken, h), kept, unwritten)
-  chart_stopped text Unsupported taken lost kept unwritten h = ((text, taken, h), kept, unwritten)
   chart_stopped text (Script n) taken lost kept unwritten h = absurd h
   chart_stopped text Read taken lost kept unwritten h = absurd h
   chart_stopped text Write taken lost kept unwritten h = absurd h
@@ -46,12 +45,11 @@ module _ (chart script w : Device) where
   pub memory_stopped : LosesAtMost most chart → IsUntouched script → IsUntouched w → Replays chart script w {X = Unit {0}} (Err Memory)
   memory_stopped lost kept unwritten = inl (inl (lost, kept), unwritten)
 
-  module _ (text : List ℕ) (plant : PlantData) (taken : TakesAtMost most chart text) (loaded : IsPlantOf text plant) where
+  module _ (text : List ℕ) (plant : PlantData) (taken : TakesAtMost most chart text) (loaded : IsAccepted text plant) where
     -- the script wasn't taken whole
     pub script_unread : (error : MonitorError) → IsInputFault error → LosesAtMost most script → IsUntouched w
         → Replays chart script w {X = Unit {0}} (Err error)
     script_unread (Chart e) h lost unwritten = absurd h
-    script_unread Unsupported h lost unwritten = absurd h
     script_unread (Script n) h lost unwritten = absurd h
     script_unread Read h lost unwritten = (inr ((text, taken, (plant, loaded)), lost), unwritten)
     script_unread Write h lost unwritten = absurd h
@@ -78,7 +76,6 @@ module _ (chart script w : Device) where
             → Writes w.0 w.1 result (lines_of_play plant [] entries) → Replays chart script w result
         written (Ok x) faults outputs writes = outputs (Appends w.0 w.1) writes
         written (Err (Chart e)) faults outputs writes = absurd faults
-        written (Err Unsupported) faults outputs writes = absurd faults
         written (Err (Script n)) faults outputs writes = absurd faults
         written (Err Read) faults outputs writes = absurd faults
         written (Err Write) faults outputs writes = outputs (AppendsFront w.0 w.1) writes

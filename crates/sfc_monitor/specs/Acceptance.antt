@@ -1,22 +1,28 @@
 -- What check_chart and list_chart answer and write: stated functions of the bytes that were read.
-use Rattle.std.specs.Prelude.{◌≡◌, ℕ, List, codes, None, Result, Ok, Err, ⊤}
+use Rattle.std.specs.Prelude.{◌≡◌, ℕ, List, codes, None, Some, Result, Ok, Err, ⊤}
 use Rattle.std.specs.Io.KnownBytes.{Appends}
 use Rattle.sfc_text.specs.Reads.{TextReads}
 use Rattle.sfc_text.specs.Trees.{SourceTree}
 use Rattle.sfc_tokens.specs.Writing.{AppendsFront}
 use Rattle.sfc_chart.specs.Built.{source_check, plant_of}
 use Rattle.sfc_chart.specs.Plants.{PlantData}
+use Rattle.sfc_monitor.specs.declared.monitor_error.ChartError.{ChartError}
+use Rattle.sfc_monitor.specs.declared.monitor_error.ChartError.TheVariants as chart
 use Rattle.sfc_monitor.specs.declared.monitor_error.MonitorError.{MonitorError}
 use Rattle.sfc_monitor.specs.declared.monitor_error.MonitorError.TheVariants.{Chart, Read, Write, Memory}
-use Rattle.sfc_monitor.specs.Reading.{Device, IsUntouched, LosesAtMost}
-use Rattle.sfc_monitor.specs.Replay.{IsRefusedFor, OfChart, most}
+use Rattle.sfc_monitor.specs.Reading.{Device, IsUntouched, TakesAtMost, LosesAtMost}
 
--- The text is read as a tree in which no check fails, and the plant is its, whether it is run so far or not.
+-- The text is read as a tree in which no check fails, and the plant is its.
 pub record IsAccepted (text : List ℕ) (plant : PlantData) : Type 0 where
   pub tree : SourceTree
   pub read : TextReads text (Ok tree)
   pub passes : source_check tree ≡ None
   pub built : plant_of tree ≡ plant
+
+-- why the text is no plant: what the reader finds, or the first check that fails
+abbrev pub IsRefusedFor : List ℕ → ChartError → Type 0
+IsRefusedFor text (chart.Read error) = TextReads text (Err error.kind)
+IsRefusedFor text (chart.Load error) = (tree : SourceTree) × TextReads text (Ok tree) × (source_check tree ≡ Some error)
 
 -- what loading a text answers; want of memory says nothing
 abbrev pub Accepts : List ℕ → Result PlantData MonitorError → Type 0
@@ -24,6 +30,14 @@ Accepts text (Ok plant) = IsAccepted text plant
 Accepts text (Err (Chart error)) = IsRefusedFor text error
 Accepts text (Err Memory) = ⊤
 Accepts text (Err _) = ⊥
+
+-- the most bytes that are taken from a reader
+abbrev pub most : ℕ
+most = 1048577
+
+-- the bytes that were taken of the chart, and a fact of them
+abbrev pub OfChart : Device → (List ℕ → Type 0) → Type 0
+OfChart chart P = (text : List ℕ) × TakesAtMost most chart text × P text
 
 -- the chart is a plant, and of what is to be written of it the writer was given so much
 abbrev pub Tells : (PlantData → List ℕ) → Device → (List ℕ → Type 0) → Type 0

@@ -1,17 +1,13 @@
 -- The rules, in reading order.
 
--- the commands that a script has, or its first faulty line
-pub mod Script
--- lists in a line of text
-pub mod Lists
 -- the lines of commands, of their answers and of the image
 pub mod Output
 -- what is taken from a reader
 pub mod Reading
--- what replay answers and writes
-pub mod Replay
 -- what check_chart and list_chart answer and write
 pub mod Acceptance
+-- what replay answers and writes
+pub mod Replay
 -- what each fault becomes; exit statuses and texts
 pub mod MonitorErrors
 -- What private clauses cite.

@@ -8,12 +8,12 @@ use Rattle.sfc_tokens.specs.ReadErrors as reading
 use Rattle.sfc_variables.specs.LoadErrors as loading
 use Rattle.sfc_variables.specs.declared.load_error.LoadError.{LoadError}
 use Rattle.sfc_variables.specs.declared.load_error.LoadError.TheVariants as load
-use Rattle.sfc_monitor.specs.declared.script.ScriptError.{ScriptError}
-use Rattle.sfc_monitor.specs.declared.script.ScriptError.TheVariants as script
+use Rattle.sfc_script.specs.declared.script.ScriptError.{ScriptError}
+use Rattle.sfc_script.specs.declared.script.ScriptError.TheVariants as script
 use Rattle.sfc_monitor.specs.declared.monitor_error.ChartError.{ChartError}
 use Rattle.sfc_monitor.specs.declared.monitor_error.ChartError.TheVariants as chart
 use Rattle.sfc_monitor.specs.declared.monitor_error.MonitorError.{MonitorError}
-use Rattle.sfc_monitor.specs.declared.monitor_error.MonitorError.TheVariants.{Chart, Unsupported, Script, Read, Write, Memory}
+use Rattle.sfc_monitor.specs.declared.monitor_error.MonitorError.TheVariants.{Chart, Script, Read, Write, Memory}
 
 abbrev pub of_script : ScriptError → MonitorError
 of_script (script.Faulty line) = Script line
@@ -33,7 +33,6 @@ of_load error = Chart (chart.Load error)
 -- 1 where the input is refused, 3 where a device failed, 4 without memory
 abbrev pub status_of : MonitorError → ℕ
 status_of (Chart error) = 1
-status_of Unsupported = 1
 status_of (Script line) = 1
 status_of Read = 3
 status_of Write = 3
@@ -46,7 +45,6 @@ chart_text (chart.Load error) = loading.error_text error
 
 abbrev pub error_text : MonitorError → List ℕ
 error_text (Chart error) = chart_text error
-error_text Unsupported = codes "not supported"
 error_text (Script line) = codes "script line " ++ decimal line
 error_text Read = codes "read fault"
 error_text Write = codes "write fault"

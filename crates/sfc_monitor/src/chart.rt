@@ -1,26 +1,18 @@
 //! Texts to plants.
 
-ghost use Rattle.std.specs.Prelude.{IfOk};
-ghost use Rattle.sfc_single.specs.Chart.{IsSingle};
-ghost use Rattle.sfc_monitor.specs.Replay.{LoadsText};
+ghost use Rattle.sfc_monitor.specs.Acceptance.{Accepts};
 
 use crate::monitor_error::MonitorError;
 use sfc_chart::load::load;
-use sfc_single::narrow::narrow;
-use sfc_single::plant::Plant;
+use sfc_chart::plant::Plant;
 use sfc_text::read::read;
 use std::alloc::Global;
 
-/// The plant that the bytes of a chart are. `Unsupported` is answered where they are loaded as a plant that has more
-/// than is run so far.
+/// The plant that the bytes of a chart are. `Chart` is answered where they are refused, `Memory` where memory was.
 pub fn plant_of_text(alloc: Global, text: &[u8]) -> Result<Plant, MonitorError>
-    ensures single { IfOk result IsSingle }
-    ensures loads { LoadsText text.now result }
+    ensures { Accepts text.now result }
 {
     let tree = read(alloc, text)?;
     let plant = load(alloc, &tree)?;
-    match narrow(alloc, plant)? {
-        Some(plant) => Ok(plant),
-        None => Err(MonitorError::Unsupported),
-    }
+    Ok(plant)
 }

@@ -1,37 +1,27 @@
 //! Charts that are checked and listed, from bytes to bytes.
 
 ghost use Rattle.sfc_list.specs.Listing.{listing};
-ghost use Rattle.sfc_monitor.specs.Acceptance.{Accepts, Answers, acceptance};
+ghost use Rattle.sfc_monitor.specs.Acceptance.{Answers, acceptance};
 ghost use Rattle.sfc_monitor.specs.Working.Telling.{Checks, Told};
 
+use crate::chart::plant_of_text;
 use crate::input::read_to_end;
 use crate::monitor_error::MonitorError;
-use sfc_chart::load::load;
 use sfc_chart::plant::Plant;
 use sfc_list::list::list_to;
-use sfc_text::read::read;
 use sfc_tokens::write_fault::put_all;
 use std::alloc::Global;
 use std::io::{Read, Write};
-
-// The plant that the bytes of a chart are, whether it is run so far or not.
-fn accept_text(alloc: Global, text: &[u8]) -> Result<Plant, MonitorError>
-    ensures { Accepts text.now result }
-{
-    let tree = read(alloc, text)?;
-    let plant = load(alloc, &tree)?;
-    Ok(plant)
-}
 
 // That the bytes of a chart are read and loaded.
 fn check_text(alloc: Global, text: &[u8]) -> Result<(), MonitorError>
     ensures { Checks text.now result }
 {
-    let _plant = accept_text(alloc, text)?;
+    let _plant = plant_of_text(alloc, text)?;
     Ok(())
 }
 
-/// Writes `ok` and a line end where the chart is read and loaded, whether it is run so far or not.
+/// Writes `ok` and a line end where the chart is read and loaded.
 ///
 /// At most 1,048,577 bytes are taken from the reader. `Chart` is answered where the chart is refused, `Read` where the
 /// reader failed, `Memory` where memory was refused: then nothing was written. `Write` is answered where the writer
@@ -57,7 +47,7 @@ fn put_listing<W: Write>(plant: &Plant, w: &mut W) -> Result<(), MonitorError>
     Ok(())
 }
 
-/// Writes the text of the plant where the chart is read and loaded, whether it is run so far or not: all that it says,
+/// Writes the text of the plant where the chart is read and loaded: all that it says,
 /// in blocks (Annex B; our choice of layout).
 ///
 /// At most 1,048,577 bytes are taken from the reader. `Chart` is answered where the chart is refused, `Read` where the
@@ -71,6 +61,6 @@ pub fn list_chart<C: Read, W: Write>(
     ensures { Answers listing (C.remaining chart.old, C.remaining chart.new) (W.contents w.old, W.contents w.new) result }
 {
     let text = read_to_end(alloc, chart)?;
-    let plant = accept_text(alloc, &text)?;
+    let plant = plant_of_text(alloc, &text)?;
     put_listing(&plant, w)
 }

@@ -2,16 +2,10 @@
 #![tactic(auto)]
 
 mod answers;
-mod append;
 mod chart;
 pub mod check;
 mod input;
 pub mod laws;
-mod line;
-mod lines;
-mod lists;
 pub mod monitor_error;
 mod play;
 pub mod replay;
-mod script;
-mod split;

@@ -4,7 +4,7 @@ ghost use Rattle.std.specs.Prelude.{◌≡◌};
 ghost use Rattle.sfc_monitor.specs.declared.monitor_error.MonitorError.TheVariants.{Memory, Write as WriteVariant};
 ghost use Rattle.sfc_monitor.specs.MonitorErrors.{of_script, of_read, of_load, status_of};
 
-use crate::script::ScriptError;
+use sfc_script::script::ScriptError;
 use sfc_tokens::read_error::{ReadError, ReadErrorKind};
 use sfc_tokens::write_fault::WriteFault;
 use sfc_variables::load_error::LoadError;
@@ -40,8 +40,6 @@ impl Error for ChartError {}
 pub enum MonitorError {
     /// The chart is refused. Nothing was written.
     Chart(ChartError),
-    /// The chart has no fault, and more than is run so far. Nothing was written.
-    Unsupported,
     /// The script is refused at this line, counted from 1, or for its length at 0. Nothing was written.
     Script(usize),
     /// A reader failed. Nothing was written.
@@ -62,7 +60,6 @@ impl fmt::Display for MonitorError {
     fn fmt<W: fmt::Write>(&self, f: &mut fmt::Formatter<W>) -> fmt::Result {
         match self {
             MonitorError::Chart(error) => write!(f, "{error}"),
-            MonitorError::Unsupported => f.write_str("not supported"),
             MonitorError::Script(line) => write!(f, "script line {line}"),
             MonitorError::Read => f.write_str("read fault"),
             MonitorError::Write => f.write_str("write fault"),
@@ -74,13 +71,12 @@ impl fmt::Display for MonitorError {
 impl Error for MonitorError {}
 
 impl MonitorError {
-    /// The exit status of a program that ends with it: 1 where the chart or the script is refused or the chart is not
-    /// supported, 3 where a reader or the writer failed, 4 where memory was refused.
+    /// The exit status of a program that ends with it: 1 where the chart or the script is refused, 3 where a reader or the writer failed, 4 where memory was refused.
     pub fn status(self) -> u8
         ensures { result ≡ status_of self }
     {
         match self {
-            MonitorError::Chart(_) | MonitorError::Unsupported | MonitorError::Script(_) => 1,
+            MonitorError::Chart(_) | MonitorError::Script(_) => 1,
             MonitorError::Read | MonitorError::Write => 3,
             MonitorError::Memory => 4,
         }

@@ -6,18 +6,18 @@ use crate::chart::plant_of_text;
 use crate::input::read_to_end;
 use crate::monitor_error::MonitorError;
 use crate::play::play;
-use crate::script::read_script;
-use sfc_core::Resource;
+use sfc_core::resource::Resource;
+use sfc_script::script::read_script;
 use std::alloc::Global;
 use std::io::{Read, Write};
 
 /// Plays a script on a chart, and writes what each command answers and the variables at the end.
 ///
 /// The chart is read and loaded first, then the whole script is read, and only then is anything written. At most
-/// 1,048,577 bytes are taken from each reader, in their order, and none of the script where the chart is refused or not
-/// supported. `Chart` is answered where the chart is refused, `Unsupported` where it has more than is run so far,
-/// `Script` where the script is refused, `Read` where a reader failed: then nothing was written. `Write` is answered
-/// where the writer failed or took no byte, `Memory` where memory was refused: then a front of the output was written.
+/// 1,048,577 bytes are taken from each reader, in their order, and none of the script where the chart is refused.
+/// `Chart` is answered where the chart is refused, `Script` where the script is refused, `Read` where a reader failed:
+/// then nothing was written. `Write` is answered where the writer failed or took no byte, `Memory` where memory was
+/// refused: then a front of the output was written.
 #[tactic(none)]
 pub fn replay<C: Read, S: Read, W: Write>(
     alloc: Global,

@@ -1,15 +1,19 @@
--- Playing a script on a resource.
-use Rattle.std.specs.Prelude.{ℕ, List, Option, Result, Ok, Err}
+-- Playing a script on a resource: lines that wait in a buffer, and are written once there are many.
+use Rattle.std.specs.Prelude.{◌≡◌, ℕ, List, ◌++◌, Option, Result, Ok, Err}
 use Rattle.std.specs.Io.KnownBytes.{Appends}
 use Rattle.sfc_tokens.specs.Writing.{AppendsFront}
+use Rattle.sfc_events.specs.History.{History, Entry}
 use Rattle.sfc_core.specs.declared.resource.Resource.{Resource}
-use Rattle.sfc_core.specs.History.{History, Entry}
 use Rattle.sfc_core.specs.Agreement.{Agrees, plant_of}
 use Rattle.sfc_core.specs.Verdict.{after_all}
 use Rattle.sfc_monitor.specs.Output.{commands_lines}
 
--- all commands were played and their lines written; or a front of the lines before a fault
-abbrev pub IsPlayed : {X E : Type 0} → Option (List ℕ) → Option (List ℕ) → Resource → History → List Entry → Result X E → Type 0
-IsPlayed old new resource h entries (Ok x) =
-    Appends old new (commands_lines (plant_of resource) h entries) × Agrees resource (after_all (plant_of resource) h entries)
-IsPlayed old new resource h entries (Err e) = AppendsFront old new (commands_lines (plant_of resource) h entries)
+-- of the text the first bytes were written, and these wait; or a fault came behind a front of it
+abbrev pub PassesOn : {X E : Type 0} → Option (List ℕ) → Option (List ℕ) → List ℕ → List ℕ → Result X E → Type 0
+PassesOn old new text waits (Ok x) = (done : List ℕ) × (text ≡ done ++ waits) × Appends old new done
+PassesOn old new text waits (Err e) = AppendsFront old new text
+
+-- where it succeeded all commands were played
+abbrev pub HasPlayed : {X E : Type 0} → Resource → History → List Entry → Result X E → Type 0
+HasPlayed resource h entries (Ok x) = Agrees resource (after_all (plant_of resource) h entries)
+HasPlayed resource h entries (Err e) = Unit {0}

@@ -1,8 +1,7 @@
 use Rattle.std.proofs.Common.{Err, subst}
 use Rattle.std.proofs.lemmas.Result.{err_from_is_err_and}
 use Rattle.sfc_monitor.specs.Reading.{Device}
-use Rattle.sfc_monitor.specs.Replay.{most}
-use Rattle.sfc_monitor.specs.Acceptance.{acceptance}
+use Rattle.sfc_monitor.specs.Acceptance.{acceptance, most}
 use Rattle.sfc_monitor.specs.Working.Telling.{Checks}
 use Rattle.sfc_monitor.proofs.Taken.{lost}
 use Rattle.sfc_monitor.proofs.Replayed.{Keeps-same}

@@ -1,14 +1,10 @@
-use Rattle.std.proofs.Common.{◌≡◌, ℕ, List, [], Option, Some, Result, Ok, sym, ap, ◌∙◌}
+use Rattle.std.proofs.Common.{◌≡◌, ℕ, List, [], Result, Ok, sym, ap, ◌∙◌}
 use Rattle.sfc_chart.specs.Built.{plant_of}
-use Rattle.sfc_single.specs.Chart.{PlantData}
-use Rattle.sfc_single.specs.Narrowing.{narrowed}
-use Rattle.sfc_core.specs.History.{Entry}
-use Rattle.sfc_monitor.specs.Script.{commands_of_script}
+use Rattle.sfc_chart.specs.Plants.{PlantData}
+use Rattle.sfc_events.specs.History.{Entry}
+use Rattle.sfc_script.specs.Scripts.{commands_of_script}
 use Rattle.sfc_monitor.specs.Output.{lines_of_play}
 use Rattle.sfc_monitor.proofs.laws.one_output.Goals as goal
-
-same_plant : (p q : PlantData) (x y : Option PlantData) → x ≡ Some p → y ≡ Some q → x ≡ y → p ≡ q
-same_plant p q x y e f g = cc
 
 same_commands : (a b : List Entry) (x y : Result (List Entry) ℕ) → x ≡ Ok a → y ≡ Ok b → x ≡ y → a ≡ b
 same_commands a b x y e f g = cc
@@ -18,6 +14,6 @@ returns c = λ text script output other first second.
     let one = first.loaded in
     let two = second.loaded in
     let tree : one.tree ≡ two.tree = c.one_reading.ensures text (Ok one.tree) (Ok two.tree) one.read two.read in
-    let plant : first.plant ≡ second.plant = same_plant first.plant second.plant (narrowed (plant_of one.tree)) (narrowed (plant_of two.tree)) one.supported two.supported (ap (λ t. narrowed (plant_of t)) tree) in
+    let plant : first.plant ≡ second.plant = sym one.built ∙ ap (λ t. plant_of t) tree ∙ two.built in
     let commands : first.commands ≡ second.commands = same_commands first.commands second.commands (commands_of_script first.plant script) (commands_of_script second.plant script) first.parsed second.parsed (ap (λ p. commands_of_script p script) plant) in
     first.lines ∙ (λ i. lines_of_play (plant i) [] (commands i)) ∙ sym second.lines

@@ -5,7 +5,7 @@ use Rattle.sfc_core.specs.Agreement.{plant_of}
 use Rattle.sfc_monitor.specs.Script.{commands_of_script}
 use Rattle.sfc_monitor.specs.Output.{lines_of_play}
 use Rattle.sfc_monitor.specs.Reading.{Device}
-use Rattle.sfc_monitor.specs.Replay.{IsPlantOf, LoadsText, most}
+use Rattle.sfc_monitor.specs.Replay.{IsAccepted, Accepts, most}
 use Rattle.sfc_monitor.proofs.Taken.{lost}
 use Rattle.sfc_monitor.proofs.Replayed.{Keeps-same, chart_unread, chart_stopped, memory_stopped, script_unread, script_stopped, played}
 use Rattle.sfc_monitor.proofs.replay.replay.Goals as goal
@@ -26,10 +26,7 @@ returns-in_err-plant g c =
     let w : Device = (g.W.Write.contents c.args.w.now, g.W.Write.contents c.args.w.now) in
     rw (p.1, p.2) (chart_stopped chart script w c.in_ok-text.text.items c.in_err-plant.field-0.0 c.in_ok-text.ensures.taken
     (lost most chart.0 chart.1 c.in_ok-text.text.items c.in_ok-text.ensures.taken) (Keeps-same script.0) (Keeps-same w.0)
-    (subst (λ text. LoadsText text (Err c.in_err-plant.field-0.0)) c.deref.ensures.value c.in_err-plant.ensures.loads))
-
-pub open-requires : goal.open-requires
-open-requires g c = c.in_ok-plant.ensures.single
+    (subst (λ text. Accepts text (Err c.in_err-plant.field-0.0)) c.deref.ensures.value c.in_err-plant.ensures))
 
 pub returns-in_err-resource : goal.returns-in_err-resource
 returns-in_err-resource g c =
@@ -45,7 +42,7 @@ returns-in_err-commands g c =
     let chart : Device = (g.C.Read.remaining c.args.chart.now, g.C.Read.remaining c.read_to_end.new.reader) in
     let script : Device = (g.S.Read.remaining c.args.script.now, g.S.Read.remaining c.read_to_end-2.new.reader) in
     let w : Device = (g.W.Write.contents c.args.w.now, g.W.Write.contents c.args.w.now) in
-    let loaded : IsPlantOf c.in_ok-text.text.items c.in_ok-plant.plant = rw c.deref.ensures.value at c.in_ok-plant.ensures.loads in
+    let loaded : IsAccepted c.in_ok-text.text.items c.in_ok-plant.plant = rw c.deref.ensures.value at c.in_ok-plant.ensures in
     rw (p.1, p.2) (script_unread chart script w c.in_ok-text.text.items c.in_ok-plant.plant c.in_ok-text.ensures.taken loaded
     c.in_err-commands.field-0.0 c.in_err-commands.ensures.faults c.in_err-commands.ensures.lost (Keeps-same w.0))
 
@@ -55,7 +52,7 @@ returns-in_err-entries g c =
     let chart : Device = (g.C.Read.remaining c.args.chart.now, g.C.Read.remaining c.read_to_end.new.reader) in
     let script : Device = (g.S.Read.remaining c.args.script.now, g.S.Read.remaining c.read_to_end-2.new.reader) in
     let w : Device = (g.W.Write.contents c.args.w.now, g.W.Write.contents c.args.w.now) in
-    let loaded : IsPlantOf c.in_ok-text.text.items c.in_ok-plant.plant = rw c.deref.ensures.value at c.in_ok-plant.ensures.loads in
+    let loaded : IsAccepted c.in_ok-text.text.items c.in_ok-plant.plant = rw c.deref.ensures.value at c.in_ok-plant.ensures in
     rw (p.1, p.2) (script_stopped chart script w c.in_ok-text.text.items c.in_ok-plant.plant c.in_ok-text.ensures.taken loaded
     c.in_ok-commands.commands.items c.in_err-entries.field-0.0 c.in_ok-commands.ensures.taken
     (lost most script.0 script.1 c.in_ok-commands.commands.items c.in_ok-commands.ensures.taken) (Keeps-same w.0)
@@ -66,7 +63,7 @@ returns g c =
     let chart : Device = (g.C.Read.remaining c.args.chart.now, g.C.Read.remaining c.read_to_end.new.reader) in
     let script : Device = (g.S.Read.remaining c.args.script.now, g.S.Read.remaining c.read_to_end-2.new.reader) in
     let w : Device = (g.W.Write.contents c.args.w.now, g.W.Write.contents c.play.new.w) in
-    let loaded : IsPlantOf c.in_ok-text.text.items c.in_ok-plant.plant = rw c.deref.ensures.value at c.in_ok-plant.ensures.loads in
+    let loaded : IsAccepted c.in_ok-text.text.items c.in_ok-plant.plant = rw c.deref.ensures.value at c.in_ok-plant.ensures in
     let said : commands_of_script c.in_ok-plant.plant c.in_ok-commands.commands.items ≡ Ok c.in_ok-entries.entries.items =
     rw (c.plant.ensures, c.in_ok-resource.ensures.plant, c.deref-2.ensures.value) at c.in_ok-entries.ensures in
     played chart script w c.in_ok-text.text.items c.in_ok-plant.plant c.in_ok-text.ensures.taken loaded

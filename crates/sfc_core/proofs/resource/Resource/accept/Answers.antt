@@ -1,33 +1,64 @@
-use Rattle.std.proofs.Common.{◌≡◌, ◌<◌, ◌∷◌, refl, sym, subst, length, arith, SFits, w64}
-use Rattle.std.proofs.lemmas.Int.{to_z-of_z}
-use Rattle.sfc_single.specs.Chart.{PlantData}
-use Rattle.sfc_core.specs.declared.event.Event.TheVariants.{Scan}
-use Rattle.sfc_core.specs.History.{overruns}
-use Rattle.sfc_core.specs.Verdict.{interval_of, bits_of}
+use Rattle.std.proofs.Common.{◌≡◌, ◌∙◌, ◌∷◌, ◌≤ℤ◌, arith, pos, negsuc, w64, SFits, to_z-of_z}
+use Rattle.std.proofs.Math.Logic.{∥∥₁_map, ∥∥₁_elim}
+use Rattle.std.proofs.lemmas.Int.{ints}
+use Rattle.std.specs.Coded.{×_prop, le_prop}
 use Rattle.sfc_core.specs.Agreement.{Agrees, plant_of}
-use Rattle.sfc_core.proofs.Events.{Only, one_bit}
+use Rattle.sfc_core.specs.Table.{table_of}
+use Rattle.sfc_core.proofs.Accepted.{kept_after, answered}
 use Rattle.sfc_core.proofs.resource.Resource.accept.Goals as goal
 
-pub returns-in-Scan-clause-value : goal.returns-in-Scan-clause-value
+pub invariant_of-self : goal.invariant_of-self
 unfolding Agrees plant_of
-returns-in-Scan-clause-value c h a =
+invariant_of-self c =
     let s = c.args.self.now in
-    let ft : SFits w64 c.args.t = c.ranges.t in
-    let task = c.in-Scan.field-0 in
-    let known : task.0 < length s.plant.tasks = rw c.in-Scan.is at c.requires.known in
-    let k : Agrees c.scan.new.self ((Scan task, c.args.t) ∷ h) = simp to_z-of_z at (c.scan.ensures.kept h task known a) in
-    let late : c.scan.new.self.task.overruns ≡ overruns (interval_of s.plant task) task ((Scan task, c.args.t) ∷ h) =
-    (let P : PlantData → Type 0 = λ plant. c.scan.new.self.task.overruns ≡ overruns (interval_of plant task) task ((Scan task, c.args.t) ∷ h) in
-    subst P c.scan.ensures.plant (k.late task (rw c.scan.ensures.plant known))) in
-    let only : Only s.plant task = record { one = s.single.one_instance; main = s.main; first = (let one = s.single.one_task in omega arith) } in
-    let bits : bits_of task 1 s.plant.instances ≡ 1 = sym (one_bit s.plant task only) in
-    rw (c.in-Scan.is, late, bits) refl
+    let fits : SFits w64 c.args.t = c.ranges.t in
+    let after =
+    kept_after s.plant c.args.event c.args.t s.machine c.change-bits.new.machine c.args.due c.serve.new.self c.rise.new.self c.read-after.result
+    c.copy_from.new.self (simp (to_z-of_z, fits) at c.change-bits.ensures.kept) c.read-after.ensures.value c.serve.ensures.singles
+    (c.serve.ensures.kept s.plant.tasks) (simp (to_z-of_z, fits) at (c.rise.ensures.kept s.plant.tasks)) (c.copy_from.ensures.kept s.plant.tasks) in
+    record {
+      whole = c.change-bits.ensures.sizes;
+      places = c.copy_from.ensures.size ∙ c.rise.ensures.size ∙ c.serve.ensures.size ∙ c.requires.sizes.tasks;
+      last_low = omega (arith, ints);
+      last_high = omega (arith, ints);
+      told =
+          ∥∥₁_map s.told
+          (λ x. ((c.args.event, c.args.t) ∷ x.0, simp (to_z-of_z, fits) (after x.0 x.1.machines (c.requires.ready x.0 x.1))));
+    }
 
-pub returns-in-Scan-clause-kept : goal.returns-in-Scan-clause-kept
+pub returns-clause-value : goal.returns-clause-value
 unfolding Agrees plant_of
-returns-in-Scan-clause-kept c h a =
+returns-clause-value c h a =
     let s = c.args.self.now in
-    let ft : SFits w64 c.args.t = c.ranges.t in
-    let task = c.in-Scan.field-0 in
-    let known : task.0 < length s.plant.tasks = rw c.in-Scan.is at c.requires.known in
-    rw c.in-Scan.is (simp to_z-of_z at (c.scan.ensures.kept h task known a))
+    let fits : SFits w64 c.args.t = c.ranges.t in
+    let after =
+    kept_after s.plant c.args.event c.args.t s.machine c.change-bits.new.machine c.args.due c.serve.new.self c.rise.new.self c.read-after.result
+    c.copy_from.new.self (simp (to_z-of_z, fits) at c.change-bits.ensures.kept) c.read-after.ensures.value c.serve.ensures.singles
+    (c.serve.ensures.kept s.plant.tasks) (simp (to_z-of_z, fits) at (c.rise.ensures.kept s.plant.tasks)) (c.copy_from.ensures.kept s.plant.tasks) in
+    c.outcome.ensures s.plant.tasks _ (after h a.machines (c.requires.ready h a)).tasked
+    ∙ answered s.plant h c.args.event c.args.t c.change-bits.result
+    (simp (to_z-of_z, fits) at (c.change-bits.ensures.bits (table_of s.plant h) a.machines))
+
+pub returns-clause-kept : goal.returns-clause-kept
+unfolding Agrees plant_of
+returns-clause-kept c h a =
+    let s = c.args.self.now in
+    let fits : SFits w64 c.args.t = c.ranges.t in
+    let after =
+    kept_after s.plant c.args.event c.args.t s.machine c.change-bits.new.machine c.args.due c.serve.new.self c.rise.new.self c.read-after.result
+    c.copy_from.new.self (simp (to_z-of_z, fits) at c.change-bits.ensures.kept) c.read-after.ensures.value c.serve.ensures.singles
+    (c.serve.ensures.kept s.plant.tasks) (simp (to_z-of_z, fits) at (c.rise.ensures.kept s.plant.tasks)) (c.copy_from.ensures.kept s.plant.tasks) in
+    simp (to_z-of_z, fits) (after h a.machines (c.requires.ready h a))
+
+pub returns-clause-ticks : goal.returns-clause-ticks
+unfolding Agrees plant_of
+returns-clause-ticks c =
+    let s = c.args.self.now in
+    let sizes = c.requires.sizes.tasks in
+    let served = c.serve.ensures.size in
+    ∥∥₁_elim s.told (×_prop le_prop le_prop)
+    (λ x.
+    let changed = c.change-bits.ensures.ticks (table_of s.plant x.0) x.1.machines in (
+      omega (arith, changed.0, c.serve.ensures.ticks.0, c.rise.ensures.ticks.0),
+      omega (arith, changed.1, c.serve.ensures.ticks.1, c.rise.ensures.ticks.1, sizes, served),
+    ))

@@ -1,7 +1,7 @@
 use Rattle.std.proofs.Common.{◌≡◌, ◌+◌, ◌<◌, length, arith, rules, ap, ◌∙◌, sym, cond, SFits, w64, get_or, take, pos}
 use Rattle.std.proofs.lemmas.Int.{to_z-of_z}
-use Rattle.sfc_core.specs.declared.event.Event.TheVariants.{Scan}
-use Rattle.sfc_core.specs.History.{Entry}
+use Rattle.sfc_events.specs.declared.event.Event.TheVariants.{Scan}
+use Rattle.sfc_events.specs.History.{Entry}
 use Rattle.sfc_core.specs.Verdict.{accepted}
 use Rattle.sfc_core.specs.Agreement.{Agrees, plant_of}
 use Rattle.sfc_core.proofs.Runs.{after_all_more, accepted_more}

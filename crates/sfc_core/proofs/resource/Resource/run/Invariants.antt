@@ -1,5 +1,5 @@
 use Rattle.std.proofs.Common.{◌≡◌, ◌≤◌, take}
-use Rattle.sfc_core.specs.History.{History}
+use Rattle.sfc_events.specs.History.{History}
 use Rattle.sfc_core.specs.Verdict.{after_all, accepted}
 use Rattle.sfc_core.specs.Agreement.{Agrees, plant_of}
 use Rattle.sfc_core.proofs.resource.Resource.run.Given as goal

@@ -1,6 +1,0 @@
-use Rattle.std.proofs.Common.{[]}
-use Rattle.sfc_core.proofs.Accepted.{all_in_order, at_first}
-use Rattle.sfc_core.proofs.laws.accepted_events.Goals as goal
-
-pub returns : goal.returns
-returns c plant events = all_in_order plant events [] at_first

@@ -1,8 +1,0 @@
-use Rattle.std.proofs.Common.{◌≡◌, drop}
-use Rattle.sfc_core.specs.Keeping.Marking.{marked_by}
-use Rattle.sfc_core.proofs.marking.mark_following.Given as goal
-
-abbrev pub invariant-loop-i : goal.invariant-loop-i
-invariant-loop-i l =
-    marked_by (λ transition. transition.following) (drop l.i l.transitions) (drop l.i l.cleared) l.flags
-    ≡ marked_by (λ transition. transition.following) l.transitions l.cleared l.initial.flags

@@ -1,0 +1,14 @@
+-- The rules, in reading order.
+
+-- how the variables and the program instances stand, and what scans and resets make of that
+pub mod Table
+-- how the scans of a task's instances end
+pub mod Ends
+-- what the SINGLE of tasks reads
+pub mod Singles
+-- how much an event handles
+pub mod Work
+-- what a `Machine` agrees with; opaque to the crates above
+pub mod Agreement
+-- What private clauses cite.
+pub mod Private
