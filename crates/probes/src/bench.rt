@@ -1,85 +1,135 @@
 //! A resource on a bench: each call of the core behind one that needs no condition, and all that it shows.
 
+ghost use Rattle.std.specs.Prelude.{◌<◌, length};
+ghost use Rattle.sfc_instance.specs.Agreement.{IsFor};
+
 use crate::texts::plant_of;
 use sfc_chart::ids::{ProgId, TaskId, VarId};
-use sfc_chart::plant::Plant;
-use sfc_core::{Event, Outcome, ProgramView, Refusal, Resource};
+use sfc_core::resource::Resource;
+use sfc_events::event::{Event, Outcome};
+use sfc_events::refusal::Refusal;
+use sfc_expr::ticks::Ticks;
 use sfc_expr::value::Value;
-use sfc_single::narrow::narrow;
+use sfc_expr::variable::{StepId, Variable};
+use sfc_instance::program::Program;
+use sfc_tables::association::Target;
+use sfc_tables::ids::{ActionNumber, TransitionId};
+use sfc_tables::tables::Tables;
 use std::alloc::{AllocError, Global};
 use std::test::Fail;
 
-/// A resource of a chart that the core runs.
+/// A resource of a chart.
 #[derive(Drop)]
 pub struct Bench {
     resource: Resource,
 }
 
-// A resource of the plant, where the core runs all of it.
-fn resource_of(alloc: Global, plant: Plant) -> Result<Option<Resource>, AllocError> {
-    match narrow(alloc, plant)? {
-        Some(plant) => {
-            let resource = Resource::open(alloc, plant)?;
-            Ok(Some(resource))
-        }
-        None => Ok(None),
-    }
-}
-
 // The active steps, those that the latest scan activated, and the times of all.
-fn steps_text(alloc: Global, view: &ProgramView<'_>) -> Result<String, AllocError> {
+fn steps_text(alloc: Global, program: &Program) -> Result<String, AllocError> {
     let mut active = Vec::new(alloc);
     let mut activated = Vec::new(alloc);
     let mut elapsed = Vec::new(alloc);
-    for step in 0..view.steps() {
-        if view.active(step) {
-            active.push(step)?;
+    for number in 0..program.steps() {
+        let step = StepId(number as u16);
+        if (step.0 as usize) < program.steps() {
+            if program.active(step) {
+                active.push(number)?;
+            }
+            if program.activated(step) {
+                activated.push(number)?;
+            }
+            elapsed.push(program.elapsed(step))?;
         }
-        if view.activated(step) {
-            activated.push(step)?;
-        }
-        elapsed.push(view.elapsed(step))?;
     }
     format!(in alloc; "active {active:?} activated {activated:?} elapsed {elapsed:?}")
 }
 
+// Whether the latest scan cleared the transition.
+fn is_cleared(tables: &Tables, program: &Program, number: usize) -> bool
+    requires sizes { IsFor tables.now program.now }
+    requires number { number < length tables.now.sides }
+    requires limit { number < 2048 }
+{
+    program.cleared(TransitionId(number as u16))
+}
+
 // The transitions that the latest scan cleared.
-fn transitions_text(alloc: Global, view: &ProgramView<'_>) -> Result<String, AllocError> {
+fn transitions_text(alloc: Global, tables: &Tables, program: &Program) -> Result<String, AllocError>
+    requires { IsFor tables.now program.now }
+{
     let mut cleared = Vec::new(alloc);
-    for transition in 0..view.transitions() {
-        if view.cleared(transition) {
-            cleared.push(transition)?;
+    for number in 0..tables.transitions() {
+        if is_cleared(tables, program, number) {
+            cleared.push(number)?;
         }
     }
     format!(in alloc; "cleared {cleared:?}")
 }
 
+// The number of the variable of a Boolean action; none of the other actions.
+fn variable_of(target: Target) -> Option<usize> {
+    match target {
+        Target::Boolean(Variable::Global(id)) => Some(id.0),
+        _ => None,
+    }
+}
+
+// Of an action its variable, whether its Q is 1, and whether the latest scan executed it.
+fn action_at(tables: &Tables, program: &Program, number: usize) -> (Option<usize>, bool, bool)
+    requires sizes { IsFor tables.now program.now }
+    requires number { number < length tables.now.actions }
+{
+    let action = ActionNumber(number);
+    (
+        variable_of(tables.target(action)),
+        program.q(action),
+        program.executed(action),
+    )
+}
+
 // The variables of the actions whose Q is 1, and of those that the latest scan executed.
-fn actions_text(alloc: Global, view: &ProgramView<'_>) -> Result<String, AllocError> {
+fn actions_text(alloc: Global, tables: &Tables, program: &Program) -> Result<String, AllocError>
+    requires { IsFor tables.now program.now }
+{
     let mut q = Vec::new(alloc);
     let mut executed = Vec::new(alloc);
-    for (action, id) in view.actions().iter().enumerate() {
-        if view.q(action) {
-            q.push(id.0)?;
-        }
-        if view.executed(action) {
-            executed.push(id.0)?;
+    for number in 0..tables.actions() {
+        let (variable, has_q, is_executed) = action_at(tables, program, number);
+        if let Some(id) = variable {
+            if has_q {
+                q.push(id)?;
+            }
+            if is_executed {
+                executed.push(id)?;
+            }
         }
     }
     format!(in alloc; "q {q:?} executed {executed:?}")
+}
+
+// The scans of a program, its steps, transitions and actions.
+fn program_text(alloc: Global, tables: &Tables, program: &Program) -> Result<String, AllocError>
+    requires { IsFor tables.now program.now }
+{
+    let scans = program.scans();
+    let steps = steps_text(alloc, program)?;
+    let transitions = transitions_text(alloc, tables, program)?;
+    let actions = actions_text(alloc, tables, program)?;
+    format!(in alloc; "{scans} {steps} {transitions} {actions}")
 }
 
 impl Bench {
     /// A resource of the chart that has seen no event.
     pub fn open(alloc: Global, text: &[u8]) -> Result<Bench, Fail> {
         let plant = plant_of(alloc, text)?;
-        let resource = resource_of(alloc, plant)?.ok_or("not run so far")?;
+        let resource = Resource::open(alloc, plant)?;
         Ok(Bench { resource })
     }
 
     /// One event.
     pub fn apply(&mut self, event: Event, t: i64) -> Result<Outcome, Refusal> {
-        self.resource.apply(event, t)
+        let mut ticks = Ticks::new();
+        self.resource.apply(event, t, &mut ticks)
     }
 
     /// The events in turn; how many were accepted.
@@ -90,7 +140,7 @@ impl Bench {
     // Which of the first five variables are TRUE.
     fn values_text(&self, alloc: Global) -> Result<String, AllocError> {
         let mut values = Vec::new(alloc);
-        let count = self.resource.plant().variables().len();
+        let count = self.resource.variables();
         for id in 0..5u16 {
             if (id as usize) < count && self.resource.value(VarId(id)) == Value::Bool(true) {
                 values.push(id)?;
@@ -99,29 +149,22 @@ impl Bench {
         format!(in alloc; "true {values:?}")
     }
 
-    // The program, and the overruns of the task.
-    fn program(&self) -> Option<(ProgramView<'_>, u64)> {
+    // What the first program shows, and the overruns of the first task.
+    fn first_text(&self, alloc: Global) -> Result<Option<(String, u64)>, AllocError> {
         let plant = self.resource.plant();
         if plant.tasks().is_empty() || plant.instances().is_empty() {
-            return None;
+            return Ok(None);
         }
-        Some((
-            self.resource.program(ProgId(0)),
-            self.resource.overruns(TaskId(0)),
-        ))
+        let setting = self.resource.setting(ProgId(0));
+        let text = program_text(alloc, setting.tables, self.resource.program(ProgId(0)))?;
+        Ok(Some((text, self.resource.overruns(TaskId(0)))))
     }
 
     /// The scans of the program, its steps, transitions and actions, which of the first five variables are TRUE, and
     /// the overruns of the task.
     pub fn shown(&self, alloc: Global) -> Result<String, Fail> {
-        let (view, overruns) = self.program().ok_or("no program")?;
-        let scans = view.scans();
-        let steps = steps_text(alloc, &view)?;
-        let transitions = transitions_text(alloc, &view)?;
-        let actions = actions_text(alloc, &view)?;
+        let (program, overruns) = self.first_text(alloc)?.ok_or("no program")?;
         let values = self.values_text(alloc)?;
-        Ok(format!(in alloc;
-            "{scans} {steps} {transitions} {actions} {values} overruns {overruns}"
-        )?)
+        Ok(format!(in alloc; "{program} {values} overruns {overruns}")?)
     }
 }

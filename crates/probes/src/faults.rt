@@ -1,7 +1,7 @@
 //! The texts and numbers of faults that no case gives.
 
 use sfc_chart::ids::TaskId;
-use sfc_core::Refusal;
+use sfc_events::refusal::Refusal;
 use sfc_monitor::monitor_error::MonitorError;
 use std::test::Fail;
 

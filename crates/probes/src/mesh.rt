@@ -3,7 +3,7 @@
 use crate::bench::Bench;
 use crate::plain::Plain;
 use sfc_chart::ids::{TaskId, VarId};
-use sfc_core::{Event, Outcome};
+use sfc_events::event::{Event, Outcome};
 use sfc_expr::value::Value;
 use std::alloc::{AllocError, Global};
 use std::process::Abort;

@@ -3,7 +3,8 @@
 use crate::bench::Bench;
 use crate::texts::one_step;
 use sfc_chart::ids::{TaskId, VarId};
-use sfc_core::{Event, Outcome, Refusal};
+use sfc_events::event::{Event, Outcome};
+use sfc_events::refusal::Refusal;
 use sfc_expr::value::Value;
 use std::alloc::Global;
 use std::process::Abort;

@@ -8,3 +8,11 @@ pub mod Runs
 pub mod Verdicts
 -- what an accepted event leaves
 pub mod Accepted
+-- accepted events, and what the tasks are told, in order
+pub mod Ordered
+-- what the answer to a scan tells
+pub mod Turns
+-- an instance with a fault
+pub mod Stays
+-- what variables read after an event
+pub mod Shown

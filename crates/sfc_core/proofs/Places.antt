@@ -32,9 +32,11 @@ locals_tell plant k (first ∷ is) n =
     ⊎_elim
     (λ lt.
     let at : k - k ≡ 0 = omega arith in
-    subst (Tells plant k (first ∷ is) (slice_get (flat_map (locals_of plant.types) (first ∷ is)) n)) (sym (here plant.types k first is n lt))
-    (omega arith, get_front (locals_of plant.types first) (flat_map (locals_of plant.types) is) n lt
-    ∙ sym (ap (λ m. slice_get (locals_at plant.types (slice_get (first ∷ is) m)) n) at)))
+    subst (Tells plant k (first ∷ is) (slice_get (flat_map (locals_of plant.types) (first ∷ is)) n)) (sym (here plant.types k first is n lt)) (
+      omega arith,
+      get_front (locals_of plant.types first) (flat_map (locals_of plant.types) is) n lt
+          ∙ sym (ap (λ m. slice_get (locals_at plant.types (slice_get (first ∷ is) m)) n) at),
+    ))
     (λ le.
     let m : ℕ = n - length (locals_of plant.types first) in
     subst (Tells plant k (first ∷ is) (slice_get (flat_map (locals_of plant.types) (first ∷ is)) n)) (sym (later plant.types k first is n le))

@@ -8,6 +8,8 @@ pub mod Due
 pub mod Answers
 -- what an event is refused for, and what it gives
 pub mod Verdict
+-- events in the order of their instants
+pub mod Order
 -- how much an event handles
 pub mod Work
 -- what a resource keeps of a history

@@ -183,6 +183,12 @@ impl Due {
             TasksAgree tasks self.new.tasks (with_rises t 0 (flags_of self.old.singles) (flags_of after.now) calls) }
         ensures ticks { Within (task_places self.old.tasks) ticks.old ticks.new }
     {
-        tell_rises(&mut self.tasks, t, self.singles.as_slice(), after.as_slice(), ticks);
+        tell_rises(
+            &mut self.tasks,
+            t,
+            self.singles.as_slice(),
+            after.as_slice(),
+            ticks,
+        );
     }
 }

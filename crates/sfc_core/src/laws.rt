@@ -1,1 +1,99 @@
 //! What the definitions mean: each law is a function with an empty body, whose contract is the law.
+
+ghost use Rattle.std.specs.Prelude.{◌≡◌, ◌≢◌, ◌∷◌, [], ℤ, List, Ok, Err, Some, None, Option, slice_get, true};
+ghost use Rattle.sfc_expr.specs.declared.value.Value.{Value};
+ghost use Rattle.sfc_chart.specs.declared.ids.ProgId.{ProgId};
+ghost use Rattle.sfc_chart.specs.declared.ids.TaskId.{TaskId};
+ghost use Rattle.sfc_chart.specs.declared.ids.VarId.{VarId};
+ghost use Rattle.sfc_chart.specs.declared.instance.Instance.{Instance};
+ghost use Rattle.sfc_chart.specs.Plants.{PlantData};
+ghost use Rattle.sfc_image.specs.Values.{stored_value, initial_of, is_local_of};
+ghost use Rattle.sfc_instance.specs.declared.scan_fault.ScanFault.{ScanFault};
+ghost use Rattle.sfc_instance.specs.Life.{fresh};
+ghost use Rattle.sfc_tasks.specs.Releases.{waits_since};
+ghost use Rattle.sfc_tasks.specs.Pick.{IsPicked};
+ghost use Rattle.sfc_tasks.specs.Meaning as tasks;
+ghost use Rattle.sfc_events.specs.declared.event.Event.{Event};
+ghost use Rattle.sfc_events.specs.declared.event.Event.TheVariants.{Scan, ForcedScan, Input, Force, Release, Reset};
+ghost use Rattle.sfc_events.specs.declared.event.Outcome.{Outcome};
+ghost use Rattle.sfc_events.specs.declared.refusal.Refusal.{Refusal};
+ghost use Rattle.sfc_events.specs.declared.refusal.Refusal.TheVariants.{NotDue, Yield};
+ghost use Rattle.sfc_events.specs.History.{Entry, History};
+ghost use Rattle.sfc_core.specs.Table.{table_of};
+ghost use Rattle.sfc_core.specs.Due.{calls_of, calls_at};
+ghost use Rattle.sfc_core.specs.Answers.{value_of, forced_of, standing_of};
+ghost use Rattle.sfc_core.specs.Verdict.{verdict, after, after_all};
+ghost use Rattle.sfc_core.specs.Order.{AreInOrder};
+
+/// What is accepted is the latest event of the history, and what is refused changes nothing.
+pub fn histories()
+    ensures accepted { (plant : PlantData) (h : History) (event : Event) (t : ℤ) (outcome : Outcome) →
+        verdict plant h event t ≡ Ok outcome → after plant h (event, t) ≡ (event, t) ∷ h }
+    ensures refused { (plant : PlantData) (h : History) (event : Event) (t : ℤ) (refusal : Refusal) →
+        verdict plant h event t ≡ Err refusal → after plant h (event, t) ≡ h }
+{}
+
+/// Whatever events come, those that are accepted are at instants and in their order.
+pub fn accepted_events()
+    ensures { (plant : PlantData) (events : List Entry) → AreInOrder (after_all plant [] events) }
+{}
+
+/// What the tasks are told by such events is in order, so that of the releases that wait the first is the earliest (2.7.2).
+pub fn told_in_order()
+    ensures { (plant : PlantData) (h : History) → AreInOrder h → tasks.AreInOrder (calls_of plant h) }
+{}
+
+/// A scan that is accepted where it has to be due is of the task that goes first; it is refused with `NotDue` only where no
+/// release of the task waits, and with `Yield` only where the task that is told goes first, which is another (2.7.2).
+pub fn turns()
+    ensures accepted { (plant : PlantData) (h : History) (task : TaskId) (t : ℤ) (outcome : Outcome) →
+        verdict plant h (Scan task) t ≡ Ok outcome → IsPicked plant.tasks (calls_at plant h t) task.0 }
+    ensures undue { (plant : PlantData) (h : History) (task : TaskId) (t : ℤ) (next : Option ℤ) →
+        verdict plant h (Scan task) t ≡ Err (NotDue next) → waits_since plant.tasks (calls_at plant h t) task.0 ≡ None }
+    ensures second { (plant : PlantData) (h : History) (task first : TaskId) (t : ℤ) →
+        verdict plant h (Scan task) t ≡ Err (Yield first) → IsPicked plant.tasks (calls_at plant h t) first.0 }
+    ensures other { (plant : PlantData) (h : History) (task first : TaskId) (t : ℤ) →
+        verdict plant h (Scan task) t ≡ Err (Yield first) → first.0 ≢ task.0 }
+{}
+
+/// An input is what the variable reads, where it is not forced; under a force it reads the forced value, until it is
+/// released, and then the stored one. Another variable reads what it read (2.4).
+pub fn values()
+    ensures given { (plant : PlantData) (h : History) (id : VarId) (v : Value) (t : ℤ) → forced_of plant h id ≡ None →
+        value_of plant ((Input id v, t) ∷ h) id ≡ v }
+    ensures hidden { (plant : PlantData) (h : History) (id : VarId) (v forced : Value) (t : ℤ) →
+        forced_of plant h id ≡ Some forced → value_of plant ((Input id v, t) ∷ h) id ≡ forced }
+    ensures forced { (plant : PlantData) (h : History) (id : VarId) (v : Value) (t : ℤ) →
+        value_of plant ((Force id v, t) ∷ h) id ≡ v }
+    ensures released { (plant : PlantData) (h : History) (id : VarId) (t : ℤ) →
+        value_of plant ((Release id, t) ∷ h) id ≡ stored_value plant (table_of plant h).changes id.0 }
+    ensures others { (plant : PlantData) (h : History) (id other : VarId) (v : Value) (t : ℤ) → id.0 ≢ other.0 →
+        value_of plant ((Input id v, t) ∷ h) other ≡ value_of plant h other }
+{}
+
+/// A scan of a task, due or forced, leaves how the instances of other tasks stand (2.7.2).
+pub fn scans()
+    ensures due { (plant : PlantData) (h : History) (task : TaskId) (t : ℤ) (p : ProgId) (instance : Instance) →
+        slice_get plant.instances p.0 ≡ Some instance → instance.task.0 ≢ task.0 →
+        standing_of plant ((Scan task, t) ∷ h) p ≡ standing_of plant h p }
+    ensures forced { (plant : PlantData) (h : History) (task : TaskId) (t : ℤ) (p : ProgId) (instance : Instance) →
+        slice_get plant.instances p.0 ≡ Some instance → instance.task.0 ≢ task.0 →
+        standing_of plant ((ForcedScan task, t) ∷ h) p ≡ standing_of plant h p }
+{}
+
+/// An instance with a fault stands as it does until its reset, whatever comes (our choice).
+pub fn faults()
+    ensures { (plant : PlantData) (h : History) (event : Event) (t : ℤ) (p : ProgId) (fault : ScanFault) →
+        (standing_of plant h p).fault ≡ Some fault → event ≢ Reset p →
+        standing_of plant ((event, t) ∷ h) p ≡ standing_of plant h p }
+{}
+
+/// After a reset the instance has no scan and no fault, so that its next scan is a first scan; its locals have their initial
+/// values stored, and each other instance stands as it did (2.4.2, 2.6.2).
+pub fn resets()
+    ensures anew { (plant : PlantData) (h : History) (p : ProgId) (t : ℤ) → standing_of plant ((Reset p, t) ∷ h) p ≡ fresh }
+    ensures locals { (plant : PlantData) (h : History) (p : ProgId) (t : ℤ) (id : VarId) → is_local_of plant p id.0 ≡ true →
+        stored_value plant (table_of plant ((Reset p, t) ∷ h)).changes id.0 ≡ initial_of plant id.0 }
+    ensures others { (plant : PlantData) (h : History) (p other : ProgId) (t : ℤ) → other.0 ≢ p.0 →
+        standing_of plant ((Reset p, t) ∷ h) other ≡ standing_of plant h other }
+{}

@@ -19,6 +19,7 @@ use sfc_events::refusal::Refusal;
 use sfc_expr::ticks::Ticks;
 use sfc_expr::value::Value;
 use sfc_instance::program::Program;
+use sfc_instance::setting::Setting;
 use sfc_machine::machine::Machine;
 use sfc_tasks::table::TaskTable;
 use std::alloc::{AllocError, Global};
@@ -44,7 +45,7 @@ impl Resource {
     ghost use Rattle.sfc_expr.specs.Ticks.{Within};
     ghost use Rattle.sfc_tables.specs.Tables.{tables_of};
     ghost use Rattle.sfc_image.specs.Values.{variable_count};
-    ghost use Rattle.sfc_instance.specs.Setting.{chart_of};
+    ghost use Rattle.sfc_instance.specs.Setting.{chart_of, IsSettingOf};
     ghost use Rattle.sfc_instance.specs.Agreement.{IsFor, ProgramAgrees};
     ghost use Rattle.sfc_events.specs.History.{Entry, History, last_instant};
     ghost use Rattle.sfc_core.specs.Table.{table_of};
@@ -169,6 +170,22 @@ impl Resource {
             ProgramAgrees (tables_of (chart_of (plant_of self.now) instance)) result.now (standing_of (plant_of self.now) h instance) }
     {
         self.machine.program(instance)
+    }
+
+    /// What the program instance runs in: its chart, and the tables of it. The instance is one of the plant's.
+    pub fn setting(&self, instance: ProgId) -> Setting<'_>
+        requires { instance.0 < length (plant_of self.now).instances }
+        ensures setting { IsSettingOf (plant_of self.now) result }
+        ensures instance { result.instance ≡ instance }
+    {
+        self.machine.setting(&self.plant, instance)
+    }
+
+    /// How many variables there are.
+    pub fn variables(&self) -> usize
+        ensures { result ≡ variable_count (plant_of self.now) }
+    {
+        self.machine.variables()
     }
 
     /// What the variable reads: the value to which it is forced, if it is, else the stored one. The variable is one of the

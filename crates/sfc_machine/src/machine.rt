@@ -22,7 +22,7 @@ ghost use Rattle.sfc_chart.specs.Sound.{IsProgram, IsSingle};
 ghost use Rattle.sfc_image.specs.Changes as changes;
 ghost use Rattle.sfc_image.specs.Values.{value_of, forced_value};
 ghost use Rattle.sfc_image.specs.Answers as answers;
-ghost use Rattle.sfc_instance.specs.Setting.{chart_of};
+ghost use Rattle.sfc_instance.specs.Setting.{chart_of, IsSettingOf};
 ghost use Rattle.sfc_instance.specs.Agreement.{IsFor, ProgramAgrees};
 ghost use Rattle.sfc_machine.specs.Table.{Table, opened, with_change, after_program, after_task, after_reset, program_scan};
 ghost use Rattle.sfc_machine.specs.Ends.{AreBits};
@@ -71,6 +71,21 @@ fn open_programs(
         programs.push(Program::new(alloc, &tables[instances[k].program])?)?;
     }
     Ok(programs)
+}
+
+// What a program instance runs in, where these are the tables of each program type.
+fn setting_of<'a>(tables: &'a [Tables], plant: &'a Plant, instance: ProgId) -> Setting<'a>
+    requires tables { tables.now ≡ map (λ p. tables_of p.chart) plant.now.types }
+    requires instance { instance.0 < length plant.now.instances }
+    ensures setting { IsSettingOf plant.now result }
+    ensures instance { result.instance ≡ instance }
+{
+    let program = plant.instances()[instance.0 as usize].program;
+    Setting {
+        tables: &tables[program],
+        chart: &plant.types()[program].chart,
+        instance,
+    }
 }
 
 #[tactic(auto, unfolding(crate::specs::Agreement::MachineAgrees))]
@@ -125,6 +140,16 @@ impl Machine {
             ProgramAgrees (tables_of (chart_of plant instance)) result.now (table.standing instance.0) }
     {
         &self.programs[instance.0 as usize]
+    }
+
+    /// What the program instance runs in: its chart, and the tables of it. The instance is one of the plant's.
+    pub fn setting<'a>(&'a self, plant: &'a Plant, instance: ProgId) -> Setting<'a>
+        requires sizes { IsMachineOf plant.now self.now }
+        requires instance { instance.0 < length plant.now.instances }
+        ensures setting { IsSettingOf plant.now result }
+        ensures instance { result.instance ≡ instance }
+    {
+        setting_of(&self.tables, plant, instance)
     }
 
     /// What is wrong with a value for the variable, by `store` or `force`: there is no such variable, or the value is not
@@ -233,14 +258,8 @@ impl Machine {
             (after_program instance (program_scan plant.now t instance.0 table) table) }
         ensures ticks { Within (program_work plant.now instance) ticks.old ticks.new }
     {
-        let k = instance.0 as usize;
-        let program = plant.instances()[k].program;
-        let setting = Setting {
-            tables: &self.tables[program],
-            chart: &plant.types()[program].chart,
-            instance,
-        };
-        self.programs[k].scan(setting, &mut self.image, t, ticks)
+        let setting = setting_of(&self.tables, plant, instance);
+        self.programs[instance.0 as usize].scan(setting, &mut self.image, t, ticks)
     }
 
     /// A scan of the task's instances at t, in microseconds from 0 to 2^62, one after the other in text order; it tells

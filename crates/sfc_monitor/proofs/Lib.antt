@@ -1,3 +1,5 @@
+-- lines of numbered places, one after the other
+pub mod Numbered
 -- a script that is being played
 pub mod Playing
 -- bytes that were taken from a reader
