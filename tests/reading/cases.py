@@ -27,6 +27,13 @@ def unescaped(text: str, number: int) -> str:
     return ESCAPE.sub(meant, text) + ("" if text.endswith("\\") else "\n")
 
 
+def repeated(text: str, count: int) -> str:
+    """So many lines of one text; each has its number where the text asks for it."""
+    if r"\#" not in text:
+        return unescaped(text, 0) * count
+    return "".join(unescaped(text, number) for number in range(count))
+
+
 class Case:
     """A case: its title, what it says by word, and its texts."""
 
@@ -43,8 +50,7 @@ class Case:
         elif file:
             self.texts[word].append((folder / text).read_bytes())
         else:
-            made = "".join(unescaped(text or "", number) for number in range(int(count or 1)))
-            self.texts[word].append(made.encode("latin-1"))
+            self.texts[word].append(repeated(text or "", int(count or 1)).encode("latin-1"))
 
     def text(self, word: str) -> bytes:
         """All of a text."""
