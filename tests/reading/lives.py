@@ -36,8 +36,10 @@ class Life:
     def __init__(self, chart):
         self.chart, self.rows = chart, []
         self.numbers = {}
+        self.qualifiers = [set() for _ in chart.actions]
         for number, one in enumerate(chart.associations):
             self.numbers.setdefault((one.action, one.qualifier), []).append(number)
+            self.qualifiers[one.action].add(one.qualifier)
 
     def scans(self) -> int:
         """How many rows the life has."""
@@ -172,19 +174,30 @@ class Life:
         """The flip-flop that the on-delay of DS sets."""
         return self.latch(scan, action, lambda earlier: self.input_delayed(earlier, action, "DS"))
 
+    def contribution(self, scan: int, action: int, qualifier: str) -> bool:
+        """What one qualifier gives to Q."""
+        if qualifier in ("N", "S"):
+            return self.input(scan, action, "N") if qualifier == "N" else self.stored(scan, action, "S")
+        if qualifier == "L":
+            return self.input(scan, action, "L") and not self.input_delayed(scan, action, "L")
+        if qualifier == "D":
+            return self.input_delayed(scan, action, "D")
+        if qualifier == "P":
+            return self.rises(scan, lambda at: self.input(at, action, "P"))
+        if qualifier == "SD":
+            return self.stored_delayed(scan, action, "SD")
+        if qualifier == "DS":
+            return self.delayed_stored(scan, action)
+        if qualifier == "SL":
+            return self.stored(scan, action, "SL") and not self.stored_delayed(scan, action, "SL")
+        return False
+
     @remembered
     def q(self, scan: int, action: int) -> bool:
-        """Q: 0 before the first scan and while R is 1, else 1 where one of the qualifiers gives it."""
+        """Q: 0 before the first scan and while R is 1, else 1 where one of the action's qualifiers gives it."""
         if scan == 0 or self.input(scan, action, "R"):
             return False
-        return (self.input(scan, action, "N")
-                or self.stored(scan, action, "S")
-                or (self.input(scan, action, "L") and not self.input_delayed(scan, action, "L"))
-                or self.input_delayed(scan, action, "D")
-                or self.rises(scan, lambda at: self.input(at, action, "P"))
-                or self.stored_delayed(scan, action, "SD")
-                or self.delayed_stored(scan, action)
-                or (self.stored(scan, action, "SL") and not self.stored_delayed(scan, action, "SL")))
+        return any(self.contribution(scan, action, qualifier) for qualifier in self.qualifiers[action])
 
     @remembered
     def executed(self, scan: int, action: int) -> bool:
@@ -197,7 +210,9 @@ class Life:
     def watch_control(self):
         """Raises the first control fault of the last row, by the actions in the order of their first associations."""
         scan = self.scans()
-        for action in range(len(self.chart.actions)):
+        for action, qualifiers in enumerate(self.qualifiers):
+            if not qualifiers & set(TIMED):
+                continue
             if len(self.timed(scan, action)) > 1:
                 raise Fault("TwoTimed")
             if self.input(scan, action, "SD") and self.stored(scan, action, "SL"):

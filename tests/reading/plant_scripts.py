@@ -64,9 +64,10 @@ class Scripts:
         if self.history.picked(self.now) is None or self.rng.random() < 0.05:
             self.go_on()
         picked = self.history.picked(self.now)
-        if picked is None and self.rng.random() < 0.7:
-            self.wake()
-            picked = self.history.picked(self.now)
+        for _ in range(3):
+            if picked is None:
+                self.wake()
+                picked = self.history.picked(self.now)
         if picked is None or self.rng.random() < 0.05:
             picked = self.rng.randrange(len(self.plant.tasks))
         self.say(self.word("SCAN"), said(self.rng, self.plant.tasks[picked].name))
@@ -78,8 +79,8 @@ class Scripts:
             self.go_on()
             return
         variable = self.rng.choice(named)
-        how = self.word("INPUT" if (self.plant.variables[variable].location or "-")[0] == "I" else "FORCE")
-        self.say(how, self.name(variable), "FALSE" if self.history.read(variable) else "TRUE")
+        free = self.history.force(variable) is None and (self.plant.variables[variable].location or "-")[0] == "I"
+        self.say(self.word("INPUT" if free else "FORCE"), self.name(variable), "FALSE" if self.history.read(variable) else "TRUE")
 
     def word(self, word: str) -> str:
         """A word of the script in some capitals."""

@@ -122,6 +122,8 @@ class TypeMaker:
         hidden = {variable.name.upper() for variable in self.own}
         self.variables = self.own + [variable for variable in global_variables if variable.name.upper() not in hidden]
         self.actions = [f"Act{number}" for number in range(rng.randint(0, 5))]
+        truths = [variable.name for variable in self.variables if variable.type == "BOOL"]
+        self.clash = rng.choice(truths + self.actions) if risky and rng.random() < 0.3 else None
 
     def own_variables(self) -> list:
         """Variables of its own; some hide global ones."""
@@ -169,7 +171,9 @@ class TypeMaker:
         truths = [variable.name for variable in self.variables if variable.type == "BOOL"]
         action = rng.choice(self.actions) if self.actions and (not truths or rng.random() < 0.4) else rng.choice(truths)
         qualifier = rng.choice(TIMED + UNTIMED)
-        if qualifier in TIMED and not self.may_time(action, qualifier):
+        if self.clash and rng.random() < 0.25:
+            action, qualifier = self.clash, rng.choice(["SD", "SL"])
+        elif qualifier in TIMED and not self.may_time(action, qualifier):
             qualifier = rng.choice(UNTIMED)
         parts = [said(rng, qualifier)] if qualifier != "N" or rng.random() < 0.7 else [""]
         if qualifier in TIMED:
@@ -288,12 +292,13 @@ class PlantMaker:
     """Makes the text of one plant."""
 
     def __init__(self, rng: Random):
-        self.rng, self.areas, self.risky = rng, Areas(rng), rng.random() < 0.36
+        self.rng, self.areas, self.risky = rng, Areas(rng), rng.random() < 0.45
         self.globals = [variable for kind in TYPES for variable in self.of_kind(kind)]
         self.types = [f"Kind{number}" for number in range(rng.choice([1, 1, 1, 2, 2, 3]))]
         self.tasks = [f"Task{number}" for number in range(rng.choice([1, 1, 1, 2, 2, 3, 4]))]
         count = rng.choice([1, 1, 2, 2, 3, 4, 5])
-        self.instances = [(f"P{number}", rng.choice(self.tasks), rng.choice(self.types)) for number in range(count)]
+        kinds = rng.sample(self.types, len(self.types)) + [rng.choice(self.types) for _ in range(count)]
+        self.instances = [(f"P{number}", rng.choice(self.tasks), kinds[number]) for number in range(count)]
 
     def of_kind(self, kind: str) -> list:
         """Global variables of a type, some of them located."""
