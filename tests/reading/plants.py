@@ -123,7 +123,9 @@ class TypeMaker:
         self.variables = self.own + [variable for variable in global_variables if variable.name.upper() not in hidden]
         self.actions = [f"Act{number}" for number in range(rng.randint(0, 5))]
         truths = [variable.name for variable in self.variables if variable.type == "BOOL"]
-        self.clash = rng.choice(truths + self.actions) if risky and rng.random() < 0.3 else None
+        self.clash = {}
+        self.favourites = rng.sample(truths + self.actions, min(len(truths), rng.choice([1, 2, 2, 3])))
+        self.targets = rng.sample(self.variables, min(len(self.variables), 5))
 
     def own_variables(self) -> list:
         """Variables of its own; some hide global ones."""
@@ -138,6 +140,8 @@ class TypeMaker:
     def text(self, size: int) -> str:
         """The whole program type, with at most about so many steps."""
         self.chart.grow(size)
+        if self.risky and len(self.chart.steps) > 1 and self.rng.random() < 0.5:
+            self.plan_clash()
         elements = [self.step(step) for step in self.chart.steps]
         elements += [self.transition(number, *link) for number, link in enumerate(self.chart.links)]
         elements += [self.action(name) for name in self.actions]
@@ -145,6 +149,13 @@ class TypeMaker:
             self.rng.shuffle(elements)
         parts = [f"PROGRAM {self.name}", self.declared(), self.external()] + elements + ["END_PROGRAM"]
         return "\n".join(part for part in parts if part) + "\n"
+
+    def plan_clash(self):
+        """Gives one action by SD and by SL to two steps, which is a fault where they follow each other."""
+        action = self.rng.choice(self.favourites)
+        self.timed[action.upper()] = ["SD", "SL"]
+        for step, qualifier in zip(self.rng.sample(self.chart.steps, 2), ("SD", "SL")):
+            self.clash[step] = f" {action}({qualifier}, {self.time()});"
 
     def declared(self) -> str:
         """The VAR blocks."""
@@ -162,18 +173,17 @@ class TypeMaker:
         """A step with its associations."""
         word = "INITIAL_STEP" if name in self.chart.initial else "STEP"
         count = self.rng.choice([0, 1, 1, 2, 2, 3])
-        associations = "".join(f" {self.association()};" for _ in range(count))
+        associations = "".join(f" {self.association()};" for _ in range(count)) + self.clash.get(name, "")
         return f"  {word} {name}:{associations} END_STEP"
 
     def association(self) -> str:
         """An association with an action, by any qualifier."""
         rng = self.rng
         truths = [variable.name for variable in self.variables if variable.type == "BOOL"]
-        action = rng.choice(self.actions) if self.actions and (not truths or rng.random() < 0.4) else rng.choice(truths)
+        how = rng.random()
+        action = rng.choice(self.favourites if how < 0.5 else self.actions if how < 0.7 and self.actions else truths)
         qualifier = rng.choice(TIMED + UNTIMED)
-        if self.clash and rng.random() < 0.25:
-            action, qualifier = self.clash, rng.choice(["SD", "SL"])
-        elif qualifier in TIMED and not self.may_time(action, qualifier):
+        if qualifier in TIMED and not self.may_time(action, qualifier):
             qualifier = rng.choice(UNTIMED)
         parts = [said(rng, qualifier)] if qualifier != "N" or rng.random() < 0.7 else [""]
         if qualifier in TIMED:
@@ -185,7 +195,7 @@ class TypeMaker:
     def may_time(self, action: str, qualifier: str) -> bool:
         """Whether an action takes one more timed association; where no fault is sought it seldom has two, never SD with SL."""
         before = self.timed.setdefault(action.upper(), [])
-        chance = 0.5 if self.risky else 0.05
+        chance = 0.2 if self.risky else 0.05
         clash = {"SD", "SL"} <= set(before + [qualifier])
         taken = not before or (self.rng.random() < chance and (self.risky or not clash))
         if taken:
@@ -249,7 +259,7 @@ class TypeMaker:
             return self.choice(action, depth - 1, made)
         if rng.random() < 0.05:
             return ""
-        target = rng.choice(self.variables)
+        target = rng.choice(self.targets if rng.random() < 0.5 else self.variables)
         if target.type in ("INT", "DINT") and rng.random() < 0.4:
             return f"{said(rng, target.name)} := {target.name} MOD 1000 + 1"
         return f"{said(rng, target.name)} := {made.make(target.type, rng.randint(0, 2))}"
