@@ -60,8 +60,8 @@ class Case:
         """The chart, made of its parts where they alone are given."""
         if self.texts["chart"]:
             return self.text("chart")
-        return b"PROGRAM Mix\n%sEND_PROGRAM CONFIGURATION C RESOURCE R ON Plc VAR_GLOBAL\n%sEND_VAR\n%s\nEND_RESOURCE END_CONFIGURATION\n" % (
-            self.text("body"), self.text("globals"), self.text("task") or TASK)
+        return (b"PROGRAM Mix\n" + self.text("body") + b"END_PROGRAM CONFIGURATION C RESOURCE R ON Plc VAR_GLOBAL\n"
+                + self.text("globals") + b"END_VAR\n" + (self.text("task") or TASK) + b"\nEND_RESOURCE END_CONFIGURATION\n")
 
 
 def cases_of(path: Path) -> list:
