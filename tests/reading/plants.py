@@ -113,14 +113,15 @@ class Chart:
 
 
 class TypeMaker:
-    """Makes the text of one program type over the global variables."""
+    """Makes the text of one program type of a plant; `lone` says that it has one instance at most."""
 
-    def __init__(self, rng: Random, name: str, global_variables: list, lone: bool, risky: bool, areas):
-        self.rng, self.name, self.globals, self.lone, self.risky, self.areas = rng, name, global_variables, lone, risky, areas
+    def __init__(self, maker, name: str, lone: bool):
+        rng, self.globals, self.risky, self.areas = maker.rng, maker.globals, maker.risky, maker.areas
+        self.rng, self.name, self.lone = rng, name, lone
         self.chart, self.timed = Chart(rng), {}
         self.own = self.own_variables()
         hidden = {variable.name.upper() for variable in self.own}
-        self.variables = self.own + [variable for variable in global_variables if variable.name.upper() not in hidden]
+        self.variables = self.own + [variable for variable in self.globals if variable.name.upper() not in hidden]
         self.actions = [f"Act{number}" for number in range(rng.randint(0, 5))]
         truths = [variable.name for variable in self.variables if variable.type == "BOOL"]
         self.clash = {}
@@ -326,7 +327,7 @@ class PlantMaker:
         types = []
         for name in self.types:
             lone = sum(kind == name for _, _, kind in self.instances) < 2
-            types.append(TypeMaker(self.rng, name, self.globals, lone, self.risky, self.areas).text(self.size()))
+            types.append(TypeMaker(self, name, lone).text(self.size()))
         front = self.rng.randint(0, len(types))
         return "".join(types[:front]) + self.configuration() + "".join(types[front:])
 
