@@ -1,5 +1,5 @@
 -- What an accepted event leaves.
-use Rattle.std.proofs.Common.{◌≡◌, ◌∙◌, ℕ, List, ◌∷◌, Bool, Option, Some, None, ℤ, refl, sym, ap, subst}
+use Rattle.std.proofs.Common.{◌≡◌, ◌∙◌, ℕ, List, ◌∷◌, Bool, Option, Some, None, ℤ, refl, ap, subst}
 use Rattle.sfc_chart.specs.Plants.{PlantData}
 use Rattle.sfc_image.specs.declared.image_error.ImageError.{ImageError}
 use Rattle.sfc_image.specs.declared.image_error.ImageError.TheVariants as image
@@ -10,12 +10,11 @@ use Rattle.sfc_tasks.specs.Calls.{Call}
 use Rattle.sfc_tasks.specs.declared.table.TaskTable.{TaskTable}
 use Rattle.sfc_events.specs.declared.event.Event.{Event}
 use Rattle.sfc_events.specs.declared.event.Event.TheVariants.{Scan, ForcedScan, Input, Force, Release, Reset}
-use Rattle.sfc_events.specs.declared.event.Outcome.{Outcome}
 use Rattle.sfc_events.specs.declared.event.Outcome.TheVariants.{Scanned}
 use Rattle.sfc_events.specs.declared.refusal.Refusal.{Refusal}
 use Rattle.sfc_events.specs.History.{History}
 use Rattle.sfc_chart.specs.declared.ids.TaskId.{TaskId}
-use Rattle.sfc_instance.specs.declared.ended.Ended.TheVariants.{Ran, Faulted, Skipped}
+use Rattle.sfc_instance.specs.declared.ended.Ended.TheVariants.{Ran, Faulted}
 use Rattle.sfc_machine.specs.declared.bits.Bits.{Bits}
 use Rattle.sfc_machine.specs.declared.machine.Machine.{Machine}
 use Rattle.sfc_machine.specs.Agreement.{MachineAgrees}
@@ -30,7 +29,7 @@ use Rattle.sfc_core.specs.Answers.{overruns_of}
 use Rattle.sfc_core.specs.Keeping.{Keeps}
 use Rattle.sfc_core.specs.Verdict.{or_then, of_image, input_refusal, event_refusal, ended_bits, scan_answer, answer}
 use Rattle.sfc_core.specs.Private.Naming.{IsTaken}
-use Rattle.sfc_core.specs.Private.Ready.{flags_of, IsDueAt, IsReady}
+use Rattle.sfc_core.specs.Private.Ready.{flags_of, IsReady}
 use Rattle.sfc_core.specs.Private.Ending.{AreEventBits, scanned, outcome_by}
 
 -- ---- the variables take it
@@ -78,7 +77,8 @@ module _ (plant : PlantData) (event : Event) (t : ℤ) (old new : Machine) (due 
   read_before : flags_of served.singles ≡ singles_of plant h
   read_before = ap flags_of same ∙ ready.told.singles
 
-  told_so : with_rises t 0 (flags_of served.singles) (flags_of after) (with_service event (calls_at plant h t)) ≡ calls_of plant ((event, t) ∷ h)
+  told_so : with_rises t 0 (flags_of served.singles) (flags_of after) (with_service event (calls_at plant h t))
+      ≡ calls_of plant ((event, t) ∷ h)
   unfolding calls_of
   told_so =
       ap (λ (xs : List Bool). with_rises t 0 xs (flags_of after) (with_service event (calls_at plant h t))) read_before

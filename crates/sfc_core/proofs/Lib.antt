@@ -16,3 +16,5 @@ pub mod Turns
 pub mod Stays
 -- what variables read after an event
 pub mod Shown
+-- what events do with the variables
+pub mod Grows

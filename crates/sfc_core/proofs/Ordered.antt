@@ -1,5 +1,6 @@
 -- The events that were accepted are in the order of their instants, and so is what the tasks are told.
-use Rattle.std.proofs.Common.{◌≡◌, ◌^◌, ℕ, suc, Bool, true, false, cond, List, [], ◌∷◌, arith, refl, sym, subst, ◌∙◌, ℤ, pos, ◌≤ℤ◌, int_lt, Option, Some, Result, Ok, Err}
+use Rattle.std.proofs.Common.{◌≡◌, ◌^◌, ℕ, suc, Bool, true, false, cond, List, [], ◌∷◌, arith, refl, sym, subst}
+use Rattle.std.proofs.Common.{ℤ, pos, ◌≤ℤ◌, int_lt, Option, Result, Ok, Err}
 use Rattle.std.specs.Prelude.{not, ◌&&◌}
 use Rattle.std.proofs.lemmas.Int.{ints}
 use Rattle.sfc_chart.specs.Plants.{PlantData}
@@ -13,7 +14,7 @@ use Rattle.sfc_events.specs.declared.refusal.Refusal.{Refusal}
 use Rattle.sfc_events.specs.declared.refusal.Refusal.TheVariants.{InstantRange, ClockBack}
 use Rattle.sfc_events.specs.History.{Entry, History, last_instant}
 use Rattle.sfc_core.specs.Due.{singles_of, calls_of, with_rise, with_rises, with_service}
-use Rattle.sfc_core.specs.Verdict.{is_out_of_range, refused_if, or_then, event_refusal, turn_refusal, first_refusal, answer, verdict, verdict_by, history_by, after, after_all}
+use Rattle.sfc_core.specs.Verdict.{is_out_of_range, refused_if, or_then, first_refusal, verdict, verdict_by, history_by, after, after_all}
 use Rattle.sfc_core.specs.Order.{ComesAfter, AreInOrder}
 
 -- ---- what is accepted
@@ -62,7 +63,8 @@ rise_order : (t : ℤ) (k : ℕ) (b : Bool) (told : List Call) → StandsAt t to
 rise_order t k true told h = record { at = h.at; ordered = (sym h.at, h.ordered) }
 rise_order t k false told h = h
 
-rises_order : (t : ℤ) (k : ℕ) (before after : List Bool) (told : List Call) → StandsAt t told → StandsAt t (with_rises t k before after told)
+rises_order : (t : ℤ) (k : ℕ) (before after : List Bool) (told : List Call) → StandsAt t told
+    → StandsAt t (with_rises t k before after told)
 rises_order t k [] after told h = h
 rises_order t k (x ∷ before) [] told h = h
 rises_order t k (x ∷ before) (y ∷ after) told h =

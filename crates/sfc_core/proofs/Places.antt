@@ -1,5 +1,6 @@
 -- A variable of the image, by what it is.
-use Rattle.std.proofs.Common.{◌≡◌, ⊎_elim, ℕ, suc, ◌-◌, ◌≤◌, List, [], ◌∷◌, length, flat_map, Option, Some, None, slice_get, refl, sym, ap, ◌∙◌, subst, arith}
+use Rattle.std.proofs.Common.{◌≡◌, ⊎_elim, ℕ, suc, ◌-◌, ◌≤◌, List, [], ◌∷◌, length, flat_map, slice_get, refl, sym, ap, ◌∙◌, subst, arith}
+use Rattle.std.proofs.Common.{Option, Some, None}
 use Rattle.std.proofs.lemmas.Bool.{cases_lt}
 use Rattle.sfc_variables.specs.declared.variable.Variable.{Variable}
 use Rattle.sfc_chart.specs.declared.image_variable.ImageVariable.{ImageVariable}
@@ -32,14 +33,16 @@ locals_tell plant k (first ∷ is) n =
     ⊎_elim
     (λ lt.
     let at : k - k ≡ 0 = omega arith in
-    subst (Tells plant k (first ∷ is) (slice_get (flat_map (locals_of plant.types) (first ∷ is)) n)) (sym (here plant.types k first is n lt)) (
+    subst (Tells plant k (first ∷ is) (slice_get (flat_map (locals_of plant.types) (first ∷ is)) n))
+    (sym (here plant.types k first is n lt)) (
       omega arith,
       get_front (locals_of plant.types first) (flat_map (locals_of plant.types) is) n lt
           ∙ sym (ap (λ m. slice_get (locals_at plant.types (slice_get (first ∷ is) m)) n) at),
     ))
     (λ le.
     let m : ℕ = n - length (locals_of plant.types first) in
-    subst (Tells plant k (first ∷ is) (slice_get (flat_map (locals_of plant.types) (first ∷ is)) n)) (sym (later plant.types k first is n le))
+    subst (Tells plant k (first ∷ is) (slice_get (flat_map (locals_of plant.types) (first ∷ is)) n))
+    (sym (later plant.types k first is n le))
     (subst (λ (v : Option Variable). Tells plant k (first ∷ is) v (slice_get (locals_from plant.types (suc k) is) m))
     (sym (get_behind (locals_of plant.types first) (flat_map (locals_of plant.types) is) n le))
     (one_more plant k first is _ _ (locals_tell plant (suc k) is m))))

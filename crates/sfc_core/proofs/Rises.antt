@@ -1,5 +1,5 @@
 -- Which SINGLE rises, one after the other.
-use Rattle.std.proofs.Common.{◌≡◌, ◌∙◌, ℕ, suc, ◌+◌, ◌<◌, Bool, true, false, cond, List, ◌∷◌, drop, get_or, length, refl, sym, ap, subst, ℤ}
+use Rattle.std.proofs.Common.{◌≡◌, ◌∙◌, ℕ, suc, ◌<◌, Bool, true, false, cond, List, ◌∷◌, drop, get_or, length, sym, ap, subst, ℤ}
 use Rattle.std.proofs.Math.Seq.{drop-cons}
 use Rattle.std.specs.Prelude.{not, ◌&&◌}
 use Rattle.sfc_chart.specs.declared.task.Task.{Task}

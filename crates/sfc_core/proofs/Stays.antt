@@ -1,5 +1,5 @@
 -- An instance with a fault is passed over.
-use Rattle.std.proofs.Common.{◌≡◌, ◌≢◌, ◌∙◌, inl, inr, ℕ, suc, ◌==◌, Bool, cond, List, [], ◌∷◌, Some, is_some, refl, sym, subst, ap, ℤ}
+use Rattle.std.proofs.Common.{◌≡◌, ◌≢◌, ◌∙◌, inl, inr, ℕ, suc, Bool, cond, List, [], ◌∷◌, Some, is_some, refl, sym, subst, ap, ℤ}
 use Rattle.std.proofs.lemmas.Bool.Decides.{eqb_tells}
 use Rattle.sfc_chart.specs.declared.ids.ProgId.{ProgId}
 use Rattle.sfc_chart.specs.declared.ids.TaskId.{TaskId}
@@ -16,7 +16,8 @@ use Rattle.sfc_core.specs.Table.{after_event}
 
 module _ (plant : PlantData) (t : ℤ) (fault : ScanFault) where
   -- a scan of the instance itself
-  scanned_over : (k : ℕ) (table : Table) → (table.standing k).fault ≡ Some fault → (program_scan plant t k table).standing ≡ table.standing k
+  scanned_over : (k : ℕ) (table : Table) → (table.standing k).fault ≡ Some fault
+      → (program_scan plant t k table).standing ≡ table.standing k
   unfolding program_scan
   scanned_over k table e =
       let tells = told plant (record { 0 = k }) (table.standing k).life table.changes t (table.standing k).fault in

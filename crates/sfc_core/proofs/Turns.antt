@@ -1,10 +1,9 @@
 -- What the answer to a scan tells of the tasks that wait.
-use Rattle.std.proofs.Common.{◌≡◌, ◌≢◌, ◌∙◌, inl, inr, ◌⊎◌, ◌<◌, ◌==◌, Bool, true, false, not, length, nat_lt, int_lt, List, Option, Some, None, Result, Ok, Err, is_none, arith, refl, sym, subst, ap, ℤ}
+use Rattle.std.proofs.Common.{◌≡◌, ◌≢◌, ◌∙◌, inl, inr, ◌<◌, ◌==◌, Bool, true, false, not, length, nat_lt, int_lt, arith, refl, sym, subst, ap}
+use Rattle.std.proofs.Common.{ℤ, Option, Some, None, Ok, Err, is_none}
 use Rattle.std.proofs.lemmas.Bool.Decides.{eqb_tells, nat_tests}
 use Rattle.sfc_chart.specs.declared.ids.TaskId.{TaskId}
-use Rattle.sfc_chart.specs.declared.task.Task.{Task}
 use Rattle.sfc_chart.specs.Plants.{PlantData}
-use Rattle.sfc_tasks.specs.Calls.{Call}
 use Rattle.sfc_tasks.specs.Releases.{waits_since}
 use Rattle.sfc_tasks.specs.Pick.{picked, IsPicked}
 use Rattle.sfc_tasks.proofs.Picking.{picked_is, none_waits}
@@ -14,8 +13,8 @@ use Rattle.sfc_events.specs.declared.refusal.Refusal.{Refusal}
 use Rattle.sfc_events.specs.declared.refusal.Refusal.TheVariants.{InstantRange, ClockBack, UnknownTask, NotDue, Yield}
 use Rattle.sfc_events.specs.History.{History, last_instant}
 use Rattle.sfc_core.specs.Due.{singles_of, calls_at}
-use Rattle.sfc_core.specs.Table.{table_of}
-use Rattle.sfc_core.specs.Verdict.{is_out_of_range, refused_if, or_then, instant_refusal, task_refusal, due_refusal, yield_to, yield_refusal, event_refusal, turn_refusal, first_refusal, answer, verdict, verdict_by}
+use Rattle.sfc_core.specs.Verdict.{is_out_of_range, refused_if, or_then, instant_refusal, task_refusal, due_refusal, yield_to, yield_refusal}
+use Rattle.sfc_core.specs.Verdict.{turn_refusal, first_refusal, answer, verdict, verdict_by}
 use Rattle.sfc_core.proofs.Verdicts.{second_none}
 
 none_stands : (o : Option Refusal) (says outcome : Outcome) → verdict_by o says ≡ Ok outcome → o ≡ None
@@ -115,9 +114,9 @@ module _ (plant : PlantData) (h : History) (task : TaskId) (t : ℤ) where
       let turn : or_then undue unpicked ≡ None = second_none (task_refusal plant task) (or_then undue unpicked) named in
       let waits : is_none (waits_since plant.tasks (calls_at plant h t) task.0) ≡ false =
       unrefused (is_none (waits_since plant.tasks (calls_at plant h t) task.0)) _ (first_none undue unpicked turn) in
+      let there : task_refusal plant task ≡ None = first_none (task_refusal plant task) (or_then undue unpicked) named in
       let known : nat_lt task.0 (length plant.tasks) ≡ true =
-      is_there (nat_lt task.0 (length plant.tasks))
-      (unrefused (not (nat_lt task.0 (length plant.tasks))) UnknownTask (first_none (task_refusal plant task) (or_then undue unpicked) named)) in
+      is_there (nat_lt task.0 (length plant.tasks)) (unrefused (not (nat_lt task.0 (length plant.tasks))) UnknownTask there) in
       let within : task.0 < length plant.tasks = grind (arith, nat_tests, known) in
       yield_none task (picked plant.tasks (calls_at plant h t)) (IsPicked plant.tasks (calls_at plant h t) task.0)
       (second_none undue unpicked turn)
@@ -134,7 +133,8 @@ module _ (plant : PlantData) (h : History) (task : TaskId) (t : ℤ) where
       let one : or_then (instant_refusal (last_instant h) t) (or_then (task_refusal plant task) (or_then undue unpicked)) ≡ Some refusal =
       sym refusals ∙ one_stands (first_refusal plant h (Scan task) t) (answer plant h (Scan task) t) refusal e in
       later (not (nat_lt task.0 (length plant.tasks))) UnknownTask refusal (or_then undue unpicked) unknown
-      (in_range (is_out_of_range t) (int_lt t (last_instant h)) (or_then (task_refusal plant task) (or_then undue unpicked)) refusal range back one)
+      (in_range (is_out_of_range t) (int_lt t (last_instant h)) (or_then (task_refusal plant task) (or_then undue unpicked)) refusal range
+      back one)
 
   pub waits_not : (next : Option ℤ) → verdict plant h (Scan task) t ≡ Err (NotDue next)
       → waits_since plant.tasks (calls_at plant h t) task.0 ≡ None

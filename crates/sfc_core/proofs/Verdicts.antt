@@ -1,5 +1,5 @@
 -- The first refusal, by parts.
-use Rattle.std.proofs.Common.{◌≡◌, ◌∙◌, List, ◌∷◌, Bool, Option, Some, None, Result, Ok, Err, ℤ, refl, sym, ap, subst}
+use Rattle.std.proofs.Common.{◌≡◌, ◌∙◌, List, ◌∷◌, Bool, Option, Some, None, Ok, Err, ℤ, refl, sym, ap, subst}
 use Rattle.sfc_chart.specs.Plants.{PlantData}
 use Rattle.sfc_tasks.specs.Agreement.{TasksAgree}
 use Rattle.sfc_tasks.specs.Calls.{Elapsed}

@@ -10,6 +10,8 @@ pub mod Answers
 pub mod Verdict
 -- events in the order of their instants
 pub mod Order
+-- what an event does with forces
+pub mod Forcing
 -- how much an event handles
 pub mod Work
 -- what a resource keeps of a history

@@ -4,7 +4,6 @@ use Rattle.std.specs.Prelude.{ℤ, pos, int_lt, Option, Some, None, Result, Ok, 
 use Rattle.sfc_tokens.specs.declared.location.Area.{Area}
 use Rattle.sfc_tokens.specs.declared.location.Area.TheVariants as areas
 use Rattle.sfc_tokens.specs.declared.location.Location.{Location}
-use Rattle.sfc_expr.specs.declared.value.Value.{Value}
 use Rattle.sfc_variables.specs.declared.variable.Variable.{Variable}
 use Rattle.sfc_chart.specs.declared.ids.ProgId.{ProgId}
 use Rattle.sfc_chart.specs.declared.ids.TaskId.{TaskId}

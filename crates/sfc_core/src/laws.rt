@@ -1,12 +1,14 @@
 //! What the definitions mean: each law is a function with an empty body, whose contract is the law.
 
-ghost use Rattle.std.specs.Prelude.{◌≡◌, ◌≢◌, ◌∷◌, [], ℤ, List, Ok, Err, Some, None, Option, slice_get, true};
+ghost use Rattle.std.specs.Prelude.{◌≡◌, ◌≢◌, ◌∷◌, [], ℤ, List, Ok, Err, Some, None, Option, slice_get, true, false, ◌++◌, All};
 ghost use Rattle.sfc_expr.specs.declared.value.Value.{Value};
 ghost use Rattle.sfc_chart.specs.declared.ids.ProgId.{ProgId};
 ghost use Rattle.sfc_chart.specs.declared.ids.TaskId.{TaskId};
 ghost use Rattle.sfc_chart.specs.declared.ids.VarId.{VarId};
 ghost use Rattle.sfc_chart.specs.declared.instance.Instance.{Instance};
 ghost use Rattle.sfc_chart.specs.Plants.{PlantData};
+ghost use Rattle.sfc_image.specs.Changes.{Change, Stored};
+ghost use Rattle.sfc_image.specs.Events as image;
 ghost use Rattle.sfc_image.specs.Values.{stored_value, initial_of, is_local_of};
 ghost use Rattle.sfc_instance.specs.declared.scan_fault.ScanFault.{ScanFault};
 ghost use Rattle.sfc_instance.specs.Life.{fresh};
@@ -23,6 +25,7 @@ ghost use Rattle.sfc_core.specs.Table.{table_of};
 ghost use Rattle.sfc_core.specs.Due.{calls_of, calls_at};
 ghost use Rattle.sfc_core.specs.Answers.{value_of, forced_of, standing_of};
 ghost use Rattle.sfc_core.specs.Verdict.{verdict, after, after_all};
+ghost use Rattle.sfc_core.specs.Forcing.{turns};
 ghost use Rattle.sfc_core.specs.Order.{AreInOrder};
 
 /// What is accepted is the latest event of the history, and what is refused changes nothing.
@@ -69,6 +72,23 @@ pub fn values()
         value_of plant ((Release id, t) ∷ h) id ≡ stored_value plant (table_of plant h).changes id.0 }
     ensures others { (plant : PlantData) (h : History) (id other : VarId) (v : Value) (t : ℤ) → id.0 ≢ other.0 →
         value_of plant ((Input id v, t) ∷ h) other ≡ value_of plant h other }
+{}
+
+/// Only a force and a release of a variable change whether and to what it is forced; a scan does not (2.4).
+pub fn forces()
+    ensures { (plant : PlantData) (h : History) (event : Event) (t : ℤ) (id : VarId) → turns id.0 event ≡ false →
+        forced_of plant ((event, t) ∷ h) id ≡ forced_of plant h id }
+{}
+
+/// Nothing that was done with the variables is lost: what later events do comes on top of it. So what an input stored stays
+/// stored until a later change writes the variable, under whatever force (2.4).
+pub fn writes()
+    ensures kept { (plant : PlantData) (later h : History) →
+        (recent : List Change) × ((table_of plant (later ++ h)).changes ≡ recent ++ (table_of plant h).changes) }
+    ensures latest { (plant : PlantData) (later h : History) (id : VarId) (v : Value) (t : ℤ) (recent : List Change) →
+        (table_of plant (later ++ (Input id v, t) ∷ h)).changes ≡ recent ++ Stored id v ∷ (table_of plant h).changes →
+        All (λ change. image.writes plant id.0 change ≡ false) recent →
+        stored_value plant (table_of plant (later ++ (Input id v, t) ∷ h)).changes id.0 ≡ v }
 {}
 
 /// A scan of a task, due or forced, leaves how the instances of other tasks stand (2.7.2).

@@ -26,7 +26,6 @@ use std::alloc::{AllocError, Global};
 
 /// A plant that runs by scans, inputs, forces and resets. It keeps what the next event needs, and no history: what an event
 /// costs is bounded by the plant.
-#[derive(Drop)]
 pub struct Resource {
     plant: Plant,
     machine: Machine,
@@ -37,6 +36,18 @@ pub struct Resource {
     ghost last_low: { negsuc 0 ≤ℤ last },
     ghost last_high: { last ≤ℤ pos (2 ^ 62) },
     ghost told: { ∥ ((h : History) × Keeps plant machine tasks last h) ∥₁ },
+}
+
+// By hand, so that a caller that drops one proves one call.
+impl Drop for Resource {
+    fn drop(self) {
+        let Resource {
+            plant: _,
+            machine: _,
+            tasks: _,
+            last: _,
+        } = self;
+    }
 }
 
 #[tactic(auto, unfolding(crate::specs::Agreement::Agrees, crate::specs::Agreement::plant_of))]
@@ -58,7 +69,6 @@ impl Resource {
 
     /// A resource that has seen no event: each variable has its initial value, none is forced, and no instance was
     /// scanned. All room that events need is made here; the one error is that memory was refused.
-    #[tactic(auto, unfolding(crate::specs::Agreement::Agrees, crate::specs::Agreement::plant_of, crate::specs::Table::table_of, crate::specs::Due::calls_of))]
     pub fn open(alloc: Global, plant: Plant) -> Result<Resource, AllocError>
         ensures agrees { IfOk result (λ resource. Agrees resource []) }
         ensures plant { IfOk result (λ resource. plant_of resource ≡ plant) }

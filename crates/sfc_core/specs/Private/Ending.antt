@@ -1,5 +1,5 @@
 -- What the end of an event tells.
-use Rattle.std.specs.Prelude.{ℕ, ⊤, List, ℤ}
+use Rattle.std.specs.Prelude.{⊤, List, ℤ}
 use Rattle.sfc_chart.specs.declared.ids.TaskId.{TaskId}
 use Rattle.sfc_chart.specs.declared.task.Task.{Task}
 use Rattle.sfc_chart.specs.Plants.{PlantData}

@@ -1,4 +1,4 @@
-use Rattle.std.proofs.Common.{◌≡◌, ◌∙◌, None, Some, ap, slice_get, sym, Option, List}
+use Rattle.std.proofs.Common.{◌≡◌, ◌∙◌, None, Some, ap, slice_get, List}
 use Rattle.sfc_chart.specs.Image.{image_places}
 use Rattle.sfc_chart.specs.declared.image_variable.ImageVariable.{ImageVariable}
 use Rattle.sfc_chart.specs.declared.image_variable.ImageVariable.TheVariants.{Global, Local}

@@ -1,4 +1,4 @@
-use Rattle.std.proofs.Common.{◌≡◌, ◌∙◌, ◌∷◌, ◌≤ℤ◌, arith, pos, negsuc, w64, SFits, to_z-of_z}
+use Rattle.std.proofs.Common.{◌∙◌, ◌∷◌, arith, w64, SFits, to_z-of_z}
 use Rattle.std.proofs.Math.Logic.{∥∥₁_map, ∥∥₁_elim}
 use Rattle.std.proofs.lemmas.Int.{ints}
 use Rattle.std.specs.Coded.{×_prop, le_prop}
@@ -13,9 +13,10 @@ invariant_of-self c =
     let s = c.args.self.now in
     let fits : SFits w64 c.args.t = c.ranges.t in
     let after =
-    kept_after s.plant c.args.event c.args.t s.machine c.change-bits.new.machine c.args.due c.serve.new.self c.rise.new.self c.read-after.result
-    c.copy_from.new.self (simp (to_z-of_z, fits) at c.change-bits.ensures.kept) c.read-after.ensures.value c.serve.ensures.singles
-    (c.serve.ensures.kept s.plant.tasks) (simp (to_z-of_z, fits) at (c.rise.ensures.kept s.plant.tasks)) (c.copy_from.ensures.kept s.plant.tasks) in
+    kept_after s.plant c.args.event c.args.t s.machine c.change-bits.new.machine c.args.due c.serve.new.self c.rise.new.self
+    c.read-after.result c.copy_from.new.self (simp (to_z-of_z, fits) at c.change-bits.ensures.kept) c.read-after.ensures.value
+    c.serve.ensures.singles (c.serve.ensures.kept s.plant.tasks) (simp (to_z-of_z, fits) at (c.rise.ensures.kept s.plant.tasks))
+    (c.copy_from.ensures.kept s.plant.tasks) in
     record {
       whole = c.change-bits.ensures.sizes;
       places = c.copy_from.ensures.size ∙ c.rise.ensures.size ∙ c.serve.ensures.size ∙ c.requires.sizes.tasks;
@@ -32,9 +33,10 @@ returns-clause-value c h a =
     let s = c.args.self.now in
     let fits : SFits w64 c.args.t = c.ranges.t in
     let after =
-    kept_after s.plant c.args.event c.args.t s.machine c.change-bits.new.machine c.args.due c.serve.new.self c.rise.new.self c.read-after.result
-    c.copy_from.new.self (simp (to_z-of_z, fits) at c.change-bits.ensures.kept) c.read-after.ensures.value c.serve.ensures.singles
-    (c.serve.ensures.kept s.plant.tasks) (simp (to_z-of_z, fits) at (c.rise.ensures.kept s.plant.tasks)) (c.copy_from.ensures.kept s.plant.tasks) in
+    kept_after s.plant c.args.event c.args.t s.machine c.change-bits.new.machine c.args.due c.serve.new.self c.rise.new.self
+    c.read-after.result c.copy_from.new.self (simp (to_z-of_z, fits) at c.change-bits.ensures.kept) c.read-after.ensures.value
+    c.serve.ensures.singles (c.serve.ensures.kept s.plant.tasks) (simp (to_z-of_z, fits) at (c.rise.ensures.kept s.plant.tasks))
+    (c.copy_from.ensures.kept s.plant.tasks) in
     c.outcome.ensures s.plant.tasks _ (after h a.machines (c.requires.ready h a)).tasked
     ∙ answered s.plant h c.args.event c.args.t c.change-bits.result
     (simp (to_z-of_z, fits) at (c.change-bits.ensures.bits (table_of s.plant h) a.machines))
@@ -45,9 +47,10 @@ returns-clause-kept c h a =
     let s = c.args.self.now in
     let fits : SFits w64 c.args.t = c.ranges.t in
     let after =
-    kept_after s.plant c.args.event c.args.t s.machine c.change-bits.new.machine c.args.due c.serve.new.self c.rise.new.self c.read-after.result
-    c.copy_from.new.self (simp (to_z-of_z, fits) at c.change-bits.ensures.kept) c.read-after.ensures.value c.serve.ensures.singles
-    (c.serve.ensures.kept s.plant.tasks) (simp (to_z-of_z, fits) at (c.rise.ensures.kept s.plant.tasks)) (c.copy_from.ensures.kept s.plant.tasks) in
+    kept_after s.plant c.args.event c.args.t s.machine c.change-bits.new.machine c.args.due c.serve.new.self c.rise.new.self
+    c.read-after.result c.copy_from.new.self (simp (to_z-of_z, fits) at c.change-bits.ensures.kept) c.read-after.ensures.value
+    c.serve.ensures.singles (c.serve.ensures.kept s.plant.tasks) (simp (to_z-of_z, fits) at (c.rise.ensures.kept s.plant.tasks))
+    (c.copy_from.ensures.kept s.plant.tasks) in
     simp (to_z-of_z, fits) (after h a.machines (c.requires.ready h a))
 
 pub returns-clause-ticks : goal.returns-clause-ticks

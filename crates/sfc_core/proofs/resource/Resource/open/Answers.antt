@@ -14,3 +14,7 @@ invariant_of-result c = record {
   last_high = omega (arith, ints);
   told = ∣ ([], record { instant = refl; machines = c.in_ok-machine.ensures.agrees; tasked = c.new-tasks.ensures.agrees }) ∣₁;
 }
+
+pub returns-clause-agrees : goal.returns-clause-agrees
+unfolding Agrees plant_of calls_of table_of
+returns-clause-agrees c = record { instant = refl; machines = c.in_ok-machine.ensures.agrees; tasked = c.new-tasks.ensures.agrees }

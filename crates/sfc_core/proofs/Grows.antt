@@ -1,0 +1,225 @@
+-- What events do with the variables: a scan only stores, and nothing that was done before is lost.
+use Rattle.std.proofs.Common.{◌≡◌, ◌∙◌, ℕ, suc, ◌==◌, Bool, true, false, cond, List, [], ◌∷◌, ◌++◌, filter_map, slice_get, refl, sym, ap, ℤ}
+use Rattle.std.proofs.Common.{Option, Some, None, Result, Ok, Err}
+use Rattle.std.specs.List.{cons_option}
+use Rattle.std.specs.Option.{option_map}
+use Rattle.std.proofs.lemmas.List.{append_assoc}
+use Rattle.sfc_expr.specs.declared.fault.Fault.{Fault}
+use Rattle.sfc_expr.specs.declared.value.Value.{Value}
+use Rattle.sfc_expr.specs.declared.variable.Variable.{Variable}
+use Rattle.sfc_expr.specs.Environment.{Environment}
+use Rattle.sfc_expr.specs.Effect.{Outcome, effect}
+use Rattle.sfc_tables.specs.Tables.{Tabled, tables_of}
+use Rattle.sfc_tables.specs.declared.association.Target.{Target}
+use Rattle.sfc_tables.specs.declared.association.Target.TheVariants.{Boolean, Declared}
+use Rattle.sfc_action.specs.ActionControl as control
+use Rattle.sfc_chart.specs.declared.ids.ProgId.{ProgId}
+use Rattle.sfc_chart.specs.declared.ids.TaskId.{TaskId}
+use Rattle.sfc_chart.specs.declared.instance.Instance.{Instance}
+use Rattle.sfc_chart.specs.Plants.{PlantData}
+use Rattle.sfc_image.specs.Changes.{Change, Stored, Forced, Released, Reset}
+use Rattle.sfc_image.specs.Values.{forced_value}
+use Rattle.sfc_image.specs.Environments.{number_of}
+use Rattle.sfc_image.specs.Bodies.{stored_to, left_in, left_by, changes_in, assignment, variables_of}
+use Rattle.sfc_image.proofs.Written.{forced_there, released_there}
+use Rattle.sfc_instance.specs.declared.scan_fault.ScanFault.{ScanFault}
+use Rattle.sfc_instance.specs.Life.{Life, Row, control_scans}
+use Rattle.sfc_instance.specs.Setting.{chart_of}
+use Rattle.sfc_instance.specs.ProgramScan.{and_then, body_in, after_body, acted, after_actions, condition_fault, environment}
+use Rattle.sfc_instance.specs.ProgramScan.{unless, of_condition, of_control, of_body, with_row, next_row, attempt}
+use Rattle.sfc_instance.specs.ProgramScan.{after_attempt, unless_faulted}
+use Rattle.sfc_events.specs.declared.event.Event.{Event}
+use Rattle.sfc_events.specs.declared.event.Event.TheVariants as event
+use Rattle.sfc_events.specs.History.{History}
+use Rattle.sfc_machine.specs.Table.{Table, after_program, program_scan, after_instance, after_task}
+use Rattle.sfc_core.specs.Table.{after_event, table_of}
+use Rattle.sfc_core.specs.Forcing.{turns}
+
+abbrev IsStore : Change → Type 0
+IsStore (Stored id v) = Unit {0}
+IsStore (Forced id v) = ⊥
+IsStore (Released id) = ⊥
+IsStore (Reset p) = ⊥
+
+abbrev AreStores : List Change → Type 0
+AreStores [] = Unit {0}
+AreStores (change ∷ changes) = IsStore change × AreStores changes
+
+-- these changes, and before them the old ones
+record Grows (old new : List Change) : Type 0 where
+  recent : List Change
+  is : new ≡ recent ++ old
+  stores : AreStores recent
+
+both_store : (xs ys : List Change) → AreStores xs → AreStores ys → AreStores (xs ++ ys)
+both_store [] ys first second = second
+both_store (x ∷ xs) ys (one, first) second = (one, both_store xs ys first second)
+
+stays : (changes : List Change) → Grows changes changes
+stays changes = record { recent = []; is = refl; stores = tt }
+
+on_and_on : (a b d : List Change) → Grows a b → Grows b d → Grows a d
+on_and_on a b d f g = record {
+  recent = g.recent ++ f.recent;
+  is = g.is ∙ ap (λ (xs : List Change). g.recent ++ xs) f.is ∙ sym (append_assoc g.recent f.recent a);
+  stores = both_store g.recent f.recent g.stores f.stores;
+}
+
+-- ---- bodies
+
+assigned : (x : Value) (o : Option ℕ) → AreStores (changes_in (option_map (stored_to x) o))
+assigned x None = tt
+assigned x (Some i) = (tt, tt)
+
+one_left : (x : Value) (o : Option ℕ) (changes : List Change) → AreStores changes
+    → AreStores (cons_option (option_map (stored_to x) o) changes)
+one_left x None changes all = all
+one_left x (Some i) changes all = (tt, all)
+
+left_among : (plant : PlantData) (p : ProgId) (env : Environment) (vs : List Variable) → AreStores (filter_map (left_in plant p env) vs)
+left_among plant p env [] = tt
+left_among plant p env (v ∷ vs) =
+    one_left (env.stored_at v) (number_of plant p v) (filter_map (left_in plant p env) vs) (left_among plant p env vs)
+
+-- ---- results
+
+abbrev GrowsBy : {F : Type 0} → List Change → Result (List Change) F → Type 0
+GrowsBy old (Ok new) = Grows old new
+GrowsBy old (Err f) = Unit {0}
+
+on_by : {F : Type 0} (a b : List Change) (r : Result (List Change) F) → Grows a b → GrowsBy b r → GrowsBy a r
+on_by a b (Ok new) f g = on_and_on a b new f g
+on_by a b (Err e) f g = tt
+
+either_by : {F : Type 0} (b : Bool) (old : List Change) (r s : Result (List Change) F) → GrowsBy old r → GrowsBy old s
+    → GrowsBy old (cond b r s)
+either_by true old r s f g = f
+either_by false old r s f g = g
+
+then_by : {F : Type 0} (old : List Change) (r : Result (List Change) F) (next : List Change → Result (List Change) F) → GrowsBy old r
+    → ((mid : List Change) → GrowsBy mid (next mid)) → GrowsBy old (and_then r next)
+then_by old (Ok mid) next f g = on_by old mid (next mid) f (g mid)
+then_by old (Err e) next f g = tt
+
+unless_by : (o : Option ScanFault) (old : List Change) (r : Result (List Change) ScanFault) → GrowsBy old r → GrowsBy old (unless o r)
+unless_by None old r f = f
+unless_by (Some e) old r f = tt
+
+body_by : (old : List Change) (r : Result (List Change) Fault) → GrowsBy old r → GrowsBy old (of_body r)
+body_by old (Ok new) f = f
+body_by old (Err e) f = tt
+
+-- ---- a scan of an instance
+
+module _ (plant : PlantData) (p : ProgId) where
+  body_grows : (old : List Change) (r : Result (Unit {0}) Fault) (env : Environment)
+      → GrowsBy old (and_then r (λ (u : Unit {0}). Ok (left_by plant p env ++ old)))
+  body_grows old (Ok u) env = record { recent = left_by plant p env; is = refl; stores = left_among plant p env (variables_of plant p) }
+  body_grows old (Err e) env = tt
+
+  acted_grows : (life : Life) (t : ℤ) (a : ℕ) (target : Target) (old : List Change) → GrowsBy old (acted plant p life t a target old)
+  acted_grows life t a (Boolean v) old = record {
+    recent = assignment plant p v _;
+    is = refl;
+    stores = assigned _ (number_of plant p v);
+  }
+  acted_grows life t a (Declared id) old =
+      let tables : Tabled = tables_of (chart_of plant p) in
+      let scans = control_scans tables life in
+      let body = body_in (slice_get (chart_of plant p).actions id.0) in
+      let outcome : Outcome = effect body (environment plant p life old t (control.q tables a scans)) in
+      either_by (control.executed tables a scans) old (after_body plant p old outcome) (Ok old)
+      (body_grows old outcome.result outcome.environment) (stays old)
+
+  actions_grow : (life : Life) (t : ℤ) (a : ℕ) (targets : List Target) (old : List Change)
+      → GrowsBy old (after_actions plant p life t a targets old)
+  actions_grow life t a [] old = stays old
+  actions_grow life t a (target ∷ targets) old =
+      then_by old (acted plant p life t a target old) (λ mid. after_actions plant p life t (suc a) targets mid)
+      (acted_grows life t a target old) (λ mid. actions_grow life t (suc a) targets mid)
+
+  attempt_grows : (life : Life) (old : List Change) (t : ℤ) → GrowsBy old (attempt plant p life old t)
+  attempt_grows life old t =
+      let tables : Tabled = tables_of (chart_of plant p) in
+      let row : Row = next_row plant p life old t in
+      let env = environment plant p life old t false in
+      let acts : Result (List Change) Fault = after_actions plant p (row ∷ life) t 0 tables.actions old in
+      unless_by (of_condition (condition_fault tables (chart_of plant p) env life tables.ranked)) old (with_row plant p life old t row)
+      (unless_by (of_control (control.first_fault tables (control_scans tables (row ∷ life)))) old (of_body acts)
+      (body_by old acts (actions_grow (row ∷ life) t 0 tables.actions old)))
+
+  after_grows : (life : Life) (old : List Change) (row : Row) (r : Result (List Change) ScanFault) → GrowsBy old r
+      → Grows old (after_attempt life old row r).changes
+  after_grows life old row (Ok new) f = f
+  after_grows life old row (Err e) f = stays old
+
+  scan_grows : (life : Life) (old : List Change) (t : ℤ) (o : Option ScanFault) → Grows old (unless_faulted plant p life old t o).changes
+  scan_grows life old t None = after_grows life old (next_row plant p life old t) (attempt plant p life old t) (attempt_grows life old t)
+  scan_grows life old t (Some f) = stays old
+
+-- ---- a scan of a task
+
+either_grows : (b : Bool) (old : List Change) (x y : Table) → Grows old x.changes → Grows old y.changes → Grows old (cond b x y).changes
+either_grows true old x y f g = f
+either_grows false old x y f g = g
+
+program_grows : (plant : PlantData) (t : ℤ) (k : ℕ) (table : Table) → Grows table.changes (program_scan plant t k table).changes
+unfolding program_scan
+program_grows plant t k table = scan_grows plant (record { 0 = k }) (table.standing k).life table.changes t (table.standing k).fault
+
+task_grows : (plant : PlantData) (task : TaskId) (t : ℤ) (k : ℕ) (instances : List Instance) (table : Table)
+    → Grows table.changes (after_task plant task t k instances table).changes
+task_grows plant task t k [] table = stays table.changes
+task_grows plant task t k (instance ∷ instances) table =
+    let next : Table = after_instance plant task t k instance table in
+    on_and_on table.changes next.changes (after_task plant task t (suc k) instances next).changes
+    (either_grows (instance.task.0 == task.0) table.changes (after_program (record { 0 = k }) (program_scan plant t k table) table) table
+    (program_grows plant t k table) (stays table.changes))
+    (task_grows plant task t (suc k) instances next)
+
+-- ---- an event
+
+-- what was done before stands below what the event did
+event_grows : (plant : PlantData) (e : Event) (t : ℤ) (table : Table)
+    → (recent : List Change) × ((after_event plant e t table).changes ≡ recent ++ table.changes)
+event_grows plant (event.Scan task) t table = let g = task_grows plant task t 0 plant.instances table in (g.recent, g.is)
+event_grows plant (event.ForcedScan task) t table = let g = task_grows plant task t 0 plant.instances table in (g.recent, g.is)
+event_grows plant (event.Input id v) t table = (Stored id v ∷ [], refl)
+event_grows plant (event.Force id v) t table = (Forced id v ∷ [], refl)
+event_grows plant (event.Release id) t table = (Released id ∷ [], refl)
+event_grows plant (event.Reset p) t table = (Reset p ∷ [], refl)
+
+pub history_grows : (plant : PlantData) (later h : History)
+    → (recent : List Change) × ((table_of plant (later ++ h)).changes ≡ recent ++ (table_of plant h).changes)
+unfolding table_of
+history_grows plant [] h = ([], refl)
+history_grows plant (entry ∷ later) h =
+    let before = history_grows plant later h in
+    let now = event_grows plant entry.0 entry.1 (table_of plant (later ++ h)) in (
+      now.0 ++ before.0,
+      now.1 ∙ ap (λ (xs : List Change). now.0 ++ xs) before.1 ∙ sym (append_assoc now.0 before.0 (table_of plant h).changes),
+    )
+
+-- ---- forces
+
+unforced : (recent old : List Change) (i : ℕ) → AreStores recent → forced_value (recent ++ old) i ≡ forced_value old i
+unforced [] old i all = refl
+unforced (Stored id v ∷ recent) old i (one, all) = unforced recent old i all
+unforced (Forced id v ∷ recent) old i (one, all) = absurd one
+unforced (Released id ∷ recent) old i (one, all) = absurd one
+unforced (Reset p ∷ recent) old i (one, all) = absurd one
+
+task_forces : (plant : PlantData) (task : TaskId) (t : ℤ) (table : Table) (i : ℕ)
+    → forced_value (after_task plant task t 0 plant.instances table).changes i ≡ forced_value table.changes i
+task_forces plant task t table i =
+    let g = task_grows plant task t 0 plant.instances table in
+    ap (λ (xs : List Change). forced_value xs i) g.is ∙ unforced g.recent table.changes i g.stores
+
+pub event_forces : (plant : PlantData) (e : Event) (t : ℤ) (table : Table) (i : ℕ) → turns i e ≡ false
+    → forced_value (after_event plant e t table).changes i ≡ forced_value table.changes i
+event_forces plant (event.Scan task) t table i off = task_forces plant task t table i
+event_forces plant (event.ForcedScan task) t table i off = task_forces plant task t table i
+event_forces plant (event.Input id v) t table i off = refl
+event_forces plant (event.Force id v) t table i off = forced_there table.changes id v i off
+event_forces plant (event.Release id) t table i off = released_there table.changes id i off
+event_forces plant (event.Reset p) t table i off = refl
