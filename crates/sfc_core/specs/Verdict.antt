@@ -36,6 +36,7 @@ use Rattle.sfc_core.specs.Answers.{overruns_of}
 
 -- ---- refusals
 
+-- the refusal, where its condition stands
 abbrev pub refused_if : Bool → Refusal → Option Refusal
 refused_if b refusal = cond b (Some refusal) None
 
@@ -52,9 +53,11 @@ is_out_of_range t = int_lt t (pos 0) || int_lt (pos (2 ^ 62)) t
 abbrev pub instant_refusal : ℤ → ℤ → Option Refusal
 instant_refusal last t = or_then (refused_if (is_out_of_range t) InstantRange) (refused_if (int_lt t last) ClockBack)
 
+-- there is no such task
 abbrev pub task_refusal : PlantData → TaskId → Option Refusal
 task_refusal plant task = refused_if (not (nat_lt task.0 (length plant.tasks))) UnknownTask
 
+-- there is no such program instance
 abbrev pub program_refusal : PlantData → ProgId → Option Refusal
 program_refusal plant p = refused_if (not (nat_lt p.0 (length plant.instances))) UnknownProgram
 
@@ -65,20 +68,23 @@ of_image (Some image.UnknownVar) = Some UnknownVar
 of_image (Some image.ValueType) = Some ValueType
 of_image (Some image.NotForced) = Some NotForced
 
+-- the part of the address space that is written %I
 abbrev pub is_input_area : Area → Bool
 is_input_area areas.Input = true
 is_input_area areas.Output = false
 is_input_area areas.Memory = false
 
+-- a location in it
 abbrev pub is_located_input : Option Location → Bool
 is_located_input None = false
 is_located_input (Some location) = is_input_area location.area
 
--- located at %I (2.4.1.1)
+-- a variable located there (2.4.1.1)
 abbrev pub is_input : Option Variable → Bool
 is_input None = false
 is_input (Some variable) = is_located_input variable.location
 
+-- it is no input
 abbrev pub input_refusal : PlantData → VarId → Option Refusal
 input_refusal plant id = refused_if (not (is_input (slice_get (image_variables plant) id.0))) NotInput
 
@@ -97,6 +103,7 @@ due_refusal tasks singles calls task t =
     refused_if (is_none (waits_since tasks calls task.0))
     (NotDue (next_release (interval_of tasks task.0) (single_of singles task.0) t))
 
+-- this one goes first, if one does
 abbrev pub yield_to : TaskId → Option TaskId → Option Refusal
 yield_to task None = None
 yield_to task (Some first) = refused_if (not (first.0 == task.0)) (Yield first)
@@ -144,10 +151,12 @@ answer plant h (Force id v) t = Done
 answer plant h (Release id) t = Done
 answer plant h (Reset p) t = Done
 
+-- the refusal, if there is one, else the answer
 abbrev pub verdict_by : Option Refusal → Outcome → Result Outcome Refusal
 verdict_by (Some refusal) outcome = Err refusal
 verdict_by None outcome = Ok outcome
 
+-- on an event at t after a history
 abbrev pub verdict : PlantData → History → Event → ℤ → Result Outcome Refusal
 verdict plant h event t = verdict_by (first_refusal plant h event t) (answer plant h event t)
 
@@ -158,6 +167,7 @@ abbrev pub history_by : Result Outcome Refusal → History → Entry → History
 history_by (Ok outcome) h entry = entry ∷ h
 history_by (Err refusal) h entry = h
 
+-- the history after an event, accepted or not
 abbrev pub after : PlantData → History → Entry → History
 after plant h entry = history_by (verdict plant h entry.0 entry.1) h entry
 

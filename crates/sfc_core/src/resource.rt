@@ -52,7 +52,7 @@ impl Drop for Resource {
 
 #[tactic(auto, unfolding(crate::specs::Agreement::Agrees, crate::specs::Agreement::plant_of))]
 impl Resource {
-    ghost use Rattle.std.specs.Prelude.{◌∷◌, [], List, None, OnOk, OnErr, IfOk, is_ok, ◌+◌};
+    ghost use Rattle.std.specs.Prelude.{◌∷◌, ◌≤◌, [], List, None, OnOk, OnErr, IfOk, is_ok, ◌+◌};
     ghost use Rattle.sfc_expr.specs.Ticks.{Within};
     ghost use Rattle.sfc_tables.specs.Tables.{tables_of};
     ghost use Rattle.sfc_image.specs.Values.{variable_count};
@@ -191,10 +191,12 @@ impl Resource {
         self.machine.setting(&self.plant, instance)
     }
 
-    /// How many variables there are.
+    /// How many variables there are, at most 4,096.
     pub fn variables(&self) -> usize
-        ensures { result ≡ variable_count (plant_of self.now) }
+        ensures count { result ≡ variable_count (plant_of self.now) }
+        ensures limit { result ≤ 4096 }
     {
+        let _instances = self.plant.instances();
         self.machine.variables()
     }
 

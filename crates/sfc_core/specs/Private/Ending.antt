@@ -27,6 +27,7 @@ abbrev pub scanned : List Task → List Call → Bits → TaskId → Outcome
 scanned tasks calls bits task =
     Scanned bits.ran bits.faulted bits.skipped (overruns (interval_of tasks task.0) task.0 calls)
 
+-- what an accepted event answers
 abbrev pub outcome_by : List Task → List Call → Bits → Event → Outcome
 outcome_by tasks calls bits (Scan task) = scanned tasks calls bits task
 outcome_by tasks calls bits (ForcedScan task) = scanned tasks calls bits task

@@ -2,10 +2,10 @@ use Rattle.std.proofs.Common.{◌≡◌, [], Ok, Err, subst}
 use Rattle.std.proofs.lemmas.Result.{err_from_is_err_and}
 use Rattle.sfc_tokens.specs.Writing.{Writes}
 use Rattle.sfc_core.specs.Agreement.{plant_of}
-use Rattle.sfc_monitor.specs.Script.{commands_of_script}
+use Rattle.sfc_script.specs.Scripts.{commands_of_script}
 use Rattle.sfc_monitor.specs.Output.{lines_of_play}
 use Rattle.sfc_monitor.specs.Reading.{Device}
-use Rattle.sfc_monitor.specs.Replay.{IsAccepted, Accepts, most}
+use Rattle.sfc_monitor.specs.Acceptance.{IsAccepted, Accepts, most}
 use Rattle.sfc_monitor.proofs.Taken.{lost}
 use Rattle.sfc_monitor.proofs.Replayed.{Keeps-same, chart_unread, chart_stopped, memory_stopped, script_unread, script_stopped, played}
 use Rattle.sfc_monitor.proofs.replay.replay.Goals as goal
