@@ -29,6 +29,7 @@ sed 's/INITIAL_STEP/STEP/' "$chart" >"$work/dark.chart"
 # the chart that docs/LANGUAGE.md shows
 awk '/^```/ { if (++fence == 2) exit; next } fence == 1' "$top/docs/LANGUAGE.md" >"$work/press.chart"
 printf 'T#0s SCAN Main\nT#0s JUMP\n' >"$work/faulty.script"
+printf 'T#0s SCAN Fast\n' >"$work/press.script"
 printf 'T#0s SCAN Main\nT#1ms SCAN Main\n' >"$work/early.script"
 
 for example in "$examples"/*.chart; do
@@ -87,7 +88,6 @@ fails "a chart to be listed that isn't there" 3 "read fault" list "$work/no.char
 fails "a chart that is checked, and that the reader refuses" 1 "refused 4 Syntax line 2" check "$work/faulty.chart"
 fails "a chart that is checked, and that the loader refuses" 1 "refused 14 NoInitial" check "$work/dark.chart"
 fails "a chart to be checked that isn't there" 3 "read fault" check "$work/no.chart"
-fails "a chart that has more than is run so far" 1 "not supported" replay "$work/press.chart" "$script"
 fails "a chart that the reader refuses" 1 "refused 4 Syntax line 2" replay "$work/faulty.chart" "$script"
 fails "a chart that the loader refuses" 1 "refused 14 NoInitial" replay "$work/dark.chart" "$script"
 fails "a script that is refused" 1 "script line 2" replay "$chart" "$work/faulty.script"
@@ -96,6 +96,9 @@ fails "a script that isn't there" 3 "read fault" replay "$chart" "$work/no.scrip
 fails "a script that isn't there, with a chart that is refused" 3 "read fault" replay "$work/dark.chart" "$work/no.script"
 fails "a folder" 3 "read fault" replay "$work" "$script"
 
+run replay "$work/press.chart" "$work/press.script"
+ends 0 && mentions "  Press1 1 steps Open=T#0s cleared - run OpenLamp" out && says ""
+note $? "the chart that is shown"
 run replay "$chart" "$work/early.script"
 ends 0 && mentions "refused 29 NotDue" out && says ""
 note $? "a command that is refused leaves status 0"

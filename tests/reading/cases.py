@@ -1,8 +1,8 @@
 #!/usr/bin/env python3
 """Runs files of cases through the reading: `cases.py FOLDER`. Their form is told in crates/conformance/README.md.
 
-Cases of `list` are passed over, and so are charts and scripts that are to be refused: the reading takes well-formed charts. A case
-whose output isn't as it is to be is shown; the last line is `N passed, M failed, K passed over`.
+Cases of `check` and `list` are passed over, and so are charts that are to be refused: the reading takes well-formed charts. A case
+that doesn't end as it is to is shown; the last line is `N passed, M failed, K passed over`.
 """
 
 import re
@@ -93,13 +93,19 @@ def case_of(path: Path) -> Case:
     return found
 
 
+def is_played(case: Case) -> bool:
+    """Whether the case is a replay of a chart that is to be loaded."""
+    return case.words["command"] == "replay" and not case.words["stderr"].startswith("refused")
+
+
 def differs(case: Case) -> str:
-    """What the reading prints where it isn't as it is to be; else an empty text."""
+    """How the reading ends where that isn't as it is to be; else an empty text."""
     try:
         got = replayed(case.chart(), case.text("script"))
     except Ended as ended:
         got = f"ended: {ended.args[0]}\n"
-    wanted = case.text("output").decode("latin-1")
+    refused = case.words["stderr"]
+    wanted = f"ended: {refused}\n" if refused else case.text("output").decode("latin-1")
     return "" if got == wanted else f"wanted\n{wanted}got\n{got}"
 
 
@@ -109,7 +115,7 @@ def main() -> int:
     for path in sorted(folder.iterdir()):
         found = cases_of(path) if path.suffix == ".cases" else [case_of(path)] if path.suffix == ".case" else []
         for case in found:
-            if case.words["command"] != "replay" or case.words["status"] != "0":
+            if not is_played(case):
                 over += 1
                 continue
             why = differs(case)
