@@ -66,3 +66,15 @@ module _ (plant : PlantData) (old mid : Option (List ℕ)) (before waits : List 
 
   pub all_played : (u : IsUnderWay plant old mid before waits resource h entries []) → Agrees resource (after_all plant h entries)
   all_played u = subst (λ (x : History). Agrees resource x) (sym u.after_same) u.agrees
+
+-- ---- and then the image
+
+pub with_image : (commands done waits text image : List ℕ) → commands ≡ done ++ waits → text ≡ waits ++ image → commands ++ image ≡ done ++ text
+with_image commands done waits text image e f =
+    ap (λ (x : List ℕ). x ++ image) e ∙ append_assoc done waits image ∙ ap (λ (x : List ℕ). done ++ x) (sym f)
+
+-- the lines of commands that were written, before others
+pub front_before : (old mid : Option (List ℕ)) (commands done waits image : List ℕ) → commands ≡ done ++ waits → Appends old mid done
+    → AppendsFront old mid (commands ++ image)
+front_before old mid commands done waits image e a =
+    (done, waits ++ image, ap (λ (x : List ℕ). x ++ image) e ∙ append_assoc done waits image, a)

@@ -1,5 +1,7 @@
-use Rattle.std.proofs.Common.{◌<◌, ◌+◌, ◌-◌, ◌++◌, ℕ, List, length, arith, ap, ◌∙◌, append_assoc, sym}
+use Rattle.std.proofs.Common.{◌≡◌, ◌<◌, ◌+◌, ◌-◌, ◌++◌, ℕ, List, Option, length, arith, ap, sym, ◌∙◌, append_assoc}
 use Rattle.std.specs.List.{flat_map, range_with_len}
+use Rattle.sfc_chart.specs.Plants.{PlantData}
+use Rattle.sfc_instance.specs.declared.ended.Ended.{Ended}
 use Rattle.sfc_core.specs.Agreement.{plant_of}
 use Rattle.sfc_core.specs.Table.{table_of}
 use Rattle.sfc_output.specs.Commands.{ended_in, told_line}
@@ -7,4 +9,16 @@ use Rattle.sfc_monitor.proofs.Numbered.{lines_head}
 use Rattle.sfc_monitor.proofs.answers.append_programs.Goals as goal
 
 pub loop-k-preserved : goal.loop-k-preserved
-loop-k-preserved c h agrees = ?
+loop-k-preserved c h agrees =
+    let plant = plant_of c.args.resource.now in
+    let standing = (table_of plant h).standing in
+    let line = λ (k : ℕ). told_line plant standing k (ended_in c.args.outcome k) in
+    let n = length plant.instances in
+    let k = c.loop-k.k in
+    let out = c.loop-k.out.items in
+    let lt : k < n = omega (arith, c.loop-k-test.true, ap (λ (p : PlantData). length p.instances) c.plant.ensures, ap length c.instances-k-end.ensures.value) in
+    let rest = flat_map line (range_with_len (k + 1) (n - (k + 1))) in
+    let told : c.append_told.new.out.items ≡ out ++ line k =
+        c.in_ok-append_told.ensures h agrees ∙ ap (λ (e : Option Ended). out ++ told_line plant standing k e) c.ended_in-ended.ensures in
+    c.loop-k.invariant h agrees ∙ ap (λ (xs : List ℕ). out ++ xs) (lines_head line k n lt) ∙ sym (append_assoc out (line k) rest)
+    ∙ ap (λ (x : List ℕ). x ++ rest) (sym told)
