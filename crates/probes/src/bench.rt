@@ -24,33 +24,44 @@ pub struct Bench {
     resource: Resource,
 }
 
+// Whether a step is active, whether the latest scan activated it, and its time.
+fn step_at(tables: &Tables, program: &Program, step: StepId) -> (bool, bool, i64)
+    requires sizes { IsFor tables.now program.now }
+    requires step { step.0 < length tables.now.initial }
+{
+    (
+        program.active(step),
+        program.activated(step),
+        program.elapsed(step),
+    )
+}
+
 // The active steps, those that the latest scan activated, and the times of all.
-fn steps_text(alloc: Global, program: &Program) -> Result<String, AllocError> {
+fn steps_text(alloc: Global, tables: &Tables, program: &Program) -> Result<String, AllocError>
+    requires { IsFor tables.now program.now }
+{
     let mut active = Vec::new(alloc);
     let mut activated = Vec::new(alloc);
     let mut elapsed = Vec::new(alloc);
-    for number in 0..program.steps() {
-        let step = StepId(number as u16);
-        if (step.0 as usize) < program.steps() {
-            if program.active(step) {
-                active.push(number)?;
-            }
-            if program.activated(step) {
-                activated.push(number)?;
-            }
-            elapsed.push(program.elapsed(step))?;
+    for number in 0..tables.steps() {
+        let (is_active, is_activated, time) = step_at(tables, program, StepId(number as u16));
+        if is_active {
+            active.push(number)?;
         }
+        if is_activated {
+            activated.push(number)?;
+        }
+        elapsed.push(time)?;
     }
     format!(in alloc; "active {active:?} activated {activated:?} elapsed {elapsed:?}")
 }
 
 // Whether the latest scan cleared the transition.
-fn is_cleared(tables: &Tables, program: &Program, number: usize) -> bool
+fn is_cleared(tables: &Tables, program: &Program, transition: TransitionId) -> bool
     requires sizes { IsFor tables.now program.now }
-    requires number { number < length tables.now.sides }
-    requires limit { number < 2048 }
+    requires transition { transition.0 < length tables.now.sides }
 {
-    program.cleared(TransitionId(number as u16))
+    program.cleared(transition)
 }
 
 // The transitions that the latest scan cleared.
@@ -59,7 +70,7 @@ fn transitions_text(alloc: Global, tables: &Tables, program: &Program) -> Result
 {
     let mut cleared = Vec::new(alloc);
     for number in 0..tables.transitions() {
-        if is_cleared(tables, program, number) {
+        if is_cleared(tables, program, TransitionId(number as u16)) {
             cleared.push(number)?;
         }
     }
@@ -112,7 +123,7 @@ fn program_text(alloc: Global, tables: &Tables, program: &Program) -> Result<Str
     requires { IsFor tables.now program.now }
 {
     let scans = program.scans();
-    let steps = steps_text(alloc, program)?;
+    let steps = steps_text(alloc, tables, program)?;
     let transitions = transitions_text(alloc, tables, program)?;
     let actions = actions_text(alloc, tables, program)?;
     format!(in alloc; "{scans} {steps} {transitions} {actions}")
