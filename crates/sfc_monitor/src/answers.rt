@@ -9,13 +9,13 @@ ghost use Rattle.sfc_output.specs.Commands.{answer_lines, program_lines, told_li
 ghost use Rattle.sfc_monitor.specs.Output.{image_lines, variable_line};
 
 use sfc_chart::ids::{ProgId, VarId};
+use sfc_core::resource::Resource;
 use sfc_events::event::{Event, Outcome};
 use sfc_events::refusal::Refusal;
 use sfc_instance::ended::Ended;
 use sfc_output::command::{append_command, append_refusal, ended_in};
 use sfc_output::image_line::append_variable;
 use sfc_output::program::{Shown, append_program};
-use sfc_core::resource::Resource;
 use std::alloc::{AllocError, Global};
 
 // The line of an instance, if the answer tells of it.

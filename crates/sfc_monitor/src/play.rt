@@ -11,9 +11,9 @@ ghost use Rattle.sfc_monitor.specs.Working.Playing.{HasPlayed, PassesOn};
 
 use crate::answers::{append_answer, append_image};
 use crate::monitor_error::MonitorError;
+use sfc_core::resource::Resource;
 use sfc_events::event::Event;
 use sfc_expr::ticks::Ticks;
-use sfc_core::resource::Resource;
 use sfc_tokens::write_fault::put_all;
 use std::alloc::{AllocError, Global};
 use std::io::Write;

@@ -19,6 +19,6 @@ loop-k-preserved c h agrees =
     let lt : k < n = omega (arith, c.loop-k-test.true, ap (λ (p : PlantData). length p.instances) c.plant.ensures, ap length c.instances-k-end.ensures.value) in
     let rest = flat_map line (range_with_len (k + 1) (n - (k + 1))) in
     let told : c.append_told.new.out.items ≡ out ++ line k =
-        c.in_ok-append_told.ensures h agrees ∙ ap (λ (e : Option Ended). out ++ told_line plant standing k e) c.ended_in-ended.ensures in
+    c.in_ok-append_told.ensures h agrees ∙ ap (λ (e : Option Ended). out ++ told_line plant standing k e) c.ended_in-ended.ensures in
     c.loop-k.invariant h agrees ∙ ap (λ (xs : List ℕ). out ++ xs) (lines_head line k n lt) ∙ sym (append_assoc out (line k) rest)
     ∙ ap (λ (x : List ℕ). x ++ rest) (sym told)

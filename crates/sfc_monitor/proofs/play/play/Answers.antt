@@ -45,8 +45,8 @@ returns-in_err-put_all-clause-lines g c h agrees =
     let parts = ap (λ (t : List ℕ). t ++ commands_lines plant h entries) (sym c.new-text.ensures.items) ∙ played.1 in
     let here = plant_of c.play_commands.new.resource in
     let image : text ≡ waits ++ image_lines plant (after_all plant h entries) =
-        subst (λ (p : PlantData). text ≡ waits ++ image_lines p (after_all p h entries)) c.play_commands.ensures.plant
-        (c.in_ok-append_image.ensures (after_all here h entries) (c.in_ok-play_commands.ensures.kept h agrees)) in
+    subst (λ (p : PlantData). text ≡ waits ++ image_lines p (after_all p h entries)) c.play_commands.ensures.plant
+    (c.in_ok-append_image.ensures (after_all here h entries) (c.in_ok-play_commands.ensures.kept h agrees)) in
     rw f.1 (subst (λ (t : List ℕ). AppendsFront old new t)
     (sym (with_image (commands_lines plant h entries) played.0 waits text (image_lines plant (after_all plant h entries)) parts image))
     (front_second old mid new played.0 text played.2 (rw c.deref.ensures.value at c.in_err-put_all.ensures)))
@@ -64,8 +64,8 @@ returns-clause-lines g c h agrees =
     let parts = ap (λ (t : List ℕ). t ++ commands_lines plant h entries) (sym c.new-text.ensures.items) ∙ played.1 in
     let here = plant_of c.play_commands.new.resource in
     let image : text ≡ waits ++ image_lines plant (after_all plant h entries) =
-        subst (λ (p : PlantData). text ≡ waits ++ image_lines p (after_all p h entries)) c.play_commands.ensures.plant
-        (c.in_ok-append_image.ensures (after_all here h entries) (c.in_ok-play_commands.ensures.kept h agrees)) in
+    subst (λ (p : PlantData). text ≡ waits ++ image_lines p (after_all p h entries)) c.play_commands.ensures.plant
+    (c.in_ok-append_image.ensures (after_all here h entries) (c.in_ok-play_commands.ensures.kept h agrees)) in
     subst (λ (t : List ℕ). Appends old new t)
     (sym (with_image (commands_lines plant h entries) played.0 waits text (image_lines plant (after_all plant h entries)) parts image))
     (Appends-more old mid new played.0 text played.2 (rw c.deref.ensures.value at c.in_ok-put_all.ensures))

@@ -22,12 +22,12 @@ commands-preserved g c = record {
       let text = c.run_command.new.text.items in
       let next = c.run_command.new.resource in
       let u : IsUnderWay plant old mid before waits c.commands.resource h c.args.entries.now (entry ∷ rest) =
-          subst (λ (r : List Entry). IsUnderWay plant old mid before waits c.commands.resource h c.args.entries.now r) c.in-Some.ensures.cases.0
-          (c.commands.invariant.under_way h agrees) in
+      subst (λ (r : List Entry). IsUnderWay plant old mid before waits c.commands.resource h c.args.entries.now r) c.in-Some.ensures.cases.0
+      (c.commands.invariant.under_way h agrees) in
       let one = ran plant old mid before waits c.commands.resource h c.args.entries.now entry rest u next text
-          (subst (λ (p : PlantData). Agrees next (after p u.history entry)) c.commands.invariant.plant (c.run_command.ensures.kept u.history u.agrees))
-          (subst (λ (p : PlantData). text ≡ waits ++ command_lines p u.history entry) c.commands.invariant.plant
-          (c.in_ok-run_command.ensures.lines u.history u.agrees)) in
+      (subst (λ (p : PlantData). Agrees next (after p u.history entry)) c.commands.invariant.plant (c.run_command.ensures.kept u.history u.agrees))
+      (subst (λ (p : PlantData). text ≡ waits ++ command_lines p u.history entry) c.commands.invariant.plant
+      (c.in_ok-run_command.ensures.lines u.history u.agrees)) in
       let p = c.in_ok-pass_on.ensures.passed in
       passed plant old mid before text next h c.args.entries.now rest (g.W.Write.contents c.pass_on.new.w) c.pass_on.new.text.items p.0 one p.1 p.2;
 }
@@ -45,10 +45,10 @@ returns-in_err-pass_on-clause-lines g c h agrees =
     let text = c.run_command.new.text.items in
     let next = c.run_command.new.resource in
     let u : IsUnderWay plant old mid before waits c.commands.resource h c.args.entries.now (entry ∷ rest) =
-        subst (λ (r : List Entry). IsUnderWay plant old mid before waits c.commands.resource h c.args.entries.now r) c.in-Some.ensures.cases.0
-        (c.commands.invariant.under_way h agrees) in
+    subst (λ (r : List Entry). IsUnderWay plant old mid before waits c.commands.resource h c.args.entries.now r) c.in-Some.ensures.cases.0
+    (c.commands.invariant.under_way h agrees) in
     let one = ran plant old mid before waits c.commands.resource h c.args.entries.now entry rest u next text
-        (subst (λ (p : PlantData). Agrees next (after p u.history entry)) c.commands.invariant.plant (c.run_command.ensures.kept u.history u.agrees))
-        (subst (λ (p : PlantData). text ≡ waits ++ command_lines p u.history entry) c.commands.invariant.plant
-        (c.in_ok-run_command.ensures.lines u.history u.agrees)) in
+    (subst (λ (p : PlantData). Agrees next (after p u.history entry)) c.commands.invariant.plant (c.run_command.ensures.kept u.history u.agrees))
+    (subst (λ (p : PlantData). text ≡ waits ++ command_lines p u.history entry) c.commands.invariant.plant
+    (c.in_ok-run_command.ensures.lines u.history u.agrees)) in
     rw f.1 (stopped plant old mid before text next h c.args.entries.now rest (g.W.Write.contents c.pass_on.new.w) one c.in_err-pass_on.ensures.passed)

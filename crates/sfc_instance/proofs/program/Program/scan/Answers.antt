@@ -16,10 +16,10 @@ returns-in-Ok-clause-ended c plant standing changes setting agrees h =
     let tables = c.args.setting.tables.now in
     let on : standing.fault ≡ None = sym agrees.fault ∙ no_fault c.args.self.now.fault c.if-is_some.ensures in
     let scanned = subst (λ (x : ℤ). HasScanned plant tables standing.life changes (next_row plant p standing.life changes x) c.scan.new.self.now
-        c.scan.new.image c.scan.result (attempt plant p standing.life changes x)) (to_z-of_z c.ranges.t)
-        (c.scan.ensures.kept plant standing.life changes setting agrees.now h) in
+    c.scan.new.image c.scan.result (attempt plant p standing.life changes x)) (to_z-of_z c.ranges.t)
+    (c.scan.ensures.kept plant standing.life changes setting agrees.now h) in
     let ended = scan_ran plant tables standing.life changes (next_row plant p standing.life changes c.args.t) c.scan.new.self.now c.scan.new.image
-        c.scan.result (attempt plant p standing.life changes c.args.t) c.in-Ok.field-0 c.in-Ok.is scanned in
+    c.scan.result (attempt plant p standing.life changes c.args.t) c.in-Ok.field-0 c.in-Ok.is scanned in
     sym (ap (λ (a : After). a.ended) (after_run plant p standing changes c.args.t on ended.0 ended.1))
 
 pub returns-in-Ok-clause-program : goal.returns-in-Ok-clause-program
@@ -30,12 +30,12 @@ returns-in-Ok-clause-program c plant standing changes setting agrees h =
     let none = no_fault c.args.self.now.fault c.if-is_some.ensures in
     let on : standing.fault ≡ None = sym agrees.fault ∙ none in
     let scanned = subst (λ (x : ℤ). HasScanned plant tables standing.life changes (next_row plant p standing.life changes x) c.scan.new.self.now
-        c.scan.new.image c.scan.result (attempt plant p standing.life changes x)) (to_z-of_z c.ranges.t)
-        (c.scan.ensures.kept plant standing.life changes setting agrees.now h) in
+    c.scan.new.image c.scan.result (attempt plant p standing.life changes x)) (to_z-of_z c.ranges.t)
+    (c.scan.ensures.kept plant standing.life changes setting agrees.now h) in
     let ended = scan_ran plant tables standing.life changes (next_row plant p standing.life changes c.args.t) c.scan.new.self.now c.scan.new.image
-        c.scan.result (attempt plant p standing.life changes c.args.t) c.in-Ok.field-0 c.in-Ok.is scanned in
+    c.scan.result (attempt plant p standing.life changes c.args.t) c.in-Ok.field-0 c.in-Ok.is scanned in
     let scans : c.saturating_add-self.result ≡ min (suc (length standing.life)) (2 ^ 64 - 1) =
-        omega (arith, c.saturating_add-self.ensures, agrees.scans) in
+    omega (arith, c.saturating_add-self.ensures, agrees.scans) in
     let after = sym (ap (λ (a : After). a.standing) (after_run plant p standing changes c.args.t on ended.0 ended.1)) in
     record {
       now = subst (λ (s : Standing). StateAgrees tables c.scan.new.self.now s.life) after ended.2;
@@ -52,10 +52,10 @@ returns-in-Ok-clause-image c plant standing changes setting agrees h =
     let tables = c.args.setting.tables.now in
     let on : standing.fault ≡ None = sym agrees.fault ∙ no_fault c.args.self.now.fault c.if-is_some.ensures in
     let scanned = subst (λ (x : ℤ). HasScanned plant tables standing.life changes (next_row plant p standing.life changes x) c.scan.new.self.now
-        c.scan.new.image c.scan.result (attempt plant p standing.life changes x)) (to_z-of_z c.ranges.t)
-        (c.scan.ensures.kept plant standing.life changes setting agrees.now h) in
+    c.scan.new.image c.scan.result (attempt plant p standing.life changes x)) (to_z-of_z c.ranges.t)
+    (c.scan.ensures.kept plant standing.life changes setting agrees.now h) in
     let ended = scan_ran plant tables standing.life changes (next_row plant p standing.life changes c.args.t) c.scan.new.self.now c.scan.new.image
-        c.scan.result (attempt plant p standing.life changes c.args.t) c.in-Ok.field-0 c.in-Ok.is scanned in
+    c.scan.result (attempt plant p standing.life changes c.args.t) c.in-Ok.field-0 c.in-Ok.is scanned in
     subst (λ (a : After). ImageAgrees plant c.scan.new.image (settled a.changes))
     (sym (after_run plant p standing changes c.args.t on ended.0 ended.1)) ended.3
 
@@ -66,10 +66,10 @@ returns-in-Err-clause-ended c plant standing changes setting agrees h =
     let tables = c.args.setting.tables.now in
     let on : standing.fault ≡ None = sym agrees.fault ∙ no_fault c.args.self.now.fault c.if-is_some.ensures in
     let scanned = subst (λ (x : ℤ). HasScanned plant tables standing.life changes (next_row plant p standing.life changes x) c.scan.new.self.now
-        c.scan.new.image c.scan.result (attempt plant p standing.life changes x)) (to_z-of_z c.ranges.t)
-        (c.scan.ensures.kept plant standing.life changes setting agrees.now h) in
+    c.scan.new.image c.scan.result (attempt plant p standing.life changes x)) (to_z-of_z c.ranges.t)
+    (c.scan.ensures.kept plant standing.life changes setting agrees.now h) in
     let ended = scan_faulted plant tables standing.life changes (next_row plant p standing.life changes c.args.t) c.scan.new.self.now
-        c.scan.new.image c.scan.result (attempt plant p standing.life changes c.args.t) c.in-Err.fault c.in-Err.is scanned in
+    c.scan.new.image c.scan.result (attempt plant p standing.life changes c.args.t) c.in-Err.fault c.in-Err.is scanned in
     sym (ap (λ (a : After). a.ended) (after_fault plant p standing changes c.args.t on c.in-Err.fault ended.0))
 
 pub returns-in-Err-clause-program : goal.returns-in-Err-clause-program
@@ -79,10 +79,10 @@ returns-in-Err-clause-program c plant standing changes setting agrees h =
     let tables = c.args.setting.tables.now in
     let on : standing.fault ≡ None = sym agrees.fault ∙ no_fault c.args.self.now.fault c.if-is_some.ensures in
     let scanned = subst (λ (x : ℤ). HasScanned plant tables standing.life changes (next_row plant p standing.life changes x) c.scan.new.self.now
-        c.scan.new.image c.scan.result (attempt plant p standing.life changes x)) (to_z-of_z c.ranges.t)
-        (c.scan.ensures.kept plant standing.life changes setting agrees.now h) in
+    c.scan.new.image c.scan.result (attempt plant p standing.life changes x)) (to_z-of_z c.ranges.t)
+    (c.scan.ensures.kept plant standing.life changes setting agrees.now h) in
     let ended = scan_faulted plant tables standing.life changes (next_row plant p standing.life changes c.args.t) c.scan.new.self.now
-        c.scan.new.image c.scan.result (attempt plant p standing.life changes c.args.t) c.in-Err.fault c.in-Err.is scanned in
+    c.scan.new.image c.scan.result (attempt plant p standing.life changes c.args.t) c.in-Err.fault c.in-Err.is scanned in
     let after = sym (ap (λ (a : After). a.standing) (after_fault plant p standing changes c.args.t on c.in-Err.fault ended.0)) in
     record {
       now = subst (λ (s : Standing). StateAgrees tables c.scan.new.self.now s.life) after ended.1;
@@ -99,9 +99,9 @@ returns-in-Err-clause-image c plant standing changes setting agrees h =
     let tables = c.args.setting.tables.now in
     let on : standing.fault ≡ None = sym agrees.fault ∙ no_fault c.args.self.now.fault c.if-is_some.ensures in
     let scanned = subst (λ (x : ℤ). HasScanned plant tables standing.life changes (next_row plant p standing.life changes x) c.scan.new.self.now
-        c.scan.new.image c.scan.result (attempt plant p standing.life changes x)) (to_z-of_z c.ranges.t)
-        (c.scan.ensures.kept plant standing.life changes setting agrees.now h) in
+    c.scan.new.image c.scan.result (attempt plant p standing.life changes x)) (to_z-of_z c.ranges.t)
+    (c.scan.ensures.kept plant standing.life changes setting agrees.now h) in
     let ended = scan_faulted plant tables standing.life changes (next_row plant p standing.life changes c.args.t) c.scan.new.self.now
-        c.scan.new.image c.scan.result (attempt plant p standing.life changes c.args.t) c.in-Err.fault c.in-Err.is scanned in
+    c.scan.new.image c.scan.result (attempt plant p standing.life changes c.args.t) c.in-Err.fault c.in-Err.is scanned in
     subst (λ (a : After). ImageAgrees plant c.scan.new.image (settled a.changes))
     (sym (after_fault plant p standing changes c.args.t on c.in-Err.fault ended.0)) ended.2
