@@ -1,7 +1,5 @@
 -- Names at a place.
 use Rattle.std.proofs.Common.{◌≡◌, ℕ, zero, suc, List, [], ◌∷◌, map, slice_get, Some, None, refl}
-use Rattle.sfc_chart.specs.declared.ids.ProgId.{ProgId}
-use Rattle.sfc_chart.specs.declared.ids.TaskId.{TaskId}
 use Rattle.sfc_chart.specs.declared.instance.Instance.{Instance}
 use Rattle.sfc_chart.specs.declared.task.Task.{Task}
 use Rattle.sfc_list.proofs.NamesAt as names

@@ -1,7 +1,7 @@
-use Rattle.std.proofs.Common.{◌≡◌, ◌∷◌, ◌-◌, ◌^◌, suc, None, length, min, ℤ, arith, refl, sym, ap, subst, ◌∙◌, to_z-of_z}
+use Rattle.std.proofs.Common.{◌≡◌, ◌-◌, ◌^◌, suc, None, length, min, ℤ, arith, sym, ap, subst, ◌∙◌, to_z-of_z}
 use Rattle.sfc_instance.specs.Answers.{scan_count}
 use Rattle.sfc_instance.specs.Life.{Standing, latest_instant}
-use Rattle.sfc_instance.specs.ProgramScan.{After, after_scan, attempt, next_row}
+use Rattle.sfc_instance.specs.ProgramScan.{After, attempt, next_row}
 use Rattle.sfc_instance.specs.Private.Scanning.{HasScanned}
 use Rattle.sfc_instance.specs.Agreement.{ProgramAgrees, StateAgrees}
 use Rattle.sfc_image.specs.Agreement.{ImageAgrees}

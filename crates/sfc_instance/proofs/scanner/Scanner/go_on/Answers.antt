@@ -1,7 +1,6 @@
-use Rattle.std.proofs.Common.{◌≡◌, ◌∷◌, None, Some, Option, Result, is_ok, true, refl, sym, ap, subst, ◌∙◌, to_z-of_z}
+use Rattle.std.proofs.Common.{◌≡◌, ◌∷◌, is_ok, true, sym, ap, ◌∙◌, to_z-of_z}
 use Rattle.std.specs.Result.{result_err}
 use Rattle.sfc_action.specs.ActionControl as control
-use Rattle.sfc_action.specs.declared.fault.ControlFault.{ControlFault}
 use Rattle.sfc_instance.specs.Life.{control_scans}
 use Rattle.sfc_instance.specs.Private.Scanning.{row_in}
 use Rattle.sfc_instance.specs.Agreement.{StateAgrees}
