@@ -1,5 +1,5 @@
 -- Lines of numbered places, one after the other.
-use Rattle.std.proofs.Common.{◌≡◌, ◌<◌, ◌≤◌, ◌+◌, ◌-◌, ℕ, suc, List, [], ◌++◌, arith, ap, ◌∙◌}
+use Rattle.std.proofs.Common.{◌≡◌, ◌<◌, ◌≤◌, ◌+◌, ◌-◌, ℕ, suc, List, [], ◌++◌, arith, ap}
 use Rattle.std.specs.List.{flat_map, range_with_len}
 
 module _ (line : ℕ → List ℕ) where

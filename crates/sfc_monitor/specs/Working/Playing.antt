@@ -6,7 +6,6 @@ use Rattle.sfc_events.specs.History.{History, Entry}
 use Rattle.sfc_core.specs.declared.resource.Resource.{Resource}
 use Rattle.sfc_core.specs.Agreement.{Agrees, plant_of}
 use Rattle.sfc_core.specs.Verdict.{after_all}
-use Rattle.sfc_monitor.specs.Output.{commands_lines}
 
 -- of the text the first bytes were written, and these wait; or a fault came behind a front of it
 abbrev pub PassesOn : {X E : Type 0} → Option (List ℕ) → Option (List ℕ) → List ℕ → List ℕ → Result X E → Type 0

@@ -1,6 +1,5 @@
 use Rattle.std.proofs.Common.{◌≡◌, ℕ, List, [], Result, Ok, sym, ap, ◌∙◌}
 use Rattle.sfc_chart.specs.Built.{plant_of}
-use Rattle.sfc_chart.specs.Plants.{PlantData}
 use Rattle.sfc_events.specs.History.{Entry}
 use Rattle.sfc_script.specs.Scripts.{commands_of_script}
 use Rattle.sfc_monitor.specs.Output.{lines_of_play}

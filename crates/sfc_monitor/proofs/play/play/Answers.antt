@@ -1,6 +1,6 @@
 use Rattle.std.proofs.Common.{◌≡◌, ◌++◌, ℕ, List, ap, sym, subst, ◌∙◌}
 use Rattle.std.proofs.lemmas.Result.{err_from_is_err_and}
-use Rattle.sfc_tokens.specs.Writing.{AppendsFront, Writes}
+use Rattle.sfc_tokens.specs.Writing.{AppendsFront}
 use Rattle.sfc_tokens.proofs.Written.{Appends-more, front_first, front_second}
 use Rattle.std.specs.Io.KnownBytes.{Appends}
 use Rattle.sfc_chart.specs.Plants.{PlantData}
