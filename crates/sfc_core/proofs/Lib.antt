@@ -12,6 +12,11 @@ pub mod Accepted
 pub mod Ordered
 -- what the answer to a scan tells
 pub mod Turns
+-- small plants at single moments
+pub mod MomentPlants
+pub mod Moments
+pub mod MomentsClearing
+pub mod MomentsActions
 -- an instance with a fault
 pub mod Stays
 -- what variables read after an event
