@@ -17,6 +17,7 @@ pub mod MomentPlants
 pub mod Moments
 pub mod MomentsClearing
 pub mod MomentsActions
+pub mod MomentsFaults
 -- an instance with a fault
 pub mod Stays
 -- what variables read after an event
