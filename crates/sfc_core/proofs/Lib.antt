@@ -18,6 +18,8 @@ pub mod Moments
 pub mod MomentsClearing
 pub mod MomentsActions
 pub mod MomentsFaults
+pub mod MomentsForces
+pub mod MomentsTasks
 -- an instance with a fault
 pub mod Stays
 -- what variables read after an event
