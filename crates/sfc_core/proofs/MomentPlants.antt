@@ -26,9 +26,6 @@ use Rattle.sfc_tables.specs.declared.chart.Chart.{Chart}
 use Rattle.sfc_tables.specs.Tables.{Tabled, tables_of}
 use Rattle.sfc_variables.specs.declared.variable.Variable as declared
 use Rattle.sfc_program.specs.declared.program_type.ProgramType.{ProgramType}
-use Rattle.sfc_chart.specs.declared.ids.ProgId.{ProgId}
-use Rattle.sfc_chart.specs.declared.ids.TaskId.{TaskId}
-use Rattle.sfc_chart.specs.declared.ids.VarId.{VarId}
 use Rattle.sfc_chart.specs.declared.instance.Instance.{Instance}
 use Rattle.sfc_chart.specs.declared.task.Task.{Task}
 use Rattle.sfc_chart.specs.Plants.{PlantData}

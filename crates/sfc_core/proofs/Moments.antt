@@ -1,22 +1,20 @@
 -- Steps and transitions of small plants, and what the definitions alone give for them at single moments.
-use Rattle.std.proofs.Common.{◌≡◌, refl, ℕ, true, false, List, [], ◌∷◌, ◌++◌, Some, None, Ok, Err, pos}
+use Rattle.std.proofs.Common.{◌≡◌, refl, true, false, List, [], ◌∷◌, Some, Ok, Err}
 use Rattle.std.specs.Prelude.{codes}
 use Rattle.sfc_expr.specs.declared.value.Value.TheVariants as value
-use Rattle.sfc_expr.specs.Trees.{StepActive}
-use Rattle.sfc_tables.specs.declared.association.Qualifier.TheVariants.{NonStored, Pulse}
-use Rattle.sfc_tables.specs.declared.chart.Chart.{Chart}
+use Rattle.sfc_tables.specs.declared.association.Qualifier.TheVariants.{NonStored}
 use Rattle.sfc_tables.specs.Ranks.{rank_order}
 use Rattle.sfc_chart.specs.Plants.{PlantData}
 use Rattle.sfc_tasks.specs.Pick.{picked}
 use Rattle.sfc_machine.specs.Table.{program_scan}
-use Rattle.sfc_events.specs.declared.event.Outcome.TheVariants.{Scanned, Done}
+use Rattle.sfc_events.specs.declared.event.Outcome.TheVariants.{Scanned}
 use Rattle.sfc_events.specs.declared.refusal.Refusal.TheVariants.{NotDue}
 use Rattle.sfc_events.specs.History.{Entry, History}
 use Rattle.sfc_core.specs.Table.{table_of}
 use Rattle.sfc_core.specs.Due.{singles_of, calls_of}
 use Rattle.sfc_core.specs.Verdict.{first_refusal, turn_refusal, scan_answer, accepted, after_all}
-use Rattle.sfc_core.proofs.MomentPlants.{ms, flag, switch, always, reads, lasts, sets, initial_step, step, transition, goes, chart}
-use Rattle.sfc_core.proofs.MomentPlants.{small, scan, input, scans, told, active, cleared, executed, q_in, time_in, life_in, read}
+use Rattle.sfc_core.proofs.MomentPlants.{ms, flag, switch, reads, sets, initial_step, step, goes, chart, small, scan}
+use Rattle.sfc_core.proofs.MomentPlants.{input, scans, told, active, cleared, executed, q_in, time_in, life_in, read}
 
 -- ---- the switch Go leads from a step with the action Lamp to one without
 
@@ -36,6 +34,7 @@ none_before : active go_along [] ≡ []
 unfolding table_of program_scan rank_order
 none_before = refl
 
+-- the first scan, at 0, activates the initial step (2.6.2)
 first_scan : active go_along (scans 1) ≡ 0 ∷ []
 unfolding table_of program_scan rank_order
 first_scan = refl
@@ -45,10 +44,12 @@ first_clears_nothing : cleared go_along (scan 0 ∷ input 0 (value.Bool true) 0 
 unfolding table_of program_scan rank_order
 first_clears_nothing = refl
 
+-- it executes the action of that step (2.6.4.5)
 first_executes : executed go_along (scans 1) ≡ 0 ∷ []
 unfolding table_of program_scan rank_order
 first_executes = refl
 
+-- its answer: instance 0 ran, and the task has no overrun
 first_answer : told go_along [] (scan 0) ≡ Ok (Scanned 1 0 0 0)
 unfolding table_of program_scan rank_order singles_of calls_of picked first_refusal turn_refusal scan_answer
 first_answer = refl
@@ -68,6 +69,7 @@ cleared_then : cleared go_along gone ≡ 0 ∷ []
 unfolding table_of program_scan rank_order
 cleared_then = refl
 
+-- at 20 ms the second step alone is active
 entered : active go_along gone ≡ 1 ∷ []
 unfolding table_of program_scan rank_order
 entered = refl
@@ -77,6 +79,7 @@ kept : time_in go_along 0 0 gone_on ≡ ms 20
 unfolding table_of program_scan rank_order
 kept = refl
 
+-- at 20 ms the second step was entered: its time is 0 (2.6.2)
 begins : time_in go_along 0 1 gone ≡ ms 0
 unfolding table_of program_scan rank_order
 begins = refl
@@ -86,14 +89,17 @@ final_scan : executed go_along gone ≡ 0 ∷ []
 unfolding table_of program_scan rank_order
 final_scan = refl
 
+-- in that final scan Q is 0 (2.6.4.5)
 final_q : q_in go_along 0 0 gone ≡ false
 unfolding table_of program_scan rank_order
 final_q = refl
 
+-- so the lamp is assigned FALSE
 lamp_off : read go_along 1 gone ≡ value.Bool false
 unfolding table_of program_scan rank_order
 lamp_off = refl
 
+-- at 30 ms nothing is executed any more
 no_more : executed go_along gone_on ≡ []
 unfolding table_of program_scan rank_order
 no_more = refl
@@ -111,10 +117,12 @@ five_accepted : accepted go_along [] script ≡ 5
 unfolding table_of program_scan rank_order singles_of calls_of picked first_refusal turn_refusal scan_answer
 five_accepted = refl
 
+-- the history is the five others, the newest first
 history_of_five : after_all go_along [] script ≡ gone_on
 unfolding table_of program_scan rank_order singles_of calls_of picked first_refusal turn_refusal scan_answer
 history_of_five = refl
 
+-- four of them are scans
 four_scans : life_in go_along 0 gone_on ≡ 4
 unfolding table_of program_scan rank_order
 four_scans = refl

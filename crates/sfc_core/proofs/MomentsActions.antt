@@ -4,7 +4,7 @@ use Rattle.std.specs.Prelude.{codes}
 use Rattle.sfc_tokens.specs.declared.var_type.VarType.TheVariants as types
 use Rattle.sfc_expr.specs.declared.value.Value.TheVariants as value
 use Rattle.sfc_expr.specs.declared.operator.Operator.TheVariants as op
-use Rattle.sfc_expr.specs.Trees.{ActionQ, StepActive, StepTime, Binary, Literal, Not, Body, Nothing, Assign, If, NoBranch, When}
+use Rattle.sfc_expr.specs.Trees.{ActionQ, StepActive, StepTime, Binary, Literal, Body, Nothing, Assign, If, NoBranch, When}
 use Rattle.sfc_text.specs.declared.tree.TimedQualifier.TheVariants.{Limited, Delayed, StoredDelayed, DelayedStored, StoredLimited}
 use Rattle.sfc_tables.specs.declared.association.Association.{Association}
 use Rattle.sfc_tables.specs.declared.association.Qualifier.TheVariants.{NonStored, Reset, Set, Pulse, RisingPulse, FallingPulse}
@@ -15,8 +15,9 @@ use Rattle.sfc_chart.specs.Plants.{PlantData}
 use Rattle.sfc_machine.specs.Table.{program_scan}
 use Rattle.sfc_events.specs.History.{History}
 use Rattle.sfc_core.specs.Table.{table_of}
-use Rattle.sfc_core.proofs.MomentPlants.{ms, flag, int, time_variable, always, reads, number, lasts, the, sets, runs, for, for_as_long_as}
-use Rattle.sfc_core.proofs.MomentPlants.{initial_step, step, goes, action, chart, small, scan, force, scans, executed, q_in, read}
+use Rattle.sfc_core.proofs.MomentPlants.{ms, global, flag, int, time_variable, always, reads, number, lasts, the, sets}
+use Rattle.sfc_core.proofs.MomentPlants.{runs, for, for_as_long_as, initial_step, step, goes, action, chart, small}
+use Rattle.sfc_core.proofs.MomentPlants.{scan, force, scans, executed, q_in, read}
 
 -- one variable, which is the one action
 abbrev lamp : List Step → List Transition → PlantData
@@ -32,6 +33,7 @@ begins associations = initial_step associations
 abbrev not_stored : PlantData
 not_stored = lamp (begins (sets NonStored 0 ∷ []) ∷ step [] ∷ []) (goes 0 1 (lasts 0 10) ∷ goes 1 0 (lasts 1 20) ∷ [])
 
+-- at 0 step 0 is entered: executed
 n_active : executed not_stored (scans 1) ≡ 0 ∷ []
 unfolding table_of program_scan rank_order
 n_active = refl
@@ -41,14 +43,17 @@ n_left : executed not_stored (scans 2) ≡ 0 ∷ []
 unfolding table_of program_scan rank_order
 n_left = refl
 
+-- at 10 ms Q is 0
 n_left_q : q_in not_stored 0 0 (scans 2) ≡ false
 unfolding table_of program_scan rank_order
 n_left_q = refl
 
+-- at 20 ms step 1 is still active: not executed
 n_over : executed not_stored (scans 3) ≡ []
 unfolding table_of program_scan rank_order
 n_over = refl
 
+-- at 30 ms step 0 is entered again: executed
 n_again : executed not_stored (scans 4) ≡ 0 ∷ []
 unfolding table_of program_scan rank_order
 n_again = refl
@@ -60,6 +65,7 @@ abbrev stored : PlantData
 stored = lamp (begins (sets Set 0 ∷ []) ∷ step [] ∷ step (sets Reset 0 ∷ []) ∷ step [] ∷ [])
     (goes 0 1 always ∷ goes 1 2 always ∷ goes 2 3 always ∷ [])
 
+-- at 10 ms step 1 is active, and Q stays 1
 s_stays : q_in stored 0 0 (scans 2) ≡ true
 unfolding table_of program_scan rank_order
 s_stays = refl
@@ -69,10 +75,12 @@ r_ends : q_in stored 0 0 (scans 3) ≡ false
 unfolding table_of program_scan rank_order
 r_ends = refl
 
+-- at 20 ms it is executed for the last time
 r_final : executed stored (scans 3) ≡ 0 ∷ []
 unfolding table_of program_scan rank_order
 r_final = refl
 
+-- at 30 ms it is not executed
 r_over : executed stored (scans 4) ≡ []
 unfolding table_of program_scan rank_order
 r_over = refl
@@ -81,6 +89,7 @@ r_over = refl
 abbrev both : PlantData
 both = lamp (begins (sets Set 0 ∷ sets Reset 0 ∷ []) ∷ []) []
 
+-- at 0 Q is 0, so there is no final scan either
 r_wins : executed both (scans 1) ≡ []
 unfolding table_of program_scan rank_order
 r_wins = refl
@@ -91,6 +100,7 @@ r_wins = refl
 abbrev limited : PlantData
 limited = lamp (begins (sets (for Limited 20) 0 ∷ []) ∷ step [] ∷ []) (goes 0 1 (lasts 0 40) ∷ [])
 
+-- at 10 ms Q is 1
 l_begins : q_in limited 0 0 (scans 2) ≡ true
 unfolding table_of program_scan rank_order
 l_begins = refl
@@ -100,6 +110,7 @@ l_ends : q_in limited 0 0 (scans 3) ≡ false
 unfolding table_of program_scan rank_order
 l_ends = refl
 
+-- at 30 ms it is not executed, though step 0 is active
 l_over : executed limited (scans 4) ≡ []
 unfolding table_of program_scan rank_order
 l_over = refl
@@ -112,10 +123,12 @@ by_variable = small (flag (codes "V") ∷ time_variable (codes "Length") 30 ∷ 
 abbrev forced_shorter : History
 forced_shorter = scan 20 ∷ scan 10 ∷ force 1 (value.Time (ms 0)) 5 ∷ scans 1
 
+-- at 20 ms Q is 1
 l_keeps_time : q_in by_variable 0 0 forced_shorter ≡ true
 unfolding table_of program_scan rank_order
 l_keeps_time = refl
 
+-- at 30 ms Q is 0
 l_ends_by_variable : q_in by_variable 0 0 (scan 30 ∷ forced_shorter) ≡ false
 unfolding table_of program_scan rank_order
 l_ends_by_variable = refl
@@ -126,14 +139,17 @@ l_ends_by_variable = refl
 abbrev delayed : PlantData
 delayed = lamp (begins (sets (for Delayed 20) 0 ∷ []) ∷ step [] ∷ []) (goes 0 1 (lasts 0 30) ∷ [])
 
+-- at 10 ms it is not executed yet
 d_waits : executed delayed (scans 2) ≡ []
 unfolding table_of program_scan rank_order
 d_waits = refl
 
+-- at 20 ms Q is 1
 d_begins : q_in delayed 0 0 (scans 3) ≡ true
 unfolding table_of program_scan rank_order
 d_begins = refl
 
+-- at 30 ms step 0 is left: Q is 0
 d_ends : q_in delayed 0 0 (scans 4) ≡ false
 unfolding table_of program_scan rank_order
 d_ends = refl
@@ -144,14 +160,17 @@ d_ends = refl
 abbrev pulsed : PlantData
 pulsed = lamp (begins (sets Pulse 0 ∷ []) ∷ step [] ∷ []) (goes 0 1 (lasts 0 20) ∷ goes 1 0 always ∷ [])
 
+-- at 0 step 0 is entered: Q is 1
 p_once : q_in pulsed 0 0 (scans 1) ≡ true
 unfolding table_of program_scan rank_order
 p_once = refl
 
+-- at 10 ms Q is 0, though step 0 is active
 p_ends : q_in pulsed 0 0 (scans 2) ≡ false
 unfolding table_of program_scan rank_order
 p_ends = refl
 
+-- at 30 ms step 0 is entered again: Q is 1
 p_again : q_in pulsed 0 0 (scans 4) ≡ true
 unfolding table_of program_scan rank_order
 p_again = refl
@@ -163,6 +182,7 @@ abbrev stored_delayed : PlantData
 stored_delayed = lamp (begins (sets (for StoredDelayed 20) 0 ∷ []) ∷ step [] ∷ step (sets Reset 0 ∷ []) ∷ step [] ∷ [])
     (goes 0 1 always ∷ goes 1 2 (lasts 1 20) ∷ goes 2 3 always ∷ [])
 
+-- at 10 ms it is not executed yet
 sd_waits : executed stored_delayed (scans 2) ≡ []
 unfolding table_of program_scan rank_order
 sd_waits = refl
@@ -172,13 +192,25 @@ sd_begins : q_in stored_delayed 0 0 (scans 3) ≡ true
 unfolding table_of program_scan rank_order
 sd_begins = refl
 
+-- at 30 ms step 2 is entered: R ends it
 sd_reset : q_in stored_delayed 0 0 (scans 4) ≡ false
 unfolding table_of program_scan rank_order
 sd_reset = refl
 
+-- at 40 ms it is not executed, though R is over
 sd_over : executed stored_delayed (scans 5) ≡ []
 unfolding table_of program_scan rank_order
 sd_over = refl
+
+-- where R comes at the end of its time it never begins: step 1 for one scan alone
+abbrev reset_at_end : PlantData
+reset_at_end = lamp (begins (sets (for StoredDelayed 20) 0 ∷ []) ∷ step [] ∷ step (sets Reset 0 ∷ []) ∷ [])
+    (goes 0 1 always ∷ goes 1 2 always ∷ [])
+
+-- at 20 ms step 2 is entered
+sd_never : executed reset_at_end (scans 3) ≡ []
+unfolding table_of program_scan rank_order
+sd_never = refl
 
 -- ---- DS: stored once its step was active for its time
 
@@ -187,6 +219,7 @@ abbrev delayed_stored : ℕ → PlantData
 delayed_stored t = lamp (begins (sets (for DelayedStored 20) 0 ∷ []) ∷ step [] ∷ step (sets Reset 0 ∷ []) ∷ [])
     (goes 0 1 (lasts 0 t) ∷ goes 1 2 (lasts 1 10) ∷ [])
 
+-- at 10 ms it is not executed yet
 ds_waits : executed (delayed_stored 30) (scans 2) ≡ []
 unfolding table_of program_scan rank_order
 ds_waits = refl
@@ -196,6 +229,7 @@ ds_stays : q_in (delayed_stored 30) 0 0 (scans 4) ≡ true
 unfolding table_of program_scan rank_order
 ds_stays = refl
 
+-- at 40 ms step 2 is entered: R ends it
 ds_reset : q_in (delayed_stored 30) 0 0 (scans 5) ≡ false
 unfolding table_of program_scan rank_order
 ds_reset = refl
@@ -216,6 +250,7 @@ sl_stays : q_in stored_limited 0 0 (scans 3) ≡ true
 unfolding table_of program_scan rank_order
 sl_stays = refl
 
+-- at 30 ms the time is over
 sl_ends : q_in stored_limited 0 0 (scans 4) ≡ false
 unfolding table_of program_scan rank_order
 sl_ends = refl
@@ -229,6 +264,7 @@ sl_once : executed (by_turns []) (scans 3) ≡ []
 unfolding table_of program_scan rank_order
 sl_once = refl
 
+-- with R in the second step it begins again at 20 ms
 sl_after_reset : q_in (by_turns (sets Reset 0 ∷ [])) 0 0 (scans 3) ≡ true
 unfolding table_of program_scan rank_order
 sl_after_reset = refl
@@ -251,14 +287,17 @@ p1_once : executed (counted (runs RisingPulse 0 ∷ [])) (scans 1) ≡ 0 ∷ []
 unfolding table_of program_scan rank_order
 p1_once = refl
 
+-- at 10 ms it is not executed, though step 0 is active
 p1_over : executed (counted (runs RisingPulse 0 ∷ [])) (scans 2) ≡ []
 unfolding table_of program_scan rank_order
 p1_over = refl
 
+-- of four scans one executed the body
 p1_counts : read (counted (runs RisingPulse 0 ∷ [])) 0 (scans 4) ≡ value.Int (pos 1)
 unfolding table_of program_scan rank_order
 p1_counts = refl
 
+-- and its Q was 0
 p1_without_q : read (counted (runs RisingPulse 0 ∷ [])) 1 (scans 4) ≡ value.Int (pos 0)
 unfolding table_of program_scan rank_order
 p1_without_q = refl
@@ -273,10 +312,12 @@ p0_waits : executed (counted (runs FallingPulse 0 ∷ [])) (scans 2) ≡ []
 unfolding table_of program_scan rank_order
 p0_waits = refl
 
+-- at 20 ms step 0 is left: executed
 p0_once : executed (counted (runs FallingPulse 0 ∷ [])) (scans 3) ≡ 0 ∷ []
 unfolding table_of program_scan rank_order
 p0_once = refl
 
+-- at 30 ms it is not executed
 p0_over : executed (counted (runs FallingPulse 0 ∷ [])) (scans 4) ≡ []
 unfolding table_of program_scan rank_order
 p0_over = refl
@@ -286,9 +327,43 @@ n_counts : read (counted (runs NonStored 0 ∷ [])) 0 (scans 4) ≡ value.Int (p
 unfolding table_of program_scan rank_order
 n_counts = refl
 
+-- so q is 2
 n_counts_q : read (counted (runs NonStored 0 ∷ [])) 1 (scans 4) ≡ value.Int (pos 2)
 unfolding table_of program_scan rank_order
 n_counts_q = refl
+
+-- ---- pulses of Boolean actions: V, U and W begin with TRUE, and have P1, P and P0; after 10 ms their step is left
+
+abbrev pulses : PlantData
+pulses =
+    let yes = value.Bool true in
+    small (global (codes "V") types.Bool yes ∷ global (codes "U") types.Bool yes ∷ global (codes "W") types.Bool yes ∷ [])
+    (chart (begins (sets RisingPulse 0 ∷ sets Pulse 1 ∷ sets FallingPulse 2 ∷ []) ∷ step [] ∷ []) (goes 0 1 (lasts 0 10) ∷ []) [])
+
+-- at 0 V and U are executed
+pulses_at_0 : executed pulses (scans 1) ≡ 0 ∷ 1 ∷ []
+unfolding table_of program_scan rank_order
+pulses_at_0 = refl
+
+-- each variable is assigned its Q, which P alone gives
+v_false : read pulses 0 (scans 1) ≡ value.Bool false
+unfolding table_of program_scan rank_order
+v_false = refl
+
+-- at 0 U is assigned TRUE
+u_true : read pulses 1 (scans 1) ≡ value.Bool true
+unfolding table_of program_scan rank_order
+u_true = refl
+
+-- at 10 ms U is executed for the last time, and W by P0
+pulses_at_10 : executed pulses (scans 2) ≡ 1 ∷ 2 ∷ []
+unfolding table_of program_scan rank_order
+pulses_at_10 = refl
+
+-- W is assigned FALSE all the same
+w_false : read pulses 2 (scans 2) ≡ value.Bool false
+unfolding table_of program_scan rank_order
+w_false = refl
 
 -- ---- the order of actions
 

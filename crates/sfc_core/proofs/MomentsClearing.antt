@@ -1,7 +1,7 @@
 -- Which transitions a scan clears, and what becomes of steps: small plants at single moments.
-use Rattle.std.proofs.Common.{◌≡◌, refl, ℕ, true, false, List, [], ◌∷◌, Option, Some, None}
+use Rattle.std.proofs.Common.{◌≡◌, refl, ℕ, List, [], ◌∷◌, Option, Some, None}
 use Rattle.std.specs.Prelude.{codes}
-use Rattle.sfc_expr.specs.Trees.{Expression, StepActive, Not}
+use Rattle.sfc_expr.specs.Trees.{StepActive}
 use Rattle.sfc_tables.specs.declared.association.Qualifier.TheVariants.{Pulse}
 use Rattle.sfc_tables.specs.declared.chart.Step.{Step}
 use Rattle.sfc_tables.specs.declared.chart.Transition.{Transition}
@@ -9,8 +9,8 @@ use Rattle.sfc_tables.specs.Ranks.{rank_order}
 use Rattle.sfc_chart.specs.Plants.{PlantData}
 use Rattle.sfc_machine.specs.Table.{program_scan}
 use Rattle.sfc_core.specs.Table.{table_of}
-use Rattle.sfc_core.proofs.MomentPlants.{ms, flag, always, lasts, sets, initial_step, step, transition, goes, chart, small}
-use Rattle.sfc_core.proofs.MomentPlants.{scans, active, cleared, executed, time_in}
+use Rattle.sfc_core.proofs.MomentPlants.{ms, flag, always, lasts, sets, initial_step, step, transition, goes, chart}
+use Rattle.sfc_core.proofs.MomentPlants.{small, scans, active, cleared, executed, time_in}
 
 -- a chart without actions
 abbrev steps_of : List Step → List Transition → PlantData
@@ -28,6 +28,7 @@ other = step []
 abbrev self_loop : PlantData
 self_loop = small (flag (codes "V") ∷ []) (chart (initial_step (sets Pulse 0 ∷ []) ∷ []) (goes 0 0 (lasts 0 20) ∷ []) [])
 
+-- at 20 ms the transition is cleared
 self_cleared : cleared self_loop (scans 3) ≡ 0 ∷ []
 unfolding table_of program_scan rank_order
 self_cleared = refl
@@ -37,10 +38,12 @@ self_active : active self_loop (scans 3) ≡ 0 ∷ []
 unfolding table_of program_scan rank_order
 self_active = refl
 
+-- at 20 ms its time is 0 (2.6.2)
 self_time : time_in self_loop 0 0 (scans 3) ≡ ms 0
 unfolding table_of program_scan rank_order
 self_time = refl
 
+-- at 30 ms it is 10 ms
 self_time_after : time_in self_loop 0 0 (scans 4) ≡ ms 10
 unfolding table_of program_scan rank_order
 self_time_after = refl
@@ -82,6 +85,7 @@ by_text_then = refl
 abbrev fork : PlantData
 fork = steps_of (initial ∷ other ∷ other ∷ []) (transition None (0 ∷ []) (1 ∷ 2 ∷ []) always ∷ [])
 
+-- at 10 ms both are active, and step 0 is not
 both_enter : active fork (scans 2) ≡ 1 ∷ 2 ∷ []
 unfolding table_of program_scan rank_order
 both_enter = refl
@@ -96,6 +100,7 @@ join_waits : cleared join (scans 2) ≡ 1 ∷ []
 unfolding table_of program_scan rank_order
 join_waits = refl
 
+-- at 10 ms the steps 0 and 2 are active
 join_ready : active join (scans 2) ≡ 0 ∷ 2 ∷ []
 unfolding table_of program_scan rank_order
 join_ready = refl
@@ -109,10 +114,12 @@ join_leaves = refl
 abbrev meeting : PlantData
 meeting = steps_of (initial ∷ initial ∷ other ∷ []) (goes 0 2 always ∷ goes 1 2 always ∷ [])
 
+-- at 10 ms both are cleared
 both_cleared : cleared meeting (scans 2) ≡ 0 ∷ 1 ∷ []
 unfolding table_of program_scan rank_order
 both_cleared = refl
 
+-- and step 2 alone is active
 one_entered : active meeting (scans 2) ≡ 2 ∷ []
 unfolding table_of program_scan rank_order
 one_entered = refl
@@ -131,6 +138,7 @@ takes_nothing = refl
 abbrev chain : PlantData
 chain = steps_of (initial ∷ initial ∷ other ∷ []) (goes 0 1 always ∷ goes 1 2 always ∷ [])
 
+-- at 10 ms step 1 is active, and so is step 2
 left_and_entered : active chain (scans 2) ≡ 1 ∷ 2 ∷ []
 unfolding table_of program_scan rank_order
 left_and_entered = refl
@@ -139,6 +147,7 @@ left_and_entered = refl
 abbrev steps_in_turn : PlantData
 steps_in_turn = steps_of (initial ∷ other ∷ other ∷ []) (goes 0 1 always ∷ goes 1 2 always ∷ [])
 
+-- at 10 ms step 1 is active, and not step 2
 one_at_a_time : active steps_in_turn (scans 2) ≡ 1 ∷ []
 unfolding table_of program_scan rank_order
 one_at_a_time = refl
@@ -154,6 +163,7 @@ not_yet : active seeing (scans 2) ≡ 1 ∷ 2 ∷ []
 unfolding table_of program_scan rank_order
 not_yet = refl
 
+-- at 20 ms it sees step 1 active
 seen_then : active seeing (scans 3) ≡ 1 ∷ 3 ∷ []
 unfolding table_of program_scan rank_order
 seen_then = refl
@@ -162,6 +172,7 @@ seen_then = refl
 abbrev entering_again : PlantData
 entering_again = steps_of (initial ∷ initial ∷ []) (goes 0 1 (lasts 0 20) ∷ [])
 
+-- at 10 ms the time of step 1 is 10 ms
 goes_on : time_in entering_again 0 1 (scans 2) ≡ ms 10
 unfolding table_of program_scan rank_order
 goes_on = refl

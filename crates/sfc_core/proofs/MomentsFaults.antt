@@ -6,12 +6,11 @@ use Rattle.sfc_expr.specs.declared.fault.Fault.TheVariants.{DivZero, Range}
 use Rattle.sfc_expr.specs.declared.value.Value.TheVariants as value
 use Rattle.sfc_expr.specs.declared.operator.Operator.TheVariants as op
 use Rattle.sfc_expr.specs.declared.variable.Variable.{Variable}
-use Rattle.sfc_expr.specs.declared.variable.Variable.TheVariants.{Global, Local}
+use Rattle.sfc_expr.specs.declared.variable.Variable.TheVariants.{Local}
 use Rattle.sfc_expr.specs.Trees.{Expression, Read, Binary, Body, Nothing, Assign}
 use Rattle.sfc_text.specs.declared.tree.TimedQualifier.TheVariants.{Limited, Delayed, StoredDelayed, StoredLimited}
 use Rattle.sfc_tables.specs.declared.association.Association.{Association}
 use Rattle.sfc_tables.specs.declared.association.Qualifier.TheVariants.{NonStored, Reset, Set}
-use Rattle.sfc_tables.specs.declared.chart.Chart.{Chart}
 use Rattle.sfc_tables.specs.declared.chart.Transition.{Transition}
 use Rattle.sfc_tables.specs.Ranks.{rank_order}
 use Rattle.sfc_action.specs.declared.fault.ControlFault.TheVariants.{TwoTimed, SdWhileSl, SlWhileSd}
@@ -25,9 +24,10 @@ use Rattle.sfc_events.specs.History.{History}
 use Rattle.sfc_core.specs.Table.{table_of}
 use Rattle.sfc_core.specs.Due.{singles_of, calls_of}
 use Rattle.sfc_core.specs.Verdict.{first_refusal, turn_refusal, scan_answer}
-use Rattle.sfc_core.proofs.MomentPlants.{ms, flag, int, dial, always, reads, number, lasts, the, sets, runs, for, initial_step, step}
-use Rattle.sfc_core.proofs.MomentPlants.{transition, goes, action, chart, program, instance, task, plant, small}
-use Rattle.sfc_core.proofs.MomentPlants.{scan, input, force, release, reset, scans, told, active, executed, active_in, life_in, fault_in, read}
+use Rattle.sfc_core.proofs.MomentPlants.{ms, flag, int, dial, always, reads, number, the, sets, runs, for, initial_step}
+use Rattle.sfc_core.proofs.MomentPlants.{step, transition, goes, action, chart, program, instance, task, plant, small}
+use Rattle.sfc_core.proofs.MomentPlants.{scan, input, force, release, reset, scans, told, active, executed, life_in}
+use Rattle.sfc_core.proofs.MomentPlants.{fault_in, read}
 
 -- ---- a fault in a condition: 10 / k = 0, where k is at %IW0 and begins with 5; step 0 has the lamp
 
@@ -49,6 +49,7 @@ divided_by_zero : told dividing zeroed (scan 20) ≡ Ok (Scanned 0 1 0 0)
 unfolding table_of program_scan rank_order singles_of calls_of picked first_refusal turn_refusal scan_answer
 divided_by_zero = refl
 
+-- the fault is that of the division (2.5.1.5.2)
 its_fault : fault_in dividing 0 faulted ≡ Some (fault.Expression DivZero)
 unfolding table_of program_scan rank_order
 its_fault = refl
@@ -58,10 +59,12 @@ no_row : life_in dividing 0 faulted ≡ 2
 unfolding table_of program_scan rank_order
 no_row = refl
 
+-- the steps are as the scan at 10 ms left them
 steps_stay : active dividing faulted ≡ 0 ∷ []
 unfolding table_of program_scan rank_order
 steps_stay = refl
 
+-- the lamp is as that scan left it
 lamp_stays : read dividing 0 faulted ≡ value.Bool true
 unfolding table_of program_scan rank_order
 lamp_stays = refl
@@ -70,10 +73,12 @@ lamp_stays = refl
 abbrev mended : History
 mended = input 1 (value.Int (pos 11)) 25 ∷ faulted
 
+-- at 30 ms the instance is skipped, though k is 11
 skipped : told dividing mended (scan 30) ≡ Ok (Scanned 0 0 1 0)
 unfolding table_of program_scan rank_order singles_of calls_of picked first_refusal turn_refusal scan_answer
 skipped = refl
 
+-- the fault is told as before
 fault_stays : fault_in dividing 0 (scan 30 ∷ mended) ≡ Some (fault.Expression DivZero)
 unfolding table_of program_scan rank_order
 fault_stays = refl
@@ -82,26 +87,32 @@ fault_stays = refl
 abbrev begun_again : History
 begun_again = reset 0 35 ∷ scan 30 ∷ mended
 
+-- the reset is accepted
 reset_done : told dividing (scan 30 ∷ mended) (reset 0 35) ≡ Ok Done
 unfolding table_of program_scan rank_order singles_of calls_of picked first_refusal turn_refusal scan_answer
 reset_done = refl
 
+-- behind it there is no fault
 no_fault : fault_in dividing 0 begun_again ≡ None
 unfolding table_of program_scan rank_order
 no_fault = refl
 
+-- the new life has had no scan
 new_life : life_in dividing 0 begun_again ≡ 0
 unfolding table_of program_scan rank_order
 new_life = refl
 
+-- so no step is active
 no_step : active dividing begun_again ≡ []
 unfolding table_of program_scan rank_order
 no_step = refl
 
+-- at 40 ms the instance runs
 runs_again : told dividing begun_again (scan 40) ≡ Ok (Scanned 1 0 0 0)
 unfolding table_of program_scan rank_order singles_of calls_of picked first_refusal turn_refusal scan_answer
 runs_again = refl
 
+-- at 40 ms the initial step is active (2.6.2)
 initial_again : active dividing (scan 40 ∷ begun_again) ≡ 0 ∷ []
 unfolding table_of program_scan rank_order
 initial_again = refl
@@ -118,6 +129,7 @@ not_enabled =
     small (int (codes "z") 0 ∷ [])
     (chart (initial_step [] ∷ step [] ∷ []) (goes 1 0 (Binary op.Equal types.Int tenth (number 0)) ∷ []) [])
 
+-- at 10 ms step 1 is not active, so the division by 0 does no harm
 not_evaluated : fault_in not_enabled 0 (scans 2) ≡ None
 unfolding table_of program_scan rank_order
 not_evaluated = refl
@@ -132,6 +144,7 @@ overflowing = small (flag (codes "Lamp") ∷ int (codes "m") 0 ∷ int (codes "n
     (chart (initial_step (sets (for Delayed 10) 0 ∷ runs NonStored 0 ∷ []) ∷ []) []
     (action (increment 1 (increment 2 Nothing)) ∷ []))
 
+-- at 10 ms n would be 32768, which is no INT (2.3.1)
 out_of_range : fault_in overflowing 0 (scans 2) ≡ Some (fault.Expression Range)
 unfolding table_of program_scan rank_order
 out_of_range = refl
@@ -141,6 +154,7 @@ body_undone : read overflowing 1 (scans 2) ≡ value.Int (pos 1)
 unfolding table_of program_scan rank_order
 body_undone = refl
 
+-- the lamp is FALSE as before
 output_undone : read overflowing 0 (scans 2) ≡ value.Bool false
 unfolding table_of program_scan rank_order
 output_undone = refl
@@ -155,6 +169,7 @@ controlled first second = small (flag (codes "V") ∷ flag (codes "U") ∷ [])
 abbrev twice : PlantData
 twice = controlled [] (sets (for Limited 1000) 0 ∷ sets (for StoredLimited 1000) 0 ∷ sets Reset 0 ∷ [])
 
+-- at 10 ms step 1 would be entered: a fault
 two_timed : fault_in twice 0 (scans 2) ≡ Some (fault.Control TwoTimed)
 unfolding table_of program_scan rank_order
 two_timed = refl
@@ -187,6 +202,7 @@ abbrev two_actions : PlantData
 two_actions = controlled (sets (for StoredDelayed 1000) 0 ∷ [])
     (sets (for Limited 1000) 1 ∷ sets (for Delayed 1000) 1 ∷ sets (for StoredLimited 1000) 0 ∷ [])
 
+-- at 10 ms V has SL while SD is stored, and U has two times: V comes first, by step 0
 first_action : fault_in two_actions 0 (scans 2) ≡ Some (fault.Control SlWhileSd)
 unfolding table_of program_scan rank_order
 first_action = refl
@@ -243,6 +259,7 @@ other_runs : read two_instances 0 first_at_fault ≡ value.Int (pos 10)
 unfolding table_of program_scan rank_order
 other_runs = refl
 
+-- at 10 ms the first is skipped, and the second runs
 one_skipped : told two_instances first_at_fault (scan 10) ≡ Ok (Scanned 2 0 1 0)
 unfolding table_of program_scan rank_order singles_of calls_of picked first_refusal turn_refusal scan_answer
 one_skipped = refl
@@ -252,6 +269,7 @@ other_reset : fault_in two_instances 0 (reset 1 5 ∷ first_at_fault) ≡ Some (
 unfolding table_of program_scan rank_order
 other_reset = refl
 
+-- the scan at 0 served the task, though an instance faulted
 served_before : told two_instances first_at_fault (scan 5) ≡ Err (NotDue (Some (ms 10)))
 unfolding table_of program_scan rank_order singles_of calls_of picked first_refusal turn_refusal scan_answer
 served_before = refl
@@ -270,10 +288,12 @@ own_again : read counted 1 (reset 0 15 ∷ scans 2) ≡ value.Int (pos 3)
 unfolding table_of program_scan rank_order
 own_again = refl
 
+-- two scans added 2 to the local of the second
 others_stay : read counted 2 (reset 0 15 ∷ scans 2) ≡ value.Int (pos 5)
 unfolding table_of program_scan rank_order
 others_stay = refl
 
+-- and two scans of two instances 4 to g
 globals_stay : read counted 0 (reset 0 15 ∷ scans 2) ≡ value.Int (pos 4)
 unfolding table_of program_scan rank_order
 globals_stay = refl
@@ -288,6 +308,7 @@ reset_forced : read counted 1 (reset 0 15 ∷ force 1 (value.Int (pos 7)) 12 ∷
 unfolding table_of program_scan rank_order
 reset_forced = refl
 
+-- the release at 16 ms shows it
 released_then : read counted 1 (release 1 16 ∷ reset 0 15 ∷ force 1 (value.Int (pos 7)) 12 ∷ scans 2) ≡ value.Int (pos 3)
 unfolding table_of program_scan rank_order
 released_then = refl
@@ -296,10 +317,12 @@ released_then = refl
 abbrev storing : PlantData
 storing = small (flag (codes "V") ∷ []) (chart (initial_step [] ∷ step (sets Set 0 ∷ []) ∷ []) (goes 0 1 always ∷ []) [])
 
+-- at 15 ms V keeps what the scan at 10 ms assigned
 still_true : read storing 0 (reset 0 15 ∷ scans 2) ≡ value.Bool true
 unfolding table_of program_scan rank_order
 still_true = refl
 
+-- at 20 ms V is assigned FALSE
 false_then : read storing 0 (scan 20 ∷ reset 0 15 ∷ scans 2) ≡ value.Bool false
 unfolding table_of program_scan rank_order
 false_then = refl

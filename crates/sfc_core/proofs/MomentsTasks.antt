@@ -1,17 +1,20 @@
 -- When tasks are due, which of them goes first, and overruns (2.7.2): small plants at single moments.
-use Rattle.std.proofs.Common.{◌≡◌, refl, ℕ, ◌^◌, Bool, true, false, List, [], ◌∷◌, Some, None, Ok, Err, pos}
+use Rattle.std.proofs.Common.{◌≡◌, refl, ℕ, ◌^◌, Bool, true, false, [], ◌∷◌, Some, None, Ok, Err, pos}
 use Rattle.std.specs.Prelude.{codes}
+use Rattle.sfc_tokens.specs.declared.var_type.VarType.TheVariants as types
 use Rattle.sfc_expr.specs.declared.value.Value.TheVariants as value
+use Rattle.sfc_expr.specs.declared.operator.Operator.TheVariants as op
+use Rattle.sfc_expr.specs.declared.variable.Variable.TheVariants.{Local}
+use Rattle.sfc_expr.specs.Trees.{Read, Binary, Body, Nothing, Assign}
 use Rattle.sfc_tables.specs.declared.association.Qualifier.TheVariants.{NonStored, Pulse}
 use Rattle.sfc_tables.specs.declared.chart.Chart.{Chart}
 use Rattle.sfc_tables.specs.Ranks.{rank_order}
-use Rattle.sfc_chart.specs.declared.ids.TaskId.{TaskId}
 use Rattle.sfc_chart.specs.declared.task.Task.{Task}
 use Rattle.sfc_chart.specs.Plants.{PlantData}
 use Rattle.sfc_tasks.specs.Pick.{picked}
 use Rattle.sfc_machine.specs.Table.{program_scan}
 use Rattle.sfc_events.specs.declared.event.Event.TheVariants.{Scan}
-use Rattle.sfc_events.specs.declared.event.Outcome.TheVariants.{Scanned, Done}
+use Rattle.sfc_events.specs.declared.event.Outcome.TheVariants.{Scanned}
 use Rattle.sfc_events.specs.declared.refusal.Refusal.{Refusal}
 use Rattle.sfc_events.specs.declared.refusal.Refusal.TheVariants.{NotDue, Yield}
 use Rattle.sfc_events.specs.History.{Entry, History}
@@ -19,8 +22,9 @@ use Rattle.sfc_core.specs.Table.{table_of}
 use Rattle.sfc_core.specs.Due.{singles_of, calls_of}
 use Rattle.sfc_core.specs.Answers.{overruns_of}
 use Rattle.sfc_core.specs.Verdict.{first_refusal, turn_refusal, scan_answer}
-use Rattle.sfc_core.proofs.MomentPlants.{ms, flag, switch, always, sets, initial_step, step, goes, chart, task, single_task}
-use Rattle.sfc_core.proofs.MomentPlants.{program, instance, plant, small, scan, scan_of, forced_scan, input, force, release, reset, told}
+use Rattle.sfc_core.proofs.MomentPlants.{ms, flag, int, switch, always, reads, number, the, sets, runs, action}
+use Rattle.sfc_core.proofs.MomentPlants.{initial_step, step, goes, chart, task, single_task, program, instance, plant}
+use Rattle.sfc_core.proofs.MomentPlants.{small, scan, scan_of, forced_scan, input, force, release, reset, told, read}
 
 -- one step without an action
 abbrev resting : Chart
@@ -40,10 +44,12 @@ due_at_0 : told ticking [] (scan 0) ≡ Ok (Scanned 1 0 0 0)
 unfolding table_of program_scan rank_order singles_of calls_of picked first_refusal turn_refusal scan_answer
 due_at_0 = refl
 
+-- at 9 ms no release waits, and the next is at 10 ms
 not_due : told ticking (scan 0 ∷ []) (scan 9) ≡ Err (NotDue (Some (ms 10)))
 unfolding table_of program_scan rank_order singles_of calls_of picked first_refusal turn_refusal scan_answer
 not_due = refl
 
+-- at 19 ms the release at 10 ms waits; alone it is no overrun
 due_late : told ticking (scan 0 ∷ []) (scan 19) ≡ Ok (Scanned 1 0 0 0)
 unfolding table_of program_scan rank_order singles_of calls_of picked first_refusal turn_refusal scan_answer
 due_late = refl
@@ -93,6 +99,7 @@ never_due : told (by_task (task 0 1)) [] (scan 0) ≡ Err (NotDue None)
 unfolding table_of program_scan rank_order singles_of calls_of picked first_refusal turn_refusal scan_answer
 never_due = refl
 
+-- nor a second later
 never_due_later : told (by_task (task 0 1)) [] (scan 1_000) ≡ Err (NotDue None)
 unfolding table_of program_scan rank_order singles_of calls_of picked first_refusal turn_refusal scan_answer
 never_due_later = refl
@@ -104,10 +111,12 @@ half_of_time = by_task (record { name = codes "T"; single = None; interval = pos
 abbrev at_the_end : Entry
 at_the_end = (Scan (record { 0 = 0 }), pos (2 ^ 62))
 
+-- at the last instant two releases wait
 last_multiple : told half_of_time (scan 0 ∷ []) at_the_end ≡ Ok (Scanned 1 0 0 1)
 unfolding table_of program_scan rank_order singles_of calls_of picked first_refusal turn_refusal scan_answer
 last_multiple = refl
 
+-- behind their scan no release comes any more
 no_next : told half_of_time (at_the_end ∷ scan 0 ∷ []) at_the_end ≡ Err (NotDue None)
 unfolding table_of program_scan rank_order singles_of calls_of picked first_refusal turn_refusal scan_answer
 no_next = refl
@@ -128,6 +137,7 @@ no_rise : told (by_rise true) [] (scan 5) ≡ Err (NotDue None)
 unfolding table_of program_scan rank_order singles_of calls_of picked first_refusal turn_refusal scan_answer
 no_rise = refl
 
+-- Go rises at 5 ms: the task is due at 7 ms
 rise : told (by_rise false) (on 5 ∷ []) (scan 7) ≡ Ok (Scanned 1 0 0 0)
 unfolding table_of program_scan rank_order singles_of calls_of picked first_refusal turn_refusal scan_answer
 rise = refl
@@ -157,10 +167,12 @@ held_down : told (by_rise false) (on 1 ∷ force 0 (value.Bool false) 0 ∷ []) 
 unfolding table_of program_scan rank_order singles_of calls_of picked first_refusal turn_refusal scan_answer
 held_down = refl
 
+-- at 3 ms Go is released, and reads TRUE
 rise_by_release : told (by_rise false) (release 0 3 ∷ on 1 ∷ force 0 (value.Bool false) 0 ∷ []) (scan 4) ≡ Ok (Scanned 1 0 0 0)
 unfolding table_of program_scan rank_order singles_of calls_of picked first_refusal turn_refusal scan_answer
 rise_by_release = refl
 
+-- a force of TRUE is a rise too
 rise_by_force : told (by_rise false) (force 0 (value.Bool true) 3 ∷ []) (scan 4) ≡ Ok (Scanned 1 0 0 0)
 unfolding table_of program_scan rank_order singles_of calls_of picked first_refusal turn_refusal scan_answer
 rise_by_force = refl
@@ -195,6 +207,7 @@ raised_by_itself : told self_raising (scan 0 ∷ []) (scan 0) ≡ Ok (Scanned 1 
 unfolding table_of program_scan rank_order singles_of calls_of picked first_refusal turn_refusal scan_answer
 raised_by_itself = refl
 
+-- at 1 ms SINGLE still reads TRUE: no rise, and no multiple
 raised_once : told self_raising (scan 0 ∷ scan 0 ∷ []) (scan 1) ≡ Err (NotDue None)
 unfolding table_of program_scan rank_order singles_of calls_of picked first_refusal turn_refusal scan_answer
 raised_once = refl
@@ -219,6 +232,7 @@ first_runs : told alike [] (scan_of 0 0) ≡ Ok (Scanned 1 0 0 0)
 unfolding table_of program_scan rank_order singles_of calls_of picked first_refusal turn_refusal scan_answer
 first_runs = refl
 
+-- task 0 was scanned: task 1 is next
 second_runs : told alike (scan_of 0 0 ∷ []) (scan_of 1 0) ≡ Ok (Scanned 2 0 0 0)
 unfolding table_of program_scan rank_order singles_of calls_of picked first_refusal turn_refusal scan_answer
 second_runs = refl
@@ -232,6 +246,7 @@ longest_wait : told alike begun (scan_of 1 65) ≡ Err (yields_to 0)
 unfolding table_of program_scan rank_order singles_of calls_of picked first_refusal turn_refusal scan_answer
 longest_wait = refl
 
+-- its releases at 20, 40 and 60 ms are two overruns
 longest_goes : told alike begun (scan_of 0 65) ≡ Ok (Scanned 1 0 0 2)
 unfolding table_of program_scan rank_order singles_of calls_of picked first_refusal turn_refusal scan_answer
 longest_goes = refl
@@ -260,10 +275,12 @@ lowest_number : told by_priority (on 15 ∷ []) (scan_of 0 20) ≡ Err (yields_t
 unfolding table_of program_scan rank_order singles_of calls_of picked first_refusal turn_refusal scan_answer
 lowest_number = refl
 
+-- task 1 may be scanned
 lowest_goes : told by_priority (on 15 ∷ []) (scan_of 1 20) ≡ Ok (Scanned 2 0 0 0)
 unfolding table_of program_scan rank_order singles_of calls_of picked first_refusal turn_refusal scan_answer
 lowest_goes = refl
 
+-- and then task 0, with the releases at 0, 10 and 20 ms
 then_the_other : told by_priority (scan_of 1 20 ∷ on 15 ∷ []) (scan_of 0 20) ≡ Ok (Scanned 1 0 0 2)
 unfolding table_of program_scan rank_order singles_of calls_of picked first_refusal turn_refusal scan_answer
 then_the_other = refl
@@ -287,6 +304,70 @@ earlier_rise : told rise_or_multiple (on 5 ∷ scan_of 0 0 ∷ []) (scan_of 0 10
 unfolding table_of program_scan rank_order singles_of calls_of picked first_refusal turn_refusal scan_answer
 earlier_rise = refl
 
+-- the rise and the multiple are both at 10 ms
 same_instant : told rise_or_multiple (on 10 ∷ scan_of 0 0 ∷ []) (scan_of 1 10) ≡ Err (yields_to 0)
 unfolding table_of program_scan rank_order singles_of calls_of picked first_refusal turn_refusal scan_answer
 same_instant = refl
+
+-- ---- a scan of one task makes another due: after 10 ms step 1 has a pulse on the variable by which task 1 is due
+
+abbrev raising : PlantData
+raising = plant (flag (codes "Go") ∷ []) (task 10 2 ∷ single_task 0 0 1 ∷ [])
+    (program [] (chart (initial_step [] ∷ step (sets Pulse 0 ∷ []) ∷ []) (goes 0 1 always ∷ []) []) ∷ program [] resting ∷ [])
+    (instance 0 0 ∷ instance 1 1 ∷ [])
+
+-- the scans of task 0 at 0 and 10 ms
+abbrev raised : History
+raised = scan_of 0 10 ∷ scan_of 0 0 ∷ []
+
+-- after the first of them task 1 is not due
+not_raised : told raising (scan_of 0 0 ∷ []) (scan_of 1 0) ≡ Err (NotDue None)
+unfolding table_of program_scan rank_order singles_of calls_of picked first_refusal turn_refusal scan_answer
+not_raised = refl
+
+-- at 20 ms it is due since 10 ms, and goes first
+raised_first : told raising raised (scan_of 0 20) ≡ Err (yields_to 1)
+unfolding table_of program_scan rank_order singles_of calls_of picked first_refusal turn_refusal scan_answer
+raised_first = refl
+
+-- it is due at the instant of the scan that made it so
+raised_at_once : told raising raised (scan_of 1 10) ≡ Ok (Scanned 2 0 0 0)
+unfolding table_of program_scan rank_order singles_of calls_of picked first_refusal turn_refusal scan_answer
+raised_at_once = refl
+
+-- ---- Three instances, of which 0 and 2 have task 0, and 1 has task 1: g := g + 1; own := own * 10 + g.
+
+abbrev three_instances : PlantData
+three_instances =
+    let own = Local (record { 0 = 0 }) in
+    let tenfold = Binary op.Multiply types.Int (Read own) (number 10) in
+    let body : Body =
+        Assign (the 0) (Binary op.Add types.Int (reads 0) (number 1))
+        (Assign own (Binary op.Add types.Int tenfold (reads 0)) Nothing) in
+    plant (int (codes "g") 0 ∷ []) (task 10 1 ∷ task 10 2 ∷ [])
+    (program (int (codes "own") 0 ∷ []) (chart (initial_step (runs NonStored 0 ∷ []) ∷ []) [] (action body ∷ [])) ∷ [])
+    (instance 0 0 ∷ instance 1 0 ∷ instance 0 0 ∷ [])
+
+-- both tasks at 0, and then at 10 ms
+abbrev all_scanned : History
+all_scanned = scan_of 1 10 ∷ scan_of 0 10 ∷ scan_of 1 0 ∷ scan_of 0 0 ∷ []
+
+-- the bits 0 and 2
+both_run : told three_instances [] (scan_of 0 0) ≡ Ok (Scanned 5 0 0 0)
+unfolding table_of program_scan rank_order singles_of calls_of picked first_refusal turn_refusal scan_answer
+both_run = refl
+
+-- in text order, each over what the one before left: at 0 the instances 0, 2 and 1 see 1, 2 and 3, and at 10 ms 4, 5 and 6
+own_of_0 : read three_instances 1 all_scanned ≡ value.Int (pos 14)
+unfolding table_of program_scan rank_order
+own_of_0 = refl
+
+-- the second instance, of task 1
+own_of_1 : read three_instances 2 all_scanned ≡ value.Int (pos 36)
+unfolding table_of program_scan rank_order
+own_of_1 = refl
+
+-- the third
+own_of_2 : read three_instances 3 all_scanned ≡ value.Int (pos 25)
+unfolding table_of program_scan rank_order
+own_of_2 = refl
