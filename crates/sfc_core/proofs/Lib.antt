@@ -12,17 +12,25 @@ pub mod Accepted
 pub mod Ordered
 -- what the answer to a scan tells
 pub mod Turns
--- small plants at single moments
-pub mod MomentPlants
-pub mod Moments
-pub mod MomentsClearing
-pub mod MomentsActions
-pub mod MomentsFaults
-pub mod MomentsForces
-pub mod MomentsTasks
 -- an instance with a fault
 pub mod Stays
 -- what variables read after an event
 pub mod Shown
 -- what events do with the variables
 pub mod Grows
+-- ---- what the definitions give at single moments of small plants, worked out by hand
+
+-- how small plants and their histories are written
+pub mod MomentPlants
+-- one plant from its first scan on
+pub mod Moments
+-- which transitions are cleared
+pub mod MomentsClearing
+-- actions by each qualifier
+pub mod MomentsActions
+-- faults and resets
+pub mod MomentsFaults
+-- forces, inputs and refusals
+pub mod MomentsForces
+-- when tasks are due, and which of them goes first
+pub mod MomentsTasks

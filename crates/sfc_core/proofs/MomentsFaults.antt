@@ -239,8 +239,8 @@ own = Local (record { 0 = 0 })
 abbrev two_instances : PlantData
 two_instances =
     let body : Body =
-        Assign (the 0) (Binary op.Add types.Int (reads 0) (number 10))
-        (Assign (the 0) (Binary op.Divide types.Int (reads 0) (Read own)) Nothing) in
+    Assign (the 0) (Binary op.Add types.Int (reads 0) (number 10))
+    (Assign (the 0) (Binary op.Divide types.Int (reads 0) (Read own)) Nothing) in
     plant (int (codes "g") 0 ∷ []) (task 10 1 ∷ [])
     (program (int (codes "own") 1 ∷ []) (chart (initial_step (runs NonStored 0 ∷ []) ∷ []) [] (action body ∷ [])) ∷ [])
     (instance 0 0 ∷ instance 0 0 ∷ [])

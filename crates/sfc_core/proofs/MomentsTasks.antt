@@ -342,8 +342,8 @@ three_instances =
     let own = Local (record { 0 = 0 }) in
     let tenfold = Binary op.Multiply types.Int (Read own) (number 10) in
     let body : Body =
-        Assign (the 0) (Binary op.Add types.Int (reads 0) (number 1))
-        (Assign own (Binary op.Add types.Int tenfold (reads 0)) Nothing) in
+    Assign (the 0) (Binary op.Add types.Int (reads 0) (number 1))
+    (Assign own (Binary op.Add types.Int tenfold (reads 0)) Nothing) in
     plant (int (codes "g") 0 ∷ []) (task 10 1 ∷ task 10 2 ∷ [])
     (program (int (codes "own") 0 ∷ []) (chart (initial_step (runs NonStored 0 ∷ []) ∷ []) [] (action body ∷ [])) ∷ [])
     (instance 0 0 ∷ instance 1 0 ∷ instance 0 0 ∷ [])
