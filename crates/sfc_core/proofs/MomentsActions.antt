@@ -269,6 +269,37 @@ sl_after_reset : q_in (by_turns (sets Reset 0 ∷ [])) 0 0 (scans 3) ≡ true
 unfolding table_of program_scan rank_order
 sl_after_reset = refl
 
+-- ---- R beside timers: step 0 stays active with this action, while the steps 1, 2, which has R and N, and 3 follow each other
+
+abbrev beside : Association → PlantData
+beside timed = lamp (begins (timed ∷ []) ∷ begins [] ∷ step (sets Reset 0 ∷ sets NonStored 0 ∷ []) ∷ step [] ∷ [])
+    (goes 1 2 always ∷ goes 2 3 always ∷ [])
+
+-- at 10 ms R blocks L, and N too
+r_blocks : q_in (beside (sets (for Limited 30) 0)) 0 0 (scans 2) ≡ false
+unfolding table_of program_scan rank_order
+r_blocks = refl
+
+-- at 20 ms R is over, and the time of L is not: R touched no timer of it
+l_after_r : q_in (beside (sets (for Limited 30) 0)) 0 0 (scans 3) ≡ true
+unfolding table_of program_scan rank_order
+l_after_r = refl
+
+-- at 30 ms it is over, as it would be without R
+l_ends_in_time : q_in (beside (sets (for Limited 30) 0)) 0 0 (scans 4) ≡ false
+unfolding table_of program_scan rank_order
+l_ends_in_time = refl
+
+-- SD is stored anew at 20 ms, as its step is still active: at 30 ms its 20 ms are not over
+sd_anew : q_in (beside (sets (for StoredDelayed 20) 0)) 0 0 (scans 4) ≡ false
+unfolding table_of program_scan rank_order
+sd_anew = refl
+
+-- at 40 ms they are
+sd_anew_begins : q_in (beside (sets (for StoredDelayed 20) 0)) 0 0 (scans 5) ≡ true
+unfolding table_of program_scan rank_order
+sd_anew_begins = refl
+
 -- ---- P1 and P0: executed once, without Q
 
 -- n := n + 1, and where Q is 1 q := q + 1
