@@ -18,3 +18,19 @@ pub mod Stays
 pub mod Shown
 -- what events do with the variables
 pub mod Grows
+-- ---- what the definitions give at single moments of small plants, worked out by hand
+
+-- how small plants and their histories are written
+pub mod MomentPlants
+-- one plant from its first scan on
+pub mod Moments
+-- which transitions are cleared
+pub mod MomentsClearing
+-- actions by each qualifier
+pub mod MomentsActions
+-- faults and resets
+pub mod MomentsFaults
+-- forces, inputs and refusals
+pub mod MomentsForces
+-- when tasks are due, and which of them goes first
+pub mod MomentsTasks
