@@ -17,7 +17,7 @@ class Action:
 
     def __init__(self, rng: Random, name: str, networks: int):
         self.name, self.home = name, rng.randrange(networks)
-        self.untimed = rng.sample(UNTIMED, rng.randint(1, 4))
+        self.untimed = rng.sample(UNTIMED, rng.randint(1, 4)) + rng.choice([[], ['R', 'S'], ['R']])
         self.timed = rng.sample(TIMED, rng.choice([1, 1, 2, 3]))
 
 
@@ -64,7 +64,7 @@ def body(name: str, number: int) -> str:
 
 def chart(rng: Random) -> str:
     """The text of the chart: one to three networks at once."""
-    made, networks = Chart(rng), rng.choice([1, 1, 2, 3])
+    made, networks = Chart(rng), rng.choice([1, 2, 2, 3])
     declared, plain = [f"Act{number}" for number in range(2)], [f"Flag{number}" for number in range(3)]
     names = rng.sample(declared + plain, rng.randint(1, 5))
     actions = [Action(rng, name, networks) for name in names]

@@ -6,7 +6,8 @@ from plant_scripts import Scripts
 from plant_values import Expressions, Variable
 from plants import Areas, SIZES, TYPES, block, declaration
 
-WRONG_NAMES = ["zz", "P0", "P0.zz", "zz.n0", "Kind0.n0", "P0.n0.n0", "P0.", ".n0", "P0..n0", "n0", "Main", "Act", "1", "S0.X", ";", "%IX0.0"]
+WRONG_NAMES = ["zz", "P0", "P0.zz", "zz.n0", "Kind0.n0", "P0.n0.n0", "P0.", ".n0", "P0..n0", "n0", "Main", "Act", "1", "S0.X", ";",
+               "%IX0.0"]
 WRONG_VALUES = ["40000", "-32769", "2147483647", "-2147483648", "2", "-1", "5", "TRUE", "false", "T#0s", "T#-1ms", "00", "-00", "T#1.5ms"]
 WRONG_LINES = ["T#0s FORCE a 2147483648", "T#0s FORCE a INT#1", "SCAN Main", "T#0s RELEASE", "T#0s SCAN Main ; twice", "T#0s STOP P0",
                "T#0s INPUT a -", "T#0s FORCE a 1.5", "0 SCAN Main", "T#1 SCAN Main", "T#0s FORCE a 2#1"]
@@ -82,8 +83,8 @@ class ImageScripts(Scripts):
 
     def makers(self, faulted: bool) -> list:
         """What may come next, each with its weight; `faulted` says that an instance has a fault."""
-        return [(self.scan, 25), (self.input, 20), (self.force, 20), (self.release, 15), (self.reset, 15 if faulted else 6), (self.wrong, 10),
-                (self.stray, 2), (self.aside, 1)]
+        return [(self.scan, 25), (self.input, 20), (self.force, 20), (self.release, 15), (self.reset, 15 if faulted else 6),
+                (self.wrong, 10), (self.stray, 2), (self.aside, 1)]
 
     def wrong(self):
         """A command with a name that is none, or with a value that few variables take."""

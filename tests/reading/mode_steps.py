@@ -47,9 +47,20 @@ def transition(rng: Random, steps: list, link: tuple) -> str:
     return f"  TRANSITION{ranked} FROM {sides[0]} TO {sides[1]} := {condition(rng, steps, before)}; END_TRANSITION"
 
 
+def add_rivals(rng: Random, made: Chart):
+    """Steps that stay active, and transitions that share them: one that isn't cleared takes no step from a later one."""
+    steps = made.new(rng.randint(3, 6))
+    made.initial.update(steps)
+    for _ in range(2 * len(steps)):
+        some = rng.sample(steps, rng.choice([1, 2, 2, 3]))
+        made.link(some, rng.sample(some, len(some)), 0.6)
+
+
 def chart(rng: Random) -> str:
     """The text of the chart."""
     made = Chart(rng, 10)
+    if rng.random() < 0.4:
+        add_rivals(rng, made)
     made.grow(size(rng))
     elements = [step(rng, name, name in made.initial) for name in made.steps]
     elements += [transition(rng, made.steps, link) for link in made.links]

@@ -17,7 +17,8 @@ def program(rng: Random, name: str) -> str:
     flags = rng.sample(FLAGS, 3)
     wait = rng.choice(["TRUE", "TRUE", "Here.T >= T#10ms", rng.choice(INPUTS), rng.choice(FLAGS)])
     statements = rng.choice([f"{flags[0]} := NOT {flags[0]};", f"{flags[0]} := {rng.choice(INPUTS)} AND NOT {flags[1]};",
-                             f"Turns := Turns + 1; {flags[0]} := Turns MOD 3 = 0;", f"{flags[0]} := 1 / (Turns - 3) < 5; Turns := Turns + 1;"])
+                             f"Turns := Turns + 1; {flags[0]} := Turns MOD 3 = 0;",
+                             f"{flags[0]} := 1 / (Turns - 3) < 5; Turns := Turns + 1;"])
     plain = rng.choice(["", f" {flags[2]}(N);", f" {flags[2]}(P);"])
     return (f"PROGRAM {name}\n  VAR Turns : INT; END_VAR\n  INITIAL_STEP Here: Change({rng.choice(['N', 'P1'])}); END_STEP\n"
             f"  STEP There:{plain} END_STEP\n  TRANSITION FROM Here TO There := {wait}; END_TRANSITION\n"
@@ -32,7 +33,7 @@ def interval(rng: Random) -> int:
 def task(rng: Random, number: int, length: int) -> str:
     """A task by an interval, by SINGLE, or by both; now and then by neither."""
     how = rng.random()
-    single = f"SINGLE := {rng.choice(INPUTS + FLAGS)}, " if how > 0.5 else ""
+    single = f"SINGLE := {rng.choice(INPUTS + FLAGS + FLAGS)}, " if how > 0.5 else ""
     every = f"INTERVAL := {time_literal(rng, length)}, " if how < 0.8 else rng.choice(["", "INTERVAL := T#0s, "])
     if rng.random() < 0.03:
         single = every = ""
@@ -46,7 +47,7 @@ def chart(rng: Random) -> str:
     lengths = [rng.choice(few) if rng.random() < 0.5 else interval(rng) for _ in range(tasks)]
     variables = [f"  {name} AT %IX{number} : BOOL{rng.choice(['', '', ' := TRUE'])};\n" for number, name in enumerate(INPUTS)]
     variables += [f"  {name} : BOOL{rng.choice(['', '', ' := TRUE'])};\n" for name in FLAGS]
-    instances = [f"  PROGRAM P{number} WITH Task{rng.randrange(tasks)} : Kind{rng.randrange(3)};\n" for number in range(rng.randint(1, 8))]
+    instances = [f"  PROGRAM P{number} WITH Task{rng.randrange(tasks)} : Kind{rng.randrange(3)};\n" for number in range(rng.randint(1, 16))]
     return ("".join(program(rng, f"Kind{number}") for number in range(3)) + "CONFIGURATION Cell RESOURCE Cpu ON Plc\n  VAR_GLOBAL\n"
             + "".join(variables) + "  END_VAR\n" + "".join(task(rng, number, length) for number, length in enumerate(lengths))
             + "".join(instances) + "END_RESOURCE END_CONFIGURATION\n")
