@@ -1,12 +1,14 @@
 """What compare.sh does: random plants through a program and through the reading, all in one process of Python."""
 
+import argparse
+import os
 import shlex
 import subprocess
 import sys
 import tempfile
 from pathlib import Path
 
-from plants import plant
+from modes import MODES
 from reading import Ended, replayed
 
 SECONDS = 60
@@ -53,7 +55,7 @@ def keep(folder: Path, seed: int, ours: tuple, theirs: tuple):
         (folder / f"{seed}.{name}").write_text(run[0] + run[1] + f"status {run[2]}\n", "latin-1")
 
 
-def compared(command: list, folder: Path, seed: int) -> bool:
+def compared(command: list, folder: Path, seed: int, plant) -> bool:
     """Whether both play the plant of a seed alike; where not, the difference is printed and its files stay."""
     texts = [text.encode() for text in plant(seed)]
     files = [folder / f"{seed}.chart", folder / f"{seed}.script"]
@@ -69,15 +71,26 @@ def compared(command: list, folder: Path, seed: int) -> bool:
     return False
 
 
+def words() -> argparse.Namespace:
+    """The words of the command line."""
+    parser = argparse.ArgumentParser(prog="compare.sh")
+    parser.add_argument("--mode", choices=MODES, default="whole", help="the subject of the plants")
+    parser.add_argument("command", metavar="COMMAND", help="the program, as one word")
+    parser.add_argument("count", metavar="N", type=int, help="how many plants")
+    parser.add_argument("seed", metavar="SEED", type=int, nargs="?", default=1, help="the seed of the first one")
+    return parser.parse_args()
+
+
 def main() -> int:
-    """compare.py COMMAND N SEED FOLDER, where an empty FOLDER is a new temporary one"""
-    command, count, first = shlex.split(sys.argv[1]), int(sys.argv[2]), int(sys.argv[3])
-    folder = Path(sys.argv[4] or tempfile.mkdtemp(prefix="differences-"))
+    """Compares so many plants; gives the exit status."""
+    given = words()
+    folder = Path(os.environ.get("DIFFERENCES") or tempfile.mkdtemp(prefix="differences-"))
     folder.mkdir(parents=True, exist_ok=True)
-    differ = sum(not compared(command, folder, seed) for seed in range(first, first + count))
+    seeds = range(given.seed, given.seed + given.count)
+    differ = sum(not compared(shlex.split(given.command), folder, seed, MODES[given.mode]) for seed in seeds)
     if not differ and not any(folder.iterdir()):
         folder.rmdir()
-    print(f"{count} compared, {differ} differ")
+    print(f"{given.count} compared, {differ} differ")
     return 1 if differ else 0
 
 

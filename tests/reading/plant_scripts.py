@@ -12,7 +12,12 @@ from scripts import Replay, command
 
 
 class Scripts:
-    """Makes a script for the text of a chart."""
+    """Makes a script for the text of a chart.
+
+    It has from LEAST to MOST events; of its values so many of a hundred have ODD_TYPES, that is another type than their variable's.
+    """
+
+    LEAST, MOST, ODD_TYPES = 60, 100, 4
 
     def __init__(self, rng: Random, chart: str):
         self.rng, self.replay = rng, Replay(load(read(chart.encode())))
@@ -21,18 +26,21 @@ class Scripts:
         self.lines, self.end = [], "\r\n" if rng.random() < 0.1 else "\n"
 
     def text(self) -> str:
-        """A script of some eighty events."""
-        count = self.rng.randint(60, 100)
+        """The whole script."""
+        count = self.rng.randint(self.LEAST, self.MOST)
         for _ in range(count):
             self.event()
         return self.end.join(self.lines) + self.rng.choice(["", self.end])
 
     def event(self):
         """One more event."""
-        faulted = any(instance.fault for instance in self.history.instances)
-        makers = [(self.scan, 62), (self.input, 14), (self.force, 6), (self.release, 5), (self.reset, 9 if faulted else 3),
-                  (self.stray, 4), (self.aside, 2)]
+        makers = self.makers(any(instance.fault for instance in self.history.instances))
         self.rng.choices([maker for maker, _ in makers], [weight for _, weight in makers])[0]()
+
+    def makers(self, faulted: bool) -> list:
+        """What may come next, each with its weight; `faulted` says that an instance has a fault."""
+        return [(self.scan, 62), (self.input, 14), (self.force, 6), (self.release, 5), (self.reset, 9 if faulted else 3),
+                (self.stray, 4), (self.aside, 2)]
 
     def say(self, *words: str, instant=None):
         """Adds a line and plays it."""
@@ -92,7 +100,7 @@ class Scripts:
 
     def value(self, kind: str) -> str:
         """A value of a type as scripts write it; now and then one of another type."""
-        if self.rng.random() < 0.04:
+        if self.rng.random() * 100 < self.ODD_TYPES:
             kind = self.rng.choice(["BOOL", "INT", "DINT", "TIME"])
         value = any_value(self.rng, kind)
         if kind == "TIME":

@@ -1,10 +1,11 @@
 #!/usr/bin/env python3
 """Random well-formed plants and scripts, each from a seed.
 
-`plants.py SEED CHART SCRIPT` writes one; `plants.py summary COUNT [SEED]` tells what happens in so many of them.
+`plants.py SEED CHART SCRIPT` writes one; `plants.py summary COUNT [SEED]` tells what happens in so many of them. `--mode MODE` takes
+those of one subject (modes.py).
 """
 
-import sys
+import argparse
 from random import Random
 
 from plant_scripts import Scripts
@@ -40,10 +41,10 @@ RISKY_CONDITIONS = {
 
 
 class Chart:
-    """Steps and transitions of a random program type, as they are put together."""
+    """Steps and transitions of a random program type, as they are put together; `dense` bounds a network of all pairs."""
 
-    def __init__(self, rng: Random):
-        self.rng, self.steps, self.initial, self.links = rng, [], set(), []
+    def __init__(self, rng: Random, dense=5):
+        self.rng, self.dense, self.steps, self.initial, self.links = rng, dense, [], set(), []
 
     def new(self, count: int) -> list:
         """So many new steps."""
@@ -86,7 +87,7 @@ class Chart:
 
     def pairs(self, size: int):
         """A transition between any two steps, those from a step to itself among them."""
-        steps = self.new(min(size, 5))
+        steps = self.new(min(size, self.dense))
         for here in steps:
             for there in steps:
                 self.link([here], [there], 0.5)
@@ -363,18 +364,26 @@ def plant(seed: int) -> tuple:
     return chart, Scripts(rng, chart).text()
 
 
-def main() -> int:
-    """Writes one plant, or a summary of many."""
-    if sys.argv[1:2] == ["summary"]:
-        from plant_summary import summary
-        print(summary(int(sys.argv[2]), int(sys.argv[3]) if len(sys.argv) > 3 else 1))
-        return 0
-    chart, script = plant(int(sys.argv[1]))
-    for name, text in zip(sys.argv[2:4], (chart, script)):
+def write(seed: int, mode: str, files: list):
+    """Writes the chart and the script of a seed."""
+    from modes import MODES
+    for name, text in zip(files, MODES[mode](seed)):
         with open(name, "w", newline="") as file:
             file.write(text)
-    return 0
+
+
+def main():
+    """Writes one plant, or a summary of many."""
+    parser = argparse.ArgumentParser(usage="plants.py [--mode MODE] SEED CHART SCRIPT | plants.py [--mode MODE] summary COUNT [SEED]")
+    parser.add_argument("--mode", default="whole")
+    parser.add_argument("words", nargs="+")
+    given = parser.parse_args()
+    if given.words[0] == "summary":
+        from plant_summary import summary
+        print(summary(given.mode, *[int(word) for word in given.words[1:]]))
+    else:
+        write(int(given.words[0]), given.mode, given.words[1:])
 
 
 if __name__ == "__main__":
-    sys.exit(main())
+    main()
