@@ -11,37 +11,46 @@ program=$top/crates/sfcmon/out/sfcmon
 work=$(mktemp -d)
 trap 'rm -rf "$work"' EXIT
 cc -O1 -shared -fPIC -o "$work/refuse.so" "$here/refuse.c" -ldl || exit 1
-chart=$top/examples/pump.chart script=$top/examples/pump.script whole=$top/examples/pump.expect
+data=$top/crates/conformance/data
 passed=0 failed=0
 
-# run WORD..: the program with these settings; leaves out, err and status
-run() { env "$@" LD_PRELOAD="$work/refuse.so" "$program" replay "$chart" "$script" >"$work/out" 2>"$work/err"; status=$?; }
+# run SETTING..: the program with these settings on the words of the sweep; leaves out, err and status
+run() { env "$@" LD_PRELOAD="$work/refuse.so" "$program" "${words[@]}" >"$work/out" 2>"$work/err"; status=$?; }
 is_front() { cmp -s -n "$(stat -c %s "$work/out")" "$work/out" "$whole"; }
 is_whole() { [ "$status" = 0 ] && cmp -s "$work/out" "$whole" && [ ! -s "$work/err" ]; }
 says() { [ "$(cat "$work/err")" = "$1" ]; }
-note() { if [ "$1" = 0 ]; then passed=$((passed + 1)); else failed=$((failed + 1)); echo "not as it should be: $2 (status $status)"; fi; }
+note() { if [ "$1" = 0 ]; then passed=$((passed + 1)); else failed=$((failed + 1)); echo "not as it should be: ${words[0]}, $2 (status $status)"; fi; }
 
-run SFC_COUNTS="$work/counts"
-is_whole; note $? "the undisturbed run"
-read -r allocations reads <"$work/counts"
-bytes=$(stat -c %s "$whole")
+# sweep WHOLE WORD..: the program with these words, whose undisturbed run writes the file WHOLE
+sweep() {
+  local n k allocations reads bytes
+  whole=$1 words=("${@:2}")
+  run SFC_COUNTS="$work/counts"
+  is_whole; note $? "the undisturbed run"
+  read -r allocations reads <"$work/counts"
+  bytes=$(stat -c %s "$whole")
+  for ((n = 1; n <= allocations; n++)); do
+    run SFC_REFUSE=alloc:$n
+    is_whole || { [ "$status" = 4 ] && says "out of memory" && is_front; }
+    note $? "allocation $n of $allocations refused"
+  done
+  for ((n = 1; n <= reads; n++)); do
+    run SFC_REFUSE=read:$n
+    [ "$status" = 3 ] && says "read fault" && [ ! -s "$work/out" ]
+    note $? "read $n of $reads refused"
+  done
+  for ((k = 0; k < bytes; k++)); do
+    run SFC_REFUSE=write:$k
+    [ "$status" = 3 ] && says "write fault" && [ "$(stat -c %s "$work/out")" = "$k" ] && is_front
+    note $? "writes that fail after $k of $bytes bytes"
+  done
+  run SFC_SHORT=1
+  is_whole; note $? "reads and writes of one byte"
+}
 
-for ((n = 1; n <= allocations; n++)); do
-  run SFC_REFUSE=alloc:$n
-  is_whole || { [ "$status" = 4 ] && says "out of memory" && is_front; }
-  note $? "allocation $n of $allocations refused"
-done
-for ((n = 1; n <= reads; n++)); do
-  run SFC_REFUSE=read:$n
-  [ "$status" = 3 ] && says "read fault" && [ ! -s "$work/out" ]
-  note $? "read $n of $reads refused"
-done
-for ((k = 0; k < bytes; k++)); do
-  run SFC_REFUSE=write:$k
-  [ "$status" = 3 ] && says "write fault" && [ "$(stat -c %s "$work/out")" = "$k" ] && is_front
-  note $? "writes that fail after $k of $bytes bytes"
-done
-run SFC_SHORT=1
-is_whole; note $? "reads and writes of one byte"
+sweep "$top/examples/mixing.expect" replay "$top/examples/mixing.chart" "$top/examples/mixing.script"
+sweep "$data/listed_mix.expect" list "$data/listed_mix.chart"
+echo ok >"$work/ok"
+sweep "$work/ok" check "$data/listed_mix.chart"
 echo "$passed passed, $failed failed"
 [ "$failed" = 0 ]
