@@ -1,5 +1,6 @@
 -- The answer to an event: what it is refused for, else what it gives.
-use Rattle.std.specs.Prelude.{ℕ, ◌+◌, ◌==◌, ◌^◌, nat_lt, Bool, true, false, cond, not, ◌||◌, is_none, is_ok, List, [], ◌∷◌, length}
+use Rattle.std.specs.Prelude.{ℕ, ◌+◌, ◌==◌, ◌^◌, nat_lt, Bool, true, false, cond, not, ◌||◌}
+use Rattle.std.specs.Prelude.{is_none, is_ok, List, [], ◌∷◌, length}
 use Rattle.std.specs.Prelude.{ℤ, pos, int_lt, Option, Some, None, Result, Ok, Err, slice_get}
 use Rattle.sfc_tokens.specs.declared.location.Area.{Area}
 use Rattle.sfc_tokens.specs.declared.location.Area.TheVariants as areas
