@@ -7,5 +7,6 @@ pub mod Failing
 pub mod Rooms
 pub mod Outputs
 pub mod Copies
+pub mod Rows
 pub mod Keeping
 pub mod Listing

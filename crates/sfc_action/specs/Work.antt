@@ -5,4 +5,4 @@ use Rattle.sfc_tables.specs.Tables.{Tabled}
 
 -- of action control in a scan
 abbrev pub control_work : Tabled → ℕ
-control_work tables = length tables.initial + 4 * length tables.associations + 65 * length tables.actions
+control_work tables = length tables.initial + 4 * length tables.associations + 5 * length tables.actions

@@ -111,7 +111,6 @@ impl Controls {
             &self.scratch.inputs,
             &self.scratch.stores,
             tables.step_actions(),
-            &mut self.scratch.room,
             ticks,
         ) {
             return Err(fault);
@@ -137,24 +136,6 @@ impl Controls {
         self.kept.executed.get(action.0)
     }
 
-    /// The Q of all actions, by number.
-    pub fn q_flags(&self) -> &Flags
-        ensures len { length result.now ≡ action_places self.now }
-        ensures flags { (tables : Tabled) (h : List Scan) → ControlsAgree tables self.now h →
-            result.now ≡ map (λ a. q tables a h) (range_with_len 0 (length tables.actions)) }
-    {
-        &self.kept.q
-    }
-
-    /// Which actions the newest scan executed, by number.
-    pub fn executed_flags(&self) -> &Flags
-        ensures len { length result.now ≡ action_places self.now }
-        ensures flags { (tables : Tabled) (h : List Scan) → ControlsAgree tables self.now h →
-            result.now ≡ map (λ a. executed tables a h) (range_with_len 0 (length tables.actions)) }
-    {
-        &self.kept.executed
-    }
-
     /// Takes over what the other keeps, which was made from tables of the same size. It takes no memory.
     pub fn copy_from(&mut self, other: &Controls, ticks: &mut Ticks)
         requires actions { action_places other.now ≡ action_places self.old }
@@ -164,7 +145,7 @@ impl Controls {
         ensures sizes { (tables : Tabled) → IsFor tables other.now → IsFor tables self.new }
         ensures kept { (tables : Tabled) (h : List Scan) → ControlsAgree tables other.now h →
             ControlsAgree tables self.new h }
-        ensures ticks { Within (9 * action_places self.old + delay_places self.old) ticks.old ticks.new }
+        ensures ticks { Within (action_places self.old + delay_places self.old) ticks.old ticks.new }
     {
         self.kept.copy_from(&other.kept, ticks);
     }

@@ -1,7 +1,8 @@
 //! The first fault of a scan.
 
-ghost use Rattle.std.specs.Prelude.{◌≡◌, ◌↔◌, ◌<◌, ◌+◌, ◌*◌, ℕ, All, None, true, length};
+ghost use Rattle.std.specs.Prelude.{◌≡◌, ◌<◌, ◌+◌, ℕ, All, None, true, length};
 ghost use Rattle.sfc_expr.specs.Ticks.{Within};
+ghost use Rattle.sfc_flags.specs.Words.{word_count, word_of};
 ghost use Rattle.sfc_action.specs.ActionControl.{first_in};
 ghost use Rattle.sfc_action.specs.Private.Marking.{AreSized};
 ghost use Rattle.sfc_action.specs.Private.Storing.{AreStores};
@@ -9,10 +10,8 @@ ghost use Rattle.sfc_action.specs.Private.Failing.{fault_at};
 
 use crate::fault::ControlFault;
 use crate::inputs::Inputs;
-use crate::sets::are_apart;
 use crate::stores::Stores;
 use sfc_expr::ticks::Ticks;
-use sfc_flags::flags::Flags;
 use sfc_tables::step_action::StepAction;
 
 // The fault of this action.
@@ -33,32 +32,32 @@ fn fault_of(inputs: &Inputs, stores: &Stores, action: usize) -> Option<ControlFa
     }
 }
 
-// Whether no action has a fault; `room` is used up.
-fn is_faultless(inputs: &Inputs, stores: &Stores, room: &mut Flags, ticks: &mut Ticks) -> bool
+// Whether the 64 actions of this word have no fault.
+fn is_word_faultless(inputs: &Inputs, stores: &Stores, number: usize) -> bool
     requires inputs { AreSized (length inputs.now.any_time) inputs.now }
     requires stores { AreStores (length inputs.now.any_time) stores.now }
-    requires room { length room.old ≡ length inputs.now.any_time }
-    ensures room { length room.new ≡ length room.old }
-    ensures none { (result ≡ true) ↔ ((a : ℕ) → fault_at inputs.now stores.now a ≡ None) }
-    ensures ticks { Within (7 * length inputs.now.any_time) ticks.old ticks.new }
+    requires number { number < word_count inputs.now.any_time }
+    ensures { result ≡ true → (a : ℕ) → word_of a ≡ number → fault_at inputs.now stores.now a ≡ None }
 {
-    if let Some(_action) = inputs.more_times.next_set(0, ticks) {
-        return false;
+    inputs
+        .words(number)
+        .are_faultless(stores.words(number))
+}
+
+// Whether no action has a fault, by words: where it answers no, there may be one.
+fn is_faultless(inputs: &Inputs, stores: &Stores, ticks: &mut Ticks) -> bool
+    requires inputs { AreSized (length inputs.now.any_time) inputs.now }
+    requires stores { AreStores (length inputs.now.any_time) stores.now }
+    ensures none { result ≡ true → (a : ℕ) → fault_at inputs.now stores.now a ≡ None }
+    ensures ticks { Within (length inputs.now.any_time) ticks.old ticks.new }
+{
+    for number in 0..inputs.any_time.words() {
+        ticks.tick();
+        if !is_word_faultless(inputs, stores, number) {
+            return false;
+        }
     }
-    if !are_apart(
-        &inputs.timed.stored_delayed,
-        &stores.stored_limited,
-        room,
-        ticks,
-    ) {
-        return false;
-    }
-    are_apart(
-        &inputs.timed.stored_limited,
-        &stores.stored_delayed,
-        room,
-        ticks,
-    )
+    true
 }
 
 // The fault of the first of these associations whose action has one.
@@ -83,23 +82,20 @@ fn search(
     None
 }
 
-/// The fault of the first of these associations whose action has one; `room` is used up.
+/// The fault of the first of these associations whose action has one.
 pub fn first_fault(
     inputs: &Inputs,
     stores: &Stores,
     associations: &[StepAction],
-    room: &mut Flags,
     ticks: &mut Ticks,
 ) -> Option<ControlFault>
     requires inputs { AreSized (length inputs.now.any_time) inputs.now }
     requires stores { AreStores (length inputs.now.any_time) stores.now }
-    requires room { length room.old ≡ length inputs.now.any_time }
     requires actions { All (λ x. x.action.0 < length inputs.now.any_time) associations.now }
-    ensures room { length room.new ≡ length room.old }
     ensures fault { result ≡ first_in (fault_at inputs.now stores.now) associations.now }
-    ensures ticks { Within (7 * length inputs.now.any_time + length associations.now) ticks.old ticks.new }
+    ensures ticks { Within (length inputs.now.any_time + length associations.now) ticks.old ticks.new }
 {
-    if is_faultless(inputs, stores, room, ticks) {
+    if is_faultless(inputs, stores, ticks) {
         return None;
     }
     search(inputs, stores, associations, ticks)

@@ -1,8 +1,11 @@
 //! The inputs of all blocks in one scan.
 
+use crate::input_words::InputWords;
 use crate::timed::Timed;
+use crate::timed_words::TimedWords;
 use sfc_expr::ticks::Ticks;
 use sfc_flags::flags::Flags;
+use sfc_flags::word::Word;
 use sfc_tables::association::Qualifier;
 use sfc_text::tree::TimedQualifier;
 use std::alloc::{AllocError, Global};
@@ -22,9 +25,11 @@ pub struct Inputs {
 }
 
 impl Inputs {
-    ghost use Rattle.std.specs.Prelude.{◌≡◌, ◌<◌, ◌*◌, length, IfOk};
+    ghost use Rattle.std.specs.Prelude.{◌≡◌, ◌<◌, ℕ, length, IfOk};
     ghost use Rattle.sfc_expr.specs.Ticks.{Within};
+    ghost use Rattle.sfc_flags.specs.Words.{word_count, word_of};
     ghost use Rattle.sfc_action.specs.Private.Marking.{AreSized, cleared, marked, marked_timed};
+    ghost use Rattle.sfc_action.specs.Private.Rows.{inputs_in, input_row, no_inputs, ArePut};
 
     /// No action has an input.
     pub fn new(alloc: Global, actions: usize) -> Result<Self, AllocError>
@@ -43,21 +48,53 @@ impl Inputs {
         })
     }
 
+    /// The inputs of the 64 actions of this word.
+    pub fn words(&self, number: usize) -> InputWords
+        requires sized { AreSized (length self.now.any_time) self.now }
+        requires number { number < word_count self.now.any_time }
+        ensures { (a : ℕ) → word_of a ≡ number → inputs_in result a ≡ input_row self.now a }
+    {
+        InputWords {
+            non_stored: self.non_stored.word(number),
+            reset: self.reset.word(number),
+            set: self.set.word(number),
+            pulse: self.pulse.word(number),
+            rising_pulse: self.rising_pulse.word(number),
+            falling_pulse: self.falling_pulse.word(number),
+            timed: self.timed.words(number),
+            any_time: self.any_time.word(number),
+            more_times: self.more_times.word(number),
+        }
+    }
+
+    // The 64 actions of this word have no input.
+    fn clear_word(&mut self, number: usize)
+        requires sized { AreSized (length self.old.any_time) self.old }
+        requires number { number < word_count self.old.any_time }
+        ensures sized { AreSized (length self.old.any_time) self.new }
+        ensures put { ArePut number (λ a. no_inputs) (input_row self.old) (input_row self.new) }
+    {
+        self.non_stored.put_word(number, Word::none());
+        self.reset.put_word(number, Word::none());
+        self.set.put_word(number, Word::none());
+        self.pulse.put_word(number, Word::none());
+        self.rising_pulse.put_word(number, Word::none());
+        self.falling_pulse.put_word(number, Word::none());
+        self.timed.put(number, TimedWords::none());
+        self.any_time.put_word(number, Word::none());
+        self.more_times.put_word(number, Word::none());
+    }
+
     /// No action has an input.
     pub fn clear(&mut self, ticks: &mut Ticks)
         requires { AreSized (length self.old.any_time) self.old }
         ensures inputs { self.new ≡ cleared (length self.old.any_time) }
-        ensures ticks { Within (13 * length self.old.any_time) ticks.old ticks.new }
+        ensures ticks { Within (length self.old.any_time) ticks.old ticks.new }
     {
-        self.non_stored.clear_all(ticks);
-        self.reset.clear_all(ticks);
-        self.set.clear_all(ticks);
-        self.pulse.clear_all(ticks);
-        self.rising_pulse.clear_all(ticks);
-        self.falling_pulse.clear_all(ticks);
-        self.timed.clear(ticks);
-        self.any_time.clear_all(ticks);
-        self.more_times.clear_all(ticks);
+        for number in 0..self.any_time.words() {
+            ticks.tick();
+            self.clear_word(number);
+        }
     }
 
     /// The action has the input of this qualifier.

@@ -2,31 +2,39 @@
 //!
 //! - `blocks`: on-delays of actions.
 //! - `controls`: action control of a program instance.
+//! - `delays`: on-delays of a scan.
 //! - `fault`: what makes a scan's action control fail.
 //! - `faults`: the first fault of a scan.
+//! - `input_words`: of 64 actions the inputs.
 //! - `inputs`: the inputs of all blocks in one scan.
 //! - `kept`: what is kept from scan to scan.
+//! - `kept_words`: the same of 64 actions.
 //! - `laws`: what holds of the definitions themselves.
 //! - `listing`: which on-delays there are.
 //! - `marking`: what the active steps give as inputs.
-//! - `outputs`: on-delays of a scan, and Q.
+//! - `scan_words`: of 64 actions what a scan is told.
 //! - `scratch`: room for a scan.
-//! - `sets`: work on whole sets of actions.
+//! - `store_words`: of 64 actions the flip-flops.
 //! - `stores`: flip-flops of actions.
 //! - `timed`: sets of actions by the qualifiers with a time.
+//! - `timed_words`: the same of 64 actions.
 #![tactic(auto)]
 
 mod blocks;
 pub mod controls;
+mod delays;
 pub mod fault;
 mod faults;
+mod input_words;
 mod inputs;
 mod kept;
+mod kept_words;
 pub mod laws;
 mod listing;
 mod marking;
-mod outputs;
+mod scan_words;
 mod scratch;
-mod sets;
+mod store_words;
 mod stores;
 mod timed;
+mod timed_words;

@@ -2,6 +2,7 @@
 
 use crate::inputs::Inputs;
 use crate::marking::mark_active;
+use crate::scan_words::ScanWords;
 use crate::stores::Stores;
 use crate::timed::Timed;
 use sfc_expr::ticks::Ticks;
@@ -10,24 +11,26 @@ use sfc_tables::tables::Tables;
 use std::alloc::{AllocError, Global};
 
 /// The inputs and times of a scan, the flip-flops after it, and the on-delays that have elapsed. Each scan writes all
-/// anew; `room` is used up time and again.
+/// anew.
 #[derive(Drop)]
 pub struct Scratch {
     pub inputs: Inputs,
     pub presets: Vec<i64>,
     pub stores: Stores,
     pub elapsed: Timed,
-    pub room: Flags,
 }
 
 impl Scratch {
-    ghost use Rattle.std.specs.Prelude.{◌≡◌, ◌+◌, ◌*◌, length, IfOk};
+    ghost use Rattle.std.specs.Prelude.{◌≡◌, ◌<◌, ◌+◌, ◌*◌, ℕ, length, IfOk};
+    ghost use Rattle.std.specs.Int.{div_ceil};
     ghost use Rattle.sfc_expr.specs.Ticks.{Within};
     ghost use Rattle.sfc_flags.specs.Flags.{places_from};
+    ghost use Rattle.sfc_flags.specs.Words.{word_of};
     ghost use Rattle.sfc_tables.specs.Tables.{AreTables};
     ghost use Rattle.sfc_action.specs.Private.Marking.{cleared, marked_at, presets_at};
     ghost use Rattle.sfc_action.specs.Private.Storing.{AreStores, AreNext};
     ghost use Rattle.sfc_action.specs.Private.Rooms.{IsScratch};
+    ghost use Rattle.sfc_action.specs.Private.Rows.{inputs_in, input_row, stores_in, store_row, timed_in, timed_row};
 
     /// Room for so many actions.
     #[tactic(auto, using(crate::proofs::Sizes::are_sized, crate::proofs::Sizes::are_stores, crate::proofs::Sizes::are_all))]
@@ -39,7 +42,6 @@ impl Scratch {
             presets: vec![in alloc; 0; actions]?,
             stores: Stores::new(alloc, actions)?,
             elapsed: Timed::new(alloc, actions)?,
-            room: Flags::new(alloc, actions)?,
         })
     }
 
@@ -63,7 +65,7 @@ impl Scratch {
         ensures presets { self.new.presets.items
             ≡ presets_at times.now tables.now.associations (places_from active.now 0) self.old.presets.items }
         ensures next { AreNext stored.now self.new.inputs self.new.stores }
-        ensures ticks { Within (22 * length tables.now.actions + length active.now + length tables.now.associations)
+        ensures ticks { Within (2 * length tables.now.actions + length active.now + length tables.now.associations)
             ticks.old ticks.new }
     {
         self.inputs.clear(ticks);
@@ -76,5 +78,20 @@ impl Scratch {
             ticks,
         );
         self.stores.update(stored, &self.inputs, ticks);
+    }
+
+    /// Of the 64 actions of this word the inputs, the flip-flops and the elapsed on-delays.
+    pub fn words(&self, number: usize) -> ScanWords
+        requires sized { IsScratch (length self.now.presets.items) self.now }
+        requires number { number < div_ceil (length self.now.presets.items) 64 }
+        ensures inputs { (a : ℕ) → word_of a ≡ number → inputs_in result.inputs a ≡ input_row self.now.inputs a }
+        ensures stores { (a : ℕ) → word_of a ≡ number → stores_in result.stores a ≡ store_row self.now.stores a }
+        ensures elapsed { (a : ℕ) → word_of a ≡ number → timed_in result.elapsed a ≡ timed_row self.now.elapsed a }
+    {
+        ScanWords {
+            inputs: self.inputs.words(number),
+            stores: self.stores.words(number),
+            elapsed: self.elapsed.words(number),
+        }
     }
 }

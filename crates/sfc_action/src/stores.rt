@@ -1,7 +1,7 @@
 //! Flip-flops of actions.
 
 use crate::inputs::Inputs;
-use crate::sets::store;
+use crate::store_words::StoreWords;
 use sfc_expr::ticks::Ticks;
 use sfc_flags::flags::Flags;
 use std::alloc::{AllocError, Global};
@@ -15,10 +15,12 @@ pub struct Stores {
 }
 
 impl Stores {
-    ghost use Rattle.std.specs.Prelude.{◌≡◌, ◌*◌, length, IfOk};
+    ghost use Rattle.std.specs.Prelude.{◌≡◌, ◌<◌, ◌≤◌, ℕ, length, IfOk};
     ghost use Rattle.sfc_expr.specs.Ticks.{Within};
+    ghost use Rattle.sfc_flags.specs.Words.{word_count, word_of};
     ghost use Rattle.sfc_action.specs.Private.Marking.{AreSized};
     ghost use Rattle.sfc_action.specs.Private.Storing.{AreStores, no_stores, AreNext};
+    ghost use Rattle.sfc_action.specs.Private.Rows.{stores_in, store_row, input_row, no_store, stores_after, ArePut};
 
     /// None is set.
     pub fn new(alloc: Global, actions: usize) -> Result<Self, AllocError>
@@ -31,6 +33,46 @@ impl Stores {
         })
     }
 
+    /// The flip-flops of the 64 actions of this word.
+    pub fn words(&self, number: usize) -> StoreWords
+        requires sized { AreStores (length self.now.set) self.now }
+        requires number { number < word_count self.now.set }
+        ensures { (a : ℕ) → word_of a ≡ number → stores_in result a ≡ store_row self.now a }
+    {
+        StoreWords {
+            set: self.set.word(number),
+            stored_delayed: self.stored_delayed.word(number),
+            stored_limited: self.stored_limited.word(number),
+        }
+    }
+
+    /// Gives the 64 actions of this word these flip-flops; past the last action none is set.
+    pub fn put(&mut self, number: usize, words: StoreWords)
+        requires sized { AreStores (length self.old.set) self.old }
+        requires number { number < word_count self.old.set }
+        requires past { (a : ℕ) → word_of a ≡ number → length self.old.set ≤ a → stores_in words a ≡ no_store }
+        ensures sized { AreStores (length self.old.set) self.new }
+        ensures put { ArePut number (stores_in words) (store_row self.old) (store_row self.new) }
+    {
+        self.set.put_word(number, words.set);
+        self.stored_delayed.put_word(number, words.stored_delayed);
+        self.stored_limited.put_word(number, words.stored_limited);
+    }
+
+    // The same as `update`, of the 64 actions of one word.
+    fn update_word(&mut self, stored: &Stores, inputs: &Inputs, number: usize)
+        requires sized { AreStores (length self.old.set) self.old }
+        requires stored { AreStores (length self.old.set) stored.now }
+        requires inputs { AreSized (length self.old.set) inputs.now }
+        requires number { number < word_count self.old.set }
+        ensures sized { AreStores (length self.old.set) self.new }
+        ensures put { ArePut number (λ a. stores_after (input_row inputs.now a) (store_row stored.now a))
+            (store_row self.old) (store_row self.new) }
+    {
+        let words = stored.words(number).after(inputs.words(number));
+        self.put(number, words);
+    }
+
     /// Becomes what these inputs make of what was stored.
     pub fn update(&mut self, stored: &Stores, inputs: &Inputs, ticks: &mut Ticks)
         requires sized { AreStores (length self.old.set) self.old }
@@ -38,40 +80,11 @@ impl Stores {
         requires inputs { AreSized (length self.old.set) inputs.now }
         ensures sized { AreStores (length self.old.set) self.new }
         ensures next { AreNext stored.now inputs.now self.new }
-        ensures ticks { Within (9 * length self.old.set) ticks.old ticks.new }
+        ensures ticks { Within (length self.old.set) ticks.old ticks.new }
     {
-        store(
-            &mut self.set,
-            &stored.set,
-            &inputs.set,
-            &inputs.reset,
-            ticks,
-        );
-        store(
-            &mut self.stored_delayed,
-            &stored.stored_delayed,
-            &inputs.timed.stored_delayed,
-            &inputs.reset,
-            ticks,
-        );
-        store(
-            &mut self.stored_limited,
-            &stored.stored_limited,
-            &inputs.timed.stored_limited,
-            &inputs.reset,
-            ticks,
-        );
-    }
-
-    /// Takes over what the other has.
-    pub fn copy_from(&mut self, other: &Stores, ticks: &mut Ticks)
-        requires sized { AreStores (length self.old.set) self.old }
-        requires other { AreStores (length self.old.set) other.now }
-        ensures stores { self.new ≡ other.now }
-        ensures ticks { Within (3 * length self.old.set) ticks.old ticks.new }
-    {
-        self.set.copy_from(&other.set, ticks);
-        self.stored_delayed.copy_from(&other.stored_delayed, ticks);
-        self.stored_limited.copy_from(&other.stored_limited, ticks);
+        for number in 0..self.set.words() {
+            ticks.tick();
+            self.update_word(stored, inputs, number);
+        }
     }
 }

@@ -1,5 +1,6 @@
 //! Sets of actions by the qualifiers with a time.
 
+use crate::timed_words::TimedWords;
 use sfc_expr::ticks::Ticks;
 use sfc_flags::flags::Flags;
 use sfc_text::tree::TimedQualifier;
@@ -16,10 +17,12 @@ pub struct Timed {
 }
 
 impl Timed {
-    ghost use Rattle.std.specs.Prelude.{◌≡◌, ◌<◌, ◌*◌, length, IfOk};
+    ghost use Rattle.std.specs.Prelude.{◌≡◌, ◌<◌, ◌≤◌, ℕ, length, IfOk};
     ghost use Rattle.sfc_expr.specs.Ticks.{Within};
     ghost use Rattle.sfc_flags.specs.Flags.{flag};
+    ghost use Rattle.sfc_flags.specs.Words.{word_count, word_of};
     ghost use Rattle.sfc_action.specs.Private.TimedSets.{AreAll, none, with_action, by};
+    ghost use Rattle.sfc_action.specs.Private.Rows.{timed_in, timed_row, no_times, ArePut};
 
     /// No action is in any.
     pub fn new(alloc: Global, actions: usize) -> Result<Self, AllocError>
@@ -34,17 +37,46 @@ impl Timed {
         })
     }
 
+    /// The flags of the 64 actions of this word.
+    pub fn words(&self, number: usize) -> TimedWords
+        requires sized { AreAll (length self.now.limited) self.now }
+        requires number { number < word_count self.now.limited }
+        ensures { (a : ℕ) → word_of a ≡ number → timed_in result a ≡ timed_row self.now a }
+    {
+        TimedWords {
+            limited: self.limited.word(number),
+            delayed: self.delayed.word(number),
+            stored_delayed: self.stored_delayed.word(number),
+            delayed_stored: self.delayed_stored.word(number),
+            stored_limited: self.stored_limited.word(number),
+        }
+    }
+
+    /// Gives the 64 actions of this word these flags; past the last action none is set.
+    pub fn put(&mut self, number: usize, words: TimedWords)
+        requires sized { AreAll (length self.old.limited) self.old }
+        requires number { number < word_count self.old.limited }
+        requires past { (a : ℕ) → word_of a ≡ number → length self.old.limited ≤ a → timed_in words a ≡ no_times }
+        ensures sized { AreAll (length self.old.limited) self.new }
+        ensures put { ArePut number (timed_in words) (timed_row self.old) (timed_row self.new) }
+    {
+        self.limited.put_word(number, words.limited);
+        self.delayed.put_word(number, words.delayed);
+        self.stored_delayed.put_word(number, words.stored_delayed);
+        self.delayed_stored.put_word(number, words.delayed_stored);
+        self.stored_limited.put_word(number, words.stored_limited);
+    }
+
     /// No action is in any.
     pub fn clear(&mut self, ticks: &mut Ticks)
         requires { AreAll (length self.old.limited) self.old }
         ensures sets { self.new ≡ none (length self.old.limited) }
-        ensures ticks { Within (5 * length self.old.limited) ticks.old ticks.new }
+        ensures ticks { Within (length self.old.limited) ticks.old ticks.new }
     {
-        self.limited.clear_all(ticks);
-        self.delayed.clear_all(ticks);
-        self.stored_delayed.clear_all(ticks);
-        self.delayed_stored.clear_all(ticks);
-        self.stored_limited.clear_all(ticks);
+        for number in 0..self.limited.words() {
+            ticks.tick();
+            self.put(number, TimedWords::none());
+        }
     }
 
     /// Puts the action in the set of this qualifier.

@@ -2,3 +2,4 @@ mod Tables
 mod Views
 mod Nexts
 mod Passed
+mod Has

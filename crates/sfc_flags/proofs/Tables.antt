@@ -9,7 +9,7 @@ use Rattle.std.specs.Prelude.{slice_set, bit_and, bit_or}
 use Rattle.std.specs.Int.{bit_at, bit_not, trailing_zeros}
 use Rattle.sfc_flags.specs.Private.Bits.{bit}
 
-zero_or_one : (n i : ℕ) → (bit_at n i ≡ 0) ⊎ (bit_at n i ≡ 1)
+pub zero_or_one : (n i : ℕ) → (bit_at n i ≡ 0) ⊎ (bit_at n i ≡ 1)
 zero_or_one n i = elim (cases_eq (bit_at n i) 0) [
   | inl e ↦ inl e
   | inr d ↦ inr (omega arith)

@@ -1,4 +1,6 @@
 -- a flag of a table, and its set places
 pub mod Flags
+-- the flags of 64 places at once
+pub mod Words
 -- cited by private clauses alone
 pub mod Private

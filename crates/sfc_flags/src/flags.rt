@@ -1,10 +1,12 @@
 //! A table of flags, one bit each.
 
-ghost use Rattle.std.specs.Prelude.{◌≡◌, ◌<◌, ◌≤◌, ◌^◌, ◌||◌, ◌&&◌, ◌↔◌, ◌∷◌, ◌+◌, ◌-◌, [], ℕ, List, Bool, not, true, false, length, replicate, slice_set, IfOk, IfSome, None};
+ghost use Rattle.std.specs.Prelude.{◌≡◌, ◌==◌, ◌<◌, ◌≤◌, ◌^◌, ◌||◌, ◌&&◌, ◌↔◌, ◌∷◌, ◌+◌, ◌-◌, [], ℕ, List, Bool, not, true, false, cond, length, replicate, slice_set, IfOk, IfSome, None};
 ghost use Rattle.sfc_expr.specs.Ticks.{Within};
 ghost use Rattle.sfc_flags.specs.Flags.{flag, places_from, places_passed};
+ghost use Rattle.sfc_flags.specs.Words.{has, word_count, word_of};
 ghost use Rattle.sfc_flags.specs.Private.Bits.{flags_of, IsTable};
 
+use crate::word::Word;
 use crate::words;
 use sfc_expr::ticks::Ticks;
 use std::alloc::{AllocError, Global};
@@ -61,6 +63,31 @@ impl Flags {
         words::put(&mut self.words, place, value);
     }
 
+    /// How many words hold the flags.
+    pub fn words(&self) -> usize
+        ensures { result ≡ word_count self.now }
+    {
+        self.words.len()
+    }
+
+    /// The flags of the 64 places of this word.
+    pub fn word(&self, number: usize) -> Word
+        requires { number < word_count self.now }
+        ensures { (place : ℕ) → word_of place ≡ number → has result place ≡ flag self.now place }
+    {
+        Word(words::word(&self.words, number))
+    }
+
+    /// Gives the 64 places of this word these flags; past the last place none is set.
+    pub fn put_word(&mut self, number: usize, word: Word)
+        requires number { number < word_count self.old }
+        requires past { (place : ℕ) → word_of place ≡ number → length self.old ≤ place → has word place ≡ false }
+        ensures len { length self.new ≡ length self.old }
+        ensures flags { (place : ℕ) → flag self.new place ≡ cond (word_of place == number) (has word place) (flag self.old place) }
+    {
+        words::put_word(&mut self.words, number, word.0);
+    }
+
     /// Clears all flags.
     pub fn clear_all(&mut self, ticks: &mut Ticks)
         ensures flags { self.new ≡ replicate (length self.old) false }
@@ -86,25 +113,6 @@ impl Flags {
         ensures ticks { Within (length self.old) ticks.old ticks.new }
     {
         words::unite(&mut self.words, &other.words, ticks);
-    }
-
-    /// Takes away the other's flags.
-    pub fn subtract(&mut self, other: &Flags, ticks: &mut Ticks)
-        requires { length other.now ≡ length self.old }
-        ensures len { length self.new ≡ length self.old }
-        ensures flags { (i : ℕ) → flag self.new i ≡ (flag self.old i && not (flag other.now i)) }
-        ensures ticks { Within (length self.old) ticks.old ticks.new }
-    {
-        words::take_away(&mut self.words, &other.words, ticks);
-    }
-
-    /// Whether the other has each flag of these.
-    pub fn is_subset(&self, other: &Flags, ticks: &mut Ticks) -> bool
-        requires { length other.now ≡ length self.now }
-        ensures subset { (result ≡ true) ↔ ((i : ℕ) → flag self.now i ≡ true → flag other.now i ≡ true) }
-        ensures ticks { Within (length self.now) ticks.old ticks.new }
-    {
-        words::is_within(&self.words, &other.words, ticks)
     }
 
     /// The first set place from `from` on. A walk over all set places, each time from the place behind the last one,

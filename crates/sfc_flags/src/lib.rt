@@ -3,5 +3,7 @@
 
 /// the table, one flag for each place
 pub mod flags;
+/// the flags of 64 places at once
+pub mod word;
 // bits in a slice of words
 mod words;

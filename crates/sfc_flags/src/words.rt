@@ -1,6 +1,6 @@
 //! Bits in a slice of words.
 
-ghost use Rattle.std.specs.Prelude.{◌≡◌, ◌==◌, ◌/◌, ◌<◌, ◌≤◌, ◌^◌, ◌-◌, ◌||◌, ◌&&◌, ◌↔◌, ℕ, not, true, false, length, cond, IfSome, None};
+ghost use Rattle.std.specs.Prelude.{◌≡◌, ◌==◌, ◌/◌, ◌<◌, ◌≤◌, ◌^◌, ◌-◌, ◌||◌, ◌&&◌, ◌↔◌, ℕ, not, true, false, length, cond, slice_index, slice_set, IfSome, None};
 ghost use Rattle.sfc_expr.specs.Ticks.{Within};
 ghost use Rattle.sfc_flags.specs.Private.Bits.{bit, IsNext, words_passed};
 
@@ -28,6 +28,22 @@ pub fn put(words: &mut [u64], i: usize, value: bool)
     }
 }
 
+/// This word.
+pub fn word(words: &[u64], k: usize) -> u64
+    requires { k < length words.now }
+    ensures { result ≡ slice_index words.now k }
+{
+    words[k]
+}
+
+/// Replaces this word.
+pub fn put_word(words: &mut [u64], k: usize, word: u64)
+    requires { k < length words.old }
+    ensures { words.new ≡ slice_set words.old k word }
+{
+    words[k] = word;
+}
+
 /// Adds the bits of the other words.
 pub fn unite(words: &mut [u64], other: &[u64], ticks: &mut Ticks)
     requires { length other.now ≡ length words.old }
@@ -37,19 +53,6 @@ pub fn unite(words: &mut [u64], other: &[u64], ticks: &mut Ticks)
 {
     for k in 0..words.len() {
         words[k] |= other[k];
-        ticks.tick();
-    }
-}
-
-/// Takes away the bits of the other words.
-pub fn take_away(words: &mut [u64], other: &[u64], ticks: &mut Ticks)
-    requires { length other.now ≡ length words.old }
-    ensures len { length words.new ≡ length words.old }
-    ensures bits { (j : ℕ) → bit words.new j ≡ (bit words.old j && not (bit other.now j)) }
-    ensures ticks { Within (length words.old) ticks.old ticks.new }
-{
-    for k in 0..words.len() {
-        words[k] &= !other[k];
         ticks.tick();
     }
 }
@@ -77,21 +80,6 @@ pub fn clear(words: &mut [u64], ticks: &mut Ticks)
         words[k] = 0;
         ticks.tick();
     }
-}
-
-/// Whether the other words have each bit of these.
-pub fn is_within(words: &[u64], other: &[u64], ticks: &mut Ticks) -> bool
-    requires { length other.now ≡ length words.now }
-    ensures within { (result ≡ true) ↔ ((j : ℕ) → bit words.now j ≡ true → bit other.now j ≡ true) }
-    ensures ticks { Within (length words.now) ticks.old ticks.new }
-{
-    for k in 0..words.len() {
-        ticks.tick();
-        if words[k] & !other[k] != 0 {
-            return false;
-        }
-    }
-    true
 }
 
 /// The first set place from `from` on.

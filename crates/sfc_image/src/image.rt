@@ -48,7 +48,7 @@ impl Image {
     ghost use Rattle.sfc_expr.specs.Nodes.{body_nodes};
     ghost use Rattle.sfc_image.specs.Environments.{moment_of, environment_of};
     ghost use Rattle.sfc_image.specs.Bodies.{assignment, left_by, with_changes};
-    ghost use Rattle.sfc_image.specs.Private.Keeping.{IsPut};
+    ghost use Rattle.sfc_image.specs.Private.Keeping.{IsPut, slot_at};
     ghost use Rattle.sfc_image.specs.Answers.{Answers, read_answer, value_fault, release_fault};
     ghost use Rattle.sfc_image.specs.Agreement.{ImageAgrees, IsAsLarge, environment_in, variable_places, instance_places, written_places, is_open};
 
@@ -225,7 +225,15 @@ impl Image {
         self.slots.as_slice()
     }
 
-    /// Stores a value of whatever type, in the scratch where one is open.
+    // Whether the variable has this value stored.
+    fn has_stored(&self, i: usize, value: Value) -> bool
+        requires { i < variable_places self.now }
+        ensures { result ≡ true → (slot_at self.now.slots.items i).stored ≡ value }
+    {
+        self.slots[i].stored == value
+    }
+
+    /// Stores a value of whatever type, in the scratch where one is open; there what is stored already is not stored again.
     pub(crate) fn put(&mut self, i: usize, value: Value)
         requires { i < variable_places self.old }
         ensures large { IsAsLarge self.old self.new }
@@ -236,6 +244,9 @@ impl Image {
             ImageAgrees plant self.new (with_change (Stored (record { 0 = i }) value) told) }
     {
         if self.is_trying {
+            if self.has_stored(i, value) {
+                return;
+            }
             self.count = try_store(&mut self.slots, &mut self.written, self.count, i, value);
         } else {
             self.slots[i] = given(self.slots[i], value);

@@ -11,4 +11,3 @@ pub record IsScratch (n : ℕ) (scratch : Scratch) : Type 0 where
   pub presets : length scratch.presets.items ≡ n
   pub stores : AreStores n scratch.stores
   pub elapsed : AreAll n scratch.elapsed
-  pub room : length scratch.room ≡ n

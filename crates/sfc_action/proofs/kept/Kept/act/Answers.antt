@@ -1,16 +1,14 @@
-use Rattle.std.proofs.Common.{◌≡◌, ◌∙◌, ap, sym, subst, length, arith, SFits, w64, to_z, of_z, List, ◌||◌, ◌&&◌, not}
+use Rattle.std.proofs.Common.{◌≡◌, ℕ, ◌∙◌, ap, sym, subst, length, arith, SFits, w64, to_z, of_z, List}
 use Rattle.std.specs.Vec.{with_items}
 use Rattle.std.proofs.lemmas.Int.{to_z-of_z}
 use Rattle.std.proofs.lemmas.List.{with_items_is}
-use Rattle.sfc_flags.specs.Flags.{flag}
 use Rattle.sfc_action.specs.declared.blocks.Block.{Block}
-use Rattle.sfc_action.specs.declared.timed.Timed.{Timed}
 use Rattle.sfc_action.specs.declared.scratch.Scratch.{Scratch}
 use Rattle.sfc_action.specs.Private.TimedSets.{none}
-use Rattle.sfc_action.specs.Private.Storing.{IsNext}
 use Rattle.sfc_action.specs.Private.Delays.{AreStepped, gathered}
-use Rattle.sfc_action.specs.Private.Outputs.{q_at}
-use Rattle.sfc_action.proofs.Sizes.{stepped_of, sized_as}
+use Rattle.sfc_action.specs.Private.Rows.{kept_after, q_of, executed_of, input_row, store_row, timed_row, kept_row}
+use Rattle.sfc_flags.specs.Flags.{flag}
+use Rattle.sfc_action.proofs.Rows.{same_flags, same_stores}
 use Rattle.sfc_action.proofs.kept.Kept.act.Goals as goal
 
 pub returns-clause-acted : goal.returns-clause-acted
@@ -18,59 +16,44 @@ returns-clause-acted c =
     let old = c.args.self.now in
     let s = c.args.scratch.now in
     let n = length old.q in
+    let room : length s.presets.items ≡ n = c.requires.scratch.presets in
     let delays = c.step_delays.new in
-    let new_blocks = with_items old.blocks delays.blocks in
+    let new = c.act_all.new.self in
     let was : c.deref_mut.result.now ≡ old.blocks.items = c.deref_mut.ensures.value in
     let same_length : length delays.blocks ≡ length old.blocks.items = omega (arith, ap length was) in
-    let items : new_blocks.items ≡ delays.blocks = with_items_is old.blocks delays.blocks (omega arith) in
-    let size : length old.delayed_stored ≡ n = c.requires.sized.delayed_stored in
-    let elapsed : delays.scratch.elapsed ≡ gathered new_blocks.items (none n) =
-    ap (λ (x : Scratch). x.elapsed) c.step_delays.ensures.scratch ∙ (λ i. gathered (sym items i) (none (size i))) in
+    let items : new.blocks.items ≡ delays.blocks =
+        ap (λ b. b.items) c.act_all.ensures.blocks ∙ with_items_is old.blocks delays.blocks (omega arith) in
+    let elapsed : delays.scratch.elapsed ≡ gathered new.blocks.items (none n) =
+        ap (λ (x : Scratch). x.elapsed) c.step_delays.ensures.scratch ∙ (λ i. gathered (sym items i) (none (room i))) in
     let inputs : delays.scratch.inputs ≡ s.inputs = ap (λ (x : Scratch). x.inputs) c.step_delays.ensures.scratch in
     let stores : delays.scratch.stores ≡ s.stores = ap (λ (x : Scratch). x.stores) c.step_delays.ensures.scratch in
-    let inputs_2 : c.update_outputs.new.scratch.inputs ≡ s.inputs = ap (λ (x : Scratch). x.inputs) c.update_outputs.ensures.scratch ∙ inputs in
-    let inputs_3 : c.add_edges.new.scratch.inputs ≡ s.inputs =
-    ap (λ (x : Scratch). x.inputs) c.add_edges.ensures.scratch ∙ inputs_2 in
-    let stores_3 : c.add_edges.new.scratch.stores ≡ s.stores =
-    ap (λ (x : Scratch). x.stores) c.add_edges.ensures.scratch ∙ ap (λ (x : Scratch). x.stores) c.update_outputs.ensures.scratch
-    ∙ stores in
-    let stepped : AreStepped s.inputs s.stores s.presets.items (to_z w64 (of_z w64 c.args.t)) old.blocks.items new_blocks.items =
-    subst (λ (xs : List Block). AreStepped s.inputs s.stores s.presets.items (to_z w64 (of_z w64 c.args.t)) old.blocks.items xs)
-    (sym items)
-    (subst (λ (xs : List Block). AreStepped s.inputs s.stores s.presets.items (to_z w64 (of_z w64 c.args.t)) xs delays.blocks)
-    was c.step_delays.ensures.stepped) in
+    let stepped : AreStepped s.inputs s.stores s.presets.items (to_z w64 (of_z w64 c.args.t)) old.blocks.items new.blocks.items =
+        subst (λ (xs : List Block). AreStepped s.inputs s.stores s.presets.items (to_z w64 (of_z w64 c.args.t)) old.blocks.items xs)
+        (sym items)
+        (subst (λ (xs : List Block). AreStepped s.inputs s.stores s.presets.items (to_z w64 (of_z w64 c.args.t)) xs delays.blocks)
+        was c.step_delays.ensures.stepped) in
     let fits : SFits w64 c.args.t = c.ranges.t in
-    let stepped_at : AreStepped s.inputs s.stores s.presets.items c.args.t old.blocks.items new_blocks.items =
-    simp to_z-of_z at stepped in
-    let same_blocks : length new_blocks.items ≡ length old.blocks.items = ap length items ∙ same_length in
+    let stepped_at : AreStepped s.inputs s.stores s.presets.items c.args.t old.blocks.items new.blocks.items =
+        simp to_z-of_z at stepped in
+    let same_blocks : length new.blocks.items ≡ length old.blocks.items = ap length items ∙ same_length in
+    let rows : (a : ℕ) → kept_row new a ≡ kept_after (input_row s.inputs a) (store_row s.stores a) (timed_row (gathered new.blocks.items (none n)) a) (kept_row old a) =
+        λ a. c.act_all.ensures.rows a
+        ∙ (λ i. kept_after (input_row (inputs i) a) (store_row (stores i) a) (timed_row (elapsed i) a) (kept_row old a)) in
+    let sized = c.act_all.ensures.sized in
     record {
-      sized = record {
-        pulse = ap length c.copy_from.ensures.flags ∙ ap (λ i. length i.pulse) inputs_3 ∙ c.requires.scratch.inputs.pulse;
-        rising_pulse =
-            ap length c.copy_from-2.ensures.flags ∙ ap (λ i. length i.rising_pulse) inputs_3
-            ∙ c.requires.scratch.inputs.rising_pulse;
-        falling_pulse =
-            ap length c.copy_from-3.ensures.flags ∙ ap (λ i. length i.falling_pulse) inputs_3
-            ∙ c.requires.scratch.inputs.falling_pulse;
-        stores = sized_as n s.stores c.copy_from-4.new.self (c.copy_from-4.ensures.stores ∙ stores_3) c.requires.scratch.stores;
-        delayed_stored = c.step_delays.ensures.len ∙ size;
-        q = c.update_outputs.ensures.len;
-        executed = c.add_edges.ensures.len ∙ c.update_outputs.ensures.executed_len;
-        blocks = stepped_of n s.inputs s.stores s.presets.items (to_z w64 (of_z w64 c.args.t)) old.blocks.items new_blocks.items
-            same_blocks stepped c.requires.sized.blocks;
-      };
+      sized = sized;
       same_blocks = same_blocks;
       blocks = stepped_at;
-      delayed_stored = subst (λ (e : Timed). IsNext old.delayed_stored e.delayed_stored s.inputs.reset delays.delayed_stored) elapsed
-          c.step_delays.ensures.delayed_stored;
-      outputs = λ a. c.update_outputs.ensures.flags a
-          ∙ (λ i. q_at (inputs i) (stores i) (elapsed i) old.pulse delays.delayed_stored a);
-      executions = λ a. c.add_edges.ensures.flags a
-          ∙ (λ i. ((c.update_outputs.ensures.executed a i
-          || (flag (inputs_2 i).rising_pulse a && not (flag old.rising_pulse a)))
-          || (flag old.falling_pulse a && not (flag (inputs_2 i).falling_pulse a))));
-      pulse = c.copy_from.ensures.flags ∙ ap (λ i. i.pulse) inputs_3;
-      rising_pulse = c.copy_from-2.ensures.flags ∙ ap (λ i. i.rising_pulse) inputs_3;
-      falling_pulse = c.copy_from-3.ensures.flags ∙ ap (λ i. i.falling_pulse) inputs_3;
-      stores = c.copy_from-4.ensures.stores ∙ stores_3;
+      delayed_stored = λ a. ap (λ r. r.delayed_stored) (rows a);
+      outputs = λ a. ap (λ r. r.q) (rows a)
+          ∙ ap (q_of (input_row s.inputs a) (store_row s.stores a) (timed_row (gathered new.blocks.items (none n)) a) (flag old.pulse a))
+          (sym (ap (λ r. r.delayed_stored) (rows a)));
+      executions = λ a. ap (λ r. r.executed) (rows a)
+          ∙ ap (executed_of (input_row s.inputs a) (kept_row old a)) (sym (ap (λ r. r.q) (rows a)));
+      pulse = same_flags n new.pulse s.inputs.pulse sized.pulse c.requires.scratch.inputs.pulse (λ a. ap (λ r. r.pulse) (rows a));
+      rising_pulse = same_flags n new.rising_pulse s.inputs.rising_pulse sized.rising_pulse c.requires.scratch.inputs.rising_pulse
+          (λ a. ap (λ r. r.rising_pulse) (rows a));
+      falling_pulse = same_flags n new.falling_pulse s.inputs.falling_pulse sized.falling_pulse
+          c.requires.scratch.inputs.falling_pulse (λ a. ap (λ r. r.falling_pulse) (rows a));
+      stores = same_stores n new.stores s.stores sized.stores c.requires.scratch.stores (λ a. ap (λ r. r.stores) (rows a));
     }

@@ -30,8 +30,8 @@ returns-else-self-clause-kept c plant told h =
     (stored_for_good plant slots image.locals.items image.count image.is_trying told (record { 0 = i }) c.args.value
     c.if-self.false c.requires h)
 
-pub returns-then-self-clause-put : goal.returns-then-self-clause-put
-returns-then-self-clause-put c =
+pub returns-else-has_stored-clause-put : goal.returns-else-has_stored-clause-put
+returns-else-has_stored-clause-put c =
     let image = c.args.self.now in
     let i = c.args.i in
     let slots = image.slots.items in
@@ -43,9 +43,9 @@ returns-then-self-clause-put c =
     (made ∙ sym (with_items_is image.slots c.try_store-self.new.slots long))
     (put_slot slots i c.args.value (tried c.args.value (slot_at slots i)) c.requires refl refl)
 
-pub returns-then-self-clause-kept : goal.returns-then-self-clause-kept
+pub returns-else-has_stored-clause-kept : goal.returns-else-has_stored-clause-kept
 unfolding ImageAgrees
-returns-then-self-clause-kept c plant told h =
+returns-else-has_stored-clause-kept c plant told h =
     let image = c.args.self.now in
     let i = c.args.i in
     let slots = image.slots.items in

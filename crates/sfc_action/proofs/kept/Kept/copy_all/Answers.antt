@@ -1,0 +1,22 @@
+use Rattle.std.proofs.Common.{ℕ, length, ◌∙◌, sym, subst, arith}
+use Rattle.sfc_action.specs.Private.Keeping.{AreKeptSized}
+use Rattle.sfc_action.specs.Private.Rows.{kept_row, kept_in}
+use Rattle.sfc_action.proofs.Rows.{more_by, all_done, kept_past}
+use Rattle.sfc_action.proofs.kept.Kept.copy_all.Goals as goal
+
+pub loop-number-preserved : goal.loop-number-preserved
+loop-number-preserved c =
+    let was = c.loop-number.invariant in
+    record {
+      sized = subst (λ (n : ℕ). AreKeptSized n c.put.new.self) was.sized.q c.put.ensures.sized;
+      blocks = c.put.ensures.blocks ∙ was.blocks;
+      rows = more_by (kept_row c.args.other.now) (kept_row c.args.self.now) (kept_in c.words.result) (kept_row c.loop-number.self)
+          (kept_row c.put.new.self) c.loop-number.number was.rows c.put.ensures.put c.words.ensures;
+      ticks = (omega (arith, c.tick.ensures, was.ticks.0), omega (arith, c.tick.ensures, was.ticks.1));
+    }
+
+pub returns-clause-rows : goal.returns-clause-rows
+returns-clause-rows c =
+    all_done (kept_row c.args.other.now) (kept_row c.args.self.now) (length c.args.self.now.q) c.loop-number.number (kept_row c.loop-number.self)
+    (omega (arith, c.words-number-end.ensures)) c.loop-number.invariant.rows
+    (λ a le. kept_past _ a le c.loop-number.self c.loop-number.invariant.sized ∙ sym (kept_past _ a le c.args.other.now c.requires.other))

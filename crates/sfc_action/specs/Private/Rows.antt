@@ -1,0 +1,229 @@
+-- Flags of one action, taken out of the tables of all.
+use Rattle.std.specs.Prelude.{ℕ, ◌≡◌, ◌<◌, ◌≤◌, ◌==◌, Bool, false, not, cond, ◌&&◌, ◌||◌}
+use Rattle.sfc_flags.specs.Flags.{flag}
+use Rattle.sfc_flags.specs.Words.{has, word_of}
+use Rattle.sfc_action.specs.declared.timed.Timed.{Timed}
+use Rattle.sfc_action.specs.declared.timed_words.TimedWords.{TimedWords}
+use Rattle.sfc_action.specs.declared.stores.Stores.{Stores}
+use Rattle.sfc_action.specs.declared.store_words.StoreWords.{StoreWords}
+use Rattle.sfc_action.specs.declared.inputs.Inputs.{Inputs}
+use Rattle.sfc_action.specs.declared.input_words.InputWords.{InputWords}
+use Rattle.sfc_action.specs.declared.scratch.Scratch.{Scratch}
+use Rattle.sfc_action.specs.declared.kept.Kept.{Kept}
+use Rattle.sfc_action.specs.declared.kept_words.KeptWords.{KeptWords}
+
+-- by the qualifiers with a time
+pub record TimedRow : Type 0 where
+  pub limited : Bool
+  pub delayed : Bool
+  pub stored_delayed : Bool
+  pub delayed_stored : Bool
+  pub stored_limited : Bool
+
+-- its flip-flops
+pub record StoreRow : Type 0 where
+  pub set : Bool
+  pub stored_delayed : Bool
+  pub stored_limited : Bool
+
+-- its inputs in a scan
+pub record InputRow : Type 0 where
+  pub non_stored : Bool
+  pub reset : Bool
+  pub set : Bool
+  pub pulse : Bool
+  pub rising_pulse : Bool
+  pub falling_pulse : Bool
+  pub timed : TimedRow
+  pub any_time : Bool
+  pub more_times : Bool
+
+-- what is kept of it from scan to scan
+pub record KeptRow : Type 0 where
+  pub pulse : Bool
+  pub rising_pulse : Bool
+  pub falling_pulse : Bool
+  pub stores : StoreRow
+  pub delayed_stored : Bool
+  pub q : Bool
+  pub executed : Bool
+
+-- ---- of action a, in tables
+
+abbrev pub timed_row : Timed → ℕ → TimedRow
+timed_row sets a = record {
+  limited = flag sets.limited a;
+  delayed = flag sets.delayed a;
+  stored_delayed = flag sets.stored_delayed a;
+  delayed_stored = flag sets.delayed_stored a;
+  stored_limited = flag sets.stored_limited a;
+}
+
+abbrev pub store_row : Stores → ℕ → StoreRow
+store_row stores a = record {
+  set = flag stores.set a;
+  stored_delayed = flag stores.stored_delayed a;
+  stored_limited = flag stores.stored_limited a;
+}
+
+abbrev pub input_row : Inputs → ℕ → InputRow
+input_row inputs a = record {
+  non_stored = flag inputs.non_stored a;
+  reset = flag inputs.reset a;
+  set = flag inputs.set a;
+  pulse = flag inputs.pulse a;
+  rising_pulse = flag inputs.rising_pulse a;
+  falling_pulse = flag inputs.falling_pulse a;
+  timed = timed_row inputs.timed a;
+  any_time = flag inputs.any_time a;
+  more_times = flag inputs.more_times a;
+}
+
+abbrev pub kept_row : Kept → ℕ → KeptRow
+kept_row kept a = record {
+  pulse = flag kept.pulse a;
+  rising_pulse = flag kept.rising_pulse a;
+  falling_pulse = flag kept.falling_pulse a;
+  stores = store_row kept.stores a;
+  delayed_stored = flag kept.delayed_stored a;
+  q = flag kept.q a;
+  executed = flag kept.executed a;
+}
+
+-- ---- and in words
+
+abbrev pub timed_in : TimedWords → ℕ → TimedRow
+timed_in words a = record {
+  limited = has words.limited a;
+  delayed = has words.delayed a;
+  stored_delayed = has words.stored_delayed a;
+  delayed_stored = has words.delayed_stored a;
+  stored_limited = has words.stored_limited a;
+}
+
+abbrev pub stores_in : StoreWords → ℕ → StoreRow
+stores_in words a = record {
+  set = has words.set a;
+  stored_delayed = has words.stored_delayed a;
+  stored_limited = has words.stored_limited a;
+}
+
+abbrev pub inputs_in : InputWords → ℕ → InputRow
+inputs_in words a = record {
+  non_stored = has words.non_stored a;
+  reset = has words.reset a;
+  set = has words.set a;
+  pulse = has words.pulse a;
+  rising_pulse = has words.rising_pulse a;
+  falling_pulse = has words.falling_pulse a;
+  timed = timed_in words.timed a;
+  any_time = has words.any_time a;
+  more_times = has words.more_times a;
+}
+
+abbrev pub kept_in : KeptWords → ℕ → KeptRow
+kept_in words a = record {
+  pulse = has words.pulse a;
+  rising_pulse = has words.rising_pulse a;
+  falling_pulse = has words.falling_pulse a;
+  stores = stores_in words.stores a;
+  delayed_stored = has words.delayed_stored a;
+  q = has words.q a;
+  executed = has words.executed a;
+}
+
+-- ---- without a flag
+
+abbrev pub no_times : TimedRow
+no_times = record { limited = false; delayed = false; stored_delayed = false; delayed_stored = false; stored_limited = false }
+
+abbrev pub no_store : StoreRow
+no_store = record { set = false; stored_delayed = false; stored_limited = false }
+
+abbrev pub no_inputs : InputRow
+no_inputs = record {
+  non_stored = false;
+  reset = false;
+  set = false;
+  pulse = false;
+  rising_pulse = false;
+  falling_pulse = false;
+  timed = no_times;
+  any_time = false;
+  more_times = false;
+}
+
+abbrev pub nothing : KeptRow
+nothing = record {
+  pulse = false;
+  rising_pulse = false;
+  falling_pulse = false;
+  stores = no_store;
+  delayed_stored = false;
+  q = false;
+  executed = false;
+}
+
+-- ---- what a scan makes of an action
+
+-- a flip-flop, reset-dominant
+abbrev pub stored_after : Bool → Bool → Bool → Bool
+stored_after stored sets resets = (stored || sets) && not resets
+
+abbrev pub stores_after : InputRow → StoreRow → StoreRow
+stores_after i s = record {
+  set = stored_after s.set i.set i.reset;
+  stored_delayed = stored_after s.stored_delayed i.timed.stored_delayed i.reset;
+  stored_limited = stored_after s.stored_limited i.timed.stored_limited i.reset;
+}
+
+-- Q with these inputs, flip-flops and elapsed on-delays, after an input P, and where that of DS is stored
+abbrev pub q_of : InputRow → StoreRow → TimedRow → Bool → Bool → Bool
+q_of i s e pulse delayed_stored = not i.reset && (
+    i.non_stored
+    || s.set
+    || (i.timed.limited && not e.limited)
+    || e.delayed
+    || (i.pulse && not pulse)
+    || e.stored_delayed
+    || delayed_stored
+    || (s.stored_limited && not e.stored_limited))
+
+-- whether it is executed, where it had `was` and has `q`
+abbrev pub executed_of : InputRow → KeptRow → Bool → Bool
+executed_of i was q =
+    ((was.q || q) || (i.rising_pulse && not was.rising_pulse)) || (was.falling_pulse && not i.falling_pulse)
+
+abbrev pub kept_after : InputRow → StoreRow → TimedRow → KeptRow → KeptRow
+kept_after i s e was =
+    let stored = stored_after was.delayed_stored e.delayed_stored i.reset in
+    let q = q_of i s e was.pulse stored in
+    record {
+      pulse = i.pulse;
+      rising_pulse = i.rising_pulse;
+      falling_pulse = i.falling_pulse;
+      stores = s;
+      delayed_stored = stored;
+      q = q;
+      executed = executed_of i was q;
+    }
+
+-- of action a, with what the scratch has of it
+abbrev pub kept_row_after : Scratch → (ℕ → KeptRow) → ℕ → KeptRow
+kept_row_after scratch was a =
+    kept_after (input_row scratch.inputs a) (store_row scratch.stores a) (timed_row scratch.elapsed a) (was a)
+
+-- whether one of the faults is there
+abbrev pub has_fault : InputRow → StoreRow → Bool
+has_fault i s = (i.more_times || (i.timed.stored_delayed && s.stored_limited)) || (i.timed.stored_limited && s.stored_delayed)
+
+-- ---- from word to word, where rows tell what each action has
+
+-- the actions of the word of this number have these rows, and the others what they had
+abbrev pub ArePut : {A : Type 0} → ℕ → (ℕ → A) → (ℕ → A) → (ℕ → A) → Type 0
+ArePut number rows old new = (a : ℕ) → new a ≡ cond (word_of a == number) (rows a) (old a)
+
+-- the actions of words before this number have these rows, and the others what they had
+pub record AreDone {A : Type 0} (number : ℕ) (rows old new : ℕ → A) : Type 0 where
+  pub done : (a : ℕ) → word_of a < number → new a ≡ rows a
+  pub rest : (a : ℕ) → number ≤ word_of a → new a ≡ old a

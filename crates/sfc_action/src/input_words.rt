@@ -1,0 +1,53 @@
+//! Of 64 actions the inputs of their blocks in one scan.
+
+ghost use Rattle.std.specs.Prelude.{◌≡◌, ℕ, true, false};
+ghost use Rattle.sfc_action.specs.Private.Rows.{inputs_in, no_inputs, stores_in, has_fault};
+
+use crate::store_words::StoreWords;
+use crate::timed_words::TimedWords;
+use sfc_flags::word::Word;
+
+/// Of 64 actions the inputs, whether an association that acts has a time, and whether more than one such does.
+#[derive(Clone, Copy)]
+pub struct InputWords {
+    pub non_stored: Word,
+    pub reset: Word,
+    pub set: Word,
+    pub pulse: Word,
+    pub rising_pulse: Word,
+    pub falling_pulse: Word,
+    pub timed: TimedWords,
+    pub any_time: Word,
+    pub more_times: Word,
+}
+
+impl InputWords {
+    /// No action has an input.
+    pub fn none() -> InputWords
+        ensures { (a : ℕ) → inputs_in result a ≡ no_inputs }
+    {
+        InputWords {
+            non_stored: Word::none(),
+            reset: Word::none(),
+            set: Word::none(),
+            pulse: Word::none(),
+            rising_pulse: Word::none(),
+            falling_pulse: Word::none(),
+            timed: TimedWords::none(),
+            any_time: Word::none(),
+            more_times: Word::none(),
+        }
+    }
+
+    /// Whether none of the actions has a fault, with these flip-flops.
+    pub fn are_faultless(self, stores: StoreWords) -> bool
+        ensures { result ≡ true → (a : ℕ) → has_fault (inputs_in self a) (stores_in stores a) ≡ false }
+    {
+        let stored_delayed = self.timed.stored_delayed.and(stores.stored_limited);
+        let stored_limited = self.timed.stored_limited.and(stores.stored_delayed);
+        self.more_times
+            .or(stored_delayed)
+            .or(stored_limited)
+            .is_none()
+    }
+}
