@@ -27,9 +27,9 @@ pub struct Inputs {
 impl Inputs {
     ghost use Rattle.std.specs.Prelude.{◌≡◌, ◌<◌, ℕ, length, IfOk};
     ghost use Rattle.sfc_expr.specs.Ticks.{Within};
-    ghost use Rattle.sfc_flags.specs.Words.{word_count, word_of};
+    ghost use Rattle.sfc_flags.specs.Words.{word_count, word_of, ArePut};
     ghost use Rattle.sfc_action.specs.Private.Marking.{AreSized, cleared, marked, marked_timed};
-    ghost use Rattle.sfc_action.specs.Private.Rows.{inputs_in, input_row, no_inputs, ArePut};
+    ghost use Rattle.sfc_action.specs.Private.Rows.{inputs_in, input_row, no_inputs};
 
     /// No action has an input.
     pub fn new(alloc: Global, actions: usize) -> Result<Self, AllocError>

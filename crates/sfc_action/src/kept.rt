@@ -26,10 +26,10 @@ pub struct Kept {
 impl Kept {
     ghost use Rattle.std.specs.Prelude.{◌≡◌, ◌<◌, ◌≤◌, ◌+◌, ◌*◌, ◌^◌, ◌≤ℤ◌, ℕ, pos, length, IfOk};
     ghost use Rattle.sfc_expr.specs.Ticks.{Within};
-    ghost use Rattle.sfc_flags.specs.Words.{word_count, word_of};
+    ghost use Rattle.sfc_flags.specs.Words.{word_count, word_of, ArePut};
     ghost use Rattle.sfc_action.specs.Private.Rooms.{IsScratch};
     ghost use Rattle.sfc_action.specs.Private.Keeping.{AreKeptSized, IsFresh, IsActed, IsCopy};
-    ghost use Rattle.sfc_action.specs.Private.Rows.{kept_in, kept_row, nothing, kept_row_after, ArePut};
+    ghost use Rattle.sfc_action.specs.Private.Rows.{kept_in, kept_row, nothing, kept_row_after};
 
     /// Before the first scan of a life, with these on-delays.
     pub fn new(alloc: Global, actions: usize, blocks: Vec<Block>) -> Result<Self, AllocError>

@@ -17,10 +17,10 @@ pub struct Stores {
 impl Stores {
     ghost use Rattle.std.specs.Prelude.{◌≡◌, ◌<◌, ◌≤◌, ℕ, length, IfOk};
     ghost use Rattle.sfc_expr.specs.Ticks.{Within};
-    ghost use Rattle.sfc_flags.specs.Words.{word_count, word_of};
+    ghost use Rattle.sfc_flags.specs.Words.{word_count, word_of, ArePut};
     ghost use Rattle.sfc_action.specs.Private.Marking.{AreSized};
     ghost use Rattle.sfc_action.specs.Private.Storing.{AreStores, no_stores, AreNext};
-    ghost use Rattle.sfc_action.specs.Private.Rows.{stores_in, store_row, input_row, no_store, stores_after, ArePut};
+    ghost use Rattle.sfc_action.specs.Private.Rows.{stores_in, store_row, input_row, no_store, stores_after};
 
     /// None is set.
     pub fn new(alloc: Global, actions: usize) -> Result<Self, AllocError>

@@ -20,9 +20,9 @@ impl Timed {
     ghost use Rattle.std.specs.Prelude.{◌≡◌, ◌<◌, ◌≤◌, ℕ, length, IfOk};
     ghost use Rattle.sfc_expr.specs.Ticks.{Within};
     ghost use Rattle.sfc_flags.specs.Flags.{flag};
-    ghost use Rattle.sfc_flags.specs.Words.{word_count, word_of};
+    ghost use Rattle.sfc_flags.specs.Words.{word_count, word_of, ArePut};
     ghost use Rattle.sfc_action.specs.Private.TimedSets.{AreAll, none, with_action, by};
-    ghost use Rattle.sfc_action.specs.Private.Rows.{timed_in, timed_row, no_times, ArePut};
+    ghost use Rattle.sfc_action.specs.Private.Rows.{timed_in, timed_row, no_times};
 
     /// No action is in any.
     pub fn new(alloc: Global, actions: usize) -> Result<Self, AllocError>

@@ -10,7 +10,7 @@ use Rattle.std.proofs.lemmas.List.Elements.{All-nil, All-cons, All-head, All-tai
 use Rattle.sfc_expr.specs.declared.variable.StepId.{StepId}
 use Rattle.sfc_flags.specs.Flags.{flag, set_from, places_from}
 use Rattle.sfc_evolve.specs.Marks.{has, marked}
-use Rattle.sfc_evolve.specs.Private.Keeping.{AllBelow, number, unmarked, changed_by, left_at, left_by, begun_at}
+use Rattle.sfc_evolve.specs.Private.Keeping.{AllBelow, number, unmarked, changed_by, left_at, left_by, begun_at, set_at}
 use Rattle.sfc_evolve.proofs.Looks.{bool_cases}
 
 -- ---- one write
@@ -103,6 +103,15 @@ number-begun_at n t (p ∷ places) since s long below =
     number-begun_at n t places (slice_set since p t) s (length-set _ _ _ ∙ long) (All-tail (λ p. p < n) p places below)
     ∙ ap (λ k. cond (list_any (λ p. p == s) places) t k) (one_put since t p s (omega arith))
     ∙ put_step (list_any (λ p. p == s) places) (p == s) t t (number since s) (λ e. refl)
+
+pub flag-set_at : (n : ℕ) (places : List ℕ) (flags : List Bool) (s : ℕ) → length flags ≡ n → All (λ p. p < n) places
+    → flag (set_at places flags) s ≡ (list_any (λ p. p == s) places || flag flags s)
+flag-set_at n [] flags s long below = refl
+flag-set_at n (p ∷ places) flags s long below =
+    let here = All-head (λ p. p < n) p places below in
+    flag-set_at n places (slice_set flags p true) s (length-set _ _ _ ∙ long) (All-tail (λ p. p < n) p places below)
+    ∙ ap (λ b. list_any (λ p. p == s) places || b) (one_set flags true p s (omega arith))
+    ∙ set_step (list_any (λ p. p == s) places) (p == s) (flag flags s)
 
 -- ---- the same for the steps of transitions
 

@@ -16,9 +16,9 @@ use Rattle.sfc_evolve.specs.Evolution.{Scan, Row, step_count, transition_count}
 use Rattle.sfc_evolve.specs.Evolution.{preceding_of, following_of, is_enabled, is_cleared, cleared_in}
 use Rattle.sfc_evolve.specs.Evolution.{cleared_set, some_cleared, activates, leaves, is_activated}
 use Rattle.sfc_evolve.specs.Evolution.{is_deactivated, is_active, step_time, row_after, rows_of}
-use Rattle.sfc_evolve.specs.Private.Keeping.{AllBelow, number, unmarked, changed_by, left_by, begun_at, AreKept}
+use Rattle.sfc_evolve.specs.Private.Keeping.{AllBelow, number, unmarked, changed_by, left_by, begun_at, set_at, AreKept}
 use Rattle.sfc_evolve.proofs.Flagged.{any_where, is_member, members_below}
-use Rattle.sfc_evolve.proofs.Flagged.{flag-marked_by, flag-unmarked_by, number-left_by, number-begun_at}
+use Rattle.sfc_evolve.proofs.Flagged.{flag-marked_by, flag-unmarked_by, flag-set_at, number-left_by, number-begun_at}
 use Rattle.sfc_evolve.proofs.Looks.{bool_cases, is_in_on, is_in_off, is_in_kept, time_on, time_kept, time_off_in}
 use Rattle.sfc_evolve.proofs.TableFacts.{all_preceding_below, all_following_below}
 
@@ -236,10 +236,11 @@ module _ (tables : Tabled) (sound : AreTables tables) (begun : Bool) (active : L
       → active1 ≡ changed_by unmarked (preceding_of tables.sides) (places_from cleared' 0) active
       → ((s : ℕ) → s < step_count tables → flag on1 s ≡ (not begun && flag tables.initial s))
       → on' ≡ changed_by marked (following_of tables.sides) (places_from cleared' 0) on1
-      → ((s : ℕ) → flag active' s ≡ (flag active1 s || flag on' s))
+      → length active1 ≡ step_count tables
+      → active' ≡ set_at (places_from on' 0) active1
       → since' ≡ begun_at t (places_from on' 0) since
       → Advanced tables begun active since kept conditions t cleared' on' active' since' kept'
-  advanced la ls lk lo lo' eu ec clears keeps leaves1 starts marks joins begins =
+  advanced la ls lk lo lo' eu ec clears keeps leaves1 starts marks la1 joins begins =
       let n = step_count tables in
       let pre : (tr : ℕ) → AllBelow n (preceding_of tables.sides tr) = λ tr. all_preceding_below tables sound record { 0 = tr } in
       let fol : (tr : ℕ) → AllBelow n (following_of tables.sides tr) = λ tr. all_following_below tables sound record { 0 = tr } in
@@ -256,6 +257,16 @@ module _ (tables : Tabled) (sound : AreTables tables) (begun : Bool) (active : L
             ∙ number-begun_at n t (places_from on' 0) since s ls (members_below on' n lo')
             ∙ ap (λ b. cond b t (number since s)) (is_member on' s);
         active_is = λ s lt.
-            joins s ∙ ap (λ b. b || flag on' s)
+            ap (λ f. flag f s) joins
+            ∙ flag-set_at n (places_from on' 0) active1 s la1 (members_below on' n lo')
+            ∙ ap (λ b. b || flag active1 s) (is_member on' s)
+            ∙ either_way (flag on' s) (flag active1 s)
+            ∙ ap (λ b. b || flag on' s)
             (ap (λ f. flag f s) leaves1 ∙ flag-unmarked_by n (preceding_of tables.sides) pre (places_from cleared' 0) active s la);
       }
+    where
+      either_way : (x y : Bool) → (x || y) ≡ (y || x)
+      either_way true true = refl
+      either_way true false = refl
+      either_way false true = refl
+      either_way false false = refl

@@ -30,8 +30,8 @@ fn clear_one(
     ensures ticks { Within (1 + 3 * length preceding.now) ticks.old ticks.new }
 {
     ticks.tick();
-    let clears = all_set(active, preceding, ticks)
-        && condition
+    let clears = condition
+        && all_set(active, preceding, ticks)
         && !some_set(used, preceding, ticks);
     if clears {
         mark(used, preceding, ticks);

@@ -1,6 +1,7 @@
 //! Active steps and cleared transitions of one program instance (IEC 61131-3:2003, 2.6.2, 2.6.3, 2.6.5).
 //!
 //! - `clearing`: which transitions a scan clears.
+//! - `copying`: copies of what is kept.
 //! - `laws`: what holds of the definitions themselves.
 //! - `marking`: the steps before and after cleared transitions.
 //! - `marks`: tests and writes at listed steps.
@@ -10,6 +11,7 @@
 #![tactic(auto)]
 
 mod clearing;
+mod copying;
 pub mod laws;
 mod marking;
 mod marks;

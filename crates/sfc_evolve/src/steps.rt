@@ -4,10 +4,11 @@ ghost use Rattle.std.specs.Prelude.{◌≡◌, length};
 ghost use Rattle.sfc_evolve.specs.Private.Keeping.{AreInstants};
 
 use crate::clearing::clear_in_order;
+use crate::copying::{copy_flags, copy_times};
 use crate::marking::{mark_following, unmark_preceding};
 use crate::marks::all_set;
 use crate::starting::start;
-use crate::times::{begin, copy_times, keep_times};
+use crate::times::{begin, keep_times};
 use sfc_expr::ticks::Ticks;
 use sfc_expr::variable::StepId;
 use sfc_flags::flags::Flags;
@@ -98,8 +99,7 @@ impl Steps {
         unmark_preceding(tables, &self.cleared, &mut self.active, ticks);
         start(tables, !self.begun, &mut self.on, ticks);
         mark_following(tables, &self.cleared, &mut self.on, ticks);
-        self.active.union_with(&self.on, ticks);
-        begin(&mut self.since, &self.on, t, ticks);
+        begin(&mut self.active, &mut self.since, &self.on, t, ticks);
         self.begun = true;
     }
 
@@ -168,10 +168,15 @@ impl Steps {
         ensures transitions { transition_places self.new ≡ transition_places self.old }
         ensures kept { (tables : Tabled) (scans : List Scan) → StepsAgree tables other.now scans →
             StepsAgree tables self.new scans }
-        ensures ticks { Within (3 * step_places self.old + transition_places self.old) ticks.old ticks.new }
+        ensures ticks { Within (2 * step_places self.old + transition_places self.old) ticks.old ticks.new }
     {
-        self.active.copy_from(&other.active, ticks);
-        self.on.copy_from(&other.on, ticks);
+        copy_flags(
+            &mut self.active,
+            &mut self.on,
+            &other.active,
+            &other.on,
+            ticks,
+        );
         self.cleared.copy_from(&other.cleared, ticks);
         copy_times(
             &mut self.since,

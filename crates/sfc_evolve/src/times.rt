@@ -5,7 +5,7 @@ ghost use Rattle.sfc_expr.specs.Ticks.{Within};
 ghost use Rattle.sfc_flags.specs.Flags.{places_from};
 ghost use Rattle.sfc_tables.specs.Tables.{AreTables};
 ghost use Rattle.sfc_evolve.specs.Evolution.{preceding_of};
-ghost use Rattle.sfc_evolve.specs.Private.Keeping.{AllBelow, AreInstants, left_at, left_by, begun_at, side_work};
+ghost use Rattle.sfc_evolve.specs.Private.Keeping.{AllBelow, AreInstants, left_at, left_by, begun_at, set_at, side_work};
 
 use sfc_expr::ticks::Ticks;
 use sfc_expr::variable::StepId;
@@ -41,18 +41,22 @@ pub fn leave(kept: &mut [i64], since: &[i64], steps: &[StepId], t: i64, ticks: &
     }
 }
 
-/// The steps with flags begin at t.
-pub fn begin(since: &mut [i64], on: &Flags, t: i64, ticks: &mut Ticks)
+/// The steps with flags become active, and begin at t.
+pub fn begin(active: &mut Flags, since: &mut [i64], on: &Flags, t: i64, ticks: &mut Ticks)
     requires low { pos 0 ≤ℤ t }
     requires high { t ≤ℤ pos (2 ^ 62) }
     requires instants { AreInstants since.old }
     requires on_len { length on.now ≡ length since.old }
+    requires active_len { length active.old ≡ length on.now }
+    ensures active { active.new ≡ set_at (places_from on.now 0) active.old }
+    ensures active_len { length active.new ≡ length active.old }
     ensures since { since.new ≡ begun_at t (places_from on.now 0) since.old }
     ensures instants { AreInstants since.new }
     ensures ticks { Within (length on.now) ticks.old ticks.new }
 {
     let mut at = 0;
     'places: while let Some(s) = on.next_set(at, ticks) {
+        active.set(s, true);
         since[s] = t;
         at = s + 1;
     }
@@ -87,27 +91,5 @@ pub fn keep_times(
             ticks,
         );
         at = tr + 1;
-    }
-}
-
-/// Takes over all instants and times.
-pub fn copy_times(
-    since: &mut [i64],
-    kept: &mut [i64],
-    from_since: &[i64],
-    from_kept: &[i64],
-    ticks: &mut Ticks,
-)
-    requires kept_len { length kept.old ≡ length since.old }
-    requires from_since_len { length from_since.now ≡ length since.old }
-    requires from_kept_len { length from_kept.now ≡ length since.old }
-    ensures since { since.new ≡ from_since.now }
-    ensures kept { kept.new ≡ from_kept.now }
-    ensures ticks { Within (length since.old) ticks.old ticks.new }
-{
-    for s in 0..since.len() {
-        ticks.tick();
-        since[s] = from_since[s];
-        kept[s] = from_kept[s];
     }
 }

@@ -3,3 +3,4 @@ mod Views
 mod Nexts
 mod Passed
 mod Has
+pub mod Wordwise

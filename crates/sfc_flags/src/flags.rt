@@ -105,16 +105,6 @@ impl Flags {
         words::copy(&mut self.words, &other.words, ticks);
     }
 
-    /// Adds the other's flags.
-    pub fn union_with(&mut self, other: &Flags, ticks: &mut Ticks)
-        requires { length other.now ≡ length self.old }
-        ensures len { length self.new ≡ length self.old }
-        ensures flags { (i : ℕ) → flag self.new i ≡ (flag self.old i || flag other.now i) }
-        ensures ticks { Within (length self.old) ticks.old ticks.new }
-    {
-        words::unite(&mut self.words, &other.words, ticks);
-    }
-
     /// The first set place from `from` on. A walk over all set places, each time from the place behind the last one,
     /// makes at most a tick for each place of the table.
     pub fn next_set(&self, from: usize, ticks: &mut Ticks) -> Option<usize>

@@ -44,19 +44,6 @@ pub fn put_word(words: &mut [u64], k: usize, word: u64)
     words[k] = word;
 }
 
-/// Adds the bits of the other words.
-pub fn unite(words: &mut [u64], other: &[u64], ticks: &mut Ticks)
-    requires { length other.now ≡ length words.old }
-    ensures len { length words.new ≡ length words.old }
-    ensures bits { (j : ℕ) → bit words.new j ≡ (bit words.old j || bit other.now j) }
-    ensures ticks { Within (length words.old) ticks.old ticks.new }
-{
-    for k in 0..words.len() {
-        words[k] |= other[k];
-        ticks.tick();
-    }
-}
-
 /// Takes over the other words.
 pub fn copy(words: &mut [u64], other: &[u64], ticks: &mut Ticks)
     requires { length other.now ≡ length words.old }

@@ -23,7 +23,7 @@ condition_work tables chart ranked = sum_by (transition_work tables chart) ranke
 -- what copying steps and action control handles
 abbrev pub copy_work : Tabled → ℕ
 copy_work tables =
-    3 * length tables.initial + length tables.sides + 9 * length tables.actions + length tables.associations
+    2 * length tables.initial + length tables.sides + length tables.actions + length tables.associations
 
 -- what one action handles: a Boolean action's variable, or a declared action with the statements of its body
 abbrev pub action_work : Chart → Target → ℕ

@@ -1,7 +1,7 @@
 -- Flags of one action, taken out of the tables of all.
-use Rattle.std.specs.Prelude.{ℕ, ◌≡◌, ◌<◌, ◌≤◌, ◌==◌, Bool, false, not, cond, ◌&&◌, ◌||◌}
+use Rattle.std.specs.Prelude.{ℕ, Bool, false, not, ◌&&◌, ◌||◌}
 use Rattle.sfc_flags.specs.Flags.{flag}
-use Rattle.sfc_flags.specs.Words.{has, word_of}
+use Rattle.sfc_flags.specs.Words.{has}
 use Rattle.sfc_action.specs.declared.timed.Timed.{Timed}
 use Rattle.sfc_action.specs.declared.timed_words.TimedWords.{TimedWords}
 use Rattle.sfc_action.specs.declared.stores.Stores.{Stores}
@@ -216,14 +216,3 @@ kept_row_after scratch was a =
 -- whether one of the faults is there
 abbrev pub has_fault : InputRow → StoreRow → Bool
 has_fault i s = (i.more_times || (i.timed.stored_delayed && s.stored_limited)) || (i.timed.stored_limited && s.stored_delayed)
-
--- ---- from word to word, where rows tell what each action has
-
--- the actions of the word of this number have these rows, and the others what they had
-abbrev pub ArePut : {A : Type 0} → ℕ → (ℕ → A) → (ℕ → A) → (ℕ → A) → Type 0
-ArePut number rows old new = (a : ℕ) → new a ≡ cond (word_of a == number) (rows a) (old a)
-
--- the actions of words before this number have these rows, and the others what they had
-pub record AreDone {A : Type 0} (number : ℕ) (rows old new : ℕ → A) : Type 0 where
-  pub done : (a : ℕ) → word_of a < number → new a ≡ rows a
-  pub rest : (a : ℕ) → number ≤ word_of a → new a ≡ old a

@@ -1,5 +1,5 @@
 -- What is kept of the scans of a life, in place of their rows.
-use Rattle.std.specs.Prelude.{All, ℕ, ◌≡◌, ◌<◌, ◌^◌, ◌+◌, ◌*◌, Bool, false, not, cond}
+use Rattle.std.specs.Prelude.{All, ℕ, ◌≡◌, ◌<◌, ◌^◌, ◌+◌, ◌*◌, Bool, true, false, not, cond}
 use Rattle.std.specs.Prelude.{List, [], ◌∷◌, ℤ, pos, ◌-ℤ◌, ◌≤ℤ◌, length, slice_index_or, slice_set, sum_by}
 use Rattle.sfc_expr.specs.declared.variable.StepId.{StepId}
 use Rattle.sfc_flags.specs.Flags.{flag}
@@ -43,6 +43,11 @@ left_by t since side (tr ∷ trs) kept = left_by t since side trs (left_at t sin
 abbrev pub begun_at : ℤ → List ℕ → List ℤ → List ℤ
 begun_at t [] since = since
 begun_at t (s ∷ places) since = begun_at t places (slice_set since s t)
+
+-- the flags with those of these places set
+abbrev pub set_at : List ℕ → List Bool → List Bool
+set_at [] flags = flags
+set_at (s ∷ places) flags = set_at places (slice_set flags s true)
 
 -- of each step: whether it is active, when it was last activated, the time that it kept when it was left, and whether
 -- the latest scan activated it; of each transition, whether the latest scan cleared it

@@ -1,11 +1,13 @@
 use Rattle.std.proofs.Common.{◌≡◌, ◌≤◌, ◌+◌, ◌-◌, length}
 use Rattle.sfc_flags.specs.Flags.{places_from}
-use Rattle.sfc_evolve.specs.Private.Keeping.{AreInstants, begun_at}
+use Rattle.sfc_evolve.specs.Private.Keeping.{AreInstants, begun_at, set_at}
 use Rattle.sfc_evolve.proofs.times.begin.Given as goal
 
 abbrev pub invariant-places : goal.invariant-places
 invariant-places l = record {
   rest : begun_at l.t (places_from l.on l.at) l.since ≡ begun_at l.t (places_from l.on 0) l.initial.since;
+  marks : set_at (places_from l.on l.at) l.active ≡ set_at (places_from l.on 0) l.initial.active;
+  active_length : length l.active ≡ length l.initial.active;
   instants : AreInstants l.since;
   within : l.at ≤ length l.on;
   rises : l.initial.ticks.count ≤ l.ticks.count;

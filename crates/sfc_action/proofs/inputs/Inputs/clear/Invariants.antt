@@ -1,7 +1,8 @@
 use Rattle.std.proofs.Common.{ℕ, length}
 use Rattle.sfc_expr.specs.Ticks.{Within}
 use Rattle.sfc_action.specs.Private.Marking.{AreSized}
-use Rattle.sfc_action.specs.Private.Rows.{AreDone, input_row, no_inputs}
+use Rattle.sfc_flags.specs.Words.{AreDone}
+use Rattle.sfc_action.specs.Private.Rows.{input_row, no_inputs}
 use Rattle.sfc_action.proofs.inputs.Inputs.clear.Given as goal
 
 abbrev pub invariant-loop-number : goal.invariant-loop-number

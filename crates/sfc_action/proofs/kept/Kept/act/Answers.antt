@@ -8,7 +8,8 @@ use Rattle.sfc_action.specs.Private.TimedSets.{none}
 use Rattle.sfc_action.specs.Private.Delays.{AreStepped, gathered}
 use Rattle.sfc_action.specs.Private.Rows.{kept_after, q_of, executed_of, input_row, store_row, timed_row, kept_row}
 use Rattle.sfc_flags.specs.Flags.{flag}
-use Rattle.sfc_action.proofs.Rows.{same_flags, same_stores}
+use Rattle.sfc_flags.proofs.Wordwise.{same_flags}
+use Rattle.sfc_action.proofs.Rows.{same_stores}
 use Rattle.sfc_action.proofs.kept.Kept.act.Goals as goal
 
 pub returns-clause-acted : goal.returns-clause-acted

@@ -1,7 +1,8 @@
 use Rattle.std.proofs.Common.{ℕ, length, ◌∙◌, ap, sym, subst, arith}
 use Rattle.sfc_action.specs.Private.Keeping.{AreKeptSized}
 use Rattle.sfc_action.specs.Private.Rows.{kept_row, kept_after, kept_row_after, input_row, store_row, timed_row}
-use Rattle.sfc_action.proofs.Rows.{more_by, all_done, kept_past, after_past}
+use Rattle.sfc_flags.proofs.Wordwise.{more_by, all_done}
+use Rattle.sfc_action.proofs.Rows.{kept_past, after_past}
 use Rattle.sfc_action.proofs.kept.Kept.act_all.Goals as goal
 
 pub loop-number-preserved : goal.loop-number-preserved

@@ -1,7 +1,8 @@
 use Rattle.std.proofs.Common.{ℕ, length, ◌∙◌, sym, subst, arith}
 use Rattle.sfc_action.specs.Private.Keeping.{AreKeptSized}
 use Rattle.sfc_action.specs.Private.Rows.{kept_row, kept_in}
-use Rattle.sfc_action.proofs.Rows.{more_by, all_done, kept_past}
+use Rattle.sfc_flags.proofs.Wordwise.{more_by, all_done}
+use Rattle.sfc_action.proofs.Rows.{kept_past}
 use Rattle.sfc_action.proofs.kept.Kept.copy_all.Goals as goal
 
 pub loop-number-preserved : goal.loop-number-preserved

@@ -1,7 +1,8 @@
 use Rattle.std.proofs.Common.{◌≡◌, ℕ, length}
 use Rattle.sfc_expr.specs.Ticks.{Within}
 use Rattle.sfc_action.specs.Private.Keeping.{AreKeptSized}
-use Rattle.sfc_action.specs.Private.Rows.{AreDone, kept_row}
+use Rattle.sfc_flags.specs.Words.{AreDone}
+use Rattle.sfc_action.specs.Private.Rows.{kept_row}
 use Rattle.sfc_action.proofs.kept.Kept.copy_all.Given as goal
 
 abbrev pub invariant-loop-number : goal.invariant-loop-number

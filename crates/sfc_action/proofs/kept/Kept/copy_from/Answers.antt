@@ -3,7 +3,8 @@ use Rattle.std.specs.Vec.{with_items}
 use Rattle.std.proofs.lemmas.List.{with_items_is}
 use Rattle.sfc_action.specs.declared.blocks.Block.{Block}
 use Rattle.sfc_action.specs.Private.Copies.{AreCopied}
-use Rattle.sfc_action.proofs.Rows.{same_flags, same_stores}
+use Rattle.sfc_flags.proofs.Wordwise.{same_flags}
+use Rattle.sfc_action.proofs.Rows.{same_stores}
 use Rattle.sfc_action.proofs.kept.Kept.copy_from.Goals as goal
 
 pub returns-clause-copy : goal.returns-clause-copy

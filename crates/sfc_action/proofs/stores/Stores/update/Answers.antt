@@ -1,7 +1,7 @@
 use Rattle.std.proofs.Common.{ℕ, subst, arith}
 use Rattle.sfc_action.specs.Private.Storing.{AreStores}
 use Rattle.sfc_action.specs.Private.Rows.{store_row, input_row, stores_after}
-use Rattle.sfc_action.proofs.Rows.{more}
+use Rattle.sfc_flags.proofs.Wordwise.{more}
 use Rattle.sfc_action.proofs.stores.Stores.update.Goals as goal
 
 pub loop-number-preserved : goal.loop-number-preserved

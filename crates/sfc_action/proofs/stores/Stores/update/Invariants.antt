@@ -1,7 +1,8 @@
 use Rattle.std.proofs.Common.{ℕ, length}
 use Rattle.sfc_expr.specs.Ticks.{Within}
 use Rattle.sfc_action.specs.Private.Storing.{AreStores}
-use Rattle.sfc_action.specs.Private.Rows.{AreDone, store_row, input_row, stores_after}
+use Rattle.sfc_flags.specs.Words.{AreDone}
+use Rattle.sfc_action.specs.Private.Rows.{store_row, input_row, stores_after}
 use Rattle.sfc_action.proofs.stores.Stores.update.Given as goal
 
 abbrev pub invariant-loop-number : goal.invariant-loop-number

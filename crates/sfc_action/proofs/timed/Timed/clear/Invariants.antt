@@ -1,7 +1,8 @@
 use Rattle.std.proofs.Common.{ℕ, length}
 use Rattle.sfc_expr.specs.Ticks.{Within}
 use Rattle.sfc_action.specs.Private.TimedSets.{AreAll}
-use Rattle.sfc_action.specs.Private.Rows.{AreDone, timed_row, no_times}
+use Rattle.sfc_flags.specs.Words.{AreDone}
+use Rattle.sfc_action.specs.Private.Rows.{timed_row, no_times}
 use Rattle.sfc_action.proofs.timed.Timed.clear.Given as goal
 
 abbrev pub invariant-loop-number : goal.invariant-loop-number

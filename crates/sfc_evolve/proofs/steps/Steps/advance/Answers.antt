@@ -34,7 +34,7 @@ sizes c =
 scanned : (c : goal.After-self-3-1)
     → Advanced c.args.tables.now c.args.self.now.begun c.args.self.now.active c.args.self.now.since.items
     c.args.self.now.kept.items c.args.conditions.now c.args.t
-    c.clear_in_order.new.cleared c.mark_following.new.on c.union_with.new.self c.begin.new.since c.keep_times.new.kept
+    c.clear_in_order.new.cleared c.mark_following.new.on c.begin.new.active c.begin.new.since c.keep_times.new.kept
 scanned c =
     let tables = c.args.tables.now in
     let self = c.args.self.now in
@@ -48,7 +48,7 @@ scanned c =
     let begins : c.begin.new.since ≡ begun_at c.args.t (places_from on 0) c.deref_mut-2.result.now =
     simp to_z-of_z at c.begin.ensures.since in
     advanced tables c.steps-steps.ensures.tables self.begun self.active self.since.items self.kept.items c.args.conditions.now c.args.t
-    c.clear_all.new.self c.clear_all-2.new.self cleared c.unmark_preceding.new.active c.start.new.on on c.union_with.new.self
+    c.clear_all.new.self c.clear_all-2.new.self cleared c.unmark_preceding.new.active c.start.new.on on c.begin.new.active
     c.begin.new.since c.keep_times.new.kept
     n.active n.since n.kept (c.start.ensures.len ∙ n.on) (c.mark_following.ensures.len ∙ c.start.ensures.len ∙ n.on)
     (c.clear_all.ensures.flags ∙ ap (λ k. replicate k false) n.used)
@@ -59,7 +59,8 @@ scanned c =
     c.unmark_preceding.ensures.flags
     (λ s lt. c.start.ensures.flags s (omega (arith, n.on)))
     c.mark_following.ensures.flags
-    c.union_with.ensures.flags
+    (c.unmark_preceding.ensures.len ∙ n.active)
+    c.begin.ensures.active
     (begins ∙ ap (begun_at c.args.t (places_from on 0)) c.deref_mut-2.ensures.value)
 
 pub returns-clause-kept : goal.returns-clause-kept
@@ -70,11 +71,11 @@ returns-clause-kept c scans k =
     let next =
     kept_next tables c.steps-steps.ensures.tables self.begun self.active self.since.items self.kept.items self.cleared self.on
     c.args.conditions.now c.args.t
-    c.clear_in_order.new.cleared c.mark_following.new.on c.union_with.new.self c.begin.new.since c.keep_times.new.kept scans
+    c.clear_in_order.new.cleared c.mark_following.new.on c.begin.new.active c.begin.new.since c.keep_times.new.kept scans
     (scanned c) k.kept in
     record {
       size = record {
-        same_steps = c.union_with.ensures.len ∙ c.unmark_preceding.ensures.len ∙ c.requires.sizes.same_steps;
+        same_steps = c.begin.ensures.active_len ∙ c.unmark_preceding.ensures.len ∙ c.requires.sizes.same_steps;
         same_transitions =
             c.clear_in_order.ensures.cleared_len
             ∙ ap length c.clear_all-2.ensures.flags
@@ -107,7 +108,6 @@ returns-clause-ticks c =
         c.unmark_preceding.ensures.ticks,
         c.start.ensures.ticks,
         c.mark_following.ensures.ticks,
-        c.union_with.ensures.ticks,
         c.begin.ensures.ticks,
         c.mark_following.ensures.len,
         c.start.ensures.len,

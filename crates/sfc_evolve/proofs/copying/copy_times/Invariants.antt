@@ -1,6 +1,6 @@
 use Rattle.std.proofs.Common.{◌≡◌, take}
 use Rattle.sfc_expr.specs.Ticks.{Within}
-use Rattle.sfc_evolve.proofs.times.copy_times.Given as goal
+use Rattle.sfc_evolve.proofs.copying.copy_times.Given as goal
 
 abbrev pub invariant-loop-s : goal.invariant-loop-s
 invariant-loop-s l = record {

@@ -1,0 +1,51 @@
+//! Copies of what is kept of steps.
+
+ghost use Rattle.std.specs.Prelude.{◌≡◌, length};
+ghost use Rattle.sfc_expr.specs.Ticks.{Within};
+
+use sfc_expr::ticks::Ticks;
+use sfc_flags::flags::Flags;
+
+/// Takes over the flags of two tables.
+pub fn copy_flags(
+    active: &mut Flags,
+    on: &mut Flags,
+    from_active: &Flags,
+    from_on: &Flags,
+    ticks: &mut Ticks,
+)
+    requires on_len { length on.old ≡ length active.old }
+    requires from_active_len { length from_active.now ≡ length active.old }
+    requires from_on_len { length from_on.now ≡ length active.old }
+    ensures active { active.new ≡ from_active.now }
+    ensures on { on.new ≡ from_on.now }
+    ensures ticks { Within (length active.old) ticks.old ticks.new }
+{
+    for number in 0..active.words() {
+        ticks.tick();
+        active.put_word(number, from_active.word(number));
+        on.put_word(number, from_on.word(number));
+    }
+}
+
+/// Takes over all instants and times.
+pub fn copy_times(
+    since: &mut [i64],
+    kept: &mut [i64],
+    from_since: &[i64],
+    from_kept: &[i64],
+    ticks: &mut Ticks,
+)
+    requires kept_len { length kept.old ≡ length since.old }
+    requires from_since_len { length from_since.now ≡ length since.old }
+    requires from_kept_len { length from_kept.now ≡ length since.old }
+    ensures since { since.new ≡ from_since.now }
+    ensures kept { kept.new ≡ from_kept.now }
+    ensures ticks { Within (length since.old) ticks.old ticks.new }
+{
+    for s in 0..since.len() {
+        ticks.tick();
+        since[s] = from_since[s];
+        kept[s] = from_kept[s];
+    }
+}
