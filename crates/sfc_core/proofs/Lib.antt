@@ -10,6 +10,8 @@ pub mod Verdicts
 pub mod Accepted
 -- accepted events, and what the tasks are told, in order
 pub mod Ordered
+-- what they are told, between the scans of a task
+pub mod Stretched
 -- what the answer to a scan tells
 pub mod Turns
 -- an instance with a fault

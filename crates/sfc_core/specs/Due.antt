@@ -1,5 +1,5 @@
 -- What the table of tasks is told by a history (2.7.2).
-use Rattle.std.specs.Prelude.{ℕ, suc, Bool, not, ◌&&◌, cond, List, [], ◌∷◌, ℤ}
+use Rattle.std.specs.Prelude.{ℕ, suc, ◌==◌, Bool, false, not, ◌&&◌, cond, List, [], ◌∷◌, ℤ}
 use Rattle.sfc_chart.specs.Plants.{PlantData}
 use Rattle.sfc_tasks.specs.Calls.{Call, Elapsed, Rose, Served}
 use Rattle.sfc_events.specs.declared.event.Event.{Event}
@@ -30,6 +30,15 @@ with_service (Input id v) calls = calls
 with_service (Force id v) calls = calls
 with_service (Release id) calls = calls
 with_service (Reset p) calls = calls
+
+-- the event is a scan of task k
+abbrev pub is_scan_of : ℕ → Event → Bool
+is_scan_of k (Scan task) = task.0 == k
+is_scan_of k (ForcedScan task) = task.0 == k
+is_scan_of k (Input id v) = false
+is_scan_of k (Force id v) = false
+is_scan_of k (Release id) = false
+is_scan_of k (Reset p) = false
 
 -- At each event time has gone on, while each SINGLE read what it read after the event before; a scan then serves its task;
 -- and then what SINGLE reads may rise.

@@ -1,6 +1,7 @@
 //! What the definitions mean: each law is a function with an empty body, whose contract is the law.
 
 ghost use Rattle.std.specs.Prelude.{◌≡◌, ◌≢◌, ◌∷◌, [], ℤ, List, Ok, Err, Some, None, Option, slice_get, true, false, ◌++◌, All};
+ghost use Rattle.std.specs.Prelude.{◌+◌, ◌<ℤ◌, length, count_by, AllPairs};
 ghost use Rattle.sfc_expr.specs.declared.value.Value.{Value};
 ghost use Rattle.sfc_chart.specs.declared.ids.ProgId.{ProgId};
 ghost use Rattle.sfc_chart.specs.declared.ids.TaskId.{TaskId};
@@ -12,9 +13,11 @@ ghost use Rattle.sfc_image.specs.Events as image;
 ghost use Rattle.sfc_image.specs.Values.{stored_value, initial_of, is_local_of};
 ghost use Rattle.sfc_instance.specs.declared.scan_fault.ScanFault.{ScanFault};
 ghost use Rattle.sfc_instance.specs.Life.{fresh};
-ghost use Rattle.sfc_tasks.specs.Releases.{waits_since};
+ghost use Rattle.sfc_tasks.specs.Calls.{Call};
+ghost use Rattle.sfc_tasks.specs.Releases.{waits_since, waiting, capped, interval_of};
 ghost use Rattle.sfc_tasks.specs.Pick.{IsPicked};
 ghost use Rattle.sfc_tasks.specs.Meaning as tasks;
+ghost use Rattle.sfc_tasks.specs.Stretches.{AreStretches, releases_in, beyond_firsts, serving_scans, multiples_in};
 ghost use Rattle.sfc_events.specs.declared.event.Event.{Event};
 ghost use Rattle.sfc_events.specs.declared.event.Event.TheVariants.{Scan, ForcedScan, Input, Force, Release, Reset};
 ghost use Rattle.sfc_events.specs.declared.event.Outcome.{Outcome};
@@ -22,8 +25,8 @@ ghost use Rattle.sfc_events.specs.declared.refusal.Refusal.{Refusal};
 ghost use Rattle.sfc_events.specs.declared.refusal.Refusal.TheVariants.{NotDue, Yield};
 ghost use Rattle.sfc_events.specs.History.{Entry, History};
 ghost use Rattle.sfc_core.specs.Table.{table_of};
-ghost use Rattle.sfc_core.specs.Due.{calls_of, calls_at};
-ghost use Rattle.sfc_core.specs.Answers.{value_of, forced_of, standing_of};
+ghost use Rattle.sfc_core.specs.Due.{calls_of, calls_at, is_scan_of};
+ghost use Rattle.sfc_core.specs.Answers.{value_of, forced_of, standing_of, overruns_of};
 ghost use Rattle.sfc_core.specs.Verdict.{verdict, after, after_all};
 ghost use Rattle.sfc_core.specs.Forcing.{turns};
 ghost use Rattle.sfc_core.specs.Order.{AreInOrder};
@@ -44,6 +47,25 @@ pub fn accepted_events()
 /// What the tasks are told by such events is in order, so that of the releases that wait the first is the earliest (2.7.2).
 pub fn told_in_order()
     ensures { (plant : PlantData) (h : History) → AreInOrder h → tasks.AreInOrder (calls_of plant h) }
+{}
+
+/// The overruns of a task are the releases beyond the first of each stretch between two of its scans, due or forced, or before
+/// its first, of all such stretches together; 2^64 - 1 where there are more. There is a stretch for each scan, and each release
+/// counts once: as an overrun, as the first that a scan served, or as one that waits; no multiple comes twice (2.7.2; our
+/// choice).
+pub fn overruns()
+    ensures counted { (plant : PlantData) (h : History) (task : TaskId) (since : List Call) (ended : List (List Call)) →
+        AreStretches task.0 (calls_of plant h) since ended →
+        overruns_of plant h task ≡ capped (beyond_firsts (interval_of plant.tasks task.0) task.0 ended) }
+    ensures scans { (plant : PlantData) (h : History) (task : TaskId) (since : List Call) (ended : List (List Call)) →
+        AreStretches task.0 (calls_of plant h) since ended → length ended ≡ count_by (λ entry. is_scan_of task.0 entry.0) h }
+    ensures once { (plant : PlantData) (h : History) (task : TaskId) (since : List Call) (ended : List (List Call)) →
+        AreStretches task.0 (calls_of plant h) since ended →
+        length (releases_in (interval_of plant.tasks task.0) task.0 [] (calls_of plant h)) ≡
+        beyond_firsts (interval_of plant.tasks task.0) task.0 ended + serving_scans (interval_of plant.tasks task.0) task.0 ended +
+        length (waiting (interval_of plant.tasks task.0) task.0 (calls_of plant h)) }
+    ensures multiples { (plant : PlantData) (h : History) (task : TaskId) → AreInOrder h →
+        AllPairs (λ u v. u <ℤ v) (multiples_in (interval_of plant.tasks task.0) task.0 [] (calls_of plant h)) }
 {}
 
 /// A scan that is accepted where it has to be due is of the task that goes first; it is refused with `NotDue` only where no

@@ -5,3 +5,11 @@ pub mod Picking
 pub mod Rising
 pub mod Tables
 pub mod Waited
+-- calls cut at the scans of a task
+pub mod Cutting
+-- the releases of a stretch, counted
+pub mod Counting
+-- the multiples among them
+pub mod Apart
+-- ---- what the definitions give for small histories, worked out by hand
+pub mod Moments

@@ -8,18 +8,18 @@ use Rattle.sfc_tasks.specs.Releases.{released, waiting, first_of}
 use Rattle.sfc_tasks.specs.Meaning.{IsMultipleBetween, IsReleasedSince, ComesAt, AreInOrder}
 use Rattle.sfc_tasks.proofs.Rising.{each_between, multiples_rise}
 
-bool_cases : (b : Bool) → (b ≡ true) ⊎ (b ≡ false)
+pub bool_cases : (b : Bool) → (b ≡ true) ⊎ (b ≡ false)
 bool_cases true = inl refl
 bool_cases false = inr refl
 
-none_contained : {P : Type 0} (u : ℤ) → Contains [] u → P
+pub none_contained : {P : Type 0} (u : ℤ) → Contains [] u → P
 none_contained u h = absurd (let lt : h.0 < 0 = h.1 in omega arith)
 
-waits_served : (interval : ℤ) (k : ℕ) (call : Call) (calls : List Call) → serves k call ≡ true → waiting interval k (call ∷ calls) ≡ []
+pub waits_served : (interval : ℤ) (k : ℕ) (call : Call) (calls : List Call) → serves k call ≡ true → waiting interval k (call ∷ calls) ≡ []
 waits_served interval k call calls e =
     ap (λ (b : Bool). cond b [] (waiting interval k calls ++ released interval k (last_instant calls) call)) e
 
-waits_more : (interval : ℤ) (k : ℕ) (call : Call) (calls : List Call) → serves k call ≡ false
+pub waits_more : (interval : ℤ) (k : ℕ) (call : Call) (calls : List Call) → serves k call ≡ false
     → waiting interval k (call ∷ calls) ≡ waiting interval k calls ++ released interval k (last_instant calls) call
 waits_more interval k call calls e =
     ap (λ (b : Bool). cond b [] (waiting interval k calls ++ released interval k (last_instant calls) call)) e
@@ -109,7 +109,7 @@ released_within interval k calls (Served task) in_order =
     All-nil (λ (u : ℤ). (last_instant calls ≤ℤ u) × (u ≤ℤ last_instant calls))
 
 -- time does not go back
-on_or_after : (call : Call) (calls : List Call) → ComesAt (last_instant calls) call → last_instant calls ≤ℤ last_instant (call ∷ calls)
+pub on_or_after : (call : Call) (calls : List Call) → ComesAt (last_instant calls) call → last_instant calls ≤ℤ last_instant (call ∷ calls)
 on_or_after (Elapsed t singles) calls h = h
 on_or_after (Rose task t) calls h = omega (arith, ints)
 on_or_after (Served task) calls h = omega (arith, ints)

@@ -10,6 +10,8 @@ pub mod Releases
 pub mod Pick
 -- the multiples and the releases, by what they are
 pub mod Meaning
+-- the releases between two scans of a task
+pub mod Stretches
 -- what a `TaskTable` agrees with; opaque to the crates above
 pub mod Agreement
 -- What private clauses cite.
