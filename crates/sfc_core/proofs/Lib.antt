@@ -36,3 +36,4 @@ pub mod MomentsFaults
 pub mod MomentsForces
 -- when tasks are due, and which of them goes first
 pub mod MomentsTasks
+mod Bounds

@@ -1,8 +1,13 @@
 -- How much an event handles, at most.
-use Rattle.std.specs.Prelude.{ℕ, ◌+◌}
+use Rattle.std.specs.Prelude.{ℕ, suc, ◌+◌, ◌==◌, cond, List, [], ◌∷◌}
+use Rattle.sfc_chart.specs.declared.ids.TaskId.{TaskId}
+use Rattle.sfc_chart.specs.declared.instance.Instance.{Instance}
 use Rattle.sfc_chart.specs.Plants.{PlantData}
 use Rattle.sfc_events.specs.declared.event.Event.{Event}
 use Rattle.sfc_events.specs.declared.event.Event.TheVariants.{Scan, ForcedScan, Input, Force, Release, Reset}
+use Rattle.sfc_image.specs.Values.{variable_count}
+use Rattle.sfc_instance.specs.Setting.{chart_of}
+use Rattle.sfc_instance.specs.Work.{scan_limit}
 use Rattle.sfc_machine.specs.Work.{task_work, reset_work}
 
 -- among the variables and the program instances
@@ -17,3 +22,15 @@ machine_work plant (Reset p) = reset_work plant p
 -- with the places of the tasks
 abbrev pub event_work : PlantData → Event → ℕ
 event_work plant event = machine_work plant event + 128
+
+-- ---- how much a scan of a task handles at most
+
+-- instance k, if this task is its own
+abbrev pub instance_limit : PlantData → TaskId → ℕ → Instance → ℕ
+instance_limit plant task k instance =
+    cond (instance.task.0 == task.0) (scan_limit (chart_of plant (record { 0 = k })) (variable_count plant)) 0
+
+-- the task's instances among these; the first of these has number k
+abbrev pub task_limit : PlantData → TaskId → ℕ → List Instance → ℕ
+task_limit plant task k [] = 0
+task_limit plant task k (instance ∷ instances) = instance_limit plant task k instance + task_limit plant task (suc k) instances

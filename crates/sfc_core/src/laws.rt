@@ -1,6 +1,6 @@
 //! What the definitions mean: each law is a function with an empty body, whose contract is the law.
 
-ghost use Rattle.std.specs.Prelude.{◌≡◌, ◌≢◌, ◌∷◌, [], ℤ, List, Ok, Err, Some, None, Option, slice_get, true, false, ◌++◌, All};
+ghost use Rattle.std.specs.Prelude.{◌≡◌, ◌+◌, ◌≤◌, ◌≢◌, ◌∷◌, [], ℤ, List, Ok, Err, Some, None, Option, slice_get, true, false, ◌++◌, All};
 ghost use Rattle.std.specs.Prelude.{◌+◌, ◌<ℤ◌, length, count_by, AllPairs};
 ghost use Rattle.sfc_expr.specs.declared.value.Value.{Value};
 ghost use Rattle.sfc_chart.specs.declared.ids.ProgId.{ProgId};
@@ -30,6 +30,7 @@ ghost use Rattle.sfc_core.specs.Answers.{value_of, forced_of, standing_of, overr
 ghost use Rattle.sfc_core.specs.Verdict.{verdict, after, after_all};
 ghost use Rattle.sfc_core.specs.Forcing.{turns};
 ghost use Rattle.sfc_core.specs.Order.{AreInOrder};
+ghost use Rattle.sfc_core.specs.Work.{event_work, task_limit};
 
 /// What is accepted is the latest event of the history, and what is refused changes nothing.
 pub fn histories()
@@ -138,4 +139,13 @@ pub fn resets()
         stored_value plant (table_of plant ((Reset p, t) ∷ h)).changes id.0 ≡ initial_of plant id.0 }
     ensures others { (plant : PlantData) (h : History) (p other : ProgId) (t : ℤ) → other.0 ≢ p.0 →
         standing_of plant ((Reset p, t) ∷ h) other ≡ standing_of plant h other }
+{}
+
+/// A scan of a task, due or forced, handles at most what its instances may handle together, and 128 more, however long the
+/// history is.
+pub fn bounded_scans()
+    ensures due { (plant : PlantData) (task : TaskId) →
+        event_work plant (Scan task) ≤ task_limit plant task 0 plant.instances + 128 }
+    ensures forced { (plant : PlantData) (task : TaskId) →
+        event_work plant (ForcedScan task) ≤ task_limit plant task 0 plant.instances + 128 }
 {}

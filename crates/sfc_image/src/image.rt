@@ -334,17 +334,15 @@ impl Image {
         begin_all(&mut self.slots, first, count, ticks);
     }
 
-    /// Opens a scratch: what is stored from now on may still be undone.
-    pub fn begin(&mut self, ticks: &mut Ticks)
+    /// Opens a scratch: what is stored from now on may still be undone. It handles no variable, so it counts nothing.
+    pub fn begin(&mut self)
         requires { is_open self.old ≡ false }
         ensures large { IsAsLarge self.old self.new }
         ensures open { is_open self.new ≡ true }
         ensures kept { (plant : PlantData) (kept : List Change) → ImageAgrees plant self.old (settled kept) →
             ImageAgrees plant self.new (trying kept []) }
         ensures written { written_places self.new ≡ written_places self.old }
-        ensures ticks { Within 1 ticks.old ticks.new }
     {
-        ticks.tick();
         self.is_trying = true;
     }
 

@@ -14,3 +14,4 @@ pub mod Scanned
 pub mod Faults
 -- what a program shows of its tables
 pub mod Places
+pub mod Bounds

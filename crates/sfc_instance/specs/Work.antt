@@ -5,9 +5,11 @@ use Rattle.sfc_tables.specs.declared.association.Target.{Target}
 use Rattle.sfc_tables.specs.declared.association.Target.TheVariants.{Boolean, Declared}
 use Rattle.sfc_tables.specs.declared.chart.Chart.{Chart}
 use Rattle.sfc_tables.specs.declared.ids.TransitionId.{TransitionId}
-use Rattle.sfc_tables.specs.Tables.{Tabled}
+use Rattle.sfc_tables.specs.declared.chart.Transition.{Transition}
+use Rattle.sfc_tables.specs.declared.action.Action.{Action}
+use Rattle.sfc_tables.specs.Tables.{Tabled, tables_of}
 use Rattle.sfc_evolve.specs.Evolution.{preceding_of}
-use Rattle.sfc_evolve.specs.Work.{advance_work}
+use Rattle.sfc_evolve.specs.Work.{links, advance_work}
 use Rattle.sfc_action.specs.Work.{control_work}
 use Rattle.sfc_instance.specs.ProgramScan.{condition_in, body_in}
 
@@ -46,4 +48,18 @@ scan_work tables chart variables =
     + control_work tables
     + actions_work chart tables.actions
     + variables
-    + 1
+
+-- ---- how much that is at most, of a chart among so many variables
+
+-- the nodes of its conditions, and the statements of its bodies with the nodes of their expressions
+abbrev pub nodes_in : Chart → ℕ
+nodes_in chart =
+    sum_by (λ (t : Transition). nodes t.condition) chart.transitions + sum_by (λ (a : Action). body_nodes a.body) chart.actions
+
+-- eight times its steps, transitions, links, associations and actions, twice the variables, and each node once
+abbrev pub scan_limit : Chart → ℕ → ℕ
+scan_limit chart variables =
+    let tables = tables_of chart in
+    8 * (length tables.initial + length tables.sides + links tables + length tables.associations + length tables.actions)
+    + 2 * variables
+    + nodes_in chart

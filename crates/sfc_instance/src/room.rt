@@ -131,7 +131,7 @@ impl Room {
             (after_actions plant setting.entry.instance life t 0 setting.entry.tables.now.actions changes) }
         ensures ticks { Within (length setting.entry.tables.now.initial
             + actions_work setting.entry.chart.now setting.entry.tables.now.actions
-            + variable_places image.old + 1) ticks.old ticks.new }
+            + variable_places image.old) ticks.old ticks.new }
     {
         read_step_times(&mut self.step_times, &state.steps, t, ticks);
         let acting = Acting {
@@ -139,7 +139,7 @@ impl Room {
             state,
             times: &self.step_times,
         };
-        image.begin(ticks);
+        image.begin();
         let answer = act(acting, image, ticks);
         close(image, answer.is_ok(), ticks);
         answer

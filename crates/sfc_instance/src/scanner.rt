@@ -81,7 +81,7 @@ impl Scanner {
             (after_actions plant setting.entry.instance life t 0 setting.entry.tables.now.actions changes) }
         ensures ticks { Within (length setting.entry.tables.now.initial
             + actions_work setting.entry.chart.now setting.entry.tables.now.actions
-            + variable_places image.old + 1) ticks.old ticks.new }
+            + variable_places image.old) ticks.old ticks.new }
     {
         let answer = self.room.act(setting, &self.spare, image, t, ticks);
         if answer.is_ok() {
