@@ -1,7 +1,7 @@
 //! What the definitions mean: each law is a function with an empty body, whose contract is the law.
 
-ghost use Rattle.std.specs.Prelude.{◌≡◌, ◌+◌, ◌≤◌, ◌≢◌, ◌∷◌, [], ℤ, List, Ok, Err, Some, None, Option, slice_get, true, false, ◌++◌, All};
-ghost use Rattle.std.specs.Prelude.{◌+◌, ◌<ℤ◌, length, count_by, AllPairs};
+ghost use Rattle.std.specs.Prelude.{◌≡◌, ◌≢◌, ◌∷◌, [], ℤ, List, Ok, Err, Some, None, Option, slice_get, true, false, ◌++◌, All};
+ghost use Rattle.std.specs.Prelude.{◌≤◌, ◌+◌, ◌<ℤ◌, length, count_by, AllPairs};
 ghost use Rattle.sfc_expr.specs.declared.value.Value.{Value};
 ghost use Rattle.sfc_chart.specs.declared.ids.ProgId.{ProgId};
 ghost use Rattle.sfc_chart.specs.declared.ids.TaskId.{TaskId};
