@@ -245,7 +245,7 @@ while IFS='|' read -r number name _ line; do
   place=$(sed -nE 's/^  example, (in|on) (a|the) ([a-z ]+):$/\3/p' "$work/out")
   grep '^    ' "$work/out" >"$work/example"
   leads "$number" "$name" "$line"
-  note $? "the example of $number $name"
+  note $? "the example of ${number:+$number }$name"
 done <"$work/told"
 
 # ---- completions and the man page have the commands and options of the help
@@ -265,7 +265,7 @@ cut -d'|' -f2 "$work/told" | grep -v ' ' >"$work/names"
 # completed WORD..: what bash completes the last of the words to
 completed() {
   # shellcheck source=/dev/null
-  (source "$share/completions/sfcmon.bash" && COMP_WORDS=("$@") && COMP_CWORD=$(($# - 1)) && _sfcmon && printf '%s\n' "${COMPREPLY[@]}")
+  (source "$share/completions/sfcmon.bash" && COMP_WORDS=("$@") && COMP_CWORD=$(($# - 1)) && { _sfcmon; printf '%s\n' "${COMPREPLY[@]}"; })
 }
 bash -n "$share/completions/sfcmon.bash"
 note $? "the completion for bash is read"

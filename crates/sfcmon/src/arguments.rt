@@ -124,11 +124,13 @@ fn replay_command<'a>(alloc: Global) -> Result<Command<'a>, AllocError> {
 }
 
 fn explain_command<'a>(alloc: Global) -> Result<Command<'a>, AllocError> {
-    let name = Arg::new(alloc, "NAME")
-        .num_args(1..)
-        .help("A number such as 14 or a name such as NoInitial, whatever the case of its letters");
+    let name = Arg::new(alloc, "NAME").num_args(1..).help(
+        "A number such as 14 or a name such as NoInitial, whatever the case of its letters",
+    );
     Command::new(alloc, "explain")
-        .about("Tells what a refusal or a fault means, with its usual cause and an example; without a name, lists all")
+        .about(
+            "Tells what a refusal or a fault means, with its usual cause and an example; without a name, lists all",
+        )
         .after_help(EXPLAIN_NOTES)
         .arg(name)
 }

@@ -29,7 +29,9 @@ pub fn list_entries<R: Print + Eprint>(rt: &R) -> u8 {
 /// standard error says so, and the status is that of wrong words.
 pub fn explain_word<R: Print + Eprint>(rt: &R, word: &str) -> u8 {
     let Some(entry) = entry_of(word) else {
-        let _ = eprintln!(rt; "error: no refusal or fault is called '{word}'; 'sfcmon explain' lists all");
+        let _ = eprintln!(rt;
+            "error: no refusal or fault is called '{word}'; 'sfcmon explain' lists all"
+        );
         return 2;
     };
     let mut out = io::writer(rt);
