@@ -112,6 +112,7 @@ if [ -e /dev/full ]; then
   ends 1 && is_silent
   note $? "a fault text that can't be written"
 fi
+
 # ---- explain
 
 unknown() { fails "$1" 2 "error: no refusal or fault is called '$2'; 'sfcmon explain' lists all" explain "${@:3}"; }
@@ -126,10 +127,12 @@ note $? "the help on explain"
 run explain
 ends 0 && says "" && cp "$work/out" "$work/listed" && [ "$(wc -l <"$work/listed")" = 42 ]
 note $? "all refusals and faults"
-for words in 14 014 NoInitial noinitial; do
-  run explain $words
-  ends 0 && says "" && [ "$(head -1 "$work/out")" = "14 NoInitial" ] && mentions "  meaning: a program type has no INITIAL_STEP" out
-  note $? "explain $words"
+# an explanation is what docs/FORMATS.md shows
+awk '/^## Refusals/ { seen = 1 } seen && /^```/ { if (++fence == 2) exit; next } fence == 1' "$top/docs/FORMATS.md" >"$work/shown"
+for word in 14 014 NoInitial noinitial; do
+  run explain "$word"
+  ends 0 && says "" && cmp -s "$work/out" "$work/shown"
+  note $? "explain $word"
 done
 run explain out of memory
 ends 0 && says "" && [ "$(head -1 "$work/out")" = "out of memory" ] && cp "$work/out" "$work/apart" \
@@ -151,10 +154,12 @@ while read -r heading; do
 done <"$work/listed"
 
 # the tables of docs/FORMATS.md have the same numbers, names and marks
+# shellcheck disable=SC2016 # marks of the page, not commands
 sed -nE 's/^\| ([0-9]+) `([A-Za-z]+)`[^|]*\| ([^|]*) \| *([^ |]*) *\|.*/\1|\2|\3|\4/p' "$top/docs/FORMATS.md" \
   | sed 's/|$/|no/' >"$work/rows"
 grep '^[0-9]' "$work/told" | diff - "$work/rows"
 note $? "the table of refusals in docs/FORMATS.md"
+# shellcheck disable=SC2016
 awk '/^\| (KIND|Other faults) / { on = 1 } !/^\|/ { on = 0 } on && /^\| `/' "$top/docs/FORMATS.md" | cut -d'|' -f2 | grep -oE '`[^`]+`' \
   | sed -E 's/`//g; s/ [0-9]+$//' >"$work/rows"
 grep -v '^[0-9]' "$work/told" | cut -d'|' -f2 | diff - "$work/rows"
@@ -166,8 +171,8 @@ cat >"$work/frame" <<'FRAME'
 PROGRAM Mix
   VAR Count : INT := 1; Zero : INT; Delay : TIME := T#1s; END_VAR
 @own
-  INITIAL_STEP Off: END_STEP
-  STEP On: END_STEP
+  INITIAL_STEP Idle: END_STEP
+  STEP Busy: END_STEP
 @elements
 END_PROGRAM
 @types
@@ -187,7 +192,7 @@ FRAME
 # framed FILE: the chart of the examples, with the lines of the file where their first words belong
 framed() {
   awk '
-    NR == FNR {
+    FILENAME == ARGV[1] {
       if ($1 ~ /^(VAR|VAR_EXTERNAL)$/) place = "own"
       if ($1 ~ /^(INITIAL_STEP|STEP|TRANSITION|ACTION)$/) place = "elements"
       if ($1 == "PROGRAM") place = /END_PROGRAM/ ? "types" : "instances"
@@ -205,6 +210,7 @@ printf 'T#0s SCAN Main\nT#10ms SCAN Main\n' >"$work/framed.script"
 mkdir "$work/bin" "$work/there"
 ln -s "$program" "$work/bin/sfcmon"
 ln -s "$examples" "$work/there/examples"
+{ echo 'PROGRAM Mix'; seq -f '  STEP S%.0f: END_STEP' 40000; echo 'END_PROGRAM'; } >"$work/there/large.chart"
 # leads NUMBER NAME LINE: the lines of $work/example, which stand in $place, lead to this
 leads() {
   local told="refused $1 $2"
@@ -229,7 +235,11 @@ leads() {
     *)
       (cd "$work/there" && PATH=$work/bin:$PATH bash "$work/example") >"$work/out" 2>"$work/err" </dev/null
       status=$?
-      if [ -z "$1" ]; then ends 3 && says "$2"; else ends 1 && says "$told line $3"; fi
+      case $2 in
+        Memory | "out of memory") ends 4 && says "out of memory" ;;
+        TooLong) ends 1 && says "$told line $3" ;;
+        *) ends 3 && says "$2" ;;
+      esac
       ;;
   esac
 }
@@ -238,7 +248,6 @@ ends 0
 note $? "the chart into which the examples are put"
 while IFS='|' read -r number name _ line; do
   case $name in
-    Memory | "out of memory") continue ;; # tests/refused.sh refuses memory
     "write fault") [ -e /dev/full ] || continue ;;
   esac
   run explain "${number:-$name}"

@@ -52,7 +52,7 @@ pub static TABLE: [Entry; 42] = [
         meaning: "over 64 open parentheses, prefix operators and IF statements, or over 256 operators in an expression",
         cause: "an expression that another program has written; declare variables for its parts",
         place: Place::Chart,
-        example: "    TRANSITION FROM Off TO On :=\n    \
+        example: "    TRANSITION FROM Idle TO Busy :=\n    \
             ((((((((((((((((((((((((((((((((((((((((((((((((((((((((((((((((( Start\n    \
             ))))))))))))))))))))))))))))))))))))))))))))))))))))))))))))))))); END_TRANSITION\n",
     },
@@ -63,7 +63,7 @@ pub static TABLE: [Entry; 42] = [
         meaning: "no duration, or one beyond 2^62 microseconds",
         cause: "parts that aren't in falling order of unit, or a fraction of a microsecond",
         place: Place::Chart,
-        example: "    TRANSITION FROM Off TO On := Off.T >= T#10ms5s; END_TRANSITION\n",
+        example: "    TRANSITION FROM Idle TO Busy := Idle.T >= T#10ms5s; END_TRANSITION\n",
     },
     Entry {
         topic: Topic::Reading(ReadErrorKind::BadNumber),
@@ -72,7 +72,7 @@ pub static TABLE: [Entry; 42] = [
         meaning: "letters behind digits, or a number over 4,294,967,295",
         cause: "a duration without T# before it",
         place: Place::Chart,
-        example: "    TRANSITION FROM Off TO On := Off.T >= 100ms; END_TRANSITION\n",
+        example: "    TRANSITION FROM Idle TO Busy := Idle.T >= 100ms; END_TRANSITION\n",
     },
     Entry {
         topic: Topic::Reading(ReadErrorKind::Memory),
@@ -81,7 +81,7 @@ pub static TABLE: [Entry; 42] = [
         meaning: "memory was refused while the chart was read; it is told as 'out of memory'",
         cause: "a limit on memory, of a shell or a container, that is too low",
         place: Place::Shell,
-        example: "    (ulimit -v 10000; sfcmon check examples/pump.chart)\n",
+        example: "    (ulimit -v 20000; sfcmon check large.chart)    # of a million bytes\n",
     },
     Entry {
         topic: Topic::Loading(LoadError::Unknown),
@@ -90,7 +90,7 @@ pub static TABLE: [Entry; 42] = [
         meaning: "a name isn't declared: of a variable, of a step before .X or .T, or .Q stands outside its action",
         cause: "a name that is spelt in another way than where it is declared, or is declared in another program type",
         place: Place::Chart,
-        example: "    TRANSITION FROM Off TO On := Strat; END_TRANSITION\n",
+        example: "    TRANSITION FROM Idle TO Busy := Strat; END_TRANSITION\n",
     },
     Entry {
         topic: Topic::Loading(LoadError::WrongType),
@@ -99,7 +99,7 @@ pub static TABLE: [Entry; 42] = [
         meaning: "a type isn't the one that is wanted, or a location's size isn't the variable's",
         cause: "INT and DINT in one expression, a number as a condition, an INT at %QX in place of %QW",
         place: Place::Chart,
-        example: "    TRANSITION FROM Off TO On := Count; END_TRANSITION    (* Count is an INT *)\n",
+        example: "    TRANSITION FROM Idle TO Busy := Count; END_TRANSITION    (* Count is an INT *)\n",
     },
     Entry {
         topic: Topic::Loading(LoadError::LiteralRange),
@@ -117,7 +117,7 @@ pub static TABLE: [Entry; 42] = [
         meaning: "a name with a dot stands before :=",
         cause: "a body that is to switch a step or an action: transitions and associations do that",
         place: Place::Chart,
-        example: "    ACTION Halt: On.X := FALSE; END_ACTION\n",
+        example: "    ACTION Halt: Busy.X := FALSE; END_ACTION\n",
     },
     Entry {
         topic: Topic::Loading(LoadError::Duplicate),
@@ -135,7 +135,7 @@ pub static TABLE: [Entry; 42] = [
         meaning: "a program type has no INITIAL_STEP",
         cause: "the first step is declared by STEP",
         place: Place::Chart,
-        example: "    PROGRAM Idle STEP Waiting: END_STEP END_PROGRAM\n",
+        example: "    PROGRAM Blink STEP Waiting: END_STEP END_PROGRAM\n",
     },
     Entry {
         topic: Topic::Loading(LoadError::UnknownStep),
@@ -144,7 +144,7 @@ pub static TABLE: [Entry; 42] = [
         meaning: "a name behind FROM or TO is no step",
         cause: "a step that was renamed, but not in its transitions",
         place: Place::Chart,
-        example: "    TRANSITION FROM Off TO Onn := Start; END_TRANSITION\n",
+        example: "    TRANSITION FROM Idle TO Bussy := Start; END_TRANSITION\n",
     },
     Entry {
         topic: Topic::Loading(LoadError::UnknownAction),
@@ -216,7 +216,7 @@ pub static TABLE: [Entry; 42] = [
         meaning: "memory was refused while the chart was loaded; it is told as 'out of memory'",
         cause: "a limit on memory, of a shell or a container, that is too low",
         place: Place::Shell,
-        example: "    (ulimit -v 10000; sfcmon check examples/pump.chart)\n",
+        example: "    (ulimit -v 20000; sfcmon check large.chart)    # of a million bytes\n",
     },
     Entry {
         topic: Topic::Command(Refusal::UnknownVar),
@@ -315,7 +315,7 @@ pub static TABLE: [Entry; 42] = [
         meaning: "a division by zero, by / or MOD, in a condition or a body",
         cause: "a variable that is 0 until something was counted or put in",
         place: Place::Chart,
-        example: "    TRANSITION FROM Off TO On := Count / Zero = 1; END_TRANSITION    (* Zero is 0 *)\n",
+        example: "    TRANSITION FROM Idle TO Busy := Count / Zero = 1; END_TRANSITION    (* Zero is 0 *)\n",
     },
     Entry {
         topic: Topic::Named("Range"),
@@ -324,7 +324,7 @@ pub static TABLE: [Entry; 42] = [
         meaning: "a result that its type doesn't have, in a condition or a body",
         cause: "a counter that is never set back, or the product of two INT",
         place: Place::Chart,
-        example: "    TRANSITION FROM Off TO On := Count + 32767 > 0; END_TRANSITION    (* Count is 1 *)\n",
+        example: "    TRANSITION FROM Idle TO Busy := Count + 32767 > 0; END_TRANSITION    (* Count is 1 *)\n",
     },
     Entry {
         topic: Topic::Named("TwoTimed"),
@@ -389,6 +389,6 @@ pub static TABLE: [Entry; 42] = [
         meaning: "memory was refused; what was written is a front of the output",
         cause: "a limit on memory, of a shell or a container, that is too low",
         place: Place::Shell,
-        example: "    (ulimit -v 10000; sfcmon check examples/pump.chart)\n",
+        example: "    (ulimit -v 20000; sfcmon check large.chart)    # of a million bytes\n",
     },
 ];
