@@ -112,5 +112,209 @@ if [ -e /dev/full ]; then
   ends 1 && is_silent
   note $? "a fault text that can't be written"
 fi
+
+# ---- explain
+
+unknown() { fails "$1" 2 "error: no refusal or fault is called '$2'; 'sfcmon explain' lists all" explain "${@:3}"; }
+unknown "a number that isn't there" 34 34
+unknown "a number that no byte has" 300 300
+unknown "a name that isn't there" "No Initial" No Initial
+unknown "an empty name" "" ""
+usage "explain with an option that isn't there" "unexpected argument" explain --all
+run explain --help
+ends 0 && mentions "Exit status:" out && mentions "docs/FORMATS.md" out && mentions "Examples:" out && says ""
+note $? "the help on explain"
+run explain
+ends 0 && says "" && cp "$work/out" "$work/listed" && [ "$(wc -l <"$work/listed")" = 42 ]
+note $? "all refusals and faults"
+# an explanation is what docs/FORMATS.md shows
+awk '/^## Refusals/ { seen = 1 } seen && /^```/ { if (++fence == 2) exit; next } fence == 1' "$top/docs/FORMATS.md" >"$work/shown"
+for word in 14 014 NoInitial noinitial; do
+  run explain "$word"
+  ends 0 && says "" && cmp -s "$work/out" "$work/shown"
+  note $? "explain $word"
+done
+run explain out of memory
+ends 0 && says "" && [ "$(head -1 "$work/out")" = "out of memory" ] && cp "$work/out" "$work/apart" \
+  && run explain "OUT of memory" && ends 0 && cmp -s "$work/out" "$work/apart"
+note $? "a name of three words"
+
+# field NAME: what the explanation in $work/page says of it
+field() { sed -n "s/^  $1: //p" "$work/page"; }
+# each that is listed is told by its number and by its name, with all that is told of one; rows: number|name|from|line
+: >"$work/told"
+while read -r heading; do
+  number=${heading%%[!0-9]*} name=${heading#[0-9]* }
+  run explain "${number:-$name}"
+  ends 0 && says "" && cp "$work/out" "$work/page" && [ "$(head -1 "$work/page")" = "$heading" ] && [ -n "$(field meaning)" ] \
+    && [ -n "$(field 'usual cause')" ] && grep -q '^    [^ ]' "$work/page" && run explain "${name^^}" && ends 0 \
+    && { cmp -s "$work/out" "$work/page" || [ "$heading" = "23 Memory" ]; }
+  note $? "explain $heading"
+  echo "$number|$name|$(field 'told by')|$(field line)" >>"$work/told"
+done <"$work/listed"
+
+# the tables of docs/FORMATS.md have the same numbers, names and marks
+# shellcheck disable=SC2016 # marks of the page, not commands
+sed -nE 's/^\| ([0-9]+) `([A-Za-z]+)`[^|]*\| ([^|]*) \| *([^ |]*) *\|.*/\1|\2|\3|\4/p' "$top/docs/FORMATS.md" \
+  | sed 's/|$/|no/' >"$work/rows"
+grep '^[0-9]' "$work/told" | diff - "$work/rows"
+note $? "the table of refusals in docs/FORMATS.md"
+# shellcheck disable=SC2016
+awk '/^\| (KIND|Other faults) / { on = 1 } !/^\|/ { on = 0 } on && /^\| `/' "$top/docs/FORMATS.md" | cut -d'|' -f2 | grep -oE '`[^`]+`' \
+  | sed -E 's/`//g; s/ [0-9]+$//' >"$work/rows"
+grep -v '^[0-9]' "$work/told" | cut -d'|' -f2 | diff - "$work/rows"
+note $? "the tables of faults in docs/FORMATS.md"
+
+# ---- the examples of explain lead to what they explain
+
+cat >"$work/frame" <<'FRAME'
+PROGRAM Mix
+  VAR Count : INT := 1; Zero : INT; Delay : TIME := T#1s; END_VAR
+@own
+  INITIAL_STEP Idle: END_STEP
+  STEP Busy: END_STEP
+@elements
+END_PROGRAM
+@types
+CONFIGURATION C
+  RESOURCE R ON Plc
+    VAR_GLOBAL Lamp : BOOL; Start AT %IX0.0 : BOOL; END_VAR
+@globals
+    TASK Main(INTERVAL := T#10ms, PRIORITY := 1);
+    TASK Slow(INTERVAL := T#20ms, PRIORITY := 2);
+@tasks
+    PROGRAM P WITH Main : Mix;
+    PROGRAM Q WITH Slow : Mix;
+@instances
+  END_RESOURCE
+END_CONFIGURATION
+FRAME
+# framed FILE: the chart of the examples, with the lines of the file where their first words belong
+framed() {
+  awk '
+    FILENAME == ARGV[1] {
+      if ($1 ~ /^(VAR|VAR_EXTERNAL)$/) place = "own"
+      if ($1 ~ /^(INITIAL_STEP|STEP|TRANSITION|ACTION)$/) place = "elements"
+      if ($1 == "PROGRAM") place = /END_PROGRAM/ ? "types" : "instances"
+      if ($1 == "VAR_GLOBAL") place = "globals"
+      if ($1 == "TASK") place = "tasks"
+      text[place] = text[place] $0 "\n"
+      next
+    }
+    /^@/ { printf "%s", text[substr($0, 2)]; next }
+    { print }' "$1" "$work/frame"
+}
+: >"$work/nothing"
+framed "$work/nothing" >"$work/framed.chart"
+printf 'T#0s SCAN Main\nT#10ms SCAN Main\n' >"$work/framed.script"
+mkdir "$work/bin" "$work/there"
+ln -s "$program" "$work/bin/sfcmon"
+ln -s "$examples" "$work/there/examples"
+{ echo 'PROGRAM Mix'; seq -f '  STEP S%.0f: END_STEP' 40000; echo 'END_PROGRAM'; } >"$work/there/large.chart"
+# leads NUMBER NAME LINE: the lines of $work/example, which stand in $place, lead to this
+leads() {
+  local told="refused $1 $2"
+  case $place in
+    chart)
+      [ "$1" != 22 ] || printf '    TASK Another%s(PRIORITY := 1);\n' {1..14} >>"$work/example"
+      [ "$1" != 22 ] || told="$told Tasks"
+      framed "$work/example" >"$work/example.chart"
+      if [ -z "$1" ]; then
+        run replay "$work/example.chart" "$work/framed.script"
+        ends 0 && grep -qx "  P fault $2" "$work/out"
+      else
+        run check "$work/example.chart"
+        [ "$3" = no ] || told="$told line [0-9]+"
+        ends 1 && grep -qxE "$told" "$work/err"
+      fi
+      ;;
+    script)
+      run replay "$work/framed.chart" "$work/example"
+      if [ -z "$1" ]; then ends 1 && says "$2 1"; else ends 0 && grep -qE "^$told( |$)" "$work/out"; fi
+      ;;
+    *)
+      (cd "$work/there" && PATH=$work/bin:$PATH bash "$work/example") >"$work/out" 2>"$work/err" </dev/null
+      status=$?
+      case $2 in
+        Memory | "out of memory") ends 4 && says "out of memory" ;;
+        TooLong) ends 1 && says "$told line $3" ;;
+        *) ends 3 && says "$2" ;;
+      esac
+      ;;
+  esac
+}
+run check "$work/framed.chart"
+ends 0
+note $? "the chart into which the examples are put"
+while IFS='|' read -r number name _ line; do
+  case $name in
+    "write fault") [ -e /dev/full ] || continue ;;
+  esac
+  run explain "${number:-$name}"
+  place=$(sed -nE 's/^  example, (in|on) (a|the) ([a-z ]+):$/\3/p' "$work/out")
+  grep '^    ' "$work/out" >"$work/example"
+  leads "$number" "$name" "$line"
+  note $? "the example of ${number:+$number }$name"
+done <"$work/told"
+
+# ---- completions and the man page have the commands and options of the help
+
+same() { diff <(sort -u "$2") <(sort -u "$3"); note $? "$1"; }
+# options WORD..: the options that the help on it shows
+options() {
+  "$program" "$@" --help | awk '/^Options:/ { on = 1; next } /^$/ { on = 0 } on { sub(/,/, "", $1); print $1; if ($2 ~ /^-/) print $2 }'
+}
+# section FILE NAME: the names behind each .TP of a section of the man page
+section() { awk -v name="$2" '/^\.SH/ { on = $2 == name } on && /^\.TP/ { getline; print }' "$1"; }
+share=$top/share manual=$top/share/man/man1/sfcmon.1
+"$program" --help | awk '/^Commands:/ { on = 1; next } /^$/ { on = 0 } on { print $1 }' >"$work/commands"
+{ options && while read -r command; do [ "$command" = help ] || options "$command"; done <"$work/commands"; } >"$work/options"
+cut -d'|' -f2 "$work/told" | grep -v ' ' >"$work/names"
+
+# completed WORD..: what bash completes the last of the words to
+completed() {
+  # shellcheck source=/dev/null
+  (source "$share/completions/sfcmon.bash" && COMP_WORDS=("$@") && COMP_CWORD=$(($# - 1)) && { _sfcmon; printf '%s\n' "${COMPREPLY[@]}"; })
+}
+bash -n "$share/completions/sfcmon.bash"
+note $? "the completion for bash is read"
+same "bash completes the commands" "$work/commands" <(completed sfcmon "")
+same "bash completes the commands behind help" "$work/commands" <(completed sfcmon help "")
+same "bash completes the options" <(options) <(completed sfcmon -)
+while read -r command; do
+  [ "$command" = help ] || same "bash completes the options of $command" <(options "$command") <(completed sfcmon "$command" -)
+done <"$work/commands"
+same "bash completes the names of explain" "$work/names" <(completed sfcmon explain "")
+same "bash completes a name that is begun" <(printf 'NoInitial\n') <(completed sfcmon explain NoI)
+same "bash completes files" <(printf '%s\n' "$examples"/lamp.*) <(completed sfcmon replay "$examples/lamp")
+
+file=$share/completions/_sfcmon
+same "zsh has the commands" "$work/commands" <(sed -nE "/commands=\(/,/^  \)/s/^ *'([a-z]+):.*/\1/p" "$file")
+same "zsh has the options" "$work/options" <(grep -oE '\{-[A-Za-z],--[a-z-]+\}' "$file" | tr -d '{}' | tr ',' '\n')
+same "zsh has the names of explain" "$work/names" <(sed -n '/names=(/,/^  )/p' "$file" | grep -v '[()]' | tr -s ' ' '\n' | grep .)
+file=$share/completions/sfcmon.fish
+same "fish has the commands" "$work/commands" <(sed -nE 's/.*__fish_use_subcommand -a ([a-z]+) .*/\1/p' "$file")
+same "fish has the list of commands" "$work/commands" <(sed -n 's/^set -l commands //p' "$file" | tr ' ' '\n')
+same "fish has the options" "$work/options" <(sed -nE 's/.*-s ([A-Za-z]) -l ([a-z-]+) .*/-\1\n--\2/p' "$file")
+same "fish has the names of explain" "$work/names" \
+  <(sed -n '/^set -l names/,/[^\\]$/p' "$file" | sed 's/^set -l names//; s/\\$//' | tr -s ' ' '\n' | grep .)
+same "the man page has the commands" "$work/commands" <(section "$manual" COMMANDS | cut -d' ' -f2)
+same "the man page has the options" "$work/options" <(section "$manual" OPTIONS | tr -d '\\,"' | sed 's/^\.BR //' | tr -s ' ' '\n')
+grep -qF "\"$("$program" --version)\"" "$manual"
+note $? "the man page has the version"
+# read_by TITLE TOOL WORD..: the tool has nothing to say; it need not be there
+read_by() {
+  local title=$1; shift
+  if ! command -v "$1" >/dev/null; then echo "not asked, $1 isn't there: $title"; return; fi
+  "$@" >"$work/out" 2>"$work/err" </dev/null
+  status=$?
+  ends 0 && is_silent && says ""
+  note $? "$title"
+}
+read_by "zsh reads its completion" zsh -n "$share/completions/_sfcmon"
+read_by "fish reads its completion" fish -n "$share/completions/sfcmon.fish"
+read_by "groff sets the man page" groff -man -ww -z "$manual"
+read_by "mandoc has nothing to say of the man page" mandoc -Tlint "$manual"
+
 echo "$passed passed, $failed failed"
 [ "$failed" = 0 ]

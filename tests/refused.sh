@@ -52,5 +52,7 @@ sweep "$top/examples/mixing.expect" replay "$top/examples/mixing.chart" "$top/ex
 sweep "$data/listed_mix.expect" list "$data/listed_mix.chart"
 echo ok >"$work/ok"
 sweep "$work/ok" check "$data/listed_mix.chart"
+awk '/^## Refusals/ { seen = 1 } seen && /^```/ { if (++fence == 2) exit; next } fence == 1' "$top/docs/FORMATS.md" >"$work/shown"
+sweep "$work/shown" explain 14
 echo "$passed passed, $failed failed"
 [ "$failed" = 0 ]

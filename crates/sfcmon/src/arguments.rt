@@ -15,6 +15,10 @@ pub enum Request {
     List { chart: String },
     /// A script to be played on a chart, by the names of their files.
     Replay { chart: String, script: String },
+    /// What a refusal or a fault means, by its number or its name.
+    Explain { word: String },
+    /// The numbers and names of all refusals and faults.
+    ListEntries,
     /// The words were answered already: help, the version, or what is wrong with them. This exit status is left.
     Answered(u8),
 }
@@ -31,11 +35,13 @@ Exit status:
 Example:
   sfcmon replay examples/lamp.chart examples/lamp.script
 
+'sfcmon explain NUMBER' tells what a refusal or a fault means.
 docs/LANGUAGE.md describes the text of charts, docs/FORMATS.md scripts and output.";
 
 // What stands at the end of the help on the program.
 const NOTES: &str = "\
-'sfcmon COMMAND --help' tells the exit statuses, an example, and where the formats are described.";
+'sfcmon COMMAND --help' tells the exit statuses, an example, and where the formats are described.
+'sfcmon explain' lists all refusals and faults, and 'sfcmon explain 14' tells what the one with this number means.";
 
 // What stands at the end of the help on `check`.
 const CHECK_NOTES: &str = "\
@@ -49,6 +55,7 @@ Exit status:
 Example:
   sfcmon check examples/lamp.chart
 
+'sfcmon explain NUMBER' tells what a fault means.
 docs/LANGUAGE.md describes the text of charts and what is checked, docs/FORMATS.md the faults.";
 
 // What stands at the end of the help on `list`.
@@ -63,7 +70,24 @@ Exit status:
 Example:
   sfcmon list examples/lamp.chart
 
+'sfcmon explain NUMBER' tells what a fault means.
 docs/LANGUAGE.md describes the text of charts, docs/FORMATS.md how it is laid out, and the faults.";
+
+// What stands at the end of the help on `explain`.
+const EXPLAIN_NOTES: &str = "\
+Exit status:
+  0  it is told; or all are listed, where no name is given
+  2  there is no such number or name, or the words of the command line are wrong
+  3  the output can't be written
+  4  memory was refused
+
+Examples:
+  sfcmon explain
+  sfcmon explain 14
+  sfcmon explain NoInitial
+  sfcmon explain out of memory
+
+docs/FORMATS.md has them all in one table.";
 
 // The argument that names the file of a chart.
 fn chart_argument<'a>(alloc: Global) -> Arg<'a> {
@@ -99,13 +123,26 @@ fn replay_command<'a>(alloc: Global) -> Result<Command<'a>, AllocError> {
         .arg(script)
 }
 
+fn explain_command<'a>(alloc: Global) -> Result<Command<'a>, AllocError> {
+    let name = Arg::new(alloc, "NAME").num_args(1..).help(
+        "A number such as 14 or a name such as NoInitial, whatever the case of its letters",
+    );
+    Command::new(alloc, "explain")
+        .about(
+            "Tells what a refusal or a fault means, with its usual cause and an example; without a name, lists all",
+        )
+        .after_help(EXPLAIN_NOTES)
+        .arg(name)
+}
+
 fn sfcmon_command<'a>(alloc: Global) -> Result<Command<'a>, AllocError> {
     let check = check_command(alloc)?;
     let list = list_command(alloc)?;
     let replay = replay_command(alloc)?;
+    let explain = explain_command(alloc)?;
     Command::new(alloc, "sfcmon")
         .bin_name("sfcmon")?
-        .version("0.1.0")
+        .version("0.2.0")
         .about(
             "Runs Sequential Function Charts (IEC 61131-3:2003) exactly as their definitions say",
         )
@@ -114,7 +151,31 @@ fn sfcmon_command<'a>(alloc: Global) -> Result<Command<'a>, AllocError> {
         .arg_required_else_help(true)
         .subcommand(check)?
         .subcommand(list)?
-        .subcommand(replay)
+        .subcommand(replay)?
+        .subcommand(explain)
+}
+
+// The words with a blank between any two.
+fn joined(alloc: Global, words: &[&str]) -> Result<String, AllocError> {
+    let mut text = String::new(alloc);
+    for word in words {
+        if !text.is_empty() {
+            text.push(' ')?;
+        }
+        text.push_str(word)?;
+    }
+    Ok(text)
+}
+
+// What `explain` was asked for.
+fn explain_request(alloc: Global, names: Option<&[&str]>) -> Result<Request, AllocError> {
+    match names {
+        Some(names) => {
+            let word = joined(alloc, names)?;
+            Ok(Request::Explain { word })
+        }
+        None => Ok(Request::ListEntries),
+    }
 }
 
 fn parsed(alloc: Global, words: &[String]) -> Result<Request, Error> {
@@ -138,6 +199,10 @@ fn parsed(alloc: Global, words: &[String]) -> Result<Request, Error> {
             let script = String::from_str(alloc, script)?;
             return Ok(Request::Replay { chart, script });
         }
+    }
+    if let Some(explain) = matches.subcommand_matches("explain") {
+        let request = explain_request(alloc, explain.get_strs("NAME"))?;
+        return Ok(request);
     }
     Ok(Request::Answered(2))
 }

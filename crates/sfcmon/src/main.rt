@@ -1,7 +1,9 @@
-//! `sfcmon`: checks and lists Sequential Function Charts, plays scripts on them and prints what happens.
+//! `sfcmon`: checks and lists Sequential Function Charts, plays scripts on them and prints what happens, and tells what a
+//! refusal or a fault means.
 #![tactic(auto)]
 
 mod arguments;
+mod explain;
 mod files;
 
 use arguments::{Request, read_words, refuse_words};
@@ -26,6 +28,8 @@ fn answer(rt: &HostRuntime, words: &[String]) -> u8 {
             chart.as_str(),
             script.as_str(),
         ),
+        Request::Explain { word } => explain::explain_word(rt, word.as_str()),
+        Request::ListEntries => explain::list_entries(rt),
         Request::Answered(status) => status,
     }
 }

@@ -1,0 +1,32 @@
+# Completes the words of sfcmon in bash. Source this file, or put it as 'sfcmon' into
+# ~/.local/share/bash-completion/completions.
+
+_sfcmon() {
+  local commands='check list replay explain help'
+  local names='TooLong NotAscii BadToken Syntax TooDeep BadDuration BadNumber Memory
+    Unknown WrongType LiteralRange NotAssignable Duplicate NoInitial UnknownStep UnknownAction NotBool NotTime NoTask
+    UnknownType SameLocation Limit
+    UnknownVar ValueType NotInput NotForced ClockBack NotDue Yield UnknownTask UnknownProgram InstantRange
+    DivZero Range TwoTimed SdWhileSl SlWhileSd'
+  local word=${COMP_WORDS[COMP_CWORD]} command='' i
+  for ((i = 1; i < COMP_CWORD; i++)); do
+    if [[ ${COMP_WORDS[i]} != -* ]]; then
+      command=${COMP_WORDS[i]}
+      break
+    fi
+  done
+  COMPREPLY=()
+  case $command:$word in
+    :-*) mapfile -t COMPREPLY < <(compgen -W '-h --help -V --version' -- "$word") ;;
+    :*) mapfile -t COMPREPLY < <(compgen -W "$commands" -- "$word") ;;
+    help:*) mapfile -t COMPREPLY < <(compgen -W "$commands" -- "$word") ;;
+    *:-*) mapfile -t COMPREPLY < <(compgen -W '-h --help' -- "$word") ;;
+    explain:*) mapfile -t COMPREPLY < <(compgen -W "$names" -- "$word") ;;
+    check:* | list:* | replay:*)
+      mapfile -t COMPREPLY < <(compgen -f -- "$word")
+      compopt -o filenames 2>/dev/null
+      ;;
+  esac
+}
+
+complete -F _sfcmon sfcmon
