@@ -1,5 +1,4 @@
--- How much a scan handles, at most: steps, associations and actions. A set of actions is worked on by words, and each
--- counts as at most one for each action.
+-- How much a scan handles, at most: steps, associations and actions. Actions are handled 64 at once, which counts as one.
 use Rattle.std.specs.Prelude.{ℕ, ◌+◌, ◌*◌, length}
 use Rattle.sfc_tables.specs.Tables.{Tabled}
 
