@@ -6,3 +6,4 @@ pub mod NamesAt
 pub mod Operands
 pub mod Bodies
 pub mod Blocks
+pub mod WrittenExpressions

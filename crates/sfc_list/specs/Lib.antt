@@ -14,5 +14,7 @@ pub mod Statements
 pub mod Charts
 -- the text of program types and of the configuration: a whole plant
 pub mod Listing
+-- the trees that a listing spells: literals, expressions and statements
+pub mod WrittenTerms
 -- What private clauses cite.
 pub mod Private
