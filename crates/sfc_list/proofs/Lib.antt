@@ -7,3 +7,5 @@ pub mod Operands
 pub mod Bodies
 pub mod Blocks
 pub mod WrittenExpressions
+pub mod WrittenStatements
+pub mod WrittenNames
