@@ -9,3 +9,5 @@ pub mod Blocks
 pub mod WrittenExpressions
 pub mod WrittenStatements
 pub mod WrittenNames
+pub mod WrittenLists
+pub mod WrittenVariables

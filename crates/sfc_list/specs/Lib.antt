@@ -16,5 +16,7 @@ pub mod Charts
 pub mod Listing
 -- the trees that a listing spells: literals, expressions and statements
 pub mod WrittenTerms
+-- those of variables
+pub mod WrittenVariables
 -- What private clauses cite.
 pub mod Private
