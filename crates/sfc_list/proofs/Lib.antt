@@ -11,3 +11,4 @@ pub mod WrittenStatements
 pub mod WrittenNames
 pub mod WrittenLists
 pub mod WrittenVariables
+pub mod WrittenOwn

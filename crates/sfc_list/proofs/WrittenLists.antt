@@ -38,6 +38,13 @@ map_again f g h (x ∷ xs) a =
     let rest : map g (map f xs) ≡ map h xs = map_again f g h xs (All-tail (λ x. g (f x) ≡ h x) x xs a) in
     λ i. first i ∷ rest i
 
+pub kept_again : {A B : Type 0} (f : A → B) (g : B → A) (xs : List A) → All (λ x. g (f x) ≡ x) xs → map g (map f xs) ≡ xs
+kept_again f g [] a = refl
+kept_again f g (x ∷ xs) a =
+    let first : g (f x) ≡ x = All-head (λ x. g (f x) ≡ x) x xs a in
+    let rest : map g (map f xs) ≡ xs = kept_again f g xs (All-tail (λ x. g (f x) ≡ x) x xs a) in
+    λ i. first i ∷ rest i
+
 -- ---- names
 
 -- the same names, each but for case
