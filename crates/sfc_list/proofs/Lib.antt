@@ -12,3 +12,4 @@ pub mod WrittenNames
 pub mod WrittenLists
 pub mod WrittenVariables
 pub mod WrittenOwn
+pub mod WrittenCharts

@@ -30,7 +30,7 @@ module _ (names : Names) (ignores : IgnoresCase names) (space : Space) (own : Li
   abbrev IsBackAs : VarType → Expression → Type 0
   IsBackAs t x = IsBack names ignores space own spells t x
 
-  abbrev IsBodyBack : Body → Type 0
+  abbrev pub IsBodyBack : Body → Type 0
   IsBodyBack b = checked_body names (body_tree space own b) ≡ Ok b
 
   abbrev AreBack : Branches → Type 0

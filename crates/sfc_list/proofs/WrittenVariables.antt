@@ -38,7 +38,8 @@ use Rattle.sfc_list.proofs.WrittenLists.{both_pass, kept_again, AreSame, AreAlik
 
 -- ---- one variable
 
-held : {A : Type 0} (P : A → Type 0) (other : A) (r : Checked A) → IfOk r P → typed r ≡ None → P (checked_or other r)
+-- what holds of what was checked, where it passed
+pub held : {A : Type 0} (P : A → Type 0) (other : A) (r : Checked A) → IfOk r P → typed r ≡ None → P (checked_or other r)
 held P other (Ok x) h e = h
 held P other (Err f) h e = cc
 

@@ -18,5 +18,7 @@ pub mod Listing
 pub mod WrittenTerms
 -- those of variables
 pub mod WrittenVariables
+-- those of steps, transitions and actions
+pub mod WrittenCharts
 -- What private clauses cite.
 pub mod Private
