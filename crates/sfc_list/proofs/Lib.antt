@@ -13,3 +13,4 @@ pub mod WrittenLists
 pub mod WrittenVariables
 pub mod WrittenOwn
 pub mod WrittenCharts
+pub mod WrittenPrograms

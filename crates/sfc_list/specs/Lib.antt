@@ -20,5 +20,7 @@ pub mod WrittenTerms
 pub mod WrittenVariables
 -- those of steps, transitions and actions
 pub mod WrittenCharts
+-- that of a whole plant
+pub mod Written
 -- What private clauses cite.
 pub mod Private
