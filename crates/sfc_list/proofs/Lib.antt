@@ -14,3 +14,4 @@ pub mod WrittenVariables
 pub mod WrittenOwn
 pub mod WrittenCharts
 pub mod WrittenPrograms
+pub mod WrittenPlants
