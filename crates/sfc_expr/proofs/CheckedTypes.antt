@@ -28,11 +28,12 @@ use Rattle.sfc_expr.specs.Checking.{or_wrong, or_unknown, without_part, or_range
 use Rattle.sfc_expr.proofs.Typed.{in_type_of}
 
 -- what holds of what was checked holds of what follows from it
-on_checked : {A B : Type 0} (P : A → Type 0) (Q : B → Type 0) (r : Checked A) (f : A → Checked B) → IfOk r P → ((x : A) → P x → IfOk (f x) Q) → IfOk (r >>= f) Q
+pub on_checked : {A B : Type 0} (P : A → Type 0) (Q : B → Type 0) (r : Checked A) (f : A → Checked B) → IfOk r P → ((x : A) → P x → IfOk (f x) Q) → IfOk (r >>= f) Q
 on_checked P Q (Ok x) f h k = k x h
 on_checked P Q (Err fault) f h k = tt
 
-wanted : {A : Type 0} (t u : VarType) (P : A → Type 0) (r : Checked A) → (t ≡ u → IfOk r P) → IfOk (if_wanted t u r) P
+-- where the wanted type is that one, and else there is nothing
+pub wanted : {A : Type 0} (t u : VarType) (P : A → Type 0) (r : Checked A) → (t ≡ u → IfOk r P) → IfOk (if_wanted t u r) P
 wanted types.Bool types.Bool P r k = k refl
 wanted types.Bool types.Int P r k = tt
 wanted types.Bool types.Dint P r k = tt

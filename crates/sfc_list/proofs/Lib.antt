@@ -6,3 +6,12 @@ pub mod NamesAt
 pub mod Operands
 pub mod Bodies
 pub mod Blocks
+pub mod WrittenExpressions
+pub mod WrittenStatements
+pub mod WrittenNames
+pub mod WrittenLists
+pub mod WrittenVariables
+pub mod WrittenOwn
+pub mod WrittenCharts
+pub mod WrittenPrograms
+pub mod WrittenPlants

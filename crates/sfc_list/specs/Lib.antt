@@ -14,5 +14,13 @@ pub mod Statements
 pub mod Charts
 -- the text of program types and of the configuration: a whole plant
 pub mod Listing
+-- the trees that a listing spells: literals, expressions and statements
+pub mod WrittenTerms
+-- those of variables
+pub mod WrittenVariables
+-- those of steps, transitions and actions
+pub mod WrittenCharts
+-- that of a whole plant
+pub mod Written
 -- What private clauses cite.
 pub mod Private
