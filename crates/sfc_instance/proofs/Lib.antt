@@ -2,6 +2,8 @@
 pub mod Evaluated
 -- numbers that are known at each place
 pub mod Timed
+-- times that are there already, and those that a scan reads
+pub mod Varied
 -- actions one after the other
 pub mod Acted
 -- what the actions of a scan leave in the image

@@ -9,6 +9,7 @@ use Rattle.sfc_instance.specs.declared.scanner.Scanner.{Scanner}
 use Rattle.sfc_instance.specs.declared.program.Program.{Program}
 use Rattle.sfc_instance.specs.Life.{Life, Standing, evolution_scans, control_scans, latest_instant}
 use Rattle.sfc_instance.specs.Answers.{scan_count}
+use Rattle.sfc_instance.specs.Private.Timing.{AreTimes}
 
 -- it has room for what these tables show
 pub record IsStateFor (tables : Tabled) (state : State) : Type 0 where
@@ -33,10 +34,10 @@ transition_places program = evolve.transition_places program.scanner.now.steps
 abbrev pub action_places : Program → ℕ
 action_places program = action.action_places program.scanner.now.controls
 
--- it has room for what these tables show
+-- it has room for what these tables show, and the times that no scan has to read
 pub record IsRoomFor (tables : Tabled) (room : Room) : Type 0 where
   pub conditions : length room.conditions.items ≡ length tables.sides
-  pub times : length room.times.items ≡ length tables.associations
+  pub times : AreTimes tables.associations room.times.items room.varied.items
   pub step_times : length room.step_times.items ≡ length tables.initial
   pub few : length tables.initial ≤ 1024
 

@@ -1,5 +1,7 @@
 -- What private clauses cite.
 
+-- of which associations a scan reads the time
+pub mod Timing
 -- one transition of a scan
 pub mod Evaluating
 -- what the actions of a scan do with the variables

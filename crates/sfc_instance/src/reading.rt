@@ -1,12 +1,14 @@
 //! The times of steps, and those of associations.
 
-ghost use Rattle.std.specs.Prelude.{◌≡◌, ◌≤◌, ◌≤ℤ◌, ◌^◌, pos, length, map, List};
+ghost use Rattle.std.specs.Prelude.{◌≡◌, ◌≤◌, ◌≤ℤ◌, ◌^◌, pos, length, map, List, IfOk, IfSome};
 ghost use Rattle.std.specs.List.{range_with_len};
 ghost use Rattle.sfc_expr.specs.Ticks.{Within};
+ghost use Rattle.sfc_expr.specs.Environment.{Environment};
 ghost use Rattle.sfc_tables.specs.Tables.{Tabled};
 ghost use Rattle.sfc_evolve.specs.Evolution.{Scan, rows_of, step_time};
 ghost use Rattle.sfc_evolve.specs.Agreement.{StepsAgree, step_places};
 ghost use Rattle.sfc_instance.specs.ProgramScan.{time_of as the_time};
+ghost use Rattle.sfc_instance.specs.Private.Timing.{AreTimes};
 
 use sfc_evolve::steps::Steps;
 use sfc_expr::ticks::Ticks;
@@ -14,6 +16,7 @@ use sfc_expr::variable::StepId;
 use sfc_expr::view::View;
 use sfc_tables::association::{Qualifier, Time};
 use sfc_tables::step_action::StepAction;
+use std::alloc::{AllocError, Global};
 
 /// The times of all steps at t, by number.
 pub fn read_step_times(times: &mut [i64], steps: &Steps, t: i64, ticks: &mut Ticks)
@@ -43,19 +46,52 @@ fn time_of<V: View>(qualifier: Qualifier, view: &V) -> i64
     }
 }
 
-/// The times of all associations, by number.
+// The time of an association with this qualifier, where it is the same in all scans.
+fn fixed_time(qualifier: Qualifier) -> Option<i64>
+    ensures { IfSome result (λ time. (env : Environment) → the_time env qualifier ≡ time) }
+{
+    match qualifier {
+        Qualifier::Timed(_, Time::Literal(time)) => Some(time),
+        Qualifier::Timed(_, Time::Variable(_)) => None,
+        _ => Some(0),
+    }
+}
+
+/// The numbers of the associations whose time is a variable's, and into `times` the times of all others, by number. The one
+/// error is that memory was refused.
+pub fn list_varied(
+    alloc: Global,
+    associations: &[StepAction],
+    times: &mut [i64],
+) -> Result<Vec<usize>, AllocError>
+    requires { length times.old ≡ length associations.now }
+    ensures { IfOk result (λ varied. AreTimes associations.now times.new varied.items) }
+{
+    let mut varied = Vec::new(alloc);
+    for k in 0..times.len() {
+        match fixed_time(associations[k].qualifier) {
+            Some(time) => times[k] = time,
+            None => varied.push(k)?,
+        }
+    }
+    Ok(varied)
+}
+
+/// The times of all associations, by number: those of the varied ones are read, and the others are there already.
 pub fn read_association_times<V: View>(
     times: &mut [i64],
+    varied: &[usize],
     associations: &[StepAction],
     view: &V,
     ticks: &mut Ticks,
 )
-    requires { length times.old ≡ length associations.now }
+    requires { AreTimes associations.now times.old varied.now }
     ensures times { times.new ≡ map (λ x. the_time (V.environment view.now) x.qualifier) associations.now }
-    ensures ticks { Within (length associations.now) ticks.old ticks.new }
+    ensures varied { AreTimes associations.now times.new varied.now }
+    ensures ticks { Within (length varied.now) ticks.old ticks.new }
 {
-    for k in 0..times.len() {
+    for k in varied {
         ticks.tick();
-        times[k] = time_of(associations[k].qualifier, view);
+        times[*k] = time_of(associations[*k].qualifier, view);
     }
 }

@@ -1,10 +1,12 @@
 //! Room for a scan of a program instance.
 
-/// Of each transition the condition, of each association the time, and of each step the time, by number.
+/// Of each transition the condition, of each association the time, and of each step the time, by number; and the numbers
+/// of the associations whose time a scan reads.
 #[derive(Drop)]
 pub struct Room {
     pub conditions: Vec<bool>,
     pub times: Vec<i64>,
+    pub varied: Vec<usize>,
     pub step_times: Vec<i64>,
 }
 
@@ -24,7 +26,7 @@ ghost use Rattle.sfc_instance.specs.Private.Acting.{HasActed};
 
 use crate::acting::{Acting, act};
 use crate::conditions::evaluate_all;
-use crate::reading::{read_association_times, read_step_times};
+use crate::reading::{list_varied, read_association_times, read_step_times};
 use crate::setting::Setting;
 use crate::state::State;
 use sfc_expr::fault::Fault;
@@ -57,9 +59,12 @@ impl Room {
     pub fn new(alloc: Global, tables: &Tables) -> Result<Room, AllocError>
         ensures { IfOk result (λ room. IsRoomFor tables.now room) }
     {
+        let mut times = vec![in alloc; 0; tables.associations()]?;
+        let varied = list_varied(alloc, tables.step_actions(), &mut times)?;
         Ok(Room {
             conditions: vec![in alloc; false; tables.transitions()]?,
-            times: vec![in alloc; 0; tables.associations()]?,
+            times,
+            varied,
             step_times: vec![in alloc; 0; tables.steps()]?,
         })
     }
@@ -101,7 +106,13 @@ impl Room {
         let view = image.view(setting.instance, readings, false);
         let answer = evaluate_all(setting, &state.steps, &view, &mut self.conditions, ticks);
         if answer.is_ok() {
-            read_association_times(&mut self.times, setting.tables.step_actions(), &view, ticks);
+            read_association_times(
+                &mut self.times,
+                &self.varied,
+                setting.tables.step_actions(),
+                &view,
+                ticks,
+            );
         }
         answer
     }
