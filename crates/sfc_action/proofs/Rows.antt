@@ -1,9 +1,9 @@
 -- Work from word to word, where rows tell what each action has; and rows past the last action.
-use Rattle.std.proofs.Common.{◌≡◌, ℕ, ◌+◌, ◌/◌, ◌<◌, ◌≤◌, ◌==◌, ◌||◌, ◌&&◌, not, Bool, true, false, cond, List, [], length, arith, ◌∙◌, ap, sym, refl, inl, inr, eq-eqb}
+use Rattle.std.proofs.Common.{◌≡◌, ℕ, ◌≤◌, false, ◌∙◌, ap, sym, refl, inl, inr}
 use Rattle.std.specs.Prelude.{replicate}
 use Rattle.std.specs.Int.{div_ceil}
-use Rattle.std.proofs.lemmas.Bool.{cases_eq, cases_lt, ne_eqb}
-use Rattle.std.proofs.lemmas.List.{get_or_past, get_or-replicate, length-replicate, ext_get_or}
+use Rattle.std.proofs.lemmas.Bool.{cases_lt}
+use Rattle.std.proofs.lemmas.List.{get_or-replicate, length-replicate}
 use Rattle.sfc_flags.specs.Flags.{flag}
 use Rattle.sfc_flags.specs.Words.{AreDone}
 use Rattle.sfc_flags.proofs.Wordwise.{all_done, past, same_flags}

@@ -39,9 +39,7 @@ fn is_word_faultless(inputs: &Inputs, stores: &Stores, number: usize) -> bool
     requires number { number < word_count inputs.now.any_time }
     ensures { result ≡ true → (a : ℕ) → word_of a ≡ number → fault_at inputs.now stores.now a ≡ None }
 {
-    inputs
-        .words(number)
-        .are_faultless(stores.words(number))
+    inputs.words(number).are_faultless(stores.words(number))
 }
 
 // Whether no action has a fault, by words: where it answers no, there may be one.

@@ -1,5 +1,5 @@
 -- How much a scan handles at most.
-use Rattle.std.proofs.Common.{◌≡◌, ℕ, zero, suc, ◌+◌, ◌*◌, ◌≤◌, List, [], ◌∷◌, length, refl, sym, ◌∙◌, ap, arith}
+use Rattle.std.proofs.Common.{◌≡◌, ℕ, zero, suc, ◌+◌, ◌≤◌, List, [], ◌∷◌, length, refl, sym, ◌∙◌, ap, arith}
 use Rattle.std.specs.Prelude.{map, sum_by, slice_get, Option, Some, None}
 use Rattle.std.specs.List.{range_with_len}
 use Rattle.std.proofs.lemmas.List.{length-map, length-append}
@@ -23,7 +23,7 @@ use Rattle.sfc_tables.proofs.RankOrders.{rank_order_ranks}
 use Rattle.sfc_evolve.specs.Evolution.{preceding_of}
 use Rattle.sfc_evolve.specs.Work.{links}
 use Rattle.sfc_instance.specs.ProgramScan.{condition_in, body_in}
-use Rattle.sfc_instance.specs.Work.{transition_work, condition_work, action_work, actions_work, nodes_in, scan_work, scan_limit}
+use Rattle.sfc_instance.specs.Work.{transition_work, condition_work, action_work, actions_work, scan_work, scan_limit}
 
 -- a sum over what is numbered from a on is the sum over what has the numbers
 numbered : {X Y : Type 0} (h : Option X → ℕ) (g : Y → ℕ) (c : ℕ → Y) (a : ℕ) (all : List X)
@@ -72,10 +72,10 @@ conditions chart =
     let ranked = sum_by-IsPermutation g (transitions_to (length ps)) (tables_of chart).ranked (rank_order_ranks ps).all in
     let many : length ps ≡ length ts = length-map ts (λ (t : Transition). t.priority) in
     let same : sum_by g (map id (range_with_len 0 (length ps))) ≡ sum_by g (map id (range_with_len 0 (length ts))) =
-        ap (λ n. sum_by g (map id (range_with_len 0 n))) many in
+    ap (λ n. sum_by g (map id (range_with_len 0 n))) many in
     let all = numbered share g id 0 ts (λ k.
-        let e : 0 + k ≡ k = omega arith in
-        ap (λ j. g (id j)) e ∙ ap (λ steps. 1 + length steps + nodes (condition_in (slice_get ts k))) (preceding_at ts k)) in
+    let e : 0 + k ≡ k = omega arith in
+    ap (λ j. g (id j)) e ∙ ap (λ steps. 1 + length steps + nodes (condition_in (slice_get ts k))) (preceding_at ts k)) in
     omega (arith, ranked, same, all, shares ts)
 
 -- ---- actions
@@ -102,7 +102,7 @@ acts chart =
     let declared : ℕ → Target = λ i. let id : ActionId = record { 0 = i } in Declared id in
     let n = length chart.actions in
     let all = numbered (λ o. 1 + body_nodes (body_in o)) g declared 0 chart.actions
-        (λ k. let e : 0 + k ≡ k = omega arith in ap (λ j. g (declared j)) e) in
+    (λ k. let e : 0 + k ≡ k = omega arith in ap (λ j. g (declared j)) e) in
     omega (
       arith,
       sum_by-append g (map (λ v. Boolean v) vs) (declared_actions n),

@@ -1,4 +1,4 @@
-use Rattle.std.proofs.Common.{◌≡◌, length, sym, arith, ◌∙◌}
+use Rattle.std.proofs.Common.{length, sym, arith, ◌∙◌}
 use Rattle.sfc_flags.specs.Flags.{flag}
 use Rattle.sfc_flags.proofs.Wordwise.{all_done, past, same_flags}
 use Rattle.sfc_evolve.proofs.copying.copy_flags.Goals as goal

@@ -1,5 +1,4 @@
 use Rattle.std.proofs.Common.{◌≡◌, ℕ, ◌∙◌, ap, sym, subst, length, arith, SFits, w64, to_z, of_z, List}
-use Rattle.std.specs.Vec.{with_items}
 use Rattle.std.proofs.lemmas.Int.{to_z-of_z}
 use Rattle.std.proofs.lemmas.List.{with_items_is}
 use Rattle.sfc_action.specs.declared.blocks.Block.{Block}
@@ -23,23 +22,23 @@ returns-clause-acted c =
     let was : c.deref_mut.result.now ≡ old.blocks.items = c.deref_mut.ensures.value in
     let same_length : length delays.blocks ≡ length old.blocks.items = omega (arith, ap length was) in
     let items : new.blocks.items ≡ delays.blocks =
-        ap (λ b. b.items) c.act_all.ensures.blocks ∙ with_items_is old.blocks delays.blocks (omega arith) in
+    ap (λ b. b.items) c.act_all.ensures.blocks ∙ with_items_is old.blocks delays.blocks (omega arith) in
     let elapsed : delays.scratch.elapsed ≡ gathered new.blocks.items (none n) =
-        ap (λ (x : Scratch). x.elapsed) c.step_delays.ensures.scratch ∙ (λ i. gathered (sym items i) (none (room i))) in
+    ap (λ (x : Scratch). x.elapsed) c.step_delays.ensures.scratch ∙ (λ i. gathered (sym items i) (none (room i))) in
     let inputs : delays.scratch.inputs ≡ s.inputs = ap (λ (x : Scratch). x.inputs) c.step_delays.ensures.scratch in
     let stores : delays.scratch.stores ≡ s.stores = ap (λ (x : Scratch). x.stores) c.step_delays.ensures.scratch in
     let stepped : AreStepped s.inputs s.stores s.presets.items (to_z w64 (of_z w64 c.args.t)) old.blocks.items new.blocks.items =
-        subst (λ (xs : List Block). AreStepped s.inputs s.stores s.presets.items (to_z w64 (of_z w64 c.args.t)) old.blocks.items xs)
-        (sym items)
-        (subst (λ (xs : List Block). AreStepped s.inputs s.stores s.presets.items (to_z w64 (of_z w64 c.args.t)) xs delays.blocks)
-        was c.step_delays.ensures.stepped) in
+    subst (λ (xs : List Block). AreStepped s.inputs s.stores s.presets.items (to_z w64 (of_z w64 c.args.t)) old.blocks.items xs)
+    (sym items)
+    (subst (λ (xs : List Block). AreStepped s.inputs s.stores s.presets.items (to_z w64 (of_z w64 c.args.t)) xs delays.blocks)
+    was c.step_delays.ensures.stepped) in
     let fits : SFits w64 c.args.t = c.ranges.t in
     let stepped_at : AreStepped s.inputs s.stores s.presets.items c.args.t old.blocks.items new.blocks.items =
-        simp to_z-of_z at stepped in
+    simp to_z-of_z at stepped in
     let same_blocks : length new.blocks.items ≡ length old.blocks.items = ap length items ∙ same_length in
     let rows : (a : ℕ) → kept_row new a ≡ kept_after (input_row s.inputs a) (store_row s.stores a) (timed_row (gathered new.blocks.items (none n)) a) (kept_row old a) =
-        λ a. c.act_all.ensures.rows a
-        ∙ (λ i. kept_after (input_row (inputs i) a) (store_row (stores i) a) (timed_row (elapsed i) a) (kept_row old a)) in
+    λ a. c.act_all.ensures.rows a
+    ∙ (λ i. kept_after (input_row (inputs i) a) (store_row (stores i) a) (timed_row (elapsed i) a) (kept_row old a)) in
     let sized = c.act_all.ensures.sized in
     record {
       sized = sized;

@@ -1,4 +1,4 @@
-use Rattle.std.proofs.Common.{◌≡◌, ◌∙◌, ap, length, subst, sym, List, arith}
+use Rattle.std.proofs.Common.{◌≡◌, ap, length, subst, sym, List, arith}
 use Rattle.std.specs.Vec.{with_items}
 use Rattle.std.proofs.lemmas.List.{with_items_is}
 use Rattle.sfc_action.specs.declared.blocks.Block.{Block}
@@ -14,7 +14,7 @@ returns-clause-copy c =
     let hx = c.copy_all.ensures.sized in let hy = c.requires.other in let rows = c.copy_all.ensures.rows in
     let was : c.deref_mut.result.now ≡ x.blocks.items = c.deref_mut.ensures.value in
     let items : (with_items x.blocks c.copy_blocks.new.blocks).items ≡ c.copy_blocks.new.blocks =
-        with_items_is x.blocks c.copy_blocks.new.blocks (omega (arith, ap length was)) in
+    with_items_is x.blocks c.copy_blocks.new.blocks (omega (arith, ap length was)) in
     let from : c.deref.result.now ≡ y.blocks.items = c.deref.ensures.value in
     record {
       pulse = same_flags n x.pulse y.pulse hx.pulse hy.pulse (λ a. ap (λ r. r.pulse) (rows a));

@@ -21,7 +21,7 @@ invariant_of-self c =
     let all = length_of n v.items in
     let made : c.put_word.new.words ≡ slice_set v.items k w = c.put_word.ensures ∙ ap (λ ws. slice_set ws k w) c.deref_mut.ensures.value in
     let e : (with_items v c.put_word.new.words).items ≡ slice_set v.items k w =
-        with_items_is v c.put_word.new.words (omega (arith, ap length made, length-set v.items k w)) ∙ made in
+    with_items_is v c.put_word.new.words (omega (arith, ap length made, length-set v.items k w)) ∙ made in
     subst (IsTable n) (sym e) (word_put n v.items k w c.self.invariant (omega (arith, all, ap length c.self.view_is, c.self.invariant.sized))
     (λ i at le. c.requires.past i at (omega (arith, all, ap length c.self.view_is))))
 
@@ -36,7 +36,7 @@ returns-clause-flags c place =
     let all = length_of n v.items in
     let made : c.put_word.new.words ≡ slice_set v.items k w = c.put_word.ensures ∙ ap (λ ws. slice_set ws k w) c.deref_mut.ensures.value in
     let e : (with_items v c.put_word.new.words).items ≡ slice_set v.items k w =
-        with_items_is v c.put_word.new.words (omega (arith, ap length made, length-set v.items k w)) ∙ made in
+    with_items_is v c.put_word.new.words (omega (arith, ap length made, length-set v.items k w)) ∙ made in
     ap (λ ws. flag (flags_of n ws) place) e
     ∙ put_shows n v.items k w c.self.invariant (omega (arith, all, ap length c.self.view_is, c.self.invariant.sized))
     (λ i at le. c.requires.past i at (omega (arith, all, ap length c.self.view_is))) place

@@ -1,8 +1,7 @@
-use Rattle.std.proofs.Common.{◌≡◌, ◌∙◌, ◌+◌, ◌<◌, ◌≤◌, [], ◌∷◌, ℕ, Option, Some, None, ap, arith, length, refl, sym, subst}
+use Rattle.std.proofs.Common.{◌≡◌, ◌∙◌, ◌<◌, ℕ, Option, Some, None, ap, arith, length, sym, subst}
 use Rattle.std.specs.Option.{option_map}
-use Rattle.sfc_chart.specs.Plants.{PlantData}
 use Rattle.sfc_image.specs.declared.slot.Locals.{Locals}
-use Rattle.sfc_image.specs.Changes.{Told, with_change, settled, trying}
+use Rattle.sfc_image.specs.Changes.{Told}
 use Rattle.sfc_image.specs.Environments.{number_among, number_of}
 use Rattle.sfc_image.specs.Bodies.{changes_in, stored_to, with_changes}
 use Rattle.sfc_image.specs.Private.Keeping.{locals_at, locals_of}
