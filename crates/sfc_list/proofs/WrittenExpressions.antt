@@ -1,5 +1,5 @@
 -- What a listing spells of an expression is checked as that expression again.
-use Rattle.std.proofs.Common.{◌≡◌, ◌&&◌, ℕ, List, Bool, true, false, cond, Option, Some, None, IfSome, ℤ, pos, Result, Ok, Err, IfOk, refl, sym, ap, subst, ◌∙◌}
+use Rattle.std.proofs.Common.{◌≡◌, ◌&&◌, ℕ, List, Bool, true, false, cond, Option, Some, None, IfSome, ℤ, pos, Ok, Err, IfOk, refl, ap, subst, ◌∙◌}
 use Rattle.std.specs.Ordering.{int_eq}
 use Rattle.std.specs.Prelude.{codes}
 use Rattle.sfc_tokens.specs.Case.{same_word}
@@ -21,7 +21,7 @@ use Rattle.sfc_expr.specs.declared.referent.Referent.TheVariants as referent
 use Rattle.sfc_expr.specs.declared.variable.Variable.{Variable}
 use Rattle.sfc_expr.specs.declared.variable.StepId.{StepId}
 use Rattle.sfc_expr.specs.Values.{is_in_range, of_number}
-use Rattle.sfc_expr.specs.Types.{integer_type, sum_type}
+use Rattle.sfc_expr.specs.Types.{integer_type}
 use Rattle.sfc_expr.specs.Trees.{Expression, Literal, Not, Minus, Binary}
 use Rattle.sfc_expr.specs.Scopes.{Names, IgnoresCase, found, of_variable, of_step, referent_of, type_of_referent, reading_of}
 use Rattle.sfc_expr.specs.TypeFaults.{Checked, LiteralRange, ◌>>=◌}
@@ -48,9 +48,6 @@ if_same types.Time r = refl
 pub record IsLiteralOf (t : VarType) (x : Value) : Type 0 where
   pub checks : checked_literal (literal_tree x) t ≡ Ok x
   pub natural : literal_type (literal_tree x) ≡ Some t
-
-abbrev Back : VarType → Value → Type 0
-Back t x = IsLiteralOf t x
 
 in_range : (n : ℤ) (fits : Bool) (t : VarType) → is_in_range t n ≡ fits
     → ((fitting t n ≡ Ok (of_number t n)) → IsLiteralOf t (of_number t n))

@@ -12,7 +12,7 @@ use Rattle.sfc_expr.specs.declared.variable.Variable.TheVariants.{Global, Local}
 use Rattle.sfc_variables.specs.declared.variable.Variable.{Variable}
 use Rattle.sfc_variables.specs.Finding.{names_of, with_type, typed_at, or_else, variable_place, global_named, local_named, variable_named}
 use Rattle.sfc_program.specs.Names.{Space, is_name_of, names_in}
-use Rattle.sfc_list.specs.Names.{name_at, variable_name, step_name}
+use Rattle.sfc_list.specs.Names.{name_at, variable_name}
 use Rattle.sfc_list.proofs.WrittenExpressions.{Spells}
 
 -- ---- words that are one but for case

@@ -1,5 +1,5 @@
 -- What a listing spells of a program type's variables declares them again: the locals, and then the globals that it names.
-use Rattle.std.proofs.Common.{◌≡◌, ℕ, Bool, true, false, not, ◌||◌, List, [], ◌∷◌, ◌++◌, map, flat_map, filter_map, All, Option, None, Some, slice_get, unwrap_or, Result, Ok, Err, IfOk, refl, sym, ap, subst, ◌∙◌}
+use Rattle.std.proofs.Common.{◌≡◌, ℕ, Bool, true, false, not, ◌||◌, List, [], ◌∷◌, ◌++◌, map, filter_map, All, Option, None, Some, slice_get, unwrap_or, refl, sym, ap, ◌∙◌}
 use Rattle.std.proofs.lemmas.List.{append-nil, map-append}
 use Rattle.std.proofs.lemmas.Grind.{flat_map-append}
 use Rattle.std.proofs.lemmas.List.Elements.{All-nil, All-cons, All-head, All-tail, All-map, All-append, All-weaker, filter_map-append}
@@ -7,34 +7,25 @@ use Rattle.sfc_tokens.specs.Case.{same_word}
 use Rattle.sfc_tokens.proofs.SameWords.{same_word_equiv}
 use Rattle.sfc_tokens.specs.declared.var_type.VarType.{VarType}
 use Rattle.sfc_tokens.specs.declared.var_type.VarType.TheVariants as types
-use Rattle.sfc_text.specs.declared.tree.Declaration.{Declaration}
-use Rattle.sfc_text.specs.declared.tree.External.{External}
-use Rattle.sfc_text.specs.declared.tree.Literal.{Literal}
 use Rattle.sfc_text.specs.declared.tree.VariableBlock.{VariableBlock}
 use Rattle.sfc_text.specs.declared.tree.VariableBlock.TheVariants as block
-use Rattle.sfc_expr.specs.declared.value.Value.{Value}
 use Rattle.sfc_expr.specs.declared.variable.GlobalId.{GlobalId}
 use Rattle.sfc_expr.specs.declared.variable.Variable.TheVariants.{Global}
-use Rattle.sfc_expr.specs.Values.{default_value}
-use Rattle.sfc_expr.specs.TypeFaults.{Checked}
-use Rattle.sfc_expr.specs.Checking.{checked_literal, is_same_type}
-use Rattle.sfc_expr.specs.NameLists.{has, place_of}
+use Rattle.sfc_expr.specs.Checking.{is_same_type}
+use Rattle.sfc_expr.specs.NameLists.{has}
 use Rattle.sfc_variables.specs.declared.load_error.LoadError.TheVariants as fault
 use Rattle.sfc_variables.specs.declared.variable.Variable.{Variable}
-use Rattle.sfc_variables.specs.Checks.{Check, ◌then◌, when, in_turn, typed, checked_or}
-use Rattle.sfc_variables.specs.Places.{fits_location}
-use Rattle.sfc_variables.specs.Declarations.{Declared, declared_as, declared_by, declared_in, declared_check, declared_name, initial_check, initial_value, variable_of, globals_check, globals_of}
-use Rattle.sfc_variables.specs.Finding.{names_of, variable_place, typed_at, with_type, global_named}
+use Rattle.sfc_variables.specs.Checks.{Check, ◌then◌, when, in_turn}
+use Rattle.sfc_variables.specs.Declarations.{Declared, declared_check, declared_name, variable_of}
+use Rattle.sfc_variables.specs.Finding.{names_of, variable_place, typed_at}
 use Rattle.sfc_variables.specs.Own.{Own, ALocal, AnExternal, own_by, own_in, own_name, own_names, external_check, kind_check, own_check, variables_check, local_in, external_in, locals_of, externals_of, global_id}
 use Rattle.sfc_program.specs.Loading.{name_check, distinct_check}
 use Rattle.sfc_program.proofs.Soundness.{then_first, then_second, when_none}
 use Rattle.std.proofs.lemmas.Simd.{map-map}
 use Rattle.sfc_list.specs.Names.{name_at}
-use Rattle.sfc_list.specs.WrittenTerms.{literal_tree}
 use Rattle.sfc_list.specs.WrittenVariables.{declaration_tree, type_of_global, external_tree, block_tree, variable_trees}
-use Rattle.sfc_list.proofs.WrittenExpressions.{IsLiteralOf, literal_back}
 use Rattle.sfc_list.proofs.WrittenNames.{turned, spelled_at, place_again}
-use Rattle.sfc_list.proofs.WrittenLists.{both_pass, kept_again, AreSame, AreAlike, same_refl, same_more, same_alike, alike_more, has_both, distinct_same, names_pass, kinds_pass, named_pass}
+use Rattle.sfc_list.proofs.WrittenLists.{both_pass, kept_again, AreSame, AreAlike, same_refl, same_more, same_alike, has_both, distinct_same, names_pass, kinds_pass, named_pass}
 use Rattle.sfc_list.proofs.WrittenVariables.{declared_again, IsDeclaredAgain, all_back, declared_trees, built_again, checked_again}
 
 -- ---- the externals
@@ -189,9 +180,10 @@ externals_same : (globals : List Variable) (xs : List Own) → All (Passes globa
     → AreSame (filter_map external_in xs) (map (global_name globals) (map (global_id globals) (filter_map external_in xs)))
 externals_same globals [] h = tt
 externals_same globals (ALocal d ∷ xs) h = externals_same globals xs (All-tail (Passes globals) (ALocal d) xs h)
-externals_same globals (AnExternal name t ∷ xs) h =
-    (same_at globals name t (variable_place globals name) refl (All-head (Passes globals) (AnExternal name t) xs h),
-    externals_same globals xs (All-tail (Passes globals) (AnExternal name t) xs h))
+externals_same globals (AnExternal name t ∷ xs) h = (
+  same_at globals name t (variable_place globals name) refl (All-head (Passes globals) (AnExternal name t) xs h),
+  externals_same globals xs (All-tail (Passes globals) (AnExternal name t) xs h),
+)
 
 -- ---- what the blocks say
 

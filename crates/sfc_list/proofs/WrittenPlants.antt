@@ -1,5 +1,5 @@
 -- What a listing spells of a plant is loaded as that plant again.
-use Rattle.std.proofs.Common.{◌≡◌, ℕ, ℤ, pos, int_lt, nat_lt, Bool, true, false, List, [], ◌∷◌, length, map, All, Option, None, Some, is_none, unwrap_or, refl, sym, ap, subst, ◌∙◌}
+use Rattle.std.proofs.Common.{◌≡◌, ℕ, nat_lt, false, List, [], length, map, All, Option, None, Some, is_none, unwrap_or, refl, sym, ap, subst, ◌∙◌}
 use Rattle.std.specs.Option.{option_map}
 use Rattle.std.proofs.lemmas.List.{length-map}
 use Rattle.std.proofs.lemmas.List.Elements.{All-map, All-weaker}
@@ -14,9 +14,9 @@ use Rattle.sfc_expr.specs.NameLists.{place_of}
 use Rattle.sfc_variables.specs.declared.load_error.LoadError.TheVariants as fault
 use Rattle.sfc_variables.specs.declared.load_error.Limit.TheVariants as limit
 use Rattle.sfc_variables.specs.declared.variable.Variable.{Variable}
-use Rattle.sfc_variables.specs.Checks.{Check, ◌then◌, when, in_turn}
+use Rattle.sfc_variables.specs.Checks.{Check, ◌then◌, when}
 use Rattle.sfc_variables.specs.Declarations.{globals_check, globals_of}
-use Rattle.sfc_variables.specs.Finding.{names_of, typed_at, variable_place, global_named}
+use Rattle.sfc_variables.specs.Finding.{names_of, typed_at, variable_place}
 use Rattle.sfc_variables.specs.Own.{global_id}
 use Rattle.sfc_program.specs.declared.program_type.ProgramType.{ProgramType}
 use Rattle.sfc_program.specs.Built.{program_of}
@@ -27,7 +27,7 @@ use Rattle.sfc_chart.specs.declared.ids.TaskId.{TaskId}
 use Rattle.sfc_chart.specs.declared.instance.Instance.{Instance}
 use Rattle.sfc_chart.specs.Plants.{PlantData}
 use Rattle.sfc_chart.specs.Image.{image_variables}
-use Rattle.sfc_chart.specs.Loading.{single_check, interval_check, task_name, tasks_check, program_name, programs_check, instance_name, task_number, instance_check, instances_check, image_check, task_names, program_names}
+use Rattle.sfc_chart.specs.Loading.{single_check, interval_check, task_name, tasks_check, program_name, programs_check, instance_name, task_number, instances_check, image_check, task_names, program_names}
 use Rattle.sfc_chart.specs.Built.{task_of, instance_of, source_check, plant_of}
 use Rattle.sfc_list.specs.Names.{name_at}
 use Rattle.sfc_list.specs.WrittenVariables.{declaration_tree}
@@ -48,9 +48,6 @@ place_kept name names e = at (place_of name names) refl e where
 -- ---- tasks
 
 module _ (globals : List Variable) where
-  single_variable : Option ℕ → Check
-  single_variable place = variable_check types.Bool fault.Unknown fault.NotBool (typed_at (λ i. Global (record { 0 = i })) globals place)
-
   pub record IsSingleBack (single : Option GlobalId) : Type 0 where
     pub checks : single_check globals (single_tree globals single) ≡ None
     pub built : option_map (global_id globals) (single_tree globals single) ≡ single
@@ -290,5 +287,5 @@ module _ (s : SourceTree) where
       }
 
 -- the same of the plant that a tree is
-pub written_loads : (s : SourceTree) (plant : PlantData) → source_check s ≡ None → plant ≡ plant_of s → LoadsAgain plant
-written_loads s plant e built = subst LoadsAgain (sym built) (loads_again s e)
+pub written_loads : (s : SourceTree) (loaded : PlantData) → source_check s ≡ None → loaded ≡ plant_of s → LoadsAgain loaded
+written_loads s loaded e built = subst LoadsAgain (sym built) (loads_again s e)

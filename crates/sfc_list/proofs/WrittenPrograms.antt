@@ -1,22 +1,22 @@
 -- What a listing spells of a program type is loaded as that program type again.
-use Rattle.std.proofs.Common.{◌≡◌, ℕ, ◌+◌, nat_lt, Bool, true, false, not, ◌||◌, List, [], ◌∷◌, ◌++◌, length, map, filter_map, fold, All, Option, None, Some, refl, sym, ap, subst, ◌∙◌}
+use Rattle.std.proofs.Common.{◌≡◌, ℕ, ◌+◌, nat_lt, Bool, not, ◌||◌, List, [], ◌∷◌, ◌++◌, length, map, filter_map, fold, All, Option, None, Some, refl, sym, ap, ◌∙◌}
 use Rattle.std.specs.List.{list_any, cons_option}
 use Rattle.std.proofs.lemmas.List.{append-nil, length-map}
 use Rattle.std.proofs.lemmas.List.Elements.{All-map, All-weaker, filter_map-append}
 use Rattle.std.proofs.lemmas.Simd.{map-map}
 use Rattle.sfc_text.specs.declared.tree.Step as text_step
-use Rattle.sfc_text.specs.Trees.{ElementTree, AStep, ATransition, AnAction, TransitionTree, ActionTree, ProgramTree}
+use Rattle.sfc_text.specs.Trees.{ElementTree, AStep, ATransition, AnAction, ProgramTree}
 use Rattle.sfc_variables.specs.declared.load_error.LoadError.TheVariants as fault
 use Rattle.sfc_variables.specs.declared.load_error.Limit.TheVariants as limit
 use Rattle.sfc_variables.specs.declared.variable.Variable.{Variable}
-use Rattle.sfc_variables.specs.Checks.{Check, ◌then◌, when, each}
+use Rattle.sfc_variables.specs.Checks.{◌then◌, when, each}
 use Rattle.sfc_variables.specs.Own.{variables_check, own_names}
 use Rattle.sfc_tables.specs.declared.action.Action.{Action}
 use Rattle.sfc_tables.specs.declared.chart.Step.{Step}
 use Rattle.sfc_tables.specs.declared.chart.Transition.{Transition}
 use Rattle.sfc_tables.specs.declared.chart.Chart.{Chart}
 use Rattle.sfc_program.specs.declared.program_type.ProgramType.{ProgramType}
-use Rattle.sfc_program.specs.Elements.{step_in, transition_in, action_in, transition_name_in, steps_of, transitions_of, actions_of, step_names, action_names, transition_names, association_count}
+use Rattle.sfc_program.specs.Elements.{step_in, transition_in, action_in, steps_of, transitions_of, actions_of, step_names, action_names, transition_names, association_count}
 use Rattle.sfc_program.specs.Names.{Space, space_in}
 use Rattle.sfc_program.specs.Loading.{limits_check, distinct_check, element_names, initial_check, step_check, transition_check, action_check, space_of, chart_check, program_check}
 use Rattle.sfc_program.specs.Built.{association_of, step_of, transition_of, action_of, chart_of, program_of}

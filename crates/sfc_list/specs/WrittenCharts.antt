@@ -1,5 +1,5 @@
 -- The trees that a listing spells of steps (2.6.2), transitions (2.6.3) and actions (2.6.4).
-use Rattle.std.specs.Prelude.{ℕ, List, [], ◌++◌, map}
+use Rattle.std.specs.Prelude.{List, [], ◌++◌, map}
 use Rattle.sfc_text.specs.declared.tree.Association as text_association
 use Rattle.sfc_text.specs.declared.tree.AssociationTime as text_time
 use Rattle.sfc_text.specs.declared.tree.AssociationTime.TheVariants as written_time
