@@ -15,3 +15,4 @@ pub mod WrittenOwn
 pub mod WrittenCharts
 pub mod WrittenPrograms
 pub mod WrittenPlants
+pub mod WrittenShapes
