@@ -16,3 +16,4 @@ pub mod WrittenCharts
 pub mod WrittenPrograms
 pub mod WrittenPlants
 pub mod WrittenShapes
+pub mod WrittenLimits

@@ -70,7 +70,7 @@ module _ (space : Space) (chart : Chart) where
       ++ filtered_none step_in a_transition (λ t. refl) chart.transitions i ++ filtered_none step_in an_action (λ a. refl) chart.actions i)
       ∙ append-nil (map (step_tree space) chart.steps ++ []) ∙ append-nil (map (step_tree space) chart.steps)
 
-  transitions_in : transitions_of (element_trees space chart) ≡ map (transition_tree space) chart.transitions
+  pub transitions_in : transitions_of (element_trees space chart) ≡ map (transition_tree space) chart.transitions
   transitions_in =
       in_three transition_in (map a_step chart.steps) (map a_transition chart.transitions) (map an_action chart.actions)
       ∙ (λ i. filtered_none transition_in a_step (λ s. refl) chart.steps i
@@ -78,7 +78,7 @@ module _ (space : Space) (chart : Chart) where
       ++ filtered_none transition_in an_action (λ a. refl) chart.actions i)
       ∙ append-nil (map (transition_tree space) chart.transitions)
 
-  actions_in : actions_of (element_trees space chart) ≡ map (action_tree space) chart.actions
+  pub actions_in : actions_of (element_trees space chart) ≡ map (action_tree space) chart.actions
   actions_in =
       in_three action_in (map a_step chart.steps) (map a_transition chart.transitions) (map an_action chart.actions)
       ∙ (λ i. filtered_none action_in a_step (λ s. refl) chart.steps i
@@ -120,7 +120,7 @@ counted space steps =
 -- ---- a chart
 
 -- the elements that are spelled of a chart that was built of these
-abbrev elements_again : Space → List ElementTree → List ElementTree
+abbrev pub elements_again : Space → List ElementTree → List ElementTree
 elements_again space elements = element_trees space (chart_of space elements)
 
 module _ (space : Space) (elements : List ElementTree) where
@@ -224,7 +224,7 @@ module _ (globals : List Variable) (p : ProgramTree) where
   space = space_of globals p
 
   -- the same by its parts
-  abbrev tree_again : ProgramTree
+  abbrev pub tree_again : ProgramTree
   tree_again = record { name = p.name; variables = blocks_again globals p.variables; elements = elements_again space p.elements }
 
   space_kept : space_in globals (program_of globals p) ≡ space
@@ -235,7 +235,7 @@ module _ (globals : List Variable) (p : ProgramTree) where
     actions = map-map (λ a. a.name) (action_of space) (actions_of p.elements) i;
   }
 
-  tree_kept : program_tree globals (program_of globals p) ≡ tree_again
+  pub tree_kept : program_tree globals (program_of globals p) ≡ tree_again
   tree_kept = λ i. record {
     name = p.name;
     variables = blocks_again globals p.variables;
