@@ -1,7 +1,6 @@
 -- What a listing spells of a plant has the shapes of the conditions and bodies that were loaded, so it is within the same limits.
-use Rattle.std.proofs.Common.{◌≡◌, ℕ, false, List, [], ◌∷◌, map, All, Option, Some, None, Result, Ok, Err, IfOk, refl, sym, ap, ◌∙◌}
-use Rattle.std.specs.Prelude.{⊤}
-use Rattle.std.proofs.lemmas.List.Elements.{All-nil, All-cons, All-head, All-tail, All-map, All-weaker}
+use Rattle.std.proofs.Common.{◌≡◌, ℕ, false, List, [], ◌∷◌, map, All, Option, Some, None, ap, ◌∙◌}
+use Rattle.std.proofs.lemmas.List.Elements.{All-nil, All-cons, All-head, All-tail, All-weaker}
 use Rattle.std.proofs.lemmas.Simd.{map-map}
 use Rattle.sfc_tokens.specs.declared.var_type.VarType.TheVariants as types
 use Rattle.sfc_text.specs.declared.statement.Statement.{Statement, Row_of-Branch, end_of-Branch, more_of-Branch}
@@ -12,10 +11,10 @@ use Rattle.sfc_text.specs.declared.tree.Element.{Element}
 use Rattle.sfc_text.specs.declared.tree.Element.TheVariants as element
 use Rattle.sfc_text.specs.Trees.{Tree, Block, TransitionTree, ActionTree, ElementTree, ProgramTree, SourceTree, before, row_branches, beside, row_statements, block_of, element_of}
 use Rattle.sfc_expr.specs.declared.value.Value.TheVariants as value
-use Rattle.sfc_expr.specs.Trees.{Expression, Literal, Nothing}
+use Rattle.sfc_expr.specs.Trees.{Literal, Nothing}
 use Rattle.sfc_expr.specs.Checking.{checked, checked_body}
 use Rattle.sfc_variables.specs.declared.variable.Variable.{Variable}
-use Rattle.sfc_variables.specs.Checks.{◌then◌, each}
+use Rattle.sfc_variables.specs.Checks.{each}
 use Rattle.sfc_variables.specs.Declarations.{globals_check, globals_of}
 use Rattle.sfc_variables.specs.Own.{variables_check, own_names}
 use Rattle.sfc_program.specs.Elements.{steps_of, transitions_of, actions_of}
@@ -24,13 +23,13 @@ use Rattle.sfc_program.specs.Loading.{limits_check, distinct_check, element_name
 use Rattle.sfc_program.specs.Built.{transition_of, action_of, chart_of, program_of}
 use Rattle.sfc_program.proofs.Soundness.{then_first, then_second}
 use Rattle.sfc_chart.specs.Loading.{tasks_check, program_name, programs_check}
-use Rattle.sfc_chart.specs.Built.{source_check, plant_of}
+use Rattle.sfc_chart.specs.Built.{source_check}
 use Rattle.sfc_list.specs.WrittenCharts.{transition_tree, action_tree}
-use Rattle.sfc_list.specs.Written.{program_tree, written}
+use Rattle.sfc_list.specs.Written.{program_tree}
 use Rattle.sfc_list.proofs.WrittenShapes.{shape, block_shape, HasShape, shape_kept, AreStatements, AreBranches, HasBodyShape, body_shape_kept}
 use Rattle.sfc_list.proofs.WrittenLists.{each_all, map_again, kinds_pass}
 use Rattle.sfc_list.proofs.WrittenVariables.{held}
-use Rattle.sfc_list.proofs.WrittenPrograms.{transitions_in, actions_in, elements_again, tree_again, tree_kept}
+use Rattle.sfc_list.proofs.WrittenPrograms.{transitions_in, actions_in, elements_again, tree_kept}
 
 -- ---- the trees that a text is read as
 
@@ -82,7 +81,8 @@ module _ (space : Space) where
       → shape (transition_tree space (transition_of space t)).condition ≡ shape t.condition
   condition_kept t e =
       let after = then_second (side_check space.steps t.preceding) _ e in
-      held (HasShape (names_in space None) space [] t.condition) (Literal (value.Bool false)) (checked (names_in space None) t.condition types.Bool)
+      held (HasShape (names_in space None) space [] t.condition) (Literal (value.Bool false))
+      (checked (names_in space None) t.condition types.Bool)
       (shape_kept (names_in space None) space [] t.condition types.Bool) (then_second (side_check space.steps t.following) _ after)
 
   body_kept : (a : ActionTree) → AreStatements a.body → action_check space a ≡ None
@@ -92,13 +92,16 @@ module _ (space : Space) where
       held (HasBodyShape (names_in space own) space a.name a.body) Nothing (checked_body (names_in space own) a.body)
       (body_shape_kept (names_in space own) space a.name a.body is) e
 
-  conditions_kept : (elements : List ElementTree) → chart_check space elements ≡ None → conditions (elements_again space elements) ≡ conditions elements
+  conditions_kept : (elements : List ElementTree) → chart_check space elements ≡ None
+      → conditions (elements_again space elements) ≡ conditions elements
   conditions_kept elements e =
       let after = then_second (each (step_check space) (steps_of elements)) _ e in
-      let h = each_all (transition_check space) (transitions_of elements) (then_first (each (transition_check space) (transitions_of elements)) _ after) in
+      let h = each_all (transition_check space) (transitions_of elements)
+      (then_first (each (transition_check space) (transitions_of elements)) _ after) in
       ap (map (λ t. shape t.condition)) (transitions_in space (chart_of space elements)
       ∙ map-map (transition_tree space) (transition_of space) (transitions_of elements))
-      ∙ map_again (λ t. transition_tree space (transition_of space t)) (λ t. shape t.condition) (λ t. shape t.condition) (transitions_of elements)
+      ∙ map_again (λ t. transition_tree space (transition_of space t)) (λ t. shape t.condition) (λ t. shape t.condition)
+      (transitions_of elements)
       (All-weaker (λ t. transition_check space t ≡ None)
       (λ t. shape (transition_tree space (transition_of space t)).condition ≡ shape t.condition) condition_kept (transitions_of elements) h)
 
@@ -110,10 +113,12 @@ module _ (space : Space) where
       (body_kept a (All-head (λ a. AreStatements a.body) a actions is) (All-head (λ a. action_check space a ≡ None) a actions h))
       (both_hold actions (All-tail (λ a. AreStatements a.body) a actions is) (All-tail (λ a. action_check space a ≡ None) a actions h))
 
-  bodies_kept : (elements : List ElementTree) → AreBodies elements → chart_check space elements ≡ None → bodies (elements_again space elements) ≡ bodies elements
+  bodies_kept : (elements : List ElementTree) → AreBodies elements → chart_check space elements ≡ None
+      → bodies (elements_again space elements) ≡ bodies elements
   bodies_kept elements is e =
       let after = then_second (each (step_check space) (steps_of elements)) _ e in
-      let h = each_all (action_check space) (actions_of elements) (then_second (each (transition_check space) (transitions_of elements)) _ after) in
+      let h = each_all (action_check space) (actions_of elements)
+      (then_second (each (transition_check space) (transitions_of elements)) _ after) in
       ap (map (λ a. block_shape a.body)) (actions_in space (chart_of space elements)
       ∙ map-map (action_tree space) (action_of space) (actions_of elements))
       ∙ map_again (λ a. action_tree space (action_of space a)) (λ a. block_shape a.body) (λ a. block_shape a.body) (actions_of elements)
@@ -134,7 +139,8 @@ program_shapes globals p e =
     let after = then_second (distinct_check (own_names p.variables) (element_names p.elements)) _ declared in
     let c = then_second (initial_check p.elements) _ after in
     record {
-      conditions = ap (λ (q : ProgramTree). conditions q.elements) (tree_kept globals p) ∙ conditions_kept (space_of globals p) p.elements c;
+      conditions = ap (λ (q : ProgramTree). conditions q.elements) (tree_kept globals p)
+          ∙ conditions_kept (space_of globals p) p.elements c;
       bodies = λ is. ap (λ (q : ProgramTree). bodies q.elements) (tree_kept globals p) ∙ bodies_kept (space_of globals p) p.elements is c;
     }
 

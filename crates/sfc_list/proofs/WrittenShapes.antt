@@ -1,6 +1,6 @@
 -- What a listing spells of expressions and statements has their shape: the same operators and statements, nested in the same
 -- way. So it has as many operators, and lies as deep.
-use Rattle.std.proofs.Common.{◌≡◌, ℕ, ◌+◌, ◌≤◌, List, [], ◌∷◌, map, All, false, Option, Some, None, Result, Ok, Err, IfOk, refl, sym, ap, subst, ◌∙◌}
+use Rattle.std.proofs.Common.{◌≡◌, ℕ, ◌+◌, List, [], false, Option, Some, None, Ok, Err, IfOk, refl, ap}
 use Rattle.std.specs.Prelude.{⊤}
 use Rattle.sfc_tokens.specs.declared.var_type.VarType.{VarType}
 use Rattle.sfc_tokens.specs.declared.var_type.VarType.TheVariants as types
@@ -9,18 +9,16 @@ use Rattle.sfc_text.specs.declared.expression.Operator as text_operator
 use Rattle.sfc_text.specs.declared.expression.Operator.TheVariants as written
 use Rattle.sfc_text.specs.declared.expression.Variable as text_variable
 use Rattle.sfc_text.specs.Trees as text
-use Rattle.sfc_expr.specs.declared.value.Value.{Value}
 use Rattle.sfc_expr.specs.declared.operator.Family.{Family}
 use Rattle.sfc_expr.specs.declared.referent.Referent.{Referent}
 use Rattle.sfc_expr.specs.declared.referent.Referent.TheVariants as referent
-use Rattle.sfc_expr.specs.declared.variable.Variable.{Variable}
 use Rattle.sfc_expr.specs.Types.{integer_type}
-use Rattle.sfc_expr.specs.Trees.{Expression, Literal, Not, Minus, Binary, Body, Nothing, Assign, If, Branches, NoBranch, When, Otherwise}
+use Rattle.sfc_expr.specs.Trees.{Expression, Body, Branches}
 use Rattle.sfc_expr.specs.Scopes.{Names, referent_of, type_of_referent, reading_of}
 use Rattle.sfc_expr.specs.TypeFaults.{Checked, ◌>>=◌}
 use Rattle.sfc_expr.specs.Families.{operator_of, family_of}
 use Rattle.sfc_expr.specs.Naturals.{natural}
-use Rattle.sfc_expr.specs.Checking.{or_wrong, if_wanted, checked_literal, checked_name, operand_type, checked, checked_target, checked_body, checked_branches}
+use Rattle.sfc_expr.specs.Checking.{or_wrong, checked_literal, checked_name, operand_type, checked, checked_target, checked_body, checked_branches}
 use Rattle.sfc_expr.proofs.CheckedTypes.{on_checked, wanted}
 use Rattle.sfc_program.specs.Names.{Space}
 use Rattle.sfc_list.specs.WrittenTerms.{operator_tree, expression_tree, body_tree, branches_tree}
