@@ -15,3 +15,5 @@ pub mod WrittenOwn
 pub mod WrittenCharts
 pub mod WrittenPrograms
 pub mod WrittenPlants
+pub mod WrittenShapes
+pub mod WrittenLimits

@@ -50,7 +50,8 @@ module _ (space : Space) where
   named name = variable_named space.locals space.globals name
 
   -- what is spelled of the variable that was found finds it
-  variable_kept : (name : List ℕ) (v : expr.Variable × VarType) → named name ≡ Some v → named (variable_name space (variable_in space name)) ≡ named name
+  variable_kept : (name : List ℕ) (v : expr.Variable × VarType) → named name ≡ Some v
+      → named (variable_name space (variable_in space name)) ≡ named name
   variable_kept name v e =
       ap (λ o. named (variable_name space (found o))) e
       ∙ variable_again (names_in space None) (ignoring_case None space) space [] (spells space None) name v e ∙ sym e
@@ -70,19 +71,23 @@ module _ (space : Space) where
     pub checks : target_check space (target_text space t) ≡ None
     pub built : target_of space (target_text space t) ≡ t
 
-  target_at : (name : List ℕ) (place : Option ℕ) (o : Option (expr.Variable × VarType)) → place_of name space.actions ≡ place → named name ≡ o
+  target_at : (name : List ℕ) (place : Option ℕ) (o : Option (expr.Variable × VarType)) → place_of name space.actions ≡ place
+      → named name ≡ o
       → unless_found place (variable_check types.Bool fault.UnknownAction fault.NotBool o) ≡ None → IsTargetBack (target_by place (found o))
   target_at name (Some i) o is at e =
       let again : place_of (name_at space.actions i) space.actions ≡ Some i = place_again name space.actions i is in
       record {
-        checks = ap (λ p. unless_found p (variable_check types.Bool fault.UnknownAction fault.NotBool (named (name_at space.actions i)))) again;
+        checks = ap (λ p. unless_found p (variable_check types.Bool fault.UnknownAction fault.NotBool (named (name_at space.actions i))))
+            again;
         built = ap (λ p. target_by p (variable_in space (name_at space.actions i))) again;
       }
   target_at name None (Some v) is at e =
       let spelled : List ℕ = variable_name space v.0 in
       let same : same_word spelled name ≡ true = variable_spelled space name v at in
-      let place : place_of spelled space.actions ≡ None = ap (λ (p : List ℕ → Bool). position p space.actions) (alike spelled name same) ∙ is in
-      let again : named spelled ≡ Some v = variable_again (names_in space None) (ignoring_case None space) space [] (spells space None) name v at in
+      let place : place_of spelled space.actions ≡ None = ap (λ (p : List ℕ → Bool). position p space.actions) (alike spelled name same)
+      ∙ is in
+      let again : named spelled ≡ Some v =
+      variable_again (names_in space None) (ignoring_case None space) space [] (spells space None) name v at in
       record {
         checks = (λ i. unless_found (place i) (variable_check types.Bool fault.UnknownAction fault.NotBool (again i))) ∙ e;
         built = λ i. target_by (place i) (found (again i));
@@ -175,7 +180,8 @@ module _ (space : Space) where
   abbrev step_there : List ℕ → Type 0
   step_there name = is_none (place_of name space.steps) ≡ false
 
-  sides_distinct : (before names : List (List ℕ)) → in_turn (λ name. name) (side_step_check space.steps) before names ≡ None → distinct_check before names ≡ None
+  sides_distinct : (before names : List (List ℕ)) → in_turn (λ name. name) (side_step_check space.steps) before names ≡ None
+      → distinct_check before names ≡ None
   sides_distinct before [] e = refl
   sides_distinct before (x ∷ names) e =
       let rest = in_turn (λ name. name) (side_step_check space.steps) (before ++ x ∷ []) names in
@@ -183,12 +189,14 @@ module _ (space : Space) where
       (then_second (when (is_none (place_of x space.steps)) fault.UnknownStep) _ (then_first (side_step_check space.steps before x) rest e))
       (sides_distinct (before ++ x ∷ []) names (then_second (side_step_check space.steps before x) rest e))
 
-  sides_there : (before names : List (List ℕ)) → in_turn (λ name. name) (side_step_check space.steps) before names ≡ None → All step_there names
+  sides_there : (before names : List (List ℕ)) → in_turn (λ name. name) (side_step_check space.steps) before names ≡ None
+      → All step_there names
   sides_there before [] e = All-nil step_there
   sides_there before (x ∷ names) e =
       let rest = in_turn (λ name. name) (side_step_check space.steps) (before ++ x ∷ []) names in
       All-cons step_there x names
-      (when_none (is_none (place_of x space.steps)) fault.UnknownStep (then_first _ (name_check before x) (then_first (side_step_check space.steps before x) rest e)))
+      (when_none (is_none (place_of x space.steps)) fault.UnknownStep
+      (then_first _ (name_check before x) (then_first (side_step_check space.steps before x) rest e)))
       (sides_there (before ++ x ∷ []) names (then_second (side_step_check space.steps before x) rest e))
 
   sides_pass : (before names : List (List ℕ)) → distinct_check before names ≡ None → All step_there names
@@ -228,7 +236,8 @@ module _ (space : Space) where
       let there = sides_there [] names e in
       let ids : List StepId = step_ids space.steps names in
       let h : All IsStepNamed ids =
-      All-map IsStepNamed (step_id space.steps) names (All-weaker step_there (λ name. IsStepNamed (step_id space.steps name)) step_named names there) in
+      All-map IsStepNamed (step_id space.steps) names
+      (All-weaker step_there (λ name. IsStepNamed (step_id space.steps name)) step_named names there) in
       record {
         checks = sides_pass [] (map (step_name space) ids)
             (distinct_same [] [] names (map (step_name space) ids) (λ name. refl) (steps_same names there) (sides_distinct [] names e))
@@ -275,5 +284,6 @@ module _ (space : Space) where
   action_back a e =
       let own : Option (List ℕ) = Some a.name in
       let b = held (IsBodyBack (names_in space own) (ignoring_case own space) space a.name (spells space own)) Nothing
-      (checked_body (names_in space own) a.body) (body_back (names_in space own) (ignoring_case own space) space a.name (spells space own) a.body) e in
+      (checked_body (names_in space own) a.body)
+      (body_back (names_in space own) (ignoring_case own space) space a.name (spells space own) a.body) e in
       record { checks = ap typed b; built = λ i. record { name = a.name; body = checked_or Nothing (b i) } }

@@ -49,9 +49,6 @@ pub record IsLiteralOf (t : VarType) (x : Value) : Type 0 where
   pub checks : checked_literal (literal_tree x) t ≡ Ok x
   pub natural : literal_type (literal_tree x) ≡ Some t
 
-abbrev Back : VarType → Value → Type 0
-Back t x = IsLiteralOf t x
-
 in_range : (n : ℤ) (fits : Bool) (t : VarType) → is_in_range t n ≡ fits
     → ((fitting t n ≡ Ok (of_number t n)) → IsLiteralOf t (of_number t n))
     → IfOk (or_range (cond fits (Ok (of_number t n)) (Err faults.Range))) (IsLiteralOf t)
@@ -162,7 +159,8 @@ pub record Spells (names : Names) (space : Space) (own : List ℕ) : Type 0 wher
   pub action : (name : List ℕ) → names.is_own_action name ≡ true → same_word own name ≡ true
 
 module _ (names : Names) (ignores : IgnoresCase names) (space : Space) (own : List ℕ) (spells : Spells names space own) where
-  pub variable_again : (name : List ℕ) (v : Variable × VarType) → names.variable name ≡ Some v → names.variable (variable_name space v.0) ≡ Some v
+  pub variable_again : (name : List ℕ) (v : Variable × VarType) → names.variable name ≡ Some v
+      → names.variable (variable_name space v.0) ≡ Some v
   variable_again name v e = ignores.variable (variable_name space v.0) name (spells.variable name v e) ∙ e
 
   step_again : (name : List ℕ) (s : StepId) → names.step name ≡ Some s → names.step (step_name space s) ≡ Some s
@@ -240,7 +238,8 @@ module _ (names : Names) (ignores : IgnoresCase names) (space : Space) (own : Li
       wanted (type_of_referent r) t (IsBack t) (Ok (reading_of r)) (λ e. subst (λ (z : VarType). IsBack z (reading_of r)) e (read_back r h))
 
   not_back : (t : VarType) (x : Expression) → types.Bool ≡ t → IsBack types.Bool x → IsBack t (Not x)
-  not_back t x e h = subst (λ (z : VarType). IsBack z (Not x)) e (record { checks = ap (λ r. r >>= λ y. Ok (Not y)) h.checks; natural = refl })
+  not_back t x e h = subst (λ (z : VarType). IsBack z (Not x)) e
+      (record { checks = ap (λ r. r >>= λ y. Ok (Not y)) h.checks; natural = refl })
 
   -- a minus works on the type that it gives
   record IsMinusType (t u : VarType) : Type 0 where
@@ -259,7 +258,8 @@ module _ (names : Names) (ignores : IgnoresCase names) (space : Space) (own : Li
     natural = h.natural ∙ ap Some m.same;
   }
 
-  binary_back : (o : Operator) (t u : VarType) (x y : Expression) → KeepsType (family_of o) t u → IsBack u x → IsBack u y → IsBack t (Binary o u x y)
+  binary_back : (o : Operator) (t u : VarType) (x y : Expression) → KeepsType (family_of o) t u → IsBack u x → IsBack u y
+      → IsBack t (Binary o u x y)
   binary_back o t u x y k h g = record {
     checks = rw (operator_back o, h.natural, g.natural, k.given, h.checks, g.checks) refl;
     natural = rw (operator_back o, h.natural, g.natural) k.natural;
@@ -271,7 +271,8 @@ module _ (names : Names) (ignores : IgnoresCase names) (space : Space) (own : Li
   expression_back (text.Named v) t = name_back (referent_of names v) t (found_again v.name v.part)
   expression_back (text.Not a) t =
       wanted types.Bool t (IsBack t) _
-      (λ e. on_checked (IsBack types.Bool) (IsBack t) (checked names a types.Bool) _ (expression_back a types.Bool) (λ x h. not_back t x e h))
+      (λ e. on_checked (IsBack types.Bool) (IsBack t) (checked names a types.Bool) _ (expression_back a types.Bool)
+      (λ x h. not_back t x e h))
   expression_back (text.Minus a) t =
       on_checked (IsMinusType t) (IsBack t) (or_wrong (integer_type t)) _ (minus_type t)
       (λ u m. on_checked (IsBack u) (IsBack t) (checked names a u) _ (expression_back a u) (λ x h. minus_back t u x m h))

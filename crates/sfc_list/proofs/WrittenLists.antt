@@ -21,16 +21,19 @@ both_pass a b e k = passes a b e ∙ k
 pub each_all : {A : Type 0} (check : A → Check) (xs : List A) → each check xs ≡ None → All (λ x. check x ≡ None) xs
 each_all check [] e = All-nil (λ x. check x ≡ None)
 each_all check (x ∷ xs) e =
-    All-cons (λ x. check x ≡ None) x xs (then_first (check x) (each check xs) e) (each_all check xs (then_second (check x) (each check xs) e))
+    All-cons (λ x. check x ≡ None) x xs (then_first (check x) (each check xs) e)
+    (each_all check xs (then_second (check x) (each check xs) e))
 
-pub each_again : {A B : Type 0} (check : B → Check) (f : A → B) (xs : List A) → All (λ x. check (f x) ≡ None) xs → each check (map f xs) ≡ None
+pub each_again : {A B : Type 0} (check : B → Check) (f : A → B) (xs : List A) → All (λ x. check (f x) ≡ None) xs
+    → each check (map f xs) ≡ None
 each_again check f [] h = refl
 each_again check f (x ∷ xs) h =
     both_pass (check (f x)) (each check (map f xs)) (All-head (λ x. check (f x) ≡ None) x xs h)
     (each_again check f xs (All-tail (λ x. check (f x) ≡ None) x xs h))
 
 -- what is built of what is spelled
-pub map_again : {A B C : Type 0} (f : A → B) (g : B → C) (h : A → C) (xs : List A) → All (λ x. g (f x) ≡ h x) xs → map g (map f xs) ≡ map h xs
+pub map_again : {A B C : Type 0} (f : A → B) (g : B → C) (h : A → C) (xs : List A) → All (λ x. g (f x) ≡ h x) xs
+    → map g (map f xs) ≡ map h xs
 map_again f g h [] a = refl
 map_again f g h (x ∷ xs) a =
     let first : g (f x) ≡ h x = All-head (λ x. g (f x) ≡ h x) x xs a in
@@ -86,7 +89,8 @@ has_same names x y same = ap (λ (p : List ℕ → Bool). list_any p names) (ali
 
 -- ---- distinct names
 
-pub distinct_same : (one other a b : List (List ℕ)) → AreAlike one other → AreSame a b → distinct_check one a ≡ None → distinct_check other b ≡ None
+pub distinct_same : (one other a b : List (List ℕ)) → AreAlike one other → AreSame a b → distinct_check one a ≡ None
+    → distinct_check other b ≡ None
 distinct_same one other [] [] h k e = refl
 distinct_same one other [] (y ∷ b) h k e = absurd k
 distinct_same one other (x ∷ a) [] h k e = absurd k
@@ -128,5 +132,7 @@ named_pass name kind before [] e h = refl
 named_pass name kind before (x ∷ xs) e h =
     let rest = distinct_check (before ++ name x ∷ []) (map name xs) in
     both_pass (named_check name kind before x) (in_turn name (named_check name kind) (before ++ name x ∷ []) xs)
-    (both_pass (name_check before (name x)) (kind x) (then_first (name_check before (name x)) rest e) (All-head (λ x. kind x ≡ None) x xs h))
-    (named_pass name kind (before ++ name x ∷ []) xs (then_second (name_check before (name x)) rest e) (All-tail (λ x. kind x ≡ None) x xs h))
+    (both_pass (name_check before (name x)) (kind x) (then_first (name_check before (name x)) rest e)
+    (All-head (λ x. kind x ≡ None) x xs h))
+    (named_pass name kind (before ++ name x ∷ []) xs (then_second (name_check before (name x)) rest e)
+    (All-tail (λ x. kind x ≡ None) x xs h))

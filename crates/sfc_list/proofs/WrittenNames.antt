@@ -59,15 +59,18 @@ pub global_spelled : (globals : List Variable) (name : List ℕ) (v : expr.Varia
     → global_named globals name ≡ Some v
     → same_word (variable_name (record { globals = globals; locals = []; steps = []; actions = [] }) v.0) name ≡ true
 global_spelled globals name v e =
-    among (variable_name (record { globals = globals; locals = []; steps = []; actions = [] })) (λ place. Global (record { 0 = place })) globals
+    among (variable_name (record { globals = globals; locals = []; steps = []; actions = [] }))
+    (λ place. Global (record { 0 = place })) globals
     (λ i. refl) name (variable_place globals name) v refl e
 
 pub variable_spelled : (space : Space) (name : List ℕ) (v : expr.Variable × VarType)
     → variable_named space.locals space.globals name ≡ Some v → same_word (variable_name space v.0) name ≡ true
 variable_spelled space name =
     either (λ v. same_word (variable_name space v) name ≡ true) (local_named space.locals name) (global_named space.globals name)
-    (λ v e. among (variable_name space) (λ place. Local (record { 0 = place })) space.locals (λ i. refl) name (variable_place space.locals name) v refl e)
-    (λ v e. among (variable_name space) (λ place. Global (record { 0 = place })) space.globals (λ i. refl) name (variable_place space.globals name) v refl e)
+    (λ v e. among (variable_name space) (λ place. Local (record { 0 = place })) space.locals (λ i. refl) name
+    (variable_place space.locals name) v refl e)
+    (λ v e. among (variable_name space) (λ place. Global (record { 0 = place })) space.globals (λ i. refl) name
+    (variable_place space.globals name) v refl e)
 
 -- ---- the names of a program type
 

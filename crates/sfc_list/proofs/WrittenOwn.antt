@@ -103,13 +103,15 @@ swapped_alike before x y = λ name.
     ∙ last_two (has before name) (same_word name x) (same_word name y)
     ∙ sym (has_both (before ++ y ∷ []) (x ∷ []) name ∙ ap (λ b. b || has (x ∷ []) name) (has_both before (y ∷ []) name))
 
-swapped : (before : List (List ℕ)) (x y : List ℕ) (names : List (List ℕ)) → distinct_check before (x ∷ y ∷ names) ≡ None → distinct_check before (y ∷ x ∷ names) ≡ None
+swapped : (before : List (List ℕ)) (x y : List ℕ) (names : List (List ℕ)) → distinct_check before (x ∷ y ∷ names) ≡ None
+    → distinct_check before (y ∷ x ∷ names) ≡ None
 swapped before x y names e =
     let rest = distinct_check ((before ++ x ∷ []) ++ y ∷ []) names in
     let behind = name_check (before ++ x ∷ []) y then rest in
     let after = then_second (name_check before x) behind e in
     let no_x : has before x ≡ false = when_none (has before x) fault.Duplicate (then_first (name_check before x) behind e) in
-    let no_y : has (before ++ x ∷ []) y ≡ false = when_none (has (before ++ x ∷ []) y) fault.Duplicate (then_first (name_check (before ++ x ∷ []) y) rest after) in
+    let no_y : has (before ++ x ∷ []) y ≡ false =
+    when_none (has (before ++ x ∷ []) y) fault.Duplicate (then_first (name_check (before ++ x ∷ []) y) rest after) in
     let parts = neither (has before y) (has (x ∷ []) y) (sym (has_both before (x ∷ []) y) ∙ no_y) in
     let turned_round : has (y ∷ []) x ≡ false = ap (λ b. b || false) (same_word_equiv.symm x y) ∙ parts.1 in
     let new_x : has (before ++ y ∷ []) x ≡ false = has_both before (y ∷ []) x ∙ (λ i. no_x i || turned_round i) in
@@ -130,12 +132,14 @@ moved before x (y ∷ front) back e =
     both_pass (name_check before y) (distinct_check (before ++ y ∷ []) (front ++ x ∷ back))
     (then_first (name_check before y) rest h) (moved (before ++ y ∷ []) x front back (then_second (name_check before y) rest h))
 
-parted_distinct : (before : List (List ℕ)) (xs : List Own) → distinct_check before (map own_name xs) ≡ None → distinct_check before (parted xs) ≡ None
+parted_distinct : (before : List (List ℕ)) (xs : List Own) → distinct_check before (map own_name xs) ≡ None
+    → distinct_check before (parted xs) ≡ None
 parted_distinct before [] e = refl
 parted_distinct before (ALocal d ∷ xs) e =
     let rest = distinct_check (before ++ d.name ∷ []) (map own_name xs) in
     both_pass (name_check before d.name) (distinct_check (before ++ d.name ∷ []) (parted xs))
-    (then_first (name_check before d.name) rest e) (parted_distinct (before ++ d.name ∷ []) xs (then_second (name_check before d.name) rest e))
+    (then_first (name_check before d.name) rest e)
+    (parted_distinct (before ++ d.name ∷ []) xs (then_second (name_check before d.name) rest e))
 parted_distinct before (AnExternal name t ∷ xs) e =
     let rest = distinct_check (before ++ name ∷ []) (map own_name xs) in
     moved before name (map declared_name (filter_map local_in xs)) (filter_map external_in xs)
@@ -156,7 +160,8 @@ parted_alike (AnExternal n t ∷ xs) = λ name.
 abbrev Passes : List Variable → Own → Type 0
 Passes globals o = kind_check globals o ≡ None
 
-locals_pass : (globals : List Variable) (xs : List Own) → All (Passes globals) xs → All (λ d. declared_check d ≡ None) (filter_map local_in xs)
+locals_pass : (globals : List Variable) (xs : List Own) → All (Passes globals) xs
+    → All (λ d. declared_check d ≡ None) (filter_map local_in xs)
 locals_pass globals [] h = All-nil (λ d. declared_check d ≡ None)
 locals_pass globals (ALocal d ∷ xs) h =
     All-cons (λ d. declared_check d ≡ None) d (filter_map local_in xs) (All-head (Passes globals) (ALocal d) xs h)
@@ -190,11 +195,13 @@ externals_same globals (AnExternal name t ∷ xs) h = (
 abbrev own_again : List Variable → List Variable → List GlobalId → List Own
 own_again globals locals externals = map ALocal (map declared_again locals) ++ map (external_again globals) externals
 
-local_trees : (locals : List Variable) → own_in (block_tree (λ ds. block.Local ds) (map declaration_tree locals)) ≡ map ALocal (map declared_again locals)
+local_trees : (locals : List Variable)
+    → own_in (block_tree (λ ds. block.Local ds) (map declaration_tree locals)) ≡ map ALocal (map declared_again locals)
 local_trees [] = refl
 local_trees (v ∷ vs) = append-nil _ ∙ ap (map ALocal) (declared_trees (v ∷ vs))
 
-named_trees : (globals : List Variable) (externals : List GlobalId) → own_by (block.External (map (external_tree globals) externals)) ≡ map (external_again globals) externals
+named_trees : (globals : List Variable) (externals : List GlobalId)
+    → own_by (block.External (map (external_tree globals) externals)) ≡ map (external_again globals) externals
 named_trees globals [] = refl
 named_trees globals (id ∷ ids) = ap (λ os. external_again globals id ∷ os) (named_trees globals ids)
 
@@ -203,9 +210,11 @@ external_trees : (globals : List Variable) (externals : List GlobalId)
 external_trees globals [] = refl
 external_trees globals (id ∷ ids) = append-nil _ ∙ named_trees globals (id ∷ ids)
 
-own_trees : (globals locals : List Variable) (externals : List GlobalId) → own_in (variable_trees globals locals externals) ≡ own_again globals locals externals
+own_trees : (globals locals : List Variable) (externals : List GlobalId)
+    → own_in (variable_trees globals locals externals) ≡ own_again globals locals externals
 own_trees globals locals externals =
-    flat_map-append own_by (block_tree (λ ds. block.Local ds) (map declaration_tree locals)) (block_tree (λ es. block.External es) (map (external_tree globals) externals))
+    flat_map-append own_by (block_tree (λ ds. block.Local ds) (map declaration_tree locals))
+    (block_tree (λ es. block.External es) (map (external_tree globals) externals))
     ∙ (λ i. local_trees locals i ++ external_trees globals externals i)
 
 only_locals : (ds : List Declared) → filter_map local_in (map ALocal ds) ≡ ds
@@ -220,11 +229,13 @@ no_externals : (ds : List Declared) → filter_map external_in (map ALocal ds) �
 no_externals [] = refl
 no_externals (d ∷ ds) = no_externals ds
 
-only_externals : (globals : List Variable) (ids : List GlobalId) → filter_map external_in (map (external_again globals) ids) ≡ map (global_name globals) ids
+only_externals : (globals : List Variable) (ids : List GlobalId)
+    → filter_map external_in (map (external_again globals) ids) ≡ map (global_name globals) ids
 only_externals globals [] = refl
 only_externals globals (id ∷ ids) = ap (λ es. global_name globals id ∷ es) (only_externals globals ids)
 
-locals_again : (globals locals : List Variable) (externals : List GlobalId) → filter_map local_in (own_again globals locals externals) ≡ map declared_again locals
+locals_again : (globals locals : List Variable) (externals : List GlobalId)
+    → filter_map local_in (own_again globals locals externals) ≡ map declared_again locals
 locals_again globals locals externals =
     filter_map-append local_in (map ALocal (map declared_again locals)) (map (external_again globals) externals)
     ∙ (λ i. only_locals (map declared_again locals) i ++ no_locals globals externals i) ∙ append-nil (map declared_again locals)
@@ -279,7 +290,8 @@ module _ (globals : List Variable) (blocks : List VariableBlock) where
       (All-map (Passes globals) (external_again globals) es
       (All-weaker (IsNamedAgain globals) (λ id. Passes globals (external_again globals id)) (λ id b. b.checks) es k))
 
-  passes_again : distinct_check [] (map own_name xs) ≡ None → All (Passes globals) xs → All IsDeclaredAgain ls → All (IsNamedAgain globals) es
+  passes_again : distinct_check [] (map own_name xs) ≡ None → All (Passes globals) xs → All IsDeclaredAgain ls
+      → All (IsNamedAgain globals) es
       → variables_check globals (blocks_again globals blocks) ≡ None
   unfolding variables_check
   passes_again e p h k =

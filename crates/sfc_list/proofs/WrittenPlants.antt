@@ -48,14 +48,13 @@ place_kept name names e = at (place_of name names) refl e where
 -- ---- tasks
 
 module _ (globals : List Variable) where
-  single_variable : Option ℕ → Check
-  single_variable place = variable_check types.Bool fault.Unknown fault.NotBool (typed_at (λ i. Global (record { 0 = i })) globals place)
-
   pub record IsSingleBack (single : Option GlobalId) : Type 0 where
     pub checks : single_check globals (single_tree globals single) ≡ None
     pub built : option_map (global_id globals) (single_tree globals single) ≡ single
 
-  some_place : (place : Option ℕ) → variable_check types.Bool fault.Unknown fault.NotBool (typed_at (λ i. Global (record { 0 = i })) globals place) ≡ None → is_none place ≡ false
+  some_place : (place : Option ℕ)
+      → variable_check types.Bool fault.Unknown fault.NotBool (typed_at (λ i. Global (record { 0 = i })) globals place) ≡ None
+      → is_none place ≡ false
   some_place (Some i) e = refl
   some_place None e = cc
 
@@ -64,7 +63,8 @@ module _ (globals : List Variable) where
   single_back (Some name) e =
       let kept = place_kept name (names_of globals) (some_place (variable_place globals name) e) in
       record {
-        checks = ap (λ p. variable_check types.Bool fault.Unknown fault.NotBool (typed_at (λ i. Global (record { 0 = i })) globals p)) kept ∙ e;
+        checks = ap (λ p. variable_check types.Bool fault.Unknown fault.NotBool (typed_at (λ i. Global (record { 0 = i })) globals p))
+            kept ∙ e;
         built = ap (λ p. let id : GlobalId = record { 0 = unwrap_or p 0 } in Some id) kept;
       }
 
@@ -102,7 +102,8 @@ module _ (globals : List Variable) where
   tasks_pass tasks e =
       let made : List Task = map (task_of globals) tasks in
       let few = when (nat_lt 16 (length tasks)) (fault.Limit limit.Tasks) in
-      let n : length (map (task_tree globals) made) ≡ length tasks = length-map made (task_tree globals) ∙ length-map tasks (task_of globals) in
+      let n : length (map (task_tree globals) made) ≡ length tasks = length-map made (task_tree globals)
+      ∙ length-map tasks (task_of globals) in
       both_pass (when (nat_lt 16 (length (map (task_tree globals) made))) (fault.Limit limit.Tasks)) _
       (ap (λ k. when (nat_lt 16 k) (fault.Limit limit.Tasks)) n ∙ then_first few _ e)
       (named_pass task_name task_kind [] (map (task_tree globals) made)
@@ -114,18 +115,21 @@ module _ (globals : List Variable) where
       → map (task_of globals) (map (task_tree globals) (map (task_of globals) tasks)) ≡ map (task_of globals) tasks
   tasks_kept tasks e =
       kept_again (task_tree globals) (task_of globals) (map (task_of globals) tasks)
-      (All-weaker IsTaskBack (λ t. task_of globals (task_tree globals t) ≡ t) (λ t b. b.built) (map (task_of globals) tasks) (tasks_all tasks e))
+      (All-weaker IsTaskBack (λ t. task_of globals (task_tree globals t) ≡ t) (λ t b. b.built) (map (task_of globals) tasks)
+      (tasks_all tasks e))
 
   -- ---- program types
 
-  programs_all : (programs : List ProgramTree) → programs_check globals programs ≡ None → All (IsProgramBack globals) (map (program_of globals) programs)
+  programs_all : (programs : List ProgramTree) → programs_check globals programs ≡ None
+      → All (IsProgramBack globals) (map (program_of globals) programs)
   unfolding programs_check
   programs_all programs e =
       All-map (IsProgramBack globals) (program_of globals) programs
       (All-weaker (λ p. program_check globals p ≡ None) (λ p. IsProgramBack globals (program_of globals p)) (program_back globals) programs
       (kinds_pass program_name (program_check globals) [] programs e))
 
-  programs_named : (programs : List ProgramTree) → program_names (map (program_tree globals) (map (program_of globals) programs)) ≡ program_names programs
+  programs_named : (programs : List ProgramTree)
+      → program_names (map (program_tree globals) (map (program_of globals) programs)) ≡ program_names programs
   programs_named programs =
       map-map program_name (program_tree globals) (map (program_of globals) programs) ∙ map-map (λ p. p.name) (program_of globals) programs
 
@@ -137,7 +141,8 @@ module _ (globals : List Variable) where
       named_pass program_name (program_check globals) [] (map (program_tree globals) made)
       (ap (distinct_check []) (programs_named programs) ∙ names_pass program_name (program_check globals) [] programs e)
       (All-map (λ p. program_check globals p ≡ None) (program_tree globals) made
-      (All-weaker (IsProgramBack globals) (λ p. program_check globals (program_tree globals p) ≡ None) (λ p b. b.checks) made (programs_all programs e)))
+      (All-weaker (IsProgramBack globals) (λ p. program_check globals (program_tree globals p) ≡ None) (λ p b. b.checks) made
+      (programs_all programs e)))
 
   programs_kept : (programs : List ProgramTree) → programs_check globals programs ≡ None
       → map (program_of globals) (map (program_tree globals) (map (program_of globals) programs)) ≡ map (program_of globals) programs
@@ -156,7 +161,8 @@ instance_again tasks programs i =
 module _ (tasks programs : List (List ℕ)) where
   -- what is checked of an instance beside its name
   abbrev instance_kind : text_instance.Instance → Check
-  instance_kind i = when (is_none (task_number tasks i.task)) fault.NoTask then when (is_none (place_of i.program programs)) fault.UnknownType
+  instance_kind i =
+      when (is_none (task_number tasks i.task)) fault.NoTask then when (is_none (place_of i.program programs)) fault.UnknownType
 
   pub record IsInstanceBack (i : Instance) : Type 0 where
     pub checks : instance_kind (instance_again tasks programs i) ≡ None
@@ -171,7 +177,8 @@ module _ (tasks programs : List (List ℕ)) where
   instance_back i e =
       let has_task = when (is_none (task_number tasks i.task)) fault.NoTask in
       let t = task_kept i.task (when_none (is_none (task_number tasks i.task)) fault.NoTask (then_first has_task _ e)) in
-      let p = place_kept i.program programs (when_none (is_none (place_of i.program programs)) fault.UnknownType (then_second has_task _ e)) in
+      let p = place_kept i.program programs
+      (when_none (is_none (place_of i.program programs)) fault.UnknownType (then_second has_task _ e)) in
       record {
         checks = (λ k. when (is_none (t k)) fault.NoTask then when (is_none (p k)) fault.UnknownType) ∙ e;
         built = λ k. record {
@@ -205,7 +212,8 @@ module _ (tasks programs : List (List ℕ)) where
       (named_pass instance_name instance_kind [] (map (instance_again tasks programs) made)
       (ap (distinct_check []) named ∙ names_pass instance_name instance_kind [] instances (then_second few _ e))
       (All-map (λ i. instance_kind i ≡ None) (instance_again tasks programs) made
-      (All-weaker IsInstanceBack (λ i. instance_kind (instance_again tasks programs i) ≡ None) (λ i b. b.checks) made (instances_all instances e))))
+      (All-weaker IsInstanceBack (λ i. instance_kind (instance_again tasks programs i) ≡ None) (λ i b. b.checks) made
+      (instances_all instances e))))
 
   instances_kept : (instances : List text_instance.Instance) → instances_check tasks programs instances ≡ None
       → map (instance_of tasks programs) (map (instance_again tasks programs) (map (instance_of tasks programs) instances))
@@ -266,7 +274,8 @@ module _ (s : SourceTree) where
       ap (λ vs. map (task_of vs) spelled_tasks) g ∙ tasks_kept globals s.configuration.tasks good_tasks in
       let types_built : map (program_of (globals_of (map declaration_tree globals))) spelled_programs ≡ plant.types =
       ap (λ vs. map (program_of vs) spelled_programs) g ∙ programs_kept globals s.programs good_types in
-      let instances_built : map (instance_of (task_names spelled_tasks) (program_names spelled_programs)) spelled_instances ≡ plant.instances =
+      let instances_built : map (instance_of (task_names spelled_tasks) (program_names spelled_programs))
+      spelled_instances ≡ plant.instances =
       (λ i. map (instance_of (t i) (p i)) (instances_by_name i)) ∙ instances_kept tasks programs s.configuration.instances good_instances in
       let built : plant_of (written plant) ≡ plant = λ i. record {
         configuration = s.configuration.name;
@@ -284,11 +293,12 @@ module _ (s : SourceTree) where
             (both_pass (programs_check (globals_of (map declaration_tree globals)) spelled_programs) _
             (ap (λ vs. programs_check vs spelled_programs) g ∙ programs_pass globals s.programs good_types)
             (both_pass (instances_check (task_names spelled_tasks) (program_names spelled_programs) spelled_instances) _
-            ((λ i. instances_check (t i) (p i) (instances_by_name i)) ∙ instances_pass tasks programs s.configuration.instances good_instances)
+            ((λ i. instances_check (t i) (p i) (instances_by_name i))
+            ∙ instances_pass tasks programs s.configuration.instances good_instances)
             (ap (λ q. image_check (image_variables q)) built ∙ after_instances))));
         built = built;
       }
 
 -- the same of the plant that a tree is
-pub written_loads : (s : SourceTree) (plant : PlantData) → source_check s ≡ None → plant ≡ plant_of s → LoadsAgain plant
-written_loads s plant e built = subst LoadsAgain (sym built) (loads_again s e)
+pub written_loads : (s : SourceTree) (loaded : PlantData) → source_check s ≡ None → loaded ≡ plant_of s → LoadsAgain loaded
+written_loads s loaded e built = subst LoadsAgain (sym built) (loads_again s e)

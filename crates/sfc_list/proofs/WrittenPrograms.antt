@@ -43,7 +43,8 @@ filtered_same : {A X Y : Type 0} (h : X → Option Y) (f : A → X) (k : A → O
 filtered_same h f k says [] = refl
 filtered_same h f k says (x ∷ xs) = rw (says x, filtered_same h f k says xs) refl
 
-in_three : {X Y : Type 0} (h : X → Option Y) (a b c : List X) → filter_map h (a ++ b ++ c) ≡ filter_map h a ++ filter_map h b ++ filter_map h c
+in_three : {X Y : Type 0} (h : X → Option Y) (a b c : List X)
+    → filter_map h (a ++ b ++ c) ≡ filter_map h a ++ filter_map h b ++ filter_map h c
 in_three h a b c = filter_map-append h (a ++ b) c ∙ ap (λ ys. ys ++ filter_map h c) (filter_map-append h a b)
 
 -- the transitions that have names
@@ -70,7 +71,7 @@ module _ (space : Space) (chart : Chart) where
       ++ filtered_none step_in a_transition (λ t. refl) chart.transitions i ++ filtered_none step_in an_action (λ a. refl) chart.actions i)
       ∙ append-nil (map (step_tree space) chart.steps ++ []) ∙ append-nil (map (step_tree space) chart.steps)
 
-  transitions_in : transitions_of (element_trees space chart) ≡ map (transition_tree space) chart.transitions
+  pub transitions_in : transitions_of (element_trees space chart) ≡ map (transition_tree space) chart.transitions
   transitions_in =
       in_three transition_in (map a_step chart.steps) (map a_transition chart.transitions) (map an_action chart.actions)
       ∙ (λ i. filtered_none transition_in a_step (λ s. refl) chart.steps i
@@ -78,7 +79,7 @@ module _ (space : Space) (chart : Chart) where
       ++ filtered_none transition_in an_action (λ a. refl) chart.actions i)
       ∙ append-nil (map (transition_tree space) chart.transitions)
 
-  actions_in : actions_of (element_trees space chart) ≡ map (action_tree space) chart.actions
+  pub actions_in : actions_of (element_trees space chart) ≡ map (action_tree space) chart.actions
   actions_in =
       in_three action_in (map a_step chart.steps) (map a_transition chart.transitions) (map an_action chart.actions)
       ∙ (λ i. filtered_none action_in a_step (λ s. refl) chart.steps i
@@ -110,7 +111,8 @@ any_mapped : {A B : Type 0} (f : A → B) (p : A → Bool) (q : B → Bool) → 
 any_mapped f p q says [] = refl
 any_mapped f p q says (x ∷ xs) = λ i. says x i || any_mapped f p q says xs i
 
-counted : (space : Space) (steps : List text_step.Step) → association_count (map (step_tree space) (map (step_of space) steps)) ≡ association_count steps
+counted : (space : Space) (steps : List text_step.Step)
+    → association_count (map (step_tree space) (map (step_of space) steps)) ≡ association_count steps
 counted space steps =
     fold_mapped (step_tree space) (λ s. length s.associations) (λ s. length s.associations)
     (λ s. length-map s.associations (association_tree space)) 0 (map (step_of space) steps)
@@ -120,7 +122,7 @@ counted space steps =
 -- ---- a chart
 
 -- the elements that are spelled of a chart that was built of these
-abbrev elements_again : Space → List ElementTree → List ElementTree
+abbrev pub elements_again : Space → List ElementTree → List ElementTree
 elements_again space elements = element_trees space (chart_of space elements)
 
 module _ (space : Space) (elements : List ElementTree) where
@@ -179,12 +181,15 @@ module _ (space : Space) (elements : List ElementTree) where
       (each_all (step_check space) (steps_of elements) (then_first (each (step_check space) (steps_of elements)) _ e))) in
       let t : All (IsTransitionBack space) chart.transitions =
       All-map (IsTransitionBack space) (transition_of space) (transitions_of elements)
-      (All-weaker (λ t. transition_check space t ≡ None) (λ t. IsTransitionBack space (transition_of space t)) (transition_back space) (transitions_of elements)
-      (each_all (transition_check space) (transitions_of elements) (then_first (each (transition_check space) (transitions_of elements)) _ after))) in
+      (All-weaker (λ t. transition_check space t ≡ None) (λ t. IsTransitionBack space (transition_of space t)) (transition_back space)
+      (transitions_of elements)
+      (each_all (transition_check space) (transitions_of elements)
+      (then_first (each (transition_check space) (transitions_of elements)) _ after))) in
       let a : All (IsActionBack space) chart.actions =
       All-map (IsActionBack space) (action_of space) (actions_of elements)
       (All-weaker (λ a. action_check space a ≡ None) (λ a. IsActionBack space (action_of space a)) (action_back space) (actions_of elements)
-      (each_all (action_check space) (actions_of elements) (then_second (each (transition_check space) (transitions_of elements)) _ after))) in
+      (each_all (action_check space) (actions_of elements)
+      (then_second (each (transition_check space) (transitions_of elements)) _ after))) in
       let steps_kept : map (step_of space) (steps_of again) ≡ chart.steps =
       ap (map (step_of space)) (steps_in space chart)
       ∙ kept_again (step_tree space) (step_of space) chart.steps
@@ -205,7 +210,8 @@ module _ (space : Space) (elements : List ElementTree) where
             (both_pass (each (transition_check space) (transitions_of again)) _
             (ap (each (transition_check space)) (transitions_in space chart)
             ∙ each_again (transition_check space) (transition_tree space) chart.transitions
-            (All-weaker (IsTransitionBack space) (λ t. transition_check space (transition_tree space t) ≡ None) (λ t b. b.checks) chart.transitions t))
+            (All-weaker (IsTransitionBack space) (λ t. transition_check space (transition_tree space t) ≡ None)
+            (λ t b. b.checks) chart.transitions t))
             (ap (each (action_check space)) (actions_in space chart)
             ∙ each_again (action_check space) (action_tree space) chart.actions
             (All-weaker (IsActionBack space) (λ a. action_check space (action_tree space a) ≡ None) (λ a b. b.checks) chart.actions a)));
@@ -224,7 +230,7 @@ module _ (globals : List Variable) (p : ProgramTree) where
   space = space_of globals p
 
   -- the same by its parts
-  abbrev tree_again : ProgramTree
+  abbrev pub tree_again : ProgramTree
   tree_again = record { name = p.name; variables = blocks_again globals p.variables; elements = elements_again space p.elements }
 
   space_kept : space_in globals (program_of globals p) ≡ space
@@ -235,7 +241,7 @@ module _ (globals : List Variable) (p : ProgramTree) where
     actions = map-map (λ a. a.name) (action_of space) (actions_of p.elements) i;
   }
 
-  tree_kept : program_tree globals (program_of globals p) ≡ tree_again
+  pub tree_kept : program_tree globals (program_of globals p) ≡ tree_again
   tree_kept = λ i. record {
     name = p.name;
     variables = blocks_again globals p.variables;
@@ -264,7 +270,8 @@ module _ (globals : List Variable) (p : ProgramTree) where
       (both_pass (variables_check globals (blocks_again globals p.variables)) _ v.checks
       (both_pass (distinct_check (own_names (blocks_again globals p.variables)) (element_names (elements_again space p.elements))) _
       (ap (distinct_check (own_names (blocks_again globals p.variables))) (names_again space p.elements)
-      ∙ distinct_same (own_names p.variables) (own_names (blocks_again globals p.variables)) (element_names p.elements) (element_names p.elements)
+      ∙ distinct_same (own_names p.variables) (own_names (blocks_again globals p.variables)) (element_names p.elements)
+      (element_names p.elements)
       v.names (same_refl (element_names p.elements)) distinct)
       (both_pass (initial_check (elements_again space p.elements)) _
       (initial_again space p.elements ∙ then_first (initial_check p.elements) _ after)

@@ -35,7 +35,8 @@ module _ (names : Names) (ignores : IgnoresCase names) (space : Space) (own : Li
   abbrev AreBack : Branches → Type 0
   AreBack bs = checked_branches names (branches_tree space own bs) ≡ Ok bs
 
-  assign_back : (v : Variable × VarType) (x : Expression) (b : Body) → IsTarget v → IsBackAs v.1 x → IsBodyBack b → IsBodyBack (Assign v.0 x b)
+  assign_back : (v : Variable × VarType) (x : Expression) (b : Body) → IsTarget v → IsBackAs v.1 x → IsBodyBack b
+      → IsBodyBack (Assign v.0 x b)
   assign_back v x b target h k = rw (target, h.checks, k) refl
 
   if_back : (bs : Branches) (b : Body) → AreBack bs → IsBodyBack b → IsBodyBack (If bs b)
@@ -65,7 +66,8 @@ module _ (names : Names) (ignores : IgnoresCase names) (space : Space) (own : Li
     branches_back (text.Assign v e rest) = refl
     branches_back (text.If bs rest) = refl
     branches_back (text.When e body rest) =
-        on_checked (IsBackAs types.Bool) AreBack (checked names e types.Bool) _ (expression_back names ignores space own spells e types.Bool)
+        on_checked (IsBackAs types.Bool) AreBack (checked names e types.Bool) _
+        (expression_back names ignores space own spells e types.Bool)
         (λ x h. on_checked IsBodyBack AreBack (checked_body names body) _ (body_back body)
         (λ b k. on_checked AreBack AreBack (checked_branches names rest) _ (branches_back rest) (λ bs l. when_back x b bs h k l)))
     branches_back (text.Otherwise body rest) =

@@ -56,7 +56,8 @@ variable_back d e =
     record {
       checks = both_pass place (initial_check d.var_type (Some (literal_tree (initial_value d.var_type d.initial))))
           (then_first place (initial_check d.var_type d.initial) e) (ap typed b.checks);
-      built = ap (λ (x : Value). let v : Variable = record { name = d.name; var_type = d.var_type; location = d.location; initial = x } in v)
+      built = ap (λ (x : Value). let v : Variable =
+          record { name = d.name; var_type = d.var_type; location = d.location; initial = x } in v)
           (ap (checked_or (default_value d.var_type)) b.checks);
     }
 

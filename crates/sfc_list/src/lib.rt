@@ -5,7 +5,7 @@
 //! - `variables`, `step`, `transition`, `action`: what stands in them; `statement`, `expression`: what stands in bodies
 //!   and conditions; `value`: types, literals and locations.
 //! - `names`: the names of what stands in a program type as a number.
-//! - `laws`: what the definitions mean.
+//! - `laws`: what holds of listings themselves.
 //! - `layout`: lines and indentation; `sink`: writing that stops at the first fault.
 #![tactic(auto)]
 
