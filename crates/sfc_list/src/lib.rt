@@ -5,12 +5,14 @@
 //! - `variables`, `step`, `transition`, `action`: what stands in them; `statement`, `expression`: what stands in bodies
 //!   and conditions; `value`: types, literals and locations.
 //! - `names`: the names of what stands in a program type as a number.
+//! - `laws`: what holds of listings themselves.
 //! - `layout`: lines and indentation; `sink`: writing that stops at the first fault.
 #![tactic(auto)]
 
 mod action;
 mod configuration;
 mod expression;
+pub mod laws;
 mod layout;
 pub mod list;
 pub mod names;
