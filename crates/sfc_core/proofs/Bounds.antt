@@ -1,5 +1,5 @@
 -- How much a scan of a task handles at most.
-use Rattle.std.proofs.Common.{ℕ, suc, ◌+◌, ◌≤◌, ◌==◌, Bool, true, false, cond, List, [], ◌∷◌, arith}
+use Rattle.std.proofs.Common.{ℕ, suc, ◌≤◌, ◌==◌, Bool, true, false, cond, List, [], ◌∷◌, arith}
 use Rattle.sfc_chart.specs.declared.ids.TaskId.{TaskId}
 use Rattle.sfc_chart.specs.declared.instance.Instance.{Instance}
 use Rattle.sfc_chart.specs.Plants.{PlantData}
