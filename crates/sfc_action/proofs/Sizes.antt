@@ -1,5 +1,5 @@
 -- Tables keep their sizes.
-use Rattle.std.proofs.Common.{◌≡◌, ℕ, Bool, true, false, cond, List, length, arith, ◌∙◌, ap, ℤ}
+use Rattle.std.proofs.Common.{◌≡◌, ℕ, Bool, true, false, cond, List, length, ◌∙◌}
 use Rattle.std.specs.Prelude.{slice_set}
 use Rattle.std.proofs.lemmas.List.{length-set, length-replicate}
 use Rattle.sfc_text.specs.declared.tree.TimedQualifier.{TimedQualifier}
@@ -10,9 +10,7 @@ use Rattle.sfc_tables.specs.declared.association.Qualifier.TheVariants.{NonStore
 use Rattle.sfc_action.specs.declared.inputs.Inputs.{Inputs}
 use Rattle.sfc_action.specs.declared.timed.Timed as timed
 use Rattle.sfc_action.specs.declared.stores.Stores.{Stores}
-use Rattle.sfc_action.specs.declared.blocks.Block.{Block}
 use Rattle.sfc_action.specs.Private.Storing.{AreStores, no_stores}
-use Rattle.sfc_action.specs.Private.Delays.{AreStepped, AreOf}
 use Rattle.sfc_action.specs.Private.TimedSets.{AreAll, none, with_action}
 use Rattle.sfc_action.specs.Private.Marking.{AreSized, cleared, marked}
 
@@ -180,14 +178,3 @@ are_stores n stores e = rw e (sized_stores n)
 
 pub are_all : (n : ℕ) (sets : Sets) → sets ≡ none n → AreAll n sets
 are_all n sets e = rw e (all_none n)
-
-pub sized_as : (n : ℕ) (stores new : Stores) → new ≡ stores → AreStores n stores → AreStores n new
-sized_as n stores new e h = rw e h
-
--- on-delays keep their actions
-pub stepped_of : (n : ℕ) (i : Inputs) (stores : Stores) (presets : List ℤ) (t : ℤ) (old new : List Block)
-    → length new ≡ length old → AreStepped i stores presets t old new → AreOf n old → AreOf n new
-stepped_of n i stores presets t old new e stepped of = λ k d lt.
-    let was = of k d (omega arith) in
-    let same = (stepped k d (omega arith)).action in
-    omega (arith, was, ap (λ x. x.0) same)

@@ -1,5 +1,5 @@
 -- What a table shows as a list of flags.
-use Rattle.std.proofs.Common.{◌≡◌, ℕ, suc, zero, ◌+◌, ◌/◌, ◌%◌, ◌<◌, ◌||◌, ◌&&◌, ◌==◌, not, Bool, true, false, cond, List, length, get_or, ◌∙◌, ap, refl, sym, inl, inr, arith, eq-eqb}
+use Rattle.std.proofs.Common.{◌≡◌, ℕ, suc, zero, ◌+◌, ◌/◌, ◌%◌, ◌<◌, ◌==◌, Bool, true, false, cond, List, length, get_or, ◌∙◌, ap, refl, sym, inl, inr, arith, eq-eqb}
 use Rattle.std.proofs.lemmas.Bool.{cases_eq, cases_lt, ne_eqb}
 use Rattle.std.proofs.lemmas.List.{get_or-set_same, get_or-set_other, get_or_past, ext_get_or, length-set, length-replicate, get_or-replicate}
 use Rattle.std.proofs.lemmas.Nat.Bits.{bit_at-zero}
@@ -64,21 +64,6 @@ module _ (n : ℕ) (words new : List ℕ) (i : ℕ) (v : Bool) (t : IsTable n wo
         | inl e ↦ rw (eq-eqb j i e, e, get_or-set_same (flags_of n words) i v false (omega arith)) refl
         | inr d ↦ rw (ne_eqb j i d, get_or-set_other (flags_of n words) i j v false d) (sym (flag_of n words t j))
       ])
-
-module _ (n p : ℕ) (words other new : List ℕ) (t : IsTable n words) (o : IsTable p other) (m : length new ≡ length words) where
-  module _ (each : (j : ℕ) → bit new j ≡ (bit words j || bit other j)) (same : p ≡ n) where
-    pub or_table : IsTable n new
-    or_table = record { sized = m ∙ t.sized; blank = λ j le. each j ∙ rw (t.blank j le, o.blank j (omega arith)) refl }
-
-    pub or_shows : (j : ℕ) → flag (flags_of n new) j ≡ (flag (flags_of n words) j || flag (flags_of p other) j)
-    or_shows j = rw (flag_of n new or_table j, flag_of n words t j, flag_of p other o j) (each j)
-
-  module _ (each : (j : ℕ) → bit new j ≡ (bit words j && not (bit other j))) where
-    pub less_table : IsTable n new
-    less_table = record { sized = m ∙ t.sized; blank = λ j le. each j ∙ rw (t.blank j le) refl }
-
-    pub less_shows : (j : ℕ) → flag (flags_of n new) j ≡ (flag (flags_of n words) j && not (flag (flags_of p other) j))
-    less_shows j = rw (flag_of n new less_table j, flag_of n words t j, flag_of p other o j) (each j)
 
 pub zeros : (n : ℕ) (words : List ℕ) → words ≡ replicate (div_ceil n 64) 0 → IsTable n words × (flags_of n words ≡ replicate n false)
 zeros n words e =
