@@ -1,7 +1,7 @@
 //! Of 64 actions the inputs of their blocks in one scan.
 
 ghost use Rattle.std.specs.Prelude.{◌≡◌, ℕ, true, false};
-ghost use Rattle.sfc_action.specs.Private.Rows.{inputs_in, no_inputs, stores_in, has_fault};
+ghost use Rattle.sfc_action.specs.Private.Rows.{inputs_in, stores_in, has_fault};
 
 use crate::store_words::StoreWords;
 use crate::timed_words::TimedWords;
@@ -22,23 +22,6 @@ pub struct InputWords {
 }
 
 impl InputWords {
-    /// No action has an input.
-    pub fn none() -> InputWords
-        ensures { (a : ℕ) → inputs_in result a ≡ no_inputs }
-    {
-        InputWords {
-            non_stored: Word::none(),
-            reset: Word::none(),
-            set: Word::none(),
-            pulse: Word::none(),
-            rising_pulse: Word::none(),
-            falling_pulse: Word::none(),
-            timed: TimedWords::none(),
-            any_time: Word::none(),
-            more_times: Word::none(),
-        }
-    }
-
     /// Whether none of the actions has a fault, with these flip-flops.
     pub fn are_faultless(self, stores: StoreWords) -> bool
         ensures { result ≡ true → (a : ℕ) → has_fault (inputs_in self a) (stores_in stores a) ≡ false }

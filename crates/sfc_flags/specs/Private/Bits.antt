@@ -1,5 +1,6 @@
 -- How words hold flags.
-use Rattle.std.specs.Prelude.{ℕ, zero, suc, ◌≡◌, ◌/◌, ◌%◌, ◌-◌, ◌≤◌, ◌<◌, ◌==◌, Bool, true, false, List, [], ◌∷◌, length, slice_index, Option, None, Some}
+use Rattle.std.specs.Prelude.{ℕ, zero, suc, ◌≡◌, ◌/◌, ◌%◌, ◌-◌, ◌≤◌, ◌<◌, ◌==◌}
+use Rattle.std.specs.Prelude.{Bool, true, false, List, [], ◌∷◌, length, slice_index, Option, None, Some}
 use Rattle.std.specs.Int.{bit_at, div_ceil}
 
 -- the bit of place i in these words
