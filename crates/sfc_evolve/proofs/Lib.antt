@@ -3,6 +3,7 @@ pub mod FirstScan
 pub mod Flagged
 pub mod Listed
 pub mod Looks
+pub mod Measured
 pub mod Next
 pub mod NumberedLooks
 pub mod Placed

@@ -1,8 +1,8 @@
 -- Which scans a `Steps` agrees with.
-use Rattle.std.specs.Prelude.{ℕ, ◌≡◌, List, length}
+use Rattle.std.specs.Prelude.{ℕ, ◌≡◌, List, ℤ, length}
 use Rattle.sfc_tables.specs.Tables.{Tabled}
 use Rattle.sfc_evolve.specs.declared.steps.Steps.{Steps}
-use Rattle.sfc_evolve.specs.Evolution.{Scan, step_count, transition_count}
+use Rattle.sfc_evolve.specs.Evolution.{Scan, rows_of, step_count, step_times, transition_count}
 use Rattle.sfc_evolve.specs.Private.Keeping.{AreKept}
 
 -- how many steps and transitions it has room for
@@ -11,6 +11,10 @@ step_places steps = length steps.active
 
 abbrev pub transition_places : Steps → ℕ
 transition_places steps = length steps.cleared
+
+-- the times of its steps, as they were last worked out
+unfoldable pub measured_times : Steps → List ℤ
+measured_times steps = steps.kept.items
 
 -- it is as large as the tables
 pub record IsFor (tables : Tabled) (steps : Steps) : Type 0 where
@@ -25,3 +29,8 @@ pub record Keeps (tables : Tabled) (steps : Steps) (scans : List Scan) : Type 0 
 -- after these scans, the newest first, all answers are those of the definitions
 unfoldable pub StepsAgree : Tabled → Steps → List Scan → Type 0
 StepsAgree tables steps scans = Keeps tables steps scans
+
+-- its times are those of all steps at t
+abbrev pub AreMeasured : ℤ → Steps → Type 0
+AreMeasured t steps = (tables : Tabled) (scans : List Scan) → StepsAgree tables steps scans →
+    measured_times steps ≡ step_times tables (rows_of tables scans) t

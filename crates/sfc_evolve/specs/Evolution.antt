@@ -89,6 +89,10 @@ active_steps tables rows = map (is_active tables rows) (range_with_len 0 (step_c
 abbrev pub step_time : Tabled → List Row → ℕ → ℤ → ℤ
 step_time tables rows s now = time_in (is_activated tables s) (is_deactivated tables s) (λ row. row.at) rows now
 
+-- of each step, by its number, its time up to now
+abbrev pub step_times : Tabled → List Row → ℤ → List ℤ
+step_times tables rows now = map (λ s. step_time tables rows s now) (range_with_len 0 (step_count tables))
+
 -- The row of the next scan. No step is active before the first scan of a life, so that one clears nothing.
 abbrev pub row_after : Tabled → List Row → Scan → Row
 row_after tables rows scan = record {

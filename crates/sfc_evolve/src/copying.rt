@@ -28,6 +28,15 @@ pub fn copy_flags(
     }
 }
 
+// So many steps are handled.
+fn count(steps: usize, ticks: &mut Ticks)
+    ensures { Within steps ticks.old ticks.new }
+{
+    for _ in 0..steps {
+        ticks.tick();
+    }
+}
+
 /// Takes over all instants and times.
 pub fn copy_times(
     since: &mut [i64],
@@ -43,9 +52,7 @@ pub fn copy_times(
     ensures kept { kept.new ≡ from_kept.now }
     ensures ticks { Within (length since.old) ticks.old ticks.new }
 {
-    for s in 0..since.len() {
-        ticks.tick();
-        since[s] = from_since[s];
-        kept[s] = from_kept[s];
-    }
+    since.copy_from_slice(from_since);
+    kept.copy_from_slice(from_kept);
+    count(since.len(), ticks);
 }

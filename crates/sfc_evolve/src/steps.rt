@@ -8,7 +8,7 @@ use crate::copying::{copy_flags, copy_times};
 use crate::marking::{mark_following, unmark_preceding};
 use crate::marks::all_set;
 use crate::starting::start;
-use crate::times::{begin, keep_times};
+use crate::times::{begin, keep_times, measure_active};
 use sfc_expr::ticks::Ticks;
 use sfc_expr::variable::StepId;
 use sfc_flags::flags::Flags;
@@ -34,7 +34,7 @@ pub struct Steps {
     ghost instants: { AreInstants since.items },
 }
 
-#[tactic(auto, unfolding(crate::specs::Agreement::StepsAgree))]
+#[tactic(auto, unfolding(crate::specs::Agreement::StepsAgree, crate::specs::Agreement::measured_times))]
 impl Steps {
     ghost use Rattle.std.specs.Prelude.{◌≡◌, ◌<◌, ◌≤ℤ◌, ◌^◌, ◌+◌, ◌*◌, ◌∷◌, [], List, ℕ, pos, length, IfOk};
     ghost use Rattle.sfc_expr.specs.Ticks.{Within};
@@ -43,7 +43,7 @@ impl Steps {
     ghost use Rattle.sfc_evolve.specs.Evolution.{Scan, rows_of, is_active, active_steps, is_enabled, step_time};
     ghost use Rattle.sfc_evolve.specs.Evolution.{was_cleared, was_activated, preceding_of};
     ghost use Rattle.sfc_evolve.specs.Work.{advance_work};
-    ghost use Rattle.sfc_evolve.specs.Agreement.{IsFor, StepsAgree, step_places, transition_places};
+    ghost use Rattle.sfc_evolve.specs.Agreement.{IsFor, StepsAgree, step_places, transition_places, measured_times, AreMeasured};
 
     /// Before the first scan of a life. The one error is that memory was refused.
     pub fn new(alloc: Global, tables: &Tables) -> Result<Self, AllocError>
@@ -140,6 +140,28 @@ impl Steps {
         } else {
             self.kept[s]
         }
+    }
+
+    /// Works out the times of all steps at t: those of steps that aren't active are what they kept, so that only active
+    /// ones are handled (2.6.2). It takes no memory.
+    pub fn measure(&mut self, t: i64, ticks: &mut Ticks)
+        requires low { pos 0 ≤ℤ t }
+        requires high { t ≤ℤ pos (2 ^ 62) }
+        ensures steps { step_places self.new ≡ step_places self.old }
+        ensures transitions { transition_places self.new ≡ transition_places self.old }
+        ensures kept { (tables : Tabled) (scans : List Scan) → StepsAgree tables self.old scans →
+            StepsAgree tables self.new scans }
+        ensures measured { AreMeasured t self.new }
+        ensures ticks { Within (step_places self.old) ticks.old ticks.new }
+    {
+        measure_active(&mut self.kept, &self.since, &self.active, t, ticks);
+    }
+
+    /// The times of all steps by number, in microseconds, as they were last worked out.
+    pub fn times(&self) -> &[i64]
+        ensures { result.now ≡ measured_times self.now }
+    {
+        &self.kept
     }
 
     /// Whether the latest scan activated the step.

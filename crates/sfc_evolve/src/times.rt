@@ -5,7 +5,7 @@ ghost use Rattle.sfc_expr.specs.Ticks.{Within};
 ghost use Rattle.sfc_flags.specs.Flags.{places_from};
 ghost use Rattle.sfc_tables.specs.Tables.{AreTables};
 ghost use Rattle.sfc_evolve.specs.Evolution.{preceding_of};
-ghost use Rattle.sfc_evolve.specs.Private.Keeping.{AllBelow, AreInstants, left_at, left_by, begun_at, set_at, side_work};
+ghost use Rattle.sfc_evolve.specs.Private.Keeping.{AllBelow, AreInstants, left_at, left_by, begun_at, set_at, measured_at, side_work};
 
 use sfc_expr::ticks::Ticks;
 use sfc_expr::variable::StepId;
@@ -38,6 +38,24 @@ pub fn leave(kept: &mut [i64], since: &[i64], steps: &[StepId], t: i64, ticks: &
         ticks.tick();
         let s = step.0 as usize;
         kept[s] = time_since(since[s], t);
+    }
+}
+
+/// Gives each active step the time since it was last activated, as it is at t.
+pub fn measure_active(times: &mut [i64], since: &[i64], active: &Flags, t: i64, ticks: &mut Ticks)
+    requires low { pos 0 ≤ℤ t }
+    requires high { t ≤ℤ pos (2 ^ 62) }
+    requires instants { AreInstants since.now }
+    requires active_len { length active.now ≡ length since.now }
+    requires times_len { length times.old ≡ length since.now }
+    ensures times { times.new ≡ measured_at t since.now (places_from active.now 0) times.old }
+    ensures len { length times.new ≡ length times.old }
+    ensures ticks { Within (length active.now) ticks.old ticks.new }
+{
+    let mut at = 0;
+    'places: while let Some(s) = active.next_set(at, ticks) {
+        times[s] = time_since(since[s], t);
+        at = s + 1;
     }
 }
 

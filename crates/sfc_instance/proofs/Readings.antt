@@ -1,8 +1,7 @@
 -- What the expressions of a scan read.
-use Rattle.std.proofs.Common.{◌≡◌, Bool, List, length, map, ℤ, ap, ◌∙◌}
-use Rattle.std.specs.List.{range_with_len}
+use Rattle.std.proofs.Common.{◌≡◌, Bool, List, ℤ, ap, ◌∙◌}
 use Rattle.sfc_tables.specs.Tables.{Tabled, tables_of}
-use Rattle.sfc_evolve.specs.Evolution.{active_steps, step_time}
+use Rattle.sfc_evolve.specs.Evolution.{active_steps}
 use Rattle.sfc_chart.specs.Plants.{PlantData}
 use Rattle.sfc_image.specs.Changes.{Change}
 use Rattle.sfc_image.specs.Environments.{environment_of}
@@ -14,12 +13,6 @@ use Rattle.sfc_instance.specs.ProgramScan.{environment, step_times}
 -- the tables of a setting are those of its instance's chart
 pub tables_is : (plant : PlantData) (setting : Setting) → IsSettingOf plant setting → setting.tables.now ≡ tables_of (chart_of plant setting.instance)
 tables_is plant setting is = is.tables ∙ ap tables_of is.chart
-
--- the times of n steps
-pub times_are : (tables : Tabled) (life : Life) (t : ℤ) (times : List ℤ) (n : _) → n ≡ length tables.initial
-    → times ≡ map (λ s. step_time tables (evolution_rows tables life) s t) (range_with_len 0 n) → times ≡ step_times tables life t
-times_are tables life t times n long is =
-    is ∙ ap (λ m. map (λ s. step_time tables (evolution_rows tables life) s t) (range_with_len 0 m)) long
 
 -- what is read
 pub environment_is : (plant : PlantData) (setting : Setting) (life : Life) (changes : List Change) (t : ℤ) (q : Bool)

@@ -1,5 +1,5 @@
 -- What a `Program` agrees with.
-use Rattle.std.specs.Prelude.{ℕ, ◌≡◌, ◌≤◌, [], length}
+use Rattle.std.specs.Prelude.{ℕ, ◌≡◌, [], length}
 use Rattle.sfc_tables.specs.Tables.{Tabled}
 use Rattle.sfc_evolve.specs.Agreement as evolve
 use Rattle.sfc_action.specs.Agreement as action
@@ -38,8 +38,6 @@ action_places program = action.action_places program.scanner.now.controls
 pub record IsRoomFor (tables : Tabled) (room : Room) : Type 0 where
   pub conditions : length room.conditions.items ≡ length tables.sides
   pub times : AreTimes tables.associations room.times.items room.varied.items
-  pub step_times : length room.step_times.items ≡ length tables.initial
-  pub few : length tables.initial ≤ 1024
 
 pub record IsScannerFor (tables : Tabled) (scanner : Scanner) : Type 0 where
   pub now : IsStateFor tables scanner.now

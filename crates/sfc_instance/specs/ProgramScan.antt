@@ -21,7 +21,8 @@ use Rattle.sfc_tables.specs.declared.chart.Chart.{Chart}
 use Rattle.sfc_tables.specs.declared.chart.Transition.{Transition}
 use Rattle.sfc_tables.specs.declared.ids.TransitionId.{TransitionId}
 use Rattle.sfc_tables.specs.Tables.{Tabled, tables_of}
-use Rattle.sfc_evolve.specs.Evolution.{is_active, active_steps, is_enabled, preceding_of, step_count, step_time, transition_count}
+use Rattle.sfc_evolve.specs.Evolution as evolution
+use Rattle.sfc_evolve.specs.Evolution.{is_active, active_steps, is_enabled, preceding_of, transition_count}
 use Rattle.sfc_evolve.specs.Lookback.{or_else}
 use Rattle.sfc_action.specs.ActionControl as control
 use Rattle.sfc_action.specs.declared.fault.ControlFault.{ControlFault}
@@ -41,7 +42,7 @@ use Rattle.sfc_instance.specs.Setting.{chart_of}
 
 -- the times of the steps at t, by number (2.6.2)
 abbrev pub step_times : Tabled → Life → ℤ → List ℤ
-step_times tables life t = map (λ s. step_time tables (evolution_rows tables life) s t) (range_with_len 0 (step_count tables))
+step_times tables life t = evolution.step_times tables (evolution_rows tables life) t
 
 -- the steps that are active after these scans, their times at t, and Q
 abbrev pub moment : Tabled → Life → ℤ → Bool → Moment

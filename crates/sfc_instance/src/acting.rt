@@ -1,19 +1,21 @@
 //! What the actions of a scan do with the variables (2.6.4.1, 2.6.4.5).
 
-ghost use Rattle.std.specs.Prelude.{◌≡◌, ◌<◌, ◌++◌, List, ℤ, Some, length, slice_get};
+ghost use Rattle.std.specs.Prelude.{◌≡◌, ◌<◌, ◌+◌, ◌++◌, List, ℤ, Some, false, true, length, slice_get};
 ghost use Rattle.sfc_expr.specs.Trees.{body_of as statements_body};
 ghost use Rattle.sfc_tables.specs.declared.association.Target.{Target};
 ghost use Rattle.sfc_expr.specs.Ticks.{Within};
 ghost use Rattle.sfc_chart.specs.Plants.{PlantData};
-ghost use Rattle.sfc_image.specs.Changes.{Change, trying};
-ghost use Rattle.sfc_image.specs.Agreement.{ImageAgrees, IsAsLarge, instance_places, is_open};
+ghost use Rattle.sfc_image.specs.Changes.{Change, settled, trying};
+ghost use Rattle.sfc_image.specs.Agreement.{ImageAgrees, IsAsLarge, instance_places, variable_places, is_open};
 ghost use Rattle.sfc_instance.specs.Life.{Life, evolution_rows};
 ghost use Rattle.sfc_tables.specs.Tables.{Tabled};
 ghost use Rattle.sfc_evolve.specs.Evolution.{active_steps};
+ghost use Rattle.sfc_evolve.specs.Agreement.{AreMeasured};
+ghost use Rattle.sfc_instance.specs.Setting.{IsSettingOf};
 ghost use Rattle.sfc_instance.specs.ProgramScan.{acted, after_actions, body_in};
 ghost use Rattle.sfc_instance.specs.Agreement.{IsStateFor, StateAgrees};
 ghost use Rattle.sfc_instance.specs.Work.{action_work, actions_work};
-ghost use Rattle.sfc_instance.specs.Private.Acting.{IsAfter, Acts};
+ghost use Rattle.sfc_instance.specs.Private.Acting.{IsAfter, Acts, HasActed};
 
 use crate::setting::Setting;
 use crate::state::State;
@@ -120,4 +122,53 @@ pub fn act(acting: Acting<'_>, image: &mut Image, ticks: &mut Ticks) -> Result<(
         }
     }
     Ok(())
+}
+
+// What was tried is kept, or given up.
+fn close(image: &mut Image, keep: bool, ticks: &mut Ticks)
+    requires { is_open image.old ≡ true }
+    ensures large { IsAsLarge image.old image.new }
+    ensures closed { is_open image.new ≡ false }
+    ensures kept { keep ≡ true → (plant : PlantData) (kept tried : List Change) →
+        ImageAgrees plant image.old (trying kept tried) → ImageAgrees plant image.new (settled (tried ++ kept)) }
+    ensures given_up { keep ≡ false → (plant : PlantData) (kept tried : List Change) →
+        ImageAgrees plant image.old (trying kept tried) → ImageAgrees plant image.new (settled kept) }
+    ensures ticks { Within (variable_places image.old) ticks.old ticks.new }
+{
+    if keep {
+        image.commit(ticks);
+    } else {
+        image.undo(ticks);
+    }
+}
+
+/// What the actions do after a scan that left these steps and this action control, where the times of the steps are worked
+/// out. After a fault of a body the variables are as before.
+pub fn act_or_undo(
+    setting: Setting<'_>,
+    state: &State,
+    image: &mut Image,
+    ticks: &mut Ticks,
+) -> Result<(), Fault>
+    requires state { IsStateFor setting.tables.now state.now }
+    requires instance { setting.instance.0 < instance_places image.old }
+    requires closed { is_open image.old ≡ false }
+    ensures large { IsAsLarge image.old image.new }
+    ensures closed { is_open image.new ≡ false }
+    ensures kept { (plant : PlantData) (life : Life) (t : ℤ) (changes : List Change) → IsSettingOf plant setting.entry →
+        StateAgrees setting.entry.tables.now state.now life → AreMeasured t state.now.steps →
+        ImageAgrees plant image.old (settled changes) → HasActed plant changes image.new result
+        (after_actions plant setting.entry.instance life t 0 setting.entry.tables.now.actions changes) }
+    ensures ticks { Within (actions_work setting.entry.chart.now setting.entry.tables.now.actions + variable_places image.old)
+        ticks.old ticks.new }
+{
+    let acting = Acting {
+        setting,
+        state,
+        times: state.steps.times(),
+    };
+    image.begin();
+    let answer = act(acting, image, ticks);
+    close(image, answer.is_ok(), ticks);
+    answer
 }

@@ -6,7 +6,7 @@
 //! - `ended`: how a scan ended.
 //! - `laws`: what the definitions mean.
 //! - `program`: a program instance, in running form.
-//! - `reading`: the times of steps and associations.
+//! - `reading`: the times of associations.
 //! - `room`: room for a scan.
 //! - `scan_fault`: what ended a scan without a row.
 //! - `scanner`: what a scan works on.

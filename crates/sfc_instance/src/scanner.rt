@@ -1,5 +1,6 @@
 //! What a scan of a program instance works on.
 
+use crate::acting::act_or_undo;
 use crate::room::Room;
 use crate::state::State;
 
@@ -83,7 +84,8 @@ impl Scanner {
             + actions_work setting.entry.chart.now setting.entry.tables.now.actions
             + variable_places image.old) ticks.old ticks.new }
     {
-        let answer = self.room.act(setting, &self.spare, image, t, ticks);
+        self.spare.measure(setting.tables, t, ticks);
+        let answer = act_or_undo(setting, &self.spare, image, ticks);
         if answer.is_ok() {
             std::mem::swap(&mut self.now, &mut self.spare);
         }
@@ -151,6 +153,7 @@ impl Scanner {
             self.new.now image.new result (attempt plant setting.entry.instance life changes t) }
         ensures ticks { Within (scan_work setting.entry.tables.now setting.entry.chart.now (variable_places image.old)) ticks.old ticks.new }
     {
+        self.now.measure(setting.tables, t, ticks);
         match self.room.read(setting, &self.now, image, t, ticks) {
             Err(fault) => Err(ScanFault::Expression(fault)),
             Ok(()) => self.go_on(setting, image, t, ticks),

@@ -23,6 +23,7 @@ ghost use Rattle.std.specs.Prelude.{◌≡◌, ◌≤ℤ◌, ◌^◌, ◌+◌, �
 ghost use Rattle.std.specs.Result.{result_err};
 ghost use Rattle.sfc_expr.specs.Ticks.{Within};
 ghost use Rattle.sfc_tables.specs.Tables.{Tabled};
+ghost use Rattle.sfc_evolve.specs.Agreement.{AreMeasured};
 ghost use Rattle.sfc_evolve.specs.Work.{advance_work};
 ghost use Rattle.sfc_action.specs.ActionControl.{first_fault};
 ghost use Rattle.sfc_action.specs.Work.{control_work};
@@ -58,6 +59,19 @@ impl State {
     {
         self.steps.copy_from(&other.steps, ticks);
         self.controls.copy_from(&other.controls, ticks);
+    }
+
+    /// Works out the times of all steps at t. It takes no memory.
+    pub fn measure(&mut self, tables: &Tables, t: i64, ticks: &mut Ticks)
+        requires sizes { IsStateFor tables.now self.old }
+        requires low { pos 0 ≤ℤ t }
+        requires high { t ≤ℤ pos (2 ^ 62) }
+        ensures sizes { IsStateFor tables.now self.new }
+        ensures kept { (life : Life) → StateAgrees tables.now self.old life → StateAgrees tables.now self.new life }
+        ensures measured { AreMeasured t self.new.steps }
+        ensures ticks { Within (length tables.now.initial) ticks.old ticks.new }
+    {
+        self.steps.measure(t, ticks);
     }
 
     /// One scan at t, with the condition of each transition and the time of each association. It takes no memory. The

@@ -39,6 +39,11 @@ abbrev pub left_by : ℤ → List ℤ → (ℕ → List StepId) → List ℕ →
 left_by t since side [] kept = kept
 left_by t since side (tr ∷ trs) kept = left_by t since side trs (left_at t since (side tr) kept)
 
+-- the times with those of these places as they are at t
+abbrev pub measured_at : ℤ → List ℤ → List ℕ → List ℤ → List ℤ
+measured_at t since [] times = times
+measured_at t since (s ∷ places) times = measured_at t since places (slice_set times s (t -ℤ number since s))
+
 -- the instants with those of these steps set
 abbrev pub begun_at : ℤ → List ℕ → List ℤ → List ℤ
 begun_at t [] since = since

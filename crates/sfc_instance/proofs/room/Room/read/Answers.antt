@@ -1,4 +1,4 @@
-use Rattle.std.proofs.Common.{◌≡◌, false, arith, length, map, List, sym, ap, ◌∙◌, to_z-of_z}
+use Rattle.std.proofs.Common.{false, arith, map, List, sym, ap, ◌∙◌}
 use Rattle.std.proofs.lemmas.List.{with_items_is}
 use Rattle.sfc_expr.specs.Environment.{Environment}
 use Rattle.sfc_image.specs.Changes.{settled}
@@ -8,10 +8,10 @@ use Rattle.sfc_tables.specs.declared.chart.Chart.{Chart}
 use Rattle.sfc_tables.specs.Tables.{Tabled, tables_of}
 use Rattle.sfc_instance.specs.Life.{evolution_scans}
 use Rattle.sfc_instance.specs.Setting.{chart_of}
-use Rattle.sfc_instance.specs.ProgramScan.{association_times, time_of, condition_fault, condition_flags, environment, step_times}
+use Rattle.sfc_instance.specs.ProgramScan.{association_times, time_of, condition_fault, condition_flags, environment}
 use Rattle.sfc_instance.specs.Agreement.{StateAgrees}
 use Rattle.sfc_instance.proofs.Left.{on_ok, hold_ok}
-use Rattle.sfc_instance.proofs.Readings.{environment_is, tables_is, times_are}
+use Rattle.sfc_instance.proofs.Readings.{environment_is, tables_is}
 use Rattle.sfc_instance.proofs.room.Room.read.Goals as goal
 
 pub returns-then-is_ok-clause-fault : goal.returns-then-is_ok-clause-fault
@@ -19,14 +19,10 @@ unfolding StateAgrees
 returns-then-is_ok-clause-fault c plant life changes setting state h =
     let tables = c.args.setting.tables.now in
     let chart = c.args.setting.chart.now in
-    let long : length c.deref_mut.result.now ≡ length tables.initial = omega (arith, c.deref_mut.ensures.len, c.requires.sizes.step_times) in
-    let read = simp (to_z-of_z, c.ranges.t) at (c.read_step_times.ensures.times tables (evolution_scans life) state.steps) in
-    let times : c.read_step_times.new.times ≡ step_times tables life c.args.t =
-    times_are tables life c.args.t c.read_step_times.new.times (length c.deref_mut.result.now) long read in
+    let times = c.times.ensures ∙ c.requires.measured tables (evolution_scans life) state.steps in
     let env = c.view-view.ensures plant (settled changes) h
-    ∙ environment_is plant c.args.setting life changes c.args.t false c.active_flags.result.now c.deref.result.now setting
-    (c.active_flags.ensures.flags tables (evolution_scans life) state.steps)
-    (c.deref.ensures.value ∙ with_items_is c.args.self.now.step_times c.read_step_times.new.times (omega arith) ∙ times) in
+    ∙ environment_is plant c.args.setting life changes c.args.t false c.active_flags.result.now c.times.result.now setting
+    (c.active_flags.ensures.flags tables (evolution_scans life) state.steps) times in
     c.evaluate_all-answer.ensures.fault life state.steps ∙ ap (λ (e : Environment). condition_fault tables chart e life tables.ranked) env
 
 pub returns-else-is_ok-clause-fault : goal.returns-else-is_ok-clause-fault
@@ -34,14 +30,10 @@ unfolding StateAgrees
 returns-else-is_ok-clause-fault c plant life changes setting state h =
     let tables = c.args.setting.tables.now in
     let chart = c.args.setting.chart.now in
-    let long : length c.deref_mut.result.now ≡ length tables.initial = omega (arith, c.deref_mut.ensures.len, c.requires.sizes.step_times) in
-    let read = simp (to_z-of_z, c.ranges.t) at (c.read_step_times.ensures.times tables (evolution_scans life) state.steps) in
-    let times : c.read_step_times.new.times ≡ step_times tables life c.args.t =
-    times_are tables life c.args.t c.read_step_times.new.times (length c.deref_mut.result.now) long read in
+    let times = c.times.ensures ∙ c.requires.measured tables (evolution_scans life) state.steps in
     let env = c.view-view.ensures plant (settled changes) h
-    ∙ environment_is plant c.args.setting life changes c.args.t false c.active_flags.result.now c.deref.result.now setting
-    (c.active_flags.ensures.flags tables (evolution_scans life) state.steps)
-    (c.deref.ensures.value ∙ with_items_is c.args.self.now.step_times c.read_step_times.new.times (omega arith) ∙ times) in
+    ∙ environment_is plant c.args.setting life changes c.args.t false c.active_flags.result.now c.times.result.now setting
+    (c.active_flags.ensures.flags tables (evolution_scans life) state.steps) times in
     c.evaluate_all-answer.ensures.fault life state.steps ∙ ap (λ (e : Environment). condition_fault tables chart e life tables.ranked) env
 
 pub returns-then-is_ok-clause-row : goal.returns-then-is_ok-clause-row
@@ -50,14 +42,10 @@ returns-then-is_ok-clause-row c = hold_ok c.evaluate_all-answer.result _ (λ pla
     let tables = c.args.setting.tables.now in
     let chart = c.args.setting.chart.now in
     let p = c.args.setting.instance in
-    let long : length c.deref_mut.result.now ≡ length tables.initial = omega (arith, c.deref_mut.ensures.len, c.requires.sizes.step_times) in
-    let read = simp (to_z-of_z, c.ranges.t) at (c.read_step_times.ensures.times tables (evolution_scans life) state.steps) in
-    let times : c.read_step_times.new.times ≡ step_times tables life c.args.t =
-    times_are tables life c.args.t c.read_step_times.new.times (length c.deref_mut.result.now) long read in
+    let times = c.times.ensures ∙ c.requires.measured tables (evolution_scans life) state.steps in
     let env = c.view-view.ensures plant (settled changes) h
-    ∙ environment_is plant c.args.setting life changes c.args.t false c.active_flags.result.now c.deref.result.now setting
-    (c.active_flags.ensures.flags tables (evolution_scans life) state.steps)
-    (c.deref.ensures.value ∙ with_items_is c.args.self.now.step_times c.read_step_times.new.times (omega arith) ∙ times) in
+    ∙ environment_is plant c.args.setting life changes c.args.t false c.active_flags.result.now c.times.result.now setting
+    (c.active_flags.ensures.flags tables (evolution_scans life) state.steps) times in
     let flags = with_items_is c.args.self.now.conditions c.evaluate_all-answer.new.conditions (omega arith)
     ∙ on_ok c.evaluate_all-answer.result _ (sym c.is_ok.ensures.value ∙ c.if-is_ok.true) c.evaluate_all-answer.ensures.flags life state.steps
     ∙ ap (λ (e : Environment). condition_flags tables chart e life) env

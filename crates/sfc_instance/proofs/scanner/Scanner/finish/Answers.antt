@@ -6,18 +6,20 @@ use Rattle.sfc_instance.proofs.scanner.Scanner.finish.Goals as goal
 
 pub returns-then-is_ok-clause-now : goal.returns-then-is_ok-clause-now
 returns-then-is_ok-clause-now c life h =
-    moved_ok c.args.setting.tables.now life c.act-answer.result c.args.self.now.now c.swap.new.x (sym c.is_ok.ensures.value ∙ c.if-is_ok.true)
-    (subst (λ (x : State). StateAgrees c.args.setting.tables.now x life) (sym c.swap.ensures.x_after) h)
+    moved_ok c.args.setting.tables.now life c.act_or_undo-answer.result c.args.self.now.now c.swap.new.x (sym c.is_ok.ensures.value ∙ c.if-is_ok.true)
+    (subst (λ (x : State). StateAgrees c.args.setting.tables.now x life) (sym c.swap.ensures.x_after) (c.measure.ensures.kept life h))
 
 pub returns-else-is_ok-clause-now : goal.returns-else-is_ok-clause-now
 returns-else-is_ok-clause-now c life h =
-    moved_err c.args.setting.tables.now life c.act-answer.result c.args.self.now.now c.args.self.now.now
+    moved_err c.args.setting.tables.now life c.act_or_undo-answer.result c.args.self.now.now c.args.self.now.now
     (sym c.is_ok.ensures.value ∙ c.if-is_ok.false) refl
 
 pub returns-then-is_ok-clause-kept : goal.returns-then-is_ok-clause-kept
 returns-then-is_ok-clause-kept c plant life changes setting state h =
-    simp (to_z-of_z, c.ranges.t) at (c.act-answer.ensures.kept plant life changes setting state h)
+    c.act_or_undo-answer.ensures.kept plant life c.args.t changes setting (c.measure.ensures.kept life state)
+    (simp (to_z-of_z, c.ranges.t) at c.measure.ensures.measured) h
 
 pub returns-else-is_ok-clause-kept : goal.returns-else-is_ok-clause-kept
 returns-else-is_ok-clause-kept c plant life changes setting state h =
-    simp (to_z-of_z, c.ranges.t) at (c.act-answer.ensures.kept plant life changes setting state h)
+    c.act_or_undo-answer.ensures.kept plant life c.args.t changes setting (c.measure.ensures.kept life state)
+    (simp (to_z-of_z, c.ranges.t) at c.measure.ensures.measured) h

@@ -12,26 +12,26 @@ returns-in-Err-clause-kept c plant life changes setting state h =
     let tables = c.args.setting.tables.now in
     let told : result_err c.read.result
     ≡ condition_fault tables c.args.setting.chart.now (environment plant c.args.setting.instance life changes c.args.t false) life tables.ranked =
-    c.read.ensures.fault plant life changes setting state h
+    c.read.ensures.fault plant life changes setting (c.measure.ensures.kept life state) h
     ∙ ap (λ (x : ℤ). condition_fault tables c.args.setting.chart.now (environment plant c.args.setting.instance life changes x false) life tables.ranked)
     (to_z-of_z c.ranges.t) in
     condition_ends plant c.args.setting setting life changes c.args.t (next_row plant c.args.setting.instance life changes c.args.t) c.in-Err.fault
-    c.args.self.now.now c.args.image.now (ap result_err (sym c.in-Err.is) ∙ told) state h
+    c.measure.new.self c.args.image.now (ap result_err (sym c.in-Err.is) ∙ told) (c.measure.ensures.kept life state) h
 
 pub returns-in-Ok-clause-kept : goal.returns-in-Ok-clause-kept
 returns-in-Ok-clause-kept c plant life changes setting state h =
     let tables = c.args.setting.tables.now in
     let told : result_err c.read.result
     ≡ condition_fault tables c.args.setting.chart.now (environment plant c.args.setting.instance life changes c.args.t false) life tables.ranked =
-    c.read.ensures.fault plant life changes setting state h
+    c.read.ensures.fault plant life changes setting (c.measure.ensures.kept life state) h
     ∙ ap (λ (x : ℤ). condition_fault tables c.args.setting.chart.now (environment plant c.args.setting.instance life changes x false) life tables.ranked)
     (to_z-of_z c.ranges.t) in
     let on : is_ok c.read.result ≡ true = ap is_ok c.in-Ok.is in
     let row : row_in c.read.new.self c.args.t ≡ next_row plant c.args.setting.instance life changes c.args.t =
-    ap (row_in c.read.new.self) (sym (to_z-of_z c.ranges.t)) ∙ on_ok c.read.result _ on c.read.ensures.row plant life changes setting state h
+    ap (row_in c.read.new.self) (sym (to_z-of_z c.ranges.t)) ∙ on_ok c.read.result _ on c.read.ensures.row plant life changes setting (c.measure.ensures.kept life state) h
     ∙ ap (next_row plant c.args.setting.instance life changes) (to_z-of_z c.ranges.t) in
     let ended = subst (λ (x : ℤ). HasScanned plant tables life changes (row_in c.read.new.self x) c.go_on.new.self.now c.go_on.new.image c.go_on.result
     (with_row plant c.args.setting.instance life changes x (row_in c.read.new.self x))) (to_z-of_z c.ranges.t)
-    (c.go_on.ensures.kept plant life changes setting state h) in
+    (c.go_on.ensures.kept plant life changes setting (c.measure.ensures.kept life state) h) in
     goes_on plant c.args.setting setting life changes c.args.t (row_in c.read.new.self c.args.t) c.go_on.result c.go_on.new.self.now c.go_on.new.image
     (ap result_err (sym c.in-Ok.is) ∙ told) row ended

@@ -1,0 +1,47 @@
+-- What measuring leaves: of active steps the time since they began, and of all others what they kept.
+use Rattle.std.proofs.Common.{◌≡◌, ℕ, Bool, true, false, cond, List, length, ℤ, pos, ◌-ℤ◌, refl, sym, ap, ◌∙◌}
+use Rattle.std.proofs.lemmas.List.FromFn.{fill_by_all}
+use Rattle.sfc_flags.specs.Flags.{flag, places_from}
+use Rattle.sfc_tables.specs.Tables.{Tabled}
+use Rattle.sfc_evolve.specs.Evolution.{Scan, rows_of, step_count, step_time, step_times}
+use Rattle.sfc_evolve.specs.Private.Keeping.{AreKept, number, measured_at}
+use Rattle.sfc_evolve.proofs.Flagged.{number-measured_at, members_below, is_member}
+
+-- at each step
+measured_is : (t : ℤ) (since : List ℤ) (active : List Bool) (times : List ℤ) (s : ℕ) → length times ≡ length active
+    → number (measured_at t since (places_from active 0) times) s ≡ cond (flag active s) (t -ℤ number since s) (number times s)
+measured_is t since active times s long =
+    number-measured_at (length active) t since (places_from active 0) times s long (members_below active (length active) refl)
+    ∙ ap (λ b. cond b (t -ℤ number since s) (number times s)) (is_member active s)
+
+once_more : (b : Bool) (x y k : ℤ) → cond b x k ≡ cond b x (cond b y k)
+once_more true x y k = refl
+once_more false x y k = refl
+
+itself : (b : Bool) (x y z : ℤ) → y ≡ cond b x z → y ≡ cond b x y
+itself true x y z e = e
+itself false x y z e = refl
+
+module _ (tables : Tabled) (begun : Bool) (active : List Bool) (since kept : List ℤ) (cleared on : List Bool) (scans : List Scan)
+    (t : ℤ) (times : List ℤ) (long : length kept ≡ length active)
+    (made : times ≡ measured_at t since (places_from active 0) kept) where
+  each : (s : ℕ) → number times s ≡ cond (flag active s) (t -ℤ number since s) (number kept s)
+  each s = ap (λ xs. number xs s) made ∙ measured_is t since active kept s long
+
+  -- what is kept stays so
+  pub still_kept : AreKept tables begun active since kept cleared on scans → AreKept tables begun active since times cleared on scans
+  still_kept k = record {
+    has_begun = k.has_begun;
+    activity = k.activity;
+    time = λ s lt now. k.time s lt now
+        ∙ once_more (flag active s) (now -ℤ number since s) (t -ℤ number since s) (number kept s)
+        ∙ ap (λ x. cond (flag active s) (now -ℤ number since s) x) (sym (each s));
+    clearing = k.clearing;
+    activation = k.activation;
+  }
+
+  -- they are the times of all steps
+  pub times_are : length times ≡ step_count tables → AreKept tables begun active since times cleared on scans
+      → times ≡ step_times tables (rows_of tables scans) t
+  times_are same k = fill_by_all (λ s. step_time tables (rows_of tables scans) s t) times (step_count tables) (pos 0) same
+      (λ s lt. itself (flag active s) (t -ℤ number since s) (number times s) (number kept s) (each s) ∙ sym (k.time s lt t))
