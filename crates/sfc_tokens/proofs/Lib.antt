@@ -20,3 +20,4 @@ pub mod Scans
 pub mod Outcomes
 pub mod DurationWords
 pub mod TimeLaw
+pub mod Spelled

@@ -1,13 +1,16 @@
 //! What holds of the tokens and the TIME text themselves.
 
-ghost use Rattle.std.specs.Prelude.{◌≡◌, ◌≤◌, ◌↔◌, ℕ, ℤ, nat_eq, unsigned_abs, List, [], ◌∷◌, Ok, Some};
+ghost use Rattle.std.specs.Prelude.{◌≡◌, ◌≤◌, ◌<◌, ◌^◌, ◌↔◌, ℕ, ℤ, nat_eq, unsigned_abs, List, [], ◌∷◌, ◌++◌, Ok, Some, codes};
 ghost use Rattle.std.specs.Cmp.Lexicographic.{pointwise};
+ghost use Rattle.std.specs.Fmt.{decimal, signed_decimal};
 ghost use Rattle.std.specs.Str.{str_to_ascii_uppercase};
 ghost use Rattle.sfc_tokens.specs.Case.{same_word};
 ghost use Rattle.sfc_tokens.specs.Durations.{greatest};
 ghost use Rattle.sfc_tokens.specs.Scanning.DurationWords.{duration_value};
 ghost use Rattle.sfc_tokens.specs.TimeText.{time_text};
-ghost use Rattle.sfc_tokens.specs.Lexemes.{Tokens, Scans, IsDuration};
+ghost use Rattle.sfc_tokens.specs.Lexemes.{Tokens, Scans, IsDuration, Piece};
+ghost use Rattle.sfc_tokens.specs.Runs.{Ends};
+ghost use Rattle.sfc_tokens.specs.declared.run.Alphabet.TheVariants as alphabet;
 ghost use Rattle.sfc_tokens.specs.declared.token.TokenKind.{TokenKind};
 ghost use Rattle.sfc_tokens.specs.Texts.{TextScans};
 ghost use Rattle.sfc_tokens.specs.Tokens.{Kinds};
@@ -45,4 +48,27 @@ pub fn one_duration()
 /// The TIME text of a value is one duration, and of that value.
 pub fn time_text_read()
     ensures { (z : ℤ) → unsigned_abs z ≤ greatest → IsDuration (time_text z) z }
+{}
+
+/// A number of 32 bits in decimal digits is one integer, where no more of a number follows.
+pub fn integer_spelled()
+    ensures { (n : ℕ) (rest : List ℕ) → n < 2 ^ 32 → Ends alphabet.Number rest → Piece (decimal n) rest (Some (TokenKind.Integer n)) }
+{}
+
+/// `INT#` and a number of 32 bits with its sign is one token of type INT, where no more of a number follows.
+pub fn int_spelled()
+    ensures { (z : ℤ) (rest : List ℕ) → unsigned_abs z < 2 ^ 32 → Ends alphabet.Number rest
+        → Piece (codes "INT#" ++ signed_decimal z) rest (Some (TokenKind.Int z)) }
+{}
+
+/// `DINT#` and a number of 32 bits with its sign is one token of type DINT, where no more of a number follows.
+pub fn dint_spelled()
+    ensures { (z : ℤ) (rest : List ℕ) → unsigned_abs z < 2 ^ 32 → Ends alphabet.Number rest
+        → Piece (codes "DINT#" ++ signed_decimal z) rest (Some (TokenKind.Dint z)) }
+{}
+
+/// The TIME text of a value is one duration, and of that value, where no more of a duration follows.
+pub fn time_spelled()
+    ensures { (z : ℤ) (rest : List ℕ) → unsigned_abs z ≤ greatest → Ends alphabet.Interval rest
+        → Piece (time_text z) rest (Some (TokenKind.Duration z)) }
 {}

@@ -1,0 +1,66 @@
+-- The spellings of tokens are pieces of text that scan as them.
+use Rattle.std.proofs.Common.{◌≡◌, ℕ, ℤ, pos, negsuc, unsigned_abs, suc, ◌<◌, ◌^◌, true, false, List, [], ◌∷◌, ◌++◌, Some, refl, sym, subst, arith, codes}
+use Rattle.std.specs.Fmt.{decimal, signed_decimal}
+use Rattle.sfc_tokens.specs.declared.class.Class.{Class}
+use Rattle.sfc_tokens.specs.declared.class.Class.TheVariants as class
+use Rattle.sfc_tokens.specs.declared.run.Alphabet.TheVariants as alphabet
+use Rattle.sfc_tokens.specs.declared.literal.LiteralKind.TheVariants as kind
+use Rattle.sfc_tokens.specs.declared.token.TokenKind.TheVariants as token
+use Rattle.sfc_tokens.specs.Classes.{class_of}
+use Rattle.sfc_tokens.specs.Runs.{is_in, AllIn, Ends, IsRun}
+use Rattle.sfc_tokens.specs.Case.{same_word}
+use Rattle.sfc_tokens.specs.Literals as literals
+use Rattle.sfc_tokens.specs.Literals.{kind_of_prefix}
+use Rattle.sfc_tokens.specs.Lexemes as lexemes
+use Rattle.sfc_tokens.specs.Lexemes.{Prefix, is_minus, Piece}
+use Rattle.sfc_tokens.proofs.Digits.{figures}
+use Rattle.sfc_tokens.proofs.Parts.{integer_begins}
+use Rattle.sfc_tokens.proofs.DurationWords.{no_minus}
+use Rattle.sfc_tokens.proofs.TimeLaw.{decimal_integer}
+
+-- ---- numbers
+
+figure_by : (k : Class) → is_in alphabet.Figures k ≡ true → is_in alphabet.Number k ≡ true
+figure_by class.Digit e = refl
+figure_by class.Underscore e = refl
+figure_by _ e = absurd cc
+
+figures_in : (w : List ℕ) → AllIn alphabet.Figures w → AllIn alphabet.Number w
+figures_in [] h = tt
+figures_in (b ∷ w) h = (figure_by (class_of b) h.0, figures_in w h.1)
+
+-- decimal digits are one run
+decimal_run : (n : ℕ) (rest : List ℕ) → n < 2 ^ 32 → Ends alphabet.Number rest → IsRun alphabet.Number (decimal n) rest
+decimal_run n rest lt ends = record { all = figures_in (decimal n) (figures (decimal_integer n (omega (arith, lt)))); longest = ends }
+
+-- and begin with no minus
+decimal_plain : (n : ℕ) (rest : List ℕ) → n < 2 ^ 32 → is_minus (decimal n ++ rest) ≡ false
+decimal_plain n rest lt =
+    let b = integer_begins (decimal_integer n (omega (arith, lt))) in
+    subst (λ (x : List ℕ). is_minus (x ++ rest) ≡ false) (sym b.is) (no_minus b.head b.holds)
+
+-- an integer without a type
+pub integer_spells : (n : ℕ) (rest : List ℕ) → n < 2 ^ 32 → Ends alphabet.Number rest → Piece (decimal n) rest (Some (token.Integer n))
+integer_spells n rest lt ends =
+    let i = decimal_integer n (omega (arith, lt)) in
+    let b = integer_begins i in
+    let front : Prefix kind.Number [] (decimal n ++ rest) = subst (λ (x : List ℕ). Prefix kind.Number [] (x ++ rest)) (sym b.is) (lexemes.none b.holds) in
+    lexemes.literal false (decimal n) front (record { run = decimal_run n rest lt ends; sign = λ e. decimal_plain n rest lt }) (literals.integer i lt)
+
+-- `INT#` and a number
+int_front : (rest : List ℕ) → Prefix kind.Int (codes "INT#") rest
+unfolding class_of kind_of_prefix same_word
+int_front rest = lexemes.word {b = 73} {w = codes "NT"} refl (record { all = (refl, (refl, (refl, tt))); longest = refl }) refl
+
+pub int_spells : (z : ℤ) (rest : List ℕ) → unsigned_abs z < 2 ^ 32 → Ends alphabet.Number rest → Piece (codes "INT#" ++ signed_decimal z) rest (Some (token.Int z))
+int_spells (pos n) rest lt ends = lexemes.literal false (decimal n) (int_front (decimal n ++ rest)) (record { run = decimal_run n rest lt ends; sign = λ e. decimal_plain n rest lt }) (literals.int (literals.decimal (decimal_integer n (omega (arith, lt))) lt))
+int_spells (negsuc n) rest lt ends = lexemes.literal true (decimal (suc n)) (int_front (45 ∷ (decimal (suc n) ++ rest))) (record { run = decimal_run (suc n) rest lt ends; sign = λ e. absurd cc }) (literals.int (literals.decimal (decimal_integer (suc n) (omega (arith, lt))) lt))
+
+-- `DINT#` and a number
+dint_front : (rest : List ℕ) → Prefix kind.Dint (codes "DINT#") rest
+unfolding class_of kind_of_prefix same_word
+dint_front rest = lexemes.word {b = 68} {w = codes "INT"} refl (record { all = (refl, (refl, (refl, (refl, tt)))); longest = refl }) refl
+
+pub dint_spells : (z : ℤ) (rest : List ℕ) → unsigned_abs z < 2 ^ 32 → Ends alphabet.Number rest → Piece (codes "DINT#" ++ signed_decimal z) rest (Some (token.Dint z))
+dint_spells (pos n) rest lt ends = lexemes.literal false (decimal n) (dint_front (decimal n ++ rest)) (record { run = decimal_run n rest lt ends; sign = λ e. decimal_plain n rest lt }) (literals.dint (literals.decimal (decimal_integer n (omega (arith, lt))) lt))
+dint_spells (negsuc n) rest lt ends = lexemes.literal true (decimal (suc n)) (dint_front (45 ∷ (decimal (suc n) ++ rest))) (record { run = decimal_run (suc n) rest lt ends; sign = λ e. absurd cc }) (literals.dint (literals.decimal (decimal_integer (suc n) (omega (arith, lt))) lt))
