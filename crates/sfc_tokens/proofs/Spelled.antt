@@ -1,5 +1,5 @@
 -- The spellings of tokens are pieces of text that scan as them.
-use Rattle.std.proofs.Common.{◌≡◌, ℕ, ℤ, pos, negsuc, unsigned_abs, suc, ◌<◌, ◌^◌, true, false, List, [], ◌∷◌, ◌++◌, Some, refl, sym, subst, arith, codes}
+use Rattle.std.proofs.Common.{◌≡◌, ℕ, ℤ, pos, negsuc, unsigned_abs, suc, ◌<◌, ◌^◌, Bool, true, false, ◌&&◌, List, [], ◌∷◌, ◌++◌, Option, Some, None, is_none, refl, sym, subst, arith, codes}
 use Rattle.std.specs.Fmt.{decimal, signed_decimal}
 use Rattle.sfc_tokens.specs.declared.class.Class.{Class}
 use Rattle.sfc_tokens.specs.declared.class.Class.TheVariants as class
@@ -7,12 +7,16 @@ use Rattle.sfc_tokens.specs.declared.run.Alphabet.TheVariants as alphabet
 use Rattle.sfc_tokens.specs.declared.literal.LiteralKind.TheVariants as kind
 use Rattle.sfc_tokens.specs.declared.token.TokenKind.TheVariants as token
 use Rattle.sfc_tokens.specs.Classes.{class_of}
-use Rattle.sfc_tokens.specs.Runs.{is_in, AllIn, Ends, IsRun}
+use Rattle.sfc_tokens.specs.Runs.{is_in, has, AllIn, Ends, IsRun}
 use Rattle.sfc_tokens.specs.Case.{same_word}
 use Rattle.sfc_tokens.specs.Literals as literals
 use Rattle.sfc_tokens.specs.Literals.{kind_of_prefix}
 use Rattle.sfc_tokens.specs.Lexemes as lexemes
-use Rattle.sfc_tokens.specs.Lexemes.{Prefix, is_minus, Piece}
+use Rattle.sfc_tokens.specs.Lexemes.{reserved_or_name, word_token, is_sharp_first, Prefix, is_minus, Piece}
+use Rattle.std.specs.List.{list_all}
+use Rattle.sfc_tokens.specs.declared.keyword.Keyword.{Keyword}
+use Rattle.sfc_tokens.specs.Names.{starts_word, is_spaced, is_word, IsWord, IsName}
+use Rattle.sfc_tokens.specs.Words.{keyword_of}
 use Rattle.sfc_tokens.proofs.Digits.{figures}
 use Rattle.sfc_tokens.proofs.Parts.{integer_begins}
 use Rattle.sfc_tokens.proofs.DurationWords.{no_minus}
@@ -64,3 +68,36 @@ dint_front rest = lexemes.word {b = 68} {w = codes "INT"} refl (record { all = (
 pub dint_spells : (z : ℤ) (rest : List ℕ) → unsigned_abs z < 2 ^ 32 → Ends alphabet.Number rest → Piece (codes "DINT#" ++ signed_decimal z) rest (Some (token.Dint z))
 dint_spells (pos n) rest lt ends = lexemes.literal false (decimal n) (dint_front (decimal n ++ rest)) (record { run = decimal_run n rest lt ends; sign = λ e. decimal_plain n rest lt }) (literals.dint (literals.decimal (decimal_integer n (omega (arith, lt))) lt))
 dint_spells (negsuc n) rest lt ends = lexemes.literal true (decimal (suc n)) (dint_front (45 ∷ (decimal (suc n) ++ rest))) (record { run = decimal_run (suc n) rest lt ends; sign = λ e. absurd cc }) (literals.dint (literals.decimal (decimal_integer (suc n) (omega (arith, lt))) lt))
+
+-- ---- words
+
+both : (t u : Bool) → t && u ≡ true → (t ≡ true) × (u ≡ true)
+both true u e = (refl, e)
+both false u e = absurd cc
+
+listed_all : (w : List ℕ) → list_all (has alphabet.Word) w ≡ true → AllIn alphabet.Word w
+listed_all [] e = tt
+listed_all (b ∷ w) e = let h = both (has alphabet.Word b) (list_all (has alphabet.Word) w) e in (h.0, listed_all w h.1)
+
+-- a word is one token
+word_spells : (w rest : List ℕ) → IsWord w → Ends alphabet.Word rest → is_sharp_first rest ≡ false → Piece w rest (Some (word_token w))
+word_spells [] rest is ends sharp = absurd cc
+word_spells (b ∷ w) rest is ends sharp =
+    let h = both (starts_word (class_of b) && list_all (has alphabet.Word) (b ∷ w)) (is_spaced (b ∷ w)) is in
+    let g = both (starts_word (class_of b)) (list_all (has alphabet.Word) (b ∷ w)) h.0 in
+    lexemes.word g.0 (record { all = listed_all (b ∷ w) g.1; longest = ends }) sharp h.1
+
+none_of : (o : Option Keyword) → is_none o ≡ true → o ≡ None
+none_of None e = refl
+none_of (Some k) e = absurd cc
+
+-- a name
+pub name_spells : (w rest : List ℕ) → IsName w → Ends alphabet.Word rest → is_sharp_first rest ≡ false → Piece w rest (Some (token.Name w))
+name_spells w rest is ends sharp =
+    let h = both (is_word w) (is_none (keyword_of w)) is in
+    let e = none_of (keyword_of w) h.1 in
+    subst (λ (o : Option Keyword). Piece w rest (Some (reserved_or_name o w))) e (word_spells w rest h.0 ends sharp)
+
+-- a reserved word in any case
+pub reserved_spells : (w rest : List ℕ) (k : Keyword) → IsWord w → keyword_of w ≡ Some k → Ends alphabet.Word rest → is_sharp_first rest ≡ false → Piece w rest (Some (token.Keyword k))
+reserved_spells w rest k is e ends sharp = subst (λ (o : Option Keyword). Piece w rest (Some (reserved_or_name o w))) e (word_spells w rest is ends sharp)

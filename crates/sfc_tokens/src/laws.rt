@@ -1,6 +1,6 @@
 //! What holds of the tokens and the TIME text themselves.
 
-ghost use Rattle.std.specs.Prelude.{◌≡◌, ◌≤◌, ◌<◌, ◌^◌, ◌↔◌, ℕ, ℤ, nat_eq, unsigned_abs, List, [], ◌∷◌, ◌++◌, Ok, Some, codes};
+ghost use Rattle.std.specs.Prelude.{◌≡◌, ◌≤◌, ◌<◌, ◌^◌, ◌↔◌, ℕ, ℤ, nat_eq, unsigned_abs, false, List, [], ◌∷◌, ◌++◌, Ok, Some, codes};
 ghost use Rattle.std.specs.Cmp.Lexicographic.{pointwise};
 ghost use Rattle.std.specs.Fmt.{decimal, signed_decimal};
 ghost use Rattle.std.specs.Str.{str_to_ascii_uppercase};
@@ -8,7 +8,10 @@ ghost use Rattle.sfc_tokens.specs.Case.{same_word};
 ghost use Rattle.sfc_tokens.specs.Durations.{greatest};
 ghost use Rattle.sfc_tokens.specs.Scanning.DurationWords.{duration_value};
 ghost use Rattle.sfc_tokens.specs.TimeText.{time_text};
-ghost use Rattle.sfc_tokens.specs.Lexemes.{Tokens, Scans, IsDuration, Piece};
+ghost use Rattle.sfc_tokens.specs.Lexemes.{Tokens, Scans, is_sharp_first, IsDuration, Piece};
+ghost use Rattle.sfc_tokens.specs.Names.{IsWord, IsName};
+ghost use Rattle.sfc_tokens.specs.Words.{keyword_of};
+ghost use Rattle.sfc_tokens.specs.declared.keyword.Keyword.{Keyword};
 ghost use Rattle.sfc_tokens.specs.Runs.{Ends};
 ghost use Rattle.sfc_tokens.specs.declared.run.Alphabet.TheVariants as alphabet;
 ghost use Rattle.sfc_tokens.specs.declared.token.TokenKind.{TokenKind};
@@ -71,4 +74,16 @@ pub fn dint_spelled()
 pub fn time_spelled()
     ensures { (z : ℤ) (rest : List ℕ) → unsigned_abs z ≤ greatest → Ends alphabet.Interval rest
         → Piece (time_text z) rest (Some (TokenKind.Duration z)) }
+{}
+
+/// A name is one token, and that name, where neither more of a word nor a `#` follows.
+pub fn name_spelled()
+    ensures { (word rest : List ℕ) → IsName word → Ends alphabet.Word rest → is_sharp_first rest ≡ false
+        → Piece word rest (Some (TokenKind.Name word)) }
+{}
+
+/// A reserved word in any case is one token, and what it stands for, where neither more of a word nor a `#` follows.
+pub fn reserved_spelled()
+    ensures { (word rest : List ℕ) (keyword : Keyword) → IsWord word → keyword_of word ≡ Some keyword → Ends alphabet.Word rest
+        → is_sharp_first rest ≡ false → Piece word rest (Some (TokenKind.Keyword keyword)) }
 {}
