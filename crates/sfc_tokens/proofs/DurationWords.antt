@@ -24,7 +24,7 @@ use Rattle.sfc_tokens.specs.Lexemes as lexemes
 use Rattle.sfc_tokens.specs.Names.{StartsWord}
 use Rattle.sfc_tokens.specs.Lexemes.{Prefix, minus, is_minus, Body, Piece, Scans, IsDuration}
 use Rattle.sfc_tokens.proofs.Digits.{figures, sharp_class, underscore_class}
-use Rattle.sfc_tokens.proofs.Runs.{run_cuts, run_again}
+use Rattle.sfc_tokens.proofs.Runs.{run_cuts, run_again, wider}
 use Rattle.sfc_tokens.proofs.Parts.{Begins, interval_sound, interval_begins, tenths_figures, dot_class}
 use Rattle.sfc_tokens.proofs.WholeIntervals.{duration_again}
 
@@ -173,7 +173,7 @@ answer w (Some z) e = word_sound w z (sym e)
 
 -- ---- it is scanned as one token
 
-append_in : (a : _) (w v : List ℕ) → AllIn a w → AllIn a v → AllIn a (w ++ v)
+pub append_in : (a : _) (w v : List ℕ) → AllIn a w → AllIn a v → AllIn a (w ++ v)
 append_in a [] v h g = g
 append_in a (b ∷ w) v h g = (h.0, append_in a w v h.1 g)
 
@@ -187,12 +187,10 @@ letter_by class.Letter e = refl
 letter_by _ e = absurd cc
 
 figures_in : (w : List ℕ) → AllIn alphabet.Figures w → AllIn alphabet.Interval w
-figures_in [] h = tt
-figures_in (b ∷ w) h = (figure_by (class_of b) h.0, figures_in w h.1)
+figures_in = wider alphabet.Figures alphabet.Interval figure_by
 
 letters_in : (w : List ℕ) → AllIn alphabet.Letters w → AllIn alphabet.Interval w
-letters_in [] h = tt
-letters_in (b ∷ w) h = (letter_by (class_of b) h.0, letters_in w h.1)
+letters_in = wider alphabet.Letters alphabet.Interval letter_by
 
 all_in : {us : List _} {w : List ℕ} {v : ℕ} → Interval us w v → AllIn alphabet.Interval w
 all_in (durations.skip i) = all_in i

@@ -21,3 +21,4 @@ pub mod Outcomes
 pub mod DurationWords
 pub mod TimeLaw
 pub mod Spelled
+pub mod SpelledLocations

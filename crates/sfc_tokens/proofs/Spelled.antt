@@ -17,6 +17,7 @@ use Rattle.std.specs.List.{list_all}
 use Rattle.sfc_tokens.specs.declared.keyword.Keyword.{Keyword}
 use Rattle.sfc_tokens.specs.Names.{starts_word, is_spaced, is_word, IsWord, IsName}
 use Rattle.sfc_tokens.specs.Words.{keyword_of}
+use Rattle.sfc_tokens.proofs.Runs.{wider}
 use Rattle.sfc_tokens.proofs.Digits.{figures}
 use Rattle.sfc_tokens.proofs.Parts.{integer_begins}
 use Rattle.sfc_tokens.proofs.DurationWords.{no_minus}
@@ -30,8 +31,7 @@ figure_by class.Underscore e = refl
 figure_by _ e = absurd cc
 
 figures_in : (w : List ℕ) → AllIn alphabet.Figures w → AllIn alphabet.Number w
-figures_in [] h = tt
-figures_in (b ∷ w) h = (figure_by (class_of b) h.0, figures_in w h.1)
+figures_in = wider alphabet.Figures alphabet.Number figure_by
 
 -- decimal digits are one run
 decimal_run : (n : ℕ) (rest : List ℕ) → n < 2 ^ 32 → Ends alphabet.Number rest → IsRun alphabet.Number (decimal n) rest

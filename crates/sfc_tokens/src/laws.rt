@@ -9,6 +9,10 @@ ghost use Rattle.sfc_tokens.specs.Durations.{greatest};
 ghost use Rattle.sfc_tokens.specs.Scanning.DurationWords.{duration_value};
 ghost use Rattle.sfc_tokens.specs.TimeText.{time_text};
 ghost use Rattle.sfc_tokens.specs.Lexemes.{Tokens, Scans, is_sharp_first, IsDuration, Piece};
+ghost use Rattle.sfc_tokens.specs.LocationText.{location_text};
+ghost use Rattle.sfc_tokens.specs.Locations.{AreNumbers};
+ghost use Rattle.sfc_tokens.specs.declared.location.Location.{Location};
+ghost use Rattle.std.specs.List.{All};
 ghost use Rattle.sfc_tokens.specs.Names.{IsWord, IsName};
 ghost use Rattle.sfc_tokens.specs.Words.{keyword_of};
 ghost use Rattle.sfc_tokens.specs.declared.keyword.Keyword.{Keyword};
@@ -86,4 +90,10 @@ pub fn name_spelled()
 pub fn reserved_spelled()
     ensures { (word rest : List ℕ) (keyword : Keyword) → IsWord word → keyword_of word ≡ Some keyword → Ends alphabet.Word rest
         → is_sharp_first rest ≡ false → Piece word rest (Some (TokenKind.Keyword keyword)) }
+{}
+
+/// The text of a location of numbers of 32 bits is one token, and that location, where no more of a location follows.
+pub fn location_spelled()
+    ensures { (location : Location) (rest : List ℕ) → AreNumbers location.numbers → All (λ n. n < 2 ^ 32) location.numbers
+        → Ends alphabet.Location rest → Piece (location_text location) rest (Some (TokenKind.Location location)) }
 {}
