@@ -1,22 +1,23 @@
 -- The spellings of tokens are pieces of text that scan as them.
-use Rattle.std.proofs.Common.{◌≡◌, ℕ, ℤ, pos, negsuc, unsigned_abs, suc, ◌<◌, ◌^◌, Bool, true, false, ◌&&◌, List, [], ◌∷◌, ◌++◌, Option, Some, None, is_none, refl, sym, subst, arith, codes}
+use Rattle.std.proofs.Common.{◌≡◌, ℕ, ℤ, pos, negsuc, unsigned_abs, zero, suc, ◌<◌, ◌^◌, Bool, true, false, ◌&&◌, List, [], ◌∷◌, ◌++◌, length, Option, Some, None, is_none, refl, sym, subst, arith, codes}
 use Rattle.std.specs.Fmt.{decimal, signed_decimal}
+use Rattle.std.specs.List.{list_all, AllByRecursion, Contains}
+use Rattle.std.specs.Prelude.{slice_index_or}
 use Rattle.sfc_tokens.specs.declared.class.Class.{Class}
 use Rattle.sfc_tokens.specs.declared.class.Class.TheVariants as class
 use Rattle.sfc_tokens.specs.declared.run.Alphabet.TheVariants as alphabet
+use Rattle.sfc_tokens.specs.declared.keyword.Keyword.{Keyword}
 use Rattle.sfc_tokens.specs.declared.literal.LiteralKind.TheVariants as kind
 use Rattle.sfc_tokens.specs.declared.token.TokenKind.TheVariants as token
 use Rattle.sfc_tokens.specs.Classes.{class_of}
 use Rattle.sfc_tokens.specs.Runs.{is_in, has, AllIn, Ends, IsRun}
 use Rattle.sfc_tokens.specs.Case.{same_word}
+use Rattle.sfc_tokens.specs.Words.{reserved_words, keyword_of}
+use Rattle.sfc_tokens.specs.Names.{starts_word, is_spaced, is_word, IsWord, IsName}
 use Rattle.sfc_tokens.specs.Literals as literals
 use Rattle.sfc_tokens.specs.Literals.{kind_of_prefix}
 use Rattle.sfc_tokens.specs.Lexemes as lexemes
 use Rattle.sfc_tokens.specs.Lexemes.{reserved_or_name, word_token, is_sharp_first, Prefix, is_minus, Piece}
-use Rattle.std.specs.List.{list_all}
-use Rattle.sfc_tokens.specs.declared.keyword.Keyword.{Keyword}
-use Rattle.sfc_tokens.specs.Names.{starts_word, is_spaced, is_word, IsWord, IsName}
-use Rattle.sfc_tokens.specs.Words.{keyword_of}
 use Rattle.sfc_tokens.proofs.Runs.{wider}
 use Rattle.sfc_tokens.proofs.Digits.{figures}
 use Rattle.sfc_tokens.proofs.Parts.{integer_begins}
@@ -101,3 +102,19 @@ name_spells w rest is ends sharp =
 -- a reserved word in any case
 pub reserved_spells : (w rest : List ℕ) (k : Keyword) → IsWord w → keyword_of w ≡ Some k → Ends alphabet.Word rest → is_sharp_first rest ≡ false → Piece w rest (Some (token.Keyword k))
 reserved_spells w rest k is e ends sharp = subst (λ (o : Option Keyword). Piece w rest (Some (reserved_or_name o w))) e (word_spells w rest is ends sharp)
+
+-- each word of the table is a word, and stands for what the table says
+entries_are : AllByRecursion (λ (entry : List ℕ × Keyword). IsWord entry.0 × (keyword_of entry.0 ≡ Some entry.1)) reserved_words
+unfolding class_of is_spaced keyword_of same_word
+entries_are = ((refl, refl), ((refl, refl), ((refl, refl), ((refl, refl), ((refl, refl), ((refl, refl), ((refl, refl), ((refl, refl), ((refl, refl), ((refl, refl), ((refl, refl), ((refl, refl), ((refl, refl), ((refl, refl), ((refl, refl), ((refl, refl), ((refl, refl), ((refl, refl), ((refl, refl), ((refl, refl), ((refl, refl), ((refl, refl), ((refl, refl), ((refl, refl), ((refl, refl), ((refl, refl), ((refl, refl), ((refl, refl), ((refl, refl), ((refl, refl), ((refl, refl), ((refl, refl), ((refl, refl), ((refl, refl), ((refl, refl), ((refl, refl), ((refl, refl), ((refl, refl), ((refl, refl), tt)))))))))))))))))))))))))))))))))))))))
+
+entry_at : (entries : List (List ℕ × Keyword)) → AllByRecursion (λ (entry : List ℕ × Keyword). IsWord entry.0 × (keyword_of entry.0 ≡ Some entry.1)) entries → (k : ℕ) (entry : List ℕ × Keyword) → k < length entries → slice_index_or entries k entry ≡ entry → IsWord entry.0 × (keyword_of entry.0 ≡ Some entry.1)
+entry_at [] all k entry lt e = absurd (omega (arith, lt))
+entry_at (x ∷ entries) all zero entry lt e = subst (λ (y : List ℕ × Keyword). IsWord y.0 × (keyword_of y.0 ≡ Some y.1)) e all.0
+entry_at (x ∷ entries) all (suc k) entry lt e = entry_at entries all.1 k entry (omega (arith, lt)) e
+
+-- a word of the table
+pub reserved_word_spells : (w rest : List ℕ) (k : Keyword) → Contains reserved_words (w, k) → Ends alphabet.Word rest → is_sharp_first rest ≡ false → Piece w rest (Some (token.Keyword k))
+reserved_word_spells w rest k listed ends sharp =
+    let is = entry_at reserved_words entries_are listed.0 (w, k) listed.1 listed.2 in
+    reserved_spells w rest k is.0 is.1 ends sharp

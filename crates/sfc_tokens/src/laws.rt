@@ -3,24 +3,24 @@
 ghost use Rattle.std.specs.Prelude.{◌≡◌, ◌≤◌, ◌<◌, ◌^◌, ◌↔◌, ℕ, ℤ, nat_eq, unsigned_abs, false, List, [], ◌∷◌, ◌++◌, Ok, Some, codes};
 ghost use Rattle.std.specs.Cmp.Lexicographic.{pointwise};
 ghost use Rattle.std.specs.Fmt.{decimal, signed_decimal};
+ghost use Rattle.std.specs.List.{All, Contains};
 ghost use Rattle.std.specs.Str.{str_to_ascii_uppercase};
 ghost use Rattle.sfc_tokens.specs.Case.{same_word};
-ghost use Rattle.sfc_tokens.specs.Durations.{greatest};
-ghost use Rattle.sfc_tokens.specs.Scanning.DurationWords.{duration_value};
-ghost use Rattle.sfc_tokens.specs.TimeText.{time_text};
-ghost use Rattle.sfc_tokens.specs.Lexemes.{Tokens, Scans, is_sharp_first, IsDuration, Piece};
-ghost use Rattle.sfc_tokens.specs.LocationText.{location_text};
-ghost use Rattle.sfc_tokens.specs.Locations.{AreNumbers};
-ghost use Rattle.sfc_tokens.specs.declared.location.Location.{Location};
-ghost use Rattle.std.specs.List.{All};
-ghost use Rattle.sfc_tokens.specs.Names.{IsWord, IsName};
-ghost use Rattle.sfc_tokens.specs.Words.{keyword_of};
-ghost use Rattle.sfc_tokens.specs.declared.keyword.Keyword.{Keyword};
 ghost use Rattle.sfc_tokens.specs.Runs.{Ends};
-ghost use Rattle.sfc_tokens.specs.declared.run.Alphabet.TheVariants as alphabet;
-ghost use Rattle.sfc_tokens.specs.declared.token.TokenKind.{TokenKind};
+ghost use Rattle.sfc_tokens.specs.Words.{reserved_words, keyword_of};
+ghost use Rattle.sfc_tokens.specs.Names.{IsWord, IsName};
+ghost use Rattle.sfc_tokens.specs.Durations.{greatest};
+ghost use Rattle.sfc_tokens.specs.Locations.{AreNumbers};
+ghost use Rattle.sfc_tokens.specs.Lexemes.{Tokens, Scans, is_sharp_first, IsDuration, Piece};
 ghost use Rattle.sfc_tokens.specs.Texts.{TextScans};
 ghost use Rattle.sfc_tokens.specs.Tokens.{Kinds};
+ghost use Rattle.sfc_tokens.specs.TimeText.{time_text};
+ghost use Rattle.sfc_tokens.specs.LocationText.{location_text};
+ghost use Rattle.sfc_tokens.specs.Scanning.DurationWords.{duration_value};
+ghost use Rattle.sfc_tokens.specs.declared.keyword.Keyword.{Keyword};
+ghost use Rattle.sfc_tokens.specs.declared.location.Location.{Location};
+ghost use Rattle.sfc_tokens.specs.declared.run.Alphabet.TheVariants as alphabet;
+ghost use Rattle.sfc_tokens.specs.declared.token.TokenKind.{TokenKind};
 
 /// Two words are one but for case where their capitals are byte for byte the same.
 pub fn same_by_capitals()
@@ -89,6 +89,12 @@ pub fn name_spelled()
 /// A reserved word in any case is one token, and what it stands for, where neither more of a word nor a `#` follows.
 pub fn reserved_spelled()
     ensures { (word rest : List ℕ) (keyword : Keyword) → IsWord word → keyword_of word ≡ Some keyword → Ends alphabet.Word rest
+        → is_sharp_first rest ≡ false → Piece word rest (Some (TokenKind.Keyword keyword)) }
+{}
+
+/// Each reserved word as the table spells it is one token, and what the table says, where neither more of a word nor a `#` follows.
+pub fn reserved_word_spelled()
+    ensures { (word rest : List ℕ) (keyword : Keyword) → Contains reserved_words (word, keyword) → Ends alphabet.Word rest
         → is_sharp_first rest ≡ false → Piece word rest (Some (TokenKind.Keyword keyword)) }
 {}
 
