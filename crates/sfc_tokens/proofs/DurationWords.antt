@@ -11,7 +11,7 @@ use Rattle.sfc_tokens.specs.declared.token.TokenKind.TheVariants as token
 use Rattle.sfc_tokens.specs.Classes.{between, class_of}
 use Rattle.std.specs.Char.{to_ascii_uppercase}
 use Rattle.sfc_tokens.specs.Case.{same_word}
-use Rattle.sfc_tokens.specs.Runs.{is_in, has, AllIn, IsRun}
+use Rattle.sfc_tokens.specs.Runs.{is_in, has, AllIn, Ends, IsRun}
 use Rattle.sfc_tokens.specs.Scanning.Runs.{run}
 use Rattle.sfc_tokens.specs.Durations as durations
 use Rattle.sfc_tokens.specs.Durations.{units, IsUnit, Interval, IsInterval}
@@ -24,7 +24,7 @@ use Rattle.sfc_tokens.specs.Lexemes as lexemes
 use Rattle.sfc_tokens.specs.Names.{StartsWord}
 use Rattle.sfc_tokens.specs.Lexemes.{Prefix, minus, is_minus, Body, Piece, Scans, IsDuration}
 use Rattle.sfc_tokens.proofs.Digits.{figures, sharp_class, underscore_class}
-use Rattle.sfc_tokens.proofs.Runs.{run_cuts, run_again}
+use Rattle.sfc_tokens.proofs.Runs.{run_cuts, run_again, wider}
 use Rattle.sfc_tokens.proofs.Parts.{Begins, interval_sound, interval_begins, tenths_figures, dot_class}
 use Rattle.sfc_tokens.proofs.WholeIntervals.{duration_again}
 
@@ -110,7 +110,7 @@ minus_digit : class_of 45 ≡ class.Digit → ⊥
 unfolding class_of
 minus_digit e = cc
 
-no_minus : (b : ℕ) → class_of b ≡ class.Digit → eqb b 45 ≡ false
+pub no_minus : (b : ℕ) → class_of b ≡ class.Digit → eqb b 45 ≡ false
 no_minus b e = ne_eqb b 45 (λ h. let f : class_of 45 ≡ class.Digit = subst (λ j. class_of j ≡ class.Digit) h e in minus_digit f)
 
 behind_again : (negative : Bool) (w : List ℕ) (v : ℕ) → IsInterval w v → signed_value (minus negative ++ w) ≡ Some (signed negative v)
@@ -173,7 +173,7 @@ answer w (Some z) e = word_sound w z (sym e)
 
 -- ---- it is scanned as one token
 
-append_in : (a : _) (w v : List ℕ) → AllIn a w → AllIn a v → AllIn a (w ++ v)
+pub append_in : (a : _) (w v : List ℕ) → AllIn a w → AllIn a v → AllIn a (w ++ v)
 append_in a [] v h g = g
 append_in a (b ∷ w) v h g = (h.0, append_in a w v h.1 g)
 
@@ -187,12 +187,10 @@ letter_by class.Letter e = refl
 letter_by _ e = absurd cc
 
 figures_in : (w : List ℕ) → AllIn alphabet.Figures w → AllIn alphabet.Interval w
-figures_in [] h = tt
-figures_in (b ∷ w) h = (figure_by (class_of b) h.0, figures_in w h.1)
+figures_in = wider alphabet.Figures alphabet.Interval figure_by
 
 letters_in : (w : List ℕ) → AllIn alphabet.Letters w → AllIn alphabet.Interval w
-letters_in [] h = tt
-letters_in (b ∷ w) h = (letter_by (class_of b) h.0, letters_in w h.1)
+letters_in = wider alphabet.Letters alphabet.Interval letter_by
 
 all_in : {us : List _} {w : List ℕ} {v : ℕ} → Interval us w v → AllIn alphabet.Interval w
 all_in (durations.skip i) = all_in i
@@ -201,22 +199,25 @@ all_in (durations.fixed_point {w = w} {f = f} {l = l} n t u) = append_in alphabe
 all_in (durations.more {w = w} {l = l} {rest = rest} n u i) = append_in alphabet.Interval w (l ++ rest) (figures_in w (figures n)) (append_in alphabet.Interval l rest (letters_in l u.letters) (all_in i))
 all_in (durations.spaced {w = w} {l = l} {rest = rest} n u i) = append_in alphabet.Interval w (l ++ 95 ∷ rest) (figures_in w (figures n)) (append_in alphabet.Interval l (95 ∷ rest) (letters_in l u.letters) (rw underscore_class refl, all_in i))
 
-no_sign : (w : List ℕ) (v : ℕ) → IsInterval w v → is_minus (w ++ []) ≡ false
-no_sign w v i = let b = interval_begins i.parts in subst (λ (x : List ℕ). is_minus (x ++ []) ≡ false) (sym b.is) (no_minus b.head b.holds)
+no_sign : (w : List ℕ) (v : ℕ) (rest : List ℕ) → IsInterval w v → is_minus (w ++ rest) ≡ false
+no_sign w v rest i = let b = interval_begins i.parts in subst (λ (x : List ℕ). is_minus (x ++ rest) ≡ false) (sym b.is) (no_minus b.head b.holds)
 
-duration_piece : (front : List ℕ) (negative : Bool) (w : List ℕ) (v : ℕ) → kind_of_prefix front ≡ Some kind.Duration → IsInterval w v → Piece (front ++ 35 ∷ (minus negative ++ w)) [] (Some (token.Duration (signed negative v)))
-duration_piece front negative w v e i =
+duration_piece : (front : List ℕ) (negative : Bool) (w : List ℕ) (v : ℕ) (rest : List ℕ) → kind_of_prefix front ≡ Some kind.Duration → IsInterval w v → Ends alphabet.Interval rest → Piece (front ++ 35 ∷ (minus negative ++ w)) rest (Some (token.Duration (signed negative v)))
+duration_piece front negative w v rest e i ends =
     let p = prefix_sound front e in
     let b = p.starts in
-    let body : Body kind.Duration negative w [] = record { run = record { all = all_in i.parts; longest = tt }; sign = λ n. no_sign w v i } in
+    let body : Body kind.Duration negative w rest = record { run = record { all = all_in i.parts; longest = ends }; sign = λ n. no_sign w v rest i } in
     let f : kind_of_prefix (b.head ∷ b.tail) ≡ Some kind.Duration = subst (λ (x : List ℕ). kind_of_prefix x ≡ Some kind.Duration) b.is e in
-    let r : IsRun alphabet.Word (b.head ∷ b.tail) (35 ∷ (minus negative ++ (w ++ []))) = subst (λ (x : List ℕ). IsRun alphabet.Word x (35 ∷ (minus negative ++ (w ++ [])))) b.is (prefix_run front (minus negative ++ (w ++ [])) e) in
-    let one : Piece ((b.head ∷ (b.tail ++ 35 ∷ [])) ++ (minus negative ++ w)) [] (Some (token.Duration (signed negative v))) = lexemes.literal negative w (lexemes.word b.holds r f) body (literals.duration i) in
+    let r : IsRun alphabet.Word (b.head ∷ b.tail) (35 ∷ (minus negative ++ (w ++ rest))) = subst (λ (x : List ℕ). IsRun alphabet.Word x (35 ∷ (minus negative ++ (w ++ rest)))) b.is (prefix_run front (minus negative ++ (w ++ rest)) e) in
+    let one : Piece ((b.head ∷ (b.tail ++ 35 ∷ [])) ++ (minus negative ++ w)) rest (Some (token.Duration (signed negative v))) = lexemes.literal negative w (lexemes.word b.holds r f) body (literals.duration i) in
     let text : (b.head ∷ (b.tail ++ 35 ∷ [])) ++ (minus negative ++ w) ≡ front ++ 35 ∷ (minus negative ++ w) = ap (λ (x : List ℕ). b.head ∷ x) (append_assoc b.tail (35 ∷ []) (minus negative ++ w)) ∙ ap (λ (x : List ℕ). x ++ 35 ∷ (minus negative ++ w)) (sym b.is) in
-    subst (λ (x : List ℕ). Piece x [] (Some (token.Duration (signed negative v)))) text one
+    subst (λ (x : List ℕ). Piece x rest (Some (token.Duration (signed negative v)))) text one
+
+pub duration_before : (w : List ℕ) (z : ℤ) (rest : List ℕ) → IsDuration w z → Ends alphabet.Interval rest → Piece w rest (Some (token.Duration z))
+duration_before w z rest (lexemes.duration front negative u v e i) ends = duration_piece front negative u v rest e i ends
 
 one_token : (w : List ℕ) (t : _) → Piece w [] (Some t) → Scans w (Ok (t ∷ []))
 one_token w t p = subst (λ (x : List ℕ). Scans x (Ok (t ∷ []))) (append-nil w) (lexemes.one p lexemes.ended)
 
 pub duration_scans : (w : List ℕ) (z : ℤ) → IsDuration w z → Scans w (Ok (token.Duration z ∷ []))
-duration_scans w z (lexemes.duration front negative u v e i) = one_token (front ++ 35 ∷ (minus negative ++ u)) (token.Duration (signed negative v)) (duration_piece front negative u v e i)
+duration_scans w z d = one_token w (token.Duration z) (duration_before w z [] d tt)

@@ -20,3 +20,5 @@ pub mod Scans
 pub mod Outcomes
 pub mod DurationWords
 pub mod TimeLaw
+pub mod Spelled
+pub mod SpelledLocations

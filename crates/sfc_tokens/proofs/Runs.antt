@@ -1,7 +1,9 @@
 -- The longest runs.
 use Rattle.std.proofs.Common.{◌≡◌, ℕ, Bool, true, false, List, [], ◌∷◌, ◌++◌, refl, sym, ap, subst, ◌∙◌}
+use Rattle.sfc_tokens.specs.declared.class.Class.{Class}
 use Rattle.sfc_tokens.specs.declared.run.Alphabet.{Alphabet}
-use Rattle.sfc_tokens.specs.Runs.{has, AllIn, Ends, IsRun}
+use Rattle.sfc_tokens.specs.Classes.{class_of}
+use Rattle.sfc_tokens.specs.Runs.{is_in, has, AllIn, Ends, IsRun}
 use Rattle.sfc_tokens.specs.Scanning.Runs.{run}
 
 pub run_in : (a : Alphabet) (b : ℕ) (bs : List ℕ) → has a b ≡ true → run a (b ∷ bs) ≡ (b ∷ (run a bs).0, (run a bs).1)
@@ -35,3 +37,8 @@ run_again_at a (b ∷ w) rest all ends = run_in a b (w ++ rest) all.0 ∙ ap (λ
 
 pub run_again : (a : Alphabet) (w rest : List ℕ) → IsRun a w rest → run a (w ++ rest) ≡ (w, rest)
 run_again a w rest r = run_again_at a w rest r.all r.longest
+
+-- what is in one alphabet is in a wider one
+pub wider : (a b : Alphabet) → ((k : Class) → is_in a k ≡ true → is_in b k ≡ true) → (w : List ℕ) → AllIn a w → AllIn b w
+wider a b more [] h = tt
+wider a b more (c ∷ w) h = (more (class_of c) h.0, wider a b more w h.1)

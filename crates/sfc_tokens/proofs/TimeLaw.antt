@@ -42,7 +42,7 @@ more_digits n ds h i =
     let z : n / 10 * 10 + n % 10 ≡ n = omega arith in
     subst (λ m. IsInteger 10 (ds ++ ((48 + n % 10) ∷ [])) m) z p
 
-decimal_integer : (n : ℕ) → n < 2 ^ 64 → IsInteger 10 (decimal n) n
+pub decimal_integer : (n : ℕ) → n < 2 ^ 64 → IsInteger 10 (decimal n) n
 decimal_integer n lt = decimal_by_steps (λ m ds. IsInteger 10 ds m) one_digit more_digits n lt
 
 -- ---- units

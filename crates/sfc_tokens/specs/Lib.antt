@@ -28,6 +28,8 @@ pub mod Tokens
 pub mod ReadErrors
 -- the text of a TIME value
 pub mod TimeText
+-- the text of a location
+pub mod LocationText
 -- what a writer holds after a write
 pub mod Writing
 -- What private clauses cite.

@@ -1,16 +1,26 @@
 //! What holds of the tokens and the TIME text themselves.
 
-ghost use Rattle.std.specs.Prelude.{◌≡◌, ◌≤◌, ◌↔◌, ℕ, ℤ, nat_eq, unsigned_abs, List, [], ◌∷◌, Ok, Some};
+ghost use Rattle.std.specs.Prelude.{◌≡◌, ◌≤◌, ◌<◌, ◌^◌, ◌↔◌, ℕ, ℤ, nat_eq, unsigned_abs, false, List, [], ◌∷◌, ◌++◌, Ok, Some, codes};
 ghost use Rattle.std.specs.Cmp.Lexicographic.{pointwise};
+ghost use Rattle.std.specs.Fmt.{decimal, signed_decimal};
+ghost use Rattle.std.specs.List.{All, Contains};
 ghost use Rattle.std.specs.Str.{str_to_ascii_uppercase};
 ghost use Rattle.sfc_tokens.specs.Case.{same_word};
+ghost use Rattle.sfc_tokens.specs.Runs.{Ends};
+ghost use Rattle.sfc_tokens.specs.Words.{reserved_words, keyword_of};
+ghost use Rattle.sfc_tokens.specs.Names.{IsWord, IsName};
 ghost use Rattle.sfc_tokens.specs.Durations.{greatest};
-ghost use Rattle.sfc_tokens.specs.Scanning.DurationWords.{duration_value};
-ghost use Rattle.sfc_tokens.specs.TimeText.{time_text};
-ghost use Rattle.sfc_tokens.specs.Lexemes.{Tokens, Scans, IsDuration};
-ghost use Rattle.sfc_tokens.specs.declared.token.TokenKind.{TokenKind};
+ghost use Rattle.sfc_tokens.specs.Locations.{AreNumbers};
+ghost use Rattle.sfc_tokens.specs.Lexemes.{Tokens, Scans, is_sharp_first, IsDuration, Piece};
 ghost use Rattle.sfc_tokens.specs.Texts.{TextScans};
 ghost use Rattle.sfc_tokens.specs.Tokens.{Kinds};
+ghost use Rattle.sfc_tokens.specs.TimeText.{time_text};
+ghost use Rattle.sfc_tokens.specs.LocationText.{location_text};
+ghost use Rattle.sfc_tokens.specs.Scanning.DurationWords.{duration_value};
+ghost use Rattle.sfc_tokens.specs.declared.keyword.Keyword.{Keyword};
+ghost use Rattle.sfc_tokens.specs.declared.location.Location.{Location};
+ghost use Rattle.sfc_tokens.specs.declared.run.Alphabet.TheVariants as alphabet;
+ghost use Rattle.sfc_tokens.specs.declared.token.TokenKind.{TokenKind};
 
 /// Two words are one but for case where their capitals are byte for byte the same.
 pub fn same_by_capitals()
@@ -45,4 +55,51 @@ pub fn one_duration()
 /// The TIME text of a value is one duration, and of that value.
 pub fn time_text_read()
     ensures { (z : ℤ) → unsigned_abs z ≤ greatest → IsDuration (time_text z) z }
+{}
+
+/// A number of 32 bits in decimal digits is one integer, where no more of a number follows.
+pub fn integer_spelled()
+    ensures { (n : ℕ) (rest : List ℕ) → n < 2 ^ 32 → Ends alphabet.Number rest → Piece (decimal n) rest (Some (TokenKind.Integer n)) }
+{}
+
+/// `INT#` and a number of 32 bits with its sign is one token of type INT, where no more of a number follows.
+pub fn int_spelled()
+    ensures { (z : ℤ) (rest : List ℕ) → unsigned_abs z < 2 ^ 32 → Ends alphabet.Number rest
+        → Piece (codes "INT#" ++ signed_decimal z) rest (Some (TokenKind.Int z)) }
+{}
+
+/// `DINT#` and a number of 32 bits with its sign is one token of type DINT, where no more of a number follows.
+pub fn dint_spelled()
+    ensures { (z : ℤ) (rest : List ℕ) → unsigned_abs z < 2 ^ 32 → Ends alphabet.Number rest
+        → Piece (codes "DINT#" ++ signed_decimal z) rest (Some (TokenKind.Dint z)) }
+{}
+
+/// The TIME text of a value is one duration, and of that value, where no more of a duration follows.
+pub fn time_spelled()
+    ensures { (z : ℤ) (rest : List ℕ) → unsigned_abs z ≤ greatest → Ends alphabet.Interval rest
+        → Piece (time_text z) rest (Some (TokenKind.Duration z)) }
+{}
+
+/// A name is one token, and that name, where neither more of a word nor a `#` follows.
+pub fn name_spelled()
+    ensures { (word rest : List ℕ) → IsName word → Ends alphabet.Word rest → is_sharp_first rest ≡ false
+        → Piece word rest (Some (TokenKind.Name word)) }
+{}
+
+/// A reserved word in any case is one token, and what it stands for, where neither more of a word nor a `#` follows.
+pub fn reserved_spelled()
+    ensures { (word rest : List ℕ) (keyword : Keyword) → IsWord word → keyword_of word ≡ Some keyword → Ends alphabet.Word rest
+        → is_sharp_first rest ≡ false → Piece word rest (Some (TokenKind.Keyword keyword)) }
+{}
+
+/// Each reserved word as the table spells it is one token, and what the table says, where neither more of a word nor a `#` follows.
+pub fn reserved_word_spelled()
+    ensures { (word rest : List ℕ) (keyword : Keyword) → Contains reserved_words (word, keyword) → Ends alphabet.Word rest
+        → is_sharp_first rest ≡ false → Piece word rest (Some (TokenKind.Keyword keyword)) }
+{}
+
+/// The text of a location of numbers of 32 bits is one token, and that location, where no more of a location follows.
+pub fn location_spelled()
+    ensures { (location : Location) (rest : List ℕ) → AreNumbers location.numbers → All (λ n. n < 2 ^ 32) location.numbers
+        → Ends alphabet.Location rest → Piece (location_text location) rest (Some (TokenKind.Location location)) }
 {}
