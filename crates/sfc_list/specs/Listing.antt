@@ -4,6 +4,7 @@ use Rattle.std.specs.Prelude.{◌++◌, ℕ, ℤ, List, [], map, flat_map, Optio
 use Rattle.std.specs.Ordering.{int_eq}
 use Rattle.std.specs.Fmt.{decimal}
 use Rattle.sfc_tokens.specs.declared.location.Location.{Location}
+use Rattle.sfc_tokens.specs.LocationText.{location_text}
 use Rattle.sfc_tokens.specs.TimeText.{time_text}
 use Rattle.sfc_expr.specs.declared.variable.GlobalId.{GlobalId}
 use Rattle.sfc_expr.specs.declared.variable.Variable.TheVariants.{Global}
@@ -16,7 +17,7 @@ use Rattle.sfc_chart.specs.declared.task.Task.{Task}
 use Rattle.sfc_chart.specs.declared.instance.Instance.{Instance}
 use Rattle.sfc_chart.specs.Plants.{PlantData}
 use Rattle.sfc_list.specs.Layout.{line, block}
-use Rattle.sfc_list.specs.Values.{type_text, literal_text, location_text}
+use Rattle.sfc_list.specs.Values.{type_text, literal_text}
 use Rattle.sfc_list.specs.Names.{name_at, variable_name}
 use Rattle.sfc_list.specs.Charts.{step_text, transition_text, action_text}
 

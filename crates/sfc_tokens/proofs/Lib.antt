@@ -10,6 +10,7 @@ pub mod Digits
 pub mod Runs
 pub mod Words
 pub mod Intervals
+pub mod Units
 pub mod Parts
 pub mod WholeIntervals
 pub mod LocationProofs

@@ -1,6 +1,6 @@
 //! Durations (B.1.2.3.1).
 
-ghost use Rattle.std.specs.Prelude.{◌≡◌, ◌≤◌, ◌<◌, ◌*◌, ◌+◌, ◌^◌, true, Option, Some, None, IfSome};
+ghost use Rattle.std.specs.Prelude.{◌≡◌, ◌≤◌, ◌<◌, ◌*◌, ◌+◌, ◌^◌, ℕ, List, true, length, Option, Some, None, IfSome, MatchOption};
 ghost use Rattle.sfc_tokens.specs.Scanning.Durations as scan;
 ghost use Rattle.sfc_tokens.specs.Durations as durations;
 
@@ -124,22 +124,32 @@ fn point(unit: Unit, text: &[u8], rest: &[u8]) -> Option<u64>
     }
 }
 
-// The parts of the units, in microseconds.
-#[tactic(auto, unfolding(crate::specs::Scanning::Durations::interval))]
-fn parts(units: &[Unit], word: &[u8]) -> Option<u64>
-    ensures value { result ≡ scan.interval units.now word.now }
-    ensures fits { IfSome result (λ v. v ≤ durations.greatest) }
+// The greatest of these units that is spelled so, and the smaller ones.
+#[tactic(auto, unfolding(crate::specs::Scanning::Durations::unit_among))]
+fn unit_among<'a>(units: &'a [Unit], letters: &[u8]) -> Option<(Unit, &'a [Unit])>
+    ensures { MatchOption result (scan.unit_among units.now letters.now ≡ None)
+        (λ u. (scan.unit_among units.now letters.now ≡ Some (u.0, u.1.now)) × (length u.1.now < length units.now)) }
 {
     let [unit, smaller @ ..] = units else {
         return None;
     };
-    let (number, fraction, letters, rest) = split_part(word);
-    if !is_same_word(letters, unit.spelling()) {
-        return parts(smaller, word);
+    if is_same_word(letters, unit.spelling()) {
+        Some((*unit, smaller))
+    } else {
+        unit_among(smaller, letters)
     }
-    let count = whole(*unit, number)?;
+}
+
+// A part: its number, its fraction, and the parts of smaller units that follow, in microseconds.
+#[cycle(parts)]
+fn part(unit: Unit, smaller: &[Unit], number: &[u8], fraction: &[u8], rest: &[u8]) -> Option<u64>
+    ensures value { (letters : List ℕ) →
+        result ≡ scan.part unit (number.now, fraction.now, letters, rest.now) (scan.interval smaller.now) }
+    ensures fits { IfSome result (λ v. v ≤ durations.greatest) }
+{
+    let count = whole(unit, number)?;
     let behind = if !fraction.is_empty() {
-        point(*unit, fraction, rest)?
+        point(unit, fraction, rest)?
     } else if rest.is_empty() {
         0
     } else {
@@ -150,6 +160,19 @@ fn parts(units: &[Unit], word: &[u8]) -> Option<u64>
         Some(micros)
     } else {
         None
+    }
+}
+
+// The parts of the units, in microseconds.
+#[cycle(parts)]
+fn parts(units: &[Unit], word: &[u8]) -> Option<u64>
+    ensures value { result ≡ scan.interval units.now word.now }
+    ensures fits { IfSome result (λ v. v ≤ durations.greatest) }
+{
+    let (number, fraction, letters, rest) = split_part(word);
+    match unit_among(units, letters) {
+        Some((unit, smaller)) => part(unit, smaller, number, fraction, rest),
+        None => None,
     }
 }
 

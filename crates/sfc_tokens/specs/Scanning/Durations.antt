@@ -71,6 +71,11 @@ part u s further = whole u s.0 >>= λ n. behind u s.1 s.3 further >>= λ v. at_m
 abbrev pub is_unit : Unit → List ℕ → Bool
 is_unit u w = same_word w (spelling_of u)
 
+-- the greatest of these units that is spelled so, and the smaller ones
+unfoldable pub unit_among : List Unit → List ℕ → Option (Unit × List Unit)
+unit_among [] w = None
+unit_among (u ∷ us) w = if is_unit u w then Some (u, us) else unit_among us w
+
 unfoldable pub interval : List Unit → List ℕ → Option ℕ
 interval [] w = None
 interval (u ∷ us) w = if is_unit u (split_part w).2 then part u (split_part w) (interval us) else interval us w
