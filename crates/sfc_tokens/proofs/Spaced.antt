@@ -39,7 +39,7 @@ sharp_other : class_of 35 ≡ class.Space → ⊥
 unfolding class_of
 sharp_other e = absurd cc
 
-not_sharp : (b : ℕ) (rest : List ℕ) → class_of b ≡ class.Space → is_sharp_first (b ∷ rest) ≡ false
+pub not_sharp : (b : ℕ) (rest : List ℕ) → class_of b ≡ class.Space → is_sharp_first (b ∷ rest) ≡ false
 not_sharp b rest e = by_same (b == 35) refl
   where
     by_same : (t : Bool) → (b == 35) ≡ t → (b == 35) ≡ false
@@ -48,9 +48,6 @@ not_sharp b rest e = by_same (b == 35) refl
 
 not_longer : (d : Delimiter) → look_ahead d class.Space ≡ Alone
 not_longer sign.Open = refl
-not_longer sign.Colon = refl
-not_longer sign.Less = refl
-not_longer sign.Greater = refl
 not_longer _ = refl
 
 -- ---- a token and white space

@@ -26,6 +26,11 @@ joined_by b rest us (spelling.one {w = w} {text = text} {rest = c} {t = t} {ts =
 pub joined : (a b rest : List ℕ) (ts us : List TokenKind) → Spells a ts (b ++ rest) → Spells b us rest → Spells (a ++ b) (ts ++ us) rest
 joined a b rest ts us p q = joined_by b rest us p refl q
 
+-- ---- one token
+
+pub alone : (w rest : List ℕ) (t : TokenKind) → Piece w rest (Some t) → Spells w (t ∷ []) rest
+alone w rest t p = subst (λ (x : List ℕ). Spells x (t ∷ []) rest) (append-nil w) (spelling.one p spelling.nothing)
+
 -- ---- scanning
 
 pub scans_behind : (text rest : List ℕ) (ts : List TokenKind) (r : Tokens) → Spells text ts rest → Scans rest r → Scans (text ++ rest) (behind ts r)

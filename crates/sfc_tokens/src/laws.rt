@@ -7,7 +7,7 @@ ghost use Rattle.std.specs.List.{All, Contains};
 ghost use Rattle.std.specs.Str.{str_to_ascii_uppercase};
 ghost use Rattle.sfc_tokens.specs.Case.{same_word};
 ghost use Rattle.sfc_tokens.specs.Classes.{class_of, first_class};
-ghost use Rattle.sfc_tokens.specs.Runs.{Ends};
+ghost use Rattle.sfc_tokens.specs.Runs.{is_in, Ends};
 ghost use Rattle.sfc_tokens.specs.Words.{reserved_words, keyword_of};
 ghost use Rattle.sfc_tokens.specs.Names.{IsWord, IsName};
 ghost use Rattle.sfc_tokens.specs.Durations.{greatest};
@@ -110,7 +110,8 @@ pub fn location_spelled()
         → Ends alphabet.Location rest → Piece (location_text location) rest (Some (TokenKind.Location location)) }
 {}
 
-/// A delimiter is one token where the next byte makes neither a longer one nor the start of a comment of it, as it can of `:`, `<`, `>` and `(`.
+/// A delimiter is one token where the next byte makes neither a longer one nor the start of a comment of it.
+/// It can do so of `:`, `<`, `>` and `(` alone.
 pub fn sign_spelled()
     ensures { (sign : Delimiter) (rest : List ℕ) → look_ahead sign (first_class rest) ≡ Alone
         → Piece (sign_text sign) rest (Some (TokenKind.Delimiter sign)) }
@@ -170,4 +171,24 @@ pub fn spaced_reserved_word()
 pub fn spaced_sign()
     ensures { (sign : Delimiter) (rest : List ℕ) (space : ℕ) → class_of space ≡ class.Space
         → Spells (sign_text sign ++ space ∷ []) (TokenKind.Delimiter sign ∷ []) rest }
+{}
+
+/// A token spells itself.
+pub fn token_spells()
+    ensures { (text rest : List ℕ) (token : TokenKind) → Piece text rest (Some token) → Spells text (token ∷ []) rest }
+{}
+
+/// No run of bytes goes on with a delimiter that is not in its alphabet. Only `.` is in any.
+pub fn sign_ends()
+    ensures { (a : Alphabet) (sign : Delimiter) (rest : List ℕ) → is_in a (class.Sign sign) ≡ false → Ends a (sign_text sign ++ rest) }
+{}
+
+/// No delimiter begins with `#`.
+pub fn sign_not_sharp()
+    ensures { (sign : Delimiter) (rest : List ℕ) → is_sharp_first (sign_text sign ++ rest) ≡ false }
+{}
+
+/// White space is no `#`.
+pub fn space_not_sharp()
+    ensures { (space : ℕ) (rest : List ℕ) → class_of space ≡ class.Space → is_sharp_first (space ∷ rest) ≡ false }
 {}
