@@ -143,7 +143,7 @@ pub fn space_ends()
     ensures { (a : Alphabet) (space : ℕ) (rest : List ℕ) → class_of space ≡ class.Space → Ends a (space ∷ rest) }
 {}
 
-/// A token and a byte of white space behind it spell that token, whatever follows.
+/// A token and a byte of white space behind it spell that token.
 pub fn spaced_token()
     ensures { (text rest : List ℕ) (space : ℕ) (token : TokenKind) → class_of space ≡ class.Space → Piece text (space ∷ rest) (Some token)
         → Spells (text ++ space ∷ []) (token ∷ []) rest }
