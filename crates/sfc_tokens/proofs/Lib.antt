@@ -23,3 +23,6 @@ pub mod DurationWords
 pub mod TimeLaw
 pub mod Spelled
 pub mod SpelledLocations
+pub mod Spellings
+pub mod Signs
+pub mod Spaced

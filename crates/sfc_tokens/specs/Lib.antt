@@ -20,6 +20,8 @@ pub mod Locations
 pub mod Literals
 -- tokens: pieces of text, each as long as it can be, and the first fault
 pub mod Lexemes
+-- spelled tokens, one behind the other
+pub mod Spelling
 -- whole texts and their tokens
 pub mod Texts
 -- tokens without their lines

@@ -1,25 +1,31 @@
 //! What holds of the tokens and the TIME text themselves.
 
-ghost use Rattle.std.specs.Prelude.{◌≡◌, ◌≤◌, ◌<◌, ◌^◌, ◌↔◌, ℕ, ℤ, nat_eq, unsigned_abs, false, List, [], ◌∷◌, ◌++◌, Ok, Some, codes};
+ghost use Rattle.std.specs.Prelude.{◌≡◌, ◌≤◌, ◌<◌, ◌^◌, ◌↔◌, ℕ, ℤ, nat_eq, unsigned_abs, false, List, [], ◌∷◌, ◌++◌, length, Ok, Some, codes};
 ghost use Rattle.std.specs.Cmp.Lexicographic.{pointwise};
 ghost use Rattle.std.specs.Fmt.{decimal, signed_decimal};
 ghost use Rattle.std.specs.List.{All, Contains};
 ghost use Rattle.std.specs.Str.{str_to_ascii_uppercase};
 ghost use Rattle.sfc_tokens.specs.Case.{same_word};
-ghost use Rattle.sfc_tokens.specs.Runs.{Ends};
+ghost use Rattle.sfc_tokens.specs.Classes.{class_of, first_class};
+ghost use Rattle.sfc_tokens.specs.Runs.{is_in, Ends};
 ghost use Rattle.sfc_tokens.specs.Words.{reserved_words, keyword_of};
 ghost use Rattle.sfc_tokens.specs.Names.{IsWord, IsName};
 ghost use Rattle.sfc_tokens.specs.Durations.{greatest};
 ghost use Rattle.sfc_tokens.specs.Locations.{AreNumbers};
-ghost use Rattle.sfc_tokens.specs.Lexemes.{Tokens, Scans, is_sharp_first, IsDuration, Piece};
-ghost use Rattle.sfc_tokens.specs.Texts.{TextScans};
+ghost use Rattle.sfc_tokens.specs.Lexemes.{look_ahead, Tokens, Scans, is_sharp_first, IsDuration, Piece};
+ghost use Rattle.sfc_tokens.specs.Spelling.{Spells, behind, sign_text};
+ghost use Rattle.sfc_tokens.specs.Texts.{longest, TextScans};
 ghost use Rattle.sfc_tokens.specs.Tokens.{Kinds};
 ghost use Rattle.sfc_tokens.specs.TimeText.{time_text};
 ghost use Rattle.sfc_tokens.specs.LocationText.{location_text};
 ghost use Rattle.sfc_tokens.specs.Scanning.DurationWords.{duration_value};
+ghost use Rattle.sfc_tokens.specs.declared.class.Class.TheVariants as class;
+ghost use Rattle.sfc_tokens.specs.declared.delimiter.Delimiter.{Delimiter};
 ghost use Rattle.sfc_tokens.specs.declared.keyword.Keyword.{Keyword};
 ghost use Rattle.sfc_tokens.specs.declared.location.Location.{Location};
+ghost use Rattle.sfc_tokens.specs.declared.run.Alphabet.{Alphabet};
 ghost use Rattle.sfc_tokens.specs.declared.run.Alphabet.TheVariants as alphabet;
+ghost use Rattle.sfc_tokens.specs.declared.scan.Ahead.TheVariants.{Alone};
 ghost use Rattle.sfc_tokens.specs.declared.token.TokenKind.{TokenKind};
 
 /// Two words are one but for case where their capitals are byte for byte the same.
@@ -102,4 +108,87 @@ pub fn reserved_word_spelled()
 pub fn location_spelled()
     ensures { (location : Location) (rest : List ℕ) → AreNumbers location.numbers → All (λ n. n < 2 ^ 32) location.numbers
         → Ends alphabet.Location rest → Piece (location_text location) rest (Some (TokenKind.Location location)) }
+{}
+
+/// A delimiter is one token where the next byte makes neither a longer one nor the start of a comment of it.
+/// It can do so of `:`, `<`, `>` and `(` alone.
+pub fn sign_spelled()
+    ensures { (sign : Delimiter) (rest : List ℕ) → look_ahead sign (first_class rest) ≡ Alone
+        → Piece (sign_text sign) rest (Some (TokenKind.Delimiter sign)) }
+{}
+
+/// The spelling of tokens and then the spelling of others is the spelling of them all.
+pub fn spellings_join()
+    ensures { (a b rest : List ℕ) (ts us : List TokenKind) → Spells a ts (b ++ rest) → Spells b us rest → Spells (a ++ b) (ts ++ us) rest }
+{}
+
+/// Spelled tokens are scanned as these tokens, and then what follows.
+pub fn spelling_scans()
+    ensures { (text rest : List ℕ) (ts : List TokenKind) (r : Tokens) → Spells text ts rest → Scans rest r
+        → Scans (text ++ rest) (behind ts r) }
+{}
+
+/// Spelled tokens with nothing behind them are scanned as these tokens.
+pub fn spelling_scanned()
+    ensures { (text : List ℕ) (ts : List TokenKind) → Spells text ts [] → Scans text (Ok ts) }
+{}
+
+/// A whole text that spells tokens, and is not too long, has these tokens.
+pub fn spelled_text()
+    ensures { (text : List ℕ) (ts : List TokenKind) → length text ≤ longest → Spells text ts [] → TextScans text (Ok ts) }
+{}
+
+/// No run of bytes goes on with white space.
+pub fn space_ends()
+    ensures { (a : Alphabet) (space : ℕ) (rest : List ℕ) → class_of space ≡ class.Space → Ends a (space ∷ rest) }
+{}
+
+/// A token and a byte of white space behind it spell that token.
+pub fn spaced_token()
+    ensures { (text rest : List ℕ) (space : ℕ) (token : TokenKind) → class_of space ≡ class.Space → Piece text (space ∷ rest) (Some token)
+        → Spells (text ++ space ∷ []) (token ∷ []) rest }
+{}
+
+/// A name and a byte of white space behind it spell that name, whatever follows.
+pub fn spaced_name()
+    ensures { (word rest : List ℕ) (space : ℕ) → IsName word → class_of space ≡ class.Space
+        → Spells (word ++ space ∷ []) (TokenKind.Name word ∷ []) rest }
+{}
+
+/// A reserved word in any case and a byte of white space behind it spell what the word stands for, whatever follows.
+pub fn spaced_reserved()
+    ensures { (word rest : List ℕ) (space : ℕ) (keyword : Keyword) → IsWord word → keyword_of word ≡ Some keyword
+        → class_of space ≡ class.Space → Spells (word ++ space ∷ []) (TokenKind.Keyword keyword ∷ []) rest }
+{}
+
+/// Each reserved word as the table spells it and a byte of white space behind it spell what the table says, whatever follows.
+pub fn spaced_reserved_word()
+    ensures { (word rest : List ℕ) (space : ℕ) (keyword : Keyword) → Contains reserved_words (word, keyword)
+        → class_of space ≡ class.Space → Spells (word ++ space ∷ []) (TokenKind.Keyword keyword ∷ []) rest }
+{}
+
+/// A delimiter and a byte of white space behind it spell that delimiter, whatever follows.
+pub fn spaced_sign()
+    ensures { (sign : Delimiter) (rest : List ℕ) (space : ℕ) → class_of space ≡ class.Space
+        → Spells (sign_text sign ++ space ∷ []) (TokenKind.Delimiter sign ∷ []) rest }
+{}
+
+/// A token spells itself.
+pub fn token_spells()
+    ensures { (text rest : List ℕ) (token : TokenKind) → Piece text rest (Some token) → Spells text (token ∷ []) rest }
+{}
+
+/// No run of bytes goes on with a delimiter that is not in its alphabet. Only `.` is in any.
+pub fn sign_ends()
+    ensures { (a : Alphabet) (sign : Delimiter) (rest : List ℕ) → is_in a (class.Sign sign) ≡ false → Ends a (sign_text sign ++ rest) }
+{}
+
+/// No delimiter begins with `#`.
+pub fn sign_not_sharp()
+    ensures { (sign : Delimiter) (rest : List ℕ) → is_sharp_first (sign_text sign ++ rest) ≡ false }
+{}
+
+/// White space is no `#`.
+pub fn space_not_sharp()
+    ensures { (space : ℕ) (rest : List ℕ) → class_of space ≡ class.Space → is_sharp_first (space ∷ rest) ≡ false }
 {}
