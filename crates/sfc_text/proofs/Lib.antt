@@ -12,3 +12,4 @@ pub mod Globals
 pub mod Counting
 pub mod Appending
 pub mod Readings
+pub mod Spelled

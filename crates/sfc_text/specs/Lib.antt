@@ -21,5 +21,7 @@ pub mod Grammar
 pub mod Limits
 -- what a whole text is read as
 pub mod Reads
+-- the tokens of trees
+pub mod Spelled
 -- What private clauses cite.
 pub mod Parsing

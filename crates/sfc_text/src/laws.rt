@@ -1,13 +1,14 @@
 //! What holds of the grammar itself.
 
-ghost use Rattle.std.specs.Prelude.{◌≡◌, true, List, ℕ};
+ghost use Rattle.std.specs.Prelude.{◌++◌, ◌≡◌, ◌≤◌, true, List, ℕ};
 ghost use Rattle.sfc_tokens.specs.ReadErrors.{Read};
 ghost use Rattle.sfc_tokens.specs.Tokens.{Kinds};
-ghost use Rattle.sfc_text.specs.Grammar.{source};
-ghost use Rattle.sfc_text.specs.Limits.{Limits};
+ghost use Rattle.sfc_text.specs.Grammar.{expression, source};
+ghost use Rattle.sfc_text.specs.Limits.{Derived, Limits};
 ghost use Rattle.sfc_text.specs.Parsing.Lookahead.{fine};
 ghost use Rattle.sfc_text.specs.Reads.{AreOne, IsSource, TextReads};
-ghost use Rattle.sfc_text.specs.Trees.{SourceTree};
+ghost use Rattle.sfc_text.specs.Spelled.{nesting, tree_tokens};
+ghost use Rattle.sfc_text.specs.Trees.{SourceTree, Tree, operators};
 
 /// Tokens derive one tree at most, whatever the limits.
 pub fn one_tree()
@@ -22,6 +23,12 @@ pub fn one_reading()
 /// Each text has an outcome.
 pub fn some_reading()
     ensures { (text : List ℕ) → (r : Read SourceTree) × TextReads text r }
+{}
+
+/// The tokens of an expression derive it, whatever stands behind them.
+pub fn spelled_expression()
+    ensures { (limits : Limits) (tree : Tree) (rest : Kinds) → nesting tree ≤ limits.depth → operators tree ≤ limits.operators
+        → Derived limits expression (tree_tokens tree ++ rest) tree rest }
 {}
 
 /// One token ahead decides how a text goes on, but for the sign of an integer.
