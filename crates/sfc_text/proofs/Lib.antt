@@ -13,3 +13,4 @@ pub mod Counting
 pub mod Appending
 pub mod Readings
 pub mod Spelled
+pub mod SpelledStatements

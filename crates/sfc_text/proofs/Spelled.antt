@@ -14,7 +14,7 @@ use Rattle.sfc_text.specs.declared.tree.Literal.TheVariants as literal
 use Rattle.sfc_text.specs.Building as make
 use Rattle.sfc_text.specs.Grammar as grammar
 use Rattle.sfc_text.specs.Grammar.{joined, unary, primary, parenthesized, opposite, negation, signed, variable, expression}
-use Rattle.sfc_text.specs.Limits.{Limits, Within, Derived}
+use Rattle.sfc_text.specs.Limits.{Within}
 use Rattle.sfc_text.specs.Rules.{Many, none, next, Both, Inner, Derives}
 use Rattle.sfc_text.specs.Terms.{sign, ◌▸◌, maybe}
 use Rattle.sfc_text.specs.Trees.{Tree, Constant, Named, Not, Minus, Binary, operators}
@@ -79,13 +79,17 @@ literal_derives n In (literal.Bool true) rest = inr (refl, inr (inr (inl (litera
 literal_derives n In (literal.Bool false) rest = inr (refl, inr (inr (inl (literal.Bool false, (token.Keyword keyword.False, refl, refl, refl), refl))))
 literal_derives n In (literal.Time d) rest = inr (refl, inr (inr (inl (literal.Time d, (token.Duration d, refl, refl, refl), refl))))
 
-named_derives : (n : ℕ) (In : Inner) (v : Variable) (rest : Kinds) → Derives n In (joined 0) (variable_tokens v ++ rest) (Named v) rest
-unfolding joined unary primary variable
-named_derives n In v rest = inr (refl, inr (inr (inr (inl (v, ((v.name, v.part), ((v.name, v.part), (part_tokens v.part ++ rest, (token.Name v.name, refl, refl, refl), part v.part), refl), refl), refl)))))
+pub variable_derives : (n : ℕ) (In : Inner) (v : Variable) (rest : Kinds) → Derives n In variable (variable_tokens v ++ rest) v rest
+unfolding variable
+variable_derives n In v rest = ((v.name, v.part), ((v.name, v.part), (part_tokens v.part ++ rest, (token.Name v.name, refl, refl, refl), part v.part), refl), refl)
   where
     part : (p : Option (List ℕ)) → Derives n In (maybe (sign sign.Dot ▸ grammar.name)) (part_tokens p ++ rest) p rest
     part None = inr (refl, refl)
     part (Some q) = inl (q, ((tt, q), (token.Name q ∷ rest, (token.Delimiter sign.Dot, refl, refl, refl), (token.Name q, refl, refl, refl)), refl), refl)
+
+named_derives : (n : ℕ) (In : Inner) (v : Variable) (rest : Kinds) → Derives n In (joined 0) (variable_tokens v ++ rest) (Named v) rest
+unfolding joined unary primary
+named_derives n In v rest = inr (refl, inr (inr (inr (inl (v, variable_derives n In v rest, refl)))))
 
 -- ---- prefix operators
 
@@ -195,7 +199,6 @@ tree_derives n (Binary o a b) depth le rest =
     let both = further n (Within n depth) l (left ++ (operator_token o ∷ (right ++ rest))) (operator_token o ∷ (right ++ rest)) (right ++ rest) rest o a b d (operator_derives n (Within n depth) o (right ++ rest)) e in
     subst (λ us. Derives n (Within n depth) (joined (suc l)) us (Binary o a b) rest) (sym (append_assoc left (operator_token o ∷ right) rest)) both
 
-pub spelled_derives : (limits : Limits) (t : Tree) (rest : Kinds) → nesting t ≤ limits.depth → operators t ≤ limits.operators → Derived limits expression (tree_tokens t ++ rest) t rest
+pub expression_derives : (n depth : ℕ) (t : Tree) (rest : Kinds) → nesting t ≤ depth → operators t ≤ n → Derives n (Within n depth) expression (tree_tokens t ++ rest) t rest
 unfolding expression Spelled
-spelled_derives limits t rest deep many =
-    (up_to limits.operators (Within limits.operators limits.depth) (level t) 7 (tree_tokens t ++ rest) t rest (level_at_most t) (tree_derives limits.operators t limits.depth deep rest), many)
+expression_derives n depth t rest deep many = (up_to n (Within n depth) (level t) 7 (tree_tokens t ++ rest) t rest (level_at_most t) (tree_derives n t depth deep rest), many)

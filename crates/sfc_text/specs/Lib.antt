@@ -23,5 +23,6 @@ pub mod Limits
 pub mod Reads
 -- the tokens of trees
 pub mod Spelled
+pub mod SpelledStatements
 -- What private clauses cite.
 pub mod Parsing

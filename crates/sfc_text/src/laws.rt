@@ -3,12 +3,13 @@
 ghost use Rattle.std.specs.Prelude.{◌++◌, ◌≡◌, ◌≤◌, true, List, ℕ};
 ghost use Rattle.sfc_tokens.specs.ReadErrors.{Read};
 ghost use Rattle.sfc_tokens.specs.Tokens.{Kinds};
-ghost use Rattle.sfc_text.specs.Grammar.{expression, source};
+ghost use Rattle.sfc_text.specs.Grammar.{body, expression, source};
 ghost use Rattle.sfc_text.specs.Limits.{Derived, Limits};
 ghost use Rattle.sfc_text.specs.Parsing.Lookahead.{fine};
 ghost use Rattle.sfc_text.specs.Reads.{AreOne, IsSource, TextReads};
 ghost use Rattle.sfc_text.specs.Spelled.{nesting, tree_tokens};
-ghost use Rattle.sfc_text.specs.Trees.{SourceTree, Tree, operators};
+ghost use Rattle.sfc_text.specs.SpelledStatements.{block_nesting, body_tokens, IsBody, most_operators};
+ghost use Rattle.sfc_text.specs.Trees.{Block, SourceTree, Tree, operators};
 
 /// Tokens derive one tree at most, whatever the limits.
 pub fn one_tree()
@@ -29,6 +30,12 @@ pub fn some_reading()
 pub fn spelled_expression()
     ensures { (limits : Limits) (tree : Tree) (rest : Kinds) → nesting tree ≤ limits.depth → operators tree ≤ limits.operators
         → Derived limits expression (tree_tokens tree ++ rest) tree rest }
+{}
+
+/// The tokens of statements derive them, whatever stands behind them.
+pub fn spelled_body()
+    ensures { (limits : Limits) (block : Block) (rest : Kinds) → IsBody block → block_nesting block ≤ limits.depth
+        → most_operators block ≤ limits.operators → Derived limits body (body_tokens block ++ rest) block rest }
 {}
 
 /// One token ahead decides how a text goes on, but for the sign of an integer.
