@@ -14,3 +14,4 @@ pub mod Appending
 pub mod Readings
 pub mod Spelled
 pub mod SpelledStatements
+pub mod Nesting

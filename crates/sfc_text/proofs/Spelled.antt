@@ -1,5 +1,5 @@
 -- The tokens of an expression derive it.
-use Rattle.std.proofs.Common.{◌≡◌, inl, inr, ℕ, zero, suc, ◌≤◌, pos, negsuc, Bool, true, false, List, [], ◌∷◌, ◌++◌, Option, Some, None, nat_lt, refl, sym, ap, subst, ◌∙◌, arith, append_assoc}
+use Rattle.std.proofs.Common.{◌≡◌, ◌⊎◌, inl, inr, ℕ, zero, suc, ◌≤◌, pos, negsuc, Bool, true, false, List, [], ◌∷◌, ◌++◌, Option, Some, None, nat_lt, refl, sym, ap, subst, ◌∙◌, arith, append_assoc}
 use Rattle.std.proofs.Math.Nat.{le-max_left, le-max_right}
 use Rattle.std.proofs.lemmas.Bool.{ltb-true, ltb-false, lt-ltb}
 use Rattle.sfc_tokens.specs.declared.delimiter.Delimiter.TheVariants as sign
@@ -18,7 +18,7 @@ use Rattle.sfc_text.specs.Limits.{Within}
 use Rattle.sfc_text.specs.Rules.{Many, none, next, Both, Inner, Derives}
 use Rattle.sfc_text.specs.Terms.{sign, ◌▸◌, maybe}
 use Rattle.sfc_text.specs.Trees.{Tree, Constant, Named, Not, Minus, Binary, operators}
-use Rattle.sfc_text.specs.Spelled.{literal_tokens, part_tokens, variable_tokens, operator_token, tighter, level, is_looser, is_guarded, enclosed, tree_tokens, deeper, nesting}
+use Rattle.sfc_text.specs.Spelled.{literal_tokens, part_tokens, variable_tokens, operator_token, tighter, level, is_looser, enclosed, behind_minus, tree_tokens, deeper, nesting}
 
 -- ---- a chain of operators of one level
 
@@ -101,8 +101,32 @@ minus_derives : (n depth : ℕ) (ts : Kinds) (a : Tree) (rest : Kinds) → make.
 unfolding joined unary opposite Within
 minus_derives n depth ts a rest p d = inr (p, inl ((tt, Minus a), (ts, (token.Delimiter sign.Minus, refl, refl, refl), (a, d, refl)), refl))
 
+-- a decimal integer, which behind a minus has a base
+abbrev unsigned_integer : ℕ → Tree
+unsigned_integer k = Constant (literal.Integer (pos k))
+
+based_derives : (n : ℕ) (In : Inner) (k : ℕ) (rest : Kinds) → Derives n In (joined 0) (token.Based k ∷ rest) (unsigned_integer k) rest
+unfolding joined unary primary grammar.literal
+based_derives n In k rest = inr (refl, inr (inr (inl (literal.Integer (pos k), (token.Based k, refl, refl, refl), refl))))
+
+-- which operands have a base behind a minus
+abbrev AsElsewhere : Tree → Type 0
+AsElsewhere a = (ts : Kinds) → behind_minus a ts ≡ enclosed (is_looser 0 a) ts
+
+based_or_not : (a : Tree) → ((k : ℕ) × (a ≡ unsigned_integer k)) ⊎ AsElsewhere a
+based_or_not (Constant (literal.Integer (pos k))) = inl (k, refl)
+based_or_not (Constant (literal.Integer (negsuc k))) = inr (λ ts. refl)
+based_or_not (Constant (literal.Int k)) = inr (λ ts. refl)
+based_or_not (Constant (literal.Dint k)) = inr (λ ts. refl)
+based_or_not (Constant (literal.Bool b)) = inr (λ ts. refl)
+based_or_not (Constant (literal.Time d)) = inr (λ ts. refl)
+based_or_not (Named v) = inr (λ ts. refl)
+based_or_not (Not a) = inr (λ ts. refl)
+based_or_not (Minus a) = inr (λ ts. refl)
+based_or_not (Binary o a b) = inr (λ ts. refl)
+
 -- the minus is not the sign of an integer
-not_signed : (a : Tree) (rest : Kinds) → make.is_signed (token.Delimiter sign.Minus ∷ enclosed (is_guarded a) (tree_tokens a) ++ rest) ≡ false
+not_signed : (a : Tree) (rest : Kinds) → make.is_signed (token.Delimiter sign.Minus ∷ behind_minus a (tree_tokens a) ++ rest) ≡ false
 not_signed (Constant (literal.Integer (pos k))) rest = refl
 not_signed (Constant (literal.Integer (negsuc k))) rest = refl
 not_signed (Constant (literal.Int k)) rest = refl
@@ -116,6 +140,13 @@ not_signed (Minus a) rest = refl
 not_signed (Binary o a b) rest =
     let looser = lt-ltb 0 (suc (tighter o)) (omega arith) in
     subst (λ in_parentheses. make.is_signed (token.Delimiter sign.Minus ∷ (enclosed in_parentheses (tree_tokens (Binary o a b)) ++ rest)) ≡ false) (sym looser) refl
+
+behind_minus_derives : (n : ℕ) (In : Inner) (a : Tree) (rest : Kinds) → Derives n In (joined 0) (enclosed (is_looser 0 a) (tree_tokens a) ++ rest) a rest → Derives n In (joined 0) (behind_minus a (tree_tokens a) ++ rest) a rest
+behind_minus_derives n In a rest d = by_kind (based_or_not a)
+  where
+    by_kind : ((k : ℕ) × (a ≡ unsigned_integer k)) ⊎ AsElsewhere a → Derives n In (joined 0) (behind_minus a (tree_tokens a) ++ rest) a rest
+    by_kind (inl p) = subst (λ t. Derives n In (joined 0) (behind_minus t (tree_tokens t) ++ rest) t rest) (sym p.1) (based_derives n In p.0 rest)
+    by_kind (inr same) = subst (λ us. Derives n In (joined 0) (us ++ rest) a rest) (sym (same (tree_tokens a))) d
 
 -- ---- operands
 
@@ -144,13 +175,6 @@ level_at_most (Binary o a b) = by_operator o
 
 not_looser : (wanted : ℕ) (a : Tree) → is_looser wanted a ≡ false → level a ≤ wanted
 not_looser wanted a p = ltb-false wanted (level a) p
-
-not_guarded : (a : Tree) → is_guarded a ≡ false → level a ≤ 0
-not_guarded (Constant l) p = omega arith
-not_guarded (Named v) p = omega arith
-not_guarded (Not a) p = omega arith
-not_guarded (Minus a) p = omega arith
-not_guarded (Binary o a b) p = not_looser 0 (Binary o a b) p
 
 parentheses_derive : (n depth : ℕ) (ts : Kinds) (a : Tree) (rest : Kinds) → Derives n (Within n depth) (joined 7) (ts ++ token.Delimiter sign.Close ∷ rest) a (token.Delimiter sign.Close ∷ rest) → Derives n (Within n (suc depth)) (joined 0) (enclosed true ts ++ rest) a rest
 unfolding joined unary primary parenthesized Within
@@ -184,8 +208,8 @@ tree_derives n (Not a) (suc depth) le rest =
     not_derives n depth (enclosed (is_looser 0 a) (tree_tokens a) ++ rest) a rest d
 tree_derives n (Minus a) zero le rest = absurd (omega (arith, le))
 tree_derives n (Minus a) (suc depth) le rest =
-    let d = operand n depth 0 (is_guarded a) a (tree_derives n a) (omega (arith, le)) (not_guarded a) rest in
-    minus_derives n depth (enclosed (is_guarded a) (tree_tokens a) ++ rest) a rest (not_signed a rest) d
+    let d = operand n depth 0 (is_looser 0 a) a (tree_derives n a) (omega (arith, le)) (not_looser 0 a) rest in
+    minus_derives n depth (behind_minus a (tree_tokens a) ++ rest) a rest (not_signed a rest) (behind_minus_derives n (Within n depth) a rest d)
 tree_derives n (Binary o a b) depth le rest =
     let l = tighter o in
     let left = enclosed (is_looser (suc l) a) (tree_tokens a) in

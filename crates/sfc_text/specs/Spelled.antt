@@ -73,22 +73,22 @@ level _ = 0
 abbrev pub is_looser : ℕ → Tree → Bool
 is_looser wanted a = nat_lt wanted (level a)
 
--- whether the operand of a minus stands in parentheses: the minus before an integer without a type would be its sign
-abbrev pub is_guarded : Tree → Bool
-is_guarded (Constant (literal.Integer (pos n))) = true
-is_guarded a = is_looser 0 a
-
 -- tokens in parentheses, or as they are
 abbrev pub enclosed : Bool → Kinds → Kinds
 enclosed in_parentheses ts =
     if in_parentheses then token.Delimiter sign.Open ∷ ts ++ token.Delimiter sign.Close ∷ [] else ts
+
+-- The operand of a minus. A minus before a decimal integer without a type would be its sign, so that such an integer has a base.
+abbrev pub behind_minus : Tree → Kinds → Kinds
+behind_minus (Constant (literal.Integer (pos n))) ts = token.Based n ∷ []
+behind_minus a ts = enclosed (is_looser 0 a) ts
 
 -- The tokens of an expression. Operators of one level group to the left, so that a right operand has to bind more tightly.
 abbrev pub tree_tokens : Tree → Kinds
 tree_tokens (Constant l) = literal_tokens l
 tree_tokens (Named v) = variable_tokens v
 tree_tokens (Not a) = token.Keyword keyword.Not ∷ enclosed (is_looser 0 a) (tree_tokens a)
-tree_tokens (Minus a) = token.Delimiter sign.Minus ∷ enclosed (is_guarded a) (tree_tokens a)
+tree_tokens (Minus a) = token.Delimiter sign.Minus ∷ behind_minus a (tree_tokens a)
 tree_tokens (Binary o a b) =
     enclosed (is_looser (suc (tighter o)) a) (tree_tokens a)
     ++ operator_token o ∷ enclosed (is_looser (tighter o) b) (tree_tokens b)
@@ -102,6 +102,6 @@ abbrev pub nesting : Tree → ℕ
 nesting (Constant l) = 0
 nesting (Named v) = 0
 nesting (Not a) = suc (deeper (is_looser 0 a) (nesting a))
-nesting (Minus a) = suc (deeper (is_guarded a) (nesting a))
+nesting (Minus a) = suc (deeper (is_looser 0 a) (nesting a))
 nesting (Binary o a b) =
     max (deeper (is_looser (suc (tighter o)) a) (nesting a)) (deeper (is_looser (tighter o) b) (nesting b))

@@ -32,6 +32,12 @@ pub fn spelled_expression()
         → Derived limits expression (tree_tokens tree ++ rest) tree rest }
 {}
 
+/// What derives an expression nests no less than the expression needs, and the expression has no more operators than it may.
+pub fn derived_expression()
+    ensures { (limits : Limits) (ts : Kinds) (tree : Tree) (rest : Kinds) → Derived limits expression ts tree rest
+        → nesting tree ≤ limits.depth × operators tree ≤ limits.operators }
+{}
+
 /// The tokens of statements derive them, whatever stands behind them.
 pub fn spelled_body()
     ensures { (limits : Limits) (block : Block) (rest : Kinds) → IsBody block → block_nesting block ≤ limits.depth
