@@ -15,3 +15,4 @@ pub mod Readings
 pub mod Spelled
 pub mod SpelledStatements
 pub mod Nesting
+pub mod NestingStatements

@@ -44,6 +44,12 @@ pub fn spelled_body()
         → most_operators block ≤ limits.operators → Derived limits body (body_tokens block ++ rest) block rest }
 {}
 
+/// What derives statements nests no less than they need, and none of their expressions has more operators than it may.
+pub fn derived_body()
+    ensures { (limits : Limits) (ts : Kinds) (block : Block) (rest : Kinds) → Derived limits body ts block rest
+        → IsBody block × block_nesting block ≤ limits.depth × most_operators block ≤ limits.operators }
+{}
+
 /// One token ahead decides how a text goes on, but for the sign of an integer.
 pub fn one_token_decides()
     ensures { fine source ≡ true }
