@@ -18,7 +18,7 @@ use Rattle.sfc_text.proofs.Loops.{Folds, Folding, fails, goes_on, ends, smaller,
 abbrev pub Still : ℕ → Rule Block → Block → Kinds → Read (Block × Kinds)
 Still left rule front ts = Folding (first rule) (at left rule) append front ts
 
-folded_appends : (front : Block) (bs : List Block) → folded append front bs ≡ append front (folded append Nothing bs)
+pub folded_appends : (front : Block) (bs : List Block) → folded append front bs ≡ append front (folded append Nothing bs)
 folded_appends front [] = sym (append_nothing front)
 folded_appends front (b ∷ bs) = folded_appends (append front b) bs ∙ append_append front b (folded append Nothing bs) ∙ ap (append front) (sym (folded_appends b bs))
 

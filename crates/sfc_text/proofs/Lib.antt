@@ -12,3 +12,7 @@ pub mod Globals
 pub mod Counting
 pub mod Appending
 pub mod Readings
+pub mod Spelled
+pub mod SpelledStatements
+pub mod Nesting
+pub mod NestingStatements

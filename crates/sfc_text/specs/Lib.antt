@@ -21,5 +21,8 @@ pub mod Grammar
 pub mod Limits
 -- what a whole text is read as
 pub mod Reads
+-- the tokens of trees
+pub mod Spelled
+pub mod SpelledStatements
 -- What private clauses cite.
 pub mod Parsing

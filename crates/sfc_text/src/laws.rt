@@ -1,13 +1,15 @@
 //! What holds of the grammar itself.
 
-ghost use Rattle.std.specs.Prelude.{◌≡◌, true, List, ℕ};
+ghost use Rattle.std.specs.Prelude.{◌++◌, ◌≡◌, ◌≤◌, true, List, ℕ};
 ghost use Rattle.sfc_tokens.specs.ReadErrors.{Read};
 ghost use Rattle.sfc_tokens.specs.Tokens.{Kinds};
-ghost use Rattle.sfc_text.specs.Grammar.{source};
-ghost use Rattle.sfc_text.specs.Limits.{Limits};
+ghost use Rattle.sfc_text.specs.Grammar.{body, expression, source};
+ghost use Rattle.sfc_text.specs.Limits.{Derived, Limits};
 ghost use Rattle.sfc_text.specs.Parsing.Lookahead.{fine};
 ghost use Rattle.sfc_text.specs.Reads.{AreOne, IsSource, TextReads};
-ghost use Rattle.sfc_text.specs.Trees.{SourceTree};
+ghost use Rattle.sfc_text.specs.Spelled.{nesting, tree_tokens};
+ghost use Rattle.sfc_text.specs.SpelledStatements.{block_nesting, body_tokens, IsBody, most_operators};
+ghost use Rattle.sfc_text.specs.Trees.{Block, SourceTree, Tree, operators};
 
 /// Tokens derive one tree at most, whatever the limits.
 pub fn one_tree()
@@ -22,6 +24,30 @@ pub fn one_reading()
 /// Each text has an outcome.
 pub fn some_reading()
     ensures { (text : List ℕ) → (r : Read SourceTree) × TextReads text r }
+{}
+
+/// The tokens of an expression derive it, whatever stands behind them.
+pub fn spelled_expression()
+    ensures { (limits : Limits) (tree : Tree) (rest : Kinds) → nesting tree ≤ limits.depth → operators tree ≤ limits.operators
+        → Derived limits expression (tree_tokens tree ++ rest) tree rest }
+{}
+
+/// What derives an expression nests no less than the expression needs, and the expression has no more operators than it may.
+pub fn derived_expression()
+    ensures { (limits : Limits) (ts : Kinds) (tree : Tree) (rest : Kinds) → Derived limits expression ts tree rest
+        → nesting tree ≤ limits.depth × operators tree ≤ limits.operators }
+{}
+
+/// The tokens of statements derive them, whatever stands behind them.
+pub fn spelled_body()
+    ensures { (limits : Limits) (block : Block) (rest : Kinds) → IsBody block → block_nesting block ≤ limits.depth
+        → most_operators block ≤ limits.operators → Derived limits body (body_tokens block ++ rest) block rest }
+{}
+
+/// What derives statements nests no less than they need, and none of their expressions has more operators than it may.
+pub fn derived_body()
+    ensures { (limits : Limits) (ts : Kinds) (block : Block) (rest : Kinds) → Derived limits body ts block rest
+        → IsBody block × block_nesting block ≤ limits.depth × most_operators block ≤ limits.operators }
 {}
 
 /// One token ahead decides how a text goes on, but for the sign of an integer.
