@@ -17,3 +17,5 @@ pub mod WrittenPrograms
 pub mod WrittenPlants
 pub mod WrittenShapes
 pub mod WrittenLimits
+pub mod SpelledLiterals
+pub mod SpelledExpressions

@@ -22,5 +22,7 @@ pub mod WrittenVariables
 pub mod WrittenCharts
 -- that of a whole plant
 pub mod Written
+-- where the text of an expression spells its tokens
+pub mod SpelledTexts
 -- What private clauses cite.
 pub mod Private

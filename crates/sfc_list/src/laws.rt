@@ -1,12 +1,38 @@
 //! What holds of listings themselves. Each law is a function with an empty body, whose contract is the law.
 
-ghost use Rattle.std.specs.Prelude.{◌≡◌, None};
+ghost use Rattle.std.specs.Prelude.{◌≡◌, ℕ, List, None, IsTrue};
+ghost use Rattle.sfc_tokens.specs.declared.run.Alphabet.TheVariants.{Location};
+ghost use Rattle.sfc_tokens.specs.Runs.{Ends};
+ghost use Rattle.sfc_tokens.specs.Spelling.{Spells};
+ghost use Rattle.sfc_text.specs.Spelled.{literal_tokens, tree_tokens};
 ghost use Rattle.sfc_text.specs.Trees.{SourceTree};
+ghost use Rattle.sfc_expr.specs.declared.value.Value.{Value};
+ghost use Rattle.sfc_expr.specs.Trees.{Expression};
+ghost use Rattle.sfc_expr.specs.Types.{lies_in_range};
+ghost use Rattle.sfc_program.specs.Names.{Space};
 ghost use Rattle.sfc_chart.specs.Built.{source_check, plant_of};
+ghost use Rattle.sfc_list.specs.Expressions.{expression_text};
+ghost use Rattle.sfc_list.specs.SpelledTexts.{AreNames};
+ghost use Rattle.sfc_list.specs.Values.{literal_text};
 ghost use Rattle.sfc_list.specs.Written.{written};
+ghost use Rattle.sfc_list.specs.WrittenTerms.{literal_tree, expression_tree};
 
 /// The tree that a listing spells of a loaded plant loads, as the equal plant.
 pub fn spelled_plant_loads()
     ensures passes { (tree : SourceTree) → source_check tree ≡ None → source_check (written (plant_of tree)) ≡ None }
     ensures equal { (tree : SourceTree) → source_check tree ≡ None → plant_of (written (plant_of tree)) ≡ plant_of tree }
+{}
+
+/// The text of a value in the range of its type spells the tokens of its literal, where neither a letter, a digit, an underscore, a `#`
+/// nor a dot follows.
+pub fn spelled_literal()
+    ensures { (v : Value) (rest : List ℕ) → IsTrue (lies_in_range v) → Ends Location rest
+        → Spells (literal_text v) (literal_tokens (literal_tree v)) rest }
+{}
+
+/// The text of an expression spells the tokens of the tree that the listing spells, where neither a letter, a digit, an underscore,
+/// a `#` nor a dot follows.
+pub fn spelled_expression_text()
+    ensures { (space : Space) (own : List ℕ) (e : Expression) (rest : List ℕ) → AreNames space own e → Ends Location rest
+        → Spells (expression_text space own e) (tree_tokens (expression_tree space own e)) rest }
 {}
