@@ -19,3 +19,4 @@ pub mod WrittenShapes
 pub mod WrittenLimits
 pub mod SpelledLiterals
 pub mod SpelledExpressions
+pub mod SpelledBodies

@@ -22,7 +22,7 @@ pub mod WrittenVariables
 pub mod WrittenCharts
 -- that of a whole plant
 pub mod Written
--- where the text of an expression spells its tokens
+-- where the texts of expressions and statements spell their tokens
 pub mod SpelledTexts
 -- What private clauses cite.
 pub mod Private

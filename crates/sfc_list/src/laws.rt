@@ -5,17 +5,19 @@ ghost use Rattle.sfc_tokens.specs.declared.run.Alphabet.TheVariants.{Location};
 ghost use Rattle.sfc_tokens.specs.Runs.{Ends};
 ghost use Rattle.sfc_tokens.specs.Spelling.{Spells};
 ghost use Rattle.sfc_text.specs.Spelled.{literal_tokens, tree_tokens};
+ghost use Rattle.sfc_text.specs.SpelledStatements.{body_tokens};
 ghost use Rattle.sfc_text.specs.Trees.{SourceTree};
 ghost use Rattle.sfc_expr.specs.declared.value.Value.{Value};
-ghost use Rattle.sfc_expr.specs.Trees.{Expression};
+ghost use Rattle.sfc_expr.specs.Trees.{Expression, Body};
 ghost use Rattle.sfc_expr.specs.Types.{lies_in_range};
 ghost use Rattle.sfc_program.specs.Names.{Space};
 ghost use Rattle.sfc_chart.specs.Built.{source_check, plant_of};
 ghost use Rattle.sfc_list.specs.Expressions.{expression_text};
-ghost use Rattle.sfc_list.specs.SpelledTexts.{AreNames};
+ghost use Rattle.sfc_list.specs.SpelledTexts.{AreNames, AreBodyNames};
+ghost use Rattle.sfc_list.specs.Statements.{body_text};
 ghost use Rattle.sfc_list.specs.Values.{literal_text};
 ghost use Rattle.sfc_list.specs.Written.{written};
-ghost use Rattle.sfc_list.specs.WrittenTerms.{literal_tree, expression_tree};
+ghost use Rattle.sfc_list.specs.WrittenTerms.{literal_tree, expression_tree, body_tree};
 
 /// The tree that a listing spells of a loaded plant loads, as the equal plant.
 pub fn spelled_plant_loads()
@@ -35,4 +37,10 @@ pub fn spelled_literal()
 pub fn spelled_expression_text()
     ensures { (space : Space) (own : List ℕ) (e : Expression) (rest : List ℕ) → AreNames space own e → Ends Location rest
         → Spells (expression_text space own e) (tree_tokens (expression_tree space own e)) rest }
+{}
+
+/// The text of statements spells the tokens of the statements that the listing spells, whatever follows.
+pub fn spelled_body_text()
+    ensures { (space : Space) (own : List ℕ) (level : ℕ) (body : Body) (rest : List ℕ) → AreBodyNames space own body
+        → Spells (body_text space own level body) (body_tokens (body_tree space own body)) rest }
 {}
