@@ -32,7 +32,7 @@ pub fn spelled_expression()
         → Derived limits expression (tree_tokens tree ++ rest) tree rest }
 {}
 
-/// What derives an expression nests no less than the expression needs, and the expression has no more operators than it may.
+/// An expression that tokens derive within limits keeps to them: in its nesting, and in how many operators it has.
 pub fn derived_expression()
     ensures { (limits : Limits) (ts : Kinds) (tree : Tree) (rest : Kinds) → Derived limits expression ts tree rest
         → nesting tree ≤ limits.depth × operators tree ≤ limits.operators }
@@ -44,7 +44,7 @@ pub fn spelled_body()
         → most_operators block ≤ limits.operators → Derived limits body (body_tokens block ++ rest) block rest }
 {}
 
-/// What derives statements nests no less than they need, and none of their expressions has more operators than it may.
+/// Statements that tokens derive within limits keep to them, and so does each of their expressions.
 pub fn derived_body()
     ensures { (limits : Limits) (ts : Kinds) (block : Block) (rest : Kinds) → Derived limits body ts block rest
         → IsBody block × block_nesting block ≤ limits.depth × most_operators block ≤ limits.operators }
