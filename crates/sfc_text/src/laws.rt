@@ -3,11 +3,13 @@
 ghost use Rattle.std.specs.Prelude.{◌++◌, ◌≡◌, ◌≤◌, true, List, ℕ};
 ghost use Rattle.sfc_tokens.specs.ReadErrors.{Read};
 ghost use Rattle.sfc_tokens.specs.Tokens.{Kinds};
-ghost use Rattle.sfc_text.specs.Grammar.{body, expression, source};
+ghost use Rattle.sfc_text.specs.declared.tree.Step.{Step};
+ghost use Rattle.sfc_text.specs.Grammar.{body, expression, source, step};
 ghost use Rattle.sfc_text.specs.Limits.{Derived, Limits};
 ghost use Rattle.sfc_text.specs.Parsing.Lookahead.{fine};
 ghost use Rattle.sfc_text.specs.Reads.{AreOne, IsSource, TextReads};
 ghost use Rattle.sfc_text.specs.Spelled.{nesting, tree_tokens};
+ghost use Rattle.sfc_text.specs.SpelledCharts.{step_tokens, step_word};
 ghost use Rattle.sfc_text.specs.SpelledStatements.{block_nesting, body_tokens, IsBody, most_operators};
 ghost use Rattle.sfc_text.specs.Trees.{Block, SourceTree, Tree, operators};
 
@@ -48,6 +50,12 @@ pub fn spelled_body()
 pub fn derived_body()
     ensures { (limits : Limits) (ts : Kinds) (block : Block) (rest : Kinds) → Derived limits body ts block rest
         → IsBody block × block_nesting block ≤ limits.depth × most_operators block ≤ limits.operators }
+{}
+
+/// The tokens of a step derive it, whatever stands behind them.
+pub fn spelled_step()
+    ensures { (limits : Limits) (s : Step) (rest : Kinds)
+        → Derived limits (step s.is_initial (step_word s.is_initial)) (step_tokens s ++ rest) s rest }
 {}
 
 /// One token ahead decides how a text goes on, but for the sign of an integer.

@@ -1,0 +1,60 @@
+-- The tokens that spell steps (2.6.2), transitions (2.6.3) and actions (2.6.4).
+use Rattle.std.specs.Prelude.{ℕ, List, [], ◌∷◌, ◌++◌, Bool, true, false, flat_map, codes}
+use Rattle.sfc_tokens.specs.declared.delimiter.Delimiter.TheVariants as sign
+use Rattle.sfc_tokens.specs.declared.keyword.Keyword.{Keyword}
+use Rattle.sfc_tokens.specs.declared.keyword.Keyword.TheVariants as keyword
+use Rattle.sfc_tokens.specs.declared.token.TokenKind.TheVariants as token
+use Rattle.sfc_tokens.specs.Tokens.{Kinds}
+use Rattle.sfc_text.specs.declared.tree.Association.{Association}
+use Rattle.sfc_text.specs.declared.tree.AssociationTime.{AssociationTime}
+use Rattle.sfc_text.specs.declared.tree.AssociationTime.TheVariants as time
+use Rattle.sfc_text.specs.declared.tree.Qualifier.{Qualifier}
+use Rattle.sfc_text.specs.declared.tree.Qualifier.TheVariants as qualifier
+use Rattle.sfc_text.specs.declared.tree.Step.{Step}
+use Rattle.sfc_text.specs.declared.tree.TimedQualifier.{TimedQualifier}
+use Rattle.sfc_text.specs.declared.tree.TimedQualifier.TheVariants as timed
+
+-- names behind a comma each
+abbrev pub further_tokens : List (List ℕ) → Kinds
+further_tokens names = flat_map (λ n. token.Delimiter sign.Comma ∷ token.Name n ∷ []) names
+
+-- the letters of a qualifier with a time (2.6.4.4)
+abbrev pub timed_letters : TimedQualifier → List ℕ
+timed_letters timed.Limited = codes "L"
+timed_letters timed.Delayed = codes "D"
+timed_letters timed.StoredDelayed = codes "SD"
+timed_letters timed.DelayedStored = codes "DS"
+timed_letters timed.StoredLimited = codes "SL"
+
+-- the time of an association: a duration, or the name of a variable
+abbrev pub time_tokens : AssociationTime → Kinds
+time_tokens (time.Literal d) = token.Duration d ∷ []
+time_tokens (time.Variable name) = token.Name name ∷ []
+
+-- a qualifier with its time, if it has one (2.6.4.4)
+abbrev pub qualifier_tokens : Qualifier → Kinds
+qualifier_tokens qualifier.NonStored = token.Name (codes "N") ∷ []
+qualifier_tokens qualifier.Reset = token.Name (codes "R") ∷ []
+qualifier_tokens qualifier.Set = token.Name (codes "S") ∷ []
+qualifier_tokens qualifier.Pulse = token.Name (codes "P") ∷ []
+qualifier_tokens qualifier.RisingPulse = token.Name (codes "P1") ∷ []
+qualifier_tokens qualifier.FallingPulse = token.Name (codes "P0") ∷ []
+qualifier_tokens (qualifier.Timed q t) = token.Name (timed_letters q) ∷ token.Delimiter sign.Comma ∷ time_tokens t
+
+-- an association with its qualifier and its indicator variables (2.6.4.3), up to the semicolon
+abbrev pub association_tokens : Association → Kinds
+association_tokens a =
+    (token.Name a.action ∷ token.Delimiter sign.Open ∷ qualifier_tokens a.qualifier) ++ further_tokens a.indicators
+    ++ (token.Delimiter sign.Close ∷ token.Delimiter sign.Semicolon ∷ [])
+
+-- the word that a step begins with
+abbrev pub step_word : Bool → Keyword
+step_word true = keyword.InitialStep
+step_word false = keyword.Step
+
+-- a step with its associations (2.6.2)
+abbrev pub step_tokens : Step → Kinds
+step_tokens s =
+    (token.Keyword (step_word s.is_initial) ∷ token.Name s.name ∷ token.Delimiter sign.Colon
+    ∷ flat_map association_tokens s.associations)
+    ++ (token.Keyword keyword.EndStep ∷ [])
