@@ -1,5 +1,5 @@
 -- The tokens that spell steps (2.6.2), transitions (2.6.3) and actions (2.6.4).
-use Rattle.std.specs.Prelude.{ℕ, List, [], ◌∷◌, ◌++◌, Bool, true, false, flat_map, codes}
+use Rattle.std.specs.Prelude.{◌≡◌, ◌≤◌, ℕ, List, [], ◌∷◌, ◌++◌, Bool, true, false, flat_map, Option, Some, None, codes}
 use Rattle.sfc_tokens.specs.declared.delimiter.Delimiter.TheVariants as sign
 use Rattle.sfc_tokens.specs.declared.keyword.Keyword.{Keyword}
 use Rattle.sfc_tokens.specs.declared.keyword.Keyword.TheVariants as keyword
@@ -13,6 +13,11 @@ use Rattle.sfc_text.specs.declared.tree.Qualifier.TheVariants as qualifier
 use Rattle.sfc_text.specs.declared.tree.Step.{Step}
 use Rattle.sfc_text.specs.declared.tree.TimedQualifier.{TimedQualifier}
 use Rattle.sfc_text.specs.declared.tree.TimedQualifier.TheVariants as timed
+use Rattle.sfc_text.specs.Limits.{Limits}
+use Rattle.sfc_text.specs.Lists.{is_empty}
+use Rattle.sfc_text.specs.Trees.{TransitionTree, ActionTree, operators}
+use Rattle.sfc_text.specs.Spelled.{tree_tokens, nesting}
+use Rattle.sfc_text.specs.SpelledStatements.{IsBody, body_tokens, block_nesting, most_operators}
 
 -- names behind a comma each
 abbrev pub further_tokens : List (List ℕ) → Kinds
@@ -58,3 +63,47 @@ step_tokens s =
     (token.Keyword (step_word s.is_initial) ∷ token.Name s.name ∷ token.Delimiter sign.Colon
     ∷ flat_map association_tokens s.associations)
     ++ (token.Keyword keyword.EndStep ∷ [])
+
+-- an action with its body (2.6.4.1)
+abbrev pub action_tokens : ActionTree → Kinds
+action_tokens a =
+    (token.Keyword keyword.Action ∷ token.Name a.name ∷ token.Delimiter sign.Colon ∷ body_tokens a.body)
+    ++ (token.Keyword keyword.EndAction ∷ [])
+
+-- whether the body of an action is statements within the limits
+abbrev pub KeepsAction : Limits → ActionTree → Type 0
+KeepsAction limits a =
+    IsBody a.body × block_nesting a.body ≤ limits.depth × most_operators a.body ≤ limits.operators
+
+-- one step of a side plainly, several in parentheses (2.6.3)
+abbrev pub side_tokens : List (List ℕ) → Kinds
+side_tokens [] = []
+side_tokens (one ∷ []) = token.Name one ∷ []
+side_tokens (one ∷ others) =
+    (token.Delimiter sign.Open ∷ token.Name one ∷ further_tokens others) ++ (token.Delimiter sign.Close ∷ [])
+
+-- the name of a transition, if it has one
+abbrev pub transition_name : Option (List ℕ) → Kinds
+transition_name None = []
+transition_name (Some name) = token.Name name ∷ []
+
+-- the priority of a transition, if it has one (2.6.3)
+abbrev pub priority_tokens : Option ℕ → Kinds
+priority_tokens None = []
+priority_tokens (Some n) =
+    token.Delimiter sign.Open ∷ token.Name (codes "PRIORITY") ∷ token.Delimiter sign.Assign ∷ token.Integer n
+    ∷ token.Delimiter sign.Close ∷ []
+
+-- a transition from its preceding to its following steps, with its condition (2.6.3)
+abbrev pub transition_tokens : TransitionTree → Kinds
+transition_tokens t =
+    (token.Keyword keyword.Transition ∷ transition_name t.name) ++ priority_tokens t.priority
+    ++ (token.Keyword keyword.From ∷ side_tokens t.preceding) ++ (token.Keyword keyword.To ∷ side_tokens t.following)
+    ++ (token.Delimiter sign.Assign ∷ tree_tokens t.condition)
+    ++ (token.Delimiter sign.Semicolon ∷ token.Keyword keyword.EndTransition ∷ [])
+
+-- whether a transition has steps on both sides and a condition within the limits
+abbrev pub KeepsTransition : Limits → TransitionTree → Type 0
+KeepsTransition limits t =
+    (is_empty t.preceding ≡ false) × (is_empty t.following ≡ false) × nesting t.condition ≤ limits.depth
+    × operators t.condition ≤ limits.operators

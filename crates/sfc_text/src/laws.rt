@@ -4,14 +4,14 @@ ghost use Rattle.std.specs.Prelude.{◌++◌, ◌≡◌, ◌≤◌, true, List, 
 ghost use Rattle.sfc_tokens.specs.ReadErrors.{Read};
 ghost use Rattle.sfc_tokens.specs.Tokens.{Kinds};
 ghost use Rattle.sfc_text.specs.declared.tree.Step.{Step};
-ghost use Rattle.sfc_text.specs.Grammar.{body, expression, source, step};
+ghost use Rattle.sfc_text.specs.Grammar.{action, body, expression, source, step, transition};
 ghost use Rattle.sfc_text.specs.Limits.{Derived, Limits};
 ghost use Rattle.sfc_text.specs.Parsing.Lookahead.{fine};
 ghost use Rattle.sfc_text.specs.Reads.{AreOne, IsSource, TextReads};
 ghost use Rattle.sfc_text.specs.Spelled.{nesting, tree_tokens};
-ghost use Rattle.sfc_text.specs.SpelledCharts.{step_tokens, step_word};
+ghost use Rattle.sfc_text.specs.SpelledCharts.{action_tokens, KeepsAction, KeepsTransition, step_tokens, step_word, transition_tokens};
 ghost use Rattle.sfc_text.specs.SpelledStatements.{block_nesting, body_tokens, IsBody, most_operators};
-ghost use Rattle.sfc_text.specs.Trees.{Block, SourceTree, Tree, operators};
+ghost use Rattle.sfc_text.specs.Trees.{ActionTree, Block, SourceTree, TransitionTree, Tree, operators};
 
 /// Tokens derive one tree at most, whatever the limits.
 pub fn one_tree()
@@ -56,6 +56,18 @@ pub fn derived_body()
 pub fn spelled_step()
     ensures { (limits : Limits) (s : Step) (rest : Kinds)
         → Derived limits (step s.is_initial (step_word s.is_initial)) (step_tokens s ++ rest) s rest }
+{}
+
+/// The tokens of an action whose body is statements within the limits derive it, whatever stands behind them.
+pub fn spelled_action()
+    ensures { (limits : Limits) (a : ActionTree) (rest : Kinds) → KeepsAction limits a
+        → Derived limits action (action_tokens a ++ rest) a rest }
+{}
+
+/// The tokens of a transition with steps on both sides and a condition within the limits derive it, whatever stands behind them.
+pub fn spelled_transition()
+    ensures { (limits : Limits) (t : TransitionTree) (rest : Kinds) → KeepsTransition limits t
+        → Derived limits transition (transition_tokens t ++ rest) t rest }
 {}
 
 /// One token ahead decides how a text goes on, but for the sign of an integer.
