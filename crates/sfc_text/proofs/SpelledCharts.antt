@@ -19,10 +19,10 @@ use Rattle.sfc_text.specs.Lists.{is_empty}
 use Rattle.sfc_text.specs.Marks.{is_any, Word}
 use Rattle.sfc_text.specs.Rules.{Rule, Many, none, next, Inner, Derives}
 use Rattle.sfc_text.specs.Terms.{maybe}
-use Rattle.sfc_text.specs.Trees.{Tree, Block, TransitionTree, ActionTree}
+use Rattle.sfc_text.specs.Trees.{Tree, Block, TransitionTree, ActionTree, ElementTree, AStep, ATransition, AnAction}
 use Rattle.sfc_text.specs.Spelled.{tree_tokens}
 use Rattle.sfc_text.specs.SpelledStatements.{body_tokens}
-use Rattle.sfc_text.specs.SpelledCharts.{action_tokens, KeepsAction, side_tokens, transition_name, priority_tokens, transition_tokens, KeepsTransition, further_tokens, timed_letters, time_tokens, qualifier_tokens, association_tokens, step_word, step_tokens}
+use Rattle.sfc_text.specs.SpelledCharts.{action_tokens, KeepsAction, side_tokens, transition_name, priority_tokens, transition_tokens, KeepsTransition, element_tokens, KeepsElement, further_tokens, timed_letters, time_tokens, qualifier_tokens, association_tokens, step_word, step_tokens}
 use Rattle.sfc_text.proofs.Spelled.{expression_derives}
 use Rattle.sfc_text.proofs.SpelledStatements.{three, body_derives}
 
@@ -177,3 +177,15 @@ transition_derives limits t rest h =
     let parts : (((Option (List ℕ) × Option ℕ) × List (List ℕ)) × List (List ℕ)) × Tree = (three_, t.condition) in
     let d : Derived limits grammar.transition (first ∷ named) t rest = (parts, ((parts, tt), (end ∷ rest, ((parts, tt), (behind, (parts, (condition, ((three_, tt), (assign ∷ condition, (three_, (following, ((two, tt), (to ∷ following, (two, (preceding, ((one, tt), (from ∷ preceding, (one, (prior, ((tt, t.name), (named, (first, refl, refl, refl), transition_name_derives n In t.name prior), refl), priority_derives n In t.priority (from ∷ preceding)), refl), (from, refl, refl, refl)), refl), side_derives n In t.preceding (to ∷ following) h.0), refl), (to, refl, refl, refl)), refl), side_derives n In t.following (assign ∷ condition) h.1), refl), (assign, refl, refl, refl)), refl), expression_derives n limits.depth t.condition behind h.2 h.3), refl), (semicolon, refl, refl, refl)), refl), (end, refl, refl, refl)), refl), refl) in
     subst (λ us. Derived limits grammar.transition us t rest) (sym same) d
+
+-- ---- elements
+
+pub element_derives : (limits : Limits) (e : ElementTree) (rest : Kinds) → KeepsElement limits e → Derived limits grammar.element (element_tokens e ++ rest) e rest
+unfolding grammar.element
+element_derives limits (AStep s) rest h = by_kind s.is_initial refl
+  where
+    by_kind : (b : Bool) → s.is_initial ≡ b → Derived limits grammar.element (step_tokens s ++ rest) (AStep s) rest
+    by_kind true p = inl (s, subst (λ b. Derived limits (grammar.step b (step_word b)) (step_tokens s ++ rest) s rest) p (step_derives limits.operators (Within limits.operators limits.depth) s rest), refl)
+    by_kind false p = inr (inl (s, subst (λ b. Derived limits (grammar.step b (step_word b)) (step_tokens s ++ rest) s rest) p (step_derives limits.operators (Within limits.operators limits.depth) s rest), refl))
+element_derives limits (ATransition t) rest h = inr (inr (inl (t, transition_derives limits t rest h, refl)))
+element_derives limits (AnAction a) rest h = inr (inr (inr (a, action_derives limits a rest h, refl)))

@@ -1,5 +1,5 @@
--- The tokens that spell steps (2.6.2), transitions (2.6.3) and actions (2.6.4).
-use Rattle.std.specs.Prelude.{◌≡◌, ◌≤◌, ℕ, List, [], ◌∷◌, ◌++◌, Bool, true, false, flat_map, Option, Some, None, codes}
+-- The tokens that spell the elements of a chart: steps (2.6.2), transitions (2.6.3) and actions (2.6.4).
+use Rattle.std.specs.Prelude.{◌≡◌, ◌≤◌, ℕ, List, [], ◌∷◌, ◌++◌, Bool, true, false, flat_map, Option, Some, None, ⊤, codes}
 use Rattle.sfc_tokens.specs.declared.delimiter.Delimiter.TheVariants as sign
 use Rattle.sfc_tokens.specs.declared.keyword.Keyword.{Keyword}
 use Rattle.sfc_tokens.specs.declared.keyword.Keyword.TheVariants as keyword
@@ -15,7 +15,7 @@ use Rattle.sfc_text.specs.declared.tree.TimedQualifier.{TimedQualifier}
 use Rattle.sfc_text.specs.declared.tree.TimedQualifier.TheVariants as timed
 use Rattle.sfc_text.specs.Limits.{Limits}
 use Rattle.sfc_text.specs.Lists.{is_empty}
-use Rattle.sfc_text.specs.Trees.{TransitionTree, ActionTree, operators}
+use Rattle.sfc_text.specs.Trees.{TransitionTree, ActionTree, ElementTree, AStep, ATransition, AnAction, operators}
 use Rattle.sfc_text.specs.Spelled.{tree_tokens, nesting}
 use Rattle.sfc_text.specs.SpelledStatements.{IsBody, body_tokens, block_nesting, most_operators}
 
@@ -107,3 +107,15 @@ abbrev pub KeepsTransition : Limits → TransitionTree → Type 0
 KeepsTransition limits t =
     (is_empty t.preceding ≡ false) × (is_empty t.following ≡ false) × nesting t.condition ≤ limits.depth
     × operators t.condition ≤ limits.operators
+
+-- an element of a chart (2.6)
+abbrev pub element_tokens : ElementTree → Kinds
+element_tokens (AStep s) = step_tokens s
+element_tokens (ATransition t) = transition_tokens t
+element_tokens (AnAction a) = action_tokens a
+
+-- whether an element keeps to the limits, as a transition or an action has to
+abbrev pub KeepsElement : Limits → ElementTree → Type 0
+KeepsElement limits (AStep s) = ⊤
+KeepsElement limits (ATransition t) = KeepsTransition limits t
+KeepsElement limits (AnAction a) = KeepsAction limits a

@@ -4,14 +4,14 @@ ghost use Rattle.std.specs.Prelude.{◌++◌, ◌≡◌, ◌≤◌, true, List, 
 ghost use Rattle.sfc_tokens.specs.ReadErrors.{Read};
 ghost use Rattle.sfc_tokens.specs.Tokens.{Kinds};
 ghost use Rattle.sfc_text.specs.declared.tree.Step.{Step};
-ghost use Rattle.sfc_text.specs.Grammar.{action, body, expression, source, step, transition};
+ghost use Rattle.sfc_text.specs.Grammar.{action, body, element, expression, source, step, transition};
 ghost use Rattle.sfc_text.specs.Limits.{Derived, Limits};
 ghost use Rattle.sfc_text.specs.Parsing.Lookahead.{fine};
 ghost use Rattle.sfc_text.specs.Reads.{AreOne, IsSource, TextReads};
 ghost use Rattle.sfc_text.specs.Spelled.{nesting, tree_tokens};
-ghost use Rattle.sfc_text.specs.SpelledCharts.{action_tokens, KeepsAction, KeepsTransition, step_tokens, step_word, transition_tokens};
+ghost use Rattle.sfc_text.specs.SpelledCharts.{action_tokens, element_tokens, KeepsAction, KeepsElement, KeepsTransition, step_tokens, step_word, transition_tokens};
 ghost use Rattle.sfc_text.specs.SpelledStatements.{block_nesting, body_tokens, IsBody, most_operators};
-ghost use Rattle.sfc_text.specs.Trees.{ActionTree, Block, SourceTree, TransitionTree, Tree, operators};
+ghost use Rattle.sfc_text.specs.Trees.{ActionTree, Block, ElementTree, SourceTree, TransitionTree, Tree, operators};
 
 /// Tokens derive one tree at most, whatever the limits.
 pub fn one_tree()
@@ -68,6 +68,12 @@ pub fn spelled_action()
 pub fn spelled_transition()
     ensures { (limits : Limits) (t : TransitionTree) (rest : Kinds) → KeepsTransition limits t
         → Derived limits transition (transition_tokens t ++ rest) t rest }
+{}
+
+/// The tokens of an element that keeps to the limits derive it, whatever stands behind them.
+pub fn spelled_element()
+    ensures { (limits : Limits) (e : ElementTree) (rest : Kinds) → KeepsElement limits e
+        → Derived limits element (element_tokens e ++ rest) e rest }
 {}
 
 /// One token ahead decides how a text goes on, but for the sign of an integer.
