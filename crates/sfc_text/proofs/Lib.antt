@@ -14,5 +14,6 @@ pub mod Appending
 pub mod Readings
 pub mod Spelled
 pub mod SpelledStatements
+pub mod SpelledCharts
 pub mod Nesting
 pub mod NestingStatements

@@ -17,7 +17,7 @@ use Rattle.sfc_text.specs.SpelledStatements.{IsBody, AreBranches, AreOthers, bod
 use Rattle.sfc_text.proofs.Appending.{folded_appends}
 use Rattle.sfc_text.proofs.Spelled.{variable_derives, expression_derives}
 
-three : (a b c rest : Kinds) → (a ++ b ++ c) ++ rest ≡ a ++ (b ++ (c ++ rest))
+pub three : (a b c rest : Kinds) → (a ++ b ++ c) ++ rest ≡ a ++ (b ++ (c ++ rest))
 three a b c rest = append_assoc (a ++ b) c rest ∙ append_assoc a b (c ++ rest)
 
 -- one, and then more of them

@@ -24,5 +24,6 @@ pub mod Reads
 -- the tokens of trees
 pub mod Spelled
 pub mod SpelledStatements
+pub mod SpelledCharts
 -- What private clauses cite.
 pub mod Parsing

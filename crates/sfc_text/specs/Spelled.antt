@@ -64,7 +64,7 @@ tighter operator.And = 4
 tighter operator.Xor = 5
 tighter operator.Or = 6
 
--- the level of an expression: 1 for multiplication up to 7 for OR, and 0 for one with no such operator outside of parentheses
+-- the level of an expression: 1 for multiplication up to 7 for OR (Table 52), and 0 for one that is no operator of two operands
 abbrev pub level : Tree → ℕ
 level (Binary o a b) = suc (tighter o)
 level _ = 0
@@ -93,11 +93,11 @@ tree_tokens (Binary o a b) =
     enclosed (is_looser (suc (tighter o)) a) (tree_tokens a)
     ++ operator_token o ∷ enclosed (is_looser (tighter o) b) (tree_tokens b)
 
--- so deep, and one deeper in parentheses
+-- a depth, and one more in parentheses
 abbrev pub deeper : Bool → ℕ → ℕ
 deeper in_parentheses depth = if in_parentheses then suc depth else depth
 
--- how deep parentheses and prefix operators nest in its tokens
+-- how deep parentheses and prefix operators nest in the tokens of an expression
 abbrev pub nesting : Tree → ℕ
 nesting (Constant l) = 0
 nesting (Named v) = 0

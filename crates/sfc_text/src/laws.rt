@@ -3,13 +3,15 @@
 ghost use Rattle.std.specs.Prelude.{◌++◌, ◌≡◌, ◌≤◌, true, List, ℕ};
 ghost use Rattle.sfc_tokens.specs.ReadErrors.{Read};
 ghost use Rattle.sfc_tokens.specs.Tokens.{Kinds};
-ghost use Rattle.sfc_text.specs.Grammar.{body, expression, source};
+ghost use Rattle.sfc_text.specs.declared.tree.Step.{Step};
+ghost use Rattle.sfc_text.specs.Grammar.{action, body, element, expression, source, step, transition};
 ghost use Rattle.sfc_text.specs.Limits.{Derived, Limits};
 ghost use Rattle.sfc_text.specs.Parsing.Lookahead.{fine};
 ghost use Rattle.sfc_text.specs.Reads.{AreOne, IsSource, TextReads};
 ghost use Rattle.sfc_text.specs.Spelled.{nesting, tree_tokens};
+ghost use Rattle.sfc_text.specs.SpelledCharts.{action_tokens, element_tokens, KeepsAction, KeepsElement, KeepsTransition, step_tokens, step_word, transition_tokens};
 ghost use Rattle.sfc_text.specs.SpelledStatements.{block_nesting, body_tokens, IsBody, most_operators};
-ghost use Rattle.sfc_text.specs.Trees.{Block, SourceTree, Tree, operators};
+ghost use Rattle.sfc_text.specs.Trees.{ActionTree, Block, ElementTree, SourceTree, TransitionTree, Tree, operators};
 
 /// Tokens derive one tree at most, whatever the limits.
 pub fn one_tree()
@@ -32,7 +34,7 @@ pub fn spelled_expression()
         → Derived limits expression (tree_tokens tree ++ rest) tree rest }
 {}
 
-/// What derives an expression nests no less than the expression needs, and the expression has no more operators than it may.
+/// An expression that tokens derive within limits keeps to them: in its nesting, and in how many operators it has.
 pub fn derived_expression()
     ensures { (limits : Limits) (ts : Kinds) (tree : Tree) (rest : Kinds) → Derived limits expression ts tree rest
         → nesting tree ≤ limits.depth × operators tree ≤ limits.operators }
@@ -44,10 +46,34 @@ pub fn spelled_body()
         → most_operators block ≤ limits.operators → Derived limits body (body_tokens block ++ rest) block rest }
 {}
 
-/// What derives statements nests no less than they need, and none of their expressions has more operators than it may.
+/// Statements that tokens derive within limits keep to them, and so does each of their expressions.
 pub fn derived_body()
     ensures { (limits : Limits) (ts : Kinds) (block : Block) (rest : Kinds) → Derived limits body ts block rest
         → IsBody block × block_nesting block ≤ limits.depth × most_operators block ≤ limits.operators }
+{}
+
+/// The tokens of a step derive it, whatever stands behind them.
+pub fn spelled_step()
+    ensures { (limits : Limits) (s : Step) (rest : Kinds)
+        → Derived limits (step s.is_initial (step_word s.is_initial)) (step_tokens s ++ rest) s rest }
+{}
+
+/// The tokens of an action whose body is statements within the limits derive it, whatever stands behind them.
+pub fn spelled_action()
+    ensures { (limits : Limits) (a : ActionTree) (rest : Kinds) → KeepsAction limits a
+        → Derived limits action (action_tokens a ++ rest) a rest }
+{}
+
+/// The tokens of a transition with steps on both sides and a condition within the limits derive it, whatever stands behind them.
+pub fn spelled_transition()
+    ensures { (limits : Limits) (t : TransitionTree) (rest : Kinds) → KeepsTransition limits t
+        → Derived limits transition (transition_tokens t ++ rest) t rest }
+{}
+
+/// The tokens of an element that keeps to the limits derive it, whatever stands behind them.
+pub fn spelled_element()
+    ensures { (limits : Limits) (e : ElementTree) (rest : Kinds) → KeepsElement limits e
+        → Derived limits element (element_tokens e ++ rest) e rest }
 {}
 
 /// One token ahead decides how a text goes on, but for the sign of an integer.
