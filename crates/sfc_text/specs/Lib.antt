@@ -21,9 +21,11 @@ pub mod Grammar
 pub mod Limits
 -- what a whole text is read as
 pub mod Reads
--- the tokens of trees
+-- the tokens of expressions
 pub mod Spelled
+-- the tokens of statements
 pub mod SpelledStatements
+-- the tokens of steps, transitions and actions
 pub mod SpelledCharts
 -- What private clauses cite.
 pub mod Parsing

@@ -9,7 +9,8 @@ ghost use Rattle.sfc_text.specs.Limits.{Derived, Limits};
 ghost use Rattle.sfc_text.specs.Parsing.Lookahead.{fine};
 ghost use Rattle.sfc_text.specs.Reads.{AreOne, IsSource, TextReads};
 ghost use Rattle.sfc_text.specs.Spelled.{nesting, tree_tokens};
-ghost use Rattle.sfc_text.specs.SpelledCharts.{action_tokens, element_tokens, KeepsAction, KeepsElement, KeepsTransition, step_tokens, step_word, transition_tokens};
+ghost use Rattle.sfc_text.specs.SpelledCharts.{action_tokens, element_tokens, step_tokens, step_word, transition_tokens};
+ghost use Rattle.sfc_text.specs.SpelledCharts.{KeepsAction, KeepsElement, KeepsTransition};
 ghost use Rattle.sfc_text.specs.SpelledStatements.{block_nesting, body_tokens, IsBody, most_operators};
 ghost use Rattle.sfc_text.specs.Trees.{ActionTree, Block, ElementTree, SourceTree, TransitionTree, Tree, operators};
 
