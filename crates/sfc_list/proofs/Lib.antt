@@ -20,3 +20,7 @@ pub mod WrittenLimits
 pub mod SpelledLiterals
 pub mod SpelledExpressions
 pub mod SpelledBodies
+pub mod WrittenKeeping
+pub mod SpellableTerms
+pub mod SpellableCharts
+pub mod SpellablePlants

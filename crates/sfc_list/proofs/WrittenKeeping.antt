@@ -1,8 +1,11 @@
 -- The tree that a listing spells of a plant keeps to the limits of the tree that was loaded: it has its shapes.
 use Rattle.std.proofs.Common.{◌≡◌, ℕ, suc, ◌<◌, ◌≤◌, Bool, false, nat_lt, List, [], ◌∷◌, ◌++◌, length, map, All, Option, None, Some, refl, sym, ap, ◌∙◌, subst, arith}
 use Rattle.std.specs.Prelude.{max, ⊤}
-use Rattle.std.proofs.lemmas.List.Elements.{All-nil, All-cons, All-head, All-tail, All-append, All-map}
+use Rattle.std.proofs.lemmas.List.Elements.{All-nil, All-cons, All-head, All-tail, All-append, All-map, All-weaker}
+use Rattle.std.proofs.lemmas.Simd.{map-map}
 use Rattle.sfc_tokens.specs.declared.location.Location.{Location}
+use Rattle.sfc_text.specs.declared.tree.VariableBlock.{VariableBlock}
+use Rattle.sfc_text.specs.declared.tree.VariableBlock.TheVariants as block
 use Rattle.sfc_text.specs.Limits.{Limits}
 use Rattle.sfc_text.specs.Lists.{is_empty}
 use Rattle.sfc_text.specs.Trees as text
@@ -10,14 +13,25 @@ use Rattle.sfc_text.specs.Trees.{Tree, Block, TransitionTree, ElementTree, AStep
 use Rattle.sfc_text.specs.Spelled.{tighter, level, is_looser, deeper, nesting}
 use Rattle.sfc_text.specs.SpelledStatements.{IsBody, AreBranches, AreOthers, block_nesting, most_operators}
 use Rattle.sfc_text.specs.SpelledCharts.{KeepsElement}
-use Rattle.sfc_text.specs.SpelledSources.{IsDeclaration, IsExternal, AreVariables, KeepsProgram, IsConfiguration, KeepsSource}
+use Rattle.sfc_text.specs.SpelledSources.{AreDeclared, IsDeclaration, IsExternal, AreVariables, KeepsProgram, IsConfiguration, KeepsSource}
 use Rattle.sfc_expr.specs.declared.variable.GlobalId.{GlobalId}
 use Rattle.sfc_variables.specs.declared.variable.Variable.{Variable}
+use Rattle.sfc_program.specs.declared.program_type.ProgramType.{ProgramType}
 use Rattle.sfc_program.specs.Elements.{transitions_of, actions_of}
-use Rattle.sfc_list.specs.WrittenVariables.{declaration_tree, external_tree, variable_trees}
+use Rattle.sfc_program.specs.Names.{Space, space_in}
+use Rattle.sfc_program.specs.Loading.{space_of}
+use Rattle.sfc_program.specs.Built.{step_id, step_ids, transition_of, program_of}
+use Rattle.sfc_chart.specs.Loading.{task_names, program_names}
+use Rattle.sfc_chart.specs.Built.{instance_of, source_check, plant_of}
+use Rattle.sfc_chart.specs.Plants.{PlantData}
+use Rattle.sfc_list.specs.Names.{step_name}
+use Rattle.sfc_list.specs.WrittenVariables.{declaration_tree, external_tree, block_tree, variable_trees}
+use Rattle.sfc_list.specs.WrittenCharts.{transition_tree}
+use Rattle.sfc_list.specs.Written.{program_tree, instance_tree, written}
+use Rattle.sfc_list.proofs.WrittenPrograms.{transitions_in}
 use Rattle.sfc_list.proofs.WrittenShapes as shapes
 use Rattle.sfc_list.proofs.WrittenShapes.{shape, block_shape, operators_by_shape, AreStatements}
-use Rattle.sfc_list.proofs.WrittenLimits.{conditions, bodies, AreBodies}
+use Rattle.sfc_list.proofs.WrittenLimits.{conditions, bodies, AreBodies, KeepsShapes, plant_shapes}
 
 -- ---- expressions
 
@@ -137,6 +151,10 @@ mutual
 
 -- ---- elements
 
+-- a transition has steps on both sides
+abbrev HasBothSides : TransitionTree → Type 0
+HasBothSides t = (is_empty t.preceding ≡ false) × (is_empty t.following ≡ false)
+
 module _ (limits : Limits) where
   -- the shape of a condition, and that of a body, are within the limits
   abbrev pub KeepsCondition : Tree → Type 0
@@ -191,10 +209,6 @@ module _ (limits : Limits) where
       (are_statements a.body (All-head (KeepsElement limits) (AnAction a) es h).0)
       (are_bodies es (All-tail (KeepsElement limits) (AnAction a) es h))
 
-  -- a transition has steps on both sides
-  abbrev pub HasBothSides : TransitionTree → Type 0
-  HasBothSides t = (is_empty t.preceding ≡ false) × (is_empty t.following ≡ false)
-
   -- elements of which the sides, the conditions and the bodies are
   elements_keep : (es : List ElementTree) → All HasBothSides (transitions_of es) → All KeepsCondition (conditions es) → All KeepsBody (bodies es)
       → All (KeepsElement limits) es
@@ -216,3 +230,89 @@ module _ (limits : Limits) where
   elements_again_keep es again sides same_conditions same_bodies h =
       elements_keep again sides (subst (All KeepsCondition) (sym same_conditions) (conditions_keep es h))
       (subst (All KeepsBody) (sym (same_bodies (are_bodies es h))) (bodies_keep es h))
+
+-- ---- program types
+
+no_element : {A B : Type 0} (f : A → B) (xs : List A) → is_empty (map f xs) ≡ is_empty xs
+no_element f [] = refl
+no_element f (x ∷ xs) = refl
+
+-- what is spelled of a transition has steps on the sides on which it has some
+sides_kept : (space other : Space) (t : TransitionTree) → HasBothSides t → HasBothSides (transition_tree space (transition_of other t))
+sides_kept space other t h = (
+  no_element (step_name space) (step_ids other.steps t.preceding) ∙ no_element (step_id other.steps) t.preceding ∙ h.0,
+  no_element (step_name space) (step_ids other.steps t.following) ∙ no_element (step_id other.steps) t.following ∙ h.1,
+)
+
+sides_of : (limits : Limits) (es : List ElementTree) → All (KeepsElement limits) es → All HasBothSides (transitions_of es)
+sides_of limits [] h = All-nil HasBothSides
+sides_of limits (AStep s ∷ es) h = sides_of limits es (All-tail (KeepsElement limits) (AStep s) es h)
+sides_of limits (AnAction a ∷ es) h = sides_of limits es (All-tail (KeepsElement limits) (AnAction a) es h)
+sides_of limits (ATransition t ∷ es) h =
+    let one = All-head (KeepsElement limits) (ATransition t) es h in
+    All-cons HasBothSides t (transitions_of es) (one.0, one.1) (sides_of limits es (All-tail (KeepsElement limits) (ATransition t) es h))
+
+locals_declared : (locals : List Variable) → All IsDeclaration (map declaration_tree locals)
+locals_declared [] = All-nil IsDeclaration
+locals_declared (v ∷ vs) = All-cons IsDeclaration (declaration_tree v) (map declaration_tree vs) (one v.location) (locals_declared vs)
+  where
+    one : (l : Option Location) → AreDeclared (v.name ∷ []) l
+    one None = tt
+    one (Some l) = refl
+
+externals_named : (globals : List Variable) (externals : List GlobalId) → All IsExternal (map (external_tree globals) externals)
+externals_named globals [] = All-nil IsExternal
+externals_named globals (id ∷ ids) = All-cons IsExternal (external_tree globals id) (map (external_tree globals) ids) refl (externals_named globals ids)
+
+-- one block or none
+block_is : {A : Type 0} (made : List A → VariableBlock) (xs : List A) → AreVariables (made xs) → All AreVariables (block_tree made xs)
+block_is made [] h = All-nil AreVariables
+block_is made (x ∷ xs) h = All-cons AreVariables (made (x ∷ xs)) [] h (All-nil AreVariables)
+
+variables_are : (globals locals : List Variable) (externals : List GlobalId) → All AreVariables (variable_trees globals locals externals)
+variables_are globals locals externals =
+    All-append AreVariables (block_tree (λ ds. block.Local ds) (map declaration_tree locals)) (block_tree (λ es. block.External es) (map (external_tree globals) externals))
+    (block_is (λ ds. block.Local ds) (map declaration_tree locals) (locals_declared locals))
+    (block_is (λ es. block.External es) (map (external_tree globals) externals) (externals_named globals externals))
+
+program_keeps : (limits : Limits) (globals : List Variable) (p : ProgramTree) → KeepsShapes globals p → KeepsProgram limits p
+    → KeepsProgram limits (program_tree globals (program_of globals p))
+program_keeps limits globals p shapes_kept h =
+    let loaded : ProgramType = program_of globals p in
+    let own : Space = space_in globals loaded in
+    let other : Space = space_of globals p in
+    let again : List ElementTree = (program_tree globals loaded).elements in
+    let both : All HasBothSides (map (λ t. transition_tree own (transition_of other t)) (transitions_of p.elements)) =
+    All-map HasBothSides (λ t. transition_tree own (transition_of other t)) (transitions_of p.elements)
+    (All-weaker HasBothSides (λ t. HasBothSides (transition_tree own (transition_of other t))) (sides_kept own other) (transitions_of p.elements)
+    (sides_of limits p.elements h.elements)) in
+    let same : transitions_of again ≡ map (λ t. transition_tree own (transition_of other t)) (transitions_of p.elements) =
+    transitions_in own loaded.chart ∙ map-map (transition_tree own) (transition_of other) (transitions_of p.elements) in
+    record {
+      variables = variables_are globals loaded.locals loaded.externals;
+      elements = elements_again_keep limits p.elements again (subst (All HasBothSides) (sym same) both) shapes_kept.conditions shapes_kept.bodies
+          h.elements;
+    }
+
+-- ---- the whole
+
+programs_keep : (limits : Limits) (globals : List Variable) (ps : List ProgramTree) → All (KeepsShapes globals) ps → All (KeepsProgram limits) ps
+    → All (KeepsProgram limits) (map (program_tree globals) (map (program_of globals) ps))
+programs_keep limits globals [] s h = All-nil (KeepsProgram limits)
+programs_keep limits globals (p ∷ ps) s h =
+    All-cons (KeepsProgram limits) (program_tree globals (program_of globals p)) (map (program_tree globals) (map (program_of globals) ps))
+    (program_keeps limits globals p (All-head (KeepsShapes globals) p ps s) (All-head (KeepsProgram limits) p ps h))
+    (programs_keep limits globals ps (All-tail (KeepsShapes globals) p ps s) (All-tail (KeepsProgram limits) p ps h))
+
+pub written_keeps : (limits : Limits) (s : SourceTree) → source_check s ≡ None → KeepsSource limits s → KeepsSource limits (written (plant_of s))
+written_keeps limits s e h =
+    let plant : PlantData = plant_of s in
+    record {
+      programs = programs_keep limits plant.globals s.programs (plant_shapes s e) h.programs;
+      configuration = record {
+        globals = locals_declared plant.globals;
+        instances = no_element (instance_tree plant.tasks plant.types) plant.instances
+            ∙ no_element (instance_of (task_names s.configuration.tasks) (program_names s.programs)) s.configuration.instances
+            ∙ h.configuration.instances;
+      };
+    }

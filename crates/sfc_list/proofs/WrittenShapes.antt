@@ -65,7 +65,7 @@ anything : {A : Type 0} (r : Checked A) → IfOk r (λ x. ⊤)
 anything (Ok x) = tt
 anything (Err fault) = tt
 
-then_any : {A B : Type 0} (Q : B → Type 0) (r : Checked A) (f : A → Checked B) → ((x : A) → IfOk (f x) Q) → IfOk (r >>= f) Q
+pub then_any : {A B : Type 0} (Q : B → Type 0) (r : Checked A) (f : A → Checked B) → ((x : A) → IfOk (f x) Q) → IfOk (r >>= f) Q
 then_any Q r f k = on_checked (λ x. ⊤) Q r f (anything r) (λ x h. k x)
 
 module _ (names : Names) (space : Space) (own : List ℕ) where
