@@ -15,5 +15,6 @@ pub mod Readings
 pub mod Spelled
 pub mod SpelledStatements
 pub mod SpelledCharts
+pub mod SpelledSources
 pub mod Nesting
 pub mod NestingStatements
