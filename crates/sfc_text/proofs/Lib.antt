@@ -18,3 +18,5 @@ pub mod SpelledCharts
 pub mod SpelledSources
 pub mod Nesting
 pub mod NestingStatements
+pub mod Holding
+pub mod Keeping

@@ -56,6 +56,11 @@ pub fn derived_body()
         → IsBody block × block_nesting block ≤ limits.depth × most_operators block ≤ limits.operators }
 {}
 
+/// A whole text that tokens derive within limits keeps to them, and each part of it can stand in a text.
+pub fn derived_source()
+    ensures { (limits : Limits) (ts : Kinds) (s : SourceTree) → IsSource limits ts s → KeepsSource limits s }
+{}
+
 /// The tokens of a step derive it, whatever stands behind them.
 pub fn spelled_step()
     ensures { (limits : Limits) (s : Step) (rest : Kinds)
