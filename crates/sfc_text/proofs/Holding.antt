@@ -1,14 +1,16 @@
 -- What holds of all that a rule derives from tokens that have a property each.
-use Rattle.std.proofs.Common.{inl, inr, ℕ, zero, suc, List, [], ◌∷◌, ◌++◌, All, sym, subst, arith}
-use Rattle.std.proofs.lemmas.List.Elements.{All-nil, All-cons, All-tail, All-append}
+use Rattle.std.proofs.Common.{◌≡◌, inl, inr, ℕ, zero, suc, List, [], ◌∷◌, ◌++◌, Option, Some, All, sym, subst, arith}
+use Rattle.std.proofs.lemmas.List.Elements.{All-nil, All-cons, All-head, All-tail, All-append}
 use Rattle.sfc_tokens.specs.declared.token.TokenKind.{TokenKind}
 use Rattle.sfc_tokens.specs.Tokens.{Kinds}
+use Rattle.sfc_text.specs.Declares.{OfOptional}
 use Rattle.sfc_text.specs.Grammar.{nested}
 use Rattle.sfc_text.specs.Limits.{Limits, Within, Derived}
+use Rattle.sfc_text.specs.Marks.{Marks}
 use Rattle.sfc_text.specs.Rules as rules
 use Rattle.sfc_text.specs.Rules.{Rule, map, both, either, Many, none, next, Inner, Derives}
 use Rattle.sfc_text.specs.Sorts.{Sort}
-use Rattle.sfc_text.specs.Terms.{◌▸◌, ◌◂◌, folded, repeated, gathered}
+use Rattle.sfc_text.specs.Terms.{◌▸◌, ◌◂◌, folded, maybe, else_given, repeated, gathered}
 
 -- ---- the tokens behind
 
@@ -41,11 +43,18 @@ unfolding Within
 within_leaves P n zero s ts x rest d all = absurd d
 within_leaves P n (suc depth) s ts x rest d all = leaves P n (Within n depth) (within_leaves P n depth) (nested s) ts x rest d all
 
+behind : {X : Type 0} (P : TokenKind → Type 0) (limits : Limits) (rule : Rule X) → Leaves P (Derived limits rule)
+behind P limits rule = leaves P limits.operators (Within limits.operators limits.depth) (within_leaves P limits.operators limits.depth) rule
+
 -- ---- what is derived
 
 -- Q holds of each that the rule derives from tokens of which P holds
 pub record Gives {X : Type 0} (P : TokenKind → Type 0) (limits : Limits) (rule : Rule X) (Q : X → Type 0) : Type 0 where
   pub holds : (ts : Kinds) (x : X) (rest : Kinds) → Derived limits rule ts x rest → All P ts → Q x
+
+-- what says nothing
+abbrev pub Anything : {X : Type 0} → X → Type 0
+Anything x = Unit {0}
 
 -- what holds of everything
 pub always : {X : Type 0} {P : TokenKind → Type 0} {limits : Limits} {rule : Rule X} {Q : X → Type 0} → ((x : X) → Q x) → Gives P limits rule Q
@@ -55,17 +64,21 @@ always h = record { holds = λ ts x rest d all. h x }
 pub so : {X : Type 0} {P : TokenKind → Type 0} {limits : Limits} {rule : Rule X} {Q R : X → Type 0} → Gives P limits rule Q → ((x : X) → Q x → R x) → Gives P limits rule R
 so g h = record { holds = λ ts x rest d all. h x (g.holds ts x rest d all) }
 
+-- a value of one token
+pub of_token : {X : Type 0} {P : TokenKind → Type 0} {limits : Limits} {marks : Marks} {value : TokenKind → Option X} {Q : X → Type 0} → ((t : TokenKind) (x : X) → P t → value t ≡ Some x → Q x) → Gives P limits (rules.token marks value) Q
+of_token {P = P} h = record { holds = λ ts x rest d all. h d.0 x (All-head P d.0 rest (subst (All P) d.1 all)) d.3 }
+
 pub of_map : {A X : Type 0} {P : TokenKind → Type 0} {limits : Limits} {f : A → X} {a : Rule A} {Q : X → Type 0} → Gives P limits a (λ y. Q (f y)) → Gives P limits (map f a) Q
 of_map {Q = Q} g = record { holds = λ ts x rest d all. subst Q (sym d.2) (g.holds ts d.0 rest d.1 all) }
 
 pub of_both : {A B X : Type 0} {P : TokenKind → Type 0} {limits : Limits} {f : A → B → X} {a : Rule A} {b : Rule B} {R : X → Type 0} (Q : A → Type 0) → Gives P limits a Q → Gives P limits b (λ y. (x : A) → Q x → R (f x y)) → Gives P limits (both f a b) R
-of_both {P = P} {limits = limits} {a = a} {R = R} Q g h = record { holds = λ ts x rest d all. let behind = leaves P limits.operators (Within limits.operators limits.depth) (within_leaves P limits.operators limits.depth) a ts d.0.0 d.1.0 d.1.1 all in subst R (sym d.2) (h.holds d.1.0 d.0.1 rest d.1.2 behind d.0.0 (g.holds ts d.0.0 d.1.0 d.1.1 all)) }
+of_both {P = P} {limits = limits} {a = a} {R = R} Q g h = record { holds = λ ts x rest d all. subst R (sym d.2) (h.holds d.1.0 d.0.1 rest d.1.2 (behind P limits a ts d.0.0 d.1.0 d.1.1 all) d.0.0 (g.holds ts d.0.0 d.1.0 d.1.1 all)) }
 
 pub of_left : {A B : Type 0} {P : TokenKind → Type 0} {limits : Limits} {a : Rule A} {b : Rule B} {Q : A → Type 0} → Gives P limits a Q → Gives P limits (a ◂ b) Q
 of_left {Q = Q} g = of_both Q g (always (λ y x q. q))
 
 pub of_right : {A B : Type 0} {P : TokenKind → Type 0} {limits : Limits} {a : Rule A} {b : Rule B} {Q : B → Type 0} → Gives P limits b Q → Gives P limits (a ▸ b) Q
-of_right {A = A} g = of_both (λ (x : A). Unit {0}) (always (λ x. tt)) (so g (λ y q x t. q))
+of_right g = of_both Anything (always (λ x. tt)) (so g (λ y q x t. q))
 
 pub of_either : {X : Type 0} {P : TokenKind → Type 0} {limits : Limits} {a b : Rule X} {Q : X → Type 0} → Gives P limits a Q → Gives P limits b Q → Gives P limits (either a b) Q
 of_either {P = P} {limits = limits} {a = a} {b = b} {Q = Q} g h = record { holds = by_side }
@@ -74,12 +87,18 @@ of_either {P = P} {limits = limits} {a = a} {b = b} {Q = Q} g h = record { holds
     by_side ts x rest (inl d) all = g.holds ts x rest d all
     by_side ts x rest (inr d) all = h.holds ts x rest d all
 
+-- what may be left out
+pub of_else_given : {X : Type 0} {P : TokenKind → Type 0} {limits : Limits} {y : X} {a : Rule X} {Q : X → Type 0} → Q y → Gives P limits a Q → Gives P limits (else_given y a) Q
+of_else_given {Q = Q} q g = of_either g (record { holds = λ ts x rest d all. subst Q (sym d.1) q })
+
+pub of_maybe : {X : Type 0} {P : TokenKind → Type 0} {limits : Limits} {a : Rule X} (Q : X → Type 0) → Gives P limits a Q → Gives P limits (maybe a) (OfOptional Q)
+of_maybe Q g = of_else_given tt (of_map g)
+
 -- items in a row
 many_give : {X : Type 0} (P : TokenKind → Type 0) (limits : Limits) (rule : Rule X) (Q : X → Type 0) → Gives P limits rule Q → {ts rest : Kinds} {xs : List X} → Many (Derived limits rule) ts xs rest → All P ts → All Q xs
 many_give P limits rule Q g none all = All-nil Q
 many_give P limits rule Q g (next {ts = ts} {mid = mid} {x = x} {xs = xs} i m) all =
-    let behind = leaves P limits.operators (Within limits.operators limits.depth) (within_leaves P limits.operators limits.depth) rule ts x mid i all in
-    All-cons Q x xs (g.holds ts x mid i all) (many_give P limits rule Q g m behind)
+    All-cons Q x xs (g.holds ts x mid i all) (many_give P limits rule Q g m (behind P limits rule ts x mid i all))
 
 pub of_repeated : {X : Type 0} {P : TokenKind → Type 0} {limits : Limits} {rule : Rule X} {Q : X → Type 0} → Gives P limits rule Q → Gives P limits (repeated rule) (All Q)
 of_repeated {P = P} {limits = limits} {rule = rule} {Q = Q} g = record { holds = λ ts xs rest d all. subst (All Q) (sym d.2) (many_give P limits rule Q g d.1 all) }

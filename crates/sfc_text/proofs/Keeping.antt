@@ -1,7 +1,6 @@
 -- What derives can stand in a text, and keeps to the limits.
 use Rattle.std.proofs.Common.{◌≡◌, ℕ, ◌≤◌, false, List, [], ◌∷◌, ◌++◌, All, refl}
 use Rattle.std.proofs.lemmas.List.Elements.{All-append}
-use Rattle.sfc_tokens.specs.declared.token.TokenKind.{TokenKind}
 use Rattle.sfc_tokens.specs.Tokens.{Kinds}
 use Rattle.sfc_text.specs.Grammar as grammar
 use Rattle.sfc_text.specs.Limits.{Limits}
@@ -13,16 +12,13 @@ use Rattle.sfc_text.specs.Spelled.{nesting}
 use Rattle.sfc_text.specs.SpelledStatements.{IsBody, block_nesting, most_operators}
 use Rattle.sfc_text.specs.SpelledCharts.{KeepsAction, KeepsTransition, KeepsElement}
 use Rattle.sfc_text.specs.SpelledSources.{AreDeclared, IsDeclaration, IsExternal, AreVariables, KeepsProgram, IsConfiguration, KeepsSource}
-use Rattle.sfc_text.proofs.Holding.{Gives, always, so, of_map, of_both, of_left, of_right, of_either, of_repeated, of_gathered}
+use Rattle.sfc_text.proofs.Holding.{Gives, Anything, always, so, of_map, of_both, of_left, of_right, of_either, of_repeated, of_gathered}
 use Rattle.sfc_text.proofs.Nesting.{expression_needs}
 use Rattle.sfc_text.proofs.NestingStatements.{body_needs}
 
 -- whatever the tokens
 abbrev Keeps : {X : Type 0} → Limits → Rule X → (X → Type 0) → Type 0
-Keeps limits rule Q = Gives (λ (t : TokenKind). Unit {0}) limits rule Q
-
-abbrev Anything : {X : Type 0} → X → Type 0
-Anything x = Unit {0}
+Keeps limits rule Q = Gives Anything limits rule Q
 
 -- ---- variables
 
@@ -32,7 +28,12 @@ place_keeps limits = of_either (of_map (always (λ l one. refl))) (of_map (alway
 
 declaration_keeps : (limits : Limits) → Keeps limits grammar.declaration IsDeclaration
 unfolding grammar.declaration
-declaration_keeps limits = of_map (of_left (of_both (λ y. AreDeclared (y.0.0 ∷ y.0.1.0) y.0.1.1) (of_both (λ y. AreDeclared (y.0 ∷ y.1.0) y.1.1) (of_left (of_both Anything (always (λ one. tt)) (so (place_keeps limits) (λ p h one t. h one)))) (always (λ t y h. h))) (always (λ i y h. h))))
+declaration_keeps limits =
+    of_map (of_left (of_both (λ y. AreDeclared (y.0.0 ∷ y.0.1.0) y.0.1.1)
+    (of_both (λ y. AreDeclared (y.0 ∷ y.1.0) y.1.1)
+    (of_left (of_both Anything (always (λ one. tt)) (so (place_keeps limits) (λ p h one t. h one))))
+    (always (λ t y h. h)))
+    (always (λ i y h. h))))
 
 names_keep : (limits : Limits) → Keeps limits grammar.names (λ ns. is_empty ns ≡ false)
 unfolding grammar.names
@@ -60,7 +61,13 @@ steps_keep limits = of_either (of_map (always (λ n. refl))) (of_left (of_right 
 
 transition_keeps : (limits : Limits) → Keeps limits grammar.transition (KeepsTransition limits)
 unfolding grammar.transition
-transition_keeps limits = of_map (of_left (of_left (of_both (λ y. (is_empty y.0.1 ≡ false) × (is_empty y.1 ≡ false)) (of_left (of_both (λ y. is_empty y.1 ≡ false) (of_left (of_both Anything (always (λ y. tt)) (so (steps_keep limits) (λ ns h y t. h)))) (so (steps_keep limits) (λ ns h y g. (g, h))))) (so (expression_keeps limits) (λ e h y g. (g.0, g.1, h.0, h.1))))))
+transition_keeps limits =
+    let some = steps_keep limits in
+    of_map (of_left (of_left (of_both (λ y. (is_empty y.0.1 ≡ false) × (is_empty y.1 ≡ false))
+    (of_left (of_both (λ y. is_empty y.1 ≡ false)
+    (of_left (of_both Anything (always (λ y. tt)) (so some (λ ns h y t. h))))
+    (so some (λ ns h y g. (g, h)))))
+    (so (expression_keeps limits) (λ e h y g. (g.0, g.1, h.0, h.1))))))
 
 action_keeps : (limits : Limits) → Keeps limits grammar.action (KeepsAction limits)
 unfolding grammar.action
@@ -74,7 +81,10 @@ element_keeps limits = of_either (of_map (always (λ s. tt))) (of_either (of_map
 
 program_keeps : (limits : Limits) → Keeps limits grammar.program (KeepsProgram limits)
 unfolding grammar.program
-program_keeps limits = of_map (of_left (of_both (λ y. All AreVariables y.1) (of_both Anything (always (λ n. tt)) (so (of_repeated (variables_keep limits)) (λ vs h n t. h))) (so (of_repeated (element_keeps limits)) (λ es h y g. record { variables = g; elements = h }))))
+program_keeps limits =
+    of_map (of_left (of_both (λ y. All AreVariables y.1)
+    (of_both Anything (always (λ n. tt)) (so (of_repeated (variables_keep limits)) (λ vs h n t. h)))
+    (so (of_repeated (element_keeps limits)) (λ es h y g. record { variables = g; elements = h }))))
 
 -- ---- the configuration
 
@@ -86,7 +96,17 @@ configuration_keeps : (limits : Limits) → Keeps limits grammar.configuration I
 unfolding grammar.configuration
 configuration_keeps limits =
     let all = of_gathered IsDeclaration (globals_keep limits) in
-    of_map (of_left (of_left (of_both (λ y. All IsDeclaration (y.0.0.0.0.1 ++ y.0.1)) (of_both (λ y. All IsDeclaration (y.0.0.0.1 ++ y.1)) (of_both (λ y. All IsDeclaration y.0.0.1) (of_both (λ y. All IsDeclaration y.0.1) (of_left (of_both (λ y. All IsDeclaration y.1) (of_left (of_both Anything (always (λ n. tt)) (so all (λ ds h n t. h)))) (always (λ n y h. h)))) (always (λ n y h. h))) (so all (λ ds h y g. All-append IsDeclaration y.0.0.1 ds g h))) (always (λ ts y h. h))) (of_both Anything (always (λ i. tt)) (always (λ is i t y h. record { globals = h; instances = refl }))))))
+    of_map (of_left (of_left (of_both (λ y. All IsDeclaration (y.0.0.0.0.1 ++ y.0.1))
+    (of_both (λ y. All IsDeclaration (y.0.0.0.1 ++ y.1))
+    (of_both (λ y. All IsDeclaration y.0.0.1)
+    (of_both (λ y. All IsDeclaration y.0.1)
+    (of_left (of_both (λ y. All IsDeclaration y.1)
+    (of_left (of_both Anything (always (λ n. tt)) (so all (λ ds h n t. h))))
+    (always (λ n y h. h))))
+    (always (λ n y h. h)))
+    (so all (λ ds h y g. All-append IsDeclaration y.0.0.1 ds g h)))
+    (always (λ ts y h. h)))
+    (of_both Anything (always (λ i. tt)) (always (λ is i t y h. record { globals = h; instances = refl }))))))
 
 -- ---- whole texts
 
@@ -94,7 +114,9 @@ source_keeps : (limits : Limits) → Keeps limits grammar.source (KeepsSource li
 unfolding grammar.source
 source_keeps limits =
     let programs = of_repeated (program_keeps limits) in
-    of_map (of_both (λ y. All (KeepsProgram limits) y.0 × IsConfiguration y.1) (of_both (All (KeepsProgram limits)) programs (so (configuration_keeps limits) (λ c h ps g. (g, h)))) (so programs (λ ps h y g. record { programs = All-append (KeepsProgram limits) y.0 ps g.0 h; configuration = g.1 })))
+    of_map (of_both (λ y. All (KeepsProgram limits) y.0 × IsConfiguration y.1)
+    (of_both (All (KeepsProgram limits)) programs (so (configuration_keeps limits) (λ c h ps g. (g, h))))
+    (so programs (λ ps h y g. record { programs = All-append (KeepsProgram limits) y.0 ps g.0 h; configuration = g.1 })))
 
 pub keeps : (limits : Limits) (ts : Kinds) (s : SourceTree) → IsSource limits ts s → KeepsSource limits s
 keeps limits ts s d = (source_keeps limits).holds ts s [] d (λ k t lt. tt)

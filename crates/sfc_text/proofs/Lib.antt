@@ -20,3 +20,4 @@ pub mod Nesting
 pub mod NestingStatements
 pub mod Holding
 pub mod Keeping
+pub mod Declaring

@@ -1,10 +1,11 @@
 //! What holds of the grammar itself.
 
-ghost use Rattle.std.specs.Prelude.{◌++◌, ◌≡◌, ◌≤◌, true, List, ℕ};
+ghost use Rattle.std.specs.Prelude.{◌++◌, ◌≡◌, ◌≤◌, true, Contains, List, ℕ};
 ghost use Rattle.sfc_tokens.specs.ReadErrors.{Read};
 ghost use Rattle.sfc_tokens.specs.Tokens.{Kinds};
 ghost use Rattle.sfc_text.specs.declared.tree.Configuration.{Configuration};
 ghost use Rattle.sfc_text.specs.declared.tree.Step.{Step};
+ghost use Rattle.sfc_text.specs.Declares.{OfSource};
 ghost use Rattle.sfc_text.specs.Grammar.{action, body, configuration, element, expression, program, source, step, transition};
 ghost use Rattle.sfc_text.specs.Limits.{Derived, Limits};
 ghost use Rattle.sfc_text.specs.Parsing.Lookahead.{fine};
@@ -59,6 +60,11 @@ pub fn derived_body()
 /// A whole text that tokens derive within limits keeps to them, and each part of it can stand in a text.
 pub fn derived_source()
     ensures { (limits : Limits) (ts : Kinds) (s : SourceTree) → IsSource limits ts s → KeepsSource limits s }
+{}
+
+/// Each name, priority and location that a whole text declares is that of one of its tokens.
+pub fn declared_tokens()
+    ensures { (limits : Limits) (ts : Kinds) (s : SourceTree) → IsSource limits ts s → OfSource (Contains ts) s }
 {}
 
 /// The tokens of a step derive it, whatever stands behind them.
