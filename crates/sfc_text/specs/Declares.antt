@@ -1,7 +1,6 @@
 -- What a text declares with tokens of its own: names (2.1.2), priorities (2.6.3, 2.7.2) and locations (2.4.1.1). Each word here says
 -- that a property P holds of the tokens of these.
 use Rattle.std.specs.Prelude.{ℕ, List, Option, Some, None, All, ⊤}
-use Rattle.sfc_tokens.specs.declared.location.Location.{Location}
 use Rattle.sfc_tokens.specs.declared.token.TokenKind.{TokenKind}
 use Rattle.sfc_tokens.specs.declared.token.TokenKind.TheVariants as token
 use Rattle.sfc_text.specs.declared.tree.Configuration.{Configuration}
