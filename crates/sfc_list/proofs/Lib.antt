@@ -24,3 +24,4 @@ pub mod WrittenKeeping
 pub mod SpellableTerms
 pub mod SpellableCharts
 pub mod SpellablePlants
+pub mod ReadBack

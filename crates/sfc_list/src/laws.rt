@@ -1,9 +1,10 @@
 //! What holds of listings themselves. Each law is a function with an empty body, whose contract is the law.
 
-ghost use Rattle.std.specs.Prelude.{◌≡◌, ℕ, List, None, IsTrue};
+ghost use Rattle.std.specs.Prelude.{◌≡◌, ◌≤◌, ℕ, List, length, None, IsTrue};
 ghost use Rattle.sfc_tokens.specs.declared.run.Alphabet.TheVariants.{Location};
 ghost use Rattle.sfc_tokens.specs.Runs.{Ends};
 ghost use Rattle.sfc_tokens.specs.Spelling.{Spells};
+ghost use Rattle.sfc_tokens.specs.Texts.{longest};
 ghost use Rattle.sfc_text.specs.Spelled.{literal_tokens, tree_tokens};
 ghost use Rattle.sfc_text.specs.SpelledStatements.{body_tokens};
 ghost use Rattle.sfc_text.specs.Trees.{SourceTree};
@@ -11,8 +12,11 @@ ghost use Rattle.sfc_expr.specs.declared.value.Value.{Value};
 ghost use Rattle.sfc_expr.specs.Trees.{Expression, Body};
 ghost use Rattle.sfc_expr.specs.Types.{lies_in_range};
 ghost use Rattle.sfc_program.specs.Names.{Space};
+ghost use Rattle.sfc_chart.specs.Accepted.{IsAccepted};
 ghost use Rattle.sfc_chart.specs.Built.{source_check, plant_of};
+ghost use Rattle.sfc_chart.specs.Plants.{PlantData};
 ghost use Rattle.sfc_list.specs.Expressions.{expression_text};
+ghost use Rattle.sfc_list.specs.Listing.{listing};
 ghost use Rattle.sfc_list.specs.SpelledTexts.{AreNames, AreBodyNames};
 ghost use Rattle.sfc_list.specs.Statements.{body_text};
 ghost use Rattle.sfc_list.specs.Values.{literal_text};
@@ -23,6 +27,13 @@ ghost use Rattle.sfc_list.specs.WrittenTerms.{literal_tree, expression_tree, bod
 pub fn spelled_plant_loads()
     ensures passes { (tree : SourceTree) → source_check tree ≡ None → source_check (written (plant_of tree)) ≡ None }
     ensures equal { (tree : SourceTree) → source_check tree ≡ None → plant_of (written (plant_of tree)) ≡ plant_of tree }
+{}
+
+/// The listing of a plant that a text loads as loads as that plant, where it has no more bytes than a text may have (1,048,576): it scans
+/// to tokens that derive a tree in which no check fails, and the plant is that tree's.
+pub fn read_back()
+    ensures { (text : List ℕ) (plant : PlantData) → IsAccepted text plant → length (listing plant) ≤ longest
+        → IsAccepted (listing plant) plant }
 {}
 
 /// The text of a value in the range of its type spells the tokens of its literal, where neither a letter, a digit, an underscore, a `#`
