@@ -20,3 +20,6 @@ pub mod WrittenLimits
 pub mod SpelledLiterals
 pub mod SpelledExpressions
 pub mod SpelledBodies
+pub mod SpelledLines
+pub mod SpelledSteps
+pub mod SpelledTransitions
