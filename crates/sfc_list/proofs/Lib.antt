@@ -23,3 +23,4 @@ pub mod SpelledBodies
 pub mod SpelledLines
 pub mod SpelledSteps
 pub mod SpelledTransitions
+pub mod SpelledVariables

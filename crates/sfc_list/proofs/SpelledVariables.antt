@@ -1,7 +1,6 @@
 -- The texts of variables, and of blocks of them, spell the tokens of those that the listing spells.
-use Rattle.std.proofs.Common.{◌≡◌, ℕ, suc, ◌<◌, ◌^◌, List, [], ◌∷◌, ◌++◌, map, flat_map, length, All, Option, Some, None, slice_get, IsTrue, refl, sym, ap, subst, ◌∙◌, append_assoc, codes}
+use Rattle.std.proofs.Common.{◌≡◌, ℕ, zero, suc, arith, ◌<◌, ◌^◌, List, [], ◌∷◌, ◌++◌, map, flat_map, length, All, Option, Some, None, slice_get, IsTrue, refl, sym, ap, subst, ◌∙◌, append_assoc, codes}
 use Rattle.std.proofs.lemmas.List.{append-nil}
-use Rattle.std.proofs.lemmas.Option.{slice_get_cases}
 use Rattle.sfc_tokens.specs.declared.delimiter.Delimiter.TheVariants as sign
 use Rattle.sfc_tokens.specs.declared.keyword.Keyword.{Keyword}
 use Rattle.sfc_tokens.specs.declared.keyword.Keyword.TheVariants as keyword
@@ -118,6 +117,11 @@ typed_name name t rest k is h =
     (joined (name ++ codes " : ") t (59 ∷ rest) (token.Name name ∷ token.Delimiter sign.Colon ∷ []) (token.Keyword k ∷ [])
     (joined name (codes " : ") (t ++ (59 ∷ rest)) (token.Name name ∷ []) (token.Delimiter sign.Colon ∷ []) (named name (codes " : " ++ (t ++ (59 ∷ rest))) is (space_ends (codes ": " ++ (t ++ (59 ∷ rest)))))
     (colon_between (t ++ (59 ∷ rest)))) h) (semicolon rest)
+
+not_found : (vs : List Variable) (place : ℕ) → place < length vs → slice_get vs place ≡ None → ⊥
+not_found [] place lt e = omega (arith, lt)
+not_found (v ∷ vs) zero lt e = cc
+not_found (v ∷ vs) (suc place) lt e = not_found vs place (omega (arith, lt)) e
 
 -- the type of a global that is one
 global_type : (globals : List Variable) (place : ℕ) → place < length globals → (rest : List ℕ) → Ends alphabet.Location rest
