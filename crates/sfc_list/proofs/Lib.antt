@@ -24,3 +24,4 @@ pub mod SpelledLines
 pub mod SpelledSteps
 pub mod SpelledTransitions
 pub mod SpelledVariables
+pub mod SpelledPrograms
