@@ -25,3 +25,4 @@ pub mod SpelledSteps
 pub mod SpelledTransitions
 pub mod SpelledVariables
 pub mod SpelledPrograms
+pub mod SpelledConfigurations

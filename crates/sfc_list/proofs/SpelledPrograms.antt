@@ -58,7 +58,7 @@ chart_spelled space chart is =
 
 -- ---- program types
 
-program_word : SpellsAlways (codes "PROGRAM ") (token.Keyword keyword.Program ∷ [])
+pub program_word : SpellsAlways (codes "PROGRAM ") (token.Keyword keyword.Program ∷ [])
 unfolding class_of is_spaced keyword_of same_word
 program_word rest = reserved_spaced (codes "PROGRAM") rest 32 keyword.Program refl refl refl
 
