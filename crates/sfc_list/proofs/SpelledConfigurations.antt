@@ -38,7 +38,7 @@ use Rattle.sfc_list.specs.SpelledPlants.{CanSpellProgram, CanSpellTask, CanSpell
 use Rattle.sfc_list.specs.Written.{program_tree, single_tree, task_tree, instance_tree, configuration_tree, written}
 use Rattle.sfc_list.specs.WrittenVariables.{declaration_tree}
 use Rattle.sfc_list.proofs.SpelledExpressions.{Opens}
-use Rattle.sfc_list.proofs.SpelledLines.{SpellsAlways, SpellsLine, both_spelled, joined_two, line_spelled, each_spelled, each_line_spelled, named, line_ends, space_ends, semicolon_ends, open_ends, close_ends, semicolon, closed, colon_between, assign_behind, comma_space}
+use Rattle.sfc_list.proofs.SpelledLines.{SpellsAlways, SpellsLine, both_spelled, line_spelled, each_spelled, each_line_spelled, named, line_ends, space_ends, semicolon_ends, open_ends, close_ends, semicolon, closed, colon_between, assign_behind, comma_space}
 use Rattle.sfc_list.proofs.SpelledLiterals.{ends_number, ends_interval}
 use Rattle.sfc_list.proofs.SpelledPrograms.{program_word, word_and_name, program_spelled}
 use Rattle.sfc_list.proofs.SpelledVariables.{globals_spelled}

@@ -1,5 +1,5 @@
 -- Lines, lists, names and signs of a listing spell their tokens.
-use Rattle.std.proofs.Common.{◌≡◌, ℕ, List, [], ◌∷◌, ◌++◌, map, flat_map, All, refl, sym, subst, append_assoc, codes}
+use Rattle.std.proofs.Common.{ℕ, List, [], ◌∷◌, ◌++◌, map, flat_map, All, refl, sym, subst, append_assoc, codes}
 use Rattle.std.proofs.lemmas.List.{append-nil}
 use Rattle.std.proofs.lemmas.List.Elements.{All-head, All-tail}
 use Rattle.sfc_tokens.specs.declared.delimiter.Delimiter.TheVariants as sign

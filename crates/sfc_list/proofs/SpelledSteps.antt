@@ -1,5 +1,5 @@
 -- The text of a step spells the tokens of the step that the listing spells.
-use Rattle.std.proofs.Common.{◌≡◌, ℕ, Bool, true, false, List, [], ◌∷◌, ◌++◌, map, flat_map, All, refl, codes}
+use Rattle.std.proofs.Common.{ℕ, Bool, true, false, List, [], ◌∷◌, ◌++◌, map, flat_map, refl, codes}
 use Rattle.std.proofs.lemmas.List.Elements.{All-map}
 use Rattle.sfc_tokens.specs.declared.delimiter.Delimiter.TheVariants as sign
 use Rattle.sfc_tokens.specs.declared.keyword.Keyword.{Keyword}
@@ -34,7 +34,7 @@ use Rattle.sfc_program.specs.Names.{Space}
 use Rattle.sfc_list.specs.Layout.{line}
 use Rattle.sfc_list.specs.Charts.{target_text, timed_text, association_time, qualifier_text, indicators_text, association_text, step_word, step_head, step_text}
 use Rattle.sfc_list.specs.Names.{variable_name}
-use Rattle.sfc_list.specs.SpelledPlants.{CanSpellTime, CanSpellQualifier, IsVariableName, CanSpellAssociation, CanSpellStep}
+use Rattle.sfc_list.specs.SpelledPlants.{CanSpellTime, CanSpellQualifier, CanSpellAssociation, CanSpellStep}
 use Rattle.sfc_list.specs.WrittenCharts.{time_tree, qualifier_tree, association_tree, step_tree}
 use Rattle.sfc_list.proofs.SpelledExpressions.{Opens}
 use Rattle.sfc_list.proofs.SpelledLines.{SpellsAlways, SpellsLine, framed, each_line_spelled, named, close_ends, open_ends, colon_ends, colon_line, closed, comma_space, further_ends, further_spelled}

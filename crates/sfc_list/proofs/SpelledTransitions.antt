@@ -36,7 +36,7 @@ use Rattle.sfc_list.specs.WrittenCharts.{transition_tree, action_tree}
 use Rattle.sfc_list.specs.WrittenTerms.{expression_tree, body_tree}
 use Rattle.sfc_list.proofs.SpelledBodies.{body_spells}
 use Rattle.sfc_list.proofs.SpelledExpressions.{name_part_first, expression_spells}
-use Rattle.sfc_list.proofs.SpelledLines.{SpellsAlways, SpellsLine, both_spelled, joined_two, line_spelled, framed, none_spelled, named, line_ends, space_ends, semicolon_ends, close_ends, close, semicolon, assign_behind, further_ends, further_spelled}
+use Rattle.sfc_list.proofs.SpelledLines.{SpellsAlways, SpellsLine, both_spelled, joined_two, line_spelled, framed, named, line_ends, space_ends, semicolon_ends, close_ends, close, semicolon, assign_behind, further_ends, further_spelled}
 use Rattle.sfc_list.proofs.SpelledLiterals.{ends_number}
 use Rattle.sfc_list.proofs.SpelledSteps.{titled}
 

@@ -1,5 +1,5 @@
 -- The texts of variables, and of blocks of them, spell the tokens of those that the listing spells.
-use Rattle.std.proofs.Common.{◌≡◌, ℕ, zero, suc, arith, ◌<◌, ◌^◌, List, [], ◌∷◌, ◌++◌, map, flat_map, length, All, Option, Some, None, slice_get, IsTrue, refl, sym, ap, subst, ◌∙◌, append_assoc, codes}
+use Rattle.std.proofs.Common.{◌≡◌, ℕ, zero, suc, arith, ◌<◌, List, [], ◌∷◌, ◌++◌, map, flat_map, length, All, Option, Some, None, slice_get, refl, sym, ap, subst, ◌∙◌, append_assoc, codes}
 use Rattle.std.proofs.lemmas.List.{append-nil}
 use Rattle.sfc_tokens.specs.declared.delimiter.Delimiter.TheVariants as sign
 use Rattle.sfc_tokens.specs.declared.keyword.Keyword.{Keyword}
@@ -22,24 +22,19 @@ use Rattle.sfc_tokens.proofs.Spaced.{reserved_spaced}
 use Rattle.sfc_tokens.proofs.Spelled.{reserved_spells}
 use Rattle.sfc_tokens.proofs.SpelledLocations.{location_spells}
 use Rattle.sfc_tokens.proofs.Spellings.{alone, joined}
-use Rattle.sfc_text.specs.declared.tree.Declaration.{Declaration}
-use Rattle.sfc_text.specs.declared.tree.External.{External}
 use Rattle.sfc_text.specs.declared.tree.VariableBlock.{VariableBlock}
 use Rattle.sfc_text.specs.declared.tree.VariableBlock.TheVariants as block_of
 use Rattle.sfc_text.specs.Declares.{OfOptional}
 use Rattle.sfc_text.specs.Spelled.{literal_tokens}
 use Rattle.sfc_text.specs.SpelledSources.{place_tokens, type_word, declaration_tokens, external_tokens, variables_tokens, globals_tokens}
-use Rattle.sfc_expr.specs.declared.value.Value.{Value}
 use Rattle.sfc_expr.specs.declared.variable.GlobalId.{GlobalId}
-use Rattle.sfc_expr.specs.declared.variable.Variable.TheVariants.{Global}
-use Rattle.sfc_expr.specs.Types.{lies_in_range}
 use Rattle.sfc_variables.specs.declared.variable.Variable.{Variable}
 use Rattle.sfc_variables.specs.Finding.{names_of}
 use Rattle.sfc_program.specs.declared.program_type.ProgramType.{ProgramType}
-use Rattle.sfc_program.specs.Names.{Space, space_in}
+use Rattle.sfc_program.specs.Names.{space_in}
 use Rattle.sfc_list.specs.Layout.{line, block}
 use Rattle.sfc_list.specs.Listing.{place_text, variable_text, external_type, external_text}
-use Rattle.sfc_list.specs.Names.{name_at, variable_name}
+use Rattle.sfc_list.specs.Names.{name_at}
 use Rattle.sfc_list.specs.Values.{type_text, literal_text}
 use Rattle.sfc_list.specs.SpelledPlants.{CanSpellLocation, CanSpellVariable, CanSpellExternal}
 use Rattle.sfc_list.specs.WrittenTerms.{literal_tree}
