@@ -24,4 +24,10 @@ pub mod WrittenKeeping
 pub mod SpellableTerms
 pub mod SpellableCharts
 pub mod SpellablePlants
+pub mod SpelledLines
+pub mod SpelledSteps
+pub mod SpelledTransitions
+pub mod SpelledVariables
+pub mod SpelledPrograms
+pub mod SpelledConfigurations
 pub mod ReadBack

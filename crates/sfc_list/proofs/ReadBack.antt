@@ -1,5 +1,5 @@
 -- The listing of a plant that a text loads as loads as that plant.
-use Rattle.std.proofs.Common.{◌≡◌, ◌≤◌, ℕ, List, length, All, None, Ok, subst, sym}
+use Rattle.std.proofs.Common.{◌≡◌, ◌≤◌, ℕ, List, [], length, All, None, Ok, subst, sym}
 use Rattle.sfc_tokens.specs.declared.token.TokenKind.{TokenKind}
 use Rattle.sfc_tokens.specs.Spelling.{CanStand}
 use Rattle.sfc_tokens.specs.Texts.{longest, TextScans}
@@ -22,7 +22,7 @@ use Rattle.sfc_list.specs.Listing.{listing}
 use Rattle.sfc_list.specs.SpelledPlants.{CanSpellPlant}
 use Rattle.sfc_list.specs.Written.{written}
 use Rattle.sfc_list.proofs.SpellablePlants.{plant_spelled}
-use Rattle.sfc_list.proofs.SpelledConfigurations.{listing_spells}
+use Rattle.sfc_list.proofs.SpelledConfigurations.{listing_spelled}
 use Rattle.sfc_list.proofs.WrittenKeeping.{written_keeps}
 use Rattle.sfc_list.proofs.WrittenPlants.{loads_again}
 
@@ -33,7 +33,7 @@ from_tokens ts tree stand derives passes short =
     let plant : PlantData = plant_of tree in
     let kept : KeepsSource ours tree = keeps ours ts tree derives in
     let spells : CanSpellPlant plant = plant_spelled ours tree (declares CanStand ours ts tree stand derives) kept passes in
-    reads.tree (text_scans (listing plant) (source_tokens (written plant)) short (listing_spells plant spells))
+    reads.tree (text_scans (listing plant) (source_tokens (written plant)) short (listing_spelled plant spells []))
     (source_derives ours (written plant) (written_keeps ours tree passes kept))
 
 listing_reads : (text : List ℕ) (tree : SourceTree) → TextReads text (Ok tree) → source_check tree ≡ None

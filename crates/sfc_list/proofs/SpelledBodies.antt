@@ -31,7 +31,7 @@ use Rattle.sfc_list.proofs.SpelledExpressions.{expression_spells}
 
 -- ---- lines
 
-indented : (level : ℕ) (text rest : List ℕ) (ts : List TokenKind) → Spells text ts rest → Spells (indent level ++ text) ts rest
+pub indented : (level : ℕ) (text rest : List ℕ) (ts : List TokenKind) → Spells text ts rest → Spells (indent level ++ text) ts rest
 unfolding class_of
 indented zero text rest ts h = h
 indented (suc level) text rest ts h = spelling.space refl (spelling.space refl (indented level text rest ts h))

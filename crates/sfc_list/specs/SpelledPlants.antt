@@ -1,5 +1,5 @@
 -- Where the text of a plant spells its tokens: each name in it is one, and each number is in the range of its kind.
-use Rattle.std.specs.Prelude.{ℕ, ◌<◌, ◌≤◌, ◌^◌, List, [], All, Option, IsTrue, ⊤, length, unsigned_abs}
+use Rattle.std.specs.Prelude.{◌<◌, ◌≤◌, ◌^◌, List, [], All, IsTrue, ⊤, length, unsigned_abs}
 use Rattle.sfc_tokens.specs.declared.location.Location.{Location}
 use Rattle.sfc_tokens.specs.Locations.{AreNumbers}
 use Rattle.sfc_tokens.specs.Names.{IsName}
