@@ -38,7 +38,8 @@ use Rattle.sfc_list.specs.SpelledPlants.{CanSpellProgram, CanSpellTask, CanSpell
 use Rattle.sfc_list.specs.Written.{program_tree, single_tree, task_tree, instance_tree, configuration_tree, written}
 use Rattle.sfc_list.specs.WrittenVariables.{declaration_tree}
 use Rattle.sfc_list.proofs.SpelledExpressions.{Opens}
-use Rattle.sfc_list.proofs.SpelledLines.{SpellsAlways, SpellsLine, both_spelled, line_spelled, each_spelled, each_line_spelled, named, line_ends, space_ends, semicolon_ends, open_ends, close_ends, semicolon, closed, colon_between, assign_behind, comma_space}
+use Rattle.sfc_list.proofs.SpelledBodies.{before_space, before_semicolon}
+use Rattle.sfc_list.proofs.SpelledLines.{SpellsAlways, SpellsLine, both_spelled, line_spelled, each_spelled, each_line_spelled, named, before_line, before_open, before_close, semicolon, closed, colon_between, assign_behind, comma_space}
 use Rattle.sfc_list.proofs.SpelledLiterals.{ends_number, ends_interval}
 use Rattle.sfc_list.proofs.SpelledPrograms.{program_word, word_and_name, program_spelled}
 use Rattle.sfc_list.proofs.SpelledVariables.{globals_spelled}
@@ -56,9 +57,9 @@ task_names : (IsName (codes "SINGLE") × IsName (codes "INTERVAL")) × IsName (c
 unfolding class_of is_spaced keyword_of same_word
 task_names = ((refl, refl), refl)
 
-comma_ends : (rest : List ℕ) → Ends alphabet.Location (44 ∷ rest)
+before_comma : (rest : List ℕ) → Ends alphabet.Location (44 ∷ rest)
 unfolding class_of
-comma_ends rest = refl
+before_comma rest = refl
 
 -- a part of a task and a comma
 task_part : (front value : List ℕ) (ts : List TokenKind) (t : TokenKind) → SpellsAlways front ts → ((others : List ℕ) → Spells value (t ∷ []) (44 ∷ 32 ∷ others))
@@ -73,7 +74,7 @@ single_spelled globals None is rest = spelling.nothing
 single_spelled globals (Some id) is rest =
     let name = name_at (names_of globals) id.0 in
     task_part (codes "SINGLE := ") name (token.Name (codes "SINGLE") ∷ token.Delimiter sign.Assign ∷ []) (token.Name name) (assigned_to (codes "SINGLE") task_names.0.0)
-    (λ others. named name (44 ∷ 32 ∷ others) is (comma_ends (32 ∷ others))) rest
+    (λ others. named name (44 ∷ 32 ∷ others) is (before_comma (32 ∷ others))) rest
 
 interval_by : (t : ℤ) (none : Bool) → unsigned_abs t ≤ greatest
     → SpellsAlways (if none then [] else codes "INTERVAL := " ++ time_text t ++ codes ", ")
@@ -81,7 +82,7 @@ interval_by : (t : ℤ) (none : Bool) → unsigned_abs t ≤ greatest
 interval_by t true le rest = spelling.nothing
 interval_by t false le rest =
     task_part (codes "INTERVAL := ") (time_text t) (token.Name (codes "INTERVAL") ∷ token.Delimiter sign.Assign ∷ []) (token.Duration t) (assigned_to (codes "INTERVAL") task_names.0.1)
-    (λ others. alone (time_text t) (44 ∷ 32 ∷ others) (token.Duration t) (duration_before (time_text t) t (44 ∷ 32 ∷ others) (time_is t le) (ends_interval (44 ∷ 32 ∷ others) (comma_ends (32 ∷ others))))) rest
+    (λ others. alone (time_text t) (44 ∷ 32 ∷ others) (token.Duration t) (duration_before (time_text t) t (44 ∷ 32 ∷ others) (time_is t le) (ends_interval (44 ∷ 32 ∷ others) (before_comma (32 ∷ others))))) rest
 
 interval_spelled : (t : ℤ) → unsigned_abs t ≤ greatest → SpellsAlways (interval_text t) (interval_tokens t)
 interval_spelled t le = interval_by t (int_eq t (pos 0)) le
@@ -92,7 +93,7 @@ priority_spelled n lt rest =
     let behind = 41 ∷ 59 ∷ rest in
     joined (codes "PRIORITY := " ++ decimal n) (codes ");") rest (token.Name (codes "PRIORITY") ∷ token.Delimiter sign.Assign ∷ token.Integer n ∷ []) (token.Delimiter sign.Close ∷ token.Delimiter sign.Semicolon ∷ [])
     (joined (codes "PRIORITY := ") (decimal n) behind (token.Name (codes "PRIORITY") ∷ token.Delimiter sign.Assign ∷ []) (token.Integer n ∷ []) (assigned_to (codes "PRIORITY") task_names.1 (decimal n ++ behind))
-    (alone (decimal n) behind (token.Integer n) (integer_spells n behind lt (ends_number behind (close_ends (59 ∷ rest)))))) (closed rest)
+    (alone (decimal n) behind (token.Integer n) (integer_spells n behind lt (ends_number behind (before_close (59 ∷ rest)))))) (closed rest)
 
 -- a `(` before a part of a task is no start of a comment
 single_first : (globals : List Variable) (single : Option GlobalId) (more : List ℕ) → Opens more → Opens (single_text globals single ++ more)
@@ -121,7 +122,7 @@ tasked name s i p ts us vs is f g h first rest =
     (joined (codes "TASK " ++ name ++ codes "(" ++ s) i (p ++ rest) (token.Keyword keyword.Task ∷ token.Name name ∷ token.Delimiter sign.Open ∷ ts) us
     (joined (codes "TASK " ++ name ++ codes "(") s (i ++ (p ++ rest)) (token.Keyword keyword.Task ∷ token.Name name ∷ token.Delimiter sign.Open ∷ []) ts
     (joined (codes "TASK " ++ name) (codes "(") behind (token.Keyword keyword.Task ∷ token.Name name ∷ []) (token.Delimiter sign.Open ∷ [])
-    (joined (codes "TASK ") name (40 ∷ behind) (token.Keyword keyword.Task ∷ []) (token.Name name ∷ []) (task_word (name ++ (40 ∷ behind))) (named name (40 ∷ behind) is (open_ends behind)))
+    (joined (codes "TASK ") name (40 ∷ behind) (token.Keyword keyword.Task ∷ []) (token.Name name ∷ []) (task_word (name ++ (40 ∷ behind))) (named name (40 ∷ behind) is (before_open behind)))
     (alone (codes "(") behind (token.Delimiter sign.Open) (sign_spells sign.Open behind (first rest))))
     (f (i ++ (p ++ rest)))) (g (p ++ rest))) (h rest)
 
@@ -150,7 +151,6 @@ instanced : (name task type : List ℕ) → IsName name → IsName task → IsNa
     → SpellsAlways (codes "PROGRAM " ++ name ++ codes " WITH " ++ task ++ codes " : " ++ type ++ codes ";")
     (token.Keyword keyword.Program ∷ token.Name name ∷ token.Keyword keyword.With ∷ token.Name task ∷ token.Delimiter sign.Colon ∷ token.Name type ∷ token.Delimiter sign.Semicolon ∷ [])
 instanced name task type is task_is type_is rest =
-    let program = token.Keyword keyword.Program ∷ token.Name name ∷ [] in
     let behind = type ++ (59 ∷ rest) in
     let more = task ++ (codes " : " ++ behind) in
     joined (codes "PROGRAM " ++ name ++ codes " WITH " ++ task ++ codes " : " ++ type) (codes ";") rest
@@ -162,11 +162,11 @@ instanced name task type is task_is type_is rest =
     (joined (codes "PROGRAM " ++ name ++ codes " WITH ") task (codes " : " ++ behind) (token.Keyword keyword.Program ∷ token.Name name ∷ token.Keyword keyword.With ∷ []) (token.Name task ∷ [])
     (joined (codes "PROGRAM " ++ name) (codes " WITH ") more (token.Keyword keyword.Program ∷ token.Name name ∷ []) (token.Keyword keyword.With ∷ [])
     (joined (codes "PROGRAM ") name (codes " WITH " ++ more) (token.Keyword keyword.Program ∷ []) (token.Name name ∷ []) (program_word (name ++ (codes " WITH " ++ more)))
-    (named name (codes " WITH " ++ more) is (space_ends (codes "WITH " ++ more))))
+    (named name (codes " WITH " ++ more) is (before_space (codes "WITH " ++ more))))
     (with_word more))
-    (named task (codes " : " ++ behind) task_is (space_ends (codes ": " ++ behind))))
+    (named task (codes " : " ++ behind) task_is (before_space (codes ": " ++ behind))))
     (colon_between behind))
-    (named type (59 ∷ rest) type_is (semicolon_ends rest)))
+    (named type (59 ∷ rest) type_is (before_semicolon rest)))
     (semicolon rest)
 
 instance_spelled : (tasks : List Task) (types : List ProgramType) (i : Instance) → CanSpellInstance tasks types i → SpellsAlways (instance_text tasks types i) (instance_tokens (instance_tree tasks types i))
@@ -202,9 +202,9 @@ resource_spelled resource processor is on rest =
     joined (codes "RESOURCE " ++ resource ++ codes " ON ") processor (10 ∷ rest) (token.Keyword keyword.Resource ∷ token.Name resource ∷ token.Keyword keyword.On ∷ []) (token.Name processor ∷ [])
     (joined (codes "RESOURCE " ++ resource) (codes " ON ") (processor ++ (10 ∷ rest)) (token.Keyword keyword.Resource ∷ token.Name resource ∷ []) (token.Keyword keyword.On ∷ [])
     (joined (codes "RESOURCE ") resource behind (token.Keyword keyword.Resource ∷ []) (token.Name resource ∷ []) (resource_word (resource ++ behind))
-    (named resource behind is (space_ends (codes "ON " ++ (processor ++ (10 ∷ rest))))))
+    (named resource behind is (before_space (codes "ON " ++ (processor ++ (10 ∷ rest))))))
     (on_word (processor ++ (10 ∷ rest))))
-    (named processor (10 ∷ rest) on (line_ends rest))
+    (named processor (10 ∷ rest) on (before_line rest))
 
 configured : (a b g t i y z : List ℕ) (ps qs gs ts is : List TokenKind) (u v : TokenKind) → SpellsAlways a ps → SpellsAlways b qs → SpellsAlways g gs → SpellsAlways t ts → SpellsAlways i is
     → SpellsAlways y (u ∷ []) → SpellsAlways z (v ∷ []) → SpellsAlways (a ++ b ++ g ++ t ++ i ++ y ++ z) ((ps ++ qs ++ gs) ++ ts ++ is ++ (u ∷ v ∷ []))

@@ -28,9 +28,6 @@ SpellsAlways text ts = (rest : List ℕ) → Spells text ts rest
 abbrev pub SpellsLine : List ℕ → List TokenKind → Type 0
 SpellsLine text ts = (rest : List ℕ) → Spells text ts (10 ∷ rest)
 
-pub none_spelled : SpellsAlways [] []
-none_spelled rest = spelling.nothing
-
 pub both_spelled : (a b : List ℕ) (ts us : List TokenKind) → SpellsAlways a ts → SpellsAlways b us → SpellsAlways (a ++ b) (ts ++ us)
 both_spelled a b ts us p q rest = joined a b rest ts us (p (b ++ rest)) (q rest)
 
@@ -72,29 +69,21 @@ each_line_spelled level text tree tokens P h xs all =
 pub named : (w rest : List ℕ) → IsName w → Ends alphabet.Location rest → Spells w (token.Name w ∷ []) rest
 named w rest is ends = alone w rest (token.Name w) (name_spells w rest is (ends_word rest ends) (ends_sharp rest ends))
 
-pub line_ends : (rest : List ℕ) → Ends alphabet.Location (10 ∷ rest)
+pub before_line : (rest : List ℕ) → Ends alphabet.Location (10 ∷ rest)
 unfolding class_of
-line_ends rest = refl
+before_line rest = refl
 
-pub space_ends : (rest : List ℕ) → Ends alphabet.Location (32 ∷ rest)
+pub before_close : (rest : List ℕ) → Ends alphabet.Location (41 ∷ rest)
 unfolding class_of
-space_ends rest = refl
+before_close rest = refl
 
-pub semicolon_ends : (rest : List ℕ) → Ends alphabet.Location (59 ∷ rest)
+pub before_open : (rest : List ℕ) → Ends alphabet.Location (40 ∷ rest)
 unfolding class_of
-semicolon_ends rest = refl
+before_open rest = refl
 
-pub close_ends : (rest : List ℕ) → Ends alphabet.Location (41 ∷ rest)
+pub before_colon : (rest : List ℕ) → Ends alphabet.Location (58 ∷ rest)
 unfolding class_of
-close_ends rest = refl
-
-pub open_ends : (rest : List ℕ) → Ends alphabet.Location (40 ∷ rest)
-unfolding class_of
-open_ends rest = refl
-
-pub colon_ends : (rest : List ℕ) → Ends alphabet.Location (58 ∷ rest)
-unfolding class_of
-colon_ends rest = refl
+before_colon rest = refl
 
 -- at the end of a line
 pub colon_line : SpellsLine (codes ":") (token.Delimiter sign.Colon ∷ [])

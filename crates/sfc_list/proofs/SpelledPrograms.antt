@@ -29,7 +29,7 @@ use Rattle.sfc_list.specs.SpelledPlants.{CanSpellStep, CanSpellTransition, CanSp
 use Rattle.sfc_list.specs.Written.{program_tree}
 use Rattle.sfc_list.specs.WrittenCharts.{step_tree, transition_tree, action_tree, element_trees}
 use Rattle.sfc_list.specs.WrittenVariables.{declaration_tree, external_tree, block_tree}
-use Rattle.sfc_list.proofs.SpelledLines.{SpellsAlways, SpellsLine, both_spelled, line_spelled, each_spelled, named, line_ends}
+use Rattle.sfc_list.proofs.SpelledLines.{SpellsAlways, SpellsLine, both_spelled, line_spelled, each_spelled, named, before_line}
 use Rattle.sfc_list.proofs.SpelledSteps.{step_spelled}
 use Rattle.sfc_list.proofs.SpelledTransitions.{transition_spelled, action_spelled}
 use Rattle.sfc_list.proofs.SpelledVariables.{locals_spelled, externals_spelled}
@@ -68,7 +68,7 @@ end_program rest = alone (codes "END_PROGRAM") (10 ∷ rest) (token.Keyword keyw
 
 -- a word and a name
 pub word_and_name : (word name : List ℕ) (k : Keyword) → SpellsAlways word (token.Keyword k ∷ []) → IsName name → SpellsLine (word ++ name) (token.Keyword k ∷ token.Name name ∷ [])
-word_and_name word name k h is rest = joined word name (10 ∷ rest) (token.Keyword k ∷ []) (token.Name name ∷ []) (h (name ++ (10 ∷ rest))) (named name (10 ∷ rest) is (line_ends rest))
+word_and_name word name k h is rest = joined word name (10 ∷ rest) (token.Keyword k ∷ []) (token.Name name ∷ []) (h (name ++ (10 ∷ rest))) (named name (10 ∷ rest) is (before_line rest))
 
 -- a head, two blocks of variables and a chart
 programmed : (head first second chart final : List ℕ) (k : Keyword) (name : List ℕ) (xs ys : List VariableBlock) (ts : List TokenKind) (t : TokenKind) → SpellsLine head (token.Keyword k ∷ token.Name name ∷ [])

@@ -37,7 +37,7 @@ use Rattle.sfc_list.specs.Names.{variable_name}
 use Rattle.sfc_list.specs.SpelledPlants.{CanSpellTime, CanSpellQualifier, CanSpellAssociation, CanSpellStep}
 use Rattle.sfc_list.specs.WrittenCharts.{time_tree, qualifier_tree, association_tree, step_tree}
 use Rattle.sfc_list.proofs.SpelledExpressions.{Opens}
-use Rattle.sfc_list.proofs.SpelledLines.{SpellsAlways, SpellsLine, framed, each_line_spelled, named, close_ends, open_ends, colon_ends, colon_line, closed, comma_space, further_ends, further_spelled}
+use Rattle.sfc_list.proofs.SpelledLines.{SpellsAlways, SpellsLine, framed, each_line_spelled, named, before_close, before_open, before_colon, colon_line, closed, comma_space, further_ends, further_spelled}
 use Rattle.sfc_list.proofs.SpelledLiterals.{ends_interval}
 
 -- ---- qualifiers
@@ -99,7 +99,7 @@ associated target q i rest ts us is first p h =
     joined (target ++ codes "(" ++ q ++ i) (codes ");") rest ((token.Name target ∷ token.Delimiter sign.Open ∷ ts) ++ us) (token.Delimiter sign.Close ∷ token.Delimiter sign.Semicolon ∷ [])
     (joined (target ++ codes "(" ++ q) i (41 ∷ 59 ∷ rest) (token.Name target ∷ token.Delimiter sign.Open ∷ ts) us
     (joined (target ++ codes "(") q more (token.Name target ∷ token.Delimiter sign.Open ∷ []) ts
-    (joined target (codes "(") (q ++ more) (token.Name target ∷ []) (token.Delimiter sign.Open ∷ []) (named target (40 ∷ (q ++ more)) is (open_ends (q ++ more)))
+    (joined target (codes "(") (q ++ more) (token.Name target ∷ []) (token.Delimiter sign.Open ∷ []) (named target (40 ∷ (q ++ more)) is (before_open (q ++ more)))
     (alone (codes "(") (q ++ more) (token.Delimiter sign.Open) (sign_spells sign.Open (q ++ more) first))) p) h) (closed rest)
 
 association_spelled : (space : Space) (a : Association) → CanSpellAssociation space a → SpellsAlways (association_text space a) (association_tokens (association_tree space a))
@@ -108,8 +108,8 @@ association_spelled space a is rest =
     let behind = 41 ∷ 59 ∷ rest in
     associated (target_text space a.target) (qualifier_text space a.qualifier) (indicators_text space a.indicators) rest _ _ is.target
     (qualifier_first space a.qualifier (indicators_text space a.indicators ++ behind))
-    (qualifier_spelled space a.qualifier (indicators_text space a.indicators ++ behind) is.qualifier (further_ends names behind (close_ends (59 ∷ rest))))
-    (further_spelled names behind (All-map IsName (variable_name space) a.indicators is.indicators) (close_ends (59 ∷ rest)))
+    (qualifier_spelled space a.qualifier (indicators_text space a.indicators ++ behind) is.qualifier (further_ends names behind (before_close (59 ∷ rest))))
+    (further_spelled names behind (All-map IsName (variable_name space) a.indicators is.indicators) (before_close (59 ∷ rest)))
 
 -- ---- steps
 
@@ -122,7 +122,7 @@ step_word_spelled true rest = reserved_spaced (codes "INITIAL_STEP") rest 32 key
 pub titled : (word name : List ℕ) (k : Keyword) → SpellsAlways word (token.Keyword k ∷ []) → IsName name → SpellsLine (word ++ name ++ codes ":") (token.Keyword k ∷ token.Name name ∷ token.Delimiter sign.Colon ∷ [])
 titled word name k h is rest =
     joined (word ++ name) (codes ":") (10 ∷ rest) (token.Keyword k ∷ token.Name name ∷ []) (token.Delimiter sign.Colon ∷ [])
-    (joined word name (58 ∷ 10 ∷ rest) (token.Keyword k ∷ []) (token.Name name ∷ []) (h (name ++ (58 ∷ 10 ∷ rest))) (named name (58 ∷ 10 ∷ rest) is (colon_ends (10 ∷ rest))))
+    (joined word name (58 ∷ 10 ∷ rest) (token.Keyword k ∷ []) (token.Name name ∷ []) (h (name ++ (58 ∷ 10 ∷ rest))) (named name (58 ∷ 10 ∷ rest) is (before_colon (10 ∷ rest))))
     (colon_line rest)
 
 end_step_spelled : SpellsLine (codes "END_STEP") (token.Keyword keyword.EndStep ∷ [])

@@ -34,9 +34,9 @@ use Rattle.sfc_list.specs.Statements.{body_text}
 use Rattle.sfc_list.specs.SpelledPlants.{CanSpellTransition, CanSpellAction}
 use Rattle.sfc_list.specs.WrittenCharts.{transition_tree, action_tree}
 use Rattle.sfc_list.specs.WrittenTerms.{expression_tree, body_tree}
-use Rattle.sfc_list.proofs.SpelledBodies.{body_spells}
+use Rattle.sfc_list.proofs.SpelledBodies.{body_spells, before_space, before_semicolon}
 use Rattle.sfc_list.proofs.SpelledExpressions.{name_part_first, expression_spells}
-use Rattle.sfc_list.proofs.SpelledLines.{SpellsAlways, SpellsLine, both_spelled, joined_two, line_spelled, framed, named, line_ends, space_ends, semicolon_ends, close_ends, close, semicolon, assign_behind, further_ends, further_spelled}
+use Rattle.sfc_list.proofs.SpelledLines.{SpellsAlways, SpellsLine, both_spelled, joined_two, line_spelled, framed, named, before_line, before_close, close, semicolon, assign_behind, further_ends, further_spelled}
 use Rattle.sfc_list.proofs.SpelledLiterals.{ends_number}
 use Rattle.sfc_list.proofs.SpelledSteps.{titled}
 
@@ -51,8 +51,8 @@ enclosed_names first others rest is all =
     joined (codes "(" ++ names) (codes ")") rest (token.Delimiter sign.Open ∷ token.Name first ∷ further_tokens others) (token.Delimiter sign.Close ∷ [])
     (spelling.one {w = 40 ∷ []} {text = names} (sign_spells sign.Open (names ++ behind) (name_part_first first (after_commas others) behind is))
     (joined first (after_commas others) behind (token.Name first ∷ []) (further_tokens others)
-    (named first (after_commas others ++ behind) is (further_ends others behind (close_ends rest)))
-    (further_spelled others behind all (close_ends rest))))
+    (named first (after_commas others ++ behind) is (further_ends others behind (before_close rest)))
+    (further_spelled others behind all (before_close rest))))
     (close rest)
 
 side_spelled : (names : List (List ℕ)) (rest : List ℕ) → All IsName names → 0 < length names → Ends alphabet.Location rest → Spells (side_text names) (side_tokens names) rest
@@ -90,7 +90,7 @@ prioritized (Some n) lt rest =
     (token.Delimiter sign.Open ∷ token.Name (codes "PRIORITY") ∷ token.Delimiter sign.Assign ∷ token.Integer n ∷ []) (token.Delimiter sign.Close ∷ [])
     (joined (codes "(PRIORITY := ") (decimal n) (codes ") " ++ rest) (token.Delimiter sign.Open ∷ token.Name (codes "PRIORITY") ∷ token.Delimiter sign.Assign ∷ [])
     (token.Integer n ∷ []) (priority_front (decimal n ++ (codes ") " ++ rest)))
-    (alone (decimal n) (codes ") " ++ rest) (token.Integer n) (integer_spells n (codes ") " ++ rest) lt (ends_number (codes ") " ++ rest) (close_ends (32 ∷ rest))))))
+    (alone (decimal n) (codes ") " ++ rest) (token.Integer n) (integer_spells n (codes ") " ++ rest) lt (ends_number (codes ") " ++ rest) (before_close (32 ∷ rest))))))
     (close_space rest)
 
 transition_word : SpellsAlways (codes "TRANSITION ") (token.Keyword keyword.Transition ∷ [])
@@ -148,8 +148,8 @@ head_spelled space t is rest =
     (both_spelled (codes "TRANSITION ") (transition_name t.name) (token.Keyword keyword.Transition ∷ []) (spelled.transition_name t.name) transition_word (named_transition t.name is.name))
     (prioritized t.priority is.priority))
     (side_spelled preceding (codes " TO " ++ side_text following ++ (10 ∷ rest)) (All-map IsName (step_name space) t.preceding is.preceding)
-    (some_mapped (step_name space) t.preceding is.some_preceding) (space_ends (codes "TO " ++ side_text following ++ (10 ∷ rest))))
-    (side_spelled following (10 ∷ rest) (All-map IsName (step_name space) t.following is.following) (some_mapped (step_name space) t.following is.some_following) (line_ends rest))
+    (some_mapped (step_name space) t.preceding is.some_preceding) (before_space (codes "TO " ++ side_text following ++ (10 ∷ rest))))
+    (side_spelled following (10 ∷ rest) (All-map IsName (step_name space) t.following is.following) (some_mapped (step_name space) t.following is.some_following) (before_line rest))
 
 pub transition_spelled : (space : Space) (t : Transition) → CanSpellTransition space t → SpellsAlways (transition_text space t) (transition_tokens (transition_tree space t))
 transition_spelled space t is =
@@ -159,7 +159,7 @@ transition_spelled space t is =
     (token.Delimiter sign.Assign ∷ tree_tokens (expression_tree space [] t.condition)) (token.Delimiter sign.Semicolon) (token.Keyword keyword.EndTransition)
     (head_spelled space t is)
     (λ rest. conditioned (expression_text space [] t.condition) (10 ∷ rest) (tree_tokens (expression_tree space [] t.condition))
-    (expression_spells space [] t.condition is.condition (59 ∷ 10 ∷ rest) (semicolon_ends (10 ∷ rest))))
+    (expression_spells space [] t.condition is.condition (59 ∷ 10 ∷ rest) (before_semicolon (10 ∷ rest))))
     end_transition
 
 -- ---- actions

@@ -39,7 +39,8 @@ use Rattle.sfc_list.specs.Values.{type_text, literal_text}
 use Rattle.sfc_list.specs.SpelledPlants.{CanSpellLocation, CanSpellVariable, CanSpellExternal}
 use Rattle.sfc_list.specs.WrittenTerms.{literal_tree}
 use Rattle.sfc_list.specs.WrittenVariables.{declaration_tree, type_of_global, external_tree, block_tree}
-use Rattle.sfc_list.proofs.SpelledLines.{SpellsAlways, SpellsLine, framed, each_line_spelled, named, space_ends, semicolon_ends, semicolon, colon_between, assign_between}
+use Rattle.sfc_list.proofs.SpelledBodies.{before_space, before_semicolon}
+use Rattle.sfc_list.proofs.SpelledLines.{SpellsAlways, SpellsLine, framed, each_line_spelled, named, semicolon, colon_between, assign_between}
 use Rattle.sfc_list.proofs.SpelledLiterals.{ends_word, ends_sharp, literal_spells}
 
 -- ---- types and locations
@@ -95,13 +96,13 @@ placed : (name : List ℕ) (place : Option Location) (rest : List ℕ) → IsNam
     → Spells (name ++ place_text place) ((token.Name name ∷ []) ++ place_tokens place) (32 ∷ rest)
 placed name place rest is at =
     joined name (place_text place) (32 ∷ rest) (token.Name name ∷ []) (place_tokens place)
-    (named name (place_text place ++ (32 ∷ rest)) is (place_ends place (32 ∷ rest) (space_ends rest))) (place_spelled place (32 ∷ rest) at (space_ends rest))
+    (named name (place_text place ++ (32 ∷ rest)) is (place_ends place (32 ∷ rest) (before_space rest))) (place_spelled place (32 ∷ rest) at (before_space rest))
 
 pub variable_spelled : (v : Variable) → CanSpellVariable v → SpellsAlways (variable_text v) (declaration_tokens (declaration_tree v))
 variable_spelled v is rest =
     declared (v.name ++ place_text v.location) (type_text v.var_type) (literal_text v.initial) rest ((token.Name v.name ∷ []) ++ place_tokens v.location)
     (type_word v.var_type) (literal_tokens (literal_tree v.initial)) (λ others. placed v.name v.location others is.name is.location)
-    (λ others. type_spelled v.var_type (32 ∷ others) (space_ends others)) (literal_spells v.initial (59 ∷ rest) is.initial (semicolon_ends rest))
+    (λ others. type_spelled v.var_type (32 ∷ others) (before_space others)) (literal_spells v.initial (59 ∷ rest) is.initial (before_semicolon rest))
 
 -- ---- externals
 
@@ -110,7 +111,7 @@ typed_name : (name t rest : List ℕ) (k : Keyword) → IsName name → Spells t
 typed_name name t rest k is h =
     joined (name ++ codes " : " ++ t) (codes ";") rest (token.Name name ∷ token.Delimiter sign.Colon ∷ token.Keyword k ∷ []) (token.Delimiter sign.Semicolon ∷ [])
     (joined (name ++ codes " : ") t (59 ∷ rest) (token.Name name ∷ token.Delimiter sign.Colon ∷ []) (token.Keyword k ∷ [])
-    (joined name (codes " : ") (t ++ (59 ∷ rest)) (token.Name name ∷ []) (token.Delimiter sign.Colon ∷ []) (named name (codes " : " ++ (t ++ (59 ∷ rest))) is (space_ends (codes ": " ++ (t ++ (59 ∷ rest)))))
+    (joined name (codes " : ") (t ++ (59 ∷ rest)) (token.Name name ∷ []) (token.Delimiter sign.Colon ∷ []) (named name (codes " : " ++ (t ++ (59 ∷ rest))) is (before_space (codes ": " ++ (t ++ (59 ∷ rest)))))
     (colon_between (t ++ (59 ∷ rest)))) h) (semicolon rest)
 
 not_found : (vs : List Variable) (place : ℕ) → place < length vs → slice_get vs place ≡ None → ⊥
@@ -131,7 +132,7 @@ pub external_spelled : (globals : List Variable) (p : ProgramType) (id : GlobalI
     → SpellsAlways (external_text (space_in globals p) id) (external_tokens (external_tree globals id))
 external_spelled globals p id is rest =
     typed_name (name_at (names_of globals) id.0) (external_type (slice_get globals id.0)) rest (type_word (type_of_global (slice_get globals id.0))) is.name
-    (global_type globals id.0 is.is_global (59 ∷ rest) (semicolon_ends rest))
+    (global_type globals id.0 is.is_global (59 ∷ rest) (before_semicolon rest))
 
 -- ---- blocks
 
