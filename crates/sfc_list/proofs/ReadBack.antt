@@ -1,8 +1,7 @@
 -- The listing of a plant that a text loads as loads as that plant.
-use Rattle.std.proofs.Common.{◌≡◌, ◌≤◌, ℕ, List, [], length, All, None, Ok, subst, sym}
-use Rattle.sfc_tokens.specs.declared.token.TokenKind.{TokenKind}
+use Rattle.std.proofs.Common.{◌≡◌, ◌≤◌, ℕ, List, [], length, All, None, Ok, subst}
 use Rattle.sfc_tokens.specs.Spelling.{CanStand}
-use Rattle.sfc_tokens.specs.Texts.{longest, TextScans}
+use Rattle.sfc_tokens.specs.Texts.{longest}
 use Rattle.sfc_tokens.specs.Tokens.{Kinds}
 use Rattle.sfc_tokens.proofs.Spellings.{text_scans}
 use Rattle.sfc_tokens.proofs.Standing.{tokens_stand}
@@ -10,7 +9,6 @@ use Rattle.sfc_text.specs.Limits.{ours}
 use Rattle.sfc_text.specs.Reads as reads
 use Rattle.sfc_text.specs.Reads.{IsSource, TextReads}
 use Rattle.sfc_text.specs.SpelledSources.{source_tokens, KeepsSource}
-use Rattle.sfc_text.specs.Declares.{OfSource}
 use Rattle.sfc_text.specs.Trees.{SourceTree}
 use Rattle.sfc_text.proofs.Declaring.{declares}
 use Rattle.sfc_text.proofs.Keeping.{keeps}

@@ -1,8 +1,7 @@
 -- A chart whose text declares names, priorities and locations that can stand in a text can be spelled.
-use Rattle.std.proofs.Common.{◌≡◌, ℕ, suc, ◌<◌, ◌≤◌, ◌^◌, ℤ, pos, negsuc, neg_ℤ, ◌≤ℤ◌, unsigned_abs, false, List, [], ◌∷◌, length, map, All, Option, Some, None, refl, arith}
+use Rattle.std.proofs.Common.{◌≡◌, ℕ, ◌<◌, ◌≤◌, ◌^◌, ℤ, pos, negsuc, neg_ℤ, ◌≤ℤ◌, unsigned_abs, false, List, [], ◌∷◌, length, map, All, Option, Some, None, arith}
 use Rattle.std.proofs.lemmas.Int.{ints}
 use Rattle.std.specs.Prelude.{⊤}
-use Rattle.std.proofs.lemmas.List.{length-map}
 use Rattle.std.proofs.lemmas.List.Elements.{All-nil, All-cons, All-head, All-tail, All-map, All-weaker}
 use Rattle.sfc_tokens.specs.Durations.{greatest}
 use Rattle.sfc_tokens.specs.Names.{IsName}
@@ -15,7 +14,6 @@ use Rattle.sfc_text.specs.Declares.{OfOptional, OfName, OfTransition, OfElement}
 use Rattle.sfc_text.specs.Lists.{is_empty}
 use Rattle.sfc_text.specs.Trees.{TransitionTree, ActionTree, ElementTree, AStep, ATransition, AnAction}
 use Rattle.sfc_expr.specs.declared.value.Value.TheVariants as value
-use Rattle.sfc_expr.specs.declared.variable.Variable as expr
 use Rattle.sfc_expr.specs.declared.variable.StepId.{StepId}
 use Rattle.sfc_expr.specs.Trees.{Literal, Nothing}
 use Rattle.sfc_expr.specs.Checking.{checked, checked_body}
@@ -26,11 +24,11 @@ use Rattle.sfc_tables.specs.declared.association.Time.{Time}
 use Rattle.sfc_tables.specs.declared.association.Time.TheVariants as time
 use Rattle.sfc_tables.specs.declared.association.Qualifier.{Qualifier}
 use Rattle.sfc_tables.specs.declared.association.Qualifier.TheVariants as qualifier
-use Rattle.sfc_tables.specs.Chart.{IsVariable, IsTime, IsAssociationTime, IsQualifier, IsTarget, IsAssociation}
+use Rattle.sfc_tables.specs.Chart.{IsVariable, IsAssociationTime, IsQualifier, IsTarget}
 use Rattle.sfc_program.specs.Elements.{steps_of, transitions_of, actions_of}
 use Rattle.sfc_program.specs.Loading.{side_check, association_check, step_check, transition_check, action_check, chart_check}
 use Rattle.sfc_program.specs.Names.{Space, names_in}
-use Rattle.sfc_program.specs.Built.{association_of, step_of, step_id, step_ids, transition_of, action_of, chart_of}
+use Rattle.sfc_program.specs.Built.{association_of, step_of, step_ids, transition_of, action_of, chart_of}
 use Rattle.sfc_program.proofs.Soundness.{then_first, then_second, counts, association_sound, side_sound}
 use Rattle.sfc_list.specs.Charts.{target_text}
 use Rattle.sfc_list.specs.SpelledTexts.{AreNames, AreBodyNames}

@@ -1,8 +1,6 @@
 -- A plant that was loaded of a text can be spelled.
-use Rattle.std.proofs.Common.{◌≡◌, ℕ, nat_lt, not, ◌<◌, ◌≤◌, ◌^◌, ℤ, pos, neg_ℤ, ◌≤ℤ◌, Bool, true, false, List, [], ◌∷◌, ◌++◌, length, map, flat_map, filter_map, All, Option, Some, None, unwrap_or, slice_get, IfOk, IsTrue, refl, sym, ap, ◌∙◌, subst, append_assoc, arith}
+use Rattle.std.proofs.Common.{◌≡◌, ℕ, nat_lt, not, ◌<◌, ◌^◌, ℤ, pos, neg_ℤ, ◌≤ℤ◌, List, [], ◌∷◌, ◌++◌, length, map, flat_map, filter_map, All, Option, Some, None, unwrap_or, refl, sym, ap, ◌∙◌, subst, append_assoc, arith}
 use Rattle.std.proofs.lemmas.Int.{ints}
-use Rattle.std.specs.Option.{option_map}
-use Rattle.std.specs.Prelude.{⊤}
 use Rattle.std.proofs.lemmas.List.{length-map}
 use Rattle.std.proofs.lemmas.List.Elements.{All-nil, All-cons, All-head, All-tail, All-append, All-map, All-weaker}
 use Rattle.std.proofs.lemmas.Simd.{map-map}
@@ -19,7 +17,7 @@ use Rattle.sfc_text.specs.declared.tree.Literal.{Literal}
 use Rattle.sfc_text.specs.declared.tree.Task as text_task
 use Rattle.sfc_text.specs.declared.tree.VariableBlock.{VariableBlock}
 use Rattle.sfc_text.specs.declared.tree.VariableBlock.TheVariants as block
-use Rattle.sfc_text.specs.Declares.{OfOptional, OfName, OfDeclaration, OfVariables, OfElement, OfProgram, OfTask, OfConfiguration, OfSource}
+use Rattle.sfc_text.specs.Declares.{OfOptional, OfName, OfDeclaration, OfVariables, OfElement, OfProgram, OfTask, OfSource}
 use Rattle.sfc_text.specs.Limits.{Limits}
 use Rattle.sfc_text.specs.SpelledCharts.{KeepsElement}
 use Rattle.sfc_text.specs.SpelledSources.{KeepsProgram, KeepsSource}
@@ -27,7 +25,6 @@ use Rattle.sfc_text.specs.Trees.{ElementTree, AStep, ATransition, AnAction, Prog
 use Rattle.sfc_expr.specs.declared.variable.GlobalId.{GlobalId}
 use Rattle.sfc_expr.specs.declared.variable.Variable.TheVariants.{Global}
 use Rattle.sfc_expr.specs.Checking.{checked_literal}
-use Rattle.sfc_expr.specs.NameLists.{place_of}
 use Rattle.sfc_expr.specs.Types.{IsOf}
 use Rattle.sfc_expr.specs.Values.{default_value}
 use Rattle.sfc_expr.proofs.CheckedTypes.{literal_of}
@@ -40,13 +37,12 @@ use Rattle.sfc_variables.specs.Finding.{names_of, variable_place, typed_at}
 use Rattle.sfc_variables.specs.Own.{Own, ALocal, AnExternal, own_in, named_by, own_name, own_names, local_in, external_check, kind_check, variables_check}
 use Rattle.sfc_variables.specs.Places.{fits_location}
 use Rattle.sfc_program.specs.declared.program_type.ProgramType.{ProgramType}
-use Rattle.sfc_program.specs.Elements.{steps_of, actions_of, step_names, action_names}
-use Rattle.sfc_program.specs.Loading.{limits_check, distinct_check, element_names, initial_check as has_initial_check, space_of, chart_check, program_check}
+use Rattle.sfc_program.specs.Elements.{step_names, action_names}
+use Rattle.sfc_program.specs.Loading.{limits_check, distinct_check, element_names, initial_check as has_initial_check, space_of, program_check}
 use Rattle.sfc_program.specs.Names.{Space, space_in}
 use Rattle.sfc_program.specs.Built.{program_of}
 use Rattle.sfc_program.proofs.Soundness.{then_first, then_second, in_turn_passes, place_below}
 use Rattle.sfc_chart.specs.declared.task.Task.{Task}
-use Rattle.sfc_chart.specs.declared.instance.Instance.{Instance}
 use Rattle.sfc_chart.specs.Plants.{PlantData}
 use Rattle.sfc_chart.specs.Loading.{task_name, task_check, tasks_check, program_name, programs_check, instance_name, instance_check, instances_check, task_names, program_names}
 use Rattle.sfc_chart.specs.Built.{task_of, instance_of, source_check, plant_of}

@@ -1,13 +1,12 @@
 -- Each name in an expression or in statements that were loaded is one, and each value is in the range of its type.
-use Rattle.std.proofs.Common.{◌≡◌, ◌<◌, ◌&&◌, ℕ, List, [], length, map, All, Bool, true, false, cond, Option, Some, None, IfSome, Ok, Err, IfOk, unwrap_or, refl, sym, ap, subst, ◌∙◌}
+use Rattle.std.proofs.Common.{◌≡◌, ◌<◌, ◌&&◌, ℕ, List, [], length, All, Bool, true, false, cond, Option, Some, None, IfSome, Ok, IfOk, unwrap_or, refl, subst}
 use Rattle.std.specs.Option.{option_map}
-use Rattle.std.specs.Prelude.{⊤, codes}
+use Rattle.std.specs.Prelude.{codes}
 use Rattle.std.proofs.lemmas.List.{length-map}
 use Rattle.sfc_tokens.specs.Case.{same_word}
 use Rattle.sfc_tokens.specs.Names.{IsName}
 use Rattle.sfc_tokens.specs.declared.var_type.VarType.{VarType}
 use Rattle.sfc_tokens.specs.declared.var_type.VarType.TheVariants as types
-use Rattle.sfc_text.specs.declared.tree.Literal as text_literal
 use Rattle.sfc_text.specs.Declares.{OfOptional}
 use Rattle.sfc_text.specs.Trees as text
 use Rattle.sfc_expr.specs.declared.referent.Referent.{Referent}
@@ -15,9 +14,8 @@ use Rattle.sfc_expr.specs.declared.referent.Referent.TheVariants as referent
 use Rattle.sfc_expr.specs.declared.variable.Variable.{Variable}
 use Rattle.sfc_expr.specs.declared.variable.Variable.TheVariants.{Global, Local}
 use Rattle.sfc_expr.specs.declared.variable.StepId.{StepId}
-use Rattle.sfc_expr.specs.declared.value.Value.{Value}
 use Rattle.sfc_expr.specs.Types.{IsOf, integer_type}
-use Rattle.sfc_expr.specs.Trees.{Expression, Body, Branches}
+use Rattle.sfc_expr.specs.Trees.{Body, Branches}
 use Rattle.sfc_expr.specs.NameLists.{place_of}
 use Rattle.sfc_expr.specs.Scopes.{Names, found, of_variable, of_step, referent_of, type_of_referent, reading_of}
 use Rattle.sfc_expr.specs.Families.{operator_of, family_of}

@@ -1,6 +1,6 @@
 -- The tree that a listing spells of a plant keeps to the limits of the tree that was loaded: it has its shapes.
-use Rattle.std.proofs.Common.{◌≡◌, ℕ, suc, ◌<◌, ◌≤◌, Bool, false, nat_lt, List, [], ◌∷◌, ◌++◌, length, map, All, Option, None, Some, refl, sym, ap, ◌∙◌, subst, arith}
-use Rattle.std.specs.Prelude.{max, ⊤}
+use Rattle.std.proofs.Common.{◌≡◌, ℕ, suc, ◌≤◌, false, nat_lt, List, [], ◌∷◌, map, All, Option, None, Some, refl, sym, ap, ◌∙◌, subst}
+use Rattle.std.specs.Prelude.{max}
 use Rattle.std.proofs.lemmas.List.Elements.{All-nil, All-cons, All-head, All-tail, All-append, All-map, All-weaker}
 use Rattle.std.proofs.lemmas.Simd.{map-map}
 use Rattle.sfc_tokens.specs.declared.location.Location.{Location}
@@ -13,7 +13,7 @@ use Rattle.sfc_text.specs.Trees.{Tree, Block, TransitionTree, ElementTree, AStep
 use Rattle.sfc_text.specs.Spelled.{tighter, level, is_looser, deeper, nesting}
 use Rattle.sfc_text.specs.SpelledStatements.{IsBody, AreBranches, AreOthers, block_nesting, most_operators}
 use Rattle.sfc_text.specs.SpelledCharts.{KeepsElement}
-use Rattle.sfc_text.specs.SpelledSources.{AreDeclared, IsDeclaration, IsExternal, AreVariables, KeepsProgram, IsConfiguration, KeepsSource}
+use Rattle.sfc_text.specs.SpelledSources.{AreDeclared, IsDeclaration, IsExternal, AreVariables, KeepsProgram, KeepsSource}
 use Rattle.sfc_expr.specs.declared.variable.GlobalId.{GlobalId}
 use Rattle.sfc_variables.specs.declared.variable.Variable.{Variable}
 use Rattle.sfc_program.specs.declared.program_type.ProgramType.{ProgramType}
@@ -168,7 +168,8 @@ module _ (limits : Limits) where
 
   condition_by_shape : (e : Tree) → KeepsCondition (shape e) → KeepsCondition e
   condition_by_shape e h = (
-    subst (λ n. n ≤ limits.depth) (nesting_by_shape e) h.0, subst (λ n. n ≤ limits.operators) (operators_by_shape e) h.1,
+    subst (λ n. n ≤ limits.depth) (nesting_by_shape e) h.0,
+    subst (λ n. n ≤ limits.operators) (operators_by_shape e) h.1,
   )
 
   statements_shaped : (b : Block) → KeepsBody b → KeepsBody (block_shape b)

@@ -1,5 +1,6 @@
 -- The tokens that spell a whole text: variables (2.4.3), program types (2.5.3), and the configuration (2.7).
-use Rattle.std.specs.Prelude.{◌≡◌, ℕ, ℤ, pos, List, [], ◌∷◌, ◌++◌, false, flat_map, Option, Some, None, All, ⊤, codes, if◌then◌else◌}
+use Rattle.std.specs.Prelude.{◌≡◌, ℕ, ℤ, pos, List, [], ◌∷◌, ◌++◌, false, flat_map}
+use Rattle.std.specs.Prelude.{Option, Some, None, All, ⊤, codes, if◌then◌else◌}
 use Rattle.std.specs.Ordering.{int_eq}
 use Rattle.sfc_tokens.specs.declared.delimiter.Delimiter.TheVariants as sign
 use Rattle.sfc_tokens.specs.declared.keyword.Keyword.{Keyword}
