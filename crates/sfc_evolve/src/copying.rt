@@ -6,7 +6,7 @@ ghost use Rattle.sfc_expr.specs.Ticks.{Within};
 use sfc_expr::ticks::Ticks;
 use sfc_flags::flags::Flags;
 
-/// Takes over the flags of two tables. A tick for each of the places is to be counted elsewhere.
+/// Takes over the flags of two tables. What is copied of a step is one tick, which `copy_times` counts.
 pub fn copy_flags(active: &mut Flags, on: &mut Flags, from_active: &Flags, from_on: &Flags)
     requires on_len { length on.old ≡ length active.old }
     requires from_active_len { length from_active.now ≡ length active.old }

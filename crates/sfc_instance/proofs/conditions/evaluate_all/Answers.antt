@@ -1,4 +1,4 @@
-use Rattle.std.proofs.Common.{◌≡◌, ◌<◌, ◌≤◌, ◌+◌, suc, arith, length, get_or, drop, Bool, false, List, Ok, refl, sym, subst, ap, ◌∙◌}
+use Rattle.std.proofs.Common.{◌≡◌, ◌<◌, ◌+◌, suc, arith, length, get_or, slice_set, drop, ℕ, Bool, false, List, [], ◌∷◌, Ok, refl, sym, ap, ◌∙◌}
 use Rattle.std.proofs.lemmas.List.{length-replicate, length-set, length-drop}
 use Rattle.sfc_flags.specs.Flags.{flag, places_from, places_passed}
 use Rattle.sfc_tables.specs.declared.ids.TransitionId.{TransitionId}
@@ -12,6 +12,9 @@ use Rattle.sfc_evolve.proofs.Listed.{listed}
 use Rattle.sfc_evolve.proofs.Next.{none_set}
 use Rattle.sfc_evolve.proofs.Placed.{ranks_long}
 use Rattle.sfc_evolve.proofs.TableFacts.{ranked_at}
+use Rattle.sfc_instance.specs.ProgramScan.{condition_fault}
+use Rattle.sfc_instance.specs.Private.Evaluating.{test_work}
+use Rattle.sfc_evolve.specs.Evolution.{transition_count}
 use Rattle.sfc_instance.proofs.Candidates.{fault_is, none_other, flag_next, fault_next, work_covers, work_left}
 use Rattle.sfc_instance.proofs.conditions.evaluate_all.Goals as goal
 
@@ -53,3 +56,124 @@ candidates-init g c =
       rises = omega arith;
       ticks = omega arith;
     }
+
+pub bounds-conditions-transition : goal.bounds-conditions-transition
+bounds-conditions-transition g c =
+    let tables = c.args.setting.tables.now in
+    let long = ranks_long tables c.ranked-ranked.ensures.tables in
+    let same = ap (λ (l : List TransitionId). length l) c.ranked-ranked.ensures.value in
+    let lt = ranked_at tables c.ranked-ranked.ensures.tables c.ranked-ranked.result.now c.ranked-ranked.ensures.value c.in-Some.j
+    record { 0 = 0 }
+    (omega (arith, long, same, c.in-Some.ensures.some, c.candidates-candidates.ensures.len, c.requires.sizes.same_transitions)) in
+    let cleared = ap (λ (l : List Bool). length l) c.clear.ensures ∙ length-replicate (length c.args.conditions.now) false in
+    omega (arith, lt, cleared, c.candidates.invariant.len, c.requires.len)
+
+pub overflow_cast-conditions : goal.overflow_cast-conditions
+overflow_cast-conditions g c =
+    let tables = c.args.setting.tables.now in
+    let sound = c.ranked-ranked.ensures.tables in
+    let long = ranks_long tables sound in
+    let same = ap (λ (l : List TransitionId). length l) c.ranked-ranked.ensures.value in
+    let lt = ranked_at tables sound c.ranked-ranked.result.now c.ranked-ranked.ensures.value c.in-Some.j record { 0 = 0 }
+    (omega (arith, long, same, c.in-Some.ensures.some, c.candidates-candidates.ensures.len, c.requires.sizes.same_transitions)) in
+    omega (arith, lt, sound.transition_limit)
+
+pub returns-in_err-conditions-clause-ticks : goal.returns-in_err-conditions-clause-ticks
+returns-in_err-conditions-clause-ticks g c =
+    let tables = c.args.setting.tables.now in
+    let chart = c.args.setting.chart.now in
+    let at = c.candidates.at in
+    let j = c.in-Some.j in
+    let d : TransitionId = record { 0 = 0 } in
+    let long = ranks_long tables c.ranked-ranked.ensures.tables in
+    let lt : j < length tables.ranked =
+    omega (arith, long, c.in-Some.ensures.some, c.candidates-candidates.ensures.len, c.requires.sizes.same_transitions) in
+    let left = work_left tables chart tables.ranked at j d (omega (arith, c.in-Some.ensures.some)) lt in
+    let here = ap (λ (l : List TransitionId). test_work tables chart (get_or l j d)) c.ranked-ranked.ensures.value in (
+      omega (arith, c.in-Some.ensures.ticks, c.evaluate.ensures.ticks, c.candidates.invariant.rises),
+      omega (arith, left, here, c.in-Some.ensures.ticks, c.evaluate.ensures.ticks, c.candidates.invariant.ticks),
+    )
+
+pub candidates-preserved : goal.candidates-preserved
+candidates-preserved g c =
+    let tables = c.args.setting.tables.now in
+    let chart = c.args.setting.chart.now in
+    let env = g.V.View.environment c.args.view.now in
+    let at = c.candidates.at in
+    let j = c.in-Some.j in
+    let x = c.in_ok-conditions.field-0 in
+    let d : TransitionId = record { 0 = 0 } in
+    let t = get_or c.ranked-ranked.result.now j d in
+    let u = get_or tables.ranked j d in
+    let s : suc j ≡ j + 1 = omega arith in
+    let same : t ≡ u = ap (λ (l : List TransitionId). get_or l j d) c.ranked-ranked.ensures.value in
+    let flags = c.candidates-candidates.result.now in
+    let rest = at_places tables.ranked (places_from flags (j + 1)) in
+    let next : places_from flags at ≡ j ∷ places_from flags (j + 1) = c.in-Some.ensures.some.2 in
+    let long = ranks_long tables c.ranked-ranked.ensures.tables in
+    let lt : j < length tables.ranked =
+    omega (arith, long, c.in-Some.ensures.some, c.candidates-candidates.ensures.len, c.requires.sizes.same_transitions) in
+    let below : u.0 < length tables.sides = ranked_at tables c.ranked-ranked.ensures.tables tables.ranked refl j d lt in
+    let cleared = ap (λ (l : List Bool). length l) c.clear.ensures ∙ length-replicate (length c.args.conditions.now) false in
+    let inside : u.0 < length c.candidates.conditions = omega (arith, below, cleared, c.candidates.invariant.len, c.requires.len) in
+    let is : (life : Life) → StepsAgree tables c.args.steps.now (evolution_scans life) → Ok x ≡ evaluated tables chart env life u.0 =
+    λ life h. c.in_ok-conditions.ensures.value life h ∙ ap (λ (y : TransitionId). evaluated tables chart env life y.0) same in
+    let left = work_left tables chart tables.ranked at j d (omega (arith, c.in-Some.ensures.some)) lt in
+    let here = ap (λ (y : TransitionId). test_work tables chart y) same in
+    record {
+      len = length-set c.candidates.conditions _ _ ∙ c.candidates.invariant.len;
+      faults = λ life h.
+          c.candidates.invariant.faults life h
+          ∙ ap (λ (ps : List ℕ). condition_fault tables chart env life (at_places tables.ranked ps)) next
+          ∙ fault_next tables chart env life u rest x (is life h);
+      flags = λ life h tr less apart.
+          ap (λ (y : TransitionId). flag (slice_set c.candidates.conditions y.0 x) tr) same
+          ∙ flag_next tables chart env life u rest c.candidates.conditions x tr inside (is life h)
+          (λ off. c.candidates.invariant.flags life h tr less
+          (ap (λ (ps : List ℕ). is_among (at_places tables.ranked ps) tr) next ∙ off)) apart;
+      within = omega (arith, c.in-Some.ensures.some);
+      rises = omega (arith, c.in-Some.ensures.ticks, c.evaluate.ensures.ticks, c.candidates.invariant.rises);
+      ticks =
+          omega (
+            arith,
+            left,
+            here,
+            ap (λ k. condition_work tables chart (drop k tables.ranked)) s,
+            c.in-Some.ensures.ticks,
+            c.evaluate.ensures.ticks,
+            c.candidates.invariant.ticks,
+          );
+    }
+
+pub returns-clause-flags : goal.returns-clause-flags
+returns-clause-flags g c life h =
+    let tables = c.args.setting.tables.now in
+    let chart = c.args.setting.chart.now in
+    let env = g.V.View.environment c.args.view.now in
+    let none : places_from c.candidates-candidates.result.now c.candidates.at ≡ [] = c.in_default.ensures.none refl in
+    let cleared = ap (λ (l : List Bool). length l) c.clear.ensures ∙ length-replicate (length c.args.conditions.now) false in
+    listed (condition_flag tables chart env life) (transition_count tables) c.candidates.conditions
+    (c.candidates.invariant.len ∙ cleared ∙ c.requires.len)
+    (λ tr lt. c.candidates.invariant.flags life h tr lt (ap (λ (ps : List ℕ). is_among (at_places tables.ranked ps) tr) none))
+
+pub returns-clause-ticks : goal.returns-clause-ticks
+returns-clause-ticks g c =
+    let tables = c.args.setting.tables.now in
+    let chart = c.args.setting.chart.now in
+    let at = c.candidates.at in
+    let long = ranks_long tables c.ranked-ranked.ensures.tables in
+    let passed = ap (places_passed (length c.candidates-candidates.result.now) at) c.in_default.is in
+    let covers = work_covers tables chart (drop at tables.ranked) in (
+      omega (arith, c.next_set.ensures.ticks, c.candidates.invariant.rises),
+      omega (
+        arith,
+        passed,
+        c.next_set.ensures.ticks,
+        covers,
+        long,
+        c.candidates-candidates.ensures.len,
+        c.requires.sizes.same_transitions,
+        c.candidates.invariant.ticks,
+        length-drop at tables.ranked,
+      ),
+    )
