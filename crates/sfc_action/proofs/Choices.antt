@@ -1,21 +1,6 @@
 -- Facts on Booleans.
 use Rattle.std.proofs.Common.{◌≡◌, Bool, true, false, not, ◌&&◌, ◌||◌, refl, ◌∙◌}
 
--- what contributes to Q, one after another, and R taken away
-pub contributed : (r n s l d p sd ds sl : Bool)
-    → ((((((((n || s) || l) || d) || p) || sd) || ds) || sl) && not r)
-    ≡ (not r && (n || s || l || d || p || sd || ds || sl))
-contributed true n s l d p sd ds sl = never (((((((n || s) || l) || d) || p) || sd) || ds) || sl)
-  where
-    never : (b : Bool) → (b && false) ≡ false
-    never true = refl
-    never false = refl
-contributed false n s l d p sd ds sl = all (((((((n || s) || l) || d) || p) || sd) || ds) || sl) ∙ turn n s l d p sd ds sl
-  where
-    all : (b : Bool) → (b && true) ≡ b
-    all true = refl
-    all false = refl
-
     turn : (n s l d p sd ds sl : Bool)
         → (((((((n || s) || l) || d) || p) || sd) || ds) || sl) ≡ (n || s || l || d || p || sd || ds || sl)
     turn true s l d p sd ds sl = refl

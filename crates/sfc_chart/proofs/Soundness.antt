@@ -46,7 +46,7 @@ single_sound globals (Some name) e = place_sound globals (variable_place globals
 not_negative : (t : ℤ) → int_lt t (pos 0) ≡ false → pos 0 ≤ℤ t
 not_negative t e = search rules
 
-task_sound : (globals : List Variable) (before : List (List ℕ)) (t : text_task.Task) → task_check globals before t ≡ None → IsTask (length globals) (task_of globals t)
+pub task_sound : (globals : List Variable) (before : List (List ℕ)) (t : text_task.Task) → task_check globals before t ≡ None → IsTask (length globals) (task_of globals t)
 task_sound globals before t e =
     let after_name = then_second (when (has before t.name) fault.Duplicate) _ e in
     let interval = then_second (single_check globals t.single) _ after_name in
@@ -97,7 +97,7 @@ task_below : (tasks : List (List ℕ)) (name : Option (List ℕ)) (i : ℕ) → 
 task_below tasks None i e = cc
 task_below tasks (Some name) i e = place_below name tasks i e
 
-instance_sound : (tasks programs before : List (List ℕ)) (i : text_instance.Instance) → instance_check tasks programs before i ≡ None
+pub instance_sound : (tasks programs before : List (List ℕ)) (i : text_instance.Instance) → instance_check tasks programs before i ≡ None
     → IsInstance (length tasks) (length programs) (instance_of tasks programs i)
 instance_sound tasks programs before i e =
     let named = then_second (when (has before i.name) fault.Duplicate) _ e in

@@ -8,6 +8,8 @@ pub mod Image
 pub mod Loading
 -- the plant that a text without fault is
 pub mod Built
+-- texts that load as a plant
+pub mod Accepted
 -- what holds of each plant that was loaded
 pub mod Sound
 -- what a name stands for in a plant

@@ -78,8 +78,8 @@ impl Steps {
         self.active.get(step.0 as usize)
     }
 
-    /// One scan at t, with the condition of each transition in text order; those of transitions that aren't enabled
-    /// don't matter. It takes no memory.
+    /// One scan at t, in microseconds from 0 to 2^62, with the condition of each transition in text order; those of
+    /// transitions that aren't enabled don't matter (2.6.5). It takes no memory.
     pub fn advance(&mut self, tables: &Tables, conditions: &[bool], t: i64, ticks: &mut Ticks)
         requires sizes { IsFor tables.now self.old }
         requires conditions { length conditions.now ≡ length tables.now.sides }
@@ -161,8 +161,8 @@ impl Steps {
         }
     }
 
-    /// Works out the times of all steps at t: those of steps that aren't active are what they kept, so that only active
-    /// ones are handled (2.6.2). It takes no memory.
+    /// Works out the times of all steps at t, in microseconds from 0 to 2^62: those of steps that aren't active are what
+    /// they kept, so that only active ones are handled (2.6.2). It takes no memory.
     pub fn measure(&mut self, t: i64, ticks: &mut Ticks)
         requires low { pos 0 ≤ℤ t }
         requires high { t ≤ℤ pos (2 ^ 62) }

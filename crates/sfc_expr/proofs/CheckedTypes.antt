@@ -74,7 +74,7 @@ integer_of n types.Time = tt
 number_of : (t u : VarType) (n : ℤ) → IfOk (if_wanted t u (fitting t n)) (IsOf u)
 number_of t u n = wanted t u (IsOf u) (fitting t n) (λ e. subst (λ (z : VarType). IfOk (fitting t n) (IsOf z)) e (fitting_of t n))
 
-literal_of : (l : text_literal.Literal) (t : VarType) → IfOk (checked_literal l t) (IsOf t)
+pub literal_of : (l : text_literal.Literal) (t : VarType) → IfOk (checked_literal l t) (IsOf t)
 literal_of (literal.Integer n) t = integer_of n t
 literal_of (literal.Int n) t = number_of types.Int t n
 literal_of (literal.Dint n) t = number_of types.Dint t n

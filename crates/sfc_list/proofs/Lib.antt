@@ -20,3 +20,14 @@ pub mod WrittenLimits
 pub mod SpelledLiterals
 pub mod SpelledExpressions
 pub mod SpelledBodies
+pub mod WrittenKeeping
+pub mod SpellableTerms
+pub mod SpellableCharts
+pub mod SpellablePlants
+pub mod SpelledLines
+pub mod SpelledSteps
+pub mod SpelledTransitions
+pub mod SpelledVariables
+pub mod SpelledPrograms
+pub mod SpelledConfigurations
+pub mod ReadBack

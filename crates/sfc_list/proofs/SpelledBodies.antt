@@ -31,7 +31,7 @@ use Rattle.sfc_list.proofs.SpelledExpressions.{expression_spells}
 
 -- ---- lines
 
-indented : (level : ℕ) (text rest : List ℕ) (ts : List TokenKind) → Spells text ts rest → Spells (indent level ++ text) ts rest
+pub indented : (level : ℕ) (text rest : List ℕ) (ts : List TokenKind) → Spells text ts rest → Spells (indent level ++ text) ts rest
 unfolding class_of
 indented zero text rest ts h = h
 indented (suc level) text rest ts h = spelling.space refl (spelling.space refl (indented level text rest ts h))
@@ -56,11 +56,11 @@ semicolon_spells : (more rest : List ℕ) (ts : List TokenKind) → Spells more 
 unfolding class_of
 semicolon_spells more rest ts h = spelling.one {w = 59 ∷ []} {text = 10 ∷ more} (sign_spells sign.Semicolon (10 ∷ (more ++ rest)) refl) (spelling.space refl h)
 
-before_semicolon : (rest : List ℕ) → Ends alphabet.Location (59 ∷ rest)
+pub before_semicolon : (rest : List ℕ) → Ends alphabet.Location (59 ∷ rest)
 unfolding class_of
 before_semicolon rest = refl
 
-before_space : (rest : List ℕ) → Ends alphabet.Location (32 ∷ rest)
+pub before_space : (rest : List ℕ) → Ends alphabet.Location (32 ∷ rest)
 unfolding class_of
 before_space rest = refl
 

@@ -96,7 +96,7 @@ at_prefix space own _ = refl
 -- ---- what an expression begins with
 
 -- a `(` before this text is no start of a comment
-abbrev Opens : List ℕ → Type 0
+abbrev pub Opens : List ℕ → Type 0
 Opens text = look_ahead sign.Open (first_class text) ≡ look_ahead sign.Close (first_class text)
 
 word_first : (k : Class) → starts_word k ≡ true → look_ahead sign.Open k ≡ look_ahead sign.Close k
@@ -111,7 +111,7 @@ name_first (b ∷ w) rest is =
     let worded = both (starts_word (class_of b) && list_all (has alphabet.Word) (b ∷ w)) (is_spaced (b ∷ w)) named.0 in
     word_first (class_of b) (both (starts_word (class_of b)) (list_all (has alphabet.Word) (b ∷ w)) worded.0).0
 
-name_part_first : (w part rest : List ℕ) → IsName w → Opens ((w ++ part) ++ rest)
+pub name_part_first : (w part rest : List ℕ) → IsName w → Opens ((w ++ part) ++ rest)
 name_part_first w part rest is = subst (λ (x : List ℕ). Opens x) (sym (append_assoc w part rest)) (name_first w (part ++ rest) is)
 
 literal_first : (v : Value) (rest : List ℕ) → Opens (literal_text v ++ rest)

@@ -55,11 +55,11 @@ pub ends_word : (rest : List ℕ) → Ends alphabet.Location rest → Ends alpha
 ends_word [] e = e
 ends_word (b ∷ rest) e = word_in (class_of b) e
 
-ends_number : (rest : List ℕ) → Ends alphabet.Location rest → Ends alphabet.Number rest
+pub ends_number : (rest : List ℕ) → Ends alphabet.Location rest → Ends alphabet.Number rest
 ends_number [] e = e
 ends_number (b ∷ rest) e = number_in (class_of b) e
 
-ends_interval : (rest : List ℕ) → Ends alphabet.Location rest → Ends alphabet.Interval rest
+pub ends_interval : (rest : List ℕ) → Ends alphabet.Location rest → Ends alphabet.Interval rest
 ends_interval [] e = e
 ends_interval (b ∷ rest) e = interval_in (class_of b) e
 

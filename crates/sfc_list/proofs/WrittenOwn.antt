@@ -160,7 +160,7 @@ parted_alike (AnExternal n t ∷ xs) = λ name.
 abbrev Passes : List Variable → Own → Type 0
 Passes globals o = kind_check globals o ≡ None
 
-locals_pass : (globals : List Variable) (xs : List Own) → All (Passes globals) xs
+pub locals_pass : (globals : List Variable) (xs : List Own) → All (Passes globals) xs
     → All (λ d. declared_check d ≡ None) (filter_map local_in xs)
 locals_pass globals [] h = All-nil (λ d. declared_check d ≡ None)
 locals_pass globals (ALocal d ∷ xs) h =
@@ -168,7 +168,7 @@ locals_pass globals (ALocal d ∷ xs) h =
     (locals_pass globals xs (All-tail (Passes globals) (ALocal d) xs h))
 locals_pass globals (AnExternal name t ∷ xs) h = locals_pass globals xs (All-tail (Passes globals) (AnExternal name t) xs h)
 
-externals_pass : (globals : List Variable) (xs : List Own) → All (Passes globals) xs
+pub externals_pass : (globals : List Variable) (xs : List Own) → All (Passes globals) xs
     → All (IsNamedAgain globals) (map (global_id globals) (filter_map external_in xs))
 externals_pass globals [] h = All-nil (IsNamedAgain globals)
 externals_pass globals (ALocal d ∷ xs) h = externals_pass globals xs (All-tail (Passes globals) (ALocal d) xs h)

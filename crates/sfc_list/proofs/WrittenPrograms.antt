@@ -233,7 +233,7 @@ module _ (globals : List Variable) (p : ProgramTree) where
   abbrev pub tree_again : ProgramTree
   tree_again = record { name = p.name; variables = blocks_again globals p.variables; elements = elements_again space p.elements }
 
-  space_kept : space_in globals (program_of globals p) ≡ space
+  pub space_kept : space_in globals (program_of globals p) ≡ space
   space_kept = λ i. record {
     globals = globals;
     locals = space.locals;

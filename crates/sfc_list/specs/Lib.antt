@@ -24,5 +24,7 @@ pub mod WrittenCharts
 pub mod Written
 -- where the texts of expressions and statements spell their tokens
 pub mod SpelledTexts
+-- where the text of a plant spells its tokens
+pub mod SpelledPlants
 -- What private clauses cite.
 pub mod Private

@@ -15,7 +15,8 @@ use Rattle.sfc_monitor.specs.declared.monitor_error.MonitorError.TheVariants.{Ch
 use Rattle.sfc_monitor.specs.MonitorErrors.{of_read, of_kind, of_load}
 use Rattle.sfc_monitor.specs.Reading.{Device, IsUntouched, TakesAtMost, LosesAtMost}
 use Rattle.sfc_chart.specs.Plants.{PlantData}
-use Rattle.sfc_monitor.specs.Acceptance.{IsAccepted, Accepts, Answers, most}
+use Rattle.sfc_chart.specs.Accepted.{IsAccepted}
+use Rattle.sfc_monitor.specs.Acceptance.{Accepts, Answers, most}
 use Rattle.sfc_monitor.specs.Working.Telling.{Checks, Told}
 use Rattle.sfc_monitor.specs.Working.Faults.{IsInputFault}
 

@@ -15,7 +15,8 @@ use Rattle.sfc_script.specs.Scripts.{commands_of_script}
 use Rattle.sfc_script.specs.Answers.{ReadsScript}
 use Rattle.sfc_monitor.specs.Output.{lines_of_play}
 use Rattle.sfc_monitor.specs.Reading.{Device, IsUntouched, TakesAtMost, LosesAtMost}
-use Rattle.sfc_monitor.specs.Acceptance.{Accepts, IsAccepted, most}
+use Rattle.sfc_chart.specs.Accepted.{IsAccepted}
+use Rattle.sfc_monitor.specs.Acceptance.{Accepts, most}
 use Rattle.sfc_monitor.specs.Replay.{IsOutput, Outputs, Replays}
 
 pub Keeps-same : (known : Option (List ℕ)) → Keeps known known

@@ -1,23 +1,17 @@
 -- What check_chart and list_chart answer and write: stated functions of the bytes that were read.
-use Rattle.std.specs.Prelude.{◌≡◌, ℕ, List, codes, None, Some, Result, Ok, Err, ⊤}
+use Rattle.std.specs.Prelude.{◌≡◌, ℕ, List, codes, Some, Result, Ok, Err, ⊤}
 use Rattle.std.specs.Io.KnownBytes.{Appends}
 use Rattle.sfc_text.specs.Reads.{TextReads}
 use Rattle.sfc_text.specs.Trees.{SourceTree}
 use Rattle.sfc_tokens.specs.Writing.{AppendsFront}
-use Rattle.sfc_chart.specs.Built.{source_check, plant_of}
+use Rattle.sfc_chart.specs.Accepted.{IsAccepted}
+use Rattle.sfc_chart.specs.Built.{source_check}
 use Rattle.sfc_chart.specs.Plants.{PlantData}
 use Rattle.sfc_monitor.specs.declared.monitor_error.ChartError.{ChartError}
 use Rattle.sfc_monitor.specs.declared.monitor_error.ChartError.TheVariants as chart
 use Rattle.sfc_monitor.specs.declared.monitor_error.MonitorError.{MonitorError}
 use Rattle.sfc_monitor.specs.declared.monitor_error.MonitorError.TheVariants.{Chart, Read, Write, Memory}
 use Rattle.sfc_monitor.specs.Reading.{Device, IsUntouched, TakesAtMost, LosesAtMost}
-
--- The text is read as a tree in which no check fails, and the plant is its.
-pub record IsAccepted (text : List ℕ) (plant : PlantData) : Type 0 where
-  pub tree : SourceTree
-  pub read : TextReads text (Ok tree)
-  pub passes : source_check tree ≡ None
-  pub built : plant_of tree ≡ plant
 
 -- why the text is no plant: what the reader finds, or the first check that fails
 abbrev pub IsRefusedFor : List ℕ → ChartError → Type 0

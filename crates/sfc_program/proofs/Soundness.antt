@@ -112,7 +112,7 @@ either : (P : expr.Variable → Type 0) (a b : Option (expr.Variable × VarType)
 either P (Some w) b first second v e = first v e
 either P None b first second v e = second v e
 
-named_sound : (space : Space) (name : List ℕ) (v : expr.Variable × VarType)
+pub named_sound : (space : Space) (name : List ℕ) (v : expr.Variable × VarType)
     → variable_named space.locals space.globals name ≡ Some v → IsVariable (counts space) v.0
 named_sound space name =
     either (IsVariable (counts space)) (local_named space.locals name) (global_named space.globals name)
@@ -194,7 +194,7 @@ indicator_sound space name e =
     let o = variable_named space.locals space.globals name in
     some_found (IsVariable (counts space)) o (named_sound space name) (when_none (is_none o) fault.Unknown e)
 
-association_sound : (space : Space) (a : text_association.Association) → association_check space a ≡ None
+pub association_sound : (space : Space) (a : text_association.Association) → association_check space a ≡ None
     → IsAssociation (counts space) (length space.actions) (association_of space a)
 association_sound space a e =
     let after = then_second (target_check space a.action) _ e in
@@ -221,7 +221,7 @@ pub record HasSides (t : TransitionTree) : Type 0 where
   pub preceding : is_empty t.preceding ≡ false
   pub following : is_empty t.following ≡ false
 
-side_sound : (steps names : List (List ℕ)) → side_check steps names ≡ None
+pub side_sound : (steps names : List (List ℕ)) → side_check steps names ≡ None
     → All (λ (s : StepId). s.0 < length steps) (step_ids steps names)
 side_sound steps names e =
     All-map (λ (s : StepId). s.0 < length steps) (step_id steps) names

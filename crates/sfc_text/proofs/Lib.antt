@@ -15,5 +15,9 @@ pub mod Readings
 pub mod Spelled
 pub mod SpelledStatements
 pub mod SpelledCharts
+pub mod SpelledSources
 pub mod Nesting
 pub mod NestingStatements
+pub mod Holding
+pub mod Keeping
+pub mod Declaring

@@ -28,7 +28,7 @@ use Rattle.sfc_text.proofs.SpelledStatements.{three, body_derives}
 
 -- ---- items in a row
 
-items_derive : {X : Type 0} (n : ℕ) (In : Inner) (rule : Rule X) (tokens : X → Kinds) → ((x : X) (rest : Kinds) → Derives n In rule (tokens x ++ rest) x rest) → (xs : List X) (rest : Kinds) → Many (Derives n In rule) (flat_map tokens xs ++ rest) xs rest
+pub items_derive : {X : Type 0} (n : ℕ) (In : Inner) (rule : Rule X) (tokens : X → Kinds) → ((x : X) (rest : Kinds) → Derives n In rule (tokens x ++ rest) x rest) → (xs : List X) (rest : Kinds) → Many (Derives n In rule) (flat_map tokens xs ++ rest) xs rest
 items_derive n In rule tokens h [] rest = none
 items_derive n In rule tokens h (x ∷ xs) rest =
     let behind = flat_map tokens xs ++ rest in
@@ -38,7 +38,7 @@ further_name_derives : (n : ℕ) (In : Inner) (name : List ℕ) (rest : Kinds) �
 unfolding grammar.further_name
 further_name_derives n In name rest = ((tt, name), (token.Name name ∷ rest, (token.Delimiter sign.Comma, refl, refl, refl), (token.Name name, refl, refl, refl)), refl)
 
-further_names_derive : (n : ℕ) (In : Inner) (names : List (List ℕ)) (rest : Kinds) → Derives n In grammar.further_names (further_tokens names ++ rest) names rest
+pub further_names_derive : (n : ℕ) (In : Inner) (names : List (List ℕ)) (rest : Kinds) → Derives n In grammar.further_names (further_tokens names ++ rest) names rest
 unfolding grammar.further_names
 further_names_derive n In names rest = (names, items_derive n In grammar.further_name (λ name. token.Delimiter sign.Comma ∷ token.Name name ∷ []) (further_name_derives n In) names rest, refl)
 

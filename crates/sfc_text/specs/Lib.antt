@@ -27,5 +27,9 @@ pub mod Spelled
 pub mod SpelledStatements
 -- the tokens of steps, transitions and actions
 pub mod SpelledCharts
+-- the tokens of variables, program types, the configuration and whole texts
+pub mod SpelledSources
+-- what a text declares with tokens of its own
+pub mod Declares
 -- What private clauses cite.
 pub mod Parsing

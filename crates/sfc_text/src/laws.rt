@@ -1,18 +1,22 @@
-//! What holds of the grammar itself.
+//! What holds of the grammar itself. Each law is a function with an empty body, whose contract is the law.
 
-ghost use Rattle.std.specs.Prelude.{◌++◌, ◌≡◌, ◌≤◌, true, List, ℕ};
+ghost use Rattle.std.specs.Prelude.{◌++◌, ◌≡◌, ◌≤◌, true, Contains, List, ℕ};
 ghost use Rattle.sfc_tokens.specs.ReadErrors.{Read};
 ghost use Rattle.sfc_tokens.specs.Tokens.{Kinds};
+ghost use Rattle.sfc_text.specs.declared.tree.Configuration.{Configuration};
 ghost use Rattle.sfc_text.specs.declared.tree.Step.{Step};
-ghost use Rattle.sfc_text.specs.Grammar.{action, body, element, expression, source, step, transition};
+ghost use Rattle.sfc_text.specs.Declares.{OfSource};
+ghost use Rattle.sfc_text.specs.Grammar.{action, body, configuration, element, expression, program, source, step, transition};
 ghost use Rattle.sfc_text.specs.Limits.{Derived, Limits};
 ghost use Rattle.sfc_text.specs.Parsing.Lookahead.{fine};
 ghost use Rattle.sfc_text.specs.Reads.{AreOne, IsSource, TextReads};
 ghost use Rattle.sfc_text.specs.Spelled.{nesting, tree_tokens};
 ghost use Rattle.sfc_text.specs.SpelledCharts.{action_tokens, element_tokens, step_tokens, step_word, transition_tokens};
 ghost use Rattle.sfc_text.specs.SpelledCharts.{KeepsAction, KeepsElement, KeepsTransition};
+ghost use Rattle.sfc_text.specs.SpelledSources.{configuration_tokens, program_tokens, source_tokens};
+ghost use Rattle.sfc_text.specs.SpelledSources.{IsConfiguration, KeepsProgram, KeepsSource};
 ghost use Rattle.sfc_text.specs.SpelledStatements.{block_nesting, body_tokens, IsBody, most_operators};
-ghost use Rattle.sfc_text.specs.Trees.{ActionTree, Block, ElementTree, SourceTree, TransitionTree, Tree, operators};
+ghost use Rattle.sfc_text.specs.Trees.{ActionTree, Block, ElementTree, ProgramTree, SourceTree, TransitionTree, Tree, operators};
 
 /// Tokens derive one tree at most, whatever the limits.
 pub fn one_tree()
@@ -53,6 +57,16 @@ pub fn derived_body()
         → IsBody block × block_nesting block ≤ limits.depth × most_operators block ≤ limits.operators }
 {}
 
+/// A whole text that tokens derive within limits keeps to them, and each part of it can stand in a text.
+pub fn derived_source()
+    ensures { (limits : Limits) (ts : Kinds) (s : SourceTree) → IsSource limits ts s → KeepsSource limits s }
+{}
+
+/// Each name, priority and location that a whole text declares is that of one of its tokens.
+pub fn declared_tokens()
+    ensures { (limits : Limits) (ts : Kinds) (s : SourceTree) → IsSource limits ts s → OfSource (Contains ts) s }
+{}
+
 /// The tokens of a step derive it, whatever stands behind them.
 pub fn spelled_step()
     ensures { (limits : Limits) (s : Step) (rest : Kinds)
@@ -75,6 +89,23 @@ pub fn spelled_transition()
 pub fn spelled_element()
     ensures { (limits : Limits) (e : ElementTree) (rest : Kinds) → KeepsElement limits e
         → Derived limits element (element_tokens e ++ rest) e rest }
+{}
+
+/// The tokens of a program type that keeps to the limits derive it, whatever stands behind them.
+pub fn spelled_program()
+    ensures { (limits : Limits) (p : ProgramTree) (rest : Kinds) → KeepsProgram limits p
+        → Derived limits program (program_tokens p ++ rest) p rest }
+{}
+
+/// The tokens of a configuration with an instance derive it, whatever stands behind them.
+pub fn spelled_configuration()
+    ensures { (limits : Limits) (c : Configuration) (rest : Kinds) → IsConfiguration c
+        → Derived limits configuration (configuration_tokens c ++ rest) c rest }
+{}
+
+/// The tokens of a whole text that keeps to the limits are read as it.
+pub fn spelled_source()
+    ensures { (limits : Limits) (s : SourceTree) → KeepsSource limits s → IsSource limits (source_tokens s) s }
 {}
 
 /// One token ahead decides how a text goes on, but for the sign of an integer.

@@ -26,3 +26,4 @@ pub mod SpelledLocations
 pub mod Spellings
 pub mod Signs
 pub mod Spaced
+pub mod Standing

@@ -1,10 +1,13 @@
 -- Spelled tokens, one behind the other.
-use Rattle.std.specs.Prelude.{◌≡◌, ℕ, List, [], ◌∷◌, ◌++◌, Some, codes}
+use Rattle.std.specs.Prelude.{◌≡◌, ℕ, ◌<◌, ◌^◌, List, [], ◌∷◌, ◌++◌, All, Some, ⊤, codes}
 use Rattle.sfc_tokens.specs.declared.delimiter.Delimiter.{Delimiter}
 use Rattle.sfc_tokens.specs.declared.delimiter.Delimiter.TheVariants as sign
 use Rattle.sfc_tokens.specs.declared.class.Class.TheVariants as class
 use Rattle.sfc_tokens.specs.declared.token.TokenKind.{TokenKind}
+use Rattle.sfc_tokens.specs.declared.token.TokenKind.TheVariants as token
 use Rattle.sfc_tokens.specs.Classes.{class_of}
+use Rattle.sfc_tokens.specs.Names.{IsName}
+use Rattle.sfc_tokens.specs.Locations.{AreNumbers}
 use Rattle.sfc_tokens.specs.Lexemes.{Piece, Tokens, first}
 
 -- Spells text ts rest: before rest, the text is these tokens, with white space among them
@@ -39,3 +42,10 @@ sign_text sign.Ampersand = codes "&"
 sign_text sign.Less = codes "<"
 sign_text sign.Greater = codes ">"
 sign_text sign.Equal = codes "="
+
+-- whether a token can stand in a text: a name is one, and integers and the numbers of a location have 32 bits
+abbrev pub CanStand : TokenKind → Type 0
+CanStand (token.Name name) = IsName name
+CanStand (token.Integer n) = n < 2 ^ 32
+CanStand (token.Location l) = AreNumbers l.numbers × All (λ n. n < 2 ^ 32) l.numbers
+CanStand _ = ⊤

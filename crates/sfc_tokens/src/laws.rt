@@ -1,4 +1,5 @@
-//! What holds of the tokens and the TIME text themselves.
+//! What holds of the tokens and the TIME text themselves. Each law is a function with an empty body, whose contract is the
+//! law.
 
 ghost use Rattle.std.specs.Prelude.{◌≡◌, ◌≤◌, ◌<◌, ◌^◌, ◌↔◌, ℕ, ℤ, nat_eq, unsigned_abs, false, List, [], ◌∷◌, ◌++◌, length};
 ghost use Rattle.std.specs.Prelude.{Ok, Some, codes};
@@ -14,7 +15,7 @@ ghost use Rattle.sfc_tokens.specs.Names.{IsWord, IsName};
 ghost use Rattle.sfc_tokens.specs.Durations.{greatest};
 ghost use Rattle.sfc_tokens.specs.Locations.{AreNumbers};
 ghost use Rattle.sfc_tokens.specs.Lexemes.{look_ahead, Tokens, Scans, is_sharp_first, IsDuration, Piece};
-ghost use Rattle.sfc_tokens.specs.Spelling.{Spells, behind, sign_text};
+ghost use Rattle.sfc_tokens.specs.Spelling.{CanStand, Spells, behind, sign_text};
 ghost use Rattle.sfc_tokens.specs.Texts.{longest, TextScans};
 ghost use Rattle.sfc_tokens.specs.Tokens.{Kinds};
 ghost use Rattle.sfc_tokens.specs.TimeText.{time_text};
@@ -192,4 +193,9 @@ pub fn sign_not_sharp()
 /// White space is no `#`.
 pub fn space_not_sharp()
     ensures { (space : ℕ) (rest : List ℕ) → class_of space ≡ class.Space → is_sharp_first (space ∷ rest) ≡ false }
+{}
+
+/// Each token of a text can stand in one.
+pub fn scanned_tokens()
+    ensures { (text : List ℕ) (ts : List TokenKind) → TextScans text (Ok ts) → All CanStand ts }
 {}

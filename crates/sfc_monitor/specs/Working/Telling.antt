@@ -6,7 +6,8 @@ use Rattle.sfc_chart.specs.Plants.{PlantData}
 use Rattle.sfc_monitor.specs.declared.monitor_error.MonitorError.{MonitorError}
 use Rattle.sfc_monitor.specs.declared.monitor_error.MonitorError.TheVariants.{Chart, Write, Memory}
 use Rattle.sfc_monitor.specs.Reading.{Device}
-use Rattle.sfc_monitor.specs.Acceptance.{IsAccepted, IsRefusedFor}
+use Rattle.sfc_chart.specs.Accepted.{IsAccepted}
+use Rattle.sfc_monitor.specs.Acceptance.{IsRefusedFor}
 
 -- what checking a text answers; want of memory says nothing
 abbrev pub Checks : List ℕ → {X : Type 0} → Result X MonitorError → Type 0

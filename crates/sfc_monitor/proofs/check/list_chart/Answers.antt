@@ -1,7 +1,8 @@
 use Rattle.std.proofs.Common.{ℕ, List, Err, subst}
 use Rattle.std.proofs.lemmas.Result.{err_from_is_err_and}
 use Rattle.sfc_list.specs.Listing.{listing}
-use Rattle.sfc_monitor.specs.Acceptance.{IsAccepted, Accepts, most}
+use Rattle.sfc_chart.specs.Accepted.{IsAccepted}
+use Rattle.sfc_monitor.specs.Acceptance.{Accepts, most}
 use Rattle.sfc_monitor.specs.Reading.{Device}
 use Rattle.sfc_monitor.proofs.Taken.{lost}
 use Rattle.sfc_monitor.proofs.Replayed.{Keeps-same}

@@ -5,7 +5,8 @@ use Rattle.sfc_core.specs.Agreement.{plant_of}
 use Rattle.sfc_script.specs.Scripts.{commands_of_script}
 use Rattle.sfc_monitor.specs.Output.{lines_of_play}
 use Rattle.sfc_monitor.specs.Reading.{Device}
-use Rattle.sfc_monitor.specs.Acceptance.{IsAccepted, Accepts, most}
+use Rattle.sfc_chart.specs.Accepted.{IsAccepted}
+use Rattle.sfc_monitor.specs.Acceptance.{Accepts, most}
 use Rattle.sfc_monitor.proofs.Taken.{lost}
 use Rattle.sfc_monitor.proofs.Replayed.{Keeps-same, chart_unread, chart_stopped, memory_stopped, script_unread, script_stopped, played}
 use Rattle.sfc_monitor.proofs.replay.replay.Goals as goal
