@@ -29,7 +29,7 @@ use Rattle.sfc_program.specs.Elements.{steps_of, transitions_of, actions_of}
 use Rattle.sfc_program.specs.Loading.{side_check, association_check, step_check, transition_check, action_check, chart_check}
 use Rattle.sfc_program.specs.Names.{Space, names_in}
 use Rattle.sfc_program.specs.Built.{association_of, step_of, step_ids, transition_of, action_of, chart_of}
-use Rattle.sfc_program.proofs.Soundness.{then_first, then_second, counts, association_sound, side_sound}
+use Rattle.sfc_program.proofs.Soundness.{then_first, then_second, counts, association_sound, side_sound, HasSides}
 use Rattle.sfc_list.specs.Charts.{target_text}
 use Rattle.sfc_list.specs.SpelledTexts.{AreNames, AreBodyNames}
 use Rattle.sfc_list.specs.SpelledPlants.{CanSpellTime, CanSpellQualifier, IsVariableName, CanSpellAssociation, CanSpellStep, IsStepName, CanSpellTransition, CanSpellAction, CanSpellChart}
@@ -44,11 +44,6 @@ between (pos n) low high = omega (arith, ints)
 between (negsuc n) low high = omega (arith, ints)
 
 -- ---- sides
-
--- a transition with steps on both sides
-pub record HasSides (t : TransitionTree) : Type 0 where
-  pub preceding : is_empty t.preceding ≡ false
-  pub following : is_empty t.following ≡ false
 
 -- a transition among elements has them
 abbrev pub Sided : ElementTree → Type 0
