@@ -1,4 +1,9 @@
 //! Runs the cases of the folder in which it is started, and tells of each whether it ends as is wanted.
+//!
+//! - `case`: what is run, and how it is to end; `ending`: how a command ends.
+//! - `case_file`, `folder`: the files with cases; `recipe`: the text that a line of a case stands for.
+//! - `frame`: a chart of which only some parts are given.
+//! - `report`: what is printed of a case.
 #![tactic(auto)]
 
 mod case;

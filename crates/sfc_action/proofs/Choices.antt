@@ -1,32 +1,6 @@
 -- Facts on Booleans.
 use Rattle.std.proofs.Common.{◌≡◌, Bool, true, false, not, ◌&&◌, ◌||◌, refl, ◌∙◌}
 
--- what contributes to Q, one after another, and R taken away
-pub contributed : (r n s l d p sd ds sl : Bool)
-    → ((((((((n || s) || l) || d) || p) || sd) || ds) || sl) && not r)
-    ≡ (not r && (n || s || l || d || p || sd || ds || sl))
-contributed true n s l d p sd ds sl = never (((((((n || s) || l) || d) || p) || sd) || ds) || sl)
-  where
-    never : (b : Bool) → (b && false) ≡ false
-    never true = refl
-    never false = refl
-contributed false n s l d p sd ds sl = all (((((((n || s) || l) || d) || p) || sd) || ds) || sl) ∙ turn n s l d p sd ds sl
-  where
-    all : (b : Bool) → (b && true) ≡ b
-    all true = refl
-    all false = refl
-
-    turn : (n s l d p sd ds sl : Bool)
-        → (((((((n || s) || l) || d) || p) || sd) || ds) || sl) ≡ (n || s || l || d || p || sd || ds || sl)
-    turn true s l d p sd ds sl = refl
-    turn false true l d p sd ds sl = refl
-    turn false false true d p sd ds sl = refl
-    turn false false false true p sd ds sl = refl
-    turn false false false false true sd ds sl = refl
-    turn false false false false false true ds sl = refl
-    turn false false false false false false true sl = refl
-    turn false false false false false false false sl = refl
-
 -- Q now or before, and the edges of P1 and P0
 pub executions : (was now p1 p0 : Bool) → (((was || now) || p1) || p0) ≡ (now || (was && not now) || p1 || p0)
 executions true true p1 p0 = refl

@@ -29,21 +29,6 @@ use Rattle.sfc_action.proofs.Timings.{flag-replicate}
 
 -- ---- before the first scan
 
-pub no_listing : (n : ℕ) (seen : Timed) → seen ≡ none n → IsListing n seen []
-no_listing n seen e = rw e record {
-  sized = all_none n;
-  actions = λ k d lt. absurd (omega arith);
-  listed = λ q a lt. none_by q a;
-  fresh = λ k d lt. absurd (omega arith);
-}
-  where
-    none_by : (q : TimedQualifier) (a : ℕ) → flag (by q (none n)) a ≡ false
-    none_by Limited a = flag-replicate n a
-    none_by Delayed a = flag-replicate n a
-    none_by StoredDelayed a = flag-replicate n a
-    none_by DelayedStored a = flag-replicate n a
-    none_by StoredLimited a = flag-replicate n a
-
 pub all_listed : (n : ℕ) (seen : Timed) (associations : List StepAction) (blocks : List Block) → seen ≡ none n
     → IsList (length seen.limited) associations blocks → IsList n associations blocks
 all_listed n seen associations blocks e listed =
@@ -139,11 +124,6 @@ copied_for tables from to copy for = record {
       same_block from to copy (slice_index_or tables.associations k d).action.0 (slice_index_or tables.associations k d).qualifier
       ∙ for.covered k d lt;
 }
-
-pub copied_rooms : (n : ℕ) (from to : Kept) → IsCopy from to → AreKeptSized n from → AreKeptSized (length to.q) to
-copied_rooms n from to copy sized =
-    let is : n ≡ length to.q = sym (ap length copy.q ∙ sized.q) in
-    subst (λ k. AreKeptSized k to) is (copied_sized n from to copy sized)
 
 pub copied_kept : (tables : Tabled) (from to : Kept) (h : List Scan) → IsCopy from to → AreKept tables from h → AreKept tables to h
 copied_kept tables from to h copy each = record {

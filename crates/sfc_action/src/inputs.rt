@@ -31,7 +31,7 @@ impl Inputs {
     ghost use Rattle.sfc_action.specs.Private.Marking.{AreSized, cleared, marked, marked_timed};
     ghost use Rattle.sfc_action.specs.Private.Rows.{inputs_in, input_row, no_inputs};
 
-    /// No action has an input.
+    /// No action has an input. The one error is that memory was refused.
     pub fn new(alloc: Global, actions: usize) -> Result<Self, AllocError>
         ensures { IfOk result (λ inputs. inputs ≡ cleared actions) }
     {

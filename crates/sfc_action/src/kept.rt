@@ -31,7 +31,7 @@ impl Kept {
     ghost use Rattle.sfc_action.specs.Private.Keeping.{AreKeptSized, IsFresh, IsActed, IsCopy};
     ghost use Rattle.sfc_action.specs.Private.Rows.{kept_in, kept_row, nothing, kept_row_after};
 
-    /// Before the first scan of a life, with these on-delays.
+    /// Before the first scan of a life, with these on-delays. The one error is that memory was refused.
     pub fn new(alloc: Global, actions: usize, blocks: Vec<Block>) -> Result<Self, AllocError>
         ensures { IfOk result (λ kept. IsFresh actions blocks.items kept) }
     {

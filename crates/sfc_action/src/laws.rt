@@ -1,4 +1,5 @@
-//! What holds of the definitions themselves: functions that do nothing, and whose contracts are the laws.
+//! What holds of the definitions themselves. Each law is a function whose contract is the law; a body, where there is
+//! one, cites another law.
 
 ghost use Rattle.std.specs.Prelude.{◌≡◌, ◌↔◌, ◌||◌, ◌∷◌, ℕ, Bool, List, true, false};
 ghost use Rattle.sfc_tables.specs.Tables.{Tabled};

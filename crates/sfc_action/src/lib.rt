@@ -12,7 +12,7 @@
 //! - `laws`: what holds of the definitions themselves.
 //! - `listing`: which on-delays there are.
 //! - `marking`: what the active steps give as inputs.
-//! - `scan_words`: of 64 actions what a scan is told.
+//! - `scan_words`: of 64 actions the inputs of a scan, its flip-flops and its on-delays.
 //! - `scratch`: room for a scan.
 //! - `store_words`: of 64 actions the flip-flops.
 //! - `stores`: flip-flops of actions.

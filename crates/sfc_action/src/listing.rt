@@ -43,7 +43,7 @@ fn add_block(
 }
 
 /// An on-delay for each action and qualifier with a time that some association has. `seen` is room to tell which those
-/// are.
+/// are. The one error is that memory was refused.
 pub fn list_blocks(
     alloc: Global,
     associations: &[StepAction],

@@ -1,4 +1,4 @@
-//! Of 64 actions what a scan makes of its inputs.
+//! Of 64 actions the inputs of a scan, its flip-flops and its on-delays.
 
 use crate::input_words::InputWords;
 use crate::store_words::StoreWords;

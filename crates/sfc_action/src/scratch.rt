@@ -32,7 +32,7 @@ impl Scratch {
     ghost use Rattle.sfc_action.specs.Private.Rooms.{IsScratch};
     ghost use Rattle.sfc_action.specs.Private.Rows.{inputs_in, input_row, stores_in, store_row, timed_in, timed_row};
 
-    /// Room for so many actions.
+    /// Room for so many actions. The one error is that memory was refused.
     #[tactic(auto, using(crate::proofs::Sizes::are_sized, crate::proofs::Sizes::are_stores, crate::proofs::Sizes::are_all))]
     pub fn new(alloc: Global, actions: usize) -> Result<Self, AllocError>
         ensures { IfOk result (λ scratch. IsScratch actions scratch) }

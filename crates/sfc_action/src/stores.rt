@@ -22,7 +22,7 @@ impl Stores {
     ghost use Rattle.sfc_action.specs.Private.Storing.{AreStores, no_stores, AreNext};
     ghost use Rattle.sfc_action.specs.Private.Rows.{stores_in, store_row, input_row, no_store, stores_after};
 
-    /// None is set.
+    /// None is set. The one error is that memory was refused.
     pub fn new(alloc: Global, actions: usize) -> Result<Self, AllocError>
         ensures { IfOk result (λ stores. stores ≡ no_stores actions) }
     {

@@ -24,7 +24,7 @@ impl Timed {
     ghost use Rattle.sfc_action.specs.Private.TimedSets.{AreAll, none, with_action, by};
     ghost use Rattle.sfc_action.specs.Private.Rows.{timed_in, timed_row, no_times};
 
-    /// No action is in any.
+    /// No action is in any. The one error is that memory was refused.
     pub fn new(alloc: Global, actions: usize) -> Result<Self, AllocError>
         ensures { IfOk result (λ sets. sets ≡ none actions) }
     {

@@ -65,7 +65,7 @@ pub(crate) fn load_parts(alloc: Global, source: &Source) -> Result<Parts, LoadEr
     })
 }
 
-/// The plant of these parts.
+/// The plant of these parts. The one error is that memory was refused.
 pub(crate) fn assemble(alloc: Global, source: &Source, parts: Parts) -> Result<Plant, AllocError>
     requires loadable { IsLoadable (plant_from source.now parts) }
     requires sound { IsPlant (plant_from source.now parts) }

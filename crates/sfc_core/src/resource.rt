@@ -24,8 +24,8 @@ use sfc_machine::machine::Machine;
 use sfc_tasks::table::TaskTable;
 use std::alloc::{AllocError, Global};
 
-/// A plant that runs by scans, inputs, forces and resets. It keeps what the next event needs, and no history: what an event
-/// costs is bounded by the plant.
+/// A plant that runs by scans, inputs, forces, releases and resets. It keeps what the next event needs, and no history: what an
+/// event costs is bounded by the plant.
 pub struct Resource {
     plant: Plant,
     machine: Machine,
@@ -155,8 +155,8 @@ impl Resource {
         }
     }
 
-    /// Applies each of the events in turn, and goes on after refusals. It answers how many were accepted. It takes no
-    /// memory.
+    /// Applies each of the events in turn, each at its instant in microseconds, and goes on after refusals. It answers how
+    /// many were accepted. It takes no memory.
     pub fn run(&mut self, events: &[(Event, i64)]) -> u64
         ensures plant { plant_of self.new ≡ plant_of self.old }
         ensures count { (h : History) → Agrees self.old h → result ≡ accepted (plant_of self.old) h events.now }

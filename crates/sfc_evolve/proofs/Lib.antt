@@ -7,5 +7,7 @@ pub mod Measured
 pub mod Next
 pub mod NumberedLooks
 pub mod Placed
+pub mod Proposed
+pub mod Skipped
 pub mod TableFacts
 pub mod Works

@@ -44,7 +44,7 @@ module _ (x y : ℕ → Bool) (n : ℕ) (same : (s : ℕ) → s < n → x s ≡ 
 
 -- ---- a cleared transition was enabled
 
-set_where : (flags : List Bool) (b : Bool) (p s : ℕ) → flag (slice_set flags p b) s ≡ true → ((p ≡ s) × (b ≡ true)) ⊎ (flag flags s ≡ true)
+pub set_where : (flags : List Bool) (b : Bool) (p s : ℕ) → flag (slice_set flags p b) s ≡ true → ((p ≡ s) × (b ≡ true)) ⊎ (flag flags s ≡ true)
 set_where [] b p s e = inr e
 set_where (f ∷ flags) b zero zero e = inl (refl, e)
 set_where (f ∷ flags) b zero (suc s) e = inr e
@@ -54,7 +54,7 @@ set_where (f ∷ flags) b (suc p) (suc s) e = elim (set_where flags b p s e) [
   | inr there ↦ inr there
 ]
 
-and_left : (a b : Bool) → (a && b) ≡ true → a ≡ true
+pub and_left : (a b : Bool) → (a && b) ≡ true → a ≡ true
 and_left true b e = refl
 and_left false b e = e
 

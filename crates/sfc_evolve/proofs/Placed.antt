@@ -102,7 +102,7 @@ module _ (tables : Tabled) (sound : AreTables tables) where
   ranks_distinct = IsDistinct-IsPermutation nat_eq flips (range_with_len 0 (transition_count tables)) (map number tables.ranked) numbers
       (distinct 0 (transition_count tables))
 
-  ranks_long : length tables.ranked ≡ transition_count tables
+  pub ranks_long : length tables.ranked ≡ transition_count tables
   ranks_long =
       length_permutation (transitions_to (transition_count tables)) tables.ranked sound.ranked
       ∙ length-map-range_with_len id_of 0 (transition_count tables)

@@ -12,7 +12,7 @@ use Rattle.sfc_tables.specs.Ranks.{transitions_to}
 use Rattle.sfc_tables.specs.Tables.{Sides, Tabled, AreTables, AreSides, sides_at}
 use Rattle.sfc_evolve.specs.Private.Keeping.{AllBelow, side_work}
 
-range_below : (a n : ℕ) → All (λ i. i < a + n) (range_with_len a n)
+pub range_below : (a n : ℕ) → All (λ i. i < a + n) (range_with_len a n)
 range_below a zero = All-nil (λ i. i < a + 0)
 range_below a (suc n) =
     let e : a + 1 + n ≡ a + suc n = omega arith in

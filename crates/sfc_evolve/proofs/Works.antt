@@ -1,12 +1,13 @@
 -- What a scan handles in all.
 use Rattle.std.proofs.Common.{◌≡◌, ℕ, suc, ◌+◌, ◌*◌, ◌<◌, ◌≤◌, List, [], ◌∷◌, length, get_or, refl, sym, ◌∙◌, ap, arith}
-use Rattle.std.specs.Prelude.{map, sum_by}
+use Rattle.std.specs.Prelude.{All, map, sum_by}
+use Rattle.std.proofs.lemmas.List.Elements.{All-head, All-tail}
 use Rattle.std.specs.List.{range_with_len}
 use Rattle.std.proofs.lemmas.List.Sorted.{sum_by-IsPermutation}
 use Rattle.std.proofs.lemmas.List.Sums.{sum_by-cons}
 use Rattle.sfc_tables.specs.declared.ids.TransitionId.{TransitionId}
 use Rattle.sfc_tables.specs.Ranks.{transitions_to}
-use Rattle.sfc_tables.specs.Tables.{Sides, Tabled, AreTables, sides_at}
+use Rattle.sfc_tables.specs.Tables.{Sides, Tabled, AreSides, AreTables, sides_at}
 use Rattle.sfc_evolve.specs.Private.Keeping.{clearing_work, side_work}
 
 abbrev none : Sides
@@ -36,15 +37,17 @@ clearing_is tables sound =
     ∙ numbered_sum (λ (s : Sides). 1 + 3 * length s.preceding) g 0 tables.sides
     (λ k lt. let e : 0 + k ≡ k = omega arith in ap (λ j. g record { 0 = j }) e)
 
-pub work_of_scan : (sides : List Sides)
+pub work_of_scan : (n : ℕ) (sides : List Sides) → All (AreSides n) sides
     → sum_by (λ (s : Sides). 1 + 3 * length s.preceding) sides + side_work (λ s. s.preceding) sides + side_work
-    (λ s. s.preceding) sides + side_work (λ s. s.following) sides
+    (λ s. s.preceding) sides + side_work (λ s. s.following) sides + 2 * length sides
     ≤ 4 * length sides + 5 * sum_by (λ (s : Sides). length s.preceding + length s.following) sides
-work_of_scan [] = omega arith
-work_of_scan (s ∷ sides) =
+work_of_scan n [] all = omega arith
+work_of_scan n (s ∷ sides) all =
+    let here : 0 < length s.following = (All-head (AreSides n) s sides all).some_following in
     omega (
       arith,
-      work_of_scan sides,
+      here,
+      work_of_scan n sides (All-tail (AreSides n) s sides all),
       sum_by-cons (λ (s : Sides). 1 + 3 * length s.preceding) s sides,
       sum_by-cons
           (λ (s : Sides). 1 + length s.preceding) s sides,

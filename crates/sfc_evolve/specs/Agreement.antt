@@ -3,7 +3,9 @@ use Rattle.std.specs.Prelude.{ℕ, ◌≡◌, List, ℤ, length}
 use Rattle.sfc_tables.specs.Tables.{Tabled}
 use Rattle.sfc_evolve.specs.declared.steps.Steps.{Steps}
 use Rattle.sfc_evolve.specs.Evolution.{Scan, rows_of, step_count, step_times, transition_count}
+use Rattle.sfc_flags.specs.Flags.{flag}
 use Rattle.sfc_evolve.specs.Private.Keeping.{AreKept}
+use Rattle.sfc_evolve.specs.Private.Proposing.{AreProposed}
 
 -- how many steps and transitions it has room for
 abbrev pub step_places : Steps → ℕ
@@ -25,6 +27,7 @@ pub record IsFor (tables : Tabled) (steps : Steps) : Type 0 where
 pub record Keeps (tables : Tabled) (steps : Steps) (scans : List Scan) : Type 0 where
   pub size : IsFor tables steps
   pub kept : AreKept tables steps.begun steps.active steps.since.items steps.kept.items steps.cleared steps.on scans
+  pub proposed : AreProposed tables (flag steps.active) steps.candidates
 
 -- after these scans, the newest first, all answers are those of the definitions
 unfoldable pub StepsAgree : Tabled → Steps → List Scan → Type 0

@@ -1,12 +1,13 @@
 //! Which transitions a scan clears (2.6.5).
 
-ghost use Rattle.std.specs.Prelude.{◌≡◌, ◌+◌, ◌*◌, length, cond};
+ghost use Rattle.std.specs.Prelude.{◌≡◌, ◌*◌, false, length, cond, replicate};
 ghost use Rattle.sfc_expr.specs.Ticks.{Within};
 ghost use Rattle.sfc_flags.specs.Flags.{flag};
 ghost use Rattle.sfc_tables.specs.Tables.{AreTables};
 ghost use Rattle.sfc_evolve.specs.Marks.{marked};
 ghost use Rattle.sfc_evolve.specs.Evolution.{is_cleared, cleared_in};
 ghost use Rattle.sfc_evolve.specs.Private.Keeping.{AllBelow, clearing_work};
+ghost use Rattle.sfc_evolve.specs.Private.Proposing.{AreProposed};
 
 use crate::marks::{all_set, mark, some_set};
 use sfc_expr::ticks::Ticks;
@@ -27,9 +28,8 @@ fn clear_one(
     ensures value { result ≡ is_cleared (flag active.now) condition preceding.now used.old }
     ensures used { used.new ≡ cond result (marked preceding.now used.old) used.old }
     ensures len { length used.new ≡ length used.old }
-    ensures ticks { Within (1 + 3 * length preceding.now) ticks.old ticks.new }
+    ensures ticks { Within (3 * length preceding.now) ticks.old ticks.new }
 {
-    ticks.tick();
     let clears = condition
         && all_set(active, preceding, ticks)
         && !some_set(used, preceding, ticks);
@@ -39,11 +39,13 @@ fn clear_one(
     clears
 }
 
-/// Which transitions are cleared, from the first rank to the last. The steps that are used are cleared before.
+/// Which transitions are cleared, from the first rank to the last; those that are no candidates aren't enabled. All other
+/// flags are cleared before.
 pub fn clear_in_order(
     tables: &Tables,
     conditions: &[bool],
     active: &Flags,
+    candidates: &Flags,
     used: &mut Flags,
     cleared: &mut Flags,
     ticks: &mut Ticks,
@@ -52,21 +54,26 @@ pub fn clear_in_order(
     requires active_len { length active.now ≡ length tables.now.initial }
     requires conditions_len { length conditions.now ≡ length tables.now.sides }
     requires used_len { length used.old ≡ length tables.now.initial }
-    requires cleared_len { length cleared.old ≡ length tables.now.sides }
-    ensures cleared { cleared.new
+    requires cleared { cleared.old ≡ replicate (length tables.now.sides) false }
+    requires candidates_len { length candidates.now ≡ length tables.now.sides }
+    ensures cleared { AreProposed tables.now (flag active.now) candidates.now → cleared.new
         ≡ cleared_in tables.now.sides (flag active.now) conditions.now tables.now.ranked used.old cleared.old }
     ensures used_len { length used.new ≡ length used.old }
     ensures cleared_len { length cleared.new ≡ length cleared.old }
     ensures ticks { Within (clearing_work tables.now.sides tables.now.ranked) ticks.old ticks.new }
 {
-    for tr in tables.ranked() {
+    let ranked = tables.ranked();
+    let mut at = 0;
+    'candidates: while let Some(j) = candidates.next_set(at, ticks) {
+        let tr = ranked[j];
         let clears = clear_one(
-            tables.preceding(*tr),
+            tables.preceding(tr),
             conditions[tr.0 as usize],
             active,
             used,
             ticks,
         );
         cleared.set(tr.0 as usize, clears);
+        at = j + 1;
     }
 }

@@ -6,23 +6,15 @@ ghost use Rattle.sfc_expr.specs.Ticks.{Within};
 use sfc_expr::ticks::Ticks;
 use sfc_flags::flags::Flags;
 
-/// Takes over the flags of two tables.
-pub fn copy_flags(
-    active: &mut Flags,
-    on: &mut Flags,
-    from_active: &Flags,
-    from_on: &Flags,
-    ticks: &mut Ticks,
-)
+/// Takes over the flags of two tables. What is copied of a step is one tick, which `copy_times` counts.
+pub fn copy_flags(active: &mut Flags, on: &mut Flags, from_active: &Flags, from_on: &Flags)
     requires on_len { length on.old ≡ length active.old }
     requires from_active_len { length from_active.now ≡ length active.old }
     requires from_on_len { length from_on.now ≡ length active.old }
     ensures active { active.new ≡ from_active.now }
     ensures on { on.new ≡ from_on.now }
-    ensures ticks { Within (length active.old) ticks.old ticks.new }
 {
     for number in 0..active.words() {
-        ticks.tick();
         active.put_word(number, from_active.word(number));
         on.put_word(number, from_on.word(number));
     }

@@ -5,6 +5,7 @@
 //! - `laws`: what holds of the definitions themselves.
 //! - `marking`: the steps before and after cleared transitions.
 //! - `marks`: tests and writes at listed steps.
+//! - `proposing`: which transitions may be enabled.
 //! - `starting`: initial steps in the first scan.
 //! - `steps`: the steps of a program instance.
 //! - `times`: when steps were activated, and the times that they keep.
@@ -15,6 +16,7 @@ mod copying;
 pub mod laws;
 mod marking;
 mod marks;
+mod proposing;
 mod starting;
 pub mod steps;
 mod times;

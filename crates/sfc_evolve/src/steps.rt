@@ -7,6 +7,7 @@ use crate::clearing::clear_in_order;
 use crate::copying::{copy_flags, copy_times};
 use crate::marking::{mark_following, unmark_preceding};
 use crate::marks::all_set;
+use crate::proposing::propose;
 use crate::starting::start;
 use crate::times::{begin, keep_times, measure_active};
 use sfc_expr::ticks::Ticks;
@@ -17,7 +18,8 @@ use sfc_tables::tables::Tables;
 use std::alloc::{AllocError, Global};
 
 /// Of each step whether it is active, when it was last activated, what time it kept when it was left, and whether the
-/// latest scan activated it; of each transition whether the latest scan cleared it. The rest is room for a scan.
+/// latest scan activated it; of each transition whether the latest scan cleared it, and by place in rank order whether
+/// it may be enabled. The rest is room for a scan.
 #[derive(Drop)]
 pub struct Steps {
     begun: bool,
@@ -25,10 +27,12 @@ pub struct Steps {
     since: Vec<i64>,
     kept: Vec<i64>,
     cleared: Flags,
+    candidates: Flags,
     used: Flags,
     on: Flags,
     ghost since_len: { length since.items ≡ length active },
     ghost kept_len: { length kept.items ≡ length active },
+    ghost candidates_len: { length candidates ≡ length cleared },
     ghost used_len: { length used ≡ length active },
     ghost on_len: { length on ≡ length active },
     ghost instants: { AreInstants since.items },
@@ -36,12 +40,13 @@ pub struct Steps {
 
 #[tactic(auto, unfolding(crate::specs::Agreement::StepsAgree, crate::specs::Agreement::measured_times))]
 impl Steps {
-    ghost use Rattle.std.specs.Prelude.{◌≡◌, ◌<◌, ◌≤ℤ◌, ◌^◌, ◌+◌, ◌*◌, ◌∷◌, [], List, ℕ, pos, length, IfOk};
+    ghost use Rattle.std.specs.Prelude.{◌≡◌, ◌<◌, ◌≤ℤ◌, ◌^◌, ◌+◌, ◌*◌, ◌∷◌, [], List, ℕ, pos, true, length, IfOk};
     ghost use Rattle.sfc_expr.specs.Ticks.{Within};
     ghost use Rattle.sfc_flags.specs.Flags.{flag};
-    ghost use Rattle.sfc_tables.specs.Tables.{Tabled};
+    ghost use Rattle.sfc_tables.specs.Tables.{Tabled, AreTables};
     ghost use Rattle.sfc_evolve.specs.Evolution.{Scan, rows_of, is_active, active_steps, is_enabled, step_time};
     ghost use Rattle.sfc_evolve.specs.Evolution.{was_cleared, was_activated, preceding_of};
+    ghost use Rattle.sfc_evolve.specs.Clearing.{of_rank};
     ghost use Rattle.sfc_evolve.specs.Work.{advance_work};
     ghost use Rattle.sfc_evolve.specs.Agreement.{IsFor, StepsAgree, step_places, transition_places, measured_times, AreMeasured};
 
@@ -58,6 +63,7 @@ impl Steps {
             since: vec![in alloc; 0; n]?,
             kept: vec![in alloc; 0; n]?,
             cleared: Flags::new(alloc, m)?,
+            candidates: Flags::new(alloc, m)?,
             used: Flags::new(alloc, n)?,
             on: Flags::new(alloc, n)?,
         })
@@ -72,8 +78,8 @@ impl Steps {
         self.active.get(step.0 as usize)
     }
 
-    /// One scan at t, with the condition of each transition in text order; those of transitions that aren't enabled
-    /// don't matter. It takes no memory.
+    /// One scan at t, in microseconds from 0 to 2^62, with the condition of each transition in text order; those of
+    /// transitions that aren't enabled don't matter (2.6.5). It takes no memory.
     pub fn advance(&mut self, tables: &Tables, conditions: &[bool], t: i64, ticks: &mut Ticks)
         requires sizes { IsFor tables.now self.old }
         requires conditions { length conditions.now ≡ length tables.now.sides }
@@ -91,6 +97,7 @@ impl Steps {
             tables,
             conditions,
             &self.active,
+            &self.candidates,
             &mut self.used,
             &mut self.cleared,
             ticks,
@@ -100,6 +107,7 @@ impl Steps {
         start(tables, !self.begun, &mut self.on, ticks);
         mark_following(tables, &self.cleared, &mut self.on, ticks);
         begin(&mut self.active, &mut self.since, &self.on, t, ticks);
+        propose(tables, &self.active, &mut self.candidates, ticks);
         self.begun = true;
     }
 
@@ -110,6 +118,17 @@ impl Steps {
             result.now ≡ active_steps tables (rows_of tables scans) }
     {
         &self.active
+    }
+
+    /// Which transitions may be enabled, by place in rank order: each that is enabled is set (2.6.3, 2.6.5).
+    pub fn candidates(&self) -> &Flags
+        ensures len { length result.now ≡ transition_places self.now }
+        ensures enabled { (tables : Tabled) (scans : List Scan) → StepsAgree tables self.now scans → AreTables tables →
+            (j : ℕ) → j < length tables.sides →
+            is_enabled (is_active tables (rows_of tables scans)) (preceding_of tables.sides (of_rank tables j)) ≡ true →
+            flag result.now j ≡ true }
+    {
+        &self.candidates
     }
 
     /// Whether the transition is enabled: all its preceding steps are active (2.6.3).
@@ -142,8 +161,8 @@ impl Steps {
         }
     }
 
-    /// Works out the times of all steps at t: those of steps that aren't active are what they kept, so that only active
-    /// ones are handled (2.6.2). It takes no memory.
+    /// Works out the times of all steps at t, in microseconds from 0 to 2^62: those of steps that aren't active are what
+    /// they kept, so that only active ones are handled (2.6.2). It takes no memory.
     pub fn measure(&mut self, t: i64, ticks: &mut Ticks)
         requires low { pos 0 ≤ℤ t }
         requires high { t ≤ℤ pos (2 ^ 62) }
@@ -190,16 +209,11 @@ impl Steps {
         ensures transitions { transition_places self.new ≡ transition_places self.old }
         ensures kept { (tables : Tabled) (scans : List Scan) → StepsAgree tables other.now scans →
             StepsAgree tables self.new scans }
-        ensures ticks { Within (2 * step_places self.old + transition_places self.old) ticks.old ticks.new }
+        ensures ticks { Within (step_places self.old + 2 * transition_places self.old) ticks.old ticks.new }
     {
-        copy_flags(
-            &mut self.active,
-            &mut self.on,
-            &other.active,
-            &other.on,
-            ticks,
-        );
+        copy_flags(&mut self.active, &mut self.on, &other.active, &other.on);
         self.cleared.copy_from(&other.cleared, ticks);
+        self.candidates.copy_from(&other.candidates, ticks);
         copy_times(
             &mut self.since,
             &mut self.kept,

@@ -30,7 +30,7 @@ impl Model for Flags {
 }
 
 impl Flags {
-    /// A table of so many places, none of which is set.
+    /// A table of so many places, none of which is set. The one error is that memory was refused.
     pub fn new(alloc: Global, places: usize) -> Result<Self, AllocError>
         ensures { IfOk result (λ flags. flags ≡ replicate places false) }
     {

@@ -29,13 +29,6 @@ of_number P n globals first locals le within some none (Local id) = by_test (nat
   by_test true lt = let here : id.0 < locals = lt refl in some (first + id.0) (omega (arith, here, within))
   by_test false lt = none
 
--- a variable that is there has a number below n
-pub number_below : (n globals first locals i : ℕ) → globals ≤ n → first + locals ≤ n → (v : Variable)
-    → number_among globals first locals v ≡ Some i → i < n
-number_below n globals first locals i le within v e =
-    of_number (λ o. o ≡ Some i → i < n) n globals first locals le within
-    (λ j lt f. let same : j ≡ i = cc in omega (arith, lt, same)) (λ f. absurd cc) v e
-
 -- ---- two variables that are there have two numbers
 
 pub one_variable : (globals first locals i : ℕ) → globals ≤ first → (v w : Variable)

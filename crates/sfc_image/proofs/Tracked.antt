@@ -1,8 +1,7 @@
 -- Which slots are listed as written, after changes.
-use Rattle.std.proofs.Common.{◌≡◌, ◌≢◌, inl, inr, ℕ, ◌+◌, ◌<◌, ◌≤◌, ◌==◌, arith, Bool, true, false, List, length, get_or, slice_set, refl, sym, ◌∙◌, ap, subst}
+use Rattle.std.proofs.Common.{◌≡◌, ◌≢◌, inl, inr, ℕ, ◌+◌, ◌<◌, ◌==◌, arith, Bool, true, false, List, length, get_or, slice_set, refl, sym, ◌∙◌, ap, subst}
 use Rattle.std.proofs.lemmas.Bool.Decides.{eqb_tells}
 use Rattle.std.proofs.lemmas.List.{get_or-set_same, get_or-set_other, length-set}
-use Rattle.std.proofs.lemmas.List.Sums.{count_by-le-length}
 use Rattle.std.proofs.lemmas.Option.{slice_get_read, get_or_from_slice_get}
 use Rattle.sfc_image.specs.declared.slot.Slot.{Slot}
 use Rattle.sfc_image.specs.declared.slot.Locals.{Locals}
@@ -80,12 +79,6 @@ tracked_more slots written count i y lt off on h =
           (λ ne tried.
           listed_set written count i j room ∙ or_left (is_listed written count j) (i == j) (h.listed j tried));
     }
-
--- no more are listed than there are
-pub few_listed : (slots : List Slot) (written : List ℕ) (count : ℕ) → AreTracked slots written count → count ≤ length slots
-few_listed slots written count h =
-    let few : tried_count slots ≤ length slots = count_by-le-length is_tried slots in
-    omega (arith, few, h.counted)
 
 -- ---- closing
 
@@ -183,15 +176,6 @@ begun_more first n old new lt h =
           (λ e. ap is_tried (same ∙ ap (λ (j : ℕ). slot_at old j) (sym e))) (λ ne. h.flags i);
       count = count_same is_tried new k y no_slot lt refl ∙ h.count;
     }
-
-pub tracked_begun : (written : List ℕ) (count first n : ℕ) (old new : List Slot) → length new ≡ length old
-    → AreTracked old written count → AreBegun first n old new → AreTracked new written count
-tracked_begun written count first n old new long h b = record {
-  room = h.room ∙ sym long;
-  counted = b.count ∙ h.counted;
-  numbers = λ j lt. subst (λ (m : ℕ). number_at written j < m) (sym long) (h.numbers j lt);
-  listed = λ i on. h.listed i (sym (b.flags i) ∙ on);
-}
 
 -- the slot that was read
 pub slot_read : (slots : List Slot) (i : ℕ) (slot : Slot) → i < length slots → slot ≡ get_or slots i slot → slot ≡ slot_at slots i

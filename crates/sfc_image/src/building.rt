@@ -33,7 +33,7 @@ fn add_slots(slots: &mut Vec<Slot>, variables: &[Variable]) -> Result<(), AllocE
     Ok(())
 }
 
-/// A slot for each variable, and where the locals of each instance are.
+/// A slot for each variable, and where the locals of each instance are. The one error is that memory was refused.
 pub fn build(
     alloc: Global,
     globals: &[Variable],

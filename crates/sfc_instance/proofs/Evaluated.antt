@@ -28,17 +28,17 @@ item_at xs ys i d same lt = get_or_default xs i d (get_or xs i d) lt ∙ ap (λ 
 
 -- ---- one transition
 
-flag_of : (b : Bool) (r : Result Value Fault) (x : Bool) → Ok x ≡ cond b (as_flag r) (Ok false) → x ≡ (b && is_true r)
+pub flag_of : (b : Bool) (r : Result Value Fault) (x : Bool) → Ok x ≡ cond b (as_flag r) (Ok false) → x ≡ (b && is_true r)
 flag_of true (Ok v) x e = cc
 flag_of true (Err f) x e = absurd cc
 flag_of false r x e = cc
 
-no_fault : (b : Bool) (r : Result Value Fault) (x : Bool) → Ok x ≡ cond b (as_flag r) (Ok false) → cond b (result_err r) None ≡ None
+pub no_fault : (b : Bool) (r : Result Value Fault) (x : Bool) → Ok x ≡ cond b (as_flag r) (Ok false) → cond b (result_err r) None ≡ None
 no_fault true (Ok v) x e = refl
 no_fault true (Err f) x e = absurd cc
 no_fault false r x e = refl
 
-some_fault : (b : Bool) (r : Result Value Fault) (f : Fault) → Err f ≡ cond b (as_flag r) (Ok false) → cond b (result_err r) None ≡ Some f
+pub some_fault : (b : Bool) (r : Result Value Fault) (f : Fault) → Err f ≡ cond b (as_flag r) (Ok false) → cond b (result_err r) None ≡ Some f
 some_fault true (Ok v) f e = absurd cc
 some_fault true (Err g) f e = cc
 some_fault false r f e = absurd cc
@@ -116,7 +116,7 @@ evaluated_none tables chart env life ranked flags n is k = ap (λ (xs : List Boo
 
 -- ---- all of them
 
-among_range : (a n k : ℕ) → a ≤ k → k < a + n
+pub among_range : (a n k : ℕ) → a ≤ k → k < a + n
     → list_any (λ (id : TransitionId). id.0 == k) (map (λ (i : ℕ). let id : TransitionId = record { 0 = i } in id) (range_with_len a n)) ≡ true
 among_range a zero k le lt = absurd (omega (arith, le, lt))
 among_range a (suc n) k le lt = by_test (a == k) (λ t. among_range (a + 1) n k (other t) (omega (arith, lt)))

@@ -1,5 +1,7 @@
 -- conditions of all transitions
 pub mod Evaluated
+-- those that may be enabled
+pub mod Candidates
 -- numbers that are known at each place
 pub mod Timed
 -- times that are there already, and those that a scan reads

@@ -25,7 +25,7 @@ condition_work tables chart ranked = sum_by (transition_work tables chart) ranke
 -- what copying steps and action control handles
 abbrev pub copy_work : Tabled → ℕ
 copy_work tables =
-    2 * length tables.initial + length tables.sides + length tables.actions + length tables.associations
+    length tables.initial + 2 * length tables.sides + length tables.actions + length tables.associations
 
 -- what one action handles: a Boolean action's variable, or a declared action with the statements of its body
 abbrev pub action_work : Chart → Target → ℕ

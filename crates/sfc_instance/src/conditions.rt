@@ -7,8 +7,8 @@ ghost use Rattle.sfc_tables.specs.Tables.{tables_of};
 ghost use Rattle.sfc_evolve.specs.Agreement.{IsFor, StepsAgree};
 ghost use Rattle.sfc_instance.specs.Life.{Life, evolution_scans};
 ghost use Rattle.sfc_instance.specs.ProgramScan.{condition_fault, condition_flags};
-ghost use Rattle.sfc_instance.specs.Private.Evaluating.{evaluated};
-ghost use Rattle.sfc_instance.specs.Work.{condition_work, transition_work};
+ghost use Rattle.sfc_instance.specs.Private.Evaluating.{evaluated, test_work};
+ghost use Rattle.sfc_instance.specs.Work.{condition_work};
 
 use crate::setting::Setting;
 use sfc_evolve::steps::Steps;
@@ -31,9 +31,8 @@ fn evaluate<V: View>(
     requires transition { transition.0 < length setting.tables.now.sides }
     ensures value { (life : Life) → StepsAgree setting.entry.tables.now steps.now (evolution_scans life) →
         result ≡ evaluated setting.entry.tables.now setting.entry.chart.now (V.environment view.now) life transition.0 }
-    ensures ticks { Within (transition_work setting.entry.tables.now setting.entry.chart.now transition) ticks.old ticks.new }
+    ensures ticks { Within (test_work setting.entry.tables.now setting.entry.chart.now transition) ticks.old ticks.new }
 {
-    ticks.tick();
     if !steps.enabled(setting.tables, transition, ticks) {
         return Ok(false);
     }
@@ -68,8 +67,13 @@ pub fn evaluate_all<V: View>(
     ensures ticks { Within (condition_work setting.entry.tables.now setting.entry.chart.now setting.entry.tables.now.ranked) ticks.old ticks.new }
 {
     clear(conditions);
-    for transition in setting.tables.ranked() {
-        conditions[transition.0 as usize] = evaluate(setting, steps, view, *transition, ticks)?;
+    let ranked = setting.tables.ranked();
+    let candidates = steps.candidates();
+    let mut at = 0;
+    'candidates: while let Some(j) = candidates.next_set(at, ticks) {
+        let transition = ranked[j];
+        conditions[transition.0 as usize] = evaluate(setting, steps, view, transition, ticks)?;
+        at = j + 1;
     }
     Ok(())
 }

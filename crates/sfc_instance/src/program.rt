@@ -132,7 +132,7 @@ impl Program {
         self.scans
     }
 
-    /// The fault that ended its latest scan, if one did.
+    /// The fault that ended a scan since its latest reset, if one did; each later scan is passed over for it.
     pub fn fault(&self) -> Option<ScanFault>
         ensures { (tables : Tabled) (standing : Standing) → ProgramAgrees tables self.now standing → result ≡ standing.fault }
     {

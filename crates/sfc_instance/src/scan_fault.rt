@@ -6,8 +6,8 @@ use sfc_expr::fault::Fault;
 /// What ended a scan of a program instance.
 #[derive(Clone, Copy, Debug, PartialEq, Eq)]
 pub enum ScanFault {
-    /// A condition or a body had no value (3.3).
+    /// A condition or a body ended with a fault (3.3).
     Expression(Fault),
-    /// Action control found an error (2.6.4.5).
+    /// A control fault (2.6.4.5).
     Control(ControlFault),
 }

@@ -61,7 +61,7 @@ impl State {
         self.controls.copy_from(&other.controls, ticks);
     }
 
-    /// Works out the times of all steps at t. It takes no memory.
+    /// Works out the times of all steps at t, in microseconds from 0 to 2^62 (2.6.2). It takes no memory.
     pub fn measure(&mut self, tables: &Tables, t: i64, ticks: &mut Ticks)
         requires sizes { IsStateFor tables.now self.old }
         requires low { pos 0 ≤ℤ t }
@@ -74,8 +74,9 @@ impl State {
         self.steps.measure(t, ticks);
     }
 
-    /// One scan at t, with the condition of each transition and the time of each association. It takes no memory. The
-    /// error is the fault of action control; then the steps have gone on and the control has not.
+    /// One scan at t, in microseconds from 0 to 2^62, with the condition of each transition and the time of each
+    /// association in microseconds (2.6.5). It takes no memory. The error is the fault of action control; then the steps
+    /// have gone on and the control has not.
     pub fn advance(
         &mut self,
         tables: &Tables,

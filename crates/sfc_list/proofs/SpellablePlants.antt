@@ -262,12 +262,12 @@ instances_spelled : (tasks : List Task) (types : List ProgramType) (task_list pr
     → map (λ p. p.name) types ≡ program_list → All IsName task_list → All IsName program_list → (is : List text_instance.Instance)
     → All (λ i. IsName i.name) is → All (λ i. IsInstance (length task_list) (length program_list) (instance_of task_list program_list i)) is
     → All (CanSpellInstance tasks types) (map (instance_of task_list program_list) is)
-instances_spelled tasks types task_list program_list t p ta pr [] n h = All-nil (CanSpellInstance tasks types)
-instances_spelled tasks types task_list program_list t p ta pr (i ∷ is) n h =
+instances_spelled tasks types task_list program_list t p named typed [] n h = All-nil (CanSpellInstance tasks types)
+instances_spelled tasks types task_list program_list t p named typed (i ∷ is) n h =
     let Found : text_instance.Instance → Type 0 = λ i. IsInstance (length task_list) (length program_list) (instance_of task_list program_list i) in
     All-cons (CanSpellInstance tasks types) (instance_of task_list program_list i) (map (instance_of task_list program_list) is)
-    (instance_spelled tasks types task_list program_list i t p ta pr (All-head (λ i. IsName i.name) i is n) (All-head Found i is h))
-    (instances_spelled tasks types task_list program_list t p ta pr is (All-tail (λ i. IsName i.name) i is n) (All-tail Found i is h))
+    (instance_spelled tasks types task_list program_list i t p named typed (All-head (λ i. IsName i.name) i is n) (All-head Found i is h))
+    (instances_spelled tasks types task_list program_list t p named typed is (All-tail (λ i. IsName i.name) i is n) (All-tail Found i is h))
 
 -- ---- the whole
 

@@ -3,13 +3,7 @@ use Rattle.std.proofs.Common.{◌≡◌, ℕ, false, List, [], ◌∷◌, map, A
 use Rattle.std.proofs.lemmas.List.Elements.{All-nil, All-cons, All-head, All-tail, All-weaker}
 use Rattle.std.proofs.lemmas.Simd.{map-map}
 use Rattle.sfc_tokens.specs.declared.var_type.VarType.TheVariants as types
-use Rattle.sfc_text.specs.declared.statement.Statement.{Statement, Row_of-Branch, end_of-Branch, more_of-Branch}
-use Rattle.sfc_text.specs.declared.statement.Statement.TheVariants as statement
-use Rattle.sfc_text.specs.declared.statement.Branch.{Branch, Row_of-Statement, end_of-Statement, more_of-Statement}
-use Rattle.sfc_text.specs.declared.statement.Branch.TheVariants as branch
-use Rattle.sfc_text.specs.declared.tree.Element.{Element}
-use Rattle.sfc_text.specs.declared.tree.Element.TheVariants as element
-use Rattle.sfc_text.specs.Trees.{Tree, Block, TransitionTree, ActionTree, ElementTree, ProgramTree, SourceTree, before, row_branches, beside, row_statements, block_of, element_of}
+use Rattle.sfc_text.specs.Trees.{Tree, Block, TransitionTree, ActionTree, ElementTree, ProgramTree, SourceTree}
 use Rattle.sfc_expr.specs.declared.value.Value.TheVariants as value
 use Rattle.sfc_expr.specs.Trees.{Literal, Nothing}
 use Rattle.sfc_expr.specs.Checking.{checked, checked_body}
@@ -26,33 +20,10 @@ use Rattle.sfc_chart.specs.Loading.{tasks_check, program_name, programs_check}
 use Rattle.sfc_chart.specs.Built.{source_check}
 use Rattle.sfc_list.specs.WrittenCharts.{transition_tree, action_tree}
 use Rattle.sfc_list.specs.Written.{program_tree}
-use Rattle.sfc_list.proofs.WrittenShapes.{shape, block_shape, HasShape, shape_kept, AreStatements, AreBranches, HasBodyShape, body_shape_kept}
+use Rattle.sfc_list.proofs.WrittenShapes.{shape, block_shape, HasShape, shape_kept, AreStatements, HasBodyShape, body_shape_kept}
 use Rattle.sfc_list.proofs.WrittenLists.{each_all, map_again, kinds_pass}
 use Rattle.sfc_list.proofs.WrittenVariables.{held}
 use Rattle.sfc_list.proofs.WrittenPrograms.{transitions_in, actions_in, elements_again, tree_kept}
-
--- ---- the trees that a text is read as
-
-mutual
-  statement_before : (s : Statement) (b : Block) → AreStatements b → AreStatements (before s b)
-  statement_before (statement.Assign v e) b h = h
-  statement_before (statement.If' shape rows) b h = (branches_are rows, h)
-
-  branches_are : {n : _} (rows : Row_of-Branch n) → AreBranches (row_branches rows)
-  branches_are end_of-Branch = tt
-  branches_are (more_of-Branch r rest) = branch_before r (row_branches rest) (branches_are rest)
-
-  branch_before : (r : Branch) (b : Block) → AreBranches b → AreBranches (beside r b)
-  branch_before (branch.When' e shape body) b h = (statements_are body, h)
-  branch_before (branch.Otherwise' shape body) b h = (statements_are body, h)
-
-  statements_are : {n : _} (rows : Row_of-Statement n) → AreStatements (row_statements rows)
-  statements_are end_of-Statement = tt
-  statements_are (more_of-Statement s rest) = statement_before s (row_statements rest) (statements_are rest)
-
-pub block_are : (ss : List Statement) → AreStatements (block_of ss)
-block_are [] = tt
-block_are (s ∷ ss) = statement_before s (block_of ss) (block_are ss)
 
 -- ---- conditions and bodies
 
@@ -66,15 +37,6 @@ bodies elements = map (λ a. block_shape a.body) (actions_of elements)
 -- each body has its branches in IFs alone
 abbrev pub AreBodies : List ElementTree → Type 0
 AreBodies elements = All (λ a. AreStatements a.body) (actions_of elements)
-
--- the trees that a text is read as have such bodies
-pub bodies_are : (es : List Element) → AreBodies (map element_of es)
-bodies_are [] = All-nil (λ a. AreStatements a.body)
-bodies_are (element.Step s ∷ es) = bodies_are es
-bodies_are (element.Transition t ∷ es) = bodies_are es
-bodies_are (element.Action a ∷ es) =
-    All-cons (λ a. AreStatements a.body) (record { name = a.name; body = block_of a.body.items }) (actions_of (map element_of es))
-    (block_are a.body.items) (bodies_are es)
 
 module _ (space : Space) where
   condition_kept : (t : TransitionTree) → transition_check space t ≡ None

@@ -55,14 +55,6 @@ either : (P : expr.Variable → Type 0) (a b : Option (expr.Variable × VarType)
 either P (Some w) b first second v e = first v e
 either P None b first second v e = second v e
 
-pub global_spelled : (globals : List Variable) (name : List ℕ) (v : expr.Variable × VarType)
-    → global_named globals name ≡ Some v
-    → same_word (variable_name (record { globals = globals; locals = []; steps = []; actions = [] }) v.0) name ≡ true
-global_spelled globals name v e =
-    among (variable_name (record { globals = globals; locals = []; steps = []; actions = [] }))
-    (λ place. Global (record { 0 = place })) globals
-    (λ i. refl) name (variable_place globals name) v refl e
-
 pub variable_spelled : (space : Space) (name : List ℕ) (v : expr.Variable × VarType)
     → variable_named space.locals space.globals name ≡ Some v → same_word (variable_name space v.0) name ≡ true
 variable_spelled space name =

@@ -1,5 +1,5 @@
 -- What a listing spells of a plant is loaded as that plant again.
-use Rattle.std.proofs.Common.{◌≡◌, ℕ, nat_lt, false, List, [], length, map, All, Option, None, Some, is_none, unwrap_or, refl, sym, ap, subst, ◌∙◌}
+use Rattle.std.proofs.Common.{◌≡◌, ℕ, nat_lt, false, List, [], length, map, All, Option, None, Some, is_none, unwrap_or, refl, ap, ◌∙◌}
 use Rattle.std.specs.Option.{option_map}
 use Rattle.std.proofs.lemmas.List.{length-map}
 use Rattle.std.proofs.lemmas.List.Elements.{All-map, All-weaker}
@@ -298,7 +298,3 @@ module _ (s : SourceTree) where
             (ap (λ q. image_check (image_variables q)) built ∙ after_instances))));
         built = built;
       }
-
--- the same of the plant that a tree is
-pub written_loads : (s : SourceTree) (loaded : PlantData) → source_check s ≡ None → loaded ≡ plant_of s → LoadsAgain loaded
-written_loads s loaded e built = subst LoadsAgain (sym built) (loads_again s e)

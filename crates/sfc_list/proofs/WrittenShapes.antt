@@ -1,6 +1,6 @@
 -- What a listing spells of expressions and statements has their shape: the same operators and statements, nested in the same
 -- way. So it has as many operators, and lies as deep.
-use Rattle.std.proofs.Common.{◌≡◌, ℕ, ◌+◌, List, [], false, Option, Some, None, Ok, Err, IfOk, refl, sym, ap, ◌∙◌}
+use Rattle.std.proofs.Common.{◌≡◌, ℕ, ◌+◌, List, [], false, Option, Some, None, Ok, Err, IfOk, refl, ap}
 use Rattle.std.specs.Prelude.{⊤}
 use Rattle.sfc_tokens.specs.declared.var_type.VarType.{VarType}
 use Rattle.sfc_tokens.specs.declared.var_type.VarType.TheVariants as types
@@ -39,10 +39,6 @@ operators_by_shape (text.Named v) = refl
 operators_by_shape (text.Not a) = ap (λ n. 1 + n) (operators_by_shape a)
 operators_by_shape (text.Minus a) = ap (λ n. 1 + n) (operators_by_shape a)
 operators_by_shape (text.Binary o a b) = λ i. 1 + (operators_by_shape a i + operators_by_shape b i)
-
--- trees of one shape have as many operators
-pub as_many_operators : (a b : text.Tree) → shape a ≡ shape b → text.operators a ≡ text.operators b
-as_many_operators a b e = sym (operators_by_shape a) ∙ ap text.operators e ∙ operators_by_shape b
 
 operator_kept : (o : text_operator.Operator) → operator_tree (operator_of o) ≡ o
 operator_kept written.Or = refl

@@ -22,13 +22,6 @@ consumes_none (Some xs) None new bytes c d = absurd c
 consumes_none (Some xs) (Some ys) None bytes c d = absurd d
 consumes_none (Some xs) (Some ys) (Some zs) bytes c d = c ∙ ap (λ t. bytes ++ t) d
 
--- bytes, and then a read that failed
-pub lost_before : (n : ℕ) (old mid new : Option (List ℕ)) (bytes : List ℕ) → length bytes ≤ n → Consumes old mid bytes → Keeps mid new → LosesAtMost n (old, new)
-lost_before n None mid new bytes l c k = (bytes, l, tt)
-lost_before n (Some xs) None new bytes l c k = absurd c
-lost_before n (Some xs) (Some ys) None bytes l c k = absurd k
-lost_before n (Some xs) (Some ys) (Some zs) bytes l c k = (bytes, l, c ∙ ap (λ t. bytes ++ t) (sym k))
-
 -- as many as are taken at most
 pub most_taken : (n : ℕ) (old new : Option (List ℕ)) (bytes : List ℕ) → length bytes ≡ n → Consumes old new bytes → TakesAtMost n (old, new) bytes
 most_taken n None new bytes e c = (tt, tt)

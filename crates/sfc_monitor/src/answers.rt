@@ -58,7 +58,8 @@ fn append_programs(
     Ok(())
 }
 
-/// The lines of a command that was answered so; the resource has seen it.
+/// The lines of a command that was answered so; the resource has seen it. The one error is that memory was refused;
+/// then a front of it may stand there.
 pub fn append_answer(
     alloc: Global,
     out: &mut Vec<u8>,
@@ -93,7 +94,8 @@ fn append_numbered(
     append_variable(alloc, out, resource.plant(), id, read)
 }
 
-/// A line for each variable, in the order of the image.
+/// A line for each variable, in the order of the image. The one error is that memory was refused; then a front of it
+/// may stand there.
 pub fn append_image(alloc: Global, out: &mut Vec<u8>, resource: &Resource) -> Result<(), AllocError>
     ensures { (h : History) → Agrees resource.now h → OnOk result (out.new.items ≡
         out.old.items ++ image_lines (plant_of resource.now) h) }

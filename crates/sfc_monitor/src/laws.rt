@@ -1,4 +1,5 @@
-//! What holds of the output itself.
+//! What holds of the output itself. Each law is a function whose contract is the law; a body, where there is one, cites
+//! another law.
 
 ghost use Rattle.std.specs.Prelude.{◌≡◌, ℕ, List};
 ghost use Rattle.sfc_monitor.specs.Replay.{IsOutput};

@@ -71,7 +71,8 @@ impl fmt::Display for MonitorError {
 impl Error for MonitorError {}
 
 impl MonitorError {
-    /// The exit status of a program that ends with it: 1 where the chart or the script is refused, 3 where a reader or the writer failed, 4 where memory was refused.
+    /// The exit status of a program that ends with it: 1 where the chart or the script is refused, 3 where a reader or the
+    /// writer failed, 4 where memory was refused.
     pub fn status(self) -> u8
         ensures { result ≡ status_of self }
     {

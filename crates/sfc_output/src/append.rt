@@ -9,7 +9,7 @@ use sfc_expr::value::Value;
 use sfc_tokens::time_text::put_time;
 use std::alloc::{AllocError, Global};
 
-/// Puts the bytes at the end.
+/// Puts the bytes at the end. The one error is that memory was refused; then a front of it may stand there.
 pub fn append(out: &mut Vec<u8>, bytes: &[u8]) -> Result<(), AllocError>
     ensures { OnOk result (out.new.items ≡ out.old.items ++ bytes.now) }
 {
@@ -17,7 +17,7 @@ pub fn append(out: &mut Vec<u8>, bytes: &[u8]) -> Result<(), AllocError>
     Ok(())
 }
 
-/// Puts a number in decimal digits at the end.
+/// Puts a number in decimal digits at the end. The one error is that memory was refused; then a front of it may stand there.
 pub fn append_number(alloc: Global, out: &mut Vec<u8>, number: u64) -> Result<(), AllocError>
     ensures { OnOk result (out.new.items ≡ out.old.items ++ decimal number) }
 {
@@ -25,7 +25,8 @@ pub fn append_number(alloc: Global, out: &mut Vec<u8>, number: u64) -> Result<()
     append(out, digits.as_bytes())
 }
 
-/// Puts the TIME text of so many microseconds at the end.
+/// Puts the TIME text of so many microseconds at the end. The one error is that memory was refused; then a front of it may
+/// stand there.
 pub fn append_time(out: &mut Vec<u8>, micros: i64) -> Result<(), AllocError>
     ensures { OnOk result (out.new.items ≡ out.old.items ++ time_text micros) }
 {
@@ -44,7 +45,8 @@ fn append_signed(alloc: Global, out: &mut Vec<u8>, number: i64) -> Result<(), Al
     append_number(alloc, out, number.unsigned_abs())
 }
 
-/// Puts a value at the end: TRUE, FALSE, decimal digits, or the TIME text.
+/// Puts a value at the end: TRUE, FALSE, decimal digits, or the TIME text. The one error is that memory was refused; then a
+/// front of it may stand there.
 pub fn append_value(alloc: Global, out: &mut Vec<u8>, value: Value) -> Result<(), AllocError>
     ensures { OnOk result (out.new.items ≡ out.old.items ++ text_of_value value) }
 {

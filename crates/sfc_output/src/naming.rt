@@ -67,7 +67,8 @@ fn append_place(
     }
 }
 
-/// Puts the name of a variable of the image at the end: that of a global variable, or INST.NAME.
+/// Puts the name of a variable of the image at the end: that of a global variable, or INST.NAME. The one error is
+/// that memory was refused; then a front of it may stand there.
 pub fn append_image_name(out: &mut Vec<u8>, plant: &Plant, id: VarId) -> Result<(), AllocError>
     ensures { OnOk result (out.new.items ≡ out.old.items ++ naming.image_name plant.now id) }
 {

@@ -10,7 +10,5 @@ pub mod Loading
 pub mod Built
 -- the places of steps, actions and transitions by name
 pub mod Finding
--- what its conditions and bodies have to handle
-pub mod Work
 -- What private clauses cite.
 pub mod Scoping

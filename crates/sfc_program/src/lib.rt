@@ -4,7 +4,8 @@
 //! - `program_type`: what a program type is loaded as; `load`: its trees to it.
 //! - `limits`: how much there may be; `element_names`: the names of steps, actions and transitions.
 //! - `scope`: what a name stands for while it is loaded; `type_scope`: and once it was.
-//! - `associations`: steps with their associations; `transitions`; `actions`: actions with a body.
+//! - `associations`: steps with their associations; `transitions`: transitions with their steps and
+//!   conditions; `actions`: actions with a body.
 #![tactic(auto)]
 
 mod actions;

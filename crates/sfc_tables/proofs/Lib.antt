@@ -1,3 +1,4 @@
+pub mod Departing
 pub mod Found
 pub mod Groupings
 pub mod Listings

@@ -1,11 +1,10 @@
 -- The list of actions, and how long it is.
-use Rattle.std.proofs.Common.{◌≡◌, inl, inr, ℕ, suc, ◌+◌, ◌≤◌, ◌||◌, ◌&&◌, not, Bool, true, false}
-use Rattle.std.proofs.Common.{cond, List, [], ◌∷◌, ◌++◌, length, drop, get_or, refl, sym, ◌∙◌, ap, arith}
+use Rattle.std.proofs.Common.{◌≡◌, inl, inr, ℕ, ◌+◌, ◌||◌, ◌&&◌, not, Bool, true, false}
+use Rattle.std.proofs.Common.{cond, List, [], ◌∷◌, ◌++◌, length, drop, get_or, refl, sym, ◌∙◌, ap}
 use mathlib.Core.Logic.{◌⊎◌}
-use Rattle.std.specs.Prelude.{map, filter, slice_get, Option, Some, None, sum_by}
-use Rattle.std.specs.List.{list_any, cons_option}
+use Rattle.std.specs.Prelude.{map, filter, slice_get, Some}
+use Rattle.std.specs.List.{list_any}
 use Rattle.std.proofs.lemmas.List.{append_assoc, append-nil, length-append, length-map, drop_more}
-use Rattle.std.proofs.lemmas.List.Concat.{length-flat_map}
 use Rattle.std.proofs.lemmas.List.Elements.{filter_map-append}
 use Rattle.std.proofs.lemmas.List.FromFn.{length-map-range_with_len}
 use Rattle.std.proofs.lemmas.List.Sums.{fold-append}
@@ -122,37 +121,6 @@ pub distinct_is : (vs : List Variable) → with_booleans [] vs ≡ distinct vs
 distinct_is vs = known_is [] vs ∙ filter-all (new_to []) (distinct vs) (λ v. refl)
 
 -- ---- how many
-
-filter_short : (p : Variable → Bool) (vs : List Variable) → length (filter p vs) ≤ length vs
-filter_short p [] = omega arith
-filter_short p (v ∷ vs) = elim (bool_cases (p v)) [
-  | inl e ↦ rw e (let rest = filter_short p vs in omega arith)
-  | inr e ↦ rw e (let rest = filter_short p vs in omega arith)
-]
-
-distinct_short : (vs : List Variable) → length (distinct vs) ≤ length vs
-distinct_short [] = omega arith
-distinct_short (v ∷ vs) = omega (arith, filter_short (other_than v) (distinct vs), distinct_short vs)
-
-booleans_short : (associations : List Association) → length (booleans_of associations) ≤ length associations
-booleans_short [] = omega arith
-booleans_short (a ∷ associations) = by (boolean_of a.target) (booleans_short associations)
-  where
-    by : (o : Option Variable) → length (booleans_of associations) ≤ length associations
-        → length (cons_option o (booleans_of associations)) ≤ suc (length associations)
-    by None rest = omega arith
-    by (Some v) rest = omega arith
-
-pub booleans_few : (steps : List Step)
-    → length (distinct (booleans_of (associations_in steps))) ≤ sum_by (λ step. length step.associations) steps
-booleans_few steps =
-    omega (
-      arith,
-      distinct_short (booleans_of (associations_in steps)),
-      booleans_short (associations_in steps),
-      length-flat_map
-          (λ (step : Step). step.associations) steps,
-    )
 
 -- ---- all actions
 

@@ -11,3 +11,5 @@ pub mod Tables
 -- What private clauses cite.
 pub mod Codes
 pub mod Private
+-- the transitions that a step is the first to precede
+pub mod Departures

@@ -89,7 +89,7 @@ impl ActionBlocks {
     ghost use Rattle.sfc_tables.specs.Chart.{Space, IsChart};
     ghost use Rattle.sfc_tables.specs.Tables.{associations_of};
 
-    /// The associations of this chart.
+    /// The associations of this chart. The one error is that memory was refused.
     pub fn build(alloc: Global, chart: &Chart) -> Result<ActionBlocks, AllocError>
         requires chart { (space : Space) × IsChart space chart.now }
         ensures { IfOk result (λ blocks. blocks ≡ record {

@@ -100,7 +100,7 @@ impl ActionList {
     ghost use Rattle.std.specs.Prelude.{◌≡◌, ◌<◌, ◌≤◌, ◌^◌, ◌-◌, length, sum_by, slice_get, Some, IfOk};
     ghost use Rattle.sfc_tables.specs.Actions.{actions_of, number_of};
 
-    /// The actions of this chart.
+    /// The actions of this chart. The one error is that memory was refused.
     pub fn build(alloc: Global, chart: &Chart) -> Result<ActionList, AllocError>
         requires associations { sum_by (λ step. length step.associations) chart.now.steps ≤ 4096 }
         ensures { IfOk result (λ list. list ≡ actions_of chart.now) }

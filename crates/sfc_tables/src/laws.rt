@@ -1,4 +1,4 @@
-//! What holds of the definitions themselves: functions that do nothing, and whose contracts are the laws.
+//! What holds of the definitions themselves. Each law is a function with an empty body, whose contract is the law.
 
 ghost use Rattle.std.specs.Prelude.{◌≡◌, ◌↔◌, ℕ, List, Option, true};
 ghost use Rattle.sfc_tables.specs.declared.ids.TransitionId.{TransitionId};

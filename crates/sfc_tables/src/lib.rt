@@ -5,6 +5,7 @@
 //! - `action_key`: keys by which Boolean actions are found; `action_list`: all actions by number.
 //! - `association`: which action a step is associated with, and how.
 //! - `chart`: one chart, its steps, transitions and actions in text order.
+//! - `departures`: the transitions that a step is the first to precede.
 //! - `groups`: associations in groups of one step or one action.
 //! - `ids`: numbers of transitions, actions and associations.
 //! - `laws`: what holds of the definitions themselves.
@@ -21,6 +22,7 @@ mod action_key;
 mod action_list;
 pub mod association;
 pub mod chart;
+mod departures;
 mod groups;
 pub mod ids;
 pub mod laws;

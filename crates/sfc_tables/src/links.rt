@@ -57,7 +57,7 @@ impl Links {
     ghost use Rattle.std.specs.Prelude.{◌≡◌, ◌<◌, length, map, IfOk};
     ghost use Rattle.sfc_tables.specs.Tables.{sides_of, sides_at};
 
-    /// The links of these transitions.
+    /// The links of these transitions. The one error is that memory was refused.
     pub fn build(alloc: Global, transitions: &[Transition]) -> Result<Links, AllocError>
         ensures { IfOk result (λ links. links ≡ map sides_of transitions.now) }
     {

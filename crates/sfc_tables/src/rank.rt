@@ -17,7 +17,7 @@ fn key(priority: Option<u32>) -> u64
     }
 }
 
-/// The transitions in rank order.
+/// The transitions in rank order. The one error is that memory was refused.
 pub fn rank_order(
     alloc: Global,
     transitions: &[Transition],

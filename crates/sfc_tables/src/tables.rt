@@ -1,6 +1,7 @@
 //! The tables of a chart.
 
 use crate::action_blocks::ActionBlocks;
+use crate::departures::Departures;
 use crate::ids::TransitionId;
 use crate::links::Links;
 use std::marker::Model;
@@ -12,6 +13,7 @@ pub struct Tables {
     links: Links,
     ranked: Vec<TransitionId>,
     blocks: ActionBlocks,
+    departures: Departures,
 }
 
 impl Model for Tables {
@@ -22,13 +24,15 @@ impl Model for Tables {
 
     ghost view = { λ tables. tabled tables.initial.items tables.links tables.ranked.items tables.blocks };
 
-    ghost invariant = { λ tables. AreKept tables.initial.items tables.links tables.ranked.items tables.blocks };
+    ghost invariant = { λ tables. AreKept tables.initial.items tables.links tables.ranked.items tables.blocks
+        tables.departures };
 }
 
 ghost use Rattle.std.specs.Prelude.{◌≡◌, ◌<◌, ◌≤◌, ◌==◌, ◌-◌, map, filter, length, slice_get, Some, IfOk};
 ghost use Rattle.sfc_flags.specs.Flags.{flag};
 ghost use Rattle.sfc_tables.specs.Actions.{number_of};
 ghost use Rattle.sfc_tables.specs.Chart.{Space, IsChart};
+ghost use Rattle.sfc_tables.specs.Departures.{departures};
 ghost use Rattle.sfc_tables.specs.Tables.{sides_at, tables_of, IsTablesOf, AreTables};
 
 use crate::association::Target;
@@ -57,11 +61,13 @@ impl Tables {
         let links = Links::build(alloc, chart.transitions.as_slice())?;
         let ranked = rank::rank_order(alloc, chart.transitions.as_slice())?;
         let blocks = ActionBlocks::build(alloc, chart)?;
+        let departures = Departures::build(alloc, initial.len(), &links, &ranked)?;
         Ok(Tables {
             initial,
             links,
             ranked,
             blocks,
+            departures,
         })
     }
 
@@ -127,6 +133,14 @@ impl Tables {
         ensures tables { AreTables self.now }
     {
         &self.ranked
+    }
+
+    /// The places in rank order of the transitions whose first preceding step is this one (2.6.3, 2.6.5).
+    pub fn departures(&self, step: StepId) -> &[usize]
+        requires { step.0 < length self.now.initial }
+        ensures { result.now ≡ departures self.now step.0 }
+    {
+        self.departures.of_step(step)
     }
 
     /// The action of this number (2.6.4.1).

@@ -1,5 +1,5 @@
 -- What is kept of a list of releases.
-use Rattle.std.proofs.Common.{◌≡◌, ℕ, zero, suc, ◌+◌, ◌-◌, ◌<◌, ◌^◌, arith, List, [], ◌∷◌, ◌++◌, length, ℤ, pos, ◌≤ℤ◌, Some, None, Bool, false, refl, sym, ◌∙◌, ap, subst, append-nil}
+use Rattle.std.proofs.Common.{◌≡◌, ℕ, zero, suc, ◌+◌, ◌-◌, ◌<◌, ◌^◌, arith, List, [], ◌∷◌, ◌++◌, length, ℤ, pos, ◌≤ℤ◌, Some, None, Bool, false, refl, sym, ◌∙◌, ap, subst}
 use Rattle.std.proofs.lemmas.List.{length-append}
 use Rattle.sfc_tasks.specs.declared.place.Place.{Place}
 use Rattle.sfc_tasks.specs.Multiples.{multiple, multiples_to, multiples_from, multiples_between, next_multiple}
@@ -26,13 +26,6 @@ gained_first us old new e same since more = record { same = same; kept = kept } 
   kept [] h = record { since = since; more = more }
   kept (x ∷ xs) h = absurd (let f = h.since in cc)
 
--- no release
-pub gained_none : (us : List ℤ) (old : Place) → us ≡ [] → Gains us old old
-gained_none us old e = record {
-  same = record { interval = refl; priority = refl; overruns = refl };
-  kept = λ waited h. subst (λ (x : List ℤ). KeepsReleases old x) (ap (λ (x : List ℤ). waited ++ x) (sym e)) (subst (λ (x : List ℤ). KeepsReleases old x) (sym (append-nil waited)) h);
-}
-
 pub length-multiples_from : (interval : ℤ) (m n : ℕ) → length (multiples_from interval m n) ≡ n
 length-multiples_from interval m zero = refl
 length-multiples_from interval m (suc n) = ap suc (length-multiples_from interval (suc m) n)
@@ -40,10 +33,6 @@ length-multiples_from interval m (suc n) = ap suc (length-multiples_from interva
 pub first_of_multiples : (interval : ℤ) (m n : ℕ) → 0 < n → first_of (multiples_from interval m n) ≡ Some (multiple interval m)
 first_of_multiples interval m zero lt = absurd (omega arith)
 first_of_multiples interval m (suc n) lt = refl
-
-pub no_multiples : (interval : ℤ) (m n : ℕ) → n ≡ 0 → multiples_from interval m n ≡ []
-no_multiples interval m zero e = refl
-no_multiples interval m (suc n) e = absurd (omega arith)
 
 single_off : (interval last t : ℤ) (single : Bool) → single ≡ false
     → elapsed_releases interval last t single ≡ multiples_between interval last t

@@ -74,8 +74,8 @@ pub fn each_release()
 {}
 
 /// The releases of a stretch are its multiples and its rises. Its multiples are those of the interval that came while SINGLE
-/// read 0; where time does not go back each comes later than those before it, so that none counts twice (2.7.2). A rise is an
-/// event of its own, also at the instant of a multiple (our choice).
+/// read FALSE; where time does not go back each comes later than those before it, so that none counts twice (2.7.2). A rise is
+/// an event of its own, also at the instant of a multiple (our choice).
 pub fn stretch_multiples()
     ensures kinds { (interval : ℤ) (k : ℕ) (before stretch : List Call) → length (releases_in interval k before stretch) ≡
         length (multiples_in interval k before stretch) + count_by (is_rise_of k) stretch }

@@ -82,7 +82,7 @@ impl TaskTable {
     }
 
     /// Time goes on to t, in microseconds from 0 to 2^62: each multiple of a task's interval after the instant before
-    /// and not after t is a release of the task, but where its SINGLE reads 1 (2.7.2). `singles` has what the SINGLE of
+    /// and not after t is a release of the task, but where its SINGLE reads TRUE (2.7.2). `singles` has what the SINGLE of
     /// each task read since the instant before, and FALSE for a task without one.
     pub fn elapse(&mut self, t: i64, singles: &[bool], ticks: &mut Ticks)
         requires singles { length singles.now ≡ task_places self.old }
@@ -97,7 +97,8 @@ impl TaskTable {
         self.last = t;
     }
 
-    /// What the task's SINGLE reads rose at t, which is a release of the task (2.7.2).
+    /// What the task's SINGLE reads rose at t, in microseconds: a release of the task, also at the instant of a multiple (2.7.2;
+    /// our choice).
     pub fn edge(&mut self, task: TaskId, t: i64, ticks: &mut Ticks)
         requires { task.0 < task_places self.old }
         ensures size { task_places self.new ≡ task_places self.old }
@@ -110,7 +111,7 @@ impl TaskTable {
         self.places[k] = after_rise(self.places[k], t);
     }
 
-    /// Of the tasks that wait, the one that goes first: that of the lowest priority, then the one that waits longest,
+    /// Of the tasks that wait, the one that goes first: that with the lowest priority number, then the one that waits longest,
     /// then the first in the table (2.7.2). `None` where no task waits.
     pub fn pick(&self, ticks: &mut Ticks) -> Option<TaskId>
         ensures value { (tasks : List Task) (calls : List Call) → TasksAgree tasks self.now calls →
@@ -124,7 +125,7 @@ impl TaskTable {
     }
 
     /// The next release of the task by its interval, after t: the least multiple above t. `None` where that is after
-    /// 2^62, where the task has no interval, and while its SINGLE reads 1 (2.7.2). In microseconds.
+    /// 2^62, where the task has no interval, and while its SINGLE reads TRUE (2.7.2). In microseconds.
     pub fn next(&self, task: TaskId, t: i64, singles: &[bool], ticks: &mut Ticks) -> Option<i64>
         requires task { task.0 < task_places self.now }
         requires singles { length singles.now ≡ task_places self.now }

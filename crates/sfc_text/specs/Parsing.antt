@@ -1,5 +1,5 @@
--- What private clauses cite: reading by rules from left to right. No promise rests on these definitions: the lemmas of proofs/
--- tie them to the rules above.
+-- What private clauses cite: reading by rules from left to right. The lemmas of proofs/ tie these definitions to the rules; a
+-- public clause cites only `fine`, that one token decides (`laws::one_token_decides`).
 pub mod Lookahead
 pub mod Reading
 pub mod Depth

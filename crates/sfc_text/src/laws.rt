@@ -1,4 +1,4 @@
-//! What holds of the grammar itself.
+//! What holds of the grammar itself. Each law is a function with an empty body, whose contract is the law.
 
 ghost use Rattle.std.specs.Prelude.{◌++◌, ◌≡◌, ◌≤◌, true, Contains, List, ℕ};
 ghost use Rattle.sfc_tokens.specs.ReadErrors.{Read};

@@ -23,8 +23,8 @@ fn line_at(text: &[u8], tokens: &[Token], left: usize) -> u32 {
 
 /// The tree of a text (Annex B): program types, and one configuration among them.
 ///
-/// The errors are those of `tokens`; then the first of `Syntax`, at the line of a token that can't go on the text, or at
-/// the last line where the tokens end too early, and `TooDeep`, at the line of the first token that stands in more than 64
+/// The errors are those of `tokens`; then the first of `Syntax`, at the line of a token that can't continue the text, or
+/// at the last line where the tokens end too early, and `TooDeep`, at the line of the first token that stands in more than 64
 /// open parentheses, prefix operators and IF statements, or is the 257th operator of an expression (our choice); `Memory`
 /// where memory was refused. `Syntax` is told only where no limits would give a tree, and `TooDeep` only where ours give
 /// none.

@@ -1,5 +1,5 @@
 -- Digits behind a decimal point, from the last to the first.
-use Rattle.std.proofs.Common.{◌≡◌, ℕ, ◌*◌, ◌/◌, ◌≤◌, ◌^◌, List, [], ◌∷◌, ◌++◌, Option, Some, None, ◌+◌, ◌<◌, refl, sym, ap, ◌∙◌, arith}
+use Rattle.std.proofs.Common.{◌≡◌, ℕ, ◌*◌, ◌/◌, ◌≤◌, List, [], ◌∷◌, ◌++◌, Option, Some, None, ◌+◌, ◌<◌, refl, sym, ap, ◌∙◌, arith}
 use Rattle.std.proofs.Math.Nat.{mul-le-mul_right}
 use Rattle.sfc_tokens.specs.declared.unit.Unit.{Unit}
 use Rattle.sfc_tokens.specs.declared.unit.Unit.TheVariants.{Day, Hour, Minute, Second, Millisecond}
@@ -34,13 +34,6 @@ whole_fits Hour n h = omega (arith, h)
 whole_fits Minute n h = omega (arith, h)
 whole_fits Second n h = omega (arith, h)
 whole_fits Millisecond n h = omega (arith, h)
-
-pub share_small : (u : Unit) → greatest / micros_of u ≤ 2 ^ 56
-share_small Day = omega arith
-share_small Hour = omega arith
-share_small Minute = omega arith
-share_small Second = omega arith
-share_small Millisecond = omega arith
 
 pub tenth_small : (unit v d : ℕ) → v ≤ unit → d < 10 → (v + d * unit) / 10 ≤ unit
 tenth_small unit v d h lt = let p : d * unit ≤ 9 * unit = mul-le-mul_right unit (omega (arith, lt)) in omega (arith, h, p)

@@ -1,5 +1,6 @@
--- What private clauses cite: the scanner as functions, from left to right. No promise rests on these definitions: the
--- lemmas of proofs/ tie them to the rules above.
+-- What private clauses cite: the scanner as functions, from left to right. The lemmas of proofs/ tie them to the rules
+-- above; a public clause cites only how a duration is read from left to right (`duration`, `laws::duration_read`), beside
+-- the rule.
 pub mod Runs
 pub mod Integers
 pub mod Durations

@@ -1,4 +1,5 @@
-//! What holds of the tokens and the TIME text themselves.
+//! What holds of the tokens and the TIME text themselves. Each law is a function with an empty body, whose contract is the
+//! law.
 
 ghost use Rattle.std.specs.Prelude.{◌≡◌, ◌≤◌, ◌<◌, ◌^◌, ◌↔◌, ℕ, ℤ, nat_eq, unsigned_abs, false, List, [], ◌∷◌, ◌++◌, length};
 ghost use Rattle.std.specs.Prelude.{Ok, Some, codes};

@@ -146,7 +146,8 @@ fn value_of(kind: LiteralKind, is_negative: bool, word: &[u8]) -> Option<TokenKi
     }
 }
 
-/// The literal that the word is, with a minus before it or without one, if it is one.
+/// The literal that the word is, with a minus before it or without one, if it is one. The one error is that memory
+/// was refused.
 #[tactic(auto, unfolding(crate::specs::Scanning::Literals::literal))]
 pub fn literal(
     alloc: Global,

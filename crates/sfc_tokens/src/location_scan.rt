@@ -86,7 +86,7 @@ fn numbers(alloc: Global, text: &[u8]) -> Result<Option<Vec<u32>>, AllocError>
     Ok(None)
 }
 
-/// The location that the text behind `%` is, if it is one.
+/// The location that the text behind `%` is, if it is one. The one error is that memory was refused.
 #[tactic(auto, unfolding(crate::specs::Scanning::Locations::location), using(crate::proofs::LocationProofs::counted))]
 pub fn location(alloc: Global, text: &[u8]) -> Result<Option<Location>, AllocError>
     ensures { IfOk result (λ found. scan.location text.now ≡ found) }

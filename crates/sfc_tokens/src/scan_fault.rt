@@ -1,4 +1,4 @@
-//! What keeps a reader from going on.
+//! What keeps the scanner from going on.
 
 ghost use Rattle.std.specs.Prelude.{◌≡◌};
 ghost use Rattle.sfc_tokens.specs.declared.scan_fault.ScanFault.TheVariants.{Memory};

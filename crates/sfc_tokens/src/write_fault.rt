@@ -11,7 +11,8 @@ use thiserror::Error;
 #[error("write fault")]
 pub struct WriteFault;
 
-/// Writes all the bytes. It stops at the first write that fails or takes none: a front of the bytes was then written.
+/// Writes all the bytes. The one error is that a write failed or took none, at the first of which it stops: a front of the
+/// bytes was then written.
 pub fn put_all<W: Write>(writer: &mut W, bytes: &[u8]) -> Result<(), WriteFault>
     ensures { Writes (W.contents writer.old) (W.contents writer.new) result bytes.now }
 {

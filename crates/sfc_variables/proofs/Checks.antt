@@ -13,9 +13,6 @@ pub fails_first : (f : LoadError) (a b : Check) → Fails f a → Fails f (a the
 fails_first fault.Memory a b h = tt
 fails_first f a b h = ap (λ c. c then b) h
 
-pub fails_later : (f : LoadError) (a b : Check) → a ≡ None → Fails f b → Fails f (a then b)
-fails_later f a b e h = subst (Fails f) (sym (passes a b e)) h
-
 then_assoc : (a b c : Check) → ((a then b) then c) ≡ (a then (b then c))
 then_assoc None b c = refl
 then_assoc (Some f) b c = refl

@@ -1,5 +1,9 @@
 //! `sfcmon`: checks and lists Sequential Function Charts, plays scripts on them and prints what happens, and tells what a
 //! refusal or a fault means.
+//!
+//! - `arguments`: the command line.
+//! - `explain`: what refusals and faults mean.
+//! - `files`: charts and scripts in files, standard output and exit status.
 #![tactic(auto)]
 
 mod arguments;

@@ -65,7 +65,7 @@ pub record AreKept (tables : Tabled) (begun : Bool) (active : List Bool) (since 
   pub clearing : (tr : ℕ) → flag cleared tr ≡ was_cleared (rows_of tables scans) tr
   pub activation : (s : ℕ) → s < step_count tables → flag activated s ≡ was_activated tables (rows_of tables scans) s
 
--- the work on these transitions, where each is tested
+-- the work on these transitions, where each is looked up and tested
 abbrev pub clearing_work : List Sides → List TransitionId → ℕ
 clearing_work sides ranked = sum_by (λ tr. 1 + 3 * length (sides_at sides tr).preceding) ranked
 

@@ -1,5 +1,5 @@
 -- One transition of a scan.
-use Rattle.std.specs.Prelude.{ℕ, ◌≡◌, ◌==◌, ◌&&◌, Bool, false, cond, List, Result, Ok, Err}
+use Rattle.std.specs.Prelude.{ℕ, ◌≡◌, ◌==◌, ◌&&◌, Bool, false, cond, List, Result, Ok, Err, ◌+◌, length, slice_get}
 use Rattle.std.specs.List.{list_any}
 use Rattle.sfc_flags.specs.Flags.{flag}
 use Rattle.sfc_tables.specs.declared.ids.TransitionId.{TransitionId}
@@ -10,7 +10,9 @@ use Rattle.sfc_expr.specs.Environment.{Environment}
 use Rattle.sfc_tables.specs.declared.chart.Chart.{Chart}
 use Rattle.sfc_tables.specs.Tables.{Tabled}
 use Rattle.sfc_instance.specs.Life.{Life}
-use Rattle.sfc_instance.specs.ProgramScan.{enabled, condition_result, condition_flag}
+use Rattle.sfc_expr.specs.Nodes.{nodes}
+use Rattle.sfc_evolve.specs.Evolution.{preceding_of}
+use Rattle.sfc_instance.specs.ProgramScan.{enabled, condition_in, condition_result, condition_flag}
 
 abbrev pub as_flag : Result Value Fault → Result Bool Fault
 as_flag (Ok x) = Ok (truth x)
@@ -29,3 +31,7 @@ is_among ids tr = list_any (λ id. id.0 == tr) ids
 unfoldable pub AreEvaluated : Tabled → Chart → Environment → Life → List TransitionId → List Bool → Type 0
 AreEvaluated tables chart env life ids flags =
     (tr : ℕ) → flag flags tr ≡ (is_among ids tr && condition_flag tables chart env life tr)
+
+-- its links to preceding steps, and the nodes of its condition
+abbrev pub test_work : Tabled → Chart → TransitionId → ℕ
+test_work tables chart tr = length (preceding_of tables.sides tr.0) + nodes (condition_in (slice_get chart.transitions tr.0))

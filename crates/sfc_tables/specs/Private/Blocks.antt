@@ -1,8 +1,10 @@
 -- What the associations of a chart show.
-use Rattle.std.specs.Prelude.{◌≡◌, ℕ, Bool, List, length}
+use Rattle.std.specs.Prelude.{◌≡◌, ℕ, Bool, List, length, map}
+use Rattle.std.specs.List.{range_with_len}
 use Rattle.sfc_tables.specs.declared.association.Target.{Target}
 use Rattle.sfc_tables.specs.declared.step_action.StepAction.{StepAction}
 use Rattle.sfc_tables.specs.declared.ids.TransitionId.{TransitionId}
+use Rattle.sfc_tables.specs.Departures.{departures}
 use Rattle.sfc_tables.specs.Tables.{Sides, Tabled, AreTables}
 use Rattle.sfc_tables.specs.Private.Grouping.{IsGrouping}
 
@@ -30,6 +32,7 @@ tabled initial sides ranked blocks = record {
 }
 
 -- the parts are tables of one chart
-pub record AreKept (initial : List Bool) (sides : List Sides) (ranked : List TransitionId) (blocks : Blocks) : Type 0 where
+pub record AreKept (initial : List Bool) (sides : List Sides) (ranked : List TransitionId) (blocks : Blocks) (lists : List (List ℕ)) : Type 0 where
   pub tables : AreTables (tabled initial sides ranked blocks)
   pub steps : blocks.steps ≡ length initial
+  pub places : lists ≡ map (departures (tabled initial sides ranked blocks)) (range_with_len 0 (length initial))

@@ -1,5 +1,4 @@
 use Rattle.std.proofs.Common.{◌≡◌, length}
-use Rattle.sfc_expr.specs.Ticks.{Within}
 use Rattle.sfc_flags.specs.Flags.{flag}
 use Rattle.sfc_flags.specs.Words.{AreDone}
 use Rattle.sfc_evolve.proofs.copying.copy_flags.Given as goal
@@ -10,5 +9,4 @@ invariant-loop-number l = record {
   on_length : length l.on ≡ length l.initial.active;
   active : AreDone l.number (flag l.from_active) (flag l.initial.active) (flag l.active);
   on : AreDone l.number (flag l.from_on) (flag l.initial.on) (flag l.on);
-  ticks : Within l.number l.initial.ticks l.ticks;
 }

@@ -1,81 +1,179 @@
-use Rattle.std.proofs.Common.{◌≡◌, ◌<◌, ◌≤◌, arith, length, get_or, Bool, false, List, Ok, refl, sym, subst, ap, ◌∙◌}
-use Rattle.std.proofs.lemmas.List.{length-replicate, length-set}
+use Rattle.std.proofs.Common.{◌≡◌, ◌<◌, ◌+◌, suc, arith, length, get_or, slice_set, drop, ℕ, Bool, false, List, [], ◌∷◌, Ok, refl, sym, ap, ◌∙◌}
+use Rattle.std.proofs.lemmas.List.{length-replicate, length-set, length-drop}
+use Rattle.sfc_flags.specs.Flags.{flag, places_from, places_passed}
 use Rattle.sfc_tables.specs.declared.ids.TransitionId.{TransitionId}
 use Rattle.sfc_evolve.specs.Agreement.{StepsAgree}
+use Rattle.sfc_evolve.specs.Private.Proposing.{at_places}
 use Rattle.sfc_instance.specs.Life.{Life, evolution_scans}
-use Rattle.sfc_instance.specs.Private.Evaluating.{evaluated}
+use Rattle.sfc_instance.specs.Work.{condition_work}
+use Rattle.sfc_instance.specs.ProgramScan.{condition_flag}
+use Rattle.sfc_instance.specs.Private.Evaluating.{evaluated, is_among}
+use Rattle.sfc_evolve.proofs.Listed.{listed}
+use Rattle.sfc_evolve.proofs.Next.{none_set}
+use Rattle.sfc_evolve.proofs.Placed.{ranks_long}
 use Rattle.sfc_evolve.proofs.TableFacts.{ranked_at}
-use Rattle.sfc_instance.proofs.Evaluated.{item_at, fault_passed, work_split, evaluated_more, evaluated_none, evaluated_all}
+use Rattle.sfc_instance.specs.ProgramScan.{condition_fault}
+use Rattle.sfc_instance.specs.Private.Evaluating.{test_work}
+use Rattle.sfc_evolve.specs.Evolution.{transition_count}
+use Rattle.sfc_instance.proofs.Candidates.{fault_is, none_other, flag_next, fault_next, work_covers, work_left}
 use Rattle.sfc_instance.proofs.conditions.evaluate_all.Goals as goal
+
+pub bounds-ranked-j : goal.bounds-ranked-j
+bounds-ranked-j g c =
+    let long = ranks_long c.args.setting.tables.now c.ranked-ranked.ensures.tables in
+    let same = ap (λ (l : List TransitionId). length l) c.ranked-ranked.ensures.value in
+    omega (arith, long, same, c.in-Some.ensures.some, c.candidates-candidates.ensures.len, c.requires.sizes.same_transitions)
 
 pub evaluate-requires-clause-transition : goal.evaluate-requires-clause-transition
 evaluate-requires-clause-transition g c =
-    ranked_at c.args.setting.tables.now c.ranked-transition-items.ensures.tables c.ranked-transition-items.result.now
-    c.ranked-transition-items.ensures.value c.loop-transition.transition-index
-    record { 0 = 0 } c.loop-transition-test.true
+    let long = ranks_long c.args.setting.tables.now c.ranked-ranked.ensures.tables in
+    let same = ap (λ (l : List TransitionId). length l) c.ranked-ranked.ensures.value in
+    ranked_at c.args.setting.tables.now c.ranked-ranked.ensures.tables c.ranked-ranked.result.now c.ranked-ranked.ensures.value c.in-Some.j
+    record { 0 = 0 }
+    (omega (arith, long, same, c.in-Some.ensures.some, c.candidates-candidates.ensures.len, c.requires.sizes.same_transitions))
+
+pub candidates-init : goal.candidates-init
+candidates-init g c =
+    let tables = c.args.setting.tables.now in
+    let chart = c.args.setting.chart.now in
+    let env = g.V.View.environment c.args.view.now in
+    let sound = c.ranked-ranked.ensures.tables in
+    let flags = c.candidates-candidates.result.now in
+    let long : length flags ≡ length tables.ranked =
+    c.candidates-candidates.ensures.len ∙ c.requires.sizes.same_transitions ∙ sym (ranks_long tables sound) in
+    record {
+      len = refl;
+      faults = λ life h. fault_is tables chart env life sound flags long
+          (λ i lt on. c.candidates-candidates.ensures.enabled tables (evolution_scans life) h sound i
+          (let e = ranks_long tables sound in omega (arith, e, lt)) on);
+      flags = λ life h tr lt apart.
+          ap (λ (l : List Bool). flag l tr) c.clear.ensures
+          ∙ none_set (length c.args.conditions.now) tr
+          ∙ sym (none_other tables chart env life sound flags long
+          (λ i less on. c.candidates-candidates.ensures.enabled tables (evolution_scans life) h sound i
+          (let e = ranks_long tables sound in omega (arith, e, less)) on) tr lt apart);
+      within = omega arith;
+      rises = omega arith;
+      ticks = omega arith;
+    }
 
 pub bounds-conditions-transition : goal.bounds-conditions-transition
 bounds-conditions-transition g c =
-    let below =
-    ranked_at c.args.setting.tables.now c.ranked-transition-items.ensures.tables c.ranked-transition-items.result.now
-    c.ranked-transition-items.ensures.value c.loop-transition.transition-index
-    record { 0 = 0 } c.loop-transition-test.true in
-    let started : length c.clear.new.flags ≡ length c.args.conditions.now =
-    ap (λ (flags : List Bool). length flags) c.clear.ensures ∙ length-replicate (length c.args.conditions.now) false in
-    omega (arith, below, started, c.loop-transition.invariant.len, c.requires.len)
-
-pub loop-transition-init : goal.loop-transition-init
-loop-transition-init g c = record {
-  len = refl;
-  faults = λ life h. refl;
-  flags = λ life h. evaluated_none _ _ _ life c.args.setting.tables.now.ranked c.clear.new.flags _ c.clear.ensures;
-  rises = omega arith;
-  ticks = omega arith;
-}
-
-pub loop-transition-preserved : goal.loop-transition-preserved
-loop-transition-preserved g c =
     let tables = c.args.setting.tables.now in
-    let items = c.ranked-transition-items.result.now in
-    let i = c.loop-transition.transition-index in
-    let tr : TransitionId = get_or items i record { 0 = 0 } in
-    let same = c.ranked-transition-items.ensures.value in
-    let is : tr ≡ get_or tables.ranked i tr = item_at items tables.ranked i record { 0 = 0 } same c.loop-transition-test.true in
-    let lt : i < length tables.ranked =
-    subst (λ (l : List TransitionId). i < length l) same c.loop-transition-test.true in
-    let started : length c.clear.new.flags ≡ length c.args.conditions.now =
-    ap (λ (flags : List Bool). length flags) c.clear.ensures ∙ length-replicate (length c.args.conditions.now) false in
-    let below =
-    ranked_at c.args.setting.tables.now c.ranked-transition-items.ensures.tables items same i record { 0 = 0 } c.loop-transition-test.true in
-    let within : tr.0 < length c.loop-transition.conditions =
-    omega (arith, below, started, c.loop-transition.invariant.len, c.requires.len) in
-    let env = g.V.View.environment c.args.view.now in
+    let long = ranks_long tables c.ranked-ranked.ensures.tables in
+    let same = ap (λ (l : List TransitionId). length l) c.ranked-ranked.ensures.value in
+    let lt = ranked_at tables c.ranked-ranked.ensures.tables c.ranked-ranked.result.now c.ranked-ranked.ensures.value c.in-Some.j
+    record { 0 = 0 }
+    (omega (arith, long, same, c.in-Some.ensures.some, c.candidates-candidates.ensures.len, c.requires.sizes.same_transitions)) in
+    let cleared = ap (λ (l : List Bool). length l) c.clear.ensures ∙ length-replicate (length c.args.conditions.now) false in
+    omega (arith, lt, cleared, c.candidates.invariant.len, c.requires.len)
+
+pub overflow_cast-conditions : goal.overflow_cast-conditions
+overflow_cast-conditions g c =
+    let tables = c.args.setting.tables.now in
+    let sound = c.ranked-ranked.ensures.tables in
+    let long = ranks_long tables sound in
+    let same = ap (λ (l : List TransitionId). length l) c.ranked-ranked.ensures.value in
+    let lt = ranked_at tables sound c.ranked-ranked.result.now c.ranked-ranked.ensures.value c.in-Some.j record { 0 = 0 }
+    (omega (arith, long, same, c.in-Some.ensures.some, c.candidates-candidates.ensures.len, c.requires.sizes.same_transitions)) in
+    omega (arith, lt, sound.transition_limit)
+
+pub returns-in_err-conditions-clause-ticks : goal.returns-in_err-conditions-clause-ticks
+returns-in_err-conditions-clause-ticks g c =
+    let tables = c.args.setting.tables.now in
     let chart = c.args.setting.chart.now in
-    let was : (life : Life) → StepsAgree tables c.args.steps.now (evolution_scans life) → Ok c.in_ok-conditions.field-0 ≡ evaluated tables chart env life tr.0 =
-    λ life h. sym c.in_ok-conditions.was ∙ c.evaluate.ensures.value life h in
-    let work = work_split tables.ranked i tr lt is tables chart in
-    let made = c.evaluate.ensures.ticks in
-    let before = c.loop-transition.invariant in
+    let at = c.candidates.at in
+    let j = c.in-Some.j in
+    let d : TransitionId = record { 0 = 0 } in
+    let long = ranks_long tables c.ranked-ranked.ensures.tables in
+    let lt : j < length tables.ranked =
+    omega (arith, long, c.in-Some.ensures.some, c.candidates-candidates.ensures.len, c.requires.sizes.same_transitions) in
+    let left = work_left tables chart tables.ranked at j d (omega (arith, c.in-Some.ensures.some)) lt in
+    let here = ap (λ (l : List TransitionId). test_work tables chart (get_or l j d)) c.ranked-ranked.ensures.value in (
+      omega (arith, c.in-Some.ensures.ticks, c.evaluate.ensures.ticks, c.candidates.invariant.rises),
+      omega (arith, left, here, c.in-Some.ensures.ticks, c.evaluate.ensures.ticks, c.candidates.invariant.ticks),
+    )
+
+pub candidates-preserved : goal.candidates-preserved
+candidates-preserved g c =
+    let tables = c.args.setting.tables.now in
+    let chart = c.args.setting.chart.now in
+    let env = g.V.View.environment c.args.view.now in
+    let at = c.candidates.at in
+    let j = c.in-Some.j in
+    let x = c.in_ok-conditions.field-0 in
+    let d : TransitionId = record { 0 = 0 } in
+    let t = get_or c.ranked-ranked.result.now j d in
+    let u = get_or tables.ranked j d in
+    let s : suc j ≡ j + 1 = omega arith in
+    let same : t ≡ u = ap (λ (l : List TransitionId). get_or l j d) c.ranked-ranked.ensures.value in
+    let flags = c.candidates-candidates.result.now in
+    let rest = at_places tables.ranked (places_from flags (j + 1)) in
+    let next : places_from flags at ≡ j ∷ places_from flags (j + 1) = c.in-Some.ensures.some.2 in
+    let long = ranks_long tables c.ranked-ranked.ensures.tables in
+    let lt : j < length tables.ranked =
+    omega (arith, long, c.in-Some.ensures.some, c.candidates-candidates.ensures.len, c.requires.sizes.same_transitions) in
+    let below : u.0 < length tables.sides = ranked_at tables c.ranked-ranked.ensures.tables tables.ranked refl j d lt in
+    let cleared = ap (λ (l : List Bool). length l) c.clear.ensures ∙ length-replicate (length c.args.conditions.now) false in
+    let inside : u.0 < length c.candidates.conditions = omega (arith, below, cleared, c.candidates.invariant.len, c.requires.len) in
+    let is : (life : Life) → StepsAgree tables c.args.steps.now (evolution_scans life) → Ok x ≡ evaluated tables chart env life u.0 =
+    λ life h. c.in_ok-conditions.ensures.value life h ∙ ap (λ (y : TransitionId). evaluated tables chart env life y.0) same in
+    let left = work_left tables chart tables.ranked at j d (omega (arith, c.in-Some.ensures.some)) lt in
+    let here = ap (λ (y : TransitionId). test_work tables chart y) same in
     record {
-      len = length-set c.loop-transition.conditions tr.0 c.in_ok-conditions.field-0 ∙ before.len;
-      faults = λ life h. before.faults life h ∙ fault_passed tables.ranked i tr lt is tables chart env life c.in_ok-conditions.field-0 (was life h);
-      flags = λ life h.
-          evaluated_more tables.ranked i tr lt is tables chart env life c.loop-transition.conditions c.in_ok-conditions.field-0 within
-          (was life h) (before.flags life h);
-      rises = omega (arith, before.rises, made.0);
-      ticks = omega (arith, work, made.1, before.ticks);
+      len = length-set c.candidates.conditions _ _ ∙ c.candidates.invariant.len;
+      faults = λ life h.
+          c.candidates.invariant.faults life h
+          ∙ ap (λ (ps : List ℕ). condition_fault tables chart env life (at_places tables.ranked ps)) next
+          ∙ fault_next tables chart env life u rest x (is life h);
+      flags = λ life h tr less apart.
+          ap (λ (y : TransitionId). flag (slice_set c.candidates.conditions y.0 x) tr) same
+          ∙ flag_next tables chart env life u rest c.candidates.conditions x tr inside (is life h)
+          (λ off. c.candidates.invariant.flags life h tr less
+          (ap (λ (ps : List ℕ). is_among (at_places tables.ranked ps) tr) next ∙ off)) apart;
+      within = omega (arith, c.in-Some.ensures.some);
+      rises = omega (arith, c.in-Some.ensures.ticks, c.evaluate.ensures.ticks, c.candidates.invariant.rises);
+      ticks =
+          omega (
+            arith,
+            left,
+            here,
+            ap (λ k. condition_work tables chart (drop k tables.ranked)) s,
+            c.in-Some.ensures.ticks,
+            c.evaluate.ensures.ticks,
+            c.candidates.invariant.ticks,
+          );
     }
 
 pub returns-clause-flags : goal.returns-clause-flags
 returns-clause-flags g c life h =
     let tables = c.args.setting.tables.now in
-    let items = c.ranked-transition-items.result.now in
-    let started : length c.clear.new.flags ≡ length c.args.conditions.now =
-    ap (λ (flags : List Bool). length flags) c.clear.ensures ∙ length-replicate (length c.args.conditions.now) false in
-    let same : length items ≡ length tables.ranked =
-    ap (λ (l : List TransitionId). length l) c.ranked-transition-items.ensures.value in
-    let over = c.loop-transition-test.false in
-    let all : length tables.ranked ≤ c.loop-transition.transition-index = omega (arith, same, over) in
-    evaluated_all tables c.args.setting.chart.now (g.V.View.environment c.args.view.now) life c.loop-transition.conditions
-    c.loop-transition.transition-index c.ranked-transition-items.ensures.tables
-    (c.loop-transition.invariant.len ∙ started ∙ c.requires.len) all (c.loop-transition.invariant.flags life h)
+    let chart = c.args.setting.chart.now in
+    let env = g.V.View.environment c.args.view.now in
+    let none : places_from c.candidates-candidates.result.now c.candidates.at ≡ [] = c.in_default.ensures.none refl in
+    let cleared = ap (λ (l : List Bool). length l) c.clear.ensures ∙ length-replicate (length c.args.conditions.now) false in
+    listed (condition_flag tables chart env life) (transition_count tables) c.candidates.conditions
+    (c.candidates.invariant.len ∙ cleared ∙ c.requires.len)
+    (λ tr lt. c.candidates.invariant.flags life h tr lt (ap (λ (ps : List ℕ). is_among (at_places tables.ranked ps) tr) none))
+
+pub returns-clause-ticks : goal.returns-clause-ticks
+returns-clause-ticks g c =
+    let tables = c.args.setting.tables.now in
+    let chart = c.args.setting.chart.now in
+    let at = c.candidates.at in
+    let long = ranks_long tables c.ranked-ranked.ensures.tables in
+    let passed = ap (places_passed (length c.candidates-candidates.result.now) at) c.in_default.is in
+    let covers = work_covers tables chart (drop at tables.ranked) in (
+      omega (arith, c.next_set.ensures.ticks, c.candidates.invariant.rises),
+      omega (
+        arith,
+        passed,
+        c.next_set.ensures.ticks,
+        covers,
+        long,
+        c.candidates-candidates.ensures.len,
+        c.requires.sizes.same_transitions,
+        c.candidates.invariant.ticks,
+        length-drop at tables.ranked,
+      ),
+    )

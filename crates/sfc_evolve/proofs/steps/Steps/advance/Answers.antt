@@ -1,12 +1,14 @@
-use Rattle.std.proofs.Common.{◌≡◌, length, arith, ap, ◌∙◌, refl, SFits, w64, false, true}
+use Rattle.std.proofs.Common.{◌≡◌, length, arith, ap, ◌∙◌, refl, sym, subst, SFits, w64, false, true}
 use Rattle.std.proofs.lemmas.Int.{to_z-of_z}
 use Rattle.std.proofs.lemmas.List.{with_items_is, length-replicate}
 use Rattle.std.specs.Prelude.{replicate}
-use Rattle.sfc_flags.specs.Flags.{places_from}
+use Rattle.sfc_flags.specs.Flags.{flag, places_from}
 use Rattle.sfc_evolve.specs.Agreement.{StepsAgree}
 use Rattle.sfc_evolve.specs.Evolution.{step_count, transition_count, preceding_of}
-use Rattle.sfc_evolve.specs.Private.Keeping.{left_by, begun_at}
+use Rattle.sfc_evolve.specs.Private.Keeping.{AreInstants, left_by, begun_at}
 use Rattle.sfc_evolve.proofs.Next.{Advanced, advanced, kept_next, kept_at}
+use Rattle.sfc_evolve.specs.Private.Proposing.{AreProposed}
+use Rattle.sfc_evolve.proofs.Proposed.{proposed}
 use Rattle.sfc_evolve.proofs.Works.{work_of_scan, clearing_is}
 use Rattle.sfc_evolve.proofs.steps.Steps.advance.Goals as goal
 
@@ -31,11 +33,11 @@ sizes c =
       cleared = c.requires.sizes.same_transitions;
     }
 
-scanned : (c : goal.After-self-3-1)
+scanned : (c : goal.After-self-3-1) → AreProposed c.args.tables.now (flag c.args.self.now.active) c.args.self.now.candidates
     → Advanced c.args.tables.now c.args.self.now.begun c.args.self.now.active c.args.self.now.since.items
     c.args.self.now.kept.items c.args.conditions.now c.args.t
     c.clear_in_order.new.cleared c.mark_following.new.on c.begin.new.active c.begin.new.since c.keep_times.new.kept
-scanned c =
+scanned c proposes =
     let tables = c.args.tables.now in
     let self = c.args.self.now in
     let n = sizes c in
@@ -53,7 +55,7 @@ scanned c =
     n.active n.since n.kept (c.start.ensures.len ∙ n.on) (c.mark_following.ensures.len ∙ c.start.ensures.len ∙ n.on)
     (c.clear_all.ensures.flags ∙ ap (λ k. replicate k false) n.used)
     (c.clear_all-2.ensures.flags ∙ ap (λ k. replicate k false) n.cleared)
-    c.clear_in_order.ensures.cleared
+    (c.clear_in_order.ensures.cleared proposes)
     (keeps ∙ (λ i. left_by c.args.t (c.deref.ensures.value i) (preceding_of tables.sides) (places_from cleared 0)
     (c.deref_mut.ensures.value i)))
     c.unmark_preceding.ensures.flags
@@ -72,7 +74,7 @@ returns-clause-kept c scans k =
     kept_next tables c.steps-steps.ensures.tables self.begun self.active self.since.items self.kept.items self.cleared self.on
     c.args.conditions.now c.args.t
     c.clear_in_order.new.cleared c.mark_following.new.on c.begin.new.active c.begin.new.since c.keep_times.new.kept scans
-    (scanned c) k.kept in
+    (scanned c k.proposed) k.kept in
     record {
       size = record {
         same_steps = c.begin.ensures.active_len ∙ c.unmark_preceding.ensures.len ∙ c.requires.sizes.same_steps;
@@ -84,6 +86,8 @@ returns-clause-kept c scans k =
       };
       kept = kept_at tables true _ _ _ _ _ _ _ _ _ _ _ refl (with_items_is self.since _ (omega arith))
           (with_items_is self.kept _ (omega arith)) refl refl next;
+      proposed = proposed tables c.steps-steps.ensures.tables c.begin.new.active c.propose.new.candidates (length self.candidates)
+          (self.candidates_len ∙ c.requires.sizes.same_transitions) c.propose.ensures.flags;
     }
 
 pub returns-clause-ticks : goal.returns-clause-ticks
@@ -91,7 +95,7 @@ returns-clause-ticks c =
     let tables = c.args.tables.now in
     let n = sizes c in
     let clearing = clearing_is tables c.steps-steps.ensures.tables in
-    let works = work_of_scan tables.sides in (
+    let works = work_of_scan (length tables.initial) tables.sides c.steps-steps.ensures.tables.sides in (
       omega arith,
       omega (
         arith,
@@ -109,8 +113,32 @@ returns-clause-ticks c =
         c.start.ensures.ticks,
         c.mark_following.ensures.ticks,
         c.begin.ensures.ticks,
+        c.propose.ensures.ticks,
         c.mark_following.ensures.len,
         c.start.ensures.len,
         c.unmark_preceding.ensures.len,
       ),
     )
+
+pub invariant_of-self-clause-candidates_len : goal.invariant_of-self-clause-candidates_len
+invariant_of-self-clause-candidates_len c =
+    let before = c.args.self.now.candidates_len in
+    omega (
+      arith,
+      before,
+      c.propose.ensures.len,
+      c.clear_in_order.ensures.cleared_len,
+      ap length c.clear_all-2.ensures.flags,
+      length-replicate (length c.args.self.now.cleared) false,
+    )
+
+pub invariant_of-self-clause-kept_len : goal.invariant_of-self-clause-kept_len
+invariant_of-self-clause-kept_len c =
+    let self = c.args.self.now in
+    let same : length c.keep_times.new.kept ≡ length c.begin.new.active =
+    omega (arith, self.kept_len, c.begin.ensures.active_len, c.unmark_preceding.ensures.len) in
+    ap length (with_items_is self.kept c.keep_times.new.kept (omega arith)) ∙ same
+
+pub invariant_of-self-clause-instants : goal.invariant_of-self-clause-instants
+invariant_of-self-clause-instants c =
+    subst AreInstants (sym (with_items_is c.args.self.now.since c.begin.new.since (omega arith))) c.begin.ensures.instants

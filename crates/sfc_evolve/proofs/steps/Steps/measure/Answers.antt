@@ -28,6 +28,7 @@ returns-clause-kept c tables scans k =
       kept = kept_at tables self.begun _ _ _ _ _ _ _ _ _ _ scans refl refl (with_items_is self.kept _ (omega arith)) refl refl
           (still_kept tables self.begun self.active self.since.items self.kept.items self.cleared self.on scans c.args.t
           c.measure_active.new.times self.kept_len (made c) k.kept);
+      proposed = k.proposed;
     }
 
 pub returns-clause-measured : goal.returns-clause-measured

@@ -1,14 +1,17 @@
-use Rattle.std.proofs.Common.{◌≡◌, ◌∙◌, ap, refl, sym, length, subst, List}
+use Rattle.std.proofs.Common.{◌≡◌, ◌∙◌, ap, refl, sym, length, subst, List, arith}
 use Rattle.std.specs.Prelude.{map}
 use Rattle.std.proofs.lemmas.List.{length-map}
 use Rattle.sfc_tables.specs.declared.chart.Chart.{Chart}
 use Rattle.sfc_tables.specs.declared.chart.Step.{Step}
 use Rattle.sfc_tables.specs.declared.chart.Transition.{Transition}
+use Rattle.std.specs.List.{range_with_len}
+use Rattle.sfc_tables.specs.Departures.{first_steps, places_of}
 use Rattle.sfc_tables.specs.Ranks.{priorities_of, IsRankOrder}
-use Rattle.sfc_tables.specs.Tables.{Tabled, sides_of, tables_of, IsTablesOf}
+use Rattle.sfc_tables.specs.Tables.{Tabled, sides_of, tables_of, IsTablesOf, AreTables}
 use Rattle.sfc_tables.specs.Private.Blocks.{tabled}
 use Rattle.sfc_tables.proofs.RankOrders.{ranked_is}
 use Rattle.sfc_tables.proofs.Sound.{tables_sound}
+use Rattle.sfc_tables.proofs.Departing.{ranked_within}
 use Rattle.sfc_tables.proofs.tables.Tables.build.Goals as goal
 
 tables_are : (chart : Chart) (tables : Tabled) → IsTablesOf chart tables → tables ≡ tables_of chart
@@ -16,7 +19,25 @@ tables_are chart tables made =
     let ranked = ranked_is (priorities_of chart.transitions) tables.ranked made.ranked in
     rw (← made.associations, ← made.actions, ← ranked, ← made.sides, ← made.initial) refl
 
-made : (c : goal.In_ok-blocks)
+made_before : (c : goal.After-deref)
+    → IsTablesOf c.args.chart.now
+    (tabled c.in_ok-initial.initial.items c.in_ok-links.links c.in_ok-ranked.ranked.items c.in_ok-blocks.blocks)
+made_before c = record {
+  initial = c.in_ok-initial.ensures ∙ ap (map (λ (step : Step). step.is_initial)) c.as_slice.ensures;
+  sides = c.in_ok-links.ensures ∙ ap (map sides_of) c.as_slice-2.ensures;
+  ranked = subst (λ (ts : List Transition). IsRankOrder (map (λ (t : Transition). t.priority) ts) c.in_ok-ranked.ranked.items)
+      c.as_slice-3.ensures c.in_ok-ranked.ensures;
+  actions = ap (λ blocks. blocks.actions) c.in_ok-blocks.ensures;
+  associations = ap (λ blocks. blocks.associations) c.in_ok-blocks.ensures;
+}
+
+sound_before : (c : goal.After-deref)
+    → AreTables (tabled c.in_ok-initial.initial.items c.in_ok-links.links c.in_ok-ranked.ranked.items c.in_ok-blocks.blocks)
+sound_before c =
+    tables_sound c.requires.chart.0 c.args.chart.now c.requires.chart.1
+    (tabled c.in_ok-initial.initial.items c.in_ok-links.links c.in_ok-ranked.ranked.items c.in_ok-blocks.blocks) (made_before c)
+
+made : (c : goal.In_ok-departures)
     → IsTablesOf c.args.chart.now
     (tabled c.in_ok-initial.initial.items c.in_ok-links.links c.in_ok-ranked.ranked.items c.in_ok-blocks.blocks)
 made c = record {
@@ -28,16 +49,32 @@ made c = record {
   associations = ap (λ blocks. blocks.associations) c.in_ok-blocks.ensures;
 }
 
+sound : (c : goal.In_ok-departures)
+    → AreTables (tabled c.in_ok-initial.initial.items c.in_ok-links.links c.in_ok-ranked.ranked.items c.in_ok-blocks.blocks)
+sound c =
+    tables_sound c.requires.chart.0 c.args.chart.now c.requires.chart.1
+    (tabled c.in_ok-initial.initial.items c.in_ok-links.links c.in_ok-ranked.ranked.items c.in_ok-blocks.blocks) (made c)
+
 pub invariant_of-result : goal.invariant_of-result
 invariant_of-result c = record {
-  tables =
-      tables_sound c.requires.chart.0 c.args.chart.now c.requires.chart.1
-      (tabled c.in_ok-initial.initial.items c.in_ok-links.links c.in_ok-ranked.ranked.items c.in_ok-blocks.blocks) (made c);
+  tables = sound c;
   steps =
       ap (λ blocks. blocks.steps) c.in_ok-blocks.ensures
       ∙ sym (ap length (c.in_ok-initial.ensures ∙ ap (map (λ (step : Step). step.is_initial)) c.as_slice.ensures)
       ∙ length-map c.args.chart.now.steps (λ (step : Step). step.is_initial));
+  places =
+      (let long : c.len.result ≡ length c.in_ok-initial.initial.items = omega arith in
+      c.in_ok-departures.ensures
+      ∙ (λ i. map (places_of (first_steps c.in_ok-links.links (c.deref.ensures.value i))) (range_with_len 0 (long i))));
 }
+
+pub build-requires-3 : goal.build-requires-3
+build-requires-3 c =
+    record {
+      within = rw c.deref.ensures.value
+          (ranked_within
+          (tabled c.in_ok-initial.initial.items c.in_ok-links.links c.in_ok-ranked.ranked.items c.in_ok-blocks.blocks) (sound_before c));
+    }
 
 pub returns-clause-relation : goal.returns-clause-relation
 returns-clause-relation c = made c
