@@ -4,6 +4,7 @@ use Rattle.std.specs.Option.{option_map}
 use Rattle.sfc_expr.specs.NameLists.{place_of}
 use Rattle.sfc_variables.specs.Finding.{variable_place}
 use Rattle.sfc_variables.specs.declared.variable.Variable.{Variable}
+use Rattle.sfc_tables.specs.declared.chart.Chart.{Chart}
 use Rattle.sfc_program.specs.declared.program_type.ProgramType.{ProgramType}
 use Rattle.sfc_chart.specs.declared.instance.Instance.{Instance}
 use Rattle.sfc_chart.specs.declared.ids.VarId.{VarId}
@@ -36,6 +37,18 @@ locals_at types None = []
 
 abbrev pub instance_locals : PlantData → ProgId → List Variable
 instance_locals plant i = locals_at plant.types (slice_get plant.instances i.0)
+
+abbrev pub chart_in : Option ProgramType → Chart
+chart_in None = record { steps = []; transitions = []; actions = [] }
+chart_in (Some p) = p.chart
+
+abbrev pub chart_among : List ProgramType → Option Instance → Chart
+chart_among types None = chart_in None
+chart_among types (Some instance) = chart_in (slice_get types instance.program)
+
+-- the chart of this instance is that of its program type
+abbrev pub chart_of : PlantData → ProgId → Chart
+chart_of plant i = chart_among plant.types (slice_get plant.instances i.0)
 
 -- the variable of the image that this instance's local of this name is
 abbrev pub local_named : PlantData → ProgId → List ℕ → Option VarId

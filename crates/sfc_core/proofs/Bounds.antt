@@ -4,7 +4,7 @@ use Rattle.sfc_chart.specs.declared.ids.TaskId.{TaskId}
 use Rattle.sfc_chart.specs.declared.instance.Instance.{Instance}
 use Rattle.sfc_chart.specs.Plants.{PlantData}
 use Rattle.sfc_image.specs.Values.{variable_count}
-use Rattle.sfc_instance.specs.Setting.{chart_of}
+use Rattle.sfc_chart.specs.Finding.{chart_of}
 use Rattle.sfc_instance.proofs.Bounds.{scan_within}
 use Rattle.sfc_machine.specs.Work.{task_work}
 use Rattle.sfc_core.specs.Work.{task_limit}

@@ -24,7 +24,7 @@ use Rattle.sfc_image.specs.Bodies.{stored_to, left_in, left_by, changes_in, assi
 use Rattle.sfc_image.proofs.Written.{forced_there, released_there}
 use Rattle.sfc_instance.specs.declared.scan_fault.ScanFault.{ScanFault}
 use Rattle.sfc_instance.specs.Life.{Life, Row, control_scans}
-use Rattle.sfc_instance.specs.Setting.{chart_of}
+use Rattle.sfc_chart.specs.Finding.{chart_of}
 use Rattle.sfc_instance.specs.ProgramScan.{and_then, body_in, after_body, acted, after_actions, condition_fault, environment}
 use Rattle.sfc_instance.specs.ProgramScan.{unless, of_condition, of_control, of_body, with_row, next_row, attempt}
 use Rattle.sfc_instance.specs.ProgramScan.{after_attempt, unless_faulted}

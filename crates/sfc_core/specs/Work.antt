@@ -6,7 +6,7 @@ use Rattle.sfc_chart.specs.Plants.{PlantData}
 use Rattle.sfc_events.specs.declared.event.Event.{Event}
 use Rattle.sfc_events.specs.declared.event.Event.TheVariants.{Scan, ForcedScan, Input, Force, Release, Reset}
 use Rattle.sfc_image.specs.Values.{variable_count}
-use Rattle.sfc_instance.specs.Setting.{chart_of}
+use Rattle.sfc_chart.specs.Finding.{chart_of}
 use Rattle.sfc_instance.specs.Work.{scan_limit}
 use Rattle.sfc_machine.specs.Work.{task_work, reset_work}
 

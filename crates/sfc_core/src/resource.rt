@@ -56,7 +56,8 @@ impl Resource {
     ghost use Rattle.sfc_expr.specs.Ticks.{Within};
     ghost use Rattle.sfc_tables.specs.Tables.{tables_of};
     ghost use Rattle.sfc_image.specs.Values.{variable_count};
-    ghost use Rattle.sfc_instance.specs.Setting.{chart_of, IsSettingOf};
+    ghost use Rattle.sfc_chart.specs.Finding.{chart_of};
+    ghost use Rattle.sfc_instance.specs.Setting.{IsSettingOf};
     ghost use Rattle.sfc_instance.specs.Agreement.{IsFor, ProgramAgrees};
     ghost use Rattle.sfc_events.specs.History.{Entry, History, last_instant};
     ghost use Rattle.sfc_core.specs.Table.{table_of};

@@ -21,7 +21,7 @@ use Rattle.sfc_image.specs.Environments.{Moment, environment_of}
 use Rattle.sfc_image.specs.Bodies.{assignment, left_by, with_changes}
 use Rattle.sfc_image.specs.Agreement.{ImageAgrees}
 use Rattle.sfc_instance.specs.Life.{Life, control_scans}
-use Rattle.sfc_instance.specs.Setting.{chart_of}
+use Rattle.sfc_chart.specs.Finding.{chart_of}
 use Rattle.sfc_instance.specs.ProgramScan.{acted, after_actions, after_body, and_then, body_in, moment, environment}
 use Rattle.sfc_instance.specs.Work.{action_work, actions_work}
 use Rattle.sfc_instance.specs.Private.Acting.{Acts, Ends, Follows}

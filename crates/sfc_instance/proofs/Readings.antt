@@ -7,7 +7,8 @@ use Rattle.sfc_image.specs.Changes.{Change}
 use Rattle.sfc_image.specs.Environments.{environment_of}
 use Rattle.sfc_instance.specs.declared.setting.Setting.{Setting}
 use Rattle.sfc_instance.specs.Life.{Life, evolution_rows}
-use Rattle.sfc_instance.specs.Setting.{chart_of, IsSettingOf}
+use Rattle.sfc_chart.specs.Finding.{chart_of}
+use Rattle.sfc_instance.specs.Setting.{IsSettingOf}
 use Rattle.sfc_instance.specs.ProgramScan.{environment, step_times}
 
 -- the tables of a setting are those of its instance's chart

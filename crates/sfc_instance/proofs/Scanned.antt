@@ -17,7 +17,8 @@ use Rattle.sfc_instance.specs.declared.ended.Ended.TheVariants.{Ran, Faulted}
 use Rattle.sfc_instance.specs.declared.setting.Setting.{Setting}
 use Rattle.sfc_instance.specs.declared.state.State.{State}
 use Rattle.sfc_instance.specs.Life.{Life, Row, Standing, control_scans}
-use Rattle.sfc_instance.specs.Setting.{chart_of, IsSettingOf}
+use Rattle.sfc_chart.specs.Finding.{chart_of}
+use Rattle.sfc_instance.specs.Setting.{IsSettingOf}
 use Rattle.sfc_instance.specs.ProgramScan.{after_actions, after_attempt, after_scan, attempt, condition_fault, environment, next_row}
 use Rattle.sfc_instance.specs.ProgramScan.{of_body, of_condition, of_control, unless, unless_faulted, with_row}
 use Rattle.sfc_instance.specs.Agreement.{StateAgrees}

@@ -36,7 +36,7 @@ use Rattle.sfc_instance.specs.declared.scan_fault.ScanFault.TheVariants as fault
 use Rattle.sfc_instance.specs.declared.ended.Ended.{Ended}
 use Rattle.sfc_instance.specs.declared.ended.Ended.TheVariants.{Ran, Faulted, Skipped}
 use Rattle.sfc_instance.specs.Life.{Row, Life, Standing, evolution_rows, control_scans}
-use Rattle.sfc_instance.specs.Setting.{chart_of}
+use Rattle.sfc_chart.specs.Finding.{chart_of}
 
 -- ---- what is read
 

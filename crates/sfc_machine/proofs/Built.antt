@@ -12,7 +12,7 @@ use Rattle.sfc_chart.specs.declared.instance.Instance.{Instance}
 use Rattle.sfc_chart.specs.Plants.{PlantData}
 use Rattle.sfc_chart.specs.Sound.{IsPlant}
 use Rattle.sfc_instance.specs.declared.program.Program.{Program}
-use Rattle.sfc_instance.specs.Setting.{chart_in, chart_among, chart_of}
+use Rattle.sfc_chart.specs.Finding.{chart_in, chart_among, chart_of}
 use Rattle.sfc_machine.specs.Private.Building.{IsOpened, AreOpened}
 
 -- the first k of these programs are opened

@@ -22,7 +22,7 @@ use Rattle.sfc_instance.specs.Agreement.{ProgramAgrees}
 use Rattle.sfc_instance.specs.Life.{Standing}
 use Rattle.sfc_instance.specs.ProgramScan.{After}
 use Rattle.sfc_instance.specs.Work.{scan_work}
-use Rattle.sfc_instance.specs.Setting.{chart_in, chart_among, chart_of}
+use Rattle.sfc_chart.specs.Finding.{chart_in, chart_among, chart_of}
 use Rattle.sfc_machine.specs.declared.machine.Machine.{Machine}
 use Rattle.sfc_machine.specs.Agreement.{AreKept, MachineKeeps}
 use Rattle.sfc_machine.specs.Work.{program_work}

@@ -7,7 +7,7 @@ use Rattle.sfc_image.specs.Changes.{settled}
 use Rattle.sfc_image.specs.Values.{variable_count}
 use Rattle.sfc_image.specs.Agreement as image
 use Rattle.sfc_instance.specs.declared.program.Program.{Program}
-use Rattle.sfc_instance.specs.Setting.{chart_of}
+use Rattle.sfc_chart.specs.Finding.{chart_of}
 use Rattle.sfc_instance.specs.Agreement as program
 use Rattle.sfc_machine.specs.declared.machine.Machine.{Machine}
 use Rattle.sfc_machine.specs.Table.{Table}

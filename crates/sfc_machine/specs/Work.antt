@@ -4,10 +4,9 @@ use Rattle.sfc_tables.specs.Tables.{tables_of}
 use Rattle.sfc_chart.specs.declared.ids.ProgId.{ProgId}
 use Rattle.sfc_chart.specs.declared.ids.TaskId.{TaskId}
 use Rattle.sfc_chart.specs.declared.instance.Instance.{Instance}
-use Rattle.sfc_chart.specs.Finding.{instance_locals}
 use Rattle.sfc_chart.specs.Plants.{PlantData}
 use Rattle.sfc_image.specs.Values.{variable_count}
-use Rattle.sfc_instance.specs.Setting.{chart_of}
+use Rattle.sfc_chart.specs.Finding.{chart_of, instance_locals}
 use Rattle.sfc_instance.specs.Work.{scan_work, copy_work}
 
 -- a scan of one instance

@@ -14,7 +14,7 @@ use Rattle.sfc_instance.specs.declared.ended.Ended.TheVariants.{Ran, Faulted, Sk
 use Rattle.sfc_instance.specs.declared.scan_fault.ScanFault.{ScanFault}
 use Rattle.sfc_instance.specs.declared.scan_fault.ScanFault.TheVariants.{Expression, Control}
 use Rattle.sfc_instance.specs.Life.{Standing}
-use Rattle.sfc_instance.specs.Setting.{chart_of}
+use Rattle.sfc_chart.specs.Finding.{chart_of}
 use Rattle.sfc_instance.specs.Answers.{scan_count, is_step_active, step_elapsed, is_transition_cleared, is_action_executed}
 use Rattle.sfc_list.specs.Names.{step_name}
 use Rattle.sfc_output.specs.Lists.{listed}

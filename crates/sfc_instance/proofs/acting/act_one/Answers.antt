@@ -9,7 +9,7 @@ use Rattle.sfc_image.specs.Changes.{trying}
 use Rattle.sfc_image.specs.Environments.{moment_of}
 use Rattle.sfc_instance.specs.Life.{control_scans, evolution_rows}
 use Rattle.sfc_evolve.specs.Evolution.{active_steps}
-use Rattle.sfc_instance.specs.Setting.{chart_of}
+use Rattle.sfc_chart.specs.Finding.{chart_of}
 use Rattle.sfc_instance.specs.ProgramScan.{acted, body_in, moment, step_times}
 use Rattle.sfc_instance.specs.Agreement.{StateAgrees}
 use Rattle.sfc_instance.specs.Private.Acting.{Acts}

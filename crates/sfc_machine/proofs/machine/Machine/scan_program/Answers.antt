@@ -5,7 +5,7 @@ use Rattle.sfc_image.specs.Agreement.{ImageAgrees}
 use Rattle.sfc_image.specs.Changes.{settled}
 use Rattle.sfc_instance.specs.Agreement.{ProgramAgrees}
 use Rattle.sfc_instance.specs.ProgramScan.{after_scan}
-use Rattle.sfc_instance.specs.Setting.{chart_of}
+use Rattle.sfc_chart.specs.Finding.{chart_of}
 use Rattle.sfc_instance.proofs.Readings.{tables_is}
 use Rattle.sfc_machine.specs.Agreement.{MachineAgrees, variable_places}
 use Rattle.sfc_machine.specs.Table.{program_scan}
