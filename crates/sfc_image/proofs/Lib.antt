@@ -5,6 +5,7 @@ pub mod Happened
 pub mod Left
 pub mod LocalNumbers
 pub mod Numbers
+pub mod Outputs
 pub mod Puts
 pub mod Tracked
 pub mod Viewed

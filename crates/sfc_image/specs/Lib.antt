@@ -8,6 +8,8 @@ pub mod Values
 pub mod Environments
 -- what a body of a program leaves in the variables
 pub mod Bodies
+-- what its Boolean actions do with the variables
+pub mod Outputs
 -- what each call answers
 pub mod Answers
 -- what was written, forced and reset, by what happened

@@ -20,6 +20,10 @@ use sfc_expr::statement::Statement;
 use sfc_expr::ticks::Ticks;
 use sfc_expr::value::Value;
 use sfc_expr::variable::Variable;
+use sfc_flags::flags::Flags;
+use sfc_tables::association::Target;
+use sfc_tables::ids::ActionNumber;
+use sfc_tables::tables::Tables;
 use std::alloc::{AllocError, Global};
 
 /// The stored and the forced values of a plant's variables. Where a scratch is open, what is stored may still be undone:
@@ -48,6 +52,9 @@ impl Image {
     ghost use Rattle.sfc_expr.specs.Nodes.{body_nodes};
     ghost use Rattle.sfc_image.specs.Environments.{moment_of, environment_of};
     ghost use Rattle.sfc_image.specs.Bodies.{assignment, left_by, with_changes};
+    ghost use Rattle.sfc_image.specs.Outputs.{outputs};
+    ghost use Rattle.sfc_tables.specs.Tables.{tables_of};
+    ghost use Rattle.sfc_chart.specs.Finding.{chart_of};
     ghost use Rattle.sfc_image.specs.Private.Keeping.{IsPut, slot_at};
     ghost use Rattle.sfc_image.specs.Answers.{Answers, read_answer, value_fault, release_fault};
     ghost use Rattle.sfc_image.specs.Agreement.{ImageAgrees, IsAsLarge, environment_in, variable_places, instance_places, written_places, is_open};
@@ -190,6 +197,32 @@ impl Image {
         let own = self.locals[instance.0 as usize];
         if let Some(i) = number_of(shared, own, variable) {
             self.put(i, value);
+        }
+    }
+
+    /// Assigns its Q to each variable of the instance's program that is an action by itself (2.6.4.1), one after the other,
+    /// in the scratch, which is open; the Q of each action stands by its number. It takes no memory.
+    pub fn assign_outputs(
+        &mut self,
+        instance: ProgId,
+        tables: &Tables,
+        q: &Flags,
+        ticks: &mut Ticks,
+    )
+        requires instance { instance.0 < instance_places self.old }
+        requires open { is_open self.old ≡ true }
+        requires q { length q.now ≡ length tables.now.actions }
+        ensures large { IsAsLarge self.old self.new }
+        ensures open { is_open self.new ≡ true }
+        ensures kept { (plant : PlantData) (told : Told) → tables.now ≡ tables_of (chart_of plant instance) →
+            ImageAgrees plant self.old told →
+            ImageAgrees plant self.new (with_changes (outputs plant instance q.now 0 tables.now.actions) told) }
+        ensures ticks { Within (length tables.now.actions) ticks.old ticks.new }
+    {
+        for action in 0..tables.actions() {
+            if let Target::Boolean(variable) = tables.target(ActionNumber(action)) {
+                self.assign(instance, variable, Value::Bool(q.get(action)), ticks);
+            }
         }
     }
 
