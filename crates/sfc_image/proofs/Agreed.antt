@@ -1,5 +1,5 @@
 -- What slots keep of one change more.
-use Rattle.std.proofs.Common.{◌≡◌, ◌≢◌, ◌⊎◌, inl, inr, ℕ, ◌+◌, ◌<◌, ◌≤◌, ◌&&◌, nat_le, nat_lt, arith, Bool, true, false, List, ◌∷◌, ◌++◌, length, slice_set, Option, Some, None, refl, sym, ◌∙◌, ap, subst}
+use Rattle.std.proofs.Common.{◌≡◌, ◌≢◌, ◌⊎◌, inl, inr, ℕ, ◌+◌, ◌<◌, ◌≤◌, ◌==◌, ◌&&◌, nat_le, nat_lt, arith, Bool, true, false, List, ◌∷◌, ◌++◌, length, slice_set, Option, Some, None, refl, sym, ◌∙◌, ap, subst}
 use Rattle.std.proofs.lemmas.Bool.Decides.{nat_tests}
 use Rattle.std.proofs.lemmas.List.{length-set}
 use Rattle.sfc_chart.specs.declared.ids.VarId.{VarId}
@@ -10,9 +10,9 @@ use Rattle.sfc_expr.specs.declared.value.Value.{Value}
 use Rattle.sfc_image.specs.declared.slot.Slot.{Slot}
 use Rattle.sfc_image.specs.declared.slot.Locals.{Locals}
 use Rattle.sfc_image.specs.Changes.{Change, Stored, Forced, Released, Reset, Told, settled, trying, tried_more, with_change}
-use Rattle.sfc_image.specs.Values.{is_local_of}
-use Rattle.sfc_image.specs.Private.Keeping.{slot_at, given, tried, with_force, closed, begun, locals_of, AreTracked, AreClosed, AreBegun, IsKept, AreKept}
-use Rattle.sfc_image.proofs.Counting.{bool_cases, same_number, other_numbers}
+use Rattle.sfc_image.specs.Values.{is_local_of, stored_value}
+use Rattle.sfc_image.specs.Private.Keeping.{slot_at, given, tried, with_force, as_output, closed, begun, locals_of, AreTracked, AreClosed, AreBegun, IsKept, AreKept}
+use Rattle.sfc_image.proofs.Counting.{bool_cases, same_number, equal_numbers, other_numbers}
 use Rattle.sfc_image.proofs.Tracked.{by_slot, all_closed}
 use Rattle.sfc_image.proofs.Written.{stored_here, stored_there, reset_here, reset_there, forced_here, forced_there, released_here, released_there}
 
@@ -124,6 +124,67 @@ stored_in_scratch plant slots locals count more b told id v e lt h = by_tried to
       → AreKept plant (slice_set slots id.0 (tried v (slot_at slots id.0))) locals more b (tried_more (Stored id v) o told.kept)
   by_tried None k = absurd (let f = k.opened in cc)
   by_tried (Some ts) k = tried_kept plant slots locals count more b told.kept ts id v lt k
+
+-- a store in a scratch of what is stored already
+pub stored_again : (plant : PlantData) (slots : List Slot) (locals : List Locals) (count : ℕ) (b : Bool) (told : Told)
+    (id : VarId) (v : Value) → b ≡ true → id.0 < length slots → (slot_at slots id.0).stored ≡ v
+    → AreKept plant slots locals count b told → AreKept plant slots locals count b (with_change (Stored id v) told)
+stored_again plant slots locals count b told id v e lt same h = by_tried told.tried h where
+  by_tried : (o : Option (List Change)) → AreKept plant slots locals count b (record { kept = told.kept; tried = o })
+      → AreKept plant slots locals count b (tried_more (Stored id v) o told.kept)
+  by_tried None k = absurd (let f = k.opened in cc)
+  by_tried (Some ts) k = record {
+    variables = k.variables;
+    instances = k.instances;
+    locals_are = k.locals_are;
+    opened = k.opened;
+    each = λ i ilt.
+        let at = k.each i ilt in
+        record {
+          var_type = at.var_type;
+          initial = at.initial;
+          kept = at.kept;
+          stored =
+              elim (bool_cases (id.0 == i)) as (λ _. (slot_at slots i).stored ≡ stored_value plant (Stored id v ∷ (ts ++ told.kept)) i) [
+                | inl on ↦
+                    ap (λ (j : ℕ). (slot_at slots j).stored) (sym (equal_numbers id.0 i on)) ∙ same
+                    ∙ sym (stored_here plant (ts ++ told.kept) id v i on)
+                | inr off ↦ at.stored ∙ sym (stored_there plant (ts ++ told.kept) id v i off)
+              ];
+          forced = at.forced;
+          held = at.held;
+          untried = at.untried;
+        };
+  }
+
+-- a variable is an output
+pub marked_kept : (plant : PlantData) (slots : List Slot) (locals : List Locals) (count : ℕ) (b : Bool) (told : Told) (i : ℕ)
+    → i < length slots → AreKept plant slots locals count b told
+    → AreKept plant (slice_set slots i (as_output (slot_at slots i))) locals count b told
+marked_kept plant slots locals count b told i lt h =
+    let y : Slot = as_output (slot_at slots i) in
+    let long : length (slice_set slots i y) ≡ length slots = length-set slots i y in
+    record {
+      variables = long ∙ h.variables;
+      instances = h.instances;
+      locals_are = h.locals_are;
+      opened = h.opened;
+      each = λ j jlt.
+          let within : j < length slots = omega (arith, long, jlt) in
+          by_slot (λ (slot : Slot). IsKept plant told j slot) slots i j y lt
+          (λ e. subst (λ (k : ℕ). IsKept plant told k y) (sym e) (same i (h.each i lt))) (λ ne. h.each j within);
+    }
+  where
+    same : (j : ℕ) → IsKept plant told j (slot_at slots i) → IsKept plant told j (as_output (slot_at slots i))
+    same j k = record {
+      var_type = k.var_type;
+      initial = k.initial;
+      kept = k.kept;
+      stored = k.stored;
+      forced = k.forced;
+      held = k.held;
+      untried = k.untried;
+    }
 
 -- a force
 pub force_kept : (plant : PlantData) (slots : List Slot) (locals : List Locals) (count : ℕ) (b : Bool) (kept : List Change)

@@ -1,6 +1,8 @@
 pub mod Agreed
 pub mod Built
+pub mod Apart
 pub mod Counting
+pub mod Given
 pub mod Happened
 pub mod Left
 pub mod LocalNumbers

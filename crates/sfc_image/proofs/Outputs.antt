@@ -1,5 +1,10 @@
 -- The Boolean actions, one after the other.
-use Rattle.std.proofs.Common.{◌≡◌, ℕ, zero, suc, ◌+◌, ◌<◌, ◌++◌, ◌∷◌, [], arith, Bool, List, length, take, slice_get, Option, Some, None, refl, sym, ap, ◌∙◌, append_assoc, append-nil}
+use Rattle.std.proofs.Common.{◌≡◌, ◌≢◌, ◌⊎◌, inl, inr, ℕ, zero, suc, ◌+◌, ◌-◌, ◌<◌, ◌≤◌, ◌==◌, ◌++◌, ◌∷◌, [], arith, Bool, true, false, cond, List, length, take, slice_get, Option, Some, None, refl, sym, ap, subst, ◌∙◌, append_assoc, append-nil}
+use Rattle.std.proofs.lemmas.Bool.{cases_lt}
+use Rattle.std.proofs.lemmas.Bool.Decides.{eqb_tells}
+use Rattle.std.specs.Prelude.{IfSome}
+use Rattle.std.proofs.lemmas.Option.{slice_get_past, slice_get-get_or}
+use Rattle.std.specs.Option.{option_map}
 use Rattle.sfc_expr.specs.declared.variable.Variable.{Variable}
 use Rattle.sfc_flags.specs.Flags.{flag}
 use Rattle.sfc_tables.specs.declared.association.Target.{Target}
@@ -8,6 +13,24 @@ use Rattle.sfc_chart.specs.Plants.{PlantData}
 use Rattle.sfc_image.specs.Changes.{Change, Told}
 use Rattle.sfc_image.specs.Bodies.{tried_all, with_changes}
 use Rattle.sfc_image.specs.Outputs.{output, outputs}
+use Rattle.sfc_tables.specs.declared.association.Target.TheVariants.{Boolean, Declared}
+use Rattle.sfc_tables.specs.Actions.{actions_of}
+use Rattle.sfc_chart.specs.Finding.{chart_of, first_local, instance_locals}
+use Rattle.sfc_expr.specs.declared.value.Value.TheVariants as value
+use Rattle.sfc_image.specs.declared.image.Image.{Image}
+use Rattle.sfc_image.specs.declared.given.Given.{Given}
+use Rattle.sfc_image.specs.declared.slot.Slot.{Slot}
+use Rattle.sfc_image.specs.declared.slot.Locals.{Locals}
+use Rattle.sfc_image.specs.Environments.{number_of}
+use Rattle.sfc_image.specs.Bodies.{changes_in, stored_to}
+use Rattle.sfc_image.specs.Agreement.{ImageAgrees, is_open}
+use Rattle.sfc_image.specs.Private.Keeping.{slot_at, locals_of}
+use Rattle.sfc_image.specs.Private.Giving.{given_at, IsAssigned, HasQ, Stays}
+use Rattle.sfc_image.proofs.Agreed.{stored_again}
+use Rattle.sfc_image.proofs.Given.{others_have, here_has}
+use Rattle.sfc_image.proofs.Left.{no_change, one_change}
+use Rattle.sfc_image.proofs.Numbers.{of_number}
+use Rattle.sfc_image.proofs.Viewed.{first_of_all}
 
 module _ (plant : PlantData) (p : ProgId) (flags : List Bool) where
   -- one action more
@@ -39,3 +62,192 @@ changes_more later earlier told = by_tried told.tried where
       → tried_all (later ++ earlier) o told.kept ≡ with_changes later (tried_all earlier o told.kept)
   by_tried None = ap (λ (kept : List Change). tried_all [] None kept) (append_assoc later earlier told.kept)
   by_tried (Some tried) = ap (λ (more : List Change). tried_all [] (Some more) told.kept) (append_assoc later earlier tried)
+
+-- there is an action of each number
+pub some_target : (targets : List Target) (k : ℕ) → k < length targets → (target : Target) × (slice_get targets k ≡ Some target)
+some_target [] k lt = absurd (omega arith)
+some_target (t ∷ ts) zero lt = (t, refl)
+some_target (t ∷ ts) (suc k) lt = some_target ts k (omega (arith, lt))
+
+pub outputs_after : (plant : PlantData) (p : ProgId) (q : List Bool) (targets : List Target) (k : ℕ) (target : Target) (told : Told)
+    → slice_get targets k ≡ Some target
+    → with_changes (outputs plant p q 0 (take (k + 1) targets)) told
+    ≡ with_changes (output plant p target (flag q k)) (with_changes (outputs plant p q 0 (take k targets)) told)
+outputs_after plant p q targets k target told at =
+    let here : 0 + k ≡ k = omega arith in
+    ap (λ (changes : List Change). with_changes changes told)
+    (outputs_more plant p q 0 targets k target at
+    ∙ ap (λ (n : ℕ). output plant p target (flag q n) ++ outputs plant p q 0 (take k targets)) here)
+    ∙ changes_more (output plant p target (flag q k)) (outputs plant p q 0 (take k targets)) told
+
+-- ---- what is given already
+
+-- the number of a variable is that of one of the slots
+number_within : (plant : PlantData) (p : ProgId) (image : Image) (told : Told) (v : Variable) (i : ℕ) → p.0 < length image.locals.items
+    → ImageAgrees plant image told → number_of plant p v ≡ Some i → i < length image.slots.items
+unfolding ImageAgrees
+number_within plant p image told v i lt h number =
+    let is = h.kept.locals_are p lt in
+    let bounds = image.within p.0 lt in
+    let first = ap (λ (l : Locals). l.first) is in
+    let count = ap (λ (l : Locals). l.count) is in
+    let zeroth = ap (λ (l : Locals). l.first) (h.kept.locals_are (record { 0 = 0 }) (omega (arith, lt))) in
+    let globals = first_of_all plant in
+    by_number (number_of plant p v) refl number
+    (of_number (λ o. IfSome o (λ k. k < length image.slots.items)) (length image.slots.items) (length plant.globals)
+    (first_local plant p) (length (instance_locals plant p)) (omega (arith, bounds.0, bounds.1, first, count, zeroth, globals))
+    (omega (arith, bounds.1, first, count)) (λ k klt. klt) tt v)
+  where
+    by_number : (o : Option ℕ) → number_of plant p v ≡ o → o ≡ Some i → IfSome o (λ k. k < length image.slots.items)
+        → i < length image.slots.items
+    by_number None e is within = absurd cc
+    by_number (Some k) e is within = let same : k ≡ i = cc in subst (λ (n : ℕ). n < length image.slots.items) same within
+
+module _ (plant : PlantData) (p : ProgId) (q : List Bool) (targets : List Target) (is : targets ≡ actions_of (chart_of plant p))
+    (image : Image) (lt : p.0 < length image.locals.items) (open : is_open image ≡ true) where
+  -- a variable that has the value already is assigned it
+  one_again : (told : Told) (k : ℕ) (target : Target) → slice_get targets k ≡ Some target
+      → HasQ plant p image.slots.items k (flag q k) → ImageAgrees plant image told
+      → ImageAgrees plant image (with_changes (output plant p target (flag q k)) told)
+  one_again told k (Declared id) at has h = subst (λ (t : Told). ImageAgrees plant image t) (sym (no_change told)) h
+  one_again told k (Boolean v) at has h = by_number (number_of plant p v) refl where
+    by_number : (o : Option ℕ) → number_of plant p v ≡ o
+        → ImageAgrees plant image (with_changes (changes_in (option_map (stored_to (value.Bool (flag q k))) o)) told)
+    unfolding ImageAgrees
+    by_number None e = subst (λ (t : Told). ImageAgrees plant image t) (sym (no_change told)) h
+    by_number (Some i) e =
+        let had = has v i (ap (λ (ts : List Target). slice_get ts k) (sym is) ∙ at) e in
+        subst (λ (t : Told). ImageAgrees plant image t) (one_change (stored_to (value.Bool (flag q k)) i) told)
+        (record {
+          kept =
+              stored_again plant image.slots.items image.locals.items image.count image.is_trying told (record { 0 = i })
+              (value.Bool (flag q k)) open (number_within plant p image told v i lt h e) had.stored h.kept;
+          given = h.given;
+        })
+
+  -- so are several
+  again : (told : Told) (n from : ℕ) → from + n ≤ length targets
+      → ((j : ℕ) → from ≤ j → j < from + n → HasQ plant p image.slots.items j (flag q j))
+      → ImageAgrees plant image (with_changes (outputs plant p q 0 (take from targets)) told)
+      → ImageAgrees plant image (with_changes (outputs plant p q 0 (take (from + n) targets)) told)
+  again told zero from le has h =
+      let here : from ≡ from + 0 = omega arith in
+      subst (λ (k : ℕ). ImageAgrees plant image (with_changes (outputs plant p q 0 (take k targets)) told)) here h
+  again told (suc n) from le has h =
+      let k : ℕ = from + n in
+      let target = some_target targets k (omega (arith, le)) in
+      let before = again told n from (omega (arith, le)) (λ j a b. has j a (omega (arith, b))) h in
+      let next : k + 1 ≡ from + suc n = omega arith in
+      subst (λ (m : ℕ). ImageAgrees plant image (with_changes (outputs plant p q 0 (take m targets)) told)) next
+      (subst (λ (t : Told). ImageAgrees plant image t) (sym (outputs_after plant p q targets k target.0 told target.1))
+      (one_again (with_changes (outputs plant p q 0 (take k targets)) told) k target.0 target.1
+      (has k (omega arith) (omega arith)) before))
+
+-- ---- one after the other
+
+-- the first `from` actions of the instance were given their Q; where what was given before holds, the others have that
+pub record GivenTo (plant : PlantData) (told : Told) (p : ProgId) (q : List Bool) (holds : Bool) (targets : List Target) (from : ℕ)
+    (image : Image) : Type 0 where
+  pub agrees : ImageAgrees plant image (with_changes (outputs plant p q 0 (take from targets)) told)
+  pub done : (a : ℕ) → a < from → HasQ plant p image.slots.items a (flag q a)
+  pub rest : holds ≡ true → (a : ℕ) → from ≤ a → HasQ plant p image.slots.items a (flag (given_at image.given.items p.0).q a)
+
+module _ (plant : PlantData) (told : Told) (p : ProgId) (q : List Bool) (holds : Bool) (targets : List Target)
+    (is : targets ≡ actions_of (chart_of plant p)) where
+  -- those that have it already are passed over
+  pub passed : (image : Image) (from to : ℕ) → p.0 < length image.locals.items → is_open image ≡ true → from ≤ to
+      → to ≤ length targets
+      → ((j : ℕ) → from ≤ j → j < to → (holds ≡ true) × (flag (given_at image.given.items p.0).q j ≡ flag q j))
+      → GivenTo plant told p q holds targets from image → GivenTo plant told p q holds targets to image
+  passed image from to lt open le fits same h =
+      let has : (j : ℕ) → from ≤ j → j < to → HasQ plant p image.slots.items j (flag q j) =
+      λ j a b. (let s = same j a b in subst (λ (x : Bool). HasQ plant p image.slots.items j x) s.1 (h.rest s.0 j a)) in
+      let all : from + (to - from) ≡ to = omega (arith, le) in
+      record {
+        agrees =
+            subst (λ (k : ℕ). ImageAgrees plant image (with_changes (outputs plant p q 0 (take k targets)) told)) all
+            (again plant p q targets is image lt open told (to - from) from (omega (arith, le, fits))
+            (λ j a b. has j a (omega (arith, b, le))) h.agrees);
+        done = λ a below.
+            elim (cases_lt a from) as (λ _. HasQ plant p image.slots.items a (flag q a)) [
+              | inl before ↦ h.done a before
+              | inr ge ↦ has a ge below
+            ];
+        rest = λ on a ge. h.rest on a (omega (arith, le, ge));
+      }
+
+  -- one more is given its Q
+  pub gave : (old new : Image) (a : ℕ) (target : Target) → slice_get targets a ≡ Some target
+      → new.given.items ≡ old.given.items
+      → ImageAgrees plant new (with_changes (output plant p target (flag q a)) (with_changes (outputs plant p q 0 (take a targets)) told))
+      → ((v : Variable) (i : ℕ) → target ≡ Boolean v → number_of plant p v ≡ Some i → IsAssigned (slot_at new.slots.items i) (flag q a))
+      → ((i : ℕ) → ((v : Variable) → target ≡ Boolean v → number_of plant p v ≢ Some i)
+      → Stays (slot_at old.slots.items i) (slot_at new.slots.items i))
+      → GivenTo plant told p q holds targets a old → GivenTo plant told p q holds targets (a + 1) new
+  gave old new a target at given agrees here others h = record {
+    agrees = subst (λ (t : Told). ImageAgrees plant new t) (sym (outputs_after plant p q targets a target told at)) agrees;
+    done = λ b below.
+        elim (eqb_tells b a) as (λ _. HasQ plant p new.slots.items b (flag q b)) [
+          | inl w ↦ subst (λ (k : ℕ). HasQ plant p new.slots.items k (flag q k)) (sym w.1) (has_now target at here)
+          | inr w ↦ still target at others b w.1 (flag q b) (h.done b (omega (arith, below, w.1)))
+        ];
+    rest = λ on b ge.
+        subst (λ (q' : Bool). HasQ plant p new.slots.items b q')
+        (ap (λ (xs : List Given). flag (given_at xs p.0).q b) (sym given))
+        (still target at others b (λ e. absurd (omega (arith, e, ge))) (flag (given_at old.given.items p.0).q b)
+        (h.rest on b (omega (arith, ge))));
+  }
+    where
+      at_actions : (t : Target) → slice_get targets a ≡ Some t → slice_get (actions_of (chart_of plant p)) a ≡ Some t
+      at_actions t e = ap (λ (ts : List Target). slice_get ts a) (sym is) ∙ e
+
+      has_now : (t : Target) → slice_get targets a ≡ Some t
+          → ((v : Variable) (i : ℕ) → t ≡ Boolean v → number_of plant p v ≡ Some i → IsAssigned (slot_at new.slots.items i) (flag q a))
+          → HasQ plant p new.slots.items a (flag q a)
+      has_now (Boolean v) e given_here =
+          here_has plant p old.slots.items new.slots.items a v (at_actions (Boolean v) e) (flag q a) (λ i number. given_here v i refl number)
+      has_now (Declared id) e given_here v i found number = absurd (let other = at_actions (Declared id) e in cc)
+
+      still : (t : Target) → slice_get targets a ≡ Some t
+          → ((i : ℕ) → ((v : Variable) → t ≡ Boolean v → number_of plant p v ≢ Some i)
+          → Stays (slot_at old.slots.items i) (slot_at new.slots.items i))
+          → (b : ℕ) → b ≢ a → (x : Bool) → HasQ plant p old.slots.items b x → HasQ plant p new.slots.items b x
+      still (Boolean v) e stay b ne x had =
+          others_have plant p old.slots.items new.slots.items a v (at_actions (Boolean v) e)
+          (λ i none. stay i (λ w same. subst (λ (u : Variable). number_of plant p u ≢ Some i) (inside v w same) none)) b ne x had
+      still (Declared id) e stay b ne x had w i found number =
+          let h' = had w i found number in
+          let s = stay i (λ v same. absurd cc) in
+          record { stored = s.stored ∙ h'.stored; output = s.output h'.output }
+
+      inside : (v w : Variable) → Boolean v ≡ Boolean w → v ≡ w
+      inside v w e = cc
+
+  -- and that is noted
+  pub noted : (old new : Image) (a : ℕ) (x : Bool) → new.slots.items ≡ old.slots.items
+      → (holds ≡ true → length targets ≤ length (given_at old.given.items p.0).q)
+      → ((b : ℕ) → b < length (given_at old.given.items p.0).q
+      → flag (given_at new.given.items p.0).q b ≡ cond (b == a) x (flag (given_at old.given.items p.0).q b))
+      → ((t : Told) → ImageAgrees plant old t → ImageAgrees plant new t)
+      → GivenTo plant told p q holds targets (a + 1) old → GivenTo plant told p q holds targets (a + 1) new
+  noted old new a x slots room flags kept h = record {
+    agrees = kept (with_changes (outputs plant p q 0 (take (a + 1) targets)) told) h.agrees;
+    done = λ b below. subst (λ (xs : List Slot). HasQ plant p xs b (flag q b)) (sym slots) (h.done b below);
+    rest = λ on b ge v i at number.
+        let within : b < length targets =
+        elim (cases_lt b (length targets)) as (λ _. b < length targets) [
+          | inl lt ↦ lt
+          | inr past ↦ absurd (let none : slice_get targets b ≡ None = slice_get_past targets b past in
+              let some : slice_get targets b ≡ Some (Boolean v) = ap (λ (ts : List Target). slice_get ts b) is ∙ at in cc)
+        ] in
+        let fits = room on in
+        let same : flag (given_at new.given.items p.0).q b ≡ flag (given_at old.given.items p.0).q b =
+        flags b (omega (arith, within, fits))
+        ∙ ap (λ (c : Bool). cond c x (flag (given_at old.given.items p.0).q b)) (other_numbers' b a (λ e. absurd (omega (arith, e, ge)))) in
+        subst (λ (xs : List Slot). IsAssigned (slot_at xs i) (flag (given_at new.given.items p.0).q b)) (sym slots)
+        (subst (λ (y : Bool). IsAssigned (slot_at old.slots.items i) y) (sym same) (h.rest on b ge v i at number));
+  }
+    where
+      other_numbers' : (k i : ℕ) → k ≢ i → (k == i) ≡ false
+      other_numbers' k i ne =
+          elim (eqb_tells k i) as (λ _. (k == i) ≡ false) [ inl w ↦ absurd (ne w.1) | inr w ↦ w.0 ]

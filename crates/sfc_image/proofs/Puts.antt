@@ -14,13 +14,16 @@ use Rattle.sfc_image.proofs.Numbers.{one_variable, same_itself, same_variable}
 
 -- a slot with a value and the force that it had
 pub put_slot : (slots : List Slot) (i : ℕ) (v : Value) (y : Slot) → i < length slots → y.stored ≡ v
-    → y.forced ≡ (slot_at slots i).forced → IsPut i v slots (slice_set slots i y)
-put_slot slots i v y lt stored forced = record {
+    → y.forced ≡ (slot_at slots i).forced → y.is_output ≡ (slot_at slots i).is_output → IsPut i v slots (slice_set slots i y)
+put_slot slots i v y lt stored forced output = record {
   here = ap (λ (slot : Slot). slot.stored) (slot_same slots i y lt) ∙ stored;
   others = λ j ne. ap (λ (slot : Slot). slot.stored) (slot_other slots i j y ne);
   forces = λ j.
       by_slot (λ (slot : Slot). slot.forced ≡ (slot_at slots j).forced) slots i j y lt
       (λ e. forced ∙ ap (λ (k : ℕ). (slot_at slots k).forced) (sym e)) (λ ne. refl);
+  outputs = λ j.
+      by_slot (λ (slot : Slot). slot.is_output ≡ (slot_at slots j).is_output) slots i j y lt
+      (λ e. output ∙ ap (λ (k : ℕ). (slot_at slots k).is_output) (sym e)) (λ ne. refl);
 }
 
 -- what is stored after an assignment to a variable that is there or not

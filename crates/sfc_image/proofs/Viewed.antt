@@ -18,7 +18,7 @@ use Rattle.sfc_image.specs.Private.Keeping.{locals_at, locals_of, AreKept, store
 use Rattle.sfc_image.proofs.Numbers.{of_number}
 
 -- the globals go before the locals of the first instance
-first_of_all : (plant : PlantData) → first_local plant (record { 0 = 0 }) ≡ length plant.globals
+pub first_of_all : (plant : PlantData) → first_local plant (record { 0 = 0 }) ≡ length plant.globals
 first_of_all plant = ap length (append-nil plant.globals)
 
 -- where the globals end

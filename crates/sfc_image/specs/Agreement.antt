@@ -7,6 +7,7 @@ use Rattle.sfc_image.specs.declared.view.ImageView.{ImageView}
 use Rattle.sfc_image.specs.Changes.{Told}
 use Rattle.sfc_image.specs.Environments.{moment_of}
 use Rattle.sfc_image.specs.Private.Keeping.{AreKept, shown_by}
+use Rattle.sfc_image.specs.Private.Giving.{AreGiven}
 
 -- how many variables and instances it is for
 abbrev pub variable_places : Image → ℕ
@@ -28,9 +29,14 @@ pub record IsAsLarge (old new : Image) : Type 0 where
   pub variables : variable_places new ≡ variable_places old
   pub instances : instance_places new ≡ instance_places old
 
+-- what it keeps is what was done, and what it knows of outputs holds
+pub record Keeps (plant : PlantData) (image : Image) (told : Told) : Type 0 where
+  pub kept : AreKept plant image.slots.items image.locals.items image.count image.is_trying told
+  pub given : AreGiven plant image.slots.items image.given.items image.epoch
+
 -- after what was done all answers are those of the definitions
 unfoldable pub ImageAgrees : PlantData → Image → Told → Type 0
-ImageAgrees plant image told = AreKept plant image.slots.items image.locals.items image.count image.is_trying told
+ImageAgrees plant image told = Keeps plant image told
 
 -- what a view reads
 unfoldable pub environment_in : ImageView → Environment

@@ -2,5 +2,7 @@
 
 -- what is kept of the variables
 pub mod Keeping
+-- what was last given to outputs, and how long that holds
+pub mod Giving
 -- what writes of a program make of an image
 pub mod Scratches

@@ -6,10 +6,14 @@ ghost use Rattle.sfc_chart.specs.Image as image;
 ghost use Rattle.sfc_chart.specs.Finding.{locals_at as locals_of_instance};
 ghost use Rattle.sfc_image.specs.Private.Keeping as keeping;
 ghost use Rattle.sfc_image.specs.Private.Keeping.{locals_at};
+ghost use Rattle.sfc_image.specs.Private.Giving.{given_at};
 
+use crate::given::Given;
 use crate::slot::{Locals, Slot, fresh_slot};
 use sfc_chart::instance::Instance;
+use sfc_flags::flags::Flags;
 use sfc_program::program_type::ProgramType;
+use sfc_tables::tables::Tables;
 use sfc_variables::variable::Variable;
 use std::alloc::{AllocError, Global};
 
@@ -61,4 +65,31 @@ pub fn build(
         add_slots(&mut slots, variables)?;
     }
     Ok((slots, locals))
+}
+
+// How many actions the type of an instance has.
+fn actions_of(tables: &[Tables], instance: &Instance) -> usize {
+    match tables.get(instance.program) {
+        Some(tables) => tables.actions(),
+        None => 0,
+    }
+}
+
+/// Room for what each instance gives its outputs; nothing was given yet. The one error is that memory was refused.
+pub fn build_given(
+    alloc: Global,
+    tables: &[Tables],
+    instances: &[Instance],
+) -> Result<Vec<Given>, AllocError>
+    ensures instances { IfOk result (λ given. length given.items ≡ length instances.now) }
+    ensures none { IfOk result (λ given. (k : ℕ) → k < length given.items → (given_at given.items k).epoch ≡ 0) }
+{
+    let mut given = Vec::new(alloc);
+    for k in 0..instances.len() {
+        given.push(Given {
+            q: Flags::new(alloc, actions_of(tables, &instances[k]))?,
+            epoch: 0,
+        })?;
+    }
+    Ok(given)
 }

@@ -1,14 +1,15 @@
 //! The variables of a plant, in running form (2.4).
 
-ghost use Rattle.std.specs.Prelude.{length};
+ghost use Rattle.std.specs.Prelude.{◌≡◌, length};
 ghost use Rattle.sfc_image.specs.Private.Keeping.{AreTracked, AreWithin};
 
-use crate::building::build;
+use crate::building::{build, build_given};
 use crate::closing::{begin_all, close_all};
 use crate::copying::{copy_locals, copy_slots};
+use crate::given::{Given, epoch_after, next_epoch};
 use crate::image_error::ImageError;
 use crate::scratch::ImageScratch;
-use crate::slot::{Locals, Slot, given, value_fault, with_force};
+use crate::slot::{Locals, Slot, as_output, given, value_fault, with_force};
 use crate::step_readings::StepReadings;
 use crate::trying::try_store;
 use crate::view::{ImageView, number_of};
@@ -28,6 +29,9 @@ use std::alloc::{AllocError, Global};
 
 /// The stored and the forced values of a plant's variables. Where a scratch is open, what is stored may still be undone:
 /// the variables that were written since then are listed, each once.
+///
+/// Of each instance it is known what it last gave its outputs, the variables of its Boolean actions. That holds until the
+/// value of some output changes, which begins another epoch.
 #[derive(Drop)]
 pub struct Image {
     slots: Vec<Slot>,
@@ -35,13 +39,17 @@ pub struct Image {
     written: Vec<usize>,
     count: usize,
     is_trying: bool,
+    given: Vec<Given>,
+    epoch: u64,
     ghost tracked: { AreTracked slots.items written.items count },
     ghost within: { AreWithin (length slots.items) locals.items },
+    ghost sized: { length given.items ≡ length locals.items },
 }
 
 #[tactic(auto, unfolding(crate::specs::Agreement::ImageAgrees))]
 impl Image {
-    ghost use Rattle.std.specs.Prelude.{◌≡◌, ◌<◌, ◌≤◌, ◌+◌, ◌∷◌, ◌++◌, [], true, false, List, Option, length, is_some, IfOk, OnOk, OnErr};
+    ghost use Rattle.std.specs.Prelude.{◌≡◌, ◌≢◌, ◌<◌, ◌≤◌, ◌==◌, ◌+◌, ◌∷◌, ◌++◌, [], ℕ, true, false, cond, List, Option, length, is_some};
+    ghost use Rattle.std.specs.Prelude.{IfOk, OnOk, OnErr, IfSome, Some, None, slice_set};
     ghost use Rattle.sfc_expr.specs.Ticks.{Within};
     ghost use Rattle.sfc_chart.specs.Plants.{PlantData};
     ghost use Rattle.sfc_chart.specs.Finding.{instance_locals};
@@ -50,18 +58,23 @@ impl Image {
     ghost use Rattle.sfc_expr.specs.Trees.{body_of};
     ghost use Rattle.sfc_expr.specs.Effect.{effect};
     ghost use Rattle.sfc_expr.specs.Nodes.{body_nodes};
-    ghost use Rattle.sfc_image.specs.Environments.{moment_of, environment_of};
+    ghost use Rattle.sfc_image.specs.Environments.{moment_of, environment_of, number_of};
     ghost use Rattle.sfc_image.specs.Bodies.{assignment, left_by, with_changes};
-    ghost use Rattle.sfc_image.specs.Outputs.{outputs};
+    ghost use Rattle.sfc_image.specs.Outputs.{output, outputs};
+    ghost use Rattle.sfc_flags.specs.Flags.{flag, places_passed};
+    ghost use Rattle.sfc_tables.specs.declared.association.Target.TheVariants.{Boolean};
     ghost use Rattle.sfc_tables.specs.Tables.{tables_of};
     ghost use Rattle.sfc_chart.specs.Finding.{chart_of};
+    ghost use Rattle.sfc_image.specs.Private.Keeping as keeping;
     ghost use Rattle.sfc_image.specs.Private.Keeping.{IsPut, slot_at};
+    ghost use Rattle.sfc_image.specs.Private.Giving.{given_at, HasQ, IsAssigned, Stays};
     ghost use Rattle.sfc_image.specs.Answers.{Answers, read_answer, value_fault, release_fault};
     ghost use Rattle.sfc_image.specs.Agreement.{ImageAgrees, IsAsLarge, environment_in, variable_places, instance_places, written_places, is_open};
 
-    /// The variables of the plant with their initial values; none is forced, and no scratch is open. The one error is
-    /// that memory was refused; no later call takes any.
-    pub fn new(alloc: Global, plant: &Plant) -> Result<Image, AllocError>
+    /// The variables of the plant with their initial values; none is forced, and no scratch is open. `tables` are those of
+    /// each program type: they tell how many actions each instance has. The one error is that memory was refused; no later
+    /// call takes any.
+    pub fn new(alloc: Global, plant: &Plant, tables: &[Tables]) -> Result<Image, AllocError>
         ensures variables { IfOk result (λ image. variable_places image ≡ variable_count plant.now) }
         ensures instances { IfOk result (λ image. instance_places image ≡ length plant.now.instances) }
         ensures closed { IfOk result (λ image. is_open image ≡ false) }
@@ -70,12 +83,15 @@ impl Image {
     {
         let (slots, locals) = build(alloc, plant.globals(), plant.types(), plant.instances())?;
         let written = vec![in alloc; 0; slots.len()]?;
+        let given = build_given(alloc, tables, plant.instances())?;
         Ok(Image {
             slots,
             locals,
             written,
             count: 0,
             is_trying: false,
+            given,
+            epoch: 1,
         })
     }
 
@@ -181,6 +197,18 @@ impl Image {
         exec(body, &mut scratch, ticks)
     }
 
+    // The number of a variable of the instance's program, if there is such a variable.
+    fn place(&self, instance: ProgId, variable: Variable) -> Option<usize>
+        requires { instance.0 < instance_places self.now }
+        ensures within { IfSome result (λ i. i < variable_places self.now) }
+        ensures number { (plant : PlantData) (told : Told) → ImageAgrees plant self.now told →
+            result ≡ number_of plant instance variable }
+    {
+        let shared = self.locals[0].first;
+        let own = self.locals[instance.0 as usize];
+        number_of(shared, own, variable)
+    }
+
     /// Gives a variable of the instance's program a value of its type, in the scratch where one is open; a force hides it
     /// until its release. Where there is no such variable nothing changes. It takes no memory.
     pub fn assign(&mut self, instance: ProgId, variable: Variable, value: Value, ticks: &mut Ticks)
@@ -193,15 +221,133 @@ impl Image {
         ensures ticks { Within 1 ticks.old ticks.new }
     {
         ticks.tick();
-        let shared = self.locals[0].first;
-        let own = self.locals[instance.0 as usize];
-        if let Some(i) = number_of(shared, own, variable) {
+        if let Some(i) = self.place(instance, variable) {
             self.put(i, value);
         }
     }
 
+    // The variable of this number is an output.
+    fn mark_output(&mut self, i: usize)
+        requires { i < variable_places self.old }
+        ensures large { IsAsLarge self.old self.new }
+        ensures open { is_open self.new ≡ is_open self.old }
+        ensures given { self.new.given.items ≡ self.old.given.items }
+        ensures slots { self.new.slots.items ≡ slice_set self.old.slots.items i (keeping.as_output (slot_at self.old.slots.items i)) }
+        ensures kept { (plant : PlantData) (told : Told) → ImageAgrees plant self.old told → ImageAgrees plant self.new told }
+    {
+        self.slots[i] = as_output(self.slots[i]);
+    }
+
+    // Gives the variable of an action its Q, if the action is one.
+    fn give(&mut self, instance: ProgId, target: Target, q: bool)
+        requires instance { instance.0 < instance_places self.old }
+        requires open { is_open self.old ≡ true }
+        ensures large { IsAsLarge self.old self.new }
+        ensures open { is_open self.new ≡ true }
+        ensures given { self.new.given.items ≡ self.old.given.items }
+        ensures kept { (plant : PlantData) (told : Told) → ImageAgrees plant self.old told →
+            ImageAgrees plant self.new (with_changes (output plant instance target q) told) }
+        ensures here { (plant : PlantData) (told : Told) (v : Variable) (i : ℕ) → ImageAgrees plant self.old told →
+            target ≡ Boolean v → number_of plant instance v ≡ Some i → IsAssigned (slot_at self.new.slots.items i) q }
+        ensures others { (plant : PlantData) (told : Told) (i : ℕ) → ImageAgrees plant self.old told →
+            ((v : Variable) → target ≡ Boolean v → number_of plant instance v ≢ Some i) →
+            Stays (slot_at self.old.slots.items i) (slot_at self.new.slots.items i) }
+    {
+        if let Target::Boolean(variable) = target {
+            if let Some(i) = self.place(instance, variable) {
+                self.mark_output(i);
+                self.put(i, Value::Bool(q));
+            }
+        }
+    }
+
+    // Whether what was last given to the outputs of the instance holds, where it has as many actions as this Q. From now on
+    // it doesn't count as given any more.
+    fn take_given(&mut self, instance: ProgId, q: &Flags) -> bool
+        requires { instance.0 < instance_places self.old }
+        ensures large { IsAsLarge self.old self.new }
+        ensures open { is_open self.new ≡ is_open self.old }
+        ensures slots { self.new.slots.items ≡ self.old.slots.items }
+        ensures epoch { (given_at self.new.given.items instance.0).epoch ≡ 0 }
+        ensures sized { result ≡ true → length (given_at self.new.given.items instance.0).q ≡ length q.now }
+        ensures kept { (plant : PlantData) (told : Told) → ImageAgrees plant self.old told → ImageAgrees plant self.new told }
+        ensures holds { (plant : PlantData) (told : Told) (a : ℕ) → result ≡ true → ImageAgrees plant self.old told →
+            HasQ plant instance self.new.slots.items a (flag (given_at self.new.given.items instance.0).q a) }
+    {
+        let epoch = self.epoch;
+        let given = &mut self.given[instance.0 as usize];
+        let holds = given.epoch == epoch && epoch < u64::MAX && given.q.places() == q.places();
+        given.epoch = 0;
+        holds
+    }
+
+    // Notes the Q that was given to the variable of an action.
+    fn note(&mut self, instance: ProgId, action: usize, q: bool)
+        requires instance { instance.0 < instance_places self.old }
+        requires taken { (given_at self.old.given.items instance.0).epoch ≡ 0 }
+        ensures large { IsAsLarge self.old self.new }
+        ensures open { is_open self.new ≡ is_open self.old }
+        ensures slots { self.new.slots.items ≡ self.old.slots.items }
+        ensures epoch { (given_at self.new.given.items instance.0).epoch ≡ 0 }
+        ensures sized { length (given_at self.new.given.items instance.0).q ≡ length (given_at self.old.given.items instance.0).q }
+        ensures q { (a : ℕ) → a < length (given_at self.old.given.items instance.0).q →
+            flag (given_at self.new.given.items instance.0).q a
+            ≡ cond (a == action) q (flag (given_at self.old.given.items instance.0).q a) }
+        ensures kept { (plant : PlantData) (told : Told) → ImageAgrees plant self.old told → ImageAgrees plant self.new told }
+    {
+        self.given[instance.0 as usize].note(action, q);
+    }
+
+    // What was noted is what the outputs of the instance have now, if all actions had room.
+    fn leave_given(&mut self, instance: ProgId, q: &Flags)
+        requires instance { instance.0 < instance_places self.old }
+        requires taken { (given_at self.old.given.items instance.0).epoch ≡ 0 }
+        ensures large { IsAsLarge self.old self.new }
+        ensures open { is_open self.new ≡ is_open self.old }
+        ensures kept { (plant : PlantData) (told : Told) → ImageAgrees plant self.old told →
+            (length (given_at self.old.given.items instance.0).q ≡ length q.now → (a : ℕ) →
+            HasQ plant instance self.old.slots.items a (flag (given_at self.old.given.items instance.0).q a)) →
+            ImageAgrees plant self.new told }
+    {
+        let epoch = self.epoch;
+        let given = &mut self.given[instance.0 as usize];
+        if given.q.places() == q.places() {
+            given.epoch = epoch;
+        }
+    }
+
+    // The next action from `from` on whose Q wasn't given yet: where what was given holds, one that has another Q now.
+    fn next_due(
+        &self,
+        instance: ProgId,
+        q: &Flags,
+        holds: bool,
+        from: usize,
+        ticks: &mut Ticks,
+    ) -> Option<usize>
+        requires instance { instance.0 < instance_places self.now }
+        requires sized { holds ≡ true → length (given_at self.now.given.items instance.0).q ≡ length q.now }
+        ensures some { IfSome result (λ i. (from ≤ i) × (i < length q.now)) }
+        ensures before { IfSome result (λ i. (j : ℕ) → from ≤ j → j < i →
+            (holds ≡ true) × (flag (given_at self.now.given.items instance.0).q j ≡ flag q.now j)) }
+        ensures none { result ≡ None → (j : ℕ) → from ≤ j → j < length q.now →
+            (holds ≡ true) × (flag (given_at self.now.given.items instance.0).q j ≡ flag q.now j) }
+        ensures ticks { Within (places_passed (length q.now) from result) ticks.old ticks.new }
+    {
+        if holds {
+            return q.next_difference(&self.given[instance.0 as usize].q, from, ticks);
+        }
+        if from < q.places() {
+            ticks.tick();
+            Some(from)
+        } else {
+            None
+        }
+    }
+
     /// Assigns its Q to each variable of the instance's program that is an action by itself (2.6.4.1), one after the other,
-    /// in the scratch, which is open; the Q of each action stands by its number. It takes no memory.
+    /// in the scratch, which is open; the Q of each action stands by its number. It takes no memory. Where no output was
+    /// changed since the instance's last call, only those are handled whose Q is another now.
     pub fn assign_outputs(
         &mut self,
         instance: ProgId,
@@ -219,11 +365,15 @@ impl Image {
             ImageAgrees plant self.new (with_changes (outputs plant instance q.now 0 tables.now.actions) told) }
         ensures ticks { Within (length tables.now.actions) ticks.old ticks.new }
     {
-        for action in 0..tables.actions() {
-            if let Target::Boolean(variable) = tables.target(ActionNumber(action)) {
-                self.assign(instance, variable, Value::Bool(q.get(action)), ticks);
-            }
+        let holds = self.take_given(instance, q);
+        let mut from = 0;
+        'outputs: while let Some(action) = self.next_due(instance, q, holds, from, ticks) {
+            let is_set = q.get(action);
+            self.give(instance, tables.target(ActionNumber(action)), is_set);
+            self.note(instance, action, is_set);
+            from = action + 1;
         }
+        self.leave_given(instance, q);
     }
 
     /// What is wrong with a value for the variable, by `store` or `force`: there is no such variable, or the value is not
@@ -273,6 +423,7 @@ impl Image {
         ensures open { is_open self.new ≡ is_open self.old }
         ensures written { written_places self.new ≤ written_places self.old + 1 }
         ensures put { IsPut i value self.old.slots.items self.new.slots.items }
+        ensures given { self.new.given.items ≡ self.old.given.items }
         ensures kept { (plant : PlantData) (told : Told) → ImageAgrees plant self.old told →
             ImageAgrees plant self.new (with_change (Stored (record { 0 = i }) value) told) }
     {
@@ -280,8 +431,10 @@ impl Image {
             if self.has_stored(i, value) {
                 return;
             }
+            self.epoch = epoch_after(self.epoch, self.slots[i].is_output);
             self.count = try_store(&mut self.slots, &mut self.written, self.count, i, value);
         } else {
+            self.epoch = epoch_after(self.epoch, self.slots[i].is_output);
             self.slots[i] = given(self.slots[i], value);
         }
     }
@@ -365,6 +518,7 @@ impl Image {
     {
         let Locals { first, count } = self.locals[instance.0 as usize];
         begin_all(&mut self.slots, first, count, ticks);
+        self.epoch = next_epoch(self.epoch);
     }
 
     /// Opens a scratch: what is stored from now on may still be undone. It handles no variable, so it counts nothing.
@@ -409,6 +563,7 @@ impl Image {
         ensures ticks { Within (variable_places self.old) ticks.old ticks.new }
     {
         close_all(&mut self.slots, &self.written, self.count, false, ticks);
+        self.epoch = next_epoch(self.epoch);
         self.count = 0;
         self.is_trying = false;
     }
@@ -430,8 +585,9 @@ impl Image {
             &other.written,
             ticks,
         );
-        copy_locals(&mut self.locals, &other.locals, ticks);
+        copy_locals(&mut self.locals, &mut self.given, &other.locals, ticks);
         self.count = other.count;
         self.is_trying = other.is_trying;
+        self.epoch = 1;
     }
 }

@@ -4,6 +4,7 @@
 //! - `building`: the slots of a plant's variables.
 //! - `closing`: what was tried is kept, or given up.
 //! - `copying`: what one image takes over from another.
+//! - `given`: what an instance last gave the variables of its Boolean actions.
 //! - `image`: the variables of a plant.
 //! - `image_error`: why a call is refused.
 //! - `laws`: what the definitions mean.
@@ -17,6 +18,7 @@
 mod building;
 mod closing;
 mod copying;
+mod given;
 pub mod image;
 pub mod image_error;
 pub mod laws;

@@ -10,7 +10,8 @@ use sfc_tokens::var_type::VarType;
 use sfc_variables::variable::Variable;
 
 /// The type of a variable and its initial value; its value when a scratch was opened, or now if none is open; its value
-/// now; the value to which it is forced, if it is; and whether it was written since a scratch was opened.
+/// now; the value to which it is forced, if it is; whether it was written since a scratch was opened; and whether it is an
+/// output: the variable of a Boolean action that was given its Q.
 #[derive(Clone, Copy)]
 pub struct Slot {
     pub var_type: VarType,
@@ -19,6 +20,7 @@ pub struct Slot {
     pub stored: Value,
     pub forced: Option<Value>,
     pub is_tried: bool,
+    pub is_output: bool,
 }
 
 /// Where the locals of an instance are among the variables.
@@ -39,6 +41,7 @@ pub fn fresh_slot(variable: &Variable) -> Slot
         stored: variable.initial,
         forced: None,
         is_tried: false,
+        is_output: false,
     }
 }
 
@@ -92,6 +95,15 @@ pub fn with_force(slot: Slot, value: Option<Value>) -> Slot
 {
     let mut next = slot;
     next.forced = value;
+    next
+}
+
+/// The variable is an output.
+pub fn as_output(slot: Slot) -> Slot
+    ensures { result ≡ keeping.as_output slot }
+{
+    let mut next = slot;
+    next.is_output = true;
     next
 }
 

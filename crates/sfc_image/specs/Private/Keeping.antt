@@ -31,6 +31,7 @@ fresh_slot variable = record {
   stored = variable.initial;
   forced = None;
   is_tried = false;
+  is_output = false;
 }
 
 abbrev pub no_slot : Slot
@@ -41,6 +42,7 @@ no_slot = record {
   stored = value.Bool false;
   forced = None;
   is_tried = false;
+  is_output = false;
 }
 
 abbrev pub slot_at : List Slot → ℕ → Slot
@@ -101,11 +103,16 @@ tried v slot = record slot { stored = v; is_tried = true }
 abbrev pub with_force : Option Value → Slot → Slot
 with_force v slot = record slot { forced = v }
 
+-- the variable is an output
+abbrev pub as_output : Slot → Slot
+as_output slot = record slot { is_output = true }
+
 -- a value is stored in the variable of number i, and all else is as before
 pub record IsPut (i : ℕ) (v : Value) (old new : List Slot) : Type 0 where
   pub here : (slot_at new i).stored ≡ v
   pub others : (j : ℕ) → j ≢ i → (slot_at new j).stored ≡ (slot_at old j).stored
   pub forces : (j : ℕ) → (slot_at new j).forced ≡ (slot_at old j).forced
+  pub outputs : (j : ℕ) → (slot_at new j).is_output ≡ (slot_at old j).is_output
 
 -- what is wrong with giving the variable of one of these slots a value
 abbrev pub fault_at : List Slot → VarId → Value → Option ImageError

@@ -32,8 +32,8 @@ returns-clause-result c plant told h =
     c.exec.ensures.result
     ∙ ap (λ (env : Environment). (effect (body_of c.args.body.now) env).result)
     (viewed plant image.slots.items locals image.count image.is_trying told p g l moment
-    (globals_end plant image.slots.items locals image.count image.is_trying told g some first h)
-    (is ∙ h.locals_are p c.requires.instance) within h)
+    (globals_end plant image.slots.items locals image.count image.is_trying told g some first h.kept)
+    (is ∙ h.kept.locals_are p c.requires.instance) within h.kept)
 
 pub returns-clause-kept : goal.returns-clause-kept
 unfolding ImageAgrees environment_of_scratch
@@ -51,9 +51,9 @@ returns-clause-kept c plant told h =
     let within : l.first + l.count ≤ length image.slots.items =
     subst (λ (x : Locals). x.first + x.count ≤ length image.slots.items) (sym is) ((image.within p.0 c.requires.instance).1) in
     let ends : g ≡ length plant.globals =
-    globals_end plant image.slots.items locals image.count image.is_trying told g some first h in
-    let of_instance : l ≡ locals_of plant p = is ∙ h.locals_are p c.requires.instance in
-    let before = viewed plant image.slots.items locals image.count image.is_trying told p g l moment ends of_instance within h in
+    globals_end plant image.slots.items locals image.count image.is_trying told g some first h.kept in
+    let of_instance : l ≡ locals_of plant p = is ∙ h.kept.locals_are p c.requires.instance in
+    let before = viewed plant image.slots.items locals image.count image.is_trying told p g l moment ends of_instance within h.kept in
     let scratch = c.exec.new.scratch in
     let reached = c.exec.ensures.reached in
     let new = scratch.image.now in
@@ -61,7 +61,7 @@ returns-clause-kept c plant told h =
     let made = done.made in
     let after = viewed plant new.slots.items new.locals.items new.count new.is_trying (with_changes made told) p scratch.globals
     scratch.locals (moment_of scratch.steps scratch.q) (reached.globals ∙ ends) (reached.locals ∙ of_instance) scratch.within
-    done.agrees in
+    done.agrees.kept in
     let env : Environment = (effect (body_of c.args.body.now) (environment_of plant (all_of told) p moment)).environment in
     let left : env ≡ environment_of plant (all_of (with_changes made told)) p (moment_of scratch.steps scratch.q) =
     sym (c.exec.ensures.after ∙ ap (λ (e : Environment). (effect (body_of c.args.body.now) e).environment) before) ∙ after in
@@ -69,6 +69,10 @@ returns-clause-kept c plant told h =
     subst (λ (n : ℕ). All (IsWriteAmong n (locals_of plant p)) made) ends
     (subst (λ (x : Locals). All (IsWriteAmong g x) made) of_instance done.writes) in
     let kept : ImageAgrees plant new (with_changes (left_by plant p env) told) =
-    left_kept plant p env new.slots.items new.locals.items new.count new.is_trying told made writes
-    (λ v. ap (λ (e : Environment). e.stored_at v) left) done.agrees in
+    record {
+      kept =
+          left_kept plant p env new.slots.items new.locals.items new.count new.is_trying told made writes
+          (λ v. ap (λ (e : Environment). e.stored_at v) left) done.agrees.kept;
+      given = done.agrees.given;
+    } in
     search rules

@@ -1,8 +1,9 @@
-use Rattle.std.proofs.Common.{◌≡◌, ◌∙◌, ap, length, map, sym}
+use Rattle.std.proofs.Common.{◌≡◌, ◌∙◌, ap, arith, length, map, sym}
 use Rattle.sfc_chart.specs.Image.{image_variables}
 use Rattle.sfc_image.specs.Private.Keeping.{fresh_slot}
 use Rattle.sfc_image.specs.Agreement.{ImageAgrees}
 use Rattle.sfc_image.proofs.Built.{built_slots, built_locals, fresh_tracked, fresh_within, fresh_kept}
+use Rattle.sfc_image.proofs.Given.{nothing_given}
 use Rattle.sfc_image.proofs.image.Image.new.Goals as goal
 
 pub invariant_of-result : goal.invariant_of-result
@@ -21,6 +22,7 @@ invariant_of-result c =
           fresh_within plant slots locals is (c.in_ok-slots.ensures.instances ∙ ap length c.instances.ensures.value)
           (built_locals plant c.globals.result.now c.types.result.now c.instances.result.now locals c.globals.ensures.value
           c.types.ensures.value c.instances.ensures.value c.in_ok-slots.ensures.locals);
+      sized = c.in_ok-given.ensures.instances ∙ sym c.in_ok-slots.ensures.instances;
     }
 
 pub returns-clause-agrees : goal.returns-clause-agrees
@@ -29,9 +31,13 @@ returns-clause-agrees c =
     let plant = c.args.plant.now in
     let slots = c.in_ok-slots.slots.items in
     let locals = c.in_ok-slots.locals.items in
-    fresh_kept plant slots locals
-    (built_slots plant c.globals.result.now c.types.result.now c.instances.result.now slots c.globals.ensures.value
-    c.types.ensures.value c.instances.ensures.value c.in_ok-slots.ensures.slots)
-    (c.in_ok-slots.ensures.instances ∙ ap length c.instances.ensures.value)
-    (built_locals plant c.globals.result.now c.types.result.now c.instances.result.now locals c.globals.ensures.value
-    c.types.ensures.value c.instances.ensures.value c.in_ok-slots.ensures.locals)
+    record {
+      kept =
+          fresh_kept plant slots locals
+          (built_slots plant c.globals.result.now c.types.result.now c.instances.result.now slots c.globals.ensures.value
+          c.types.ensures.value c.instances.ensures.value c.in_ok-slots.ensures.slots)
+          (c.in_ok-slots.ensures.instances ∙ ap length c.instances.ensures.value)
+          (built_locals plant c.globals.result.now c.types.result.now c.instances.result.now locals c.globals.ensures.value
+          c.types.ensures.value c.instances.ensures.value c.in_ok-slots.ensures.locals);
+      given = nothing_given plant slots c.in_ok-given.given.items 1 (omega arith) c.in_ok-given.ensures.none;
+    }

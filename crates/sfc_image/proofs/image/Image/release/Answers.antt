@@ -1,9 +1,11 @@
-use Rattle.std.proofs.Common.{◌≡◌, ◌<◌, ◌∙◌, ◌∷◌, None, ap, arith, length, slice_set, subst, sym}
+use Rattle.std.proofs.Common.{◌≡◌, ◌<◌, ◌∙◌, ◌∷◌, None, ap, arith, length, refl, slice_set, subst, sym}
 use Rattle.sfc_image.specs.declared.slot.Slot.{Slot}
 use Rattle.sfc_image.specs.Changes.{Released, settled}
 use Rattle.sfc_image.specs.Private.Keeping.{AreKept, slot_at, with_force}
+use Rattle.sfc_image.specs.Private.Giving.{AreGiven}
 use Rattle.sfc_image.specs.Agreement.{ImageAgrees}
 use Rattle.sfc_image.proofs.Agreed.{release_kept}
+use Rattle.sfc_image.proofs.Given.{given_stays, same_stays}
 use Rattle.sfc_image.proofs.Tracked.{slot_read}
 use Rattle.sfc_image.proofs.image.Image.release.Goals as goal
 
@@ -18,6 +20,14 @@ returns-clause-ok c plant kept h =
     let read = slot_read slots id.0 c.index.result.now lt c.index.ensures in
     let made : with_force None (slot_at slots id.0) ≡ c.with_force.result =
     sym (c.with_force.ensures ∙ ap (with_force None) read) in
-    subst (λ (y : Slot). AreKept plant (slice_set slots id.0 y) image.locals.items image.count image.is_trying
-    (settled (Released id ∷ kept))) made
-    (release_kept plant slots image.locals.items image.count image.is_trying kept id lt h)
+    let with_it : Slot = with_force None (slot_at slots id.0) in
+    record {
+      kept =
+          subst (λ (y : Slot). AreKept plant (slice_set slots id.0 y) image.locals.items image.count image.is_trying
+          (settled (Released id ∷ kept))) made
+          (release_kept plant slots image.locals.items image.count image.is_trying kept id lt h.kept);
+      given =
+          subst (λ (y : Slot). AreGiven plant (slice_set slots id.0 y) image.given.items image.epoch) made
+          (given_stays plant slots (slice_set slots id.0 with_it) image.given.items image.epoch
+          (same_stays slots id.0 with_it lt refl (λ on. on)) h.given);
+    }

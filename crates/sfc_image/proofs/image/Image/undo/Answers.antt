@@ -3,8 +3,10 @@ use Rattle.std.proofs.lemmas.List.{with_items_is}
 use Rattle.sfc_image.specs.declared.slot.Slot.{Slot}
 use Rattle.sfc_image.specs.Changes.{settled}
 use Rattle.sfc_image.specs.Private.Keeping.{AreClosed, AreTracked, AreWithin, AreKept}
+use Rattle.sfc_image.specs.Private.Giving.{AreGiven}
 use Rattle.sfc_image.specs.Agreement.{ImageAgrees}
 use Rattle.sfc_image.proofs.Agreed.{undo_kept}
+use Rattle.sfc_image.proofs.Given.{given_later}
 use Rattle.sfc_image.proofs.Tracked.{closed_at, tracked_closed}
 use Rattle.sfc_image.proofs.image.Image.undo.Goals as goal
 
@@ -26,6 +28,7 @@ invariant_of-self c =
       within =
           subst (λ (xs : List Slot). AreWithin (length xs) image.locals.items) is
           (subst (λ (n : ℕ). AreWithin n image.locals.items) (sym (long ∙ image.slots.ok.0)) image.within);
+      sized = image.sized;
     }
 
 pub returns-clause-kept : goal.returns-clause-kept
@@ -39,7 +42,13 @@ returns-clause-kept c plant kept tried h =
     let closed : AreClosed false written image.count slots new =
     closed_at false image.count c.deref.result.now written c.deref_mut.result.now slots new c.deref.ensures.value
     c.deref_mut.ensures.value c.close_all.ensures.closed in
-    subst (λ (xs : List Slot). AreKept plant xs image.locals.items 0 false (settled kept))
-    (sym (with_items_is image.slots new long))
-    (undo_kept plant slots new image.locals.items written image.count image.is_trying kept tried (long ∙ image.slots.ok.0)
-    image.tracked closed h)
+    let is = sym (with_items_is image.slots new long) in
+    record {
+      kept =
+          subst (λ (xs : List Slot). AreKept plant xs image.locals.items 0 false (settled kept)) is
+          (undo_kept plant slots new image.locals.items written image.count image.is_trying kept tried (long ∙ image.slots.ok.0)
+          image.tracked closed h.kept);
+      given =
+          subst (λ (xs : List Slot). AreGiven plant xs image.given.items c.next_epoch.result) is
+          (given_later plant slots new image.given.items image.epoch c.next_epoch.result c.next_epoch.ensures h.given);
+    }

@@ -25,5 +25,5 @@ returns c plant told h =
     subst (λ (x : Locals). x.first + x.count ≤ length image.slots.items) (sym is) ((image.within p.0 c.requires).1) in
     ap (λ (xs : List Slot). shown_by xs g l moment) c.as_slice.ensures.value
     ∙ viewed plant image.slots.items locals image.count image.is_trying told p g l moment
-    (globals_end plant image.slots.items locals image.count image.is_trying told g some first h)
-    (is ∙ h.locals_are p c.requires) within h
+    (globals_end plant image.slots.items locals image.count image.is_trying told g some first h.kept)
+    (is ∙ h.kept.locals_are p c.requires) within h.kept
