@@ -3,4 +3,5 @@ mod Views
 mod Nexts
 mod Passed
 mod Has
+mod Apart
 pub mod Wordwise

@@ -7,7 +7,7 @@ use Rattle.sfc_flags.specs.Private.Bits.{IsTable, IsNext, words_passed}
 pub words_within : (n : ℕ) (words : List ℕ) → IsTable n words → length words ≤ n
 words_within n words t = omega (arith, t.sized)
 
-place_passed : (from i : ℕ) → from ≤ i → suc (i / 64) - from / 64 ≤ suc i - from
+pub place_passed : (from i : ℕ) → from ≤ i → suc (i / 64) - from / 64 ≤ suc i - from
 place_passed from i le = omega arith
 
 none_passed : (n from : ℕ) (words : List ℕ) → IsTable n words → from < n → length words - from / 64 ≤ n - from

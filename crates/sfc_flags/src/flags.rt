@@ -1,6 +1,6 @@
 //! A table of flags, one bit each.
 
-ghost use Rattle.std.specs.Prelude.{◌≡◌, ◌==◌, ◌<◌, ◌≤◌, ◌^◌, ◌||◌, ◌&&◌, ◌↔◌, ◌∷◌, ◌+◌, ◌-◌, [], ℕ, List, Bool, not, true, false, cond, length, replicate, slice_set, IfOk, IfSome, None};
+ghost use Rattle.std.specs.Prelude.{◌≡◌, ◌≢◌, ◌==◌, ◌<◌, ◌≤◌, ◌^◌, ◌||◌, ◌&&◌, ◌↔◌, ◌∷◌, ◌+◌, ◌-◌, [], ℕ, List, Bool, not, true, false, cond, length, replicate, slice_set, IfOk, IfSome, None};
 ghost use Rattle.sfc_expr.specs.Ticks.{Within};
 ghost use Rattle.sfc_flags.specs.Flags.{flag, places_from, places_passed};
 ghost use Rattle.sfc_flags.specs.Words.{has, word_count, word_of};
@@ -117,6 +117,24 @@ impl Flags {
         let places = self.places;
         if from < places {
             words::next(&self.words, from, ticks)
+        } else {
+            None
+        }
+    }
+
+    /// The first place from `from` on at which the two tables differ. A walk over all these places, each time from the
+    /// place behind the last one, makes at most a tick for each place of the table.
+    pub fn next_difference(&self, other: &Flags, from: usize, ticks: &mut Ticks) -> Option<usize>
+        requires { length other.now ≡ length self.now }
+        ensures some { IfSome result (λ i. (from ≤ i) × (i < length self.now) × (flag self.now i ≢ flag other.now i)) }
+        ensures before { IfSome result (λ i. (j : ℕ) → from ≤ j → j < i → flag self.now j ≡ flag other.now j) }
+        ensures none { result ≡ None → (j : ℕ) → from ≤ j → flag self.now j ≡ flag other.now j }
+        ensures len { length self.now < 2 ^ 64 }
+        ensures ticks { Within (places_passed (length self.now) from result) ticks.old ticks.new }
+    {
+        let places = self.places;
+        if from < places {
+            words::next_difference(&self.words, &other.words, from, ticks)
         } else {
             None
         }

@@ -2,7 +2,7 @@
 
 ghost use Rattle.std.specs.Prelude.{◌≡◌, ◌==◌, ◌/◌, ◌<◌, ◌≤◌, ◌^◌, ◌-◌, ◌||◌, ◌&&◌, ◌↔◌, ℕ, not, true, false, length, cond, slice_index, slice_set, IfSome, None};
 ghost use Rattle.sfc_expr.specs.Ticks.{Within};
-ghost use Rattle.sfc_flags.specs.Private.Bits.{bit, IsNext, words_passed};
+ghost use Rattle.sfc_flags.specs.Private.Bits.{bit, apart, IsNext, words_passed};
 
 use sfc_expr::ticks::Ticks;
 
@@ -92,4 +92,45 @@ pub fn next(words: &[u64], from: usize, ticks: &mut Ticks) -> Option<usize>
         }
     }
     None
+}
+
+/// The first place from `from` on at which the bits of the two differ.
+pub fn next_difference(
+    words: &[u64],
+    other: &[u64],
+    from: usize,
+    ticks: &mut Ticks,
+) -> Option<usize>
+    requires few { length words.now ≤ 2 ^ 58 }
+    requires len { length other.now ≡ length words.now }
+    ensures some { IfSome result (λ i. IsNext (apart words.now other.now) from i) }
+    ensures none { result ≡ None → (j : ℕ) → from ≤ j → bit (apart words.now other.now) j ≡ false }
+    ensures ticks { Within (words_passed (apart words.now other.now) from result) ticks.old ticks.new }
+{
+    let first = from / 64;
+    if first >= words.len() {
+        return None;
+    }
+    ticks.tick();
+    let differing = difference(words, other, first) >> (from % 64);
+    if differing != 0 {
+        return Some(from + differing.trailing_zeros() as usize);
+    }
+    for k in first + 1..words.len() {
+        ticks.tick();
+        let differing = difference(words, other, k);
+        if differing != 0 {
+            return Some(k * 64 + differing.trailing_zeros() as usize);
+        }
+    }
+    None
+}
+
+/// The bits in which these words of the two differ.
+fn difference(words: &[u64], other: &[u64], k: usize) -> u64
+    requires within { k < length words.now }
+    requires len { length other.now ≡ length words.now }
+    ensures { result ≡ slice_index (apart words.now other.now) k }
+{
+    words[k] ^ other[k]
 }

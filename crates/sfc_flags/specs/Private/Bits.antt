@@ -1,6 +1,6 @@
 -- How words hold flags.
 use Rattle.std.specs.Prelude.{ℕ, zero, suc, ◌≡◌, ◌/◌, ◌%◌, ◌-◌, ◌≤◌, ◌<◌, ◌==◌}
-use Rattle.std.specs.Prelude.{Bool, true, false, List, [], ◌∷◌, length, slice_index, Option, None, Some}
+use Rattle.std.specs.Prelude.{Bool, true, false, List, [], ◌∷◌, length, slice_index, bit_xor, Option, None, Some}
 use Rattle.std.specs.Int.{bit_at, div_ceil}
 
 -- the bit of place i in these words
@@ -26,6 +26,12 @@ pub record IsNext (words : List ℕ) (from i : ℕ) : Type 0 where
   pub after : from ≤ i
   pub here : bit words i ≡ true
   pub first : (j : ℕ) → from ≤ j → j < i → bit words j ≡ false
+
+-- the words of which each bit tells whether those of two tables differ
+abbrev pub apart : List ℕ → List ℕ → List ℕ
+apart [] other = []
+apart (a ∷ words) [] = []
+apart (a ∷ words) (b ∷ other) = bit_xor a b ∷ apart words other
 
 -- how many words a search from a place looks at
 abbrev pub words_passed : List ℕ → ℕ → Option ℕ → ℕ
