@@ -21,42 +21,45 @@ use Rattle.sfc_image.proofs.Numbers.{one_variable}
 -- ---- each variable stands once
 
 -- the variable is none of these
-IsNone : Variable → List Variable → Type 0
-IsNone v [] = ⊤
+abbrev IsNone : Variable → List Variable → Type 0
+IsNone v [] = Unit {0}
 IsNone v (w ∷ ws) = (w ≢ v) × IsNone v ws
 
-AreApart : List Variable → Type 0
-AreApart [] = ⊤
+abbrev AreApart : List Variable → Type 0
+AreApart [] = Unit {0}
 AreApart (v ∷ vs) = IsNone v vs × AreApart vs
+
+none_kept : (v w : Variable) (ws : List Variable) (b : Bool) → w ≢ v → IsNone v ws → IsNone v (cond b (w ∷ ws) ws)
+none_kept v w ws true ne none = (ne, none)
+none_kept v w ws false ne none = none
 
 none_filtered : (p : Variable → Bool) (v : Variable) (ws : List Variable) → IsNone v ws → IsNone v (filter p ws)
 none_filtered p v [] none = none
-none_filtered p v (w ∷ ws) none = by_test (p w) where
-  by_test : (b : Bool) → IsNone v (cond b (w ∷ filter p ws) (filter p ws))
-  by_test true = (none.0, none_filtered p v ws none.1)
-  by_test false = none_filtered p v ws none.1
+none_filtered p v (w ∷ ws) none = none_kept v w (filter p ws) (p w) none.0 (none_filtered p v ws none.1)
+
+apart_kept : (v : Variable) (vs : List Variable) (b : Bool) → IsNone v vs → AreApart vs → AreApart (cond b (v ∷ vs) vs)
+apart_kept v vs true none apart = (none, apart)
+apart_kept v vs false none apart = apart
 
 apart_filtered : (p : Variable → Bool) (vs : List Variable) → AreApart vs → AreApart (filter p vs)
 apart_filtered p [] apart = apart
-apart_filtered p (v ∷ vs) apart = by_test (p v) where
-  by_test : (b : Bool) → AreApart (cond b (v ∷ filter p vs) (filter p vs))
-  by_test true = (none_filtered p v vs apart.0, apart_filtered p vs apart.1)
-  by_test false = apart_filtered p vs apart.1
+apart_filtered p (v ∷ vs) apart =
+    apart_kept v (filter p vs) (p v) (none_filtered p v vs apart.0) (apart_filtered p vs apart.1)
 
 same_itself : (v : Variable) → same_variable v v ≡ true
 same_itself (Global a) = same_number a.0
 same_itself (Local a) = same_number a.0
 
+other_kept : (v w : Variable) (ws : List Variable) (b : Bool) → same_variable w v ≡ b → IsNone v ws → IsNone v (cond (not b) (w ∷ ws) ws)
+other_kept v w ws true e none = none
+other_kept v w ws false e none =
+    ((λ same. absurd (let on : same_variable w v ≡ true = ap (λ (x : Variable). same_variable x v) same ∙ same_itself v in cc)), none)
+
 -- those that are not v
 others_none : (v : Variable) (ws : List Variable) → IsNone v (filter (λ other. not (same_variable other v)) ws)
 others_none v [] = tt
-others_none v (w ∷ ws) = by_test (same_variable w v) refl where
-  by_test : (b : Bool) → same_variable w v ≡ b
-      → IsNone v (cond (not b) (w ∷ filter (λ other. not (same_variable other v)) ws) (filter (λ other. not (same_variable other v)) ws))
-  by_test true e = others_none v ws
-  by_test false e =
-      ((λ same. absurd (let on : same_variable w v ≡ true = ap (λ (x : Variable). same_variable x v) same ∙ same_itself v in cc)),
-      others_none v ws)
+others_none v (w ∷ ws) =
+    other_kept v w (filter (λ other. not (same_variable other v)) ws) (same_variable w v) refl (others_none v ws)
 
 distinct_apart : (vs : List Variable) → AreApart (distinct vs)
 distinct_apart [] = tt
@@ -87,7 +90,7 @@ boolean_place : (vs : List Variable) (n a k : ℕ) (v : Variable)
     → slice_get vs a ≡ Some v
 boolean_place [] zero a k v e = absurd cc
 boolean_place [] (suc n) zero k v e = absurd cc
-boolean_place [] (suc n) (suc a) k v e = absurd (let none = boolean_place [] n a (suc k) v e in cc)
+boolean_place [] (suc n) (suc a) k v e = absurd (let none = boolean_place [] n a (k + 1) v e in cc)
 boolean_place (w ∷ ws) n zero k v e = let same : Boolean w ≡ Boolean v = cc in ap (λ (x : Variable). Some x) (inside w v same) where
   inside : (w v : Variable) → Boolean w ≡ Boolean v → w ≡ v
   inside w v e = cc

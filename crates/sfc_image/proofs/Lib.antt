@@ -2,7 +2,7 @@ pub mod Agreed
 pub mod Built
 pub mod Apart
 pub mod Counting
-pub mod Given
+pub mod Giving
 pub mod Happened
 pub mod Left
 pub mod LocalNumbers

@@ -3,7 +3,8 @@ use Rattle.std.proofs.Common.{◌≡◌, ◌≢◌, ◌⊎◌, inl, inr, ℕ, ze
 use Rattle.std.proofs.lemmas.Bool.{cases_lt}
 use Rattle.std.proofs.lemmas.Bool.Decides.{eqb_tells}
 use Rattle.std.specs.Prelude.{IfSome}
-use Rattle.std.proofs.lemmas.Option.{slice_get_past, slice_get-get_or}
+use Rattle.std.proofs.lemmas.List.{take_all}
+use Rattle.std.proofs.lemmas.Option.{slice_get_within}
 use Rattle.std.specs.Option.{option_map}
 use Rattle.sfc_expr.specs.declared.variable.Variable.{Variable}
 use Rattle.sfc_flags.specs.Flags.{flag}
@@ -27,7 +28,7 @@ use Rattle.sfc_image.specs.Agreement.{ImageAgrees, is_open}
 use Rattle.sfc_image.specs.Private.Keeping.{slot_at, locals_of}
 use Rattle.sfc_image.specs.Private.Giving.{given_at, IsAssigned, HasQ, Stays}
 use Rattle.sfc_image.proofs.Agreed.{stored_again}
-use Rattle.sfc_image.proofs.Given.{others_have, here_has}
+use Rattle.sfc_image.proofs.Giving.{others_have, here_has}
 use Rattle.sfc_image.proofs.Left.{no_change, one_change}
 use Rattle.sfc_image.proofs.Numbers.{of_number}
 use Rattle.sfc_image.proofs.Viewed.{first_of_all}
@@ -104,16 +105,16 @@ number_within plant p image told v i lt h number =
     by_number (Some k) e is within = let same : k ≡ i = cc in subst (λ (n : ℕ). n < length image.slots.items) same within
 
 module _ (plant : PlantData) (p : ProgId) (q : List Bool) (targets : List Target) (is : targets ≡ actions_of (chart_of plant p))
-    (image : Image) (lt : p.0 < length image.locals.items) (open : is_open image ≡ true) where
+    (image : Image) (lt : p.0 < length image.locals.items) (opened : is_open image ≡ true) where
   -- a variable that has the value already is assigned it
   one_again : (told : Told) (k : ℕ) (target : Target) → slice_get targets k ≡ Some target
       → HasQ plant p image.slots.items k (flag q k) → ImageAgrees plant image told
       → ImageAgrees plant image (with_changes (output plant p target (flag q k)) told)
+  unfolding ImageAgrees
   one_again told k (Declared id) at has h = subst (λ (t : Told). ImageAgrees plant image t) (sym (no_change told)) h
   one_again told k (Boolean v) at has h = by_number (number_of plant p v) refl where
     by_number : (o : Option ℕ) → number_of plant p v ≡ o
         → ImageAgrees plant image (with_changes (changes_in (option_map (stored_to (value.Bool (flag q k))) o)) told)
-    unfolding ImageAgrees
     by_number None e = subst (λ (t : Told). ImageAgrees plant image t) (sym (no_change told)) h
     by_number (Some i) e =
         let had = has v i (ap (λ (ts : List Target). slice_get ts k) (sym is) ∙ at) e in
@@ -121,7 +122,7 @@ module _ (plant : PlantData) (p : ProgId) (q : List Bool) (targets : List Target
         (record {
           kept =
               stored_again plant image.slots.items image.locals.items image.count image.is_trying told (record { 0 = i })
-              (value.Bool (flag q k)) open (number_within plant p image told v i lt h e) had.stored h.kept;
+              (value.Bool (flag q k)) opened (number_within plant p image told v i lt h e) had.stored h.kept;
           given = h.given;
         })
 
@@ -152,6 +153,9 @@ pub record GivenTo (plant : PlantData) (told : Told) (p : ProgId) (q : List Bool
   pub done : (a : ℕ) → a < from → HasQ plant p image.slots.items a (flag q a)
   pub rest : holds ≡ true → (a : ℕ) → from ≤ a → HasQ plant p image.slots.items a (flag (given_at image.given.items p.0).q a)
 
+one_variable : (v w : Variable) → Boolean v ≡ Boolean w → v ≡ w
+one_variable v w e = cc
+
 module _ (plant : PlantData) (told : Told) (p : ProgId) (q : List Bool) (holds : Bool) (targets : List Target)
     (is : targets ≡ actions_of (chart_of plant p)) where
   -- those that have it already are passed over
@@ -159,14 +163,14 @@ module _ (plant : PlantData) (told : Told) (p : ProgId) (q : List Bool) (holds :
       → to ≤ length targets
       → ((j : ℕ) → from ≤ j → j < to → (holds ≡ true) × (flag (given_at image.given.items p.0).q j ≡ flag q j))
       → GivenTo plant told p q holds targets from image → GivenTo plant told p q holds targets to image
-  passed image from to lt open le fits same h =
+  passed image from to lt opened le fits same h =
       let has : (j : ℕ) → from ≤ j → j < to → HasQ plant p image.slots.items j (flag q j) =
       λ j a b. (let s = same j a b in subst (λ (x : Bool). HasQ plant p image.slots.items j x) s.1 (h.rest s.0 j a)) in
       let all : from + (to - from) ≡ to = omega (arith, le) in
       record {
         agrees =
             subst (λ (k : ℕ). ImageAgrees plant image (with_changes (outputs plant p q 0 (take k targets)) told)) all
-            (again plant p q targets is image lt open told (to - from) from (omega (arith, le, fits))
+            (again plant p q targets is image lt opened told (to - from) from (omega (arith, le, fits))
             (λ j a b. has j a (omega (arith, b, le))) h.agrees);
         done = λ a below.
             elim (cases_lt a from) as (λ _. HasQ plant p image.slots.items a (flag q a)) [
@@ -206,7 +210,7 @@ module _ (plant : PlantData) (told : Told) (p : ProgId) (q : List Bool) (holds :
           → HasQ plant p new.slots.items a (flag q a)
       has_now (Boolean v) e given_here =
           here_has plant p old.slots.items new.slots.items a v (at_actions (Boolean v) e) (flag q a) (λ i number. given_here v i refl number)
-      has_now (Declared id) e given_here v i found number = absurd (let other = at_actions (Declared id) e in cc)
+      has_now (Declared id) e given_here = λ v i found number. absurd (let other = at_actions (Declared id) e in cc)
 
       still : (t : Target) → slice_get targets a ≡ Some t
           → ((i : ℕ) → ((v : Variable) → t ≡ Boolean v → number_of plant p v ≢ Some i)
@@ -214,14 +218,11 @@ module _ (plant : PlantData) (told : Told) (p : ProgId) (q : List Bool) (holds :
           → (b : ℕ) → b ≢ a → (x : Bool) → HasQ plant p old.slots.items b x → HasQ plant p new.slots.items b x
       still (Boolean v) e stay b ne x had =
           others_have plant p old.slots.items new.slots.items a v (at_actions (Boolean v) e)
-          (λ i none. stay i (λ w same. subst (λ (u : Variable). number_of plant p u ≢ Some i) (inside v w same) none)) b ne x had
-      still (Declared id) e stay b ne x had w i found number =
-          let h' = had w i found number in
+          (λ i none. stay i (λ w same. subst (λ (u : Variable). number_of plant p u ≢ Some i) (one_variable v w same) none)) b ne x had
+      still (Declared id) e stay b ne x had = λ w i found number.
+          let before = had w i found number in
           let s = stay i (λ v same. absurd cc) in
-          record { stored = s.stored ∙ h'.stored; output = s.output h'.output }
-
-      inside : (v w : Variable) → Boolean v ≡ Boolean w → v ≡ w
-      inside v w e = cc
+          record { stored = s.stored ∙ before.stored; output = s.output before.output }
 
   -- and that is noted
   pub noted : (old new : Image) (a : ℕ) (x : Bool) → new.slots.items ≡ old.slots.items
@@ -235,11 +236,7 @@ module _ (plant : PlantData) (told : Told) (p : ProgId) (q : List Bool) (holds :
     done = λ b below. subst (λ (xs : List Slot). HasQ plant p xs b (flag q b)) (sym slots) (h.done b below);
     rest = λ on b ge v i at number.
         let within : b < length targets =
-        elim (cases_lt b (length targets)) as (λ _. b < length targets) [
-          | inl lt ↦ lt
-          | inr past ↦ absurd (let none : slice_get targets b ≡ None = slice_get_past targets b past in
-              let some : slice_get targets b ≡ Some (Boolean v) = ap (λ (ts : List Target). slice_get ts b) is ∙ at in cc)
-        ] in
+        slice_get_within targets b (Boolean v) (ap (λ (ts : List Target). slice_get ts b) is ∙ at) in
         let fits = room on in
         let same : flag (given_at new.given.items p.0).q b ≡ flag (given_at old.given.items p.0).q b =
         flags b (omega (arith, within, fits))
@@ -251,3 +248,60 @@ module _ (plant : PlantData) (told : Told) (p : ProgId) (q : List Bool) (holds :
       other_numbers' : (k i : ℕ) → k ≢ i → (k == i) ≡ false
       other_numbers' k i ne =
           elim (eqb_tells k i) as (λ _. (k == i) ≡ false) [ inl w ↦ absurd (ne w.1) | inr w ↦ w.0 ]
+
+  -- before the first, and after the last
+  pub none_given : (old new : Image) → new.slots.items ≡ old.slots.items → ImageAgrees plant new told
+      → ((a : ℕ) → holds ≡ true → HasQ plant p new.slots.items a (flag (given_at new.given.items p.0).q a))
+      → GivenTo plant told p q holds targets 0 new
+  none_given old new slots h all = record {
+    agrees = subst (λ (t : Told). ImageAgrees plant new t) (sym (no_change told)) h;
+    done = λ a lt. absurd (omega (arith, lt));
+    rest = λ on a le. all a on;
+  }
+
+  pub all_given : (image : Image) (from : ℕ) → p.0 < length image.locals.items → is_open image ≡ true → from ≤ length targets
+      → ((j : ℕ) → from ≤ j → j < length targets → (holds ≡ true) × (flag (given_at image.given.items p.0).q j ≡ flag q j))
+      → GivenTo plant told p q holds targets from image
+      → ImageAgrees plant image (with_changes (outputs plant p q 0 targets) told)
+  all_given image from lt opened fits same h =
+      subst (λ (xs : List Target). ImageAgrees plant image (with_changes (outputs plant p q 0 xs) told))
+      (take_all (length targets) targets (omega arith))
+      (passed image from (length targets) lt opened fits (omega arith) same h).agrees
+
+  -- each variable has what was noted of it
+  pub all_noted : (image : Image) (from : ℕ) → length q ≡ length targets
+      → ((a : ℕ) → a < from → a < length (given_at image.given.items p.0).q → flag (given_at image.given.items p.0).q a ≡ flag q a)
+      → ((j : ℕ) → from ≤ j → j < length targets → (holds ≡ true) × (flag (given_at image.given.items p.0).q j ≡ flag q j))
+      → GivenTo plant told p q holds targets from image
+      → length (given_at image.given.items p.0).q ≡ length q
+      → (a : ℕ) → HasQ plant p image.slots.items a (flag (given_at image.given.items p.0).q a)
+  all_noted image from sized before same h long a v i at number =
+      elim (cases_lt a from) as (λ _. IsAssigned (slot_at image.slots.items i) (flag (given_at image.given.items p.0).q a)) [
+        | inl lt ↦
+            subst (λ (x : Bool). IsAssigned (slot_at image.slots.items i) x)
+            (sym (before a lt (omega (arith, within a v at, long, sized)))) (h.done a lt v i at number)
+        | inr ge ↦ h.rest (same a ge (within a v at)).0 a ge v i at number
+      ]
+    where
+      within : (a : ℕ) (v : Variable) → slice_get (actions_of (chart_of plant p)) a ≡ Some (Boolean v) → a < length targets
+      within a v at = slice_get_within targets a (Boolean v) (ap (λ (ts : List Target). slice_get ts a) is ∙ at)
+
+-- one more is noted
+pub noted_one : (q : List Bool) (a from : ℕ) (first old new : Given) (x : Bool) → old ≡ first → x ≡ flag q a
+    → length new.q ≡ length old.q
+    → ((b : ℕ) → b < length old.q → flag new.q b ≡ cond (b == a) x (flag old.q b))
+    → ((b : ℕ) → b < from → b < length first.q → flag first.q b ≡ flag q b)
+    → ((j : ℕ) → from ≤ j → j < a → flag first.q j ≡ flag q j)
+    → (b : ℕ) → b < a + 1 → b < length new.q → flag new.q b ≡ flag q b
+noted_one q a from first old new x is value long flags before between b lt fits =
+    let within : b < length old.q = omega (arith, fits, long) in
+    elim (eqb_tells b a) as (λ _. flag new.q b ≡ flag q b) [
+      | inl w ↦
+          flags b within ∙ ap (λ (c : Bool). cond c x (flag old.q b)) w.0 ∙ value ∙ ap (λ (k : ℕ). flag q k) (sym w.1)
+      | inr w ↦
+          flags b within ∙ ap (λ (c : Bool). cond c x (flag old.q b)) w.0 ∙ ap (λ (g : Given). flag g.q b) is
+          ∙ elim (cases_lt b from) as (λ _. flag first.q b ≡ flag q b) [
+            | inl below ↦ before b below (omega (arith, within, ap (λ (g : Given). length g.q) is))
+            | inr ge ↦ between b ge (omega (arith, lt, w.1))
+          ]
+    ]

@@ -48,7 +48,7 @@ pub struct Image {
 
 #[tactic(auto, unfolding(crate::specs::Agreement::ImageAgrees))]
 impl Image {
-    ghost use Rattle.std.specs.Prelude.{◌≡◌, ◌≢◌, ◌<◌, ◌≤◌, ◌==◌, ◌+◌, ◌∷◌, ◌++◌, [], ℕ, true, false, cond, List, Option, length, is_some};
+    ghost use Rattle.std.specs.Prelude.{◌≡◌, ◌≢◌, ◌<◌, ◌≤◌, ◌==◌, ◌+◌, ◌^◌, ◌∷◌, ◌++◌, [], ℕ, true, false, cond, List, Option, length, is_some};
     ghost use Rattle.std.specs.Prelude.{IfOk, OnOk, OnErr, IfSome, Some, None, slice_set};
     ghost use Rattle.sfc_expr.specs.Ticks.{Within};
     ghost use Rattle.sfc_chart.specs.Plants.{PlantData};
@@ -67,7 +67,7 @@ impl Image {
     ghost use Rattle.sfc_chart.specs.Finding.{chart_of};
     ghost use Rattle.sfc_image.specs.Private.Keeping as keeping;
     ghost use Rattle.sfc_image.specs.Private.Keeping.{IsPut, slot_at};
-    ghost use Rattle.sfc_image.specs.Private.Giving.{given_at, HasQ, IsAssigned, Stays};
+    ghost use Rattle.sfc_image.specs.Private.Giving.{given_at, last_epoch, HasQ, IsAssigned, Stays};
     ghost use Rattle.sfc_image.specs.Answers.{Answers, read_answer, value_fault, release_fault};
     ghost use Rattle.sfc_image.specs.Agreement.{ImageAgrees, IsAsLarge, environment_in, variable_places, instance_places, written_places, is_open};
 
@@ -261,6 +261,17 @@ impl Image {
         }
     }
 
+    // Whether what was last given to the outputs of the instance holds, where it has as many actions as this Q.
+    fn is_given(&self, instance: ProgId, q: &Flags) -> bool
+        requires { instance.0 < instance_places self.now }
+        ensures epoch { result ≡ true → (given_at self.now.given.items instance.0).epoch ≡ self.now.epoch }
+        ensures few { result ≡ true → self.now.epoch < last_epoch }
+        ensures sized { result ≡ true → length (given_at self.now.given.items instance.0).q ≡ length q.now }
+    {
+        let given = &self.given[instance.0 as usize];
+        given.epoch == self.epoch && self.epoch < u64::MAX && given.q.places() == q.places()
+    }
+
     // Whether what was last given to the outputs of the instance holds, where it has as many actions as this Q. From now on
     // it doesn't count as given any more.
     fn take_given(&mut self, instance: ProgId, q: &Flags) -> bool
@@ -274,10 +285,8 @@ impl Image {
         ensures holds { (plant : PlantData) (told : Told) (a : ℕ) → result ≡ true → ImageAgrees plant self.old told →
             HasQ plant instance self.new.slots.items a (flag (given_at self.new.given.items instance.0).q a) }
     {
-        let epoch = self.epoch;
-        let given = &mut self.given[instance.0 as usize];
-        let holds = given.epoch == epoch && epoch < u64::MAX && given.q.places() == q.places();
-        given.epoch = 0;
+        let holds = self.is_given(instance, q);
+        self.given[instance.0 as usize].epoch = 0;
         holds
     }
 
@@ -332,6 +341,7 @@ impl Image {
             (holds ≡ true) × (flag (given_at self.now.given.items instance.0).q j ≡ flag q.now j)) }
         ensures none { result ≡ None → (j : ℕ) → from ≤ j → j < length q.now →
             (holds ≡ true) × (flag (given_at self.now.given.items instance.0).q j ≡ flag q.now j) }
+        ensures len { length q.now < 2 ^ 64 }
         ensures ticks { Within (places_passed (length q.now) from result) ticks.old ticks.new }
     {
         if holds {

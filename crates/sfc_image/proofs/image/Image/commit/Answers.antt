@@ -6,7 +6,7 @@ use Rattle.sfc_image.specs.Private.Keeping.{AreClosed, AreTracked, AreWithin, Ar
 use Rattle.sfc_image.specs.Private.Giving.{AreGiven}
 use Rattle.sfc_image.specs.Agreement.{ImageAgrees}
 use Rattle.sfc_image.proofs.Agreed.{commit_kept}
-use Rattle.sfc_image.proofs.Given.{closed_stays, given_stays}
+use Rattle.sfc_image.proofs.Giving.{closed_stays, given_stays}
 use Rattle.sfc_image.proofs.Tracked.{closed_at, tracked_closed}
 use Rattle.sfc_image.proofs.image.Image.commit.Goals as goal
 

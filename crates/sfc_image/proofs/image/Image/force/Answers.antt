@@ -5,7 +5,7 @@ use Rattle.sfc_image.specs.Private.Keeping.{AreKept, slot_at, with_force}
 use Rattle.sfc_image.specs.Private.Giving.{AreGiven}
 use Rattle.sfc_image.specs.Agreement.{ImageAgrees}
 use Rattle.sfc_image.proofs.Agreed.{force_kept}
-use Rattle.sfc_image.proofs.Given.{given_stays, same_stays}
+use Rattle.sfc_image.proofs.Giving.{given_stays, same_stays}
 use Rattle.sfc_image.proofs.Tracked.{slot_read}
 use Rattle.sfc_image.proofs.image.Image.force.Goals as goal
 

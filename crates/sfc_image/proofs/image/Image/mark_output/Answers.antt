@@ -4,7 +4,7 @@ use Rattle.sfc_image.specs.Private.Keeping.{AreKept, as_output, slot_at}
 use Rattle.sfc_image.specs.Private.Giving.{AreGiven}
 use Rattle.sfc_image.specs.Agreement.{ImageAgrees}
 use Rattle.sfc_image.proofs.Agreed.{marked_kept}
-use Rattle.sfc_image.proofs.Given.{given_stays, same_stays}
+use Rattle.sfc_image.proofs.Giving.{given_stays, same_stays}
 use Rattle.sfc_image.proofs.Tracked.{slot_read}
 use Rattle.sfc_image.proofs.image.Image.mark_output.Goals as goal
 

@@ -3,7 +3,7 @@ use Rattle.sfc_chart.specs.Image.{image_variables}
 use Rattle.sfc_image.specs.Private.Keeping.{fresh_slot}
 use Rattle.sfc_image.specs.Agreement.{ImageAgrees}
 use Rattle.sfc_image.proofs.Built.{built_slots, built_locals, fresh_tracked, fresh_within, fresh_kept}
-use Rattle.sfc_image.proofs.Given.{nothing_given}
+use Rattle.sfc_image.proofs.Giving.{nothing_given}
 use Rattle.sfc_image.proofs.image.Image.new.Goals as goal
 
 pub invariant_of-result : goal.invariant_of-result
@@ -22,7 +22,9 @@ invariant_of-result c =
           fresh_within plant slots locals is (c.in_ok-slots.ensures.instances ∙ ap length c.instances.ensures.value)
           (built_locals plant c.globals.result.now c.types.result.now c.instances.result.now locals c.globals.ensures.value
           c.types.ensures.value c.instances.ensures.value c.in_ok-slots.ensures.locals);
-      sized = c.in_ok-given.ensures.instances ∙ sym c.in_ok-slots.ensures.instances;
+      sized =
+          c.in_ok-given.ensures.instances ∙ ap length (c.instances-2.ensures.value ∙ sym c.instances.ensures.value)
+          ∙ sym c.in_ok-slots.ensures.instances;
     }
 
 pub returns-clause-agrees : goal.returns-clause-agrees

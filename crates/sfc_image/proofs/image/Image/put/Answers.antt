@@ -6,7 +6,7 @@ use Rattle.sfc_image.specs.Private.Keeping.{AreKept, IsPut, slot_at, given, trie
 use Rattle.sfc_image.specs.Private.Giving.{IsEpochAfter, AreGiven}
 use Rattle.sfc_image.specs.Agreement.{ImageAgrees}
 use Rattle.sfc_image.proofs.Agreed.{stored_again, stored_for_good, stored_in_scratch}
-use Rattle.sfc_image.proofs.Given.{given_changed}
+use Rattle.sfc_image.proofs.Giving.{given_changed}
 use Rattle.sfc_image.proofs.Puts.{put_slot}
 use Rattle.sfc_image.proofs.Tracked.{slot_read}
 use Rattle.sfc_image.proofs.image.Image.put.Goals as goal
@@ -15,7 +15,7 @@ pub returns-else-self-clause-put : goal.returns-else-self-clause-put
 returns-else-self-clause-put c =
     let slots = c.args.self.now.slots.items in
     let i = c.args.i in
-    let read = slot_read slots i c.index.result.now c.requires c.index.ensures in
+    let read = slot_read slots i c.index-else-self-2.result.now c.requires c.index-else-self-2.ensures in
     put_slot slots i c.args.value c.given.result c.requires (ap (λ (slot : Slot). slot.stored) c.given.ensures)
     (ap (λ (slot : Slot). slot.forced) (c.given.ensures ∙ ap (given c.args.value) read))
     (ap (λ (slot : Slot). slot.is_output) (c.given.ensures ∙ ap (given c.args.value) read))
@@ -26,7 +26,7 @@ returns-else-self-clause-kept c plant told h =
     let image = c.args.self.now in
     let i = c.args.i in
     let slots = image.slots.items in
-    let read = slot_read slots i c.index.result.now c.requires c.index.ensures in
+    let read = slot_read slots i c.index-else-self-2.result.now c.requires c.index-else-self-2.ensures in
     let made : given c.args.value (slot_at slots i) ≡ c.given.result = sym (c.given.ensures ∙ ap (given c.args.value) read) in
     record {
       kept =
@@ -35,9 +35,10 @@ returns-else-self-clause-kept c plant told h =
           (stored_for_good plant slots image.locals.items image.count image.is_trying told (record { 0 = i }) c.args.value
           c.if-self.false c.requires h.kept);
       given =
-          given_changed plant slots image.given.items image.epoch c.epoch_after.result i c.given.result
-          (subst (λ (b : Bool). IsEpochAfter b image.epoch c.epoch_after.result) (ap (λ (slot : Slot). slot.is_output) read)
-          c.epoch_after.ensures) h.given;
+          given_changed plant slots image.given.items image.epoch c.epoch_after-self-else-self.result i c.given.result
+          (subst (λ (b : Bool). IsEpochAfter b image.epoch c.epoch_after-self-else-self.result) (ap (λ (slot : Slot). slot.is_output)
+          (slot_read slots i c.index-else-self.result.now c.requires c.index-else-self.ensures))
+          c.epoch_after-self-else-self.ensures) h.given;
     }
 
 pub returns-else-has_stored-clause-put : goal.returns-else-has_stored-clause-put

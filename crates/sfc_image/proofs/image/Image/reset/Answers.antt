@@ -6,7 +6,7 @@ use Rattle.sfc_image.specs.Private.Keeping.{AreKept, AreBegun, locals_of}
 use Rattle.sfc_image.specs.Private.Giving.{AreGiven}
 use Rattle.sfc_image.specs.Agreement.{ImageAgrees}
 use Rattle.sfc_image.proofs.Agreed.{reset_kept}
-use Rattle.sfc_image.proofs.Given.{given_later}
+use Rattle.sfc_image.proofs.Giving.{given_later}
 use Rattle.sfc_image.proofs.Tracked.{locals_read}
 use Rattle.sfc_image.proofs.image.Image.reset.Goals as goal
 
@@ -29,6 +29,6 @@ returns-clause-kept c plant kept h =
           subst (λ (xs : List Slot). AreKept plant xs image.locals.items image.count image.is_trying (settled (Reset p ∷ kept))) items
           (reset_kept plant slots new image.locals.items image.count image.is_trying kept p l (long ∙ image.slots.ok.0) is begun h.kept);
       given =
-          subst (λ (xs : List Slot). AreGiven plant xs image.given.items c.next_epoch.result) items
-          (given_later plant slots new image.given.items image.epoch c.next_epoch.result c.next_epoch.ensures h.given);
+          subst (λ (xs : List Slot). AreGiven plant xs image.given.items c.next_epoch-self.result) items
+          (given_later plant slots new image.given.items image.epoch c.next_epoch-self.result c.next_epoch-self.ensures h.given);
     }

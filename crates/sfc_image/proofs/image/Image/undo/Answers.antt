@@ -6,7 +6,7 @@ use Rattle.sfc_image.specs.Private.Keeping.{AreClosed, AreTracked, AreWithin, Ar
 use Rattle.sfc_image.specs.Private.Giving.{AreGiven}
 use Rattle.sfc_image.specs.Agreement.{ImageAgrees}
 use Rattle.sfc_image.proofs.Agreed.{undo_kept}
-use Rattle.sfc_image.proofs.Given.{given_later}
+use Rattle.sfc_image.proofs.Giving.{given_later}
 use Rattle.sfc_image.proofs.Tracked.{closed_at, tracked_closed}
 use Rattle.sfc_image.proofs.image.Image.undo.Goals as goal
 
@@ -49,6 +49,6 @@ returns-clause-kept c plant kept tried h =
           (undo_kept plant slots new image.locals.items written image.count image.is_trying kept tried (long ∙ image.slots.ok.0)
           image.tracked closed h.kept);
       given =
-          subst (λ (xs : List Slot). AreGiven plant xs image.given.items c.next_epoch.result) is
-          (given_later plant slots new image.given.items image.epoch c.next_epoch.result c.next_epoch.ensures h.given);
+          subst (λ (xs : List Slot). AreGiven plant xs image.given.items c.next_epoch-self.result) is
+          (given_later plant slots new image.given.items image.epoch c.next_epoch-self.result c.next_epoch-self.ensures h.given);
     }

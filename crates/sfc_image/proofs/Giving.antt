@@ -1,7 +1,8 @@
 -- What was given to outputs, after changes.
-use Rattle.std.proofs.Common.{◌≡◌, ◌≢◌, ◌⊎◌, inl, inr, ℕ, ◌+◌, ◌<◌, ◌≤◌, ◌==◌, arith, Bool, true, false, List, length, slice_get, slice_set, Option, Some, None, refl, sym, ◌∙◌, ap, subst}
+use Rattle.std.proofs.Common.{◌≡◌, ◌≢◌, ◌⊎◌, inl, inr, ℕ, [], ◌+◌, ◌<◌, ◌≤◌, ◌==◌, arith, Bool, true, false, List, length, get_or, slice_get, slice_set, Option, Some, None, refl, sym, ◌∙◌, ap, subst}
 use Rattle.std.proofs.lemmas.Bool.Decides.{eqb_tells}
 use Rattle.std.proofs.lemmas.List.{get_or-set_same, get_or-set_other, length-set}
+use Rattle.std.proofs.lemmas.Option.{slice_get_read, get_or_from_slice_get}
 use Rattle.sfc_expr.specs.declared.variable.Variable.{Variable}
 use Rattle.sfc_flags.specs.Flags.{flag}
 use Rattle.sfc_tables.specs.declared.association.Target.TheVariants.{Boolean}
@@ -122,6 +123,21 @@ given_to_one plant slots given epoch p g lt few now h = record {
       ];
 }
 
+-- what was given to one instance doesn't count any more
+pub given_no_more : (plant : PlantData) (slots : List Slot) (given : List Given) (epoch : ℕ) (p : ProgId) (g : Given)
+    → p.0 < length given → g.epoch ≡ 0 → AreGiven plant slots given epoch → AreGiven plant slots (slice_set given p.0 g) epoch
+given_no_more plant slots given epoch p g lt none h =
+    given_to_one plant slots given epoch p g lt (omega (arith, none))
+    (λ now few a. absurd (let some = h.begun in omega (arith, none, now, some))) h
+
+-- what was read
+pub given_read : (given : List Given) (k : ℕ) (g : Given) → k < length given → g ≡ get_or given k g → g ≡ given_at given k
+given_read given k g lt is =
+    sym (get_or_from_slice_get given k g (record { q = []; epoch = 0 }) (slice_get_read given (length given) k g refl lt is))
+
+pub given_here : (given : List Given) (k : ℕ) (g : Given) → k < length given → given_at (slice_set given k g) k ≡ g
+given_here given k g lt = get_or-set_same given k g (record { q = []; epoch = 0 }) lt
+
 -- where nothing was given yet
 pub nothing_given : (plant : PlantData) (slots : List Slot) (given : List Given) (epoch : ℕ) → 0 < epoch
     → ((k : ℕ) → k < length given → (given_at given k).epoch ≡ 0) → AreGiven plant slots given epoch
@@ -146,7 +162,7 @@ module _ (plant : PlantData) (p : ProgId) (old new : List Slot) (a : ℕ) (v : V
   -- and it has what it was given
   pub here_has : (q : Bool) → ((i : ℕ) → number_of plant p v ≡ Some i → IsAssigned (slot_at new i) q) → HasQ plant p new a q
   here_has q here w i is number =
-      let same : w ≡ v = one (sym is ∙ at) in
+      let same : w ≡ v = one w v (sym is ∙ at) in
       here i (ap (λ (x : Variable). number_of plant p x) (sym same) ∙ number)
     where
       one : (w v : Variable) → Some (Boolean w) ≡ Some (Boolean v) → w ≡ v

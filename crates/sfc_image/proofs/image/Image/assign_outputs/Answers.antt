@@ -1,0 +1,93 @@
+use Rattle.std.proofs.Common.{◌≡◌, ◌+◌, ◌<◌, ◌≤◌, ◌∙◌, ℕ, arith, true, Bool, List, cond, length, take, ap, refl, sym, subst}
+use Rattle.sfc_flags.specs.Flags.{flag}
+use Rattle.sfc_tables.specs.Tables.{Tabled, tables_of}
+use Rattle.sfc_tables.specs.Actions.{actions_of}
+use Rattle.sfc_chart.specs.Finding.{chart_of}
+use Rattle.sfc_image.specs.declared.given.Given.{Given}
+use Rattle.sfc_image.specs.Changes.{Told}
+use Rattle.sfc_image.specs.Bodies.{with_changes}
+use Rattle.sfc_image.specs.Outputs.{output, outputs}
+use Rattle.sfc_image.specs.Private.Keeping.{slot_at}
+use Rattle.sfc_image.specs.Private.Giving.{given_at, IsAssigned}
+use Rattle.sfc_image.specs.Agreement.{ImageAgrees}
+use Rattle.sfc_image.proofs.Outputs.{none_given, passed, gave, noted, all_given, all_noted, noted_one}
+use Rattle.sfc_image.proofs.image.Image.assign_outputs.Goals as goal
+
+pub outputs-init : goal.outputs-init
+outputs-init c =
+    let taken = c.take_given-holds.ensures in
+    record {
+      large = taken.large;
+      opened = taken.open ∙ c.requires.open;
+      within = omega arith;
+      taken = taken.epoch;
+      sized = taken.sized;
+      noted = λ a lt fits. absurd (omega (arith, lt));
+      given = λ plant told is h.
+          none_given plant told c.args.instance c.args.q.now c.take_given-holds.result c.args.tables.now.actions
+          (ap (λ (x : Tabled). x.actions) is) c.args.self.now c.take_given-holds.new.self taken.slots (taken.kept plant told h)
+          (λ a on. taken.holds plant told a on h);
+      ticks = (omega arith, omega arith);
+    }
+
+pub overflow_add-from : goal.overflow_add-from
+overflow_add-from c = omega (arith, c.in-Some.ensures.some.1, c.in-Some.ensures.len)
+
+pub outputs-preserved : goal.outputs-preserved
+outputs-preserved c =
+    let before = c.outputs.invariant in
+    let p = c.args.instance in
+    let q = c.args.q.now in
+    let a = c.in-Some.action in
+    let actions = c.args.tables.now.actions in
+    let due = c.in-Some.ensures in
+    let old_given = ap (λ (xs : List Given). given_at xs p.0) c.give.ensures.given in
+    record {
+      large = record {
+        variables = c.note.ensures.large.variables ∙ c.give.ensures.large.variables ∙ before.large.variables;
+        instances = c.note.ensures.large.instances ∙ c.give.ensures.large.instances ∙ before.large.instances;
+      };
+      opened = c.note.ensures.open ∙ c.give.ensures.open;
+      within = omega (arith, due.some.1);
+      taken = c.note.ensures.epoch;
+      sized = λ on. c.note.ensures.sized ∙ ap (λ (g : Given). length g.q) old_given ∙ before.sized on;
+      noted = noted_one q a c.outputs.from (given_at c.outputs.self.given.items p.0) (given_at c.give.new.self.given.items p.0)
+          (given_at c.note.new.self.given.items p.0) c.get-is_set.result old_given c.get-is_set.ensures c.note.ensures.sized
+          c.note.ensures.q before.noted (λ j le lt. (due.before j le lt).1);
+      given = λ plant told is h.
+          let actions_is = ap (λ (x : Tabled). x.actions) is in
+          let lt = c.requires.instance in
+          let state = before.given plant told is h in
+          let at_due = passed plant told p q c.take_given-holds.result actions actions_is c.outputs.self c.outputs.from a
+          (omega (arith, lt, before.large.instances)) before.opened due.some.0 (omega (arith, due.some.1, c.requires.q)) due.before state in
+          let told_then = with_changes (outputs plant p q 0 (take a actions)) told in
+          let given_now = gave plant told p q c.take_given-holds.result actions actions_is c.outputs.self c.give.new.self a c.target.result
+          c.target.ensures c.give.ensures.given
+          (subst (λ (b : Bool). ImageAgrees plant c.give.new.self (with_changes (output plant p c.target.result b) told_then))
+          c.get-is_set.ensures (c.give.ensures.kept plant told_then at_due.agrees))
+          (λ v i same number. subst (λ (b : Bool). IsAssigned (slot_at c.give.new.self.slots.items i) b) c.get-is_set.ensures
+          (c.give.ensures.here plant told_then v i at_due.agrees same number))
+          (λ i none. c.give.ensures.others plant told_then i at_due.agrees none) at_due in
+          noted plant told p q c.take_given-holds.result actions actions_is c.give.new.self c.note.new.self a c.get-is_set.result
+          c.note.ensures.slots
+          (λ on. let long = before.sized on in
+          omega (arith, long, ap (λ (g : Given). length g.q) old_given, c.requires.q)) c.note.ensures.q (c.note.ensures.kept plant) given_now;
+      ticks = (omega (arith, before.ticks.0, due.ticks.0), omega (arith, before.ticks.1, due.ticks.1, due.some.0));
+    }
+
+pub returns-clause-kept : goal.returns-clause-kept
+returns-clause-kept c plant told is h =
+    let before = c.outputs.invariant in
+    let p = c.args.instance in
+    let q = c.args.q.now in
+    let actions = c.args.tables.now.actions in
+    let actions_is = ap (λ (x : Tabled). x.actions) is in
+    let state = before.given plant told is h in
+    let same : (j : ℕ) → c.outputs.from ≤ j → j < length actions
+    → (c.take_given-holds.result ≡ true) × (flag (given_at c.outputs.self.given.items p.0).q j ≡ flag q j) =
+    λ j le lt. c.in_default.ensures.none refl j le (omega (arith, lt, c.requires.q)) in
+    c.leave_given.ensures.kept plant (with_changes (outputs plant p q 0 actions) told)
+    (all_given plant told p q c.take_given-holds.result actions actions_is c.outputs.self c.outputs.from
+    (omega (arith, c.requires.instance, before.large.instances)) before.opened (omega (arith, before.within, c.requires.q)) same state)
+    (λ long. all_noted plant told p q c.take_given-holds.result actions actions_is c.outputs.self c.outputs.from c.requires.q before.noted
+    same state long)
