@@ -3,6 +3,9 @@ use Rattle.sfc_flags.proofs.Views.{length_of}
 use Rattle.sfc_flags.proofs.Apart.{alike, same_flag, past_both, some_difference, none_before, differences_passed}
 use Rattle.sfc_flags.proofs.flags.Flags.next_difference.Goals as goal
 
+pub next_difference-requires-clause-few : goal.next_difference-requires-clause-few
+next_difference-requires-clause-few c = omega (arith, c.self.invariant.sized)
+
 pub next_difference-requires-clause-len : goal.next_difference-requires-clause-len
 next_difference-requires-clause-len c =
     alike _ _ _ _ c.deref.result.now c.deref-then-from-places.result.now _ _ c.self.invariant c.other.invariant
