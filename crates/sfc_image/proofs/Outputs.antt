@@ -39,3 +39,15 @@ changes_more later earlier told = by_tried told.tried where
       → tried_all (later ++ earlier) o told.kept ≡ with_changes later (tried_all earlier o told.kept)
   by_tried None = ap (λ (kept : List Change). tried_all [] None kept) (append_assoc later earlier told.kept)
   by_tried (Some tried) = ap (λ (more : List Change). tried_all [] (Some more) told.kept) (append_assoc later earlier tried)
+
+-- after one action more
+pub outputs_after : (plant : PlantData) (p : ProgId) (q : List Bool) (targets : List Target) (k : ℕ) (target : Target) (told : Told)
+    → slice_get targets k ≡ Some target
+    → with_changes (outputs plant p q 0 (take (k + 1) targets)) told
+    ≡ with_changes (output plant p target (flag q k)) (with_changes (outputs plant p q 0 (take k targets)) told)
+outputs_after plant p q targets k target told at =
+    let here : 0 + k ≡ k = omega arith in
+    ap (λ (changes : List Change). with_changes changes told)
+    (outputs_more plant p q 0 targets k target at
+    ∙ ap (λ (n : ℕ). output plant p target (flag q n) ++ outputs plant p q 0 (take k targets)) here)
+    ∙ changes_more (output plant p target (flag q k)) (outputs plant p q 0 (take k targets)) told

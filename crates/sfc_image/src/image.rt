@@ -52,7 +52,7 @@ impl Image {
     ghost use Rattle.sfc_expr.specs.Nodes.{body_nodes};
     ghost use Rattle.sfc_image.specs.Environments.{moment_of, environment_of};
     ghost use Rattle.sfc_image.specs.Bodies.{assignment, left_by, with_changes};
-    ghost use Rattle.sfc_image.specs.Outputs.{outputs};
+    ghost use Rattle.sfc_image.specs.Outputs.{output, outputs};
     ghost use Rattle.sfc_tables.specs.Tables.{tables_of};
     ghost use Rattle.sfc_chart.specs.Finding.{chart_of};
     ghost use Rattle.sfc_image.specs.Private.Keeping.{IsPut, slot_at};
@@ -200,6 +200,20 @@ impl Image {
         }
     }
 
+    // Assigns its Q to the variable that is the action, if one is.
+    fn assign_output(&mut self, instance: ProgId, target: Target, q: bool, ticks: &mut Ticks)
+        requires { instance.0 < instance_places self.old }
+        ensures large { IsAsLarge self.old self.new }
+        ensures open { is_open self.new ≡ is_open self.old }
+        ensures kept { (plant : PlantData) (told : Told) → ImageAgrees plant self.old told →
+            ImageAgrees plant self.new (with_changes (output plant instance target q) told) }
+        ensures ticks { Within 1 ticks.old ticks.new }
+    {
+        if let Target::Boolean(variable) = target {
+            self.assign(instance, variable, Value::Bool(q), ticks);
+        }
+    }
+
     /// Assigns its Q to each variable of the instance's program that is an action by itself (2.6.4.1), one after the other,
     /// in the scratch, which is open; the Q of each action stands by its number. It takes no memory.
     pub fn assign_outputs(
@@ -220,9 +234,8 @@ impl Image {
         ensures ticks { Within (length tables.now.actions) ticks.old ticks.new }
     {
         for action in 0..tables.actions() {
-            if let Target::Boolean(variable) = tables.target(ActionNumber(action)) {
-                self.assign(instance, variable, Value::Bool(q.get(action)), ticks);
-            }
+            let target = tables.target(ActionNumber(action));
+            self.assign_output(instance, target, q.get(action), ticks);
         }
     }
 

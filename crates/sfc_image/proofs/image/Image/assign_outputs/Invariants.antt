@@ -10,7 +10,7 @@ use Rattle.sfc_image.proofs.image.Image.assign_outputs.Given as goal
 abbrev pub invariant-loop-action : goal.invariant-loop-action
 invariant-loop-action l = record {
   large : IsAsLarge l.initial.self l.self;
-  open : is_open l.self ≡ true;
+  opened : is_open l.self ≡ true;
   kept : (plant : PlantData) (told : Told) → ImageAgrees plant l.initial.self told
       → ImageAgrees plant l.self (with_changes (outputs plant l.instance l.q 0 (take l.action l.tables.actions)) told);
   ticks : Within l.action l.initial.ticks l.ticks;
