@@ -36,6 +36,7 @@ ghost use Rattle.std.specs.Prelude.{◌≡◌, ◌<◌, ◌+◌, ◌*◌, ◌^�
 ghost use Rattle.std.specs.List.{range_with_len};
 ghost use Rattle.std.specs.Result.{result_err};
 ghost use Rattle.sfc_expr.specs.Ticks.{Within};
+ghost use Rattle.sfc_flags.specs.Flags.{flag};
 ghost use Rattle.sfc_tables.specs.Tables.{Tabled};
 ghost use Rattle.sfc_evolve.specs.Evolution as evolution;
 ghost use Rattle.sfc_evolve.specs.Agreement.{StepsAgree, step_places};
@@ -125,6 +126,15 @@ impl Controls {
         ensures { (tables : Tabled) (h : List Scan) → ControlsAgree tables self.now h → result ≡ q tables action.0 h }
     {
         self.kept.q.get(action.0)
+    }
+
+    /// Which actions have Q after the newest scan, by number.
+    pub fn q_flags(&self) -> &Flags
+        ensures len { length result.now ≡ action_places self.now }
+        ensures each { (tables : Tabled) (h : List Scan) (action : ℕ) → action < action_places self.now →
+            ControlsAgree tables self.now h → flag result.now action ≡ q tables action h }
+    {
+        &self.kept.q
     }
 
     /// Whether the newest scan executed the action: its A.
