@@ -1,5 +1,5 @@
 -- The Boolean actions, one after the other.
-use Rattle.std.proofs.Common.{◌≡◌, ◌≢◌, ◌⊎◌, inl, inr, ℕ, zero, suc, ◌+◌, ◌-◌, ◌<◌, ◌≤◌, ◌==◌, ◌++◌, ◌∷◌, [], arith, Bool, true, false, cond, List, length, take, slice_get, Option, Some, None, refl, sym, ap, subst, ◌∙◌, append_assoc, append-nil}
+use Rattle.std.proofs.Common.{◌≡◌, ◌≢◌, inl, inr, ℕ, zero, suc, ◌+◌, ◌-◌, ◌<◌, ◌≤◌, ◌==◌, ◌++◌, ◌∷◌, [], arith, Bool, true, false, cond, List, length, take, slice_get, Option, Some, None, refl, sym, ap, subst, ◌∙◌, append_assoc, append-nil}
 use Rattle.std.proofs.lemmas.Bool.{cases_lt}
 use Rattle.std.proofs.lemmas.Bool.Decides.{eqb_tells}
 use Rattle.std.specs.Prelude.{IfSome}
@@ -25,7 +25,7 @@ use Rattle.sfc_image.specs.declared.slot.Locals.{Locals}
 use Rattle.sfc_image.specs.Environments.{number_of}
 use Rattle.sfc_image.specs.Bodies.{changes_in, stored_to}
 use Rattle.sfc_image.specs.Agreement.{ImageAgrees, is_open}
-use Rattle.sfc_image.specs.Private.Keeping.{slot_at, locals_of}
+use Rattle.sfc_image.specs.Private.Keeping.{slot_at}
 use Rattle.sfc_image.specs.Private.Giving.{given_at, IsAssigned, HasQ, Stays}
 use Rattle.sfc_image.proofs.Agreed.{stored_again}
 use Rattle.sfc_image.proofs.Giving.{others_have, here_has}

@@ -31,12 +31,7 @@ pub fn copy_slots(
 }
 
 /// Takes over where the locals of the instances are, and forgets what was given to their outputs.
-pub fn copy_locals(
-    locals: &mut [Locals],
-    given: &mut [Given],
-    from: &[Locals],
-    ticks: &mut Ticks,
-)
+pub fn copy_locals(locals: &mut [Locals], given: &mut [Given], from: &[Locals], ticks: &mut Ticks)
     requires from_len { length from.now ≡ length locals.old }
     requires given_len { length given.old ≡ length locals.old }
     ensures locals { locals.new ≡ from.now }

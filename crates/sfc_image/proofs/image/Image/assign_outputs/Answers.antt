@@ -1,10 +1,7 @@
-use Rattle.std.proofs.Common.{◌≡◌, ◌+◌, ◌<◌, ◌≤◌, ◌∙◌, ℕ, arith, true, Bool, List, cond, length, take, ap, refl, sym, subst}
+use Rattle.std.proofs.Common.{◌≡◌, ◌<◌, ◌≤◌, ◌∙◌, ℕ, arith, true, Bool, List, length, take, ap, refl, subst}
 use Rattle.sfc_flags.specs.Flags.{flag}
-use Rattle.sfc_tables.specs.Tables.{Tabled, tables_of}
-use Rattle.sfc_tables.specs.Actions.{actions_of}
-use Rattle.sfc_chart.specs.Finding.{chart_of}
+use Rattle.sfc_tables.specs.Tables.{Tabled}
 use Rattle.sfc_image.specs.declared.given.Given.{Given}
-use Rattle.sfc_image.specs.Changes.{Told}
 use Rattle.sfc_image.specs.Bodies.{with_changes}
 use Rattle.sfc_image.specs.Outputs.{output, outputs}
 use Rattle.sfc_image.specs.Private.Keeping.{slot_at}

@@ -1,4 +1,4 @@
-use Rattle.std.proofs.Common.{◌≡◌, ◌<◌, ◌∙◌, ap, arith, length, subst, sym}
+use Rattle.std.proofs.Common.{◌<◌, ◌∙◌, ap, arith, length, subst, sym}
 use Rattle.sfc_flags.specs.Flags.{flag}
 use Rattle.sfc_image.specs.declared.given.Given.{Given}
 use Rattle.sfc_image.specs.Private.Giving.{HasQ}

@@ -1,7 +1,7 @@
-use Rattle.std.proofs.Common.{◌≡◌, ◌<◌, ◌∙◌, ap, arith, length, refl, subst, sym}
+use Rattle.std.proofs.Common.{◌<◌, arith, length, refl, subst, sym}
 use Rattle.sfc_flags.specs.Flags.{flag}
 use Rattle.sfc_image.specs.declared.given.Given.{Given}
-use Rattle.sfc_image.specs.Private.Giving.{given_at, HasQ}
+use Rattle.sfc_image.specs.Private.Giving.{HasQ}
 use Rattle.sfc_image.specs.Agreement.{ImageAgrees}
 use Rattle.sfc_image.proofs.Giving.{given_here, given_no_more, given_read}
 use Rattle.sfc_image.proofs.image.Image.take_given.Goals as goal
