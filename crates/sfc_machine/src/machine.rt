@@ -99,7 +99,7 @@ impl Machine {
     {
         let tables = build_tables(alloc, plant.types())?;
         let programs = open_programs(alloc, &tables, plant.instances())?;
-        let image = Image::new(alloc, plant)?;
+        let image = Image::new(alloc, plant, &tables)?;
         Ok(Machine {
             tables,
             image,
