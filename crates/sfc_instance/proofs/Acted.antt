@@ -1,15 +1,13 @@
 -- One action after the other.
-use Rattle.std.proofs.Common.{◌≡◌, ℕ, zero, suc, ◌+◌, ◌<◌, ◌≤◌, ◌++◌, ◌∷◌, [], arith, Bool, true, false, cond, List, length, drop, ℤ, Some, Result, Ok, Err, is_err, refl, sym, ap, subst, ◌∙◌, append_assoc}
+use Rattle.std.proofs.Common.{◌≡◌, ℕ, zero, suc, ◌+◌, ◌<◌, ◌≤◌, ◌++◌, ◌∷◌, [], arith, Bool, true, false, cond, List, length, drop, ℤ, Some, Result, Ok, Err, is_err, sym, ap, subst, ◌∙◌, append_assoc}
 use Rattle.std.proofs.lemmas.List.{drop_all}
 use Rattle.std.proofs.lemmas.List.Sums.{sum_by-cons}
 use Rattle.sfc_expr.specs.declared.fault.Fault.{Fault}
-use Rattle.sfc_expr.specs.declared.value.Value.TheVariants as value
 use Rattle.sfc_expr.specs.Trees.{Body}
 use Rattle.sfc_expr.specs.Effect.{Outcome, effect}
-use Rattle.sfc_expr.specs.declared.variable.Variable.{Variable}
 use Rattle.sfc_tables.specs.declared.action.ActionId.{ActionId}
 use Rattle.sfc_tables.specs.declared.association.Target.{Target}
-use Rattle.sfc_tables.specs.declared.association.Target.TheVariants.{Boolean, Declared}
+use Rattle.sfc_tables.specs.declared.association.Target.TheVariants.{Declared}
 use Rattle.sfc_tables.specs.declared.chart.Chart.{Chart}
 use Rattle.sfc_tables.specs.Tables.{Tabled, tables_of}
 use Rattle.sfc_action.specs.ActionControl as control
@@ -18,7 +16,7 @@ use Rattle.sfc_chart.specs.Plants.{PlantData}
 use Rattle.sfc_image.specs.declared.image.Image.{Image}
 use Rattle.sfc_image.specs.Changes.{Change, trying}
 use Rattle.sfc_image.specs.Environments.{Moment, environment_of}
-use Rattle.sfc_image.specs.Bodies.{assignment, left_by, with_changes}
+use Rattle.sfc_image.specs.Bodies.{left_by, with_changes}
 use Rattle.sfc_image.specs.Agreement.{ImageAgrees}
 use Rattle.sfc_instance.specs.Life.{Life, control_scans}
 use Rattle.sfc_chart.specs.Finding.{chart_of}
@@ -26,9 +24,6 @@ use Rattle.sfc_instance.specs.ProgramScan.{acted, after_actions, after_body, and
 use Rattle.sfc_instance.specs.Work.{action_work, actions_work}
 use Rattle.sfc_instance.specs.Private.Acting.{Acts, Ends, Follows}
 use Rattle.std.specs.Prelude.{slice_get}
-
-pub some_target : (x y : Target) → Some x ≡ Some y → x ≡ y
-some_target x y e = cc
 
 module _ (plant : PlantData) (p : ProgId) (life : Life) (t : ℤ) (a : ℕ) (kept tried : List Change) (image : Image) where
   abbrev tables : Tabled
@@ -39,17 +34,6 @@ module _ (plant : PlantData) (p : ProgId) (life : Life) (t : ℤ) (a : ℕ) (kep
 
   abbrev is_executed : Bool
   is_executed = control.executed tables a (control_scans tables life)
-
-  -- a Boolean action
-  pub boolean_acted : (v : Variable) (q : Bool) → q ≡ the_q
-      → ImageAgrees plant image (with_changes (assignment plant p v (value.Bool q)) (trying kept tried))
-      → Acts plant kept image (Ok tt) (acted plant p life t a (Boolean v) (tried ++ kept))
-  boolean_acted v q is h = record {
-    tried = assignment plant p v (value.Bool q) ++ tried;
-    agrees = h;
-    ends = ap (λ (b : Bool). Ok (assignment plant p v (value.Bool b) ++ (tried ++ kept))) (sym is)
-        ∙ ap (λ (changes : List Change). Ok changes) (sym (append_assoc (assignment plant p v (value.Bool q)) tried kept));
-  }
 
   -- a declared action that isn't executed
   pub passed : (id : ActionId) → is_executed ≡ false → ImageAgrees plant image (trying kept tried)
@@ -145,12 +129,6 @@ module _ (plant : PlantData) (p : ProgId) (life : Life) (t : ℤ) (kept : List C
         ∙ ap (λ (ts : List Target). after_actions plant p life t i ts changes) (split targets i target lt is)
         ∙ ap (λ (r : Result (List Change) Fault). and_then r (λ after. after_actions plant p life t (suc i) (drop (i + 1) targets) after)) h.ends;
   }
-
--- there is an action of each number
-pub some_at : (targets : List Target) (i : ℕ) → i < length targets → (target : Target) × (slice_get targets i ≡ Some target)
-some_at [] i lt = absurd (omega (arith, lt))
-some_at (x ∷ xs) zero lt = (x, refl)
-some_at (x ∷ xs) (suc i) lt = some_at xs i (omega (arith, lt))
 
 -- after the last action
 pub acts_all : (plant : PlantData) (p : ProgId) (life : Life) (t : ℤ) (kept : List Change) (targets : List Target) (before : List Change) (i : ℕ)

@@ -1,18 +1,13 @@
 -- How much a scan handles at most.
-use Rattle.std.proofs.Common.{◌≡◌, ℕ, zero, suc, ◌+◌, ◌≤◌, List, [], ◌∷◌, length, refl, sym, ◌∙◌, ap, arith}
+use Rattle.std.proofs.Common.{◌≡◌, ℕ, zero, suc, ◌+◌, ◌*◌, ◌≤◌, List, [], ◌∷◌, length, refl, sym, ◌∙◌, ap, arith}
 use Rattle.std.specs.Prelude.{map, sum_by, slice_get, Option, Some, None}
 use Rattle.std.specs.List.{range_with_len}
-use Rattle.std.proofs.lemmas.List.{length-map, length-append}
-use Rattle.std.proofs.lemmas.List.FromFn.{length-map-range_with_len}
-use Rattle.std.proofs.lemmas.List.Sums.{sum_by-cons, sum_by-append}
+use Rattle.std.proofs.lemmas.List.{length-map}
+use Rattle.std.proofs.lemmas.List.Sums.{sum_by-cons}
 use Rattle.std.proofs.lemmas.List.Sorted.{sum_by-IsPermutation}
 use Rattle.sfc_expr.specs.declared.variable.StepId.{StepId}
-use Rattle.sfc_expr.specs.declared.variable.Variable.{Variable}
 use Rattle.sfc_expr.specs.Nodes.{nodes, body_nodes}
 use Rattle.sfc_tables.specs.declared.action.Action.{Action}
-use Rattle.sfc_tables.specs.declared.action.ActionId.{ActionId}
-use Rattle.sfc_tables.specs.declared.association.Target.{Target}
-use Rattle.sfc_tables.specs.declared.association.Target.TheVariants.{Boolean, Declared}
 use Rattle.sfc_tables.specs.declared.chart.Chart.{Chart}
 use Rattle.sfc_tables.specs.declared.chart.Transition.{Transition}
 use Rattle.sfc_tables.specs.declared.ids.TransitionId.{TransitionId}
@@ -23,6 +18,7 @@ use Rattle.sfc_tables.proofs.RankOrders.{rank_order_ranks}
 use Rattle.sfc_evolve.specs.Evolution.{preceding_of}
 use Rattle.sfc_evolve.specs.Work.{links}
 use Rattle.sfc_instance.specs.ProgramScan.{condition_in, body_in}
+use Rattle.sfc_instance.proofs.Outputs.{actions_long, boolean_work, declared}
 use Rattle.sfc_instance.specs.Work.{transition_work, condition_work, action_work, actions_work, scan_work, scan_limit}
 
 -- a sum over what is numbered from a on is the sum over what has the numbers
@@ -80,38 +76,27 @@ conditions chart =
 
 -- ---- actions
 
-booleans : (chart : Chart) (vs : List Variable) → sum_by (action_work chart) (map (λ v. Boolean v) vs) ≡ length vs
-booleans chart [] = refl
-booleans chart (v ∷ vs) = omega (arith, booleans chart vs, sum_by-cons (action_work chart) (Boolean v) (map (λ x. Boolean x) vs))
-
-bodies : (actions : List Action) → sum_by (λ (a : Action). 1 + body_nodes a.body) actions
-    ≡ length actions + sum_by (λ (a : Action). body_nodes a.body) actions
+bodies : (actions : List Action) → sum_by (λ (a : Action). 2 + body_nodes a.body) actions
+    ≡ 2 * length actions + sum_by (λ (a : Action). body_nodes a.body) actions
 bodies [] = refl
 bodies (a ∷ actions) = omega (
   arith,
   bodies actions,
-  sum_by-cons (λ (x : Action). 1 + body_nodes x.body) a actions,
+  sum_by-cons (λ (x : Action). 2 + body_nodes x.body) a actions,
   sum_by-cons (λ (x : Action). body_nodes x.body) a actions,
 )
 
 acts : (chart : Chart) → actions_work chart (tables_of chart).actions
-    ≡ length (tables_of chart).actions + sum_by (λ (a : Action). body_nodes a.body) chart.actions
+    ≡ length (tables_of chart).actions + length chart.actions + sum_by (λ (a : Action). body_nodes a.body) chart.actions
 acts chart =
-    let vs = boolean_actions chart in
-    let g = action_work chart in
-    let declared : ℕ → Target = λ i. let id : ActionId = record { 0 = i } in Declared id in
-    let n = length chart.actions in
-    let all = numbered (λ o. 1 + body_nodes (body_in o)) g declared 0 chart.actions
-    (λ k. let e : 0 + k ≡ k = omega arith in ap (λ j. g (declared j)) e) in
+    let all = numbered (λ o. 2 + body_nodes (body_in o)) (action_work chart) declared 0 chart.actions
+    (λ k. let e : 0 + k ≡ k = omega arith in ap (λ j. action_work chart (declared j)) e) in
     omega (
       arith,
-      sum_by-append g (map (λ v. Boolean v) vs) (declared_actions n),
-      booleans chart vs,
+      boolean_work chart (boolean_actions chart) (declared_actions (length chart.actions)),
       all,
       bodies chart.actions,
-      length-append (map (λ v. Boolean v) vs) (declared_actions n),
-      length-map vs (λ v. Boolean v),
-      length-map-range_with_len declared 0 n,
+      actions_long chart,
     )
 
 -- ---- a scan
@@ -121,5 +106,6 @@ scan_within chart variables = omega (
   arith,
   conditions chart,
   acts chart,
+  actions_long chart,
   length-map chart.transitions sides_of,
 )

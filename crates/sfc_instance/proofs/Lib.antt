@@ -8,6 +8,8 @@ pub mod Timed
 pub mod Varied
 -- actions one after the other
 pub mod Acted
+-- Boolean actions, all at once
+pub mod Outputs
 -- what the actions of a scan leave in the image
 pub mod Left
 -- what the expressions of a scan read

@@ -27,10 +27,10 @@ abbrev pub copy_work : Tabled → ℕ
 copy_work tables =
     length tables.initial + 2 * length tables.sides + length tables.actions + length tables.associations
 
--- what one action handles: a Boolean action's variable, or a declared action with the statements of its body
+-- what one action handles: its Q, and where it is declared also itself with the statements of its body
 abbrev pub action_work : Chart → Target → ℕ
 action_work chart (Boolean v) = 1
-action_work chart (Declared id) = 1 + body_nodes (body_in (slice_get chart.actions id.0))
+action_work chart (Declared id) = 2 + body_nodes (body_in (slice_get chart.actions id.0))
 
 abbrev pub actions_work : Chart → List Target → ℕ
 actions_work chart targets = sum_by (action_work chart) targets

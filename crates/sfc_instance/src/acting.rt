@@ -1,20 +1,21 @@
 //! What the actions of a scan do with the variables (2.6.4.1, 2.6.4.5).
 
-ghost use Rattle.std.specs.Prelude.{◌≡◌, ◌<◌, ◌+◌, ◌++◌, List, ℤ, Some, false, true, length, slice_get};
+ghost use Rattle.std.specs.Prelude.{◌≡◌, ◌<◌, ◌+◌, ◌++◌, List, ℤ, false, true, length, slice_get};
 ghost use Rattle.sfc_expr.specs.Trees.{body_of as statements_body};
-ghost use Rattle.sfc_tables.specs.declared.association.Target.{Target};
+ghost use Rattle.sfc_tables.specs.declared.association.Target.TheVariants.{Declared};
+ghost use Rattle.sfc_expr.specs.Nodes.{body_nodes};
 ghost use Rattle.sfc_expr.specs.Ticks.{Within};
 ghost use Rattle.sfc_chart.specs.Plants.{PlantData};
 ghost use Rattle.sfc_image.specs.Changes.{Change, settled, trying};
 ghost use Rattle.sfc_image.specs.Agreement.{ImageAgrees, IsAsLarge, instance_places, variable_places, is_open};
 ghost use Rattle.sfc_instance.specs.Life.{Life, evolution_rows};
-ghost use Rattle.sfc_tables.specs.Tables.{Tabled};
+ghost use Rattle.sfc_tables.specs.Tables.{Tabled, tables_of};
 ghost use Rattle.sfc_evolve.specs.Evolution.{active_steps};
 ghost use Rattle.sfc_evolve.specs.Agreement.{AreMeasured};
 ghost use Rattle.sfc_instance.specs.Setting.{IsSettingOf};
 ghost use Rattle.sfc_instance.specs.ProgramScan.{acted, after_actions, body_in};
 ghost use Rattle.sfc_instance.specs.Agreement.{IsStateFor, StateAgrees};
-ghost use Rattle.sfc_instance.specs.Work.{action_work, actions_work};
+ghost use Rattle.sfc_instance.specs.Work.{actions_work};
 ghost use Rattle.sfc_instance.specs.Private.Acting.{IsAfter, Acts, HasActed};
 
 use crate::setting::Setting;
@@ -22,11 +23,9 @@ use crate::state::State;
 use sfc_expr::fault::Fault;
 use sfc_expr::statement::Statement;
 use sfc_expr::ticks::Ticks;
-use sfc_expr::value::Value;
 use sfc_image::image::Image;
 use sfc_image::step_readings::StepReadings;
 use sfc_tables::action::ActionId;
-use sfc_tables::association::Target;
 use sfc_tables::chart::Chart;
 use sfc_tables::ids::ActionNumber;
 
@@ -62,11 +61,12 @@ impl<'a> Acting<'a> {
     }
 }
 
-// One action: a Boolean action's variable is assigned its Q; the body of a declared action is executed where A is 1.
+// One declared action: its body is executed where A is 1, and sees its Q.
 fn act_one(
     acting: Acting<'_>,
     image: &mut Image,
     action: ActionNumber,
+    id: ActionId,
     ticks: &mut Ticks,
 ) -> Result<(), Fault>
     requires sizes { IsStateFor acting.setting.tables.now acting.state.now }
@@ -74,40 +74,29 @@ fn act_one(
     requires instance { acting.setting.instance.0 < instance_places image.old }
     ensures large { IsAsLarge image.old image.new }
     ensures open { is_open image.new ≡ is_open image.old }
-    ensures kept { (plant : PlantData) (life : Life) (t : ℤ) (kept tried : List Change) (target : Target) →
-        IsAfter plant acting.entry life t → slice_get acting.entry.setting.tables.now.actions action.0 ≡ Some target →
-        ImageAgrees plant image.old (trying kept tried) → Acts plant kept image.new result
-        (acted plant acting.entry.setting.instance life t action.0 target (tried ++ kept)) }
-    ensures ticks { (target : Target) → slice_get acting.entry.setting.tables.now.actions action.0 ≡ Some target →
-        Within (action_work acting.entry.setting.chart.now target) ticks.old ticks.new }
+    ensures kept { (plant : PlantData) (life : Life) (t : ℤ) (kept tried : List Change) →
+        IsAfter plant acting.entry life t → ImageAgrees plant image.old (trying kept tried) → Acts plant kept image.new result
+        (acted plant acting.entry.setting.instance life t action.0 (Declared id) (tried ++ kept)) }
+    ensures ticks { Within (1 + body_nodes (body_in (slice_get acting.entry.setting.chart.now.actions id.0)))
+        ticks.old ticks.new }
 {
-    let Setting {
-        tables,
-        chart,
-        instance,
-    } = acting.setting;
+    ticks.tick();
     let controls = &acting.state.controls;
-    let q = controls.q(action);
-    match tables.target(action) {
-        Target::Boolean(variable) => {
-            image.assign(instance, variable, Value::Bool(q), ticks);
-            Ok(())
-        }
-        Target::Declared(id) => {
-            ticks.tick();
-            if !controls.executed(action) {
-                return Ok(());
-            }
-            let body = body_of(chart, id);
-            image.execute(instance, body, acting.readings(), q, ticks)
-        }
+    if !controls.executed(action) {
+        return Ok(());
     }
+    let body = body_of(acting.setting.chart, id);
+    let q = controls.q(action);
+    image.execute(acting.setting.instance, body, acting.readings(), q, ticks)
 }
 
-/// All actions, one after the other; the first fault of a body ends them. The image's scratch is open.
-pub fn act(acting: Acting<'_>, image: &mut Image, ticks: &mut Ticks) -> Result<(), Fault>
+// All actions: the variables of the Boolean ones are assigned all at once, and then the declared ones follow, one after
+// the other; the first fault of a body ends them. The image's scratch is open.
+fn act(acting: Acting<'_>, image: &mut Image, ticks: &mut Ticks) -> Result<(), Fault>
+    requires tables { acting.setting.tables.now ≡ tables_of acting.setting.chart.now }
     requires sizes { IsStateFor acting.setting.tables.now acting.state.now }
     requires instance { acting.setting.instance.0 < instance_places image.old }
+    requires open { is_open image.old ≡ true }
     ensures large { IsAsLarge image.old image.new }
     ensures open { is_open image.new ≡ is_open image.old }
     ensures kept { (plant : PlantData) (life : Life) (t : ℤ) (kept tried : List Change) → IsAfter plant acting.entry life t →
@@ -115,8 +104,17 @@ pub fn act(acting: Acting<'_>, image: &mut Image, ticks: &mut Ticks) -> Result<(
         (after_actions plant acting.entry.setting.instance life t 0 acting.entry.setting.tables.now.actions (tried ++ kept)) }
     ensures ticks { Within (actions_work acting.entry.setting.chart.now acting.entry.setting.tables.now.actions) ticks.old ticks.new }
 {
-    for action in 0..acting.setting.tables.actions() {
-        let answer = act_one(acting, image, ActionNumber(action), ticks);
+    let Setting {
+        tables,
+        chart,
+        instance,
+    } = acting.setting;
+    image.assign_outputs(instance, tables, acting.state.controls.q_flags(), ticks);
+    let count = tables.actions();
+    let first = count - chart.actions.as_slice().len();
+    for action in first..count {
+        let id = ActionId(action - first);
+        let answer = act_one(acting, image, ActionNumber(action), id, ticks);
         if answer.is_err() {
             return answer;
         }
@@ -150,6 +148,7 @@ pub fn act_or_undo(
     image: &mut Image,
     ticks: &mut Ticks,
 ) -> Result<(), Fault>
+    requires tables { setting.tables.now ≡ tables_of setting.chart.now }
     requires state { IsStateFor setting.tables.now state.now }
     requires instance { setting.instance.0 < instance_places image.old }
     requires closed { is_open image.old ≡ false }

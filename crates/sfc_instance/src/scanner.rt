@@ -66,6 +66,7 @@ impl Scanner {
         t: i64,
         ticks: &mut Ticks,
     ) -> Result<(), Fault>
+        requires tables { setting.tables.now ≡ tables_of setting.chart.now }
         requires sizes { IsScannerFor setting.tables.now self.old }
         requires instance { setting.instance.0 < instance_places image.old }
         requires closed { is_open image.old ≡ false }
@@ -100,6 +101,7 @@ impl Scanner {
         t: i64,
         ticks: &mut Ticks,
     ) -> Result<(), ScanFault>
+        requires tables { setting.tables.now ≡ tables_of setting.chart.now }
         requires sizes { IsScannerFor setting.tables.now self.old }
         requires instance { setting.instance.0 < instance_places image.old }
         requires closed { is_open image.old ≡ false }

@@ -1,64 +1,130 @@
-use Rattle.std.proofs.Common.{◌<◌, ◌++◌, arith, length, sym, refl, ◌∙◌}
-use Rattle.sfc_instance.proofs.Acted.{acts_on, acts_end, acts_all, some_at, work_split}
+use Rattle.std.proofs.Common.{◌≡◌, ◌+◌, ◌-◌, ◌++◌, arith, List, length, drop, sym, ap, ◌∙◌, append_assoc}
+use Rattle.sfc_tables.specs.declared.action.Action.{Action}
+use Rattle.sfc_tables.specs.declared.chart.Chart.{Chart}
+use Rattle.sfc_chart.specs.Finding.{chart_of}
+use Rattle.sfc_image.specs.Changes.{Change, trying}
+use Rattle.sfc_image.specs.Outputs.{outputs}
+use Rattle.sfc_instance.specs.Life.{control_scans}
+use Rattle.sfc_instance.specs.ProgramScan.{after_actions}
+use Rattle.sfc_instance.specs.Agreement.{StateAgrees}
+use Rattle.sfc_instance.proofs.Acted.{acts_on, acts_end, acts_all, work_split}
+use Rattle.sfc_instance.proofs.Outputs.{all_declared, counted, declared, declared_at, outputs_first, work_first, work_left}
+use Rattle.sfc_instance.proofs.Readings.{tables_is}
 use Rattle.sfc_instance.proofs.acting.act.Goals as goal
 
+pub overflow_sub-first : goal.overflow_sub-first
+overflow_sub-first c =
+    let acting = c.args.acting in
+    omega (
+      arith,
+      c.actions-count.ensures,
+      ap (λ (xs : List Action). length xs) c.as_slice.ensures,
+      all_declared acting.setting.tables.now acting.setting.chart.now c.requires.tables,
+    )
+
+-- from the first declared action on
 pub loop-action-init : goal.loop-action-init
-loop-action-init c = record {
-  large = record { variables = refl; instances = refl };
-  «open» = refl;
-  kept = λ plant life t kept tried after h. record { tried = tried; agrees = h; rest = refl };
-  rises = omega arith;
-  ticks = omega arith;
-}
+unfolding StateAgrees
+loop-action-init c =
+    let acting = c.args.acting in
+    let tables = acting.setting.tables.now in
+    let chart = acting.setting.chart.now in
+    let p = acting.setting.instance in
+    let q = c.q_flags.result.now in
+    let first = c.actions-count.result - length c.as_slice.result.now in
+    let count : first + length chart.actions ≡ length tables.actions =
+    counted tables chart c.actions-count.result c.as_slice.result.now c.requires.tables c.actions-count.ensures c.as_slice.ensures in
+    record {
+      large = c.assign_outputs.ensures.large;
+      «open» = c.assign_outputs.ensures.«open» ∙ sym c.requires.«open»;
+      kept = λ plant life t kept tried after h.
+          let made = tables_is plant acting.setting after.setting in
+          let outs : List Change = outputs plant p q 0 tables.actions in
+          let same : length chart.actions ≡ length (chart_of plant p).actions = ap (λ (x : Chart). length x.actions) after.setting.chart in
+          record {
+            tried = outs ++ tried;
+            agrees = c.assign_outputs.ensures.kept plant (trying kept tried) made h;
+            rest =
+                ap (after_actions plant p life t first (drop first tables.actions)) (append_assoc outs tried kept)
+                ∙ outputs_first plant p life t q (length tables.actions) tables made first (omega (arith, count, same)) (omega arith)
+                (λ k lt. c.q_flags.ensures.each tables (control_scans tables life) k (omega (arith, lt, c.requires.sizes.controls.same_actions))
+                after.state.controls)
+                (tried ++ kept);
+          };
+      from = omega arith;
+      rises = omega (arith, c.assign_outputs.ensures.ticks.0);
+      ticks = omega (arith, c.assign_outputs.ensures.ticks.1, work_first tables chart first c.requires.tables count);
+    }
 
 pub loop-action-preserved : goal.loop-action-preserved
 loop-action-preserved c =
-    let targets = c.args.acting.setting.tables.now.actions in
+    let tables = c.args.acting.setting.tables.now in
+    let chart = c.args.acting.setting.chart.now in
+    let targets = tables.actions in
+    let first = c.actions-count.result - length c.as_slice.result.now in
     let i = c.loop-action.action in
     let before = c.loop-action.invariant in
-    let lt : i < length targets = omega (arith, c.loop-action-test.true, c.actions-action-end.ensures) in
-    let target = some_at targets i lt in
-    let work = work_split targets i target.0 c.args.acting.setting.chart.now lt target.1 in
-    let made = c.act_one-answer.ensures.ticks target.0 target.1 in
+    let made = c.act_one-answer.ensures in
+    let next =
+    declared_at tables chart c.actions-count.result c.as_slice.result.now c.requires.tables c.actions-count.ensures c.as_slice.ensures i
+    c.loop-action.invariant.from c.loop-action-test.true in
+    let target = declared (i - first) in
+    let work = work_split targets i target chart next.0 next.1 in
     record {
       large = record {
-        variables = c.act_one-answer.ensures.large.variables ∙ before.large.variables;
-        instances = c.act_one-answer.ensures.large.instances ∙ before.large.instances;
+        variables = made.large.variables ∙ before.large.variables;
+        instances = made.large.instances ∙ before.large.instances;
       };
-      «open» = c.act_one-answer.ensures.«open» ∙ before.«open»;
+      «open» = made.«open» ∙ before.«open»;
       kept = λ plant life t kept tried after h.
           let b = before.kept plant life t kept tried after h in
-          acts_on plant c.args.acting.setting.instance life t kept targets i target.0 c.act_one-answer.new.image tried (b.tried ++ kept)
-          c.act_one-answer.result (sym c.is_err.ensures.value ∙ c.if-is_err.false) lt target.1
-          (c.act_one-answer.ensures.kept plant life t kept b.tried target.0 after target.1 b.agrees) b.rest;
-      rises = omega (arith, before.rises, made.0);
-      ticks = omega (arith, work, made.1, before.ticks);
+          acts_on plant c.args.acting.setting.instance life t kept targets i target c.act_one-answer.new.image tried (b.tried ++ kept)
+          c.act_one-answer.result (sym c.is_err.ensures.value ∙ c.if-is_err.false) next.0 next.1 (made.kept plant life t kept b.tried after b.agrees) b.rest;
+      from = omega (arith, before.from);
+      rises = omega (arith, before.rises, made.ticks.0);
+      ticks = omega (arith, work, made.ticks.1, before.ticks);
     }
 
 pub returns-then-is_err-clause-kept : goal.returns-then-is_err-clause-kept
 returns-then-is_err-clause-kept c plant life t kept tried after h =
-    let targets = c.args.acting.setting.tables.now.actions in
+    let tables = c.args.acting.setting.tables.now in
+    let chart = c.args.acting.setting.chart.now in
+    let targets = tables.actions in
+    let first = c.actions-count.result - length c.as_slice.result.now in
     let i = c.loop-action.action in
-    let lt : i < length targets = omega (arith, c.loop-action-test.true, c.actions-action-end.ensures) in
-    let target = some_at targets i lt in
+    let next =
+    declared_at tables chart c.actions-count.result c.as_slice.result.now c.requires.tables c.actions-count.ensures c.as_slice.ensures i
+    c.loop-action.invariant.from c.loop-action-test.true in
+    let target = declared (i - first) in
     let b = c.loop-action.invariant.kept plant life t kept tried after h in
-    acts_end plant c.args.acting.setting.instance life t kept targets i target.0 c.act_one-answer.new.image tried (b.tried ++ kept)
-    c.act_one-answer.result (sym c.is_err.ensures.value ∙ c.if-is_err.true) lt target.1
-    (c.act_one-answer.ensures.kept plant life t kept b.tried target.0 after target.1 b.agrees) b.rest
+    acts_end plant c.args.acting.setting.instance life t kept targets i target c.act_one-answer.new.image tried (b.tried ++ kept)
+    c.act_one-answer.result (sym c.is_err.ensures.value ∙ c.if-is_err.true) next.0 next.1
+    (c.act_one-answer.ensures.kept plant life t kept b.tried after b.agrees) b.rest
 
 pub returns-then-is_err-clause-ticks : goal.returns-then-is_err-clause-ticks
 returns-then-is_err-clause-ticks c =
-    let targets = c.args.acting.setting.tables.now.actions in
+    let tables = c.args.acting.setting.tables.now in
+    let chart = c.args.acting.setting.chart.now in
+    let targets = tables.actions in
+    let first = c.actions-count.result - length c.as_slice.result.now in
     let i = c.loop-action.action in
     let before = c.loop-action.invariant in
-    let lt : i < length targets = omega (arith, c.loop-action-test.true, c.actions-action-end.ensures) in
-    let target = some_at targets i lt in
-    let work = work_split targets i target.0 c.args.acting.setting.chart.now lt target.1 in
-    let made = c.act_one-answer.ensures.ticks target.0 target.1 in
-    (omega (arith, before.rises, made.0), omega (arith, work, made.1, before.ticks))
+    let made = c.act_one-answer.ensures in
+    let next =
+    declared_at tables chart c.actions-count.result c.as_slice.result.now c.requires.tables c.actions-count.ensures c.as_slice.ensures i
+    c.loop-action.invariant.from c.loop-action-test.true in
+    let target = declared (i - first) in
+    let work = work_split targets i target chart next.0 next.1 in
+    (omega (arith, before.rises, made.ticks.0), omega (arith, work, made.ticks.1, before.ticks, work_left chart targets (i + 1)))
 
 pub returns-clause-kept : goal.returns-clause-kept
 returns-clause-kept c plant life t kept tried after h =
     acts_all plant c.args.acting.setting.instance life t kept c.args.acting.setting.tables.now.actions tried c.loop-action.action
-    c.loop-action.image (omega (arith, c.loop-action-test.false, c.actions-action-end.ensures))
+    c.loop-action.image (omega (arith, c.loop-action-test.false, c.actions-count.ensures))
     (c.loop-action.invariant.kept plant life t kept tried after h)
+
+pub returns-clause-ticks : goal.returns-clause-ticks
+returns-clause-ticks c =
+    let before = c.loop-action.invariant in
+    let targets = c.args.acting.setting.tables.now.actions in
+    (before.rises, omega (arith, before.ticks, c.loop-action-test.false, c.actions-count.ensures))

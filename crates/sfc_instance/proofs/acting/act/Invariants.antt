@@ -1,4 +1,4 @@
-use Rattle.std.proofs.Common.{◌≡◌, ◌+◌, ◌≤◌, List, drop, ℤ}
+use Rattle.std.proofs.Common.{◌≡◌, ◌+◌, ◌≤◌, List, length, drop, ℤ}
 use Rattle.sfc_chart.specs.Plants.{PlantData}
 use Rattle.sfc_image.specs.Changes.{Change, trying}
 use Rattle.sfc_image.specs.Agreement.{ImageAgrees, IsAsLarge, is_open}
@@ -11,11 +11,12 @@ abbrev pub invariant-loop-action : goal.invariant-loop-action
 invariant-loop-action l =
     let targets = l.acting.setting.tables.now.actions in
     record {
-      large : IsAsLarge l.initial.image l.image;
-      «open» : is_open l.image ≡ is_open l.initial.image;
+      large : IsAsLarge l.fn.image l.image;
+      «open» : is_open l.image ≡ is_open l.fn.image;
       kept : (plant : PlantData) (life : Life) (t : ℤ) (kept tried : List Change) → IsAfter plant l.acting life t →
-          ImageAgrees plant l.initial.image (trying kept tried) → Follows plant l.acting.setting.instance life t kept targets tried l.action l.image;
-      rises : l.initial.ticks.count ≤ l.ticks.count;
-      ticks : l.ticks.count + actions_work l.acting.setting.chart.now (drop l.action targets)
-          ≤ l.initial.ticks.count + actions_work l.acting.setting.chart.now targets;
+          ImageAgrees plant l.fn.image (trying kept tried) → Follows plant l.acting.setting.instance life t kept targets tried l.action l.image;
+      from : l.first ≤ l.action;
+      rises : l.fn.ticks.count ≤ l.ticks.count;
+      ticks : l.ticks.count + actions_work l.acting.setting.chart.now (drop l.action targets) + l.action
+          ≤ l.fn.ticks.count + actions_work l.acting.setting.chart.now targets + length targets;
     }
