@@ -59,7 +59,7 @@ impl Image {
     ghost use Rattle.sfc_expr.specs.Effect.{effect};
     ghost use Rattle.sfc_expr.specs.Nodes.{body_nodes};
     ghost use Rattle.sfc_image.specs.Environments.{moment_of, environment_of, number_of};
-    ghost use Rattle.sfc_image.specs.Bodies.{assignment, left_by, with_changes};
+    ghost use Rattle.sfc_image.specs.Bodies.{left_by, with_changes};
     ghost use Rattle.sfc_image.specs.Outputs.{output, outputs};
     ghost use Rattle.sfc_flags.specs.Flags.{flag, places_passed};
     ghost use Rattle.sfc_tables.specs.declared.association.Target.TheVariants.{Boolean};
@@ -207,23 +207,6 @@ impl Image {
         let shared = self.locals[0].first;
         let own = self.locals[instance.0 as usize];
         number_of(shared, own, variable)
-    }
-
-    /// Gives a variable of the instance's program a value of its type, in the scratch where one is open; a force hides it
-    /// until its release. Where there is no such variable nothing changes. It takes no memory.
-    pub fn assign(&mut self, instance: ProgId, variable: Variable, value: Value, ticks: &mut Ticks)
-        requires { instance.0 < instance_places self.old }
-        ensures large { IsAsLarge self.old self.new }
-        ensures open { is_open self.new ≡ is_open self.old }
-        ensures kept { (plant : PlantData) (told : Told) → ImageAgrees plant self.old told →
-            ImageAgrees plant self.new (with_changes (assignment plant instance variable value) told) }
-        ensures written { written_places self.new ≤ written_places self.old + 1 }
-        ensures ticks { Within 1 ticks.old ticks.new }
-    {
-        ticks.tick();
-        if let Some(i) = self.place(instance, variable) {
-            self.put(i, value);
-        }
     }
 
     // The variable of this number is an output.
