@@ -1,9 +1,10 @@
 #!/usr/bin/env python3
-"""The chart and the script of the bench: `ring.py STEPS SCANS CHART SCRIPT` writes both.
+"""The chart and the script of the bench: `ring.py [--plain] STEPS SCANS CHART SCRIPT` writes both.
 
 A ring of STEPS steps (2 to 1,024) with one token, scanned every 10 ms. Each step has an action of its own by N, and one by S that the
 next step resets by R. Of four steps one has a timed action, by D, L, SD and SL in turn (T#10ms; those of SD and SL are reset by the
-next step too), and another one a body by P. Each transition waits until the time of its step is T#20ms.
+next step too), and another one a body by P. Each transition waits until the time of its step is T#20ms. In the plain ring each step has
+the one action by N, and all conditions are TRUE.
 """
 
 import sys
@@ -27,6 +28,19 @@ def associations(step: int, steps: int) -> list:
     if step % 4 == 2 or steps < 3:
         found.append("Count(P)")
     return found
+
+
+def plain_chart(steps: int) -> str:
+    """The text of the plain ring."""
+    lines = ["PROGRAM Ring"]
+    for step in range(steps):
+        lines.append(f"  {'STEP' if step else 'INITIAL_STEP'} S{step}: On{step}(N); END_STEP")
+    for step in range(steps):
+        lines.append(f"  TRANSITION FROM S{step} TO S{(step + 1) % steps} := TRUE; END_TRANSITION")
+    lines += ["END_PROGRAM", "CONFIGURATION Bench RESOURCE Cpu ON Plc VAR_GLOBAL"]
+    lines += [f"  On{step} : BOOL;" for step in range(steps)]
+    lines += ["END_VAR", "TASK Main(INTERVAL := T#10ms, PRIORITY := 1);", "PROGRAM P WITH Main : Ring;", "END_RESOURCE END_CONFIGURATION"]
+    return "\n".join(lines) + "\n"
 
 
 def variables(steps: int) -> list:
@@ -58,10 +72,15 @@ def script(scans: int) -> str:
 
 def main() -> int:
     """Writes both texts."""
-    if len(sys.argv) != 5 or not 2 <= int(sys.argv[1]) <= 1_024:
-        print("usage: ring.py STEPS SCANS CHART SCRIPT", file=sys.stderr)
+    words = sys.argv[1:]
+    is_plain = words[:1] == ["--plain"]
+    if is_plain:
+        words = words[1:]
+    if len(words) != 4 or not 2 <= int(words[0]) <= 1_024:
+        print("usage: ring.py [--plain] STEPS SCANS CHART SCRIPT", file=sys.stderr)
         return 2
-    for name, text in ((sys.argv[3], chart(int(sys.argv[1]))), (sys.argv[4], script(int(sys.argv[2])))):
+    text = plain_chart(int(words[0])) if is_plain else chart(int(words[0]))
+    for name, text in ((words[2], text), (words[3], script(int(words[1])))):
         with open(name, "w", encoding="ascii") as file:
             file.write(text)
     return 0
