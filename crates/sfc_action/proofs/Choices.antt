@@ -1,5 +1,5 @@
 -- Facts on Booleans.
-use Rattle.std.proofs.Common.{◌≡◌, Bool, true, false, not, ◌&&◌, ◌||◌, refl, ◌∙◌}
+use Rattle.std.proofs.Common.{◌≡◌, Bool, true, false, not, ◌&&◌, ◌||◌, refl}
 
 -- Q now or before, and the edges of P1 and P0
 pub executions : (was now p1 p0 : Bool) → (((was || now) || p1) || p0) ≡ (now || (was && not now) || p1 || p0)

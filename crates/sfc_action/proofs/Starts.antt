@@ -4,7 +4,6 @@ use Rattle.std.specs.Prelude.{All, slice_index_or, replicate}
 use Rattle.std.specs.List.{list_any}
 use Rattle.std.proofs.lemmas.List.{length-replicate, length-map}
 use Rattle.sfc_text.specs.declared.tree.TimedQualifier.{TimedQualifier}
-use Rattle.sfc_text.specs.declared.tree.TimedQualifier.TheVariants.{Limited, Delayed, StoredDelayed, DelayedStored, StoredLimited}
 use Rattle.sfc_flags.specs.Flags.{flag}
 use Rattle.sfc_timers.specs.Timers.{has_elapsed}
 use Rattle.sfc_timers.specs.Agreement.{OnDelayAgrees}
@@ -17,14 +16,14 @@ use Rattle.sfc_action.specs.declared.timed.Timed.{Timed}
 use Rattle.sfc_action.specs.declared.blocks.Block.{Block}
 use Rattle.sfc_action.specs.declared.kept.Kept.{Kept}
 use Rattle.sfc_action.specs.ActionControl.{Scan}
-use Rattle.sfc_action.specs.Private.TimedSets.{none, by}
+use Rattle.sfc_action.specs.Private.TimedSets.{none}
 use Rattle.sfc_action.specs.Private.Storing.{AreStores}
 use Rattle.sfc_action.specs.Private.Delays.{AreOf}
 use Rattle.sfc_action.specs.Private.Copies.{AreCopied}
 use Rattle.sfc_action.specs.Private.Keeping.{AreKeptSized, IsFresh, IsCopy, AreFor, AreKept, BlockAgrees, IsCovered, has_block, is_of, delay_of, readings}
 use Rattle.sfc_action.specs.Delays.{same_timed, with_delays}
-use Rattle.sfc_action.specs.Private.Listing.{IsNew, IsListing, IsList}
-use Rattle.sfc_action.proofs.Sizes.{all_none, sized_stores}
+use Rattle.sfc_action.specs.Private.Listing.{IsNew, IsList}
+use Rattle.sfc_action.proofs.Sizes.{sized_stores}
 use Rattle.sfc_action.proofs.Timings.{flag-replicate}
 
 -- ---- before the first scan
