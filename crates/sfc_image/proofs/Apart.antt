@@ -81,6 +81,10 @@ one_place (w ∷ ws) v (suc a) (suc b) apart e f = ap suc (one_place ws v a b ap
 
 -- ---- among the actions of a chart
 
+-- one action is one variable
+pub same_action : (v w : Variable) → Boolean v ≡ Boolean w → v ≡ w
+same_action v w e = cc
+
 -- a variable among actions is one of the Boolean ones, which stand before the declared ones
 boolean_place : (vs : List Variable) (n a k : ℕ) (v : Variable)
     → slice_get (map (λ x. Boolean x) vs ++ map (λ (i : ℕ). Declared (record { 0 = i })) (range_with_len k n)) a ≡ Some (Boolean v)
@@ -88,9 +92,7 @@ boolean_place : (vs : List Variable) (n a k : ℕ) (v : Variable)
 boolean_place [] zero a k v e = absurd cc
 boolean_place [] (suc n) zero k v e = absurd cc
 boolean_place [] (suc n) (suc a) k v e = absurd (let none = boolean_place [] n a (k + 1) v e in cc)
-boolean_place (w ∷ ws) n zero k v e = let same : Boolean w ≡ Boolean v = cc in ap (λ (x : Variable). Some x) (inside w v same) where
-  inside : (w v : Variable) → Boolean w ≡ Boolean v → w ≡ v
-  inside w v e = cc
+boolean_place (w ∷ ws) n zero k v e = let same : Boolean w ≡ Boolean v = cc in ap (λ (x : Variable). Some x) (same_action w v same)
 boolean_place (w ∷ ws) n (suc a) k v e = boolean_place ws n a k v e
 
 pub one_action : (chart : Chart) (a b : ℕ) (v : Variable) → slice_get (actions_of chart) a ≡ Some (Boolean v)

@@ -12,7 +12,7 @@ use Rattle.sfc_tables.specs.declared.association.Target.{Target}
 use Rattle.sfc_chart.specs.declared.ids.ProgId.{ProgId}
 use Rattle.sfc_chart.specs.Plants.{PlantData}
 use Rattle.sfc_image.specs.Changes.{Change, Told}
-use Rattle.sfc_image.specs.Bodies.{tried_all, with_changes}
+use Rattle.sfc_image.specs.Bodies.{with_changes}
 use Rattle.sfc_image.specs.Outputs.{output, outputs}
 use Rattle.sfc_tables.specs.declared.association.Target.TheVariants.{Boolean, Declared}
 use Rattle.sfc_tables.specs.Actions.{actions_of}
@@ -27,7 +27,9 @@ use Rattle.sfc_image.specs.Bodies.{changes_in, stored_to}
 use Rattle.sfc_image.specs.Agreement.{ImageAgrees, is_open}
 use Rattle.sfc_image.specs.Private.Keeping.{slot_at}
 use Rattle.sfc_image.specs.Private.Giving.{given_at, IsAssigned, HasQ, Stays}
+use Rattle.sfc_image.specs.Private.Scratches.{both_more}
 use Rattle.sfc_image.proofs.Agreed.{stored_again}
+use Rattle.sfc_image.proofs.Apart.{same_action}
 use Rattle.sfc_image.proofs.Giving.{others_have, here_has}
 use Rattle.sfc_image.proofs.Left.{no_change, one_change}
 use Rattle.sfc_image.proofs.Numbers.{of_number}
@@ -55,15 +57,6 @@ module _ (plant : PlantData) (p : ProgId) (flags : List Bool) where
       ∙ ap (λ (n : ℕ). output plant p target (flag flags n) ++ (outputs plant p flags (suc a) (take k ts) ++ output plant p t (flag flags a)))
       there
 
--- several changes, and then several more
-pub changes_more : (later earlier : List Change) (told : Told)
-    → with_changes (later ++ earlier) told ≡ with_changes later (with_changes earlier told)
-changes_more later earlier told = by_tried told.tried where
-  by_tried : (o : Option (List Change))
-      → tried_all (later ++ earlier) o told.kept ≡ with_changes later (tried_all earlier o told.kept)
-  by_tried None = ap (λ (kept : List Change). tried_all [] None kept) (append_assoc later earlier told.kept)
-  by_tried (Some tried) = ap (λ (more : List Change). tried_all [] (Some more) told.kept) (append_assoc later earlier tried)
-
 -- there is an action of each number
 pub some_target : (targets : List Target) (k : ℕ) → k < length targets → (target : Target) × (slice_get targets k ≡ Some target)
 some_target [] k lt = absurd (omega arith)
@@ -79,7 +72,7 @@ outputs_after plant p q targets k target told at =
     ap (λ (changes : List Change). with_changes changes told)
     (outputs_more plant p q 0 targets k target at
     ∙ ap (λ (n : ℕ). output plant p target (flag q n) ++ outputs plant p q 0 (take k targets)) here)
-    ∙ changes_more (output plant p target (flag q k)) (outputs plant p q 0 (take k targets)) told
+    ∙ both_more (output plant p target (flag q k)) (outputs plant p q 0 (take k targets)) told
 
 -- ---- what is given already
 
@@ -153,9 +146,6 @@ pub record GivenTo (plant : PlantData) (told : Told) (p : ProgId) (q : List Bool
   pub done : (a : ℕ) → a < from → HasQ plant p image.slots.items a (flag q a)
   pub rest : holds ≡ true → (a : ℕ) → from ≤ a → HasQ plant p image.slots.items a (flag (given_at image.given.items p.0).q a)
 
-one_variable : (v w : Variable) → Boolean v ≡ Boolean w → v ≡ w
-one_variable v w e = cc
-
 module _ (plant : PlantData) (told : Told) (p : ProgId) (q : List Bool) (holds : Bool) (targets : List Target)
     (is : targets ≡ actions_of (chart_of plant p)) where
   -- those that have it already are passed over
@@ -218,7 +208,7 @@ module _ (plant : PlantData) (told : Told) (p : ProgId) (q : List Bool) (holds :
           → (b : ℕ) → b ≢ a → (x : Bool) → HasQ plant p old.slots.items b x → HasQ plant p new.slots.items b x
       still (Boolean v) e stay b ne x had =
           others_have plant p old.slots.items new.slots.items a v (at_actions (Boolean v) e)
-          (λ i none. stay i (λ w same. subst (λ (u : Variable). number_of plant p u ≢ Some i) (one_variable v w same) none)) b ne x had
+          (λ i none. stay i (λ w same. subst (λ (u : Variable). number_of plant p u ≢ Some i) (same_action v w same) none)) b ne x had
       still (Declared id) e stay b ne x had = λ w i found number.
           let before = had w i found number in
           let s = stay i (λ v same. absurd cc) in
@@ -250,10 +240,10 @@ module _ (plant : PlantData) (told : Told) (p : ProgId) (q : List Bool) (holds :
           elim (eqb_tells k i) as (λ _. (k == i) ≡ false) [ inl w ↦ absurd (ne w.1) | inr w ↦ w.0 ]
 
   -- before the first, and after the last
-  pub none_given : (old new : Image) → new.slots.items ≡ old.slots.items → ImageAgrees plant new told
+  pub none_given : (new : Image) → ImageAgrees plant new told
       → ((a : ℕ) → holds ≡ true → HasQ plant p new.slots.items a (flag (given_at new.given.items p.0).q a))
       → GivenTo plant told p q holds targets 0 new
-  none_given old new slots h all = record {
+  none_given new h all = record {
     agrees = subst (λ (t : Told). ImageAgrees plant new t) (sym (no_change told)) h;
     done = λ a lt. absurd (omega (arith, lt));
     rest = λ on a le. all a on;

@@ -8,8 +8,8 @@ pub mod Ranks
 pub mod Actions
 -- the tables of a chart
 pub mod Tables
+-- the transitions that a step is the first to precede
+pub mod Departures
 -- What private clauses cite.
 pub mod Codes
 pub mod Private
--- the transitions that a step is the first to precede
-pub mod Departures

@@ -72,7 +72,7 @@ impl Departures {
     ghost use Rattle.sfc_tables.specs.declared.ids.TransitionId.{TransitionId};
     ghost use Rattle.sfc_tables.specs.Departures.{first_steps, places_of};
 
-    /// The places of each of so many steps among these transitions.
+    /// The places of each of so many steps among these transitions. The one error is that memory was refused.
     pub fn build(
         alloc: Global,
         steps: usize,

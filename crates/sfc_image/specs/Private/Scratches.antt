@@ -49,7 +49,7 @@ none_more told = by_tried told.tried where
   by_tried None = refl
   by_tried (Some tried) = refl
 
-both_more : (later earlier : List Change) (told : Told)
+pub both_more : (later earlier : List Change) (told : Told)
     → with_changes (later ++ earlier) told ≡ with_changes later (with_changes earlier told)
 both_more later earlier told = by_tried told.tried where
   by_tried : (o : Option (List Change))

@@ -32,7 +32,8 @@ tabled initial sides ranked blocks = record {
 }
 
 -- the parts are tables of one chart
-pub record AreKept (initial : List Bool) (sides : List Sides) (ranked : List TransitionId) (blocks : Blocks) (lists : List (List ℕ)) : Type 0 where
+pub record AreKept (initial : List Bool) (sides : List Sides) (ranked : List TransitionId) (blocks : Blocks)
+    (lists : List (List ℕ)) : Type 0 where
   pub tables : AreTables (tabled initial sides ranked blocks)
   pub steps : blocks.steps ≡ length initial
   pub places : lists ≡ map (departures (tabled initial sides ranked blocks)) (range_with_len 0 (length initial))

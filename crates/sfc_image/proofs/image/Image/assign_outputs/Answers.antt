@@ -22,7 +22,7 @@ outputs-init c =
       noted = λ a lt fits. absurd (omega (arith, lt));
       given = λ plant told is h.
           none_given plant told c.args.instance c.args.q.now c.take_given-holds.result c.args.tables.now.actions
-          (ap (λ (x : Tabled). x.actions) is) c.args.self.now c.take_given-holds.new.self taken.slots (taken.kept plant told h)
+          (ap (λ (x : Tabled). x.actions) is) c.take_given-holds.new.self (taken.kept plant told h)
           (λ a on. taken.holds plant told a on h);
       ticks = (omega arith, omega arith);
     }
