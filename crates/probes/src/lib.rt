@@ -1,8 +1,6 @@
-//! Tests of what no case can show: devices that fail, calls on their own, whole trees and plants, and the core
-//! against a plain body.
+//! Tests of what no case can show: devices that fail, calls on their own, whole plants.
 //!
 //! - `bench`: a resource, and all that it shows as text; `broken`: devices that fail; `texts`: charts.
-//! - `plain`: a body that searches back over all scans, which `mesh` compares with the core.
 //! - The rest: tests.
 #![tactic(auto)]
 
@@ -15,15 +13,9 @@ mod devices;
 #[cfg(test)]
 mod faults;
 #[cfg(test)]
-mod mesh;
-#[cfg(test)]
-mod plain;
-#[cfg(test)]
 mod plants;
 #[cfg(test)]
 mod resource;
-#[cfg(test)]
-mod sources;
 #[cfg(test)]
 mod texts;
 #[cfg(test)]

@@ -1,7 +1,6 @@
 //! What is loaded of a text: each part of the plant, by number where the text has names.
 
 use crate::texts::{mixture, plant_of, written_out};
-use sfc_chart::ids::{ProgId, TaskId, VarId};
 use sfc_chart::plant::Plant;
 use sfc_program::program_type::ProgramType;
 use std::alloc::Global;
@@ -179,61 +178,5 @@ fn each_chart_is_loaded_as_its_plant(rt: HostRuntime) -> Result<(), Fail> {
     for (text, wanted) in plants() {
         check_text(&rt, rt.alloc(), text, wanted)?;
     }
-    Ok(())
-}
-
-// Asks for what names stand for among the variables, tasks, instances and types of the pair.
-fn check_names(rt: &impl Abort, plant: &Plant) {
-    let table = [
-        (b"gO".as_slice(), (Some(VarId(0)), None, None, None)),
-        (b"LEVEL", (Some(VarId(2)), None, None, None)),
-        (b"slow", (None, Some(TaskId(0)), None, None)),
-        (b"oNCE", (None, Some(TaskId(1)), None, None)),
-        (b"a", (None, None, Some(ProgId(0)), None)),
-        (b"B", (None, None, Some(ProgId(1)), None)),
-        (b"FILL", (None, None, None, Some(0))),
-        (b"blink", (None, None, None, Some(1))),
-        (b"Wait", (None, None, None, None)),
-        (b"Open", (None, None, None, None)),
-        (b"", (None, None, None, None)),
-    ];
-    for (name, wanted) in table {
-        let (variable, task) = (plant.find_variable(name), plant.find_task(name));
-        let (instance, program) = (plant.find_instance(name), plant.find_type(name));
-        let found = (variable, task, instance, program);
-        assert!(rt; found == wanted, "of {name:?}");
-    }
-}
-
-// Asks for what names stand for among the steps, actions, transitions and own variables of the first type.
-fn check_names_of_type(rt: &impl Abort, program: &ProgramType) {
-    let table = [
-        (b"IDLE".as_slice(), (Some(0), None, None, None)),
-        (b"watch", (Some(2), None, None, None)),
-        (b"report", (None, Some(0), None, None)),
-        (b"REST", (None, Some(1), None, None)),
-        (b"back", (None, None, Some(1), None)),
-        (b"HALT", (None, None, None, Some(2))),
-        (b"Lamp", (None, None, None, None)),
-        (b"", (None, None, None, None)),
-    ];
-    for (name, wanted) in table {
-        let (step, action) = (program.find_step(name), program.find_action(name));
-        let (transition, local) = (program.find_transition(name), program.locals.find(name));
-        let found = (step, action, transition, local);
-        assert!(rt; found == wanted, "of {name:?}");
-        assert!(rt; program.locals.contains(name) == local.is_some());
-    }
-}
-
-#[test]
-fn a_name_is_found_in_any_case(rt: HostRuntime) -> Result<(), Fail> {
-    let [_, (pair, _)] = plants();
-    let plant = plant_of(rt.alloc(), pair)?;
-    check_names(&rt, &plant);
-    let Some(fill) = plant.types().first() else {
-        rt.panic("no program type")
-    };
-    check_names_of_type(&rt, fill);
     Ok(())
 }
