@@ -1,14 +1,15 @@
 //! One declared name to a variable (2.4.3).
 
-ghost use Rattle.std.specs.Prelude.{◌≡◌, IfOk};
+ghost use Rattle.std.specs.Prelude.{◌≡◌, ◌++◌, ◌∷◌, [], IfOk, OnOk};
 ghost use Rattle.sfc_variables.specs.Checks.{Loads};
 ghost use Rattle.sfc_variables.specs.Declarations as declarations;
-ghost use Rattle.sfc_variables.specs.Declarations.{declared_as, declared_check, initial_check};
+ghost use Rattle.sfc_variables.specs.Declarations.{declared_as, declared_check, global_check, initial_check};
 
 use crate::load_error::LoadError;
 use crate::place::fits_location;
 use crate::variable::Variable;
 use sfc_expr::literal::check_literal;
+use sfc_expr::name_table::NameTable;
 use sfc_expr::value::{Value, default_value};
 use sfc_text::tree::{Declaration, Literal};
 use sfc_tokens::location::Location;
@@ -42,9 +43,9 @@ fn initial_value(var_type: VarType, initial: &Option<Literal>) -> Result<Value, 
     }
 }
 
-/// One name of a declaration as a variable: `WrongType` where its location has another size than its type, else what is
-/// wrong with its initial value.
-pub(crate) fn declared_variable(
+// One name of a declaration as a variable: `WrongType` where its location has another size than its type, else what is
+// wrong with its initial value.
+fn declared_variable(
     alloc: Global,
     name: &Name,
     declaration: &Declaration,
@@ -64,4 +65,22 @@ pub(crate) fn declared_variable(
         location,
         initial,
     })
+}
+
+/// One name of a declaration as a variable, and among the names before it: `Duplicate` where it is one of these, else as
+/// for `declared_variable`.
+pub(crate) fn new_variable(
+    alloc: Global,
+    name: &Name,
+    declaration: &Declaration,
+    names: &mut NameTable,
+) -> Result<Variable, LoadError>
+    ensures loads { let declared : _ = declared_as declaration.now name.now in
+        Loads (λ variable. variable) result (global_check names.old declared) (declarations.variable_of declared) }
+    ensures named { OnOk result (names.new ≡ names.old ++ name.now ∷ []) }
+{
+    if !names.add(alloc, name.spelling())? {
+        return Err(LoadError::Duplicate);
+    }
+    declared_variable(alloc, name, declaration)
 }

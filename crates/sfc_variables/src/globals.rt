@@ -4,7 +4,7 @@ ghost use Rattle.std.specs.Prelude.{◌≡◌, ◌++◌, ◌∷◌, [], map, OnO
 ghost use Rattle.sfc_variables.specs.Checks.{Loads, in_turn};
 ghost use Rattle.sfc_variables.specs.Declarations.{declared_name, declared_as, declared_by, declared_in, variable_of, global_check, globals_check, globals_of};
 
-use crate::declaration::declared_variable;
+use crate::declaration::new_variable;
 use crate::load_error::LoadError;
 use crate::variable::Variable;
 use crate::variable_table::VariableTable;
@@ -32,10 +32,7 @@ fn declare_name(
         (draft.old.variables.items ++ variable_of declared ∷ []) }
     ensures named { OnOk result (draft.new.names ≡ draft.old.names ++ name.now ∷ []) }
 {
-    if !draft.names.add(alloc, name.spelling())? {
-        return Err(LoadError::Duplicate);
-    }
-    let variable = declared_variable(alloc, name, declaration)?;
+    let variable = new_variable(alloc, name, declaration, &mut draft.names)?;
     draft.variables.push(variable)?;
     Ok(())
 }

@@ -1,6 +1,6 @@
 //! The variables of a program type: its own, and the globals that it names (2.4.3, 2.5.3).
 
-use crate::declaration::declared_variable;
+use crate::declaration::new_variable;
 use crate::load_error::LoadError;
 use crate::variable::Variable;
 use crate::variable_table::VariableTable;
@@ -42,7 +42,7 @@ impl Model for OwnDraft {
     ghost invariant = { IsDraft };
 }
 
-ghost use Rattle.std.specs.Prelude.{◌≡◌, ◌∷◌, [], flat_map};
+ghost use Rattle.std.specs.Prelude.{◌≡◌, ◌++◌, ◌∷◌, [], flat_map, OnOk};
 ghost use Rattle.sfc_variables.specs.Checks.{Loads, in_turn};
 ghost use Rattle.sfc_variables.specs.Declarations.{declared_name, declared_as, declared_by, declared_in, global_check};
 ghost use Rattle.sfc_variables.specs.Own as own;
@@ -78,10 +78,7 @@ fn with_local(
         externals,
         mut names,
     } = draft;
-    if !names.add(alloc, name.spelling())? {
-        return Err(LoadError::Duplicate);
-    }
-    let variable = declared_variable(alloc, name, declaration)?;
+    let variable = new_variable(alloc, name, declaration, &mut names)?;
     locals.push(variable)?;
     local_names.add(alloc, name.spelling())?;
     Ok(OwnDraft {
@@ -110,10 +107,7 @@ fn with_external(
         mut externals,
         mut names,
     } = draft;
-    if !names.add(alloc, name.spelling())? {
-        return Err(LoadError::Duplicate);
-    }
-    let external = external_of(name, var_type, globals)?;
+    let external = new_external(alloc, name, var_type, globals, &mut names)?;
     externals.push(external)?;
     Ok(OwnDraft {
         locals,
@@ -139,6 +133,24 @@ fn external_of(
         Some(_) => Err(LoadError::WrongType),
         None => Err(LoadError::Unknown),
     }
+}
+
+// One name of a VAR_EXTERNAL block as its global, and among the names before it.
+fn new_external(
+    alloc: Global,
+    name: &Name,
+    var_type: VarType,
+    globals: &VariableTable,
+    names: &mut NameTable,
+) -> Result<GlobalId, LoadError>
+    ensures loads { let more : _ = AnExternal name.now var_type in
+        Loads (λ id. id) result (own_check globals.now names.old more) (own.global_id globals.now name.now) }
+    ensures named { OnOk result (names.new ≡ names.old ++ name.now ∷ []) }
+{
+    if !names.add(alloc, name.spelling())? {
+        return Err(LoadError::Duplicate);
+    }
+    external_of(name, var_type, globals)
 }
 
 // With all names of a declaration of a VAR block.
