@@ -19,7 +19,7 @@ enum Command {
 }
 
 /// What is run, and how it is to end. The chart is the whole of `chart`, or where there is none that of `frame`.
-#[derive(Clone, Drop)]
+#[derive(Clone)]
 pub struct Case {
     pub title: String,
     command: Command,
@@ -27,6 +27,20 @@ pub struct Case {
     frame: Frame,
     script: Vec<u8>,
     pub wanted: Ending,
+}
+
+// By hand, so that a caller that drops one proves one call.
+impl Drop for Case {
+    fn drop(self) {
+        let Case {
+            title: _,
+            command: _,
+            chart: _,
+            frame: _,
+            script: _,
+            wanted: _,
+        } = self;
+    }
 }
 
 // Adds the bytes to a text that may not have begun.

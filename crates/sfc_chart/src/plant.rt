@@ -16,7 +16,6 @@ use sfc_variables::variable_table::VariableTable;
 use std::marker::Model;
 
 /// A loaded configuration with its one resource (2.7.1). Contracts see all that the text said, as a record.
-#[derive(Drop)]
 pub struct Plant {
     pub(crate) configuration: Name,
     pub(crate) resource: Name,
@@ -29,6 +28,25 @@ pub struct Plant {
     pub(crate) instances: Items<Instance>,
     pub(crate) instance_names: NameTable,
     pub(crate) starts: Items<usize>,
+}
+
+// By hand, so that a caller that drops one proves one call.
+impl Drop for Plant {
+    fn drop(self) {
+        let Plant {
+            configuration: _,
+            resource: _,
+            processor: _,
+            globals: _,
+            tasks: _,
+            task_names: _,
+            types: _,
+            type_names: _,
+            instances: _,
+            instance_names: _,
+            starts: _,
+        } = self;
+    }
 }
 
 impl Model for Plant {

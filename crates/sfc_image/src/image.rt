@@ -32,7 +32,6 @@ use std::alloc::{AllocError, Global};
 ///
 /// Of each instance it is known what it last gave its outputs, the variables of its Boolean actions. That holds until the
 /// value of some output changes, which begins another epoch.
-#[derive(Drop)]
 pub struct Image {
     slots: Vec<Slot>,
     locals: Vec<Locals>,
@@ -44,6 +43,21 @@ pub struct Image {
     ghost tracked: { AreTracked slots.items written.items count },
     ghost within: { AreWithin (length slots.items) locals.items },
     ghost sized: { length given.items ≡ length locals.items },
+}
+
+// By hand, so that a caller that drops one proves one call.
+impl Drop for Image {
+    fn drop(self) {
+        let Image {
+            slots: _,
+            locals: _,
+            written: _,
+            count: _,
+            is_trying: _,
+            given: _,
+            epoch: _,
+        } = self;
+    }
 }
 
 #[tactic(auto, unfolding(crate::specs::Agreement::ImageAgrees))]

@@ -16,7 +16,6 @@ use std::alloc::{AllocError, Global};
 
 /// A program instance as its latest scan left it: its steps and its action control, the number of its scans, the instant
 /// of the latest, and the fault that ended a scan, if one did. The rest is room for a scan, and what a reset takes over.
-#[derive(Drop)]
 pub struct Program {
     scanner: Scanner,
     fresh: State,
@@ -25,6 +24,19 @@ pub struct Program {
     fault: Option<ScanFault>,
     ghost at_low: { pos 0 ≤ℤ at },
     ghost at_high: { at ≤ℤ pos (2 ^ 62) },
+}
+
+// By hand, so that a caller that drops one proves one call.
+impl Drop for Program {
+    fn drop(self) {
+        let Program {
+            scanner: _,
+            fresh: _,
+            scans: _,
+            at: _,
+            fault: _,
+        } = self;
+    }
 }
 
 #[tactic(auto, unfolding(crate::specs::Agreement::IsFor, crate::specs::Agreement::ProgramAgrees, crate::specs::Agreement::StateAgrees))]

@@ -7,11 +7,21 @@ use sfc_tables::tables::Tables;
 /// The tables of each program type, the variables, and each program instance.
 ///
 /// A `plant` that is passed is the one that the machine was made of.
-#[derive(Drop)]
 pub struct Machine {
     tables: Vec<Tables>,
     image: Image,
     programs: Vec<Program>,
+}
+
+// By hand, so that a caller that drops one proves one call.
+impl Drop for Machine {
+    fn drop(self) {
+        let Machine {
+            tables: _,
+            image: _,
+            programs: _,
+        } = self;
+    }
 }
 
 ghost use Rattle.std.specs.Prelude.{◌≡◌, ◌<◌, ◌≤◌, ◌≤ℤ◌, ◌^◌, ℕ, pos, All, length, map, IfOk, OnOk, OnErr};

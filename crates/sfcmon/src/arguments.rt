@@ -2,7 +2,7 @@
 
 use crate::files::end_with;
 use clap::error::ErrorKind;
-use clap::{Arg, Command, Error};
+use clap::{Arg, ArgMatches, Command, Error};
 use sfc_monitor::monitor_error::MonitorError;
 use std::alloc::{AllocError, Global};
 
@@ -135,12 +135,16 @@ fn explain_command<'a>(alloc: Global) -> Result<Command<'a>, AllocError> {
         .arg(name)
 }
 
+// The command with one more command, if that could be made.
+fn with_command<'a>(
+    command: Command<'a>,
+    more: Result<Command<'a>, AllocError>,
+) -> Result<Command<'a>, AllocError> {
+    command.subcommand(more?)
+}
+
 fn sfcmon_command<'a>(alloc: Global) -> Result<Command<'a>, AllocError> {
-    let check = check_command(alloc)?;
-    let list = list_command(alloc)?;
-    let replay = replay_command(alloc)?;
-    let explain = explain_command(alloc)?;
-    Command::new(alloc, "sfcmon")
+    let command = Command::new(alloc, "sfcmon")
         .bin_name("sfcmon")?
         .version("0.2.0")
         .about(
@@ -148,11 +152,11 @@ fn sfcmon_command<'a>(alloc: Global) -> Result<Command<'a>, AllocError> {
         )
         .after_help(NOTES)
         .subcommand_required(true)
-        .arg_required_else_help(true)
-        .subcommand(check)?
-        .subcommand(list)?
-        .subcommand(replay)?
-        .subcommand(explain)
+        .arg_required_else_help(true);
+    let command = with_command(command, check_command(alloc))?;
+    let command = with_command(command, list_command(alloc))?;
+    let command = with_command(command, replay_command(alloc))?;
+    with_command(command, explain_command(alloc))
 }
 
 // The words with a blank between any two.
@@ -178,9 +182,8 @@ fn explain_request(alloc: Global, names: Option<&[&str]>) -> Result<Request, All
     }
 }
 
-fn parsed(alloc: Global, words: &[String]) -> Result<Request, Error> {
-    let command = sfcmon_command(alloc)?;
-    let matches = command.try_get_matches_from(words)?;
+// What the words that matched ask for.
+fn request_of(alloc: Global, matches: &ArgMatches) -> Result<Request, AllocError> {
     if let Some(check) = matches.subcommand_matches("check") {
         if let Some(chart) = check.get_str("FILE") {
             let chart = String::from_str(alloc, chart)?;
@@ -201,10 +204,15 @@ fn parsed(alloc: Global, words: &[String]) -> Result<Request, Error> {
         }
     }
     if let Some(explain) = matches.subcommand_matches("explain") {
-        let request = explain_request(alloc, explain.get_strs("NAME"))?;
-        return Ok(request);
+        return explain_request(alloc, explain.get_strs("NAME"));
     }
     Ok(Request::Answered(2))
+}
+
+fn parsed(alloc: Global, words: &[String]) -> Result<Request, Error> {
+    let command = sfcmon_command(alloc)?;
+    let matches = command.try_get_matches_from(words)?;
+    Ok(request_of(alloc, &matches)?)
 }
 
 // Prints what clap has to say; the exit status.
