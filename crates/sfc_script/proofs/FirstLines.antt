@@ -1,17 +1,16 @@
 -- The first line, by its instant and its event.
-use Rattle.std.proofs.Common.{◌≡◌, ℕ, ℤ, suc, ◌<◌, ◌==◌, Bool, true, false, ◌&&◌, ◌||◌, if◌then◌else◌, List, [], ◌∷◌, ◌++◌, length, Option, Some, None, Result, refl, sym, ap, subst, ◌∙◌, arith, length-append}
+use Rattle.std.proofs.Common.{◌≡◌, ℕ, ℤ, suc, ◌<◌, ◌==◌, true, false, ◌&&◌, if◌then◌else◌, List, [], ◌∷◌, ◌++◌, length, Option, Some, None, refl, sym, ap, subst, ◌∙◌, arith, length-append}
 use Rattle.std.specs.Option.{option_map}
 use Rattle.std.proofs.lemmas.Bool.Decides.{nat_tests}
 use Rattle.sfc_tokens.specs.Scanning.DurationWords.{duration_value}
 use Rattle.sfc_chart.specs.Plants.{PlantData}
 use Rattle.sfc_events.specs.declared.event.Event.{Event}
-use Rattle.sfc_script.specs.declared.command.Line.{Line}
 use Rattle.sfc_script.specs.declared.repeated.Repeated.{Repeated}
 use Rattle.sfc_script.specs.declared.command.Line.TheVariants.{Skipped, Command, Faulty}
 use Rattle.sfc_script.specs.Lines.{in_line, begins_with_lf, lines_of, is_blank, split_before, first_word}
-use Rattle.sfc_script.specs.Commands.{timed, begins_comment, read_event, line_behind, line_of}
+use Rattle.sfc_script.specs.Commands.{timed, read_event, line_behind, line_of}
 use Rattle.sfc_script.specs.Scripts.{and_then, commands_of_lines}
-use Rattle.sfc_script.specs.Private.Splitting.{begins_with_blank, IsLine}
+use Rattle.sfc_script.specs.Private.Splitting.{begins_with_blank}
 use Rattle.sfc_script.specs.Private.Repeating.{event_first, Repeats, Keeps, Begins}
 use Rattle.sfc_script.proofs.Splits.{split_more, split_stop}
 use Rattle.sfc_script.proofs.PlainInstants.{IsPlain, ArePlain, IsInstant}
@@ -103,8 +102,8 @@ command_first plant bytes t behind event rest i e =
     let l = timed_is plant bytes t behind i in
     let o = event_by (read_event plant l.text) event l.others (lines_of rest) (sym (ap (event_first plant) l.behind_first) ∙ e) in
     λ n. ap (commands_of_lines plant n) l.first
-        ∙ ap (λ s. and_then s n (commands_of_lines plant (suc n) l.others)) (l.is ∙ ap (timed (Some t)) o.0)
-        ∙ ap (λ ls. and_then (Command event t) n (commands_of_lines plant (suc n) ls)) o.1
+    ∙ ap (λ s. and_then s n (commands_of_lines plant (suc n) l.others)) (l.is ∙ ap (timed (Some t)) o.0)
+    ∙ ap (λ ls. and_then (Command event t) n (commands_of_lines plant (suc n) ls)) o.1
 
 pub faulty_first : (plant : PlantData) (bytes : List ℕ) (t : ℤ) (behind rest : List ℕ) → IsInstant bytes t behind → event_first plant (lines_of behind) ≡ None → Begins plant bytes Faulty rest
 faulty_first plant bytes t behind rest i e =
@@ -114,11 +113,7 @@ faulty_first plant bytes t behind rest i e =
 
 -- ---- what is said again
 
--- an event that was read on a line with its end
-pub read_kept : (plant : PlantData) (tail text : List ℕ) (event : Event) → IsLine tail text → read_event plant text ≡ Some event → Repeats plant tail event
-read_kept plant tail text event line e = λ rest. ap (event_first plant) (line rest) ∙ ap (option_map (λ x. (x, lines_of rest))) e
-
--- it is not nothing
+-- what is kept is not nothing
 kept_some : (plant : PlantData) (event : Event) → Repeats plant [] event → ⊥
 kept_some plant event kept = let none : ◌≡◌ {A = Option (Event × List (List ℕ))} None (Some (event, [])) = kept [] in cc
 

@@ -5,11 +5,11 @@ ghost use Rattle.sfc_script.specs.Private.Instants as instants;
 
 use crate::split::begins_with_blank;
 
-/// Behind a number from this on no further digit is read here.
+/// Behind a number as great as this no digit is taken: it would make 10,000,000,000 or more.
 const GREAT: u64 = 1_000_000_000;
 
-// The number that the decimal digits in front are, and what follows them; None where there is no digit, and for a number
-// of more than ten digits.
+// The number that the decimal digits in front are, and what follows them; None where there are none, and where it is
+// 10,000,000,000 or more.
 fn number_first(bytes: &[u8]) -> Option<(u64, &[u8])>
     ensures value { MatchOption result (instants.number_first bytes.now ≡ None)
         (λ r. instants.number_first bytes.now ≡ Some (r.0, r.1.now)) }
@@ -47,8 +47,8 @@ fn unit_first(bytes: &[u8]) -> Option<(u64, &[u8])>
     }
 }
 
-/// The instant in front, in microseconds, and what stands behind it, which begins with a blank. None where it is not
-/// `T#`, one to ten digits and `ms` or `s`: it may be an instant all the same. It takes no memory.
+/// The instant in front, in microseconds, and what stands behind it, from a blank on. None where it is not `T#`, digits
+/// for less than 10,000,000,000, and `ms` or `s`: it may be an instant in another form. It takes no memory.
 pub fn instant(bytes: &[u8]) -> Option<(i64, &[u8])>
     ensures value { MatchOption result (instants.instant_first bytes.now ≡ None)
         (λ r. instants.instant_first bytes.now ≡ Some (r.0, r.1.now)) }

@@ -6,7 +6,7 @@
 //! - `names`: tasks, program instances and variables by their names.
 //! - `value`, `number`: values of variables, and decimal numbers.
 //! - `split`: lines and words.
-//! - `instant`, `repeated`: plain instants, and commands that are said again.
+//! - `instant`, `repeated`: instants in their plainest form, and commands that a script says again.
 #![tactic(auto)]
 
 mod command;

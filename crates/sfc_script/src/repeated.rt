@@ -1,4 +1,4 @@
-//! Commands that a script says again and again at other instants.
+//! Commands that a script says again and again, at other instants.
 
 ghost use Rattle.std.specs.Prelude.{◌≡◌, ◌<◌, length, MatchOption, IfSome, Some, None};
 ghost use Rattle.sfc_script.specs.Lines.{lines_of};
@@ -9,15 +9,17 @@ use crate::split::next_line;
 use sfc_chart::plant::Plant;
 use sfc_events::event::Event;
 
-/// A command that was read: what stands behind the instant, to the end of the line and with it, and the event.
+/// A command that was read.
 #[derive(Clone, Copy)]
 pub struct Repeated<'a> {
+    /// What stands behind the instant, with the end of the line.
     pub tail: &'a [u8],
+    /// The event that it is.
     pub event: Event,
 }
 
-/// The event that stands behind an instant, and what follows its line. Where it is what was read last, byte for byte, it
-/// is the same event; else it is read, and kept in place of that. It takes no memory.
+/// The event that stands behind an instant, and what follows its line; None where there is none. Bytes that begin with
+/// the last command are its event; else the event is read, and kept as the last where more follows. It takes no memory.
 pub fn event_behind<'a>(
     plant: &Plant,
     last: &mut Option<Repeated<'a>>,

@@ -43,8 +43,8 @@ impl<T: Drop> From<AllocFailed<T>> for ScriptError {
     }
 }
 
-// What the first line is, and what stands behind its end; None where there are no bytes. A command that was read last is
-// not read again.
+// What the first line is, and what stands behind its end; None where there are no bytes. Where it says the last command
+// again at another instant, the command is not read again.
 fn first_line<'a>(
     plant: &Plant,
     last: &mut Option<Repeated<'a>>,

@@ -3,7 +3,8 @@
 ghost use Rattle.std.specs.Prelude.{◌≡◌, ◌∷◌, ◌<◌, ◌-◌, [], length, take, MatchOption, IfSome, Some, None};
 ghost use Rattle.sfc_script.specs.Lines as lines;
 ghost use Rattle.sfc_script.specs.Lines.{split_before};
-ghost use Rattle.sfc_script.specs.Private.Splitting.{without_cr as trimmed, is_lf, begins_with_blank as starts_with_blank, IsLine};
+ghost use Rattle.sfc_script.specs.Private.Splitting as splitting;
+ghost use Rattle.sfc_script.specs.Private.Splitting.{is_lf, IsLine};
 
 fn is_blank(byte: u8) -> bool
     ensures { result ≡ lines.is_blank byte }
@@ -13,7 +14,7 @@ fn is_blank(byte: u8) -> bool
 
 /// Whether the bytes begin with a space or a tab.
 pub fn begins_with_blank(bytes: &[u8]) -> bool
-    ensures { result ≡ starts_with_blank bytes.now }
+    ensures { result ≡ splitting.begins_with_blank bytes.now }
 {
     match bytes.first() {
         Some(byte) => is_blank(*byte),
@@ -53,7 +54,7 @@ fn split_line(bytes: &[u8]) -> (&[u8], &[u8])
 
 // The line without a CR at its end.
 fn without_cr(line: &[u8]) -> &[u8]
-    ensures { result.now ≡ trimmed line.now }
+    ensures { result.now ≡ splitting.without_cr line.now }
 {
     let Some((last, front)) = line.split_last() else {
         return line;

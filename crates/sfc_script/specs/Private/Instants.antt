@@ -1,11 +1,11 @@
--- Plain instants: `T#`, decimal digits, and `ms` or `s`, before a blank.
+-- Instants in their plainest form: `T#`, decimal digits, and `ms` or `s`, before a blank.
 use Rattle.std.specs.Prelude.{ℕ, ◌+◌, ◌-◌, ◌*◌, ◌==◌, ◌||◌, ◌&&◌, nat_lt, if◌then◌else◌, List, [], ◌∷◌, Option, Some, None}
 use Rattle.std.specs.Prelude.{ℤ, pos}
 use Rattle.std.specs.Option.{option_and_then}
 use Rattle.sfc_tokens.specs.Classes.{between}
 use Rattle.sfc_script.specs.Private.Splitting.{begins_with_blank}
 
--- the digits in front, behind the number n: the number that they make, and what follows them; None for one of eleven digits or more
+-- the number that the digits in front make behind the number n, and what follows them; None where it is 10,000,000,000 or more
 abbrev pub number_from : ℕ → List ℕ → Option (ℕ × List ℕ)
 number_from n [] = Some (n, [])
 number_from n (b ∷ bytes) =
