@@ -1,15 +1,16 @@
 -- Lines, and the bytes up to a mark.
-use Rattle.std.proofs.Common.{◌≡◌, ℕ, suc, ◌<◌, ◌≤◌, ◌==◌, Bool, true, false, ◌&&◌, if◌then◌else◌, List, [], ◌∷◌, ◌++◌, length, refl, sym, ap, ◌∙◌, subst, arith}
+use Rattle.std.proofs.Common.{◌≡◌, ℕ, suc, ◌-◌, ◌<◌, ◌≤◌, ◌==◌, Bool, true, false, ◌&&◌, if◌then◌else◌, List, [], ◌∷◌, ◌++◌, length, take, refl, sym, ap, ◌∙◌, subst, arith, append_assoc, length-append}
 use Rattle.std.proofs.Math.Bool.{and-false}
 use Rattle.std.proofs.lemmas.Bool.Decides.{nat_tests}
+use Rattle.std.proofs.lemmas.List.{take_at}
 use Rattle.sfc_script.specs.Lines.{in_line, begins_with_lf, lines_of, split_before}
-use Rattle.sfc_script.specs.Private.Splitting.{without_cr, is_lf}
+use Rattle.sfc_script.specs.Private.Splitting.{without_cr, is_lf, IsLine}
 
-split_more : (p : ℕ → Bool) (b : ℕ) (bytes : List ℕ) → p b ≡ false → split_before p (b ∷ bytes) ≡ (b ∷ (split_before p bytes).0, (split_before p bytes).1)
+pub split_more : (p : ℕ → Bool) (b : ℕ) (bytes : List ℕ) → p b ≡ false → split_before p (b ∷ bytes) ≡ (b ∷ (split_before p bytes).0, (split_before p bytes).1)
 unfolding split_before
 split_more p b bytes e = ap (λ t. if t then ([], b ∷ bytes) else (b ∷ (split_before p bytes).0, (split_before p bytes).1)) e
 
-split_stop : (p : ℕ → Bool) (b : ℕ) (bytes : List ℕ) → p b ≡ true → split_before p (b ∷ bytes) ≡ ([], b ∷ bytes)
+pub split_stop : (p : ℕ → Bool) (b : ℕ) (bytes : List ℕ) → p b ≡ true → split_before p (b ∷ bytes) ≡ ([], b ∷ bytes)
 unfolding split_before
 split_stop p b bytes e = ap (λ t. if t then ([], b ∷ bytes) else (b ∷ (split_before p bytes).0, (split_before p bytes).1)) e
 
@@ -133,6 +134,52 @@ line_ended bytes line behind rest trimmed m split found cut =
     let short : length (split_before is_lf bytes).1 ≤ length bytes = behind_short is_lf bytes in
     let shorter : suc (length rest) ≤ length bytes = subst (λ r. length r ≤ length bytes) e short in
     (ended_line bytes m rest e ∙ ap (λ s. without_cr s.0 ∷ lines_of rest) (sym split) ∙ ap (λ l. l ∷ lines_of rest) (sym cut), omega arith)
+
+-- ---- a line with its end
+
+-- what was parted is the bytes
+parts_joined : (p : ℕ → Bool) (bytes : List ℕ) → (split_before p bytes).0 ++ (split_before p bytes).1 ≡ bytes
+parts_joined p [] = ap (λ s. s.0 ++ s.1) (split_nothing p)
+parts_joined p (b ∷ bytes) = by (parts_joined p bytes) (p b) refl
+  where
+    by : (split_before p bytes).0 ++ (split_before p bytes).1 ≡ bytes → (t : Bool) → p b ≡ t → (split_before p (b ∷ bytes)).0 ++ (split_before p (b ∷ bytes)).1 ≡ b ∷ bytes
+    by again true e = ap (λ s. s.0 ++ s.1) (split_stop p b bytes e)
+    by again false e = ap (λ s. s.0 ++ s.1) (split_more p b bytes e) ∙ ap (λ r. b ∷ r) again
+
+-- a line and its LF are parted there, whatever follows
+parted_again : (bytes : List ℕ) (m : ℕ) (rest more : List ℕ) → (split_before is_lf bytes).1 ≡ m ∷ rest → split_before is_lf (((split_before is_lf bytes).0 ++ m ∷ []) ++ more) ≡ ((split_before is_lf bytes).0, m ∷ more)
+parted_again [] m rest more found = absurd (nothing_behind m rest found)
+parted_again (b ∷ bytes) m rest more found = by (λ f. parted_again bytes m rest more f) (b == 10) refl
+  where
+    by : ((split_before is_lf bytes).1 ≡ m ∷ rest → split_before is_lf (((split_before is_lf bytes).0 ++ m ∷ []) ++ more) ≡ ((split_before is_lf bytes).0, m ∷ more)) → (t : Bool) → (b == 10) ≡ t
+        → split_before is_lf (((split_before is_lf (b ∷ bytes)).0 ++ m ∷ []) ++ more) ≡ ((split_before is_lf (b ∷ bytes)).0, m ∷ more)
+    by again true e =
+        let whole : b ∷ bytes ≡ m ∷ rest = sym (ap (λ s. s.1) (split_stop is_lf b bytes e)) ∙ found in
+        let same : b ≡ m = cc in
+        ap (λ s. split_before is_lf ((s.0 ++ m ∷ []) ++ more)) (split_stop is_lf b bytes e) ∙ split_stop is_lf m more (sym (ap (λ k. k == 10) same) ∙ e)
+        ∙ sym (ap (λ s. (s.0, m ∷ more)) (split_stop is_lf b bytes e))
+    by again false e =
+        ap (λ s. split_before is_lf ((s.0 ++ m ∷ []) ++ more)) (split_more is_lf b bytes e)
+        ∙ split_more is_lf b (((split_before is_lf bytes).0 ++ m ∷ []) ++ more) e
+        ∙ ap (λ s. (b ∷ s.0, s.1)) (again (behind_byte b bytes (m ∷ rest) e found))
+        ∙ sym (ap (λ s. (s.0, m ∷ more)) (split_more is_lf b bytes e))
+
+-- the bytes before what follows an LF
+cut_at : (front : List ℕ) (m : ℕ) (rest : List ℕ) → take (length (front ++ m ∷ rest) - length rest) (front ++ m ∷ rest) ≡ front ++ m ∷ []
+cut_at front m rest =
+    let parts : front ++ m ∷ rest ≡ (front ++ m ∷ []) ++ rest = sym (append_assoc front (m ∷ []) rest) in
+    let count : length (front ++ m ∷ []) ≡ length (front ++ m ∷ rest) - length rest = simp length-append (omega arith) in
+    ap (take (length (front ++ m ∷ rest) - length rest)) parts ∙ take_at (front ++ m ∷ []) rest (length (front ++ m ∷ rest) - length rest) count
+
+pub line_again : (bytes line behind rest trimmed : List ℕ) (m : ℕ) → (line, behind) ≡ split_before is_lf bytes → behind ≡ m ∷ rest → trimmed ≡ without_cr line → IsLine (take (length bytes - length rest) bytes) trimmed
+line_again bytes line behind rest trimmed m split found cut = λ more.
+    let e : (split_before is_lf bytes).1 ≡ m ∷ rest = sym (ap (λ s. s.1) split) ∙ found in
+    let whole : line ++ m ∷ rest ≡ bytes = ap (λ r. line ++ r) (sym found) ∙ ap (λ s. s.0 ++ s.1) split ∙ parts_joined is_lf bytes in
+    let front : take (length bytes - length rest) bytes ≡ line ++ m ∷ [] = ap (λ (b : List ℕ). take (length b - length rest) b) (sym whole) ∙ cut_at line m rest in
+    let again : split_before is_lf ((line ++ m ∷ []) ++ more) ≡ (line, m ∷ more) = ap (λ s. split_before is_lf ((s.0 ++ m ∷ []) ++ more)) split ∙ parted_again bytes m rest more e ∙ sym (ap (λ s. (s.0, m ∷ more)) split) in
+    ap (λ (x : List ℕ). lines_of (x ++ more)) front
+    ∙ ended_line ((line ++ m ∷ []) ++ more) m more (ap (λ s. s.1) again)
+    ∙ ap (λ s. without_cr s.0 ∷ lines_of more) again ∙ ap (λ l. l ∷ lines_of more) (sym cut)
 
 pub cr_last : (line front : List ℕ) (b : ℕ) → line ≡ front ++ b ∷ [] → (b == 13) ≡ true → front ≡ without_cr line
 cr_last line front b e h = sym (ap without_cr e ∙ without_cr-last front b ∙ ap (λ t. if t then front else front ++ b ∷ []) h)

@@ -1,3 +1,5 @@
 -- What private clauses cite.
 pub mod Splitting
 pub mod Reading
+pub mod Instants
+pub mod Repeating

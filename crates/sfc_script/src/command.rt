@@ -93,8 +93,8 @@ fn event_of(plant: &Plant, keyword: &[u8], rest: &[u8]) -> Option<Event>
     }
 }
 
-// The event that stands behind the instant of a line.
-fn read_event(plant: &Plant, text: &[u8]) -> Option<Event>
+/// The event that stands behind the instant of a line. It takes no memory.
+pub fn read_event(plant: &Plant, text: &[u8]) -> Option<Event>
     ensures { result ≡ commands.read_event plant.now text.now }
 {
     let (keyword, rest) = first_word(text)?;

@@ -6,12 +6,15 @@
 //! - `names`: tasks, program instances and variables by their names.
 //! - `value`, `number`: values of variables, and decimal numbers.
 //! - `split`: lines and words.
+//! - `instant`, `repeated`: instants in their plainest form, and commands that a script says again.
 #![tactic(auto)]
 
 mod command;
+mod instant;
 pub mod laws;
 mod names;
 mod number;
+mod repeated;
 pub mod script;
 mod split;
 mod value;

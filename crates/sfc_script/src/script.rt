@@ -1,12 +1,15 @@
 //! Scripts.
 
-ghost use Rattle.std.specs.Prelude.{◌≡◌};
+ghost use Rattle.std.specs.Prelude.{◌≡◌, ◌<◌, [], length, MatchOption};
 ghost use Rattle.sfc_script.specs.declared.script.ScriptError.TheVariants.{Memory};
 ghost use Rattle.sfc_script.specs.Lines.{lines_of};
 ghost use Rattle.sfc_script.specs.Scripts.{commands_of_lines, commands_of_script};
 ghost use Rattle.sfc_script.specs.Answers.{ReadsScript};
+ghost use Rattle.sfc_script.specs.Private.Repeating.{Keeps, Begins};
 
 use crate::command::{Line, read_line};
+use crate::instant::instant;
+use crate::repeated::{Repeated, event_behind};
 use crate::split::next_line;
 use sfc_chart::plant::Plant;
 use sfc_events::event::Event;
@@ -40,6 +43,28 @@ impl<T: Drop> From<AllocFailed<T>> for ScriptError {
     }
 }
 
+// What the first line is, and what stands behind its end; None where there are no bytes. Where it says the last command
+// again at another instant, the command is not read again.
+fn first_line<'a>(
+    plant: &Plant,
+    last: &mut Option<Repeated<'a>>,
+    bytes: &'a [u8],
+) -> Option<(Line, &'a [u8])>
+    requires { Keeps plant.now last.old }
+    ensures line { MatchOption result (bytes.now ≡ [])
+        (λ r. (Begins plant.now bytes.now r.0 r.1.now) × (length r.1.now < length bytes.now)) }
+    ensures kept { Keeps plant.now last.new }
+{
+    if let Some((t, behind)) = instant(bytes) {
+        return match event_behind(plant, last, behind) {
+            Some((event, rest)) => Some((Line::Command(event, t), rest)),
+            None => Some((Line::Faulty, behind)),
+        };
+    }
+    let (line, rest) = next_line(bytes)?;
+    Some((read_line(plant, line), rest))
+}
+
 // The commands of the lines.
 fn read_lines(alloc: Global, plant: &Plant, bytes: &[u8]) -> Result<Vec<(Event, i64)>, ScriptError>
     ensures { ReadsScript result (commands_of_lines plant.now 1 (lines_of bytes.now)) }
@@ -47,8 +72,9 @@ fn read_lines(alloc: Global, plant: &Plant, bytes: &[u8]) -> Result<Vec<(Event, 
     let mut entries = Vec::new(alloc);
     let mut number = 1;
     let mut rest = bytes;
-    'lines: while let Some((line, after)) = next_line(rest) {
-        match read_line(plant, line) {
+    let mut last = None;
+    'lines: while let Some((line, after)) = first_line(plant, &mut last, rest) {
+        match line {
             Line::Skipped => {}
             Line::Command(event, t) => entries.push((event, t))?,
             Line::Faulty => return Err(ScriptError::Faulty(number)),

@@ -1,14 +1,25 @@
 //! Lines and words of a script.
 
-ghost use Rattle.std.specs.Prelude.{◌≡◌, ◌∷◌, ◌<◌, [], length, MatchOption, Some, None};
+ghost use Rattle.std.specs.Prelude.{◌≡◌, ◌∷◌, ◌<◌, ◌-◌, [], length, take, MatchOption, IfSome, Some, None};
 ghost use Rattle.sfc_script.specs.Lines as lines;
 ghost use Rattle.sfc_script.specs.Lines.{split_before};
-ghost use Rattle.sfc_script.specs.Private.Splitting.{without_cr as trimmed, is_lf};
+ghost use Rattle.sfc_script.specs.Private.Splitting as splitting;
+ghost use Rattle.sfc_script.specs.Private.Splitting.{is_lf, IsLine};
 
 fn is_blank(byte: u8) -> bool
     ensures { result ≡ lines.is_blank byte }
 {
     byte == b' ' || byte == b'\t'
+}
+
+/// Whether the bytes begin with a space or a tab.
+pub fn begins_with_blank(bytes: &[u8]) -> bool
+    ensures { result ≡ splitting.begins_with_blank bytes.now }
+{
+    match bytes.first() {
+        Some(byte) => is_blank(*byte),
+        None => false,
+    }
 }
 
 // The bytes before the first blank, and the rest.
@@ -43,7 +54,7 @@ fn split_line(bytes: &[u8]) -> (&[u8], &[u8])
 
 // The line without a CR at its end.
 fn without_cr(line: &[u8]) -> &[u8]
-    ensures { result.now ≡ trimmed line.now }
+    ensures { result.now ≡ splitting.without_cr line.now }
 {
     let Some((last, front)) = line.split_last() else {
         return line;
@@ -51,10 +62,13 @@ fn without_cr(line: &[u8]) -> &[u8]
     if *last == b'\r' { front } else { line }
 }
 
-/// The first line, and what stands behind its end; None where there are no bytes.
+/// The first line, and what stands behind its end; None where there are no bytes. Where more follows, the bytes before
+/// it are that line in front of any others too.
 pub fn next_line(bytes: &[u8]) -> Option<(&[u8], &[u8])>
-    ensures { MatchOption result (bytes.now ≡ [])
+    ensures first { MatchOption result (bytes.now ≡ [])
         (λ r. (lines.lines_of bytes.now ≡ r.0.now ∷ lines.lines_of r.1.now) × (length r.1.now < length bytes.now)) }
+    ensures ended { IfSome result
+        (λ r. 0 < length r.1.now → IsLine (take (length bytes.now - length r.1.now) bytes.now) r.0.now) }
 {
     if bytes.is_empty() {
         return None;
