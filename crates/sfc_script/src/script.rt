@@ -18,6 +18,9 @@ use std::alloc::{AllocError, AllocFailed, Global};
 /// The most bytes of a script.
 const LONGEST: usize = 1_048_576;
 
+/// About how many bytes a command has, with its instant and the end of its line.
+const COMMAND: usize = 20;
+
 /// Why a script was refused.
 #[derive(Clone, Copy, Debug, PartialEq, Eq)]
 pub enum ScriptError {
@@ -69,7 +72,7 @@ fn first_line<'a>(
 fn read_lines(alloc: Global, plant: &Plant, bytes: &[u8]) -> Result<Vec<(Event, i64)>, ScriptError>
     ensures { ReadsScript result (commands_of_lines plant.now 1 (lines_of bytes.now)) }
 {
-    let mut entries = Vec::new(alloc);
+    let mut entries = Vec::with_capacity(alloc, bytes.len() / COMMAND)?;
     let mut number = 1;
     let mut rest = bytes;
     let mut last = None;
