@@ -80,7 +80,7 @@ unfolding grammar.priority
 priority_declares P limits = of_left (of_right (integer_declares P limits))
 
 transition_declares : (P : TokenKind → Type 0) (limits : Limits) → Gives P limits grammar.transition (OfTransition P)
-unfolding grammar.transition
+unfolding grammar.before_from grammar.before_condition grammar.transition
 transition_declares P limits =
     let name = of_maybe (OfName P) (name_declares P limits) in
     let priority = of_maybe (OfInteger P) (priority_declares P limits) in
@@ -118,7 +118,7 @@ unfolding grammar.globals
 globals_declare P limits = of_left (of_right (of_repeated (declaration_declares P limits)))
 
 task_declares : (P : TokenKind → Type 0) (limits : Limits) → Gives P limits grammar.task_line (OfTask P)
-unfolding grammar.task_line grammar.task
+unfolding grammar.task_line grammar.before_interval grammar.task
 task_declares P limits =
     of_left (of_map (of_left (of_both (λ y. OfName P y.0.0)
     (of_left (of_left (of_both (λ y. OfName P y.0)
@@ -141,7 +141,7 @@ record OfHead (P : TokenKind → Type 0) (y : (((List ℕ × List Declaration) �
   pub globals : All (OfDeclaration P) (y.0.0.0.1 ++ y.1)
 
 configuration_declares : (P : TokenKind → Type 0) (limits : Limits) → Gives P limits grammar.configuration (OfConfiguration P)
-unfolding grammar.configuration
+unfolding grammar.before_resource grammar.before_tasks grammar.configuration
 configuration_declares P limits =
     let name = name_declares P limits in
     let globals = of_gathered (OfDeclaration P) (globals_declare P limits) in

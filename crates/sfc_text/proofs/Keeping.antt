@@ -60,7 +60,7 @@ unfolding grammar.steps
 steps_keep limits = of_either (of_map (always (λ n. refl))) (of_left (of_right (names_keep limits)))
 
 transition_keeps : (limits : Limits) → Keeps limits grammar.transition (KeepsTransition limits)
-unfolding grammar.transition
+unfolding grammar.before_from grammar.before_condition grammar.transition
 transition_keeps limits =
     let some = steps_keep limits in
     of_map (of_left (of_left (of_both (λ y. (is_empty y.0.1 ≡ false) × (is_empty y.1 ≡ false))
@@ -93,7 +93,7 @@ unfolding grammar.globals
 globals_keep limits = of_left (of_right (of_repeated (declaration_keeps limits)))
 
 configuration_keeps : (limits : Limits) → Keeps limits grammar.configuration IsConfiguration
-unfolding grammar.configuration
+unfolding grammar.before_resource grammar.before_tasks grammar.configuration
 configuration_keeps limits =
     let all = of_gathered IsDeclaration (globals_keep limits) in
     of_map (of_left (of_left (of_both (λ y. All IsDeclaration (y.0.0.0.0.1 ++ y.0.1))

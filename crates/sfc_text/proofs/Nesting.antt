@@ -27,41 +27,45 @@ level_of_found None = 0
 abbrev AtLevel : ℕ → TokenKind → Type 0
 AtLevel l t = is_any (operators_at (suc l)) t ≡ true → level_of_found (make.operator_of t) ≡ l
 
+-- a test that fails doesn't hold
+failed : false ≡ true → ⊥
+failed p = absurd cc
+
 first_level : (t : TokenKind) → AtLevel 0 t
 first_level (token.Delimiter sign.Star) p = refl
 first_level (token.Delimiter sign.Slash) p = refl
 first_level (token.Keyword keyword.Mod) p = refl
-first_level _ p = absurd cc
+first_level _ p = absurd (failed p)
 
 second_level : (t : TokenKind) → AtLevel 1 t
 second_level (token.Delimiter sign.Plus) p = refl
 second_level (token.Delimiter sign.Minus) p = refl
-second_level _ p = absurd cc
+second_level _ p = absurd (failed p)
 
 third_level : (t : TokenKind) → AtLevel 2 t
 third_level (token.Delimiter sign.Less) p = refl
 third_level (token.Delimiter sign.Greater) p = refl
 third_level (token.Delimiter sign.LessOrEqual) p = refl
 third_level (token.Delimiter sign.GreaterOrEqual) p = refl
-third_level _ p = absurd cc
+third_level _ p = absurd (failed p)
 
 fourth_level : (t : TokenKind) → AtLevel 3 t
 fourth_level (token.Delimiter sign.Equal) p = refl
 fourth_level (token.Delimiter sign.NotEqual) p = refl
-fourth_level _ p = absurd cc
+fourth_level _ p = absurd (failed p)
 
 fifth_level : (t : TokenKind) → AtLevel 4 t
 fifth_level (token.Keyword keyword.And) p = refl
 fifth_level (token.Delimiter sign.Ampersand) p = refl
-fifth_level _ p = absurd cc
+fifth_level _ p = absurd (failed p)
 
 sixth_level : (t : TokenKind) → AtLevel 5 t
 sixth_level (token.Keyword keyword.Xor) p = refl
-sixth_level _ p = absurd cc
+sixth_level _ p = absurd (failed p)
 
 seventh_level : (t : TokenKind) → AtLevel 6 t
 seventh_level (token.Keyword keyword.Or) p = refl
-seventh_level _ p = absurd cc
+seventh_level _ p = absurd (failed p)
 
 each_level : (l : ℕ) → l ≤ 6 → (t : TokenKind) → AtLevel l t
 each_level zero le t = first_level t

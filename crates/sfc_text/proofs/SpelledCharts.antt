@@ -154,7 +154,7 @@ six : (a b c d e f rest : Kinds) → (a ++ b ++ c ++ d ++ e ++ f) ++ rest ≡ a 
 six a b c d e f rest = append_assoc (a ++ b ++ c ++ d ++ e) f rest ∙ (append_assoc (a ++ b ++ c ++ d) e (f ++ rest) ∙ (append_assoc (a ++ b ++ c) d (e ++ (f ++ rest)) ∙ three a b c (d ++ (e ++ (f ++ rest)))))
 
 pub transition_derives : (limits : Limits) (t : TransitionTree) (rest : Kinds) → KeepsTransition limits t → Derived limits grammar.transition (transition_tokens t ++ rest) t rest
-unfolding grammar.transition
+unfolding grammar.before_from grammar.before_condition grammar.transition
 transition_derives limits t rest h =
     let n = limits.operators in
     let In : Inner = Within limits.operators limits.depth in

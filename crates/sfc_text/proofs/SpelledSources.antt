@@ -196,7 +196,7 @@ interval_derives n In t rest = by_test (int_eq t (pos 0)) refl
         inl ((t, tt), (comma ∷ rest, ((tt, t), (time ∷ comma ∷ rest, ((tt, tt), (assign ∷ time ∷ comma ∷ rest, (word, refl, refl, refl), (assign, refl, refl, refl)), refl), (time, refl, refl, refl)), refl), (comma, refl, refl, refl)), refl)
 
 task_derives : (n : ℕ) (In : Inner) (t : Task) (rest : Kinds) → Derives n In grammar.task_line (task_tokens t ++ rest) t rest
-unfolding grammar.task_line grammar.task same_word
+unfolding grammar.task_line grammar.before_interval grammar.task same_word
 task_derives n In t rest =
     let first = token.Keyword keyword.Task in
     let named = token.Name t.name in
@@ -243,7 +243,7 @@ instances_derive n In (i ∷ is) rest h =
     subst (λ us. Derives n In (some_of grammar.instance_line grammar.instance_line) us (i ∷ is) rest) (sym (append_assoc (instance_tokens i) (flat_map instance_tokens is) rest)) ((i, is), (behind, instance_derives n In i behind, (is, items_derive n In grammar.instance_line instance_tokens (instance_derives n In) is rest, refl)), refl)
 
 pub configuration_derives : (limits : Limits) (c : Configuration) (rest : Kinds) → IsConfiguration c → Derived limits grammar.configuration (configuration_tokens c ++ rest) c rest
-unfolding grammar.configuration
+unfolding grammar.before_resource grammar.before_tasks grammar.configuration
 configuration_derives limits c rest h =
     let n = limits.operators in
     let In : Inner = Within limits.operators limits.depth in

@@ -1,5 +1,5 @@
 -- The grammar (Annex B): all productions, from single tokens up to whole texts.
-use Rattle.std.specs.Prelude.{ℕ, zero, suc, ℤ, pos, List, [], ◌∷◌, Bool, true, false, cond, nat_eq, codes}
+use Rattle.std.specs.Prelude.{ℕ, zero, suc, ℤ, pos, List, [], ◌∷◌, Bool, true, false, cond, nat_eq, Option, codes}
 use Rattle.sfc_tokens.specs.declared.delimiter.Delimiter.TheVariants as sign
 use Rattle.sfc_tokens.specs.declared.keyword.Keyword.{Keyword}
 use Rattle.sfc_tokens.specs.declared.keyword.Keyword.TheVariants as keyword
@@ -223,11 +223,18 @@ priority = sign sign.Open ▸ named (codes "PRIORITY") ▸ sign sign.Assign ▸ 
 unfoldable pub steps : Rule (List (List ℕ))
 steps = map (λ n. n ∷ []) name or (sign sign.Open ▸ names ◂ sign sign.Close)
 
+-- TRANSITION [name] ['(' PRIORITY ':=' integer ')']
+unfoldable pub before_from : Rule (Option (List ℕ) × Option ℕ)
+before_from = word keyword.Transition ▸ maybe name & maybe priority
+
+-- TRANSITION [name] ['(' PRIORITY ':=' integer ')'] FROM steps TO steps
+unfoldable pub before_condition : Rule (((Option (List ℕ) × Option ℕ) × List (List ℕ)) × List (List ℕ))
+before_condition = before_from ◂ word keyword.From & steps ◂ word keyword.To & steps
+
 -- transition ::= TRANSITION [name] ['(' PRIORITY ':=' integer ')'] FROM steps TO steps ':=' expr ';' END_TRANSITION
 unfoldable pub transition : Rule TransitionTree
 transition = map make.a_transition
-    (word keyword.Transition ▸ maybe name & maybe priority ◂ word keyword.From & steps ◂ word keyword.To & steps
-    ◂ sign sign.Assign & expression ◂ sign sign.Semicolon ◂ word keyword.EndTransition)
+    (before_condition ◂ sign sign.Assign & expression ◂ sign sign.Semicolon ◂ word keyword.EndTransition)
 
 -- action ::= ACTION name ':' {[stmt] ';'} END_ACTION
 unfoldable pub action : Rule ActionTree
@@ -257,11 +264,14 @@ single = named (codes "SINGLE") ▸ sign sign.Assign ▸ name ◂ sign sign.Comm
 unfoldable pub interval : Rule ℤ
 interval = named (codes "INTERVAL") ▸ sign sign.Assign ▸ duration ◂ sign sign.Comma
 
+-- TASK name '(' [SINGLE ':=' name ',']
+unfoldable pub before_interval : Rule (List ℕ × Option (List ℕ))
+before_interval = word keyword.Task ▸ name ◂ sign sign.Open & maybe single
+
 -- task ::= TASK name '(' [SINGLE ':=' name ','] [INTERVAL ':=' duration ','] PRIORITY ':=' integer ')'
 unfoldable pub task : Rule Task
 task = map make.a_task
-    (word keyword.Task ▸ name ◂ sign sign.Open & maybe single & else_given (pos 0) interval
-    ◂ named (codes "PRIORITY") ◂ sign sign.Assign & integer ◂ sign sign.Close)
+    (before_interval & else_given (pos 0) interval ◂ named (codes "PRIORITY") ◂ sign sign.Assign & integer ◂ sign sign.Close)
 
 -- task ';'
 unfoldable pub task_line : Rule Task
@@ -276,12 +286,19 @@ instance = map make.an_instance
 unfoldable pub instance_line : Rule Instance
 instance_line = instance ◂ sign sign.Semicolon
 
+-- CONFIGURATION name {globals}
+unfoldable pub before_resource : Rule (List ℕ × List Declaration)
+before_resource = word keyword.Configuration ▸ name & gathered globals
+
+-- CONFIGURATION name {globals} RESOURCE name ON name {globals}
+unfoldable pub before_tasks : Rule ((((List ℕ × List Declaration) × List ℕ) × List ℕ) × List Declaration)
+before_tasks = before_resource ◂ word keyword.Resource & name ◂ word keyword.On & name & gathered globals
+
 -- config ::= CONFIGURATION name {globals} RESOURCE name ON name {globals} {task ';'} inst ';' {inst ';'}
 --     END_RESOURCE END_CONFIGURATION
 unfoldable pub configuration : Rule Configuration
 configuration = map make.a_configuration
-    (word keyword.Configuration ▸ name & gathered globals ◂ word keyword.Resource & name ◂ word keyword.On & name
-    & gathered globals & repeated task_line & some_of instance_line instance_line
+    (before_tasks & repeated task_line & some_of instance_line instance_line
     ◂ word keyword.EndResource ◂ word keyword.EndConfiguration)
 
 -- source ::= {program} config {program}

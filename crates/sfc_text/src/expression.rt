@@ -4,10 +4,17 @@ use crate::tree::Literal;
 use sfc_tokens::name::Name;
 
 /// A name, with what stands behind its dot: a variable, or what a step or an action has (2.6.2, 2.6.4.5).
-#[derive(Debug, Drop)]
+#[derive(Debug)]
 pub struct Variable {
     pub name: Name,
     pub part: Option<Name>,
+}
+
+// By hand, so that a caller that drops one proves one call.
+impl Drop for Variable {
+    fn drop(self) {
+        let Variable { name: _, part: _ } = self;
+    }
 }
 
 /// The operators of two operands (3.3.1).
@@ -30,11 +37,24 @@ pub enum Operator {
 }
 
 /// An expression. The sign of an integer without a type belongs to its literal; each other minus is an operator.
-#[derive(Debug, Drop)]
+#[derive(Debug)]
 pub enum Expression {
     Literal(Literal),
     Variable(Variable),
     Not(Box<Expression>),
     Minus(Box<Expression>),
     Binary(Operator, Box<Expression>, Box<Expression>),
+}
+
+// By hand, so that a caller that drops one proves one call.
+impl Drop for Expression {
+    fn drop(self) {
+        match self {
+            Expression::Literal(_) => {}
+            Expression::Variable(_) => {}
+            Expression::Not(_) => {}
+            Expression::Minus(_) => {}
+            Expression::Binary(_, _, _) => {}
+        }
+    }
 }

@@ -4,7 +4,7 @@ use crate::expression::{Expression, Variable};
 
 /// A statement.
 #[cycle(statement)]
-#[derive(Debug, Drop)]
+#[derive(Debug)]
 pub enum Statement {
     /// The variable takes the value of the expression.
     Assign(Variable, Expression),
@@ -12,12 +12,34 @@ pub enum Statement {
     If(Vec<Branch>),
 }
 
+// By hand, so that a caller that drops one proves one call.
+impl Drop for Statement {
+    #[cycle(statement)]
+    fn drop(self) {
+        match self {
+            Statement::Assign(_, _) => {}
+            Statement::If(_) => {}
+        }
+    }
+}
+
 /// A branch of an IF statement.
 #[cycle(statement)]
-#[derive(Debug, Drop)]
+#[derive(Debug)]
 pub enum Branch {
     /// The condition, and the statements behind THEN.
     When(Expression, Vec<Statement>),
     /// The statements behind ELSE.
     Otherwise(Vec<Statement>),
+}
+
+// By hand, so that a caller that drops one proves one call.
+impl Drop for Branch {
+    #[cycle(statement)]
+    fn drop(self) {
+        match self {
+            Branch::When(_, _) => {}
+            Branch::Otherwise(_) => {}
+        }
+    }
 }

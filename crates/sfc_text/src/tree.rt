@@ -13,10 +13,20 @@ use sfc_tokens::time_value::TimeValue;
 use sfc_tokens::var_type::VarType;
 
 /// A whole text: program types, and one configuration among them.
-#[derive(Debug, Drop)]
+#[derive(Debug)]
 pub struct Source {
     pub programs: Items<Program>,
     pub configuration: Configuration,
+}
+
+// By hand, so that a caller that drops one proves one call.
+impl Drop for Source {
+    fn drop(self) {
+        let Source {
+            programs: _,
+            configuration: _,
+        } = self;
+    }
 }
 
 /// A program type (2.5.3): its variables, and the elements of its chart in text order (2.6).
@@ -84,15 +94,26 @@ pub struct Step {
 }
 
 /// An action block's line (2.6.4.3): which action, how it goes with the step, and its indicator variables.
-#[derive(Debug, Drop)]
+#[derive(Debug)]
 pub struct Association {
     pub action: Name,
     pub qualifier: Qualifier,
     pub indicators: Items<Name>,
 }
 
+// By hand, so that a caller that drops one proves one call.
+impl Drop for Association {
+    fn drop(self) {
+        let Association {
+            action: _,
+            qualifier: _,
+            indicators: _,
+        } = self;
+    }
+}
+
 /// The qualifier of an association (2.6.4.4).
-#[derive(Debug, Drop)]
+#[derive(Debug)]
 pub enum Qualifier {
     /// N, not stored; it is also what a qualifier left out means.
     NonStored,
@@ -108,6 +129,21 @@ pub enum Qualifier {
     FallingPulse,
     /// One of the qualifiers with a time.
     Timed(TimedQualifier, AssociationTime),
+}
+
+// By hand, so that a caller that drops one proves one call.
+impl Drop for Qualifier {
+    fn drop(self) {
+        match self {
+            Qualifier::NonStored => {}
+            Qualifier::Reset => {}
+            Qualifier::Set => {}
+            Qualifier::Pulse => {}
+            Qualifier::RisingPulse => {}
+            Qualifier::FallingPulse => {}
+            Qualifier::Timed(_, _) => {}
+        }
+    }
 }
 
 /// The qualifiers with a time (2.6.4.4).
@@ -126,10 +162,20 @@ pub enum TimedQualifier {
 }
 
 /// The time of an association: written there, or the value of a variable.
-#[derive(Debug, Drop)]
+#[derive(Debug)]
 pub enum AssociationTime {
     Literal(TimeValue),
     Variable(Name),
+}
+
+// By hand, so that a caller that drops one proves one call.
+impl Drop for AssociationTime {
+    fn drop(self) {
+        match self {
+            AssociationTime::Literal(_) => {}
+            AssociationTime::Variable(_) => {}
+        }
+    }
 }
 
 /// A transition from its preceding to its following steps (2.6.3); there is at least one on each side.
@@ -152,7 +198,7 @@ pub struct Action {
 }
 
 /// A task (2.7.2): what starts it once at each rise, its interval, which is 0 where none was written, and its priority.
-#[derive(Debug, Drop)]
+#[derive(Debug)]
 pub struct Task {
     pub name: Name,
     pub single: Option<Name>,
@@ -160,16 +206,39 @@ pub struct Task {
     pub priority: u32,
 }
 
+// By hand, so that a caller that drops one proves one call.
+impl Drop for Task {
+    fn drop(self) {
+        let Task {
+            name: _,
+            single: _,
+            interval: _,
+            priority: _,
+        } = self;
+    }
+}
+
 /// A program instance, with the task that it was given to (2.7.2).
-#[derive(Debug, Drop)]
+#[derive(Debug)]
 pub struct Instance {
     pub name: Name,
     pub task: Option<Name>,
     pub program: Name,
 }
 
+// By hand, so that a caller that drops one proves one call.
+impl Drop for Instance {
+    fn drop(self) {
+        let Instance {
+            name: _,
+            task: _,
+            program: _,
+        } = self;
+    }
+}
+
 /// A configuration with its one resource (2.7.1): the global variables of both levels, in text order.
-#[derive(Debug, Drop)]
+#[derive(Debug)]
 pub struct Configuration {
     pub name: Name,
     pub resource: Name,
@@ -177,4 +246,18 @@ pub struct Configuration {
     pub globals: Items<Declaration>,
     pub tasks: Items<Task>,
     pub instances: Items<Instance>,
+}
+
+// By hand, so that a caller that drops one proves one call.
+impl Drop for Configuration {
+    fn drop(self) {
+        let Configuration {
+            name: _,
+            resource: _,
+            processor: _,
+            globals: _,
+            tasks: _,
+            instances: _,
+        } = self;
+    }
 }

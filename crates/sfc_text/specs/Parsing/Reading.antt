@@ -6,6 +6,7 @@ use Rattle.sfc_tokens.specs.declared.token.TokenKind.{TokenKind}
 use Rattle.sfc_tokens.specs.Tokens.{Kinds, kinds}
 use Rattle.sfc_text.specs.declared.parse.fault.ParseFault.{ParseFault}
 use Rattle.sfc_text.specs.declared.parse.fault.ParseFault.TheVariants as fault
+use Rattle.sfc_text.specs.declared.tree.Declaration.{Declaration}
 use Rattle.sfc_text.specs.Marks.{Marks, is_any}
 use Rattle.sfc_text.specs.Sorts.{Sort, Sorted}
 use Rattle.sfc_text.specs.Rules.{Rule, token, nothing, map, both, either, many, chain, ahead, inner, counted}
@@ -101,6 +102,11 @@ behind front r = made (λ xs. front ++ xs) r
 -- the names of a declaration with the first one before them
 abbrev pub with_first : List ℕ → Place → Place
 with_first first place = (first ∷ place.0, place.1)
+
+-- the names of a configuration, and the globals of both levels in one list
+abbrev pub in_one_list :
+    (((List ℕ × List Declaration) × List ℕ) × List ℕ) × List Declaration → ((List ℕ × List ℕ) × List ℕ) × List Declaration
+in_one_list x = (((x.0.0.0.0, x.0.0.1), x.0.1), x.0.0.0.1 ++ x.1)
 
 -- one after the other
 abbrev pub pair : {A B : Type 0} → (Kinds → Read (A × Kinds)) → (Kinds → Read (B × Kinds)) → Kinds → Read ((A × B) × Kinds)

@@ -1,6 +1,6 @@
 -- The items of lists take a token each.
 use Rattle.std.specs.Prelude.{◌≡◌, false, refl}
-use Rattle.sfc_text.specs.Grammar.{further_name, names, declaration, external, variables, association, association_line, element, step, transition, action, program, task, task_line, instance, instance_line}
+use Rattle.sfc_text.specs.Grammar.{further_name, names, declaration, external, variables, association, association_line, element, step, before_from, before_condition, transition, action, program, before_interval, task, task_line, instance, instance_line}
 use Rattle.sfc_text.specs.Parsing.Lookahead.{empty}
 
 pub further_name_takes : empty further_name ≡ false
@@ -24,7 +24,7 @@ unfolding association_line association
 association_takes = refl
 
 pub element_takes : empty element ≡ false
-unfolding element step transition action
+unfolding element step before_from before_condition transition action
 element_takes = refl
 
 pub program_takes : empty program ≡ false
@@ -32,7 +32,7 @@ unfolding program
 program_takes = refl
 
 pub task_takes : empty task_line ≡ false
-unfolding task_line task
+unfolding task_line before_interval task
 task_takes = refl
 
 pub instance_takes : empty instance_line ≡ false

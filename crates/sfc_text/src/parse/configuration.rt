@@ -6,7 +6,7 @@ ghost use Rattle.sfc_text.specs.declared.tree.Instance.{Instance as InstanceValu
 ghost use Rattle.sfc_text.specs.declared.tree.Task.{Task as TaskValue};
 ghost use Rattle.sfc_text.specs.Grammar as grammar;
 ghost use Rattle.sfc_text.specs.Parsing.Depth.{reads};
-ghost use Rattle.sfc_text.specs.Parsing.Reading.{Gives, behind, view, view_by};
+ghost use Rattle.sfc_text.specs.Parsing.Reading.{Gives, behind, in_one_list, made, view, view_by};
 ghost use Rattle.sfc_text.specs.Parsing.Takes.{task_takes, instance_takes};
 ghost use Rattle.sfc_text.specs.Terms.{else_given, gathered, maybe, some_of, ◌▸◌, ◌◂◌};
 ghost use Rattle.sfc_text.specs.Terms as terms;
@@ -73,25 +73,56 @@ fn task_priority(tokens: &[Token]) -> Result<(u32, &[Token]), ParseFault>
     Ok((priority, tokens))
 }
 
-// A task.
-#[tactic(auto, unfolding(crate::specs::Grammar::task))]
-fn task(alloc: Global, tokens: &[Token]) -> Result<(Task, &[Token]), ParseFault>
-    ensures { Gives view result (reads grammar.task (kinds tokens.now)) }
+// What stands before the interval of a task.
+struct Called {
+    name: Name,
+    single: Option<Name>,
+}
+
+// By hand, so that a caller that drops one proves one call.
+impl Drop for Called {
+    fn drop(self) {
+        let Called { name: _, single: _ } = self;
+    }
+}
+
+impl Called {
+    // The task with this interval and this priority.
+    fn into_task(self, interval: TimeValue, priority: u32) -> Task
+        ensures { result ≡ record { name = self.name; single = self.single; interval = interval; priority = priority } }
+    {
+        let Called { name, single } = self;
+        Task {
+            name,
+            single,
+            interval,
+            priority,
+        }
+    }
+}
+
+// A task up to its interval.
+#[tactic(auto, unfolding(crate::specs::Grammar::before_interval))]
+fn before_interval(alloc: Global, tokens: &[Token]) -> Result<(Called, &[Token]), ParseFault>
+    ensures { Gives (view_by (λ called. (called.name, called.single))) result (reads grammar.before_interval (kinds tokens.now)) }
 {
     let tokens = word(tokens, Keyword::Task)?;
     let (name, tokens) = name(alloc, tokens)?;
     let tokens = sign(tokens, Delimiter::Open)?;
     let (single, tokens) = maybe_single(alloc, tokens)?;
+    Ok((Called { name, single }, tokens))
+}
+
+// A task.
+#[tactic(auto, unfolding(crate::specs::Grammar::task))]
+fn task(alloc: Global, tokens: &[Token]) -> Result<(Task, &[Token]), ParseFault>
+    ensures { Gives view result (reads grammar.task (kinds tokens.now)) }
+{
+    let (called, tokens) = before_interval(alloc, tokens)?;
     match maybe_interval(tokens) {
         Ok((interval, tokens)) => {
             let (priority, tokens) = task_priority(tokens)?;
-            let task = Task {
-                name,
-                single,
-                interval,
-                priority,
-            };
-            Ok((task, tokens))
+            Ok((called.into_task(interval, priority), tokens))
         }
         Err(fault) => Err(fault),
     }
@@ -106,7 +137,7 @@ impl Item for Task {
 
     ghost rule = { grammar.task_line };
 
-    #[tactic(auto, unfolding(crate::specs::Grammar::task_line, crate::specs::Grammar::task))]
+    #[tactic(auto, unfolding(crate::specs::Grammar::task_line, crate::specs::Grammar::before_interval, crate::specs::Grammar::task))]
     fn begins(tokens: &[Token]) -> bool {
         begins_word(tokens, Keyword::Task)
     }
@@ -228,6 +259,89 @@ fn all_globals(
     Ok((found, rest))
 }
 
+// The name of a configuration, and its own global variables.
+struct Level {
+    name: Name,
+    globals: Vec<Declaration>,
+}
+
+// What stands before the tasks of a configuration.
+struct Head {
+    name: Name,
+    resource: Name,
+    processor: Name,
+    globals: Vec<Declaration>,
+}
+
+// By hand, so that a caller that drops one proves one call.
+impl Drop for Head {
+    fn drop(self) {
+        let Head {
+            name: _,
+            resource: _,
+            processor: _,
+            globals: _,
+        } = self;
+    }
+}
+
+impl Head {
+    // The configuration with these tasks and instances.
+    fn with_contents(self, tasks: Items<Task>, instances: Items<Instance>) -> Configuration
+        ensures { result ≡ record { name = self.name; resource = self.resource; processor = self.processor; globals = self.globals.items; tasks = tasks; instances = instances } }
+    {
+        let Head {
+            name,
+            resource,
+            processor,
+            globals,
+        } = self;
+        Configuration {
+            name,
+            resource,
+            processor,
+            globals: Items::from_vec(globals),
+            tasks,
+            instances,
+        }
+    }
+}
+
+// A configuration up to RESOURCE.
+#[tactic(auto, unfolding(crate::specs::Grammar::before_resource))]
+fn before_resource(alloc: Global, tokens: &[Token]) -> Result<(Level, &[Token]), ParseFault>
+    ensures { Gives (view_by (λ level. (level.name, level.globals.items))) result (reads grammar.before_resource (kinds tokens.now)) }
+{
+    let tokens = word(tokens, Keyword::Configuration)?;
+    let (name, tokens) = name(alloc, tokens)?;
+    let (globals, tokens) = all_globals(alloc, Vec::new(alloc), tokens)?;
+    Ok((Level { name, globals }, tokens))
+}
+
+// A configuration up to its tasks.
+#[tactic(auto, unfolding(crate::specs::Grammar::before_tasks))]
+fn before_tasks(alloc: Global, tokens: &[Token]) -> Result<(Head, &[Token]), ParseFault>
+    ensures { Gives (view_by (λ head. (((head.name, head.resource), head.processor), head.globals.items))) result (made in_one_list (reads grammar.before_tasks (kinds tokens.now))) }
+{
+    let (level, tokens) = before_resource(alloc, tokens)?;
+    let Level {
+        name: name_of_it,
+        globals,
+    } = level;
+    let tokens = word(tokens, Keyword::Resource)?;
+    let (resource, tokens) = name(alloc, tokens)?;
+    let tokens = word(tokens, Keyword::On)?;
+    let (processor, tokens) = name(alloc, tokens)?;
+    let (globals, tokens) = all_globals(alloc, globals, tokens)?;
+    let head = Head {
+        name: name_of_it,
+        resource,
+        processor,
+        globals,
+    };
+    Ok((head, tokens))
+}
+
 /// The configuration.
 #[tactic(auto, unfolding(crate::specs::Grammar::configuration))]
 pub fn configuration(
@@ -236,25 +350,10 @@ pub fn configuration(
 ) -> Result<(Configuration, &[Token]), ParseFault>
     ensures { Gives view result (reads grammar.configuration (kinds tokens.now)) }
 {
-    let tokens = word(tokens, Keyword::Configuration)?;
-    let (name_of_it, tokens) = name(alloc, tokens)?;
-    let (globals, tokens) = all_globals(alloc, Vec::new(alloc), tokens)?;
-    let tokens = word(tokens, Keyword::Resource)?;
-    let (resource, tokens) = name(alloc, tokens)?;
-    let tokens = word(tokens, Keyword::On)?;
-    let (processor, tokens) = name(alloc, tokens)?;
-    let (globals, tokens) = all_globals(alloc, globals, tokens)?;
+    let (head, tokens) = before_tasks(alloc, tokens)?;
     let (tasks, tokens) = list(alloc, tokens)?;
     let (instances, tokens) = instances(alloc, tokens)?;
     let tokens = word(tokens, Keyword::EndResource)?;
     let tokens = word(tokens, Keyword::EndConfiguration)?;
-    let configuration = Configuration {
-        name: name_of_it,
-        resource,
-        processor,
-        globals: Items::from_vec(globals),
-        tasks,
-        instances,
-    };
-    Ok((configuration, tokens))
+    Ok((head.with_contents(tasks, instances), tokens))
 }

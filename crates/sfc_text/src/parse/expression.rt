@@ -1,13 +1,16 @@
 //! Expressions (B.3.1).
 
-ghost use Rattle.std.specs.Prelude.{◌≡◌, ◌≤◌, ◌<◌, ◌-◌, ◌+◌};
+ghost use Rattle.std.specs.Prelude.{◌≡◌, ◌≤◌, ◌<◌, ◌-◌, ◌+◌, IfOk};
 ghost use Rattle.sfc_tokens.specs.Tokens.{kinds};
 ghost use Rattle.sfc_text.specs.Grammar as grammar;
 ghost use Rattle.sfc_text.specs.Parsing.Counting.{Counts, CountsPair};
 ghost use Rattle.sfc_text.specs.Parsing.Depth.{at, inside, reads};
 ghost use Rattle.sfc_text.specs.Parsing.Reading.{Gives, pair, view, view_by};
 ghost use Rattle.sfc_text.specs.Sorts.{AnExpression, AnOperand};
-ghost use Rattle.sfc_text.specs.Trees.{tree_of, operators};
+ghost use Rattle.sfc_text.specs.Terms as terms;
+ghost use Rattle.sfc_text.specs.Terms.{maybe, ◌▸◌};
+ghost use Rattle.sfc_text.specs.Trees.{Binary, tree_of, operators};
+ghost use Rattle.sfc_tokens.specs.declared.delimiter.Delimiter.TheVariants as delimiter;
 
 use crate::expression::{Expression, Operator, Variable};
 use crate::parse::fault::ParseFault;
@@ -17,8 +20,9 @@ use crate::parse::terminal::{
 };
 use sfc_tokens::delimiter::Delimiter;
 use sfc_tokens::keyword::Keyword;
+use sfc_tokens::name::Name;
 use sfc_tokens::token::{Token, TokenKind};
-use std::alloc::Global;
+use std::alloc::{AllocError, Global};
 
 /// How many operators one expression has at most (our choice).
 const MOST_OPERATORS: u16 = 256;
@@ -51,26 +55,27 @@ impl Room {
     }
 }
 
+// What of a step or an action is meant, where something is.
+fn maybe_part(alloc: Global, tokens: &[Token]) -> Result<(Option<Name>, &[Token]), ParseFault>
+    ensures { Gives view result (reads (maybe (terms.sign delimiter.Dot ▸ grammar.name)) (kinds tokens.now)) }
+{
+    if begins_sign(tokens, Delimiter::Dot) {
+        let tokens = sign(tokens, Delimiter::Dot)?;
+        let (part, tokens) = name(alloc, tokens)?;
+        Ok((Some(part), tokens))
+    } else {
+        Ok((None, tokens))
+    }
+}
+
 /// A variable, or what a step or an action has, and what follows it.
 #[tactic(auto, unfolding(crate::specs::Grammar::variable))]
 pub fn variable(alloc: Global, tokens: &[Token]) -> Result<(Variable, &[Token]), ParseFault>
     ensures { Gives view result (reads grammar.variable (kinds tokens.now)) }
 {
-    let (name_of_it, tokens) = name(alloc, tokens)?;
-    if !begins_sign(tokens, Delimiter::Dot) {
-        let variable = Variable {
-            name: name_of_it,
-            part: None,
-        };
-        return Ok((variable, tokens));
-    }
-    let tokens = sign(tokens, Delimiter::Dot)?;
-    let (part, tokens) = name(alloc, tokens)?;
-    let variable = Variable {
-        name: name_of_it,
-        part: Some(part),
-    };
-    Ok((variable, tokens))
+    let (name, tokens) = name(alloc, tokens)?;
+    let (part, tokens) = maybe_part(alloc, tokens)?;
+    Ok((Variable { name, part }, tokens))
 }
 
 // An expression in parentheses, one level of nesting further in.
@@ -232,6 +237,20 @@ fn unary(alloc: Global, tokens: &[Token], room: Room) -> Result<(Counted, &[Toke
     }
 }
 
+// Two expressions with an operator between them.
+fn binary(
+    alloc: Global,
+    operator: Operator,
+    left: Expression,
+    right: Expression,
+) -> Result<Expression, AllocError>
+    ensures { IfOk result (λ tree. tree_of tree ≡ Binary operator (tree_of left) (tree_of right)) }
+{
+    let left = Box::new(alloc, left)?;
+    let right = Box::new(alloc, right)?;
+    Ok(Expression::Binary(operator, left, right))
+}
+
 // An operator of the level and its right operand, which are counted.
 #[cycle(expression)]
 fn operand(
@@ -279,9 +298,7 @@ fn joined(
             level,
             room.after_operators(operators + 1),
         )?;
-        let left = Box::new(alloc, tree)?;
-        let right = Box::new(alloc, second.tree)?;
-        tree = Expression::Binary(operator, left, right);
+        tree = binary(alloc, operator, tree, second.tree)?;
         operators += second.operators + 1;
         rest = behind;
     }

@@ -3,14 +3,17 @@
 ghost use Rattle.std.specs.Prelude.{◌≡◌, refl};
 ghost use Rattle.sfc_tokens.specs.Tokens.{kinds};
 ghost use Rattle.sfc_text.specs.declared.tree.Association.{Association as Value};
-ghost use Rattle.sfc_text.specs.declared.tree.Qualifier.TheVariants.{NonStored};
+ghost use Rattle.sfc_text.specs.declared.tree.Qualifier.TheVariants.{NonStored, Timed};
 ghost use Rattle.sfc_text.specs.Building as make;
 ghost use Rattle.sfc_text.specs.Grammar as grammar;
 ghost use Rattle.sfc_text.specs.Parsing.Depth.{reads};
 ghost use Rattle.sfc_text.specs.Parsing.Lookahead.{begins, first};
 ghost use Rattle.sfc_text.specs.Parsing.Reading.{Gives, view};
 ghost use Rattle.sfc_text.specs.Parsing.Takes.{association_takes};
-ghost use Rattle.sfc_text.specs.Terms.{else_given};
+ghost use Rattle.sfc_text.specs.Rules.{both};
+ghost use Rattle.sfc_text.specs.Terms as terms;
+ghost use Rattle.sfc_text.specs.Terms.{else_given, ◌◂◌};
+ghost use Rattle.sfc_tokens.specs.declared.delimiter.Delimiter.TheVariants as delimiter;
 
 use crate::parse::fault::ParseFault;
 use crate::parse::list::{Item, list};
@@ -80,36 +83,60 @@ fn association_time(
     }
 }
 
-// A qualifier, with its time where it has one.
-#[tactic(auto, unfolding(crate::specs::Grammar::qualifier, crate::specs::Grammar::plain, crate::specs::Grammar::timed))]
-fn qualifier(alloc: Global, tokens: &[Token]) -> Result<(Qualifier, &[Token]), ParseFault>
-    ensures { Gives view result (reads grammar.qualifier (kinds tokens.now)) }
+// A qualifier without a time.
+#[tactic(auto, unfolding(crate::specs::Grammar::plain))]
+fn plain(tokens: &[Token]) -> Result<(Qualifier, &[Token]), ParseFault>
+    ensures { Gives view result (reads grammar.plain (kinds tokens.now)) }
 {
-    let (word, rest) = match tokens {
+    match tokens {
         [
             Token {
                 kind: TokenKind::Name(found),
                 ..
             },
             rest @ ..,
-        ] => (found.spelling(), rest),
-        _ => return Err(syntax(tokens)),
-    };
-    if let Some(qualifier) = plain_qualifier(word) {
-        return Ok((qualifier, rest));
+        ] => match plain_qualifier(found.spelling()) {
+            Some(qualifier) => Ok((qualifier, rest)),
+            None => Err(syntax(tokens)),
+        },
+        _ => Err(syntax(tokens)),
     }
-    let Some(timed) = timed_qualifier(word) else {
-        return Err(syntax(tokens));
-    };
-    let rest = sign(rest, Delimiter::Comma)?;
-    let (time, rest) = association_time(alloc, rest)?;
-    Ok((Qualifier::Timed(timed, time), rest))
 }
 
-// Whether a qualifier stands first.
-#[tactic(auto, unfolding(crate::specs::Grammar::qualifier, crate::specs::Grammar::plain, crate::specs::Grammar::timed))]
-fn begins_qualifier(tokens: &[Token]) -> bool
-    ensures { result ≡ begins (first grammar.qualifier) (kinds tokens.now) }
+// The word of a qualifier with a time.
+#[tactic(auto, unfolding(crate::specs::Grammar::timed))]
+fn timed(tokens: &[Token]) -> Result<(TimedQualifier, &[Token]), ParseFault>
+    ensures { Gives view result (reads grammar.timed (kinds tokens.now)) }
+{
+    match tokens {
+        [
+            Token {
+                kind: TokenKind::Name(found),
+                ..
+            },
+            rest @ ..,
+        ] => match timed_qualifier(found.spelling()) {
+            Some(qualifier) => Ok((qualifier, rest)),
+            None => Err(syntax(tokens)),
+        },
+        _ => Err(syntax(tokens)),
+    }
+}
+
+// A qualifier with its time.
+fn with_time(alloc: Global, tokens: &[Token]) -> Result<(Qualifier, &[Token]), ParseFault>
+    ensures { Gives view result (reads (both Timed (grammar.timed ◂ terms.sign delimiter.Comma) grammar.association_time) (kinds tokens.now)) }
+{
+    let (timed, tokens) = timed(tokens)?;
+    let tokens = sign(tokens, Delimiter::Comma)?;
+    let (time, tokens) = association_time(alloc, tokens)?;
+    Ok((Qualifier::Timed(timed, time), tokens))
+}
+
+// Whether a qualifier without a time stands first.
+#[tactic(auto, unfolding(crate::specs::Grammar::plain))]
+fn begins_plain(tokens: &[Token]) -> bool
+    ensures { result ≡ begins (first grammar.plain) (kinds tokens.now) }
 {
     match tokens {
         [
@@ -118,12 +145,46 @@ fn begins_qualifier(tokens: &[Token]) -> bool
                 ..
             },
             ..
-        ] => {
-            let word = found.spelling();
-            plain_qualifier(word).is_some() || timed_qualifier(word).is_some()
-        }
+        ] => plain_qualifier(found.spelling()).is_some(),
         _ => false,
     }
+}
+
+// Whether a qualifier with a time stands first.
+#[tactic(auto, unfolding(crate::specs::Grammar::timed))]
+fn begins_timed(tokens: &[Token]) -> bool
+    ensures { result ≡ begins (first grammar.timed) (kinds tokens.now) }
+{
+    match tokens {
+        [
+            Token {
+                kind: TokenKind::Name(found),
+                ..
+            },
+            ..
+        ] => timed_qualifier(found.spelling()).is_some(),
+        _ => false,
+    }
+}
+
+// A qualifier, with its time where it has one.
+#[tactic(auto, unfolding(crate::specs::Grammar::qualifier))]
+fn qualifier(alloc: Global, tokens: &[Token]) -> Result<(Qualifier, &[Token]), ParseFault>
+    ensures { Gives view result (reads grammar.qualifier (kinds tokens.now)) }
+{
+    if begins_plain(tokens) {
+        plain(tokens)
+    } else {
+        with_time(alloc, tokens)
+    }
+}
+
+// Whether a qualifier stands first.
+#[tactic(auto, unfolding(crate::specs::Grammar::qualifier, crate::specs::Grammar::plain, crate::specs::Grammar::timed))]
+fn begins_qualifier(tokens: &[Token]) -> bool
+    ensures { result ≡ begins (first grammar.qualifier) (kinds tokens.now) }
+{
+    begins_plain(tokens) || begins_timed(tokens)
 }
 
 // A qualifier, or N where it is left out.

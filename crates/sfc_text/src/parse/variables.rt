@@ -5,14 +5,17 @@ ghost use Rattle.sfc_tokens.specs.Tokens.{kinds};
 ghost use Rattle.sfc_text.specs.declared.tree.Declaration.{Declaration as Value};
 ghost use Rattle.sfc_text.specs.declared.tree.External.{External as ExternalValue};
 ghost use Rattle.sfc_text.specs.declared.tree.VariableBlock.{VariableBlock as BlockValue};
+ghost use Rattle.sfc_text.specs.declared.tree.VariableBlock.TheVariants as block;
 ghost use Rattle.sfc_text.specs.Grammar as grammar;
 ghost use Rattle.sfc_text.specs.Lists.{is_empty};
 ghost use Rattle.sfc_text.specs.Parsing.Depth.{reads};
 ghost use Rattle.sfc_text.specs.Parsing.Reading.{Gives, behind, made, view, view_by, with_first};
 ghost use Rattle.sfc_text.specs.Parsing.Takes.{further_name_takes, declaration_takes, external_takes, variables_takes};
+ghost use Rattle.sfc_text.specs.Rules.{map};
 ghost use Rattle.sfc_text.specs.Terms as terms;
-ghost use Rattle.sfc_text.specs.Terms.{maybe, ◌▸◌};
+ghost use Rattle.sfc_text.specs.Terms.{maybe, repeated, ◌▸◌, ◌◂◌};
 ghost use Rattle.sfc_tokens.specs.declared.delimiter.Delimiter.TheVariants as delimiter;
+ghost use Rattle.sfc_tokens.specs.declared.keyword.Keyword.TheVariants as reserved;
 
 use crate::parse::fault::ParseFault;
 use crate::parse::list::{Item, list, list_behind};
@@ -203,6 +206,26 @@ impl Item for External {
     ghost one_more = { λ found item. refl };
 }
 
+// A block of variables of the program type itself.
+fn locals(alloc: Global, tokens: &[Token]) -> Result<(VariableBlock, &[Token]), ParseFault>
+    ensures { Gives view result (reads (map block.Local (terms.word reserved.Var ▸ repeated grammar.declaration ◂ terms.word reserved.EndVar)) (kinds tokens.now)) }
+{
+    let tokens = word(tokens, Keyword::Var)?;
+    let (declarations, tokens) = list(alloc, tokens)?;
+    let tokens = word(tokens, Keyword::EndVar)?;
+    Ok((VariableBlock::Local(declarations), tokens))
+}
+
+// A block of global variables that the program type names.
+fn externals(alloc: Global, tokens: &[Token]) -> Result<(VariableBlock, &[Token]), ParseFault>
+    ensures { Gives view result (reads (map block.External (terms.word reserved.VarExternal ▸ repeated grammar.external ◂ terms.word reserved.EndVar)) (kinds tokens.now)) }
+{
+    let tokens = word(tokens, Keyword::VarExternal)?;
+    let (externals, tokens) = list(alloc, tokens)?;
+    let tokens = word(tokens, Keyword::EndVar)?;
+    Ok((VariableBlock::External(externals), tokens))
+}
+
 impl Item for VariableBlock {
     ghost Tree = { BlockValue };
 
@@ -220,15 +243,10 @@ impl Item for VariableBlock {
     #[tactic(auto, unfolding(crate::specs::Grammar::variables))]
     fn read(alloc: Global, tokens: &[Token]) -> Result<(VariableBlock, &[Token]), ParseFault> {
         if begins_word(tokens, Keyword::Var) {
-            let tokens = word(tokens, Keyword::Var)?;
-            let (declarations, tokens) = list(alloc, tokens)?;
-            let tokens = word(tokens, Keyword::EndVar)?;
-            return Ok((VariableBlock::Local(declarations), tokens));
+            locals(alloc, tokens)
+        } else {
+            externals(alloc, tokens)
         }
-        let tokens = word(tokens, Keyword::VarExternal)?;
-        let (externals, tokens) = list(alloc, tokens)?;
-        let tokens = word(tokens, Keyword::EndVar)?;
-        Ok((VariableBlock::External(externals), tokens))
     }
 
     ghost takes_a_token = { variables_takes };

@@ -49,8 +49,7 @@ joined-operands-smaller t c =
 
 pub joined-operands-preserved : goal.joined-operands-preserved
 joined-operands-preserved t c =
-    let l = c.in_ok-left.ensures.ok in
-    let r = c.in_ok-right.ensures.ok in
+    let both = c.in_ok-tree.ensures in
     let first = c.operands.invariant.exact in
     let second = c.in_ok-operator.ensures.1 in
     let counted = second.exact in
@@ -59,7 +58,7 @@ joined-operands-preserved t c =
     let here = c.if-operators-room.false in
     let is = same_item c.args.room.levels c.after_operators.result.levels c.args.level (c.args.level - 1) (kinds c.operands.rest.now) ((c.in_ok-operator.operator, tree_of c.in_ok-operator.second.tree), kinds c.in_ok-operator.behind.now) c.after_operators.ensures.levels c.in_ok-operator.ensures.0 in
     let next = goes_on_joining c.args.room.levels c.args.level (c.args.level - 1) (tree_of c.operands.tree) (kinds c.operands.rest.now) ((c.in_ok-operator.operator, tree_of c.in_ok-operator.second.tree), kinds c.in_ok-operator.behind.now) (at c.args.room.levels (joined c.args.level) (kinds c.args.tokens.now)) (sym c.begins_operator.ensures ∙ c.operands-test.true) is c.operands.invariant.so_far in
-    rw (l, r) record {
+    rw both record {
       so_far = next;
       exact = omega (arith, first, counted);
       within = omega (arith, within, left, here);
