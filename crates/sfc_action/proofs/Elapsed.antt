@@ -44,7 +44,7 @@ module _ (n : ℕ) (sets : Timed) (a b : ℕ) (lt : a < n) (h : AreAll n sets) w
   keep : (flags : List Bool) → flag flags b ≡ (flag flags b || ((a == b) && false))
   keep flags = and_none (flag flags b) (a == b)
 
-  added : (p q : TimedQualifier)
+  pub added : (p q : TimedQualifier)
       → flag (by q (with_action p a sets)) b ≡ (flag (by q sets) b || ((a == b) && same_timed q p))
   added Limited Limited = put sets.limited h.limited
   added Limited _ = keep _
@@ -98,7 +98,7 @@ module _ (n b : ℕ) (q : TimedQualifier) where
       turn true y z = refl
       turn false y z = refl
 
-  none_at : (k : TimedQualifier) → flag (by k (none n)) b ≡ false
+  pub none_at : (k : TimedQualifier) → flag (by k (none n)) b ≡ false
   none_at Limited = flag-replicate n b
   none_at Delayed = flag-replicate n b
   none_at StoredDelayed = flag-replicate n b

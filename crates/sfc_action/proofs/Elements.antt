@@ -26,3 +26,19 @@ module _ {A : Type 0} where
         → (k : ℕ) (d : A) → place + 1 ≤ k → get_or (slice_set now place after) k d ≡ get_or old k d
     next_rest rest k d le =
         get_or-set_other now place k after d (λ e. omega (arith, e)) ∙ rest k d (omega arith)
+
+  -- the same where the elements come from another list
+  pub next_from : (R : A → A → Type 0) (from now : List A) (place : ℕ) (x after : A) → place < length from
+      → length from ≡ length now → x ≡ get_or from place x → R x after
+      → ((k : ℕ) (d : A) → k < place → R (get_or from k d) (get_or now k d))
+      → (k : ℕ) (d : A) → k < place + 1 → R (get_or from k d) (get_or (slice_set now place after) k d)
+  next_from R from now place x after lt same is step done k d le = elim (cases_lt k place) [
+    | inl earlier ↦ (
+        let apart : get_or (slice_set now place after) k d ≡ get_or now k d =
+        get_or-set_other now place k after d (λ e. omega (arith, e)) in
+        subst (R (get_or from k d)) (sym apart) (done k d earlier))
+    | inr later ↦ (
+        let here : k ≡ place = omega arith in
+        let put : get_or (slice_set now place after) place d ≡ after = get_or-set_same now place after d (omega arith) in
+        rw (here, put) (subst (λ y. R y after) (is ∙ get_or_default from place x d lt) step))
+  ]

@@ -1,18 +1,21 @@
 -- Tables keep their sizes.
-use Rattle.std.proofs.Common.{◌≡◌, ℕ, Bool, true, false, cond, List, length, ◌∙◌}
+use Rattle.std.proofs.Common.{◌≡◌, ℕ, ◌<◌, Bool, true, false, cond, List, length, get_or, arith, sym, subst, ◌∙◌}
 use Rattle.std.specs.Prelude.{slice_set}
 use Rattle.std.proofs.lemmas.List.{length-set, length-replicate}
 use Rattle.sfc_text.specs.declared.tree.TimedQualifier.{TimedQualifier}
 use Rattle.sfc_text.specs.declared.tree.TimedQualifier.TheVariants.{Limited, Delayed, StoredDelayed, DelayedStored, StoredLimited}
 use Rattle.sfc_flags.specs.Flags.{flag}
+use Rattle.sfc_tables.specs.declared.ids.ActionNumber.{ActionNumber}
 use Rattle.sfc_tables.specs.declared.association.Qualifier.{Qualifier}
 use Rattle.sfc_tables.specs.declared.association.Qualifier.TheVariants.{NonStored, Reset, Set, Pulse, RisingPulse, FallingPulse, Timed}
 use Rattle.sfc_action.specs.declared.inputs.Inputs.{Inputs}
 use Rattle.sfc_action.specs.declared.timed.Timed as timed
 use Rattle.sfc_action.specs.declared.stores.Stores.{Stores}
+use Rattle.sfc_action.specs.declared.blocks.Block.{Block}
 use Rattle.sfc_action.specs.Private.Storing.{AreStores, no_stores}
 use Rattle.sfc_action.specs.Private.TimedSets.{AreAll, none, with_action}
 use Rattle.sfc_action.specs.Private.Marking.{AreSized, cleared, marked}
+use Rattle.sfc_action.specs.Private.Delays.{AreOf}
 
 abbrev Sets : Type 0
 Sets = timed.Timed
@@ -178,3 +181,10 @@ are_stores n stores e = rw e (sized_stores n)
 
 pub are_all : (n : ℕ) (sets : Sets) → sets ≡ none n → AreAll n sets
 are_all n sets e = rw e (all_none n)
+
+-- on-delays that keep their actions are of as many
+pub still_of : (n : ℕ) (old new : List Block) → length new ≡ length old
+    → ((k : ℕ) (d : Block) → k < length old → (get_or new k d).action ≡ (get_or old k d).action) → AreOf n old → AreOf n new
+still_of n old new same actions of k d lt =
+    let within : k < length old = omega arith in
+    subst (λ (a : ActionNumber). a.0 < n) (sym (actions k d within)) (of k d within)

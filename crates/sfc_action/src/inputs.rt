@@ -1,6 +1,7 @@
 //! The inputs of all blocks in one scan.
 
 use crate::input_words::InputWords;
+use crate::sets::{three_sets, two_sets};
 use crate::timed::Timed;
 use crate::timed_words::TimedWords;
 use sfc_expr::ticks::Ticks;
@@ -11,7 +12,6 @@ use sfc_text::tree::TimedQualifier;
 use std::alloc::{AllocError, Global};
 
 /// The actions with each input, those with an association that acts and has a time, and those with more than one such.
-#[derive(Drop)]
 pub struct Inputs {
     pub non_stored: Flags,
     pub reset: Flags,
@@ -22,6 +22,23 @@ pub struct Inputs {
     pub timed: Timed,
     pub any_time: Flags,
     pub more_times: Flags,
+}
+
+// By hand, so that a caller that drops one proves one call.
+impl Drop for Inputs {
+    fn drop(self) {
+        let Inputs {
+            non_stored: _,
+            reset: _,
+            set: _,
+            pulse: _,
+            rising_pulse: _,
+            falling_pulse: _,
+            timed: _,
+            any_time: _,
+            more_times: _,
+        } = self;
+    }
 }
 
 impl Inputs {
@@ -35,16 +52,20 @@ impl Inputs {
     pub fn new(alloc: Global, actions: usize) -> Result<Self, AllocError>
         ensures { IfOk result (λ inputs. inputs ≡ cleared actions) }
     {
+        let timed = Timed::new(alloc, actions)?;
+        let (any_time, more_times) = two_sets(alloc, actions)?;
+        let (non_stored, reset, set) = three_sets(alloc, actions)?;
+        let (pulse, rising_pulse, falling_pulse) = three_sets(alloc, actions)?;
         Ok(Inputs {
-            non_stored: Flags::new(alloc, actions)?,
-            reset: Flags::new(alloc, actions)?,
-            set: Flags::new(alloc, actions)?,
-            pulse: Flags::new(alloc, actions)?,
-            rising_pulse: Flags::new(alloc, actions)?,
-            falling_pulse: Flags::new(alloc, actions)?,
-            timed: Timed::new(alloc, actions)?,
-            any_time: Flags::new(alloc, actions)?,
-            more_times: Flags::new(alloc, actions)?,
+            non_stored,
+            reset,
+            set,
+            pulse,
+            rising_pulse,
+            falling_pulse,
+            timed,
+            any_time,
+            more_times,
         })
     }
 

@@ -4,6 +4,7 @@ use crate::blocks::{Block, copy_blocks};
 use crate::delays::step_delays;
 use crate::kept_words::KeptWords;
 use crate::scratch::Scratch;
+use crate::sets::three_sets;
 use crate::stores::Stores;
 use sfc_expr::ticks::Ticks;
 use sfc_flags::flags::Flags;
@@ -11,7 +12,6 @@ use std::alloc::{AllocError, Global};
 
 /// Of each action the inputs P, P1 and P0 of the newest scan, its flip-flops, its Q and whether it was executed, and the
 /// on-delays of all.
-#[derive(Drop)]
 pub struct Kept {
     pub pulse: Flags,
     pub rising_pulse: Flags,
@@ -21,6 +21,22 @@ pub struct Kept {
     pub q: Flags,
     pub executed: Flags,
     pub blocks: Vec<Block>,
+}
+
+// By hand, so that a caller that drops one proves one call.
+impl Drop for Kept {
+    fn drop(self) {
+        let Kept {
+            pulse: _,
+            rising_pulse: _,
+            falling_pulse: _,
+            stores: _,
+            delayed_stored: _,
+            q: _,
+            executed: _,
+            blocks: _,
+        } = self;
+    }
 }
 
 impl Kept {
@@ -35,14 +51,17 @@ impl Kept {
     pub fn new(alloc: Global, actions: usize, blocks: Vec<Block>) -> Result<Self, AllocError>
         ensures { IfOk result (λ kept. IsFresh actions blocks.items kept) }
     {
+        let stores = Stores::new(alloc, actions)?;
+        let (delayed_stored, q, executed) = three_sets(alloc, actions)?;
+        let (pulse, rising_pulse, falling_pulse) = three_sets(alloc, actions)?;
         Ok(Kept {
-            pulse: Flags::new(alloc, actions)?,
-            rising_pulse: Flags::new(alloc, actions)?,
-            falling_pulse: Flags::new(alloc, actions)?,
-            stores: Stores::new(alloc, actions)?,
-            delayed_stored: Flags::new(alloc, actions)?,
-            q: Flags::new(alloc, actions)?,
-            executed: Flags::new(alloc, actions)?,
+            pulse,
+            rising_pulse,
+            falling_pulse,
+            stores,
+            delayed_stored,
+            q,
+            executed,
             blocks,
         })
     }

@@ -14,6 +14,7 @@
 //! - `marking`: what the active steps give as inputs.
 //! - `scan_words`: of 64 actions the inputs of a scan, its flip-flops and its on-delays.
 //! - `scratch`: room for a scan.
+//! - `sets`: several sets of actions at once.
 //! - `store_words`: of 64 actions the flip-flops.
 //! - `stores`: flip-flops of actions.
 //! - `timed`: sets of actions by the qualifiers with a time.
@@ -34,6 +35,7 @@ mod listing;
 mod marking;
 mod scan_words;
 mod scratch;
+mod sets;
 mod store_words;
 mod stores;
 mod timed;

@@ -12,12 +12,23 @@ use std::alloc::{AllocError, Global};
 
 /// The inputs and times of a scan, the flip-flops after it, and the on-delays that have elapsed. Each scan writes all
 /// anew.
-#[derive(Drop)]
 pub struct Scratch {
     pub inputs: Inputs,
     pub presets: Vec<i64>,
     pub stores: Stores,
     pub elapsed: Timed,
+}
+
+// By hand, so that a caller that drops one proves one call.
+impl Drop for Scratch {
+    fn drop(self) {
+        let Scratch {
+            inputs: _,
+            presets: _,
+            stores: _,
+            elapsed: _,
+        } = self;
+    }
 }
 
 impl Scratch {
@@ -33,7 +44,6 @@ impl Scratch {
     ghost use Rattle.sfc_action.specs.Private.Rows.{inputs_in, input_row, stores_in, store_row, timed_in, timed_row};
 
     /// Room for so many actions. The one error is that memory was refused.
-    #[tactic(auto, using(crate::proofs::Sizes::are_sized, crate::proofs::Sizes::are_stores, crate::proofs::Sizes::are_all))]
     pub fn new(alloc: Global, actions: usize) -> Result<Self, AllocError>
         ensures { IfOk result (λ scratch. IsScratch actions scratch) }
     {

@@ -1,17 +1,28 @@
 //! Flip-flops of actions.
 
 use crate::inputs::Inputs;
+use crate::sets::three_sets;
 use crate::store_words::StoreWords;
 use sfc_expr::ticks::Ticks;
 use sfc_flags::flags::Flags;
 use std::alloc::{AllocError, Global};
 
 /// The actions whose flip-flops by S, SD and SL are set.
-#[derive(Drop)]
 pub struct Stores {
     pub set: Flags,
     pub stored_delayed: Flags,
     pub stored_limited: Flags,
+}
+
+// By hand, so that a caller that drops one proves one call.
+impl Drop for Stores {
+    fn drop(self) {
+        let Stores {
+            set: _,
+            stored_delayed: _,
+            stored_limited: _,
+        } = self;
+    }
 }
 
 impl Stores {
@@ -26,10 +37,11 @@ impl Stores {
     pub fn new(alloc: Global, actions: usize) -> Result<Self, AllocError>
         ensures { IfOk result (λ stores. stores ≡ no_stores actions) }
     {
+        let (set, stored_delayed, stored_limited) = three_sets(alloc, actions)?;
         Ok(Stores {
-            set: Flags::new(alloc, actions)?,
-            stored_delayed: Flags::new(alloc, actions)?,
-            stored_limited: Flags::new(alloc, actions)?,
+            set,
+            stored_delayed,
+            stored_limited,
         })
     }
 

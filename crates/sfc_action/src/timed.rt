@@ -1,5 +1,6 @@
 //! Sets of actions by the qualifiers with a time.
 
+use crate::sets::{three_sets, two_sets};
 use crate::timed_words::TimedWords;
 use sfc_expr::ticks::Ticks;
 use sfc_flags::flags::Flags;
@@ -7,13 +8,25 @@ use sfc_text::tree::TimedQualifier;
 use std::alloc::{AllocError, Global};
 
 /// A set of actions for each qualifier with a time.
-#[derive(Drop)]
 pub struct Timed {
     pub limited: Flags,
     pub delayed: Flags,
     pub stored_delayed: Flags,
     pub delayed_stored: Flags,
     pub stored_limited: Flags,
+}
+
+// By hand, so that a caller that drops one proves one call.
+impl Drop for Timed {
+    fn drop(self) {
+        let Timed {
+            limited: _,
+            delayed: _,
+            stored_delayed: _,
+            delayed_stored: _,
+            stored_limited: _,
+        } = self;
+    }
 }
 
 impl Timed {
@@ -28,12 +41,14 @@ impl Timed {
     pub fn new(alloc: Global, actions: usize) -> Result<Self, AllocError>
         ensures { IfOk result (λ sets. sets ≡ none actions) }
     {
+        let (limited, delayed, stored_delayed) = three_sets(alloc, actions)?;
+        let (delayed_stored, stored_limited) = two_sets(alloc, actions)?;
         Ok(Timed {
-            limited: Flags::new(alloc, actions)?,
-            delayed: Flags::new(alloc, actions)?,
-            stored_delayed: Flags::new(alloc, actions)?,
-            delayed_stored: Flags::new(alloc, actions)?,
-            stored_limited: Flags::new(alloc, actions)?,
+            limited,
+            delayed,
+            stored_delayed,
+            delayed_stored,
+            stored_limited,
         })
     }
 

@@ -1,9 +1,14 @@
-use Rattle.std.proofs.Common.{sym, subst}
+use Rattle.std.proofs.Common.{◌<◌, List, length, ◌∙◌, refl, sym, subst}
+use Rattle.std.specs.Prelude.{All}
+use Rattle.sfc_tables.specs.declared.step_action.StepAction.{StepAction}
 use Rattle.sfc_action.specs.Private.Keeping.{AreKeptSized}
 use Rattle.sfc_action.specs.Private.Rooms.{IsScratch}
 use Rattle.sfc_action.specs.Agreement.{ControlsAgree}
+use Rattle.sfc_action.proofs.DelayLists.{none_listed}
 use Rattle.sfc_action.proofs.Fitting.{is_for}
+use Rattle.sfc_action.proofs.Sizes.{are_all}
 use Rattle.sfc_action.proofs.Starts.{all_listed, fresh_sized, fresh_for, fresh_kept}
+use Rattle.sfc_action.proofs.Works.{within}
 use Rattle.sfc_action.proofs.controls.Controls.new.Goals as goal
 
 pub invariant_of-result : goal.invariant_of-result
@@ -37,3 +42,14 @@ returns-clause-agrees c =
           c.step_actions.ensures c.in_ok-kept.ensures listed;
       each = fresh_kept c.args.tables.now n blocks c.in_ok-kept.kept c.in_ok-kept.ensures listed.fresh;
     }
+
+pub list_blocks-requires-clause-listing : goal.list_blocks-requires-clause-listing
+list_blocks-requires-clause-listing c = none_listed c.actions-n.result c.in_ok-seen.seen c.in_ok-seen.ensures
+
+pub list_blocks-requires-clause-actions : goal.list_blocks-requires-clause-actions
+list_blocks-requires-clause-actions c =
+    let tables = c.args.tables.now in
+    let n = length c.in_ok-seen.seen.limited in
+    let same = (are_all c.actions-n.result c.in_ok-seen.seen c.in_ok-seen.ensures).limited ∙ c.actions-n.ensures in
+    subst (λ (xs : List StepAction). All (λ (x : StepAction). x.action.0 < n) xs) (sym c.step_actions.ensures)
+    (λ k d lt. (within tables c.steps-steps.ensures.tables n (length tables.associations) same refl k d lt).action)

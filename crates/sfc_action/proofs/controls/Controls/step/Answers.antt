@@ -1,15 +1,67 @@
-use Rattle.std.proofs.Common.{◌≡◌, ◌∙◌, ap, sym, subst, length, SFits, w64, to_z, of_z, None}
+use Rattle.std.proofs.Common.{◌≡◌, ℕ, ◌<◌, List, ◌∙◌, ap, refl, sym, subst, length, SFits, w64, to_z, of_z, None}
+use Rattle.std.specs.Prelude.{All}
 use Rattle.std.proofs.lemmas.Int.{to_z-of_z}
 use Rattle.sfc_evolve.specs.Evolution as evolution
+use Rattle.sfc_tables.specs.declared.step_action.StepAction.{StepAction}
 use Rattle.sfc_action.specs.declared.kept.Kept.{Kept}
 use Rattle.sfc_action.specs.ActionControl.{first_in}
 use Rattle.sfc_action.specs.Private.Failing.{fault_at}
-use Rattle.sfc_action.specs.Private.Storing.{AreNext}
-use Rattle.sfc_action.specs.Private.Keeping.{IsActed}
+use Rattle.sfc_action.specs.Private.Storing.{AreStores, AreNext}
+use Rattle.sfc_action.specs.Private.Marking.{AreSized}
+use Rattle.sfc_action.specs.Private.Rooms.{IsScratch}
+use Rattle.sfc_action.specs.Private.Keeping.{AreKeptSized, IsActed}
 use Rattle.sfc_action.specs.Agreement.{ControlsAgree}
-use Rattle.sfc_action.proofs.Fitting.{is_for, are_for}
+use Rattle.sfc_action.proofs.Fitting.{is_for, are_for, actions_for}
 use Rattle.sfc_action.proofs.Next.{IsRead, fault_read, kept_read, next_size}
+use Rattle.sfc_action.proofs.Works.{within}
 use Rattle.sfc_action.proofs.controls.Controls.step.Goals as goal
+
+pub read-requires-clause-sized : goal.read-requires-clause-sized
+read-requires-clause-sized c =
+    subst (λ (n : ℕ). IsScratch n c.self.inside.scratch)
+    (actions_for c.args.tables.now c.self.inside.kept c.args.self.now c.self.view_is c.requires.sizes)
+    c.self.invariant.scratch_sized
+
+pub read-requires-clause-stored : goal.read-requires-clause-stored
+read-requires-clause-stored c =
+    subst (λ (n : ℕ). AreStores n c.self.inside.kept.stores)
+    (actions_for c.args.tables.now c.self.inside.kept c.args.self.now c.self.view_is c.requires.sizes)
+    c.self.invariant.kept_sized.stores
+
+pub first_fault-requires-clause-inputs : goal.first_fault-requires-clause-inputs
+first_fault-requires-clause-inputs c =
+    let sized = c.read.ensures.sized in
+    subst (λ (n : ℕ). AreSized n c.read.new.self.inputs) (sym sized.inputs.any_time) sized.inputs
+
+pub first_fault-requires-clause-stores : goal.first_fault-requires-clause-stores
+first_fault-requires-clause-stores c =
+    let sized = c.read.ensures.sized in
+    subst (λ (n : ℕ). AreStores n c.read.new.self.stores) (sym sized.inputs.any_time) sized.stores
+
+pub first_fault-requires-clause-actions : goal.first_fault-requires-clause-actions
+first_fault-requires-clause-actions c =
+    let tables = c.args.tables.now in
+    let n = length c.read.new.self.inputs.any_time in
+    let same = c.read.ensures.sized.inputs.any_time in
+    subst (λ (xs : List StepAction). All (λ (x : StepAction). x.action.0 < n) xs) (sym c.step_actions.ensures)
+    (λ k d lt. (within tables c.steps-steps.ensures.tables n (length tables.associations) same refl k d lt).action)
+
+pub act-requires-clause-sized : goal.act-requires-clause-sized
+act-requires-clause-sized c = c.self.invariant.kept_sized
+
+pub act-requires-clause-scratch : goal.act-requires-clause-scratch
+act-requires-clause-scratch c =
+    subst (λ (n : ℕ). IsScratch n c.read.new.self)
+    (sym (actions_for c.args.tables.now c.self.inside.kept c.args.self.now c.self.view_is c.requires.sizes))
+    c.read.ensures.sized
+
+pub invariant_of-self-2 : goal.invariant_of-self-2
+invariant_of-self-2 c =
+    let sized = c.act.ensures.acted.sized in
+    record {
+      kept_sized = subst (λ (n : ℕ). AreKeptSized n c.act.new.self) (sym sized.q) sized;
+      scratch_sized = subst (λ (n : ℕ). IsScratch n c.act.new.scratch) (sym sized.q) c.act.ensures.scratch;
+    }
 
 pub returns-in-Some-clause-fault : goal.returns-in-Some-clause-fault
 unfolding ControlsAgree

@@ -4,12 +4,51 @@ use Rattle.std.proofs.lemmas.List.{with_items_is}
 use Rattle.sfc_action.specs.declared.blocks.Block.{Block}
 use Rattle.sfc_action.specs.declared.scratch.Scratch.{Scratch}
 use Rattle.sfc_action.specs.Private.TimedSets.{none}
-use Rattle.sfc_action.specs.Private.Delays.{AreStepped, gathered}
+use Rattle.sfc_action.specs.Private.Rooms.{IsScratch}
+use Rattle.sfc_action.specs.Private.Delays.{AreOf, AreStepped, gathered}
 use Rattle.sfc_action.specs.Private.Rows.{kept_after, q_of, executed_of, input_row, store_row, timed_row, kept_row}
 use Rattle.sfc_flags.specs.Flags.{flag}
 use Rattle.sfc_flags.proofs.Wordwise.{same_flags}
 use Rattle.sfc_action.proofs.Rows.{same_stores}
+use Rattle.sfc_action.proofs.Sizes.{still_of}
 use Rattle.sfc_action.proofs.kept.Kept.act.Goals as goal
+
+pub step_delays-requires-clause-sized : goal.step_delays-requires-clause-sized
+step_delays-requires-clause-sized c =
+    subst (λ (n : ℕ). IsScratch n c.args.scratch.now) (sym c.requires.scratch.presets) c.requires.scratch
+
+pub step_delays-requires-clause-actions : goal.step_delays-requires-clause-actions
+step_delays-requires-clause-actions c =
+    subst (λ (n : ℕ). AreOf n c.deref_mut.result.now) (sym c.requires.scratch.presets)
+    (subst (AreOf (length c.args.self.now.q)) (sym c.deref_mut.ensures.value) c.requires.sized.blocks)
+
+pub act_all-requires-clause-sized : goal.act_all-requires-clause-sized
+act_all-requires-clause-sized c =
+    let n = length c.args.self.now.q in
+    let sized = c.requires.sized in
+    let was = c.deref_mut.ensures.value in
+    let delays = c.step_delays.new.blocks in
+    let of : AreOf n delays =
+    still_of n c.deref_mut.result.now delays c.step_delays.auto.blocks (λ k d lt. (c.step_delays.ensures.stepped k d lt).action)
+    (subst (AreOf n) (sym was) sized.blocks) in
+    record {
+      pulse = sized.pulse;
+      rising_pulse = sized.rising_pulse;
+      falling_pulse = sized.falling_pulse;
+      stores = sized.stores;
+      delayed_stored = sized.delayed_stored;
+      q = sized.q;
+      executed = sized.executed;
+      blocks = subst (AreOf n) (sym (with_items_is c.args.self.now.blocks delays (omega arith))) of;
+    }
+
+pub act_all-requires-clause-scratch : goal.act_all-requires-clause-scratch
+act_all-requires-clause-scratch c =
+    subst (λ (n : ℕ). IsScratch n c.step_delays.new.scratch) c.requires.scratch.presets c.step_delays.ensures.sized
+
+pub returns-clause-scratch : goal.returns-clause-scratch
+returns-clause-scratch c =
+    subst (λ (n : ℕ). IsScratch n c.step_delays.new.scratch) c.requires.scratch.presets c.step_delays.ensures.sized
 
 pub returns-clause-acted : goal.returns-clause-acted
 returns-clause-acted c =

@@ -1,9 +1,23 @@
-use Rattle.std.proofs.Common.{ℕ, length, ◌∙◌, sym, subst, arith}
+use Rattle.std.proofs.Common.{ℕ, ◌≤◌, length, ◌∙◌, sym, subst, arith}
 use Rattle.sfc_action.specs.Private.Keeping.{AreKeptSized}
 use Rattle.sfc_action.specs.Private.Rows.{kept_row, kept_in}
 use Rattle.sfc_flags.proofs.Wordwise.{more_by, all_done}
 use Rattle.sfc_action.proofs.Rows.{kept_past}
 use Rattle.sfc_action.proofs.kept.Kept.copy_all.Goals as goal
+
+pub words-requires-clause-sized : goal.words-requires-clause-sized
+words-requires-clause-sized c =
+    subst (λ (n : ℕ). AreKeptSized n c.args.other.now) (sym c.requires.other.q) c.requires.other
+
+pub put-requires-clause-sized : goal.put-requires-clause-sized
+put-requires-clause-sized c =
+    let sized = c.loop-number.invariant.sized in
+    subst (λ (n : ℕ). AreKeptSized n c.loop-number.self) (sym sized.q) sized
+
+pub put-requires-clause-past : goal.put-requires-clause-past
+put-requires-clause-past c a at le =
+    let past : length c.args.self.now.q ≤ a = omega (arith, c.loop-number.invariant.sized.q) in
+    c.words.ensures a at ∙ kept_past _ a past c.args.other.now c.requires.other
 
 pub loop-number-preserved : goal.loop-number-preserved
 loop-number-preserved c =
