@@ -1,5 +1,6 @@
 -- The whole walk from its parts.
 use Rattle.std.proofs.Common.{◌≡◌, List, map, None, sym, ap, ◌∙◌, subst}
+use Rattle.sfc_text.specs.declared.tree.Instance as text_instance
 use Rattle.sfc_text.specs.Trees.{SourceTree}
 use Rattle.sfc_variables.specs.declared.load_error.LoadError.{LoadError}
 use Rattle.sfc_variables.specs.declared.variable.Variable.{Variable}
@@ -14,6 +15,8 @@ use Rattle.sfc_chart.specs.Plants.{PlantData}
 use Rattle.sfc_chart.specs.Image.{image_of, image_variables}
 use Rattle.sfc_chart.specs.Loading.{task_names, program_names, tasks_check, programs_check, instances_check, image_check}
 use Rattle.sfc_chart.specs.Built.{task_of, instance_of, source_check, plant_of}
+use Rattle.sfc_chart.specs.declared.declarations.Declarations.{Declarations}
+use Rattle.sfc_chart.specs.Assembly.Parts.{AreDeclared}
 
 -- what the parts are that were loaded without fault
 pub record Walked (s : SourceTree) (globals : List Variable) (tasks : List Task) (types : List ProgramType) (instances : List Instance) : Type 0 where
@@ -25,6 +28,21 @@ pub record Walked (s : SourceTree) (globals : List Variable) (tasks : List Task)
   pub types_are : types ≡ map (program_of globals) s.programs
   pub instances_pass : instances_check (task_names s.configuration.tasks) (program_names s.programs) s.configuration.instances ≡ None
   pub instances_are : instances ≡ map (instance_of (task_names s.configuration.tasks) (program_names s.programs)) s.configuration.instances
+
+-- from what was declared, and the instances behind it
+pub walked_on : (s : SourceTree) (d : Declarations) (written : List text_instance.Instance) (instances : List Instance) → AreDeclared s d
+    → written ≡ s.configuration.instances → instances_check d.task_names d.type_names written ≡ None
+    → instances ≡ map (instance_of d.task_names d.type_names) written → Walked s d.globals d.tasks d.types instances
+walked_on s d written instances a w passes are = record {
+  globals_pass = a.globals_pass;
+  globals_are = a.globals_are;
+  tasks_pass = a.tasks_pass;
+  tasks_are = a.tasks_are;
+  types_pass = a.types_pass;
+  types_are = a.types_are;
+  instances_pass = (λ i. instances_check (sym a.task_table i) (sym a.type_table i) (sym w i)) ∙ passes;
+  instances_are = are ∙ (λ i. map (instance_of (a.task_table i) (a.type_table i)) (w i));
+}
 
 abbrev pub the_plant : SourceTree → List Variable → List Task → List ProgramType → List Instance → PlantData
 the_plant s globals tasks types instances = record {

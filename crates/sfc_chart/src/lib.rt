@@ -5,9 +5,10 @@
 //! - `image`: the variables of a plant by number; `image_variable`: what each of them is.
 //! - `load`: trees to plants.
 //! - `plant`: what a whole text was loaded as; `task` and `instance`: parts of it.
-//! - `tasks`, `programs`, `instances`, `parts`: the steps of loading.
+//! - `titles`, `declarations`, `tasks`, `programs`, `instances`, `parts`: the steps of loading.
 #![tactic(auto)]
 
+mod declarations;
 pub mod ids;
 mod image;
 pub mod image_variable;
@@ -19,3 +20,4 @@ pub mod plant;
 mod programs;
 pub mod task;
 mod tasks;
+mod titles;

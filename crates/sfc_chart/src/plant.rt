@@ -4,47 +4,28 @@ use crate::ids::{ProgId, TaskId, VarId};
 use crate::image::local_at;
 use crate::image_variable::ImageVariable;
 use crate::instance::Instance;
+use crate::parts::Parts;
 use crate::task::Task;
-use sfc_expr::name_table::NameTable;
+use crate::titles::Titles;
 use sfc_expr::variable::GlobalId;
 use sfc_program::program_type::ProgramType;
 use sfc_program::type_scope::TypeScope;
-use sfc_tokens::items::Items;
 use sfc_tokens::name::Name;
 use sfc_variables::variable::Variable;
-use sfc_variables::variable_table::VariableTable;
 use std::marker::Model;
 
 /// A loaded configuration with its one resource (2.7.1). Contracts see all that the text said, as a record.
 pub struct Plant {
-    pub(crate) configuration: Name,
-    pub(crate) resource: Name,
-    pub(crate) processor: Name,
-    pub(crate) globals: VariableTable,
-    pub(crate) tasks: Items<Task>,
-    pub(crate) task_names: NameTable,
-    pub(crate) types: Items<ProgramType>,
-    pub(crate) type_names: NameTable,
-    pub(crate) instances: Items<Instance>,
-    pub(crate) instance_names: NameTable,
-    pub(crate) starts: Items<usize>,
+    pub(crate) titles: Titles,
+    pub(crate) parts: Parts,
 }
 
 // By hand, so that a caller that drops one proves one call.
 impl Drop for Plant {
     fn drop(self) {
         let Plant {
-            configuration: _,
-            resource: _,
-            processor: _,
-            globals: _,
-            tasks: _,
-            task_names: _,
-            types: _,
-            type_names: _,
-            instances: _,
-            instance_names: _,
-            starts: _,
+            titles: _,
+            parts: _,
         } = self;
     }
 }
@@ -78,21 +59,21 @@ impl Plant {
     pub fn configuration(&self) -> &Name
         ensures { result.now ≡ self.now.configuration }
     {
-        &self.configuration
+        &self.titles.configuration
     }
 
     /// The name of the resource, as it was written.
     pub fn resource(&self) -> &Name
         ensures { result.now ≡ self.now.resource }
     {
-        &self.resource
+        &self.titles.resource
     }
 
     /// The name of the processor that the resource runs on, as it was written.
     pub fn processor(&self) -> &Name
         ensures { result.now ≡ self.now.processor }
     {
-        &self.processor
+        &self.titles.processor
     }
 
     /// The global variables: those of the configuration, and then those of its resource.
@@ -100,7 +81,7 @@ impl Plant {
         ensures value { result.now ≡ self.now.globals }
         ensures sound { IsPlant self.now }
     {
-        self.globals.as_slice()
+        self.parts.declared.globals.as_slice()
     }
 
     /// The tasks, in text order.
@@ -108,7 +89,7 @@ impl Plant {
         ensures value { result.now ≡ self.now.tasks }
         ensures sound { IsPlant self.now }
     {
-        self.tasks.as_slice()
+        self.parts.declared.tasks.as_slice()
     }
 
     /// The program types, in text order.
@@ -117,7 +98,7 @@ impl Plant {
         ensures sound { IsPlant self.now }
         ensures loadable { IsLoadable self.now }
     {
-        self.types.as_slice()
+        self.parts.declared.types.as_slice()
     }
 
     /// The program instances, in text order.
@@ -125,14 +106,14 @@ impl Plant {
         ensures value { result.now ≡ self.now.instances }
         ensures sound { IsPlant self.now }
     {
-        self.instances.as_slice()
+        self.parts.instances.as_slice()
     }
 
     /// The global variable with this name; case is not significant. It takes no memory.
     pub fn find_variable(&self, name: &[u8]) -> Option<VarId>
         ensures { result ≡ variable_named self.now name.now }
     {
-        let place = self.globals.find(name)?;
+        let place = self.parts.declared.globals.find(name)?;
         Some(VarId(place as u16))
     }
 
@@ -143,9 +124,11 @@ impl Plant {
         ensures { result ≡ local_named self.now instance name.now }
     {
         let index = instance.0 as usize;
-        let program = self.instances.as_slice()[index].program;
-        let place = self.types.as_slice()[program].locals.find(name)?;
-        let first = self.starts.as_slice()[index];
+        let program = self.parts.instances.as_slice()[index].program;
+        let place = self.parts.declared.types.as_slice()[program]
+            .locals
+            .find(name)?;
+        let first = self.parts.starts.as_slice()[index];
         Some(VarId((first + place) as u16))
     }
 
@@ -156,13 +139,13 @@ impl Plant {
         ensures { result ≡ slice_get (image_places self.now) id.0 }
     {
         let place = id.0 as usize;
-        let globals = self.globals.as_slice().len();
+        let globals = self.parts.declared.globals.as_slice().len();
         if place < globals {
             return Some(ImageVariable::Global(GlobalId(place)));
         }
         local_at(
-            self.types.as_slice(),
-            self.instances.as_slice(),
+            self.parts.declared.types.as_slice(),
+            self.parts.instances.as_slice(),
             place - globals,
         )
     }
@@ -171,7 +154,7 @@ impl Plant {
     pub fn find_task(&self, name: &[u8]) -> Option<TaskId>
         ensures { result ≡ task_named self.now name.now }
     {
-        let place = self.task_names.find(name)?;
+        let place = self.parts.declared.task_names.find(name)?;
         Some(TaskId(place as u8))
     }
 
@@ -179,7 +162,7 @@ impl Plant {
     pub fn find_instance(&self, name: &[u8]) -> Option<ProgId>
         ensures { result ≡ instance_named self.now name.now }
     {
-        let place = self.instance_names.find(name)?;
+        let place = self.parts.instance_names.find(name)?;
         Some(ProgId(place as u8))
     }
 
@@ -187,7 +170,7 @@ impl Plant {
     pub fn find_type(&self, name: &[u8]) -> Option<usize>
         ensures { result ≡ type_named self.now name.now }
     {
-        self.type_names.find(name)
+        self.parts.declared.type_names.find(name)
     }
 
     /// What names stand for in a condition of this program type, which is one of the plant's (2.4.3). It takes no memory.
@@ -197,6 +180,6 @@ impl Plant {
         ensures { (p : ProgramType) → slice_get self.now.types program ≡ Some p → result ≡ space_in self.now.globals p }
     {
         let types = self.types();
-        TypeScope::new(&self.globals, &types[program])
+        TypeScope::new(&self.parts.declared.globals, &types[program])
     }
 }

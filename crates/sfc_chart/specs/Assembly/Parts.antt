@@ -1,24 +1,51 @@
 -- The parts of a plant, while it is loaded.
-use Rattle.std.specs.Prelude.{◌≡◌, length, map}
+use Rattle.std.specs.Prelude.{◌≡◌, ◌≤◌, None, length, map}
 use Rattle.sfc_text.specs.declared.tree.Source.{Source}
+use Rattle.sfc_text.specs.Trees.{SourceTree}
+use Rattle.sfc_variables.specs.Declarations.{globals_check, globals_of}
+use Rattle.sfc_program.specs.Built.{program_of}
+use Rattle.sfc_chart.specs.declared.declarations.Declarations.{Declarations}
 use Rattle.sfc_chart.specs.declared.parts.Parts.{Parts}
+use Rattle.sfc_chart.specs.declared.titles.Titles.{Titles}
 use Rattle.sfc_chart.specs.Plants.{PlantData}
 use Rattle.sfc_chart.specs.Image.{starts_from}
+use Rattle.sfc_chart.specs.Loading.{task_names, program_names, tasks_check, programs_check}
+use Rattle.sfc_chart.specs.Built.{task_of}
+
+abbrev pub titles_of : Source → Titles
+titles_of s =
+    record { configuration = s.configuration.name; resource = s.configuration.resource; processor = s.configuration.processor }
+
+-- the plant of these names and parts
+abbrev pub plant_under : Titles → Parts → PlantData
+plant_under titles parts = record {
+  configuration = titles.configuration;
+  resource = titles.resource;
+  processor = titles.processor;
+  globals = parts.declared.globals;
+  tasks = parts.declared.tasks;
+  types = parts.declared.types;
+  instances = parts.instances;
+}
 
 abbrev pub plant_from : Source → Parts → PlantData
-plant_from s parts = record {
-  configuration = s.configuration.name;
-  resource = s.configuration.resource;
-  processor = s.configuration.processor;
-  globals = parts.globals;
-  tasks = parts.tasks.items;
-  types = parts.types.items;
-  instances = parts.instances.items;
-}
+plant_from s parts = plant_under (titles_of s) parts
+
+-- what was declared in a text without fault
+pub record AreDeclared (s : SourceTree) (d : Declarations) : Type 0 where
+  pub globals_pass : globals_check s.configuration.globals ≡ None
+  pub globals_are : d.globals ≡ globals_of s.configuration.globals
+  pub tasks_pass : tasks_check d.globals s.configuration.tasks ≡ None
+  pub tasks_are : d.tasks ≡ map (task_of d.globals) s.configuration.tasks
+  pub types_pass : programs_check d.globals s.programs ≡ None
+  pub types_are : d.types ≡ map (program_of d.globals) s.programs
+  pub task_table : d.task_names ≡ task_names s.configuration.tasks
+  pub type_table : d.type_names ≡ program_names s.programs
+  pub few : length d.task_names ≤ 16
 
 -- each table has the names, or the numbers, of its list
 pub record AreNamed (parts : Parts) : Type 0 where
-  pub tasks : parts.task_names ≡ map (λ t. t.name) parts.tasks.items
-  pub types : parts.type_names ≡ map (λ t. t.name) parts.types.items
-  pub instances : parts.instance_names ≡ map (λ i. i.name) parts.instances.items
-  pub starts : parts.starts.items ≡ starts_from (length parts.globals) parts.types.items parts.instances.items
+  pub tasks : parts.declared.task_names ≡ map (λ t. t.name) parts.declared.tasks
+  pub types : parts.declared.type_names ≡ map (λ t. t.name) parts.declared.types
+  pub instances : parts.instance_names ≡ map (λ i. i.name) parts.instances
+  pub starts : parts.starts ≡ starts_from (length parts.declared.globals) parts.declared.types parts.instances

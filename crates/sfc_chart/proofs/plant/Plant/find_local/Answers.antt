@@ -17,12 +17,12 @@ bounds-as_slice-index-3 c =
     let i = c.args.instance in
     let instance = c.index-as_slice-index.result in
     let program = c.index-as_slice-program.result in
-    let bound : i.0 < length inside.instances = subst (λ (q : PlantData). i.0 < length q.instances) (sym c.self.view_is) c.requires in
+    let bound : i.0 < length inside.parts.instances = subst (λ (q : PlantData). i.0 < length q.instances) (sym c.self.view_is) c.requires in
     omega (
       arith,
       ap length c.as_slice-3.ensures,
-      ap length c.self.invariant.starts_table,
-      starts_long (length inside.globals) inside.types inside.instances,
+      ap length c.self.invariant.named.starts,
+      starts_long (length inside.parts.declared.globals) inside.parts.declared.types inside.parts.instances,
       bound,
     )
 
@@ -33,16 +33,16 @@ overflow_add-result c =
     let i = c.args.instance in
     let instance = c.index-as_slice-index.result in
     let program = c.index-as_slice-program.result in
-    let bound : i.0 < length inside.instances = subst (λ (q : PlantData). i.0 < length q.instances) (sym c.self.view_is) c.requires in
-    let is : instance ≡ get_or inside.instances i.0 instance =
+    let bound : i.0 < length inside.parts.instances = subst (λ (q : PlantData). i.0 < length q.instances) (sym c.self.view_is) c.requires in
+    let is : instance ≡ get_or inside.parts.instances i.0 instance =
     c.index-as_slice-index.is ∙ ap (λ xs. get_or xs i.0 instance) c.as_slice.ensures in
-    let at_instance : slice_get inside.instances i.0 ≡ Some instance = slice_get_read inside.instances (length inside.instances) i.0 instance refl bound is in
-    let known : instance.program < length inside.types =
-    subst (λ (x : Instance). x.program < length inside.types) (sym is) (c.self.invariant.sound.instances i.0 instance bound).program in
-    let at_program : slice_get inside.types instance.program ≡ Some program =
-    slice_get_read inside.types (length inside.types) instance.program program refl known
+    let at_instance : slice_get inside.parts.instances i.0 ≡ Some instance = slice_get_read inside.parts.instances (length inside.parts.instances) i.0 instance refl bound is in
+    let known : instance.program < length inside.parts.declared.types =
+    subst (λ (x : Instance). x.program < length inside.parts.declared.types) (sym is) (c.self.invariant.sound.instances i.0 instance bound).program in
+    let at_program : slice_get inside.parts.declared.types instance.program ≡ Some program =
+    slice_get_read inside.parts.declared.types (length inside.parts.declared.types) instance.program program refl known
     (c.index-as_slice-program.is ∙ (λ j. get_or (c.as_slice-2.ensures j) (sym c.index-as_slice-index.is j).program program)) in
-    let starts : c.as_slice-3.result.now ≡ starts_from (length inside.globals) inside.types inside.instances = c.as_slice-3.ensures ∙ c.self.invariant.starts_table in
+    let starts : c.as_slice-3.result.now ≡ starts_from (length inside.parts.declared.globals) inside.parts.declared.types inside.parts.instances = c.as_slice-3.ensures ∙ c.self.invariant.named.starts in
     let found = found_local p c.as_slice-3.result.now i instance program c.args.name.now c.in_ok-place.place starts at_instance at_program
     (ap (λ (x : ProgramType). variable_place x.locals c.args.name.now) c.index-as_slice-program.is ∙ sym c.in_ok-place.ensures)
     c.self.invariant.sound.variable_limit in
@@ -55,16 +55,16 @@ overflow_cast-result c =
     let i = c.args.instance in
     let instance = c.index-as_slice-index.result in
     let program = c.index-as_slice-program.result in
-    let bound : i.0 < length inside.instances = subst (λ (q : PlantData). i.0 < length q.instances) (sym c.self.view_is) c.requires in
-    let is : instance ≡ get_or inside.instances i.0 instance =
+    let bound : i.0 < length inside.parts.instances = subst (λ (q : PlantData). i.0 < length q.instances) (sym c.self.view_is) c.requires in
+    let is : instance ≡ get_or inside.parts.instances i.0 instance =
     c.index-as_slice-index.is ∙ ap (λ xs. get_or xs i.0 instance) c.as_slice.ensures in
-    let at_instance : slice_get inside.instances i.0 ≡ Some instance = slice_get_read inside.instances (length inside.instances) i.0 instance refl bound is in
-    let known : instance.program < length inside.types =
-    subst (λ (x : Instance). x.program < length inside.types) (sym is) (c.self.invariant.sound.instances i.0 instance bound).program in
-    let at_program : slice_get inside.types instance.program ≡ Some program =
-    slice_get_read inside.types (length inside.types) instance.program program refl known
+    let at_instance : slice_get inside.parts.instances i.0 ≡ Some instance = slice_get_read inside.parts.instances (length inside.parts.instances) i.0 instance refl bound is in
+    let known : instance.program < length inside.parts.declared.types =
+    subst (λ (x : Instance). x.program < length inside.parts.declared.types) (sym is) (c.self.invariant.sound.instances i.0 instance bound).program in
+    let at_program : slice_get inside.parts.declared.types instance.program ≡ Some program =
+    slice_get_read inside.parts.declared.types (length inside.parts.declared.types) instance.program program refl known
     (c.index-as_slice-program.is ∙ (λ j. get_or (c.as_slice-2.ensures j) (sym c.index-as_slice-index.is j).program program)) in
-    let starts : c.as_slice-3.result.now ≡ starts_from (length inside.globals) inside.types inside.instances = c.as_slice-3.ensures ∙ c.self.invariant.starts_table in
+    let starts : c.as_slice-3.result.now ≡ starts_from (length inside.parts.declared.globals) inside.parts.declared.types inside.parts.instances = c.as_slice-3.ensures ∙ c.self.invariant.named.starts in
     let found = found_local p c.as_slice-3.result.now i instance program c.args.name.now c.in_ok-place.place starts at_instance at_program
     (ap (λ (x : ProgramType). variable_place x.locals c.args.name.now) c.index-as_slice-program.is ∙ sym c.in_ok-place.ensures)
     c.self.invariant.sound.variable_limit in
@@ -77,16 +77,16 @@ returns c =
     let i = c.args.instance in
     let instance = c.index-as_slice-index.result in
     let program = c.index-as_slice-program.result in
-    let bound : i.0 < length inside.instances = subst (λ (q : PlantData). i.0 < length q.instances) (sym c.self.view_is) c.requires in
-    let is : instance ≡ get_or inside.instances i.0 instance =
+    let bound : i.0 < length inside.parts.instances = subst (λ (q : PlantData). i.0 < length q.instances) (sym c.self.view_is) c.requires in
+    let is : instance ≡ get_or inside.parts.instances i.0 instance =
     c.index-as_slice-index.is ∙ ap (λ xs. get_or xs i.0 instance) c.as_slice.ensures in
-    let at_instance : slice_get inside.instances i.0 ≡ Some instance = slice_get_read inside.instances (length inside.instances) i.0 instance refl bound is in
-    let known : instance.program < length inside.types =
-    subst (λ (x : Instance). x.program < length inside.types) (sym is) (c.self.invariant.sound.instances i.0 instance bound).program in
-    let at_program : slice_get inside.types instance.program ≡ Some program =
-    slice_get_read inside.types (length inside.types) instance.program program refl known
+    let at_instance : slice_get inside.parts.instances i.0 ≡ Some instance = slice_get_read inside.parts.instances (length inside.parts.instances) i.0 instance refl bound is in
+    let known : instance.program < length inside.parts.declared.types =
+    subst (λ (x : Instance). x.program < length inside.parts.declared.types) (sym is) (c.self.invariant.sound.instances i.0 instance bound).program in
+    let at_program : slice_get inside.parts.declared.types instance.program ≡ Some program =
+    slice_get_read inside.parts.declared.types (length inside.parts.declared.types) instance.program program refl known
     (c.index-as_slice-program.is ∙ (λ j. get_or (c.as_slice-2.ensures j) (sym c.index-as_slice-index.is j).program program)) in
-    let starts : c.as_slice-3.result.now ≡ starts_from (length inside.globals) inside.types inside.instances = c.as_slice-3.ensures ∙ c.self.invariant.starts_table in
+    let starts : c.as_slice-3.result.now ≡ starts_from (length inside.parts.declared.globals) inside.parts.declared.types inside.parts.instances = c.as_slice-3.ensures ∙ c.self.invariant.named.starts in
     let found = found_local p c.as_slice-3.result.now i instance program c.args.name.now c.in_ok-place.place starts at_instance at_program
     (ap (λ (x : ProgramType). variable_place x.locals c.args.name.now) c.index-as_slice-program.is ∙ sym c.in_ok-place.ensures)
     c.self.invariant.sound.variable_limit in
