@@ -20,7 +20,6 @@ use std::alloc::{AllocError, Global};
 /// Of each step whether it is active, when it was last activated, what time it kept when it was left, and whether the
 /// latest scan activated it; of each transition whether the latest scan cleared it, and by place in rank order whether
 /// it may be enabled. The rest is room for a scan.
-#[derive(Drop)]
 pub struct Steps {
     begun: bool,
     active: Flags,
@@ -36,6 +35,22 @@ pub struct Steps {
     ghost used_len: { length used ≡ length active },
     ghost on_len: { length on ≡ length active },
     ghost instants: { AreInstants since.items },
+}
+
+// By hand, so that a caller that drops one proves one call.
+impl Drop for Steps {
+    fn drop(self) {
+        let Steps {
+            begun: _,
+            active: _,
+            since: _,
+            kept: _,
+            cleared: _,
+            candidates: _,
+            used: _,
+            on: _,
+        } = self;
+    }
 }
 
 #[tactic(auto, unfolding(crate::specs::Agreement::StepsAgree, crate::specs::Agreement::measured_times))]

@@ -7,9 +7,15 @@ use std::marker::Model;
 
 /// The names of one name space, in the order in which they were declared. No two are one name but for case. Contracts
 /// see the list of them.
-#[derive(Drop)]
 pub struct NameTable {
     names: IndexSet<NameKey>,
+}
+
+// By hand, so that a caller that drops one proves one call.
+impl Drop for NameTable {
+    fn drop(self) {
+        let NameTable { names: _ } = self;
+    }
 }
 
 impl Model for NameTable {

@@ -15,10 +15,19 @@ use std::marker::Model;
 /// Flags of a fixed number of places, from place 0 on: a set of places. Clauses see them as a list.
 ///
 /// Work by words counts a tick for each word of 64 flags, which is told as at most one for each place.
-#[derive(Drop)]
 pub struct Flags {
     places: usize,
     words: Vec<u64>,
+}
+
+// By hand, so that a caller that drops one proves one call.
+impl Drop for Flags {
+    fn drop(self) {
+        let Flags {
+            places: _,
+            words: _,
+        } = self;
+    }
 }
 
 impl Model for Flags {

@@ -5,7 +5,7 @@ use crate::step_action::StepAction;
 use std::marker::Model;
 
 /// The associations of a chart in text order, and in the order of their actions. Clauses see what it shows.
-#[derive(Debug, Drop)]
+#[derive(Debug)]
 pub struct ActionBlocks {
     steps: usize,
     actions: ActionList,
@@ -13,6 +13,20 @@ pub struct ActionBlocks {
     step_starts: Vec<usize>,
     by_action: Vec<StepAction>,
     action_starts: Vec<usize>,
+}
+
+// By hand, so that a caller that drops one proves one call.
+impl Drop for ActionBlocks {
+    fn drop(self) {
+        let ActionBlocks {
+            steps: _,
+            actions: _,
+            associations: _,
+            step_starts: _,
+            by_action: _,
+            action_starts: _,
+        } = self;
+    }
 }
 
 impl Model for ActionBlocks {

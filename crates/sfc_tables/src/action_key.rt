@@ -5,9 +5,16 @@ use std::hash::{Hash, Hasher};
 use std::marker::Model;
 
 /// A variable as a key. Contracts see the variable.
-#[derive(Debug, Drop)]
+#[derive(Debug)]
 pub struct ActionKey {
     variable: Variable,
+}
+
+// By hand, so that a caller that drops one proves one call.
+impl Drop for ActionKey {
+    fn drop(self) {
+        let ActionKey { variable: _ } = self;
+    }
 }
 
 impl Model for ActionKey {

@@ -7,11 +7,22 @@ use std::marker::Model;
 
 /// The actions of a chart: the Boolean ones in the order of their first association, and then the declared ones in the
 /// order of their declaration (2.6.4.1). Clauses see the list of them.
-#[derive(Debug, Drop)]
+#[derive(Debug)]
 pub struct ActionList {
     booleans: IndexSet<ActionKey>,
     declared: usize,
     targets: Vec<Target>,
+}
+
+// By hand, so that a caller that drops one proves one call.
+impl Drop for ActionList {
+    fn drop(self) {
+        let ActionList {
+            booleans: _,
+            declared: _,
+            targets: _,
+        } = self;
+    }
 }
 
 impl Model for ActionList {

@@ -43,9 +43,20 @@ pub enum Qualifier {
 }
 
 /// A line of an action block: which action, how it goes with the step, and its indicator variables.
-#[derive(Debug, Drop)]
+#[derive(Debug)]
 pub struct Association {
     pub target: Target,
     pub qualifier: Qualifier,
     pub indicators: Items<Variable>,
+}
+
+// By hand, so that a caller that drops one proves one call.
+impl Drop for Association {
+    fn drop(self) {
+        let Association {
+            target: _,
+            qualifier: _,
+            indicators: _,
+        } = self;
+    }
 }

@@ -7,13 +7,26 @@ use crate::links::Links;
 use std::marker::Model;
 
 /// What a scan goes through, made of a chart once: nothing that it shows takes memory. Clauses see what it shows.
-#[derive(Debug, Drop)]
+#[derive(Debug)]
 pub struct Tables {
     initial: Vec<bool>,
     links: Links,
     ranked: Vec<TransitionId>,
     blocks: ActionBlocks,
     departures: Departures,
+}
+
+// By hand, so that a caller that drops one proves one call.
+impl Drop for Tables {
+    fn drop(self) {
+        let Tables {
+            initial: _,
+            links: _,
+            ranked: _,
+            blocks: _,
+            departures: _,
+        } = self;
+    }
 }
 
 impl Model for Tables {

@@ -5,9 +5,16 @@ use sfc_expr::statement::Statement;
 use std::marker::Model;
 
 /// The condition of a transition (2.6.3). Contracts see its typed tree.
-#[derive(Debug, Drop)]
+#[derive(Debug)]
 pub struct Condition {
     expr: Expr,
+}
+
+// By hand, so that a caller that drops one proves one call.
+impl Drop for Condition {
+    fn drop(self) {
+        let Condition { expr: _ } = self;
+    }
 }
 
 impl Model for Condition {
@@ -24,9 +31,16 @@ impl Model for Condition {
 }
 
 /// The statements of an action (2.6.4.1). Contracts see their typed trees.
-#[derive(Debug, Drop)]
+#[derive(Debug)]
 pub struct Statements {
     statements: Vec<Statement>,
+}
+
+// By hand, so that a caller that drops one proves one call.
+impl Drop for Statements {
+    fn drop(self) {
+        let Statements { statements: _ } = self;
+    }
 }
 
 impl Model for Statements {

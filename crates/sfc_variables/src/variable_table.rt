@@ -8,10 +8,19 @@ use std::alloc::{AllocError, Global};
 use std::marker::Model;
 
 /// Variables in declared order, of which no two have one name but for case. Contracts see the list of them.
-#[derive(Drop)]
 pub struct VariableTable {
     variables: Vec<Variable>,
     names: NameTable,
+}
+
+// By hand, so that a caller that drops one proves one call.
+impl Drop for VariableTable {
+    fn drop(self) {
+        let VariableTable {
+            variables: _,
+            names: _,
+        } = self;
+    }
 }
 
 impl Model for VariableTable {
