@@ -1,13 +1,14 @@
 //! The conditions of transitions (2.6.3).
 
-ghost use Rattle.std.specs.Prelude.{◌≡◌, ◌<◌, false, length, replicate, OnOk};
+ghost use Rattle.std.specs.Prelude.{◌≡◌, ◌<◌, false, length, replicate, slice_get, OnOk};
 ghost use Rattle.std.specs.Result.{result_err};
+ghost use Rattle.sfc_expr.specs.Nodes.{nodes};
 ghost use Rattle.sfc_expr.specs.Ticks.{Within};
 ghost use Rattle.sfc_tables.specs.Tables.{tables_of};
 ghost use Rattle.sfc_evolve.specs.Agreement.{IsFor, StepsAgree};
 ghost use Rattle.sfc_instance.specs.Life.{Life, evolution_scans};
-ghost use Rattle.sfc_instance.specs.ProgramScan.{condition_fault, condition_flags};
-ghost use Rattle.sfc_instance.specs.Private.Evaluating.{evaluated, test_work};
+ghost use Rattle.sfc_instance.specs.ProgramScan.{condition_fault, condition_flags, condition_in, condition_result};
+ghost use Rattle.sfc_instance.specs.Private.Evaluating.{as_flag, evaluated, test_work};
 ghost use Rattle.sfc_instance.specs.Work.{condition_work};
 
 use crate::setting::Setting;
@@ -17,6 +18,22 @@ use sfc_expr::fault::Fault;
 use sfc_expr::ticks::Ticks;
 use sfc_expr::view::View;
 use sfc_tables::ids::TransitionId;
+
+// Whether the condition of the transition is TRUE.
+fn condition_holds<V: View>(
+    setting: Setting<'_>,
+    view: &V,
+    transition: TransitionId,
+    ticks: &mut Ticks,
+) -> Result<bool, Fault>
+    requires tables { setting.tables.now ≡ tables_of setting.chart.now }
+    requires transition { transition.0 < length setting.tables.now.sides }
+    ensures value { result ≡ as_flag (condition_result setting.entry.chart.now (V.environment view.now) transition.0) }
+    ensures ticks { Within (nodes (condition_in (slice_get setting.entry.chart.now.transitions transition.0))) ticks.old ticks.new }
+{
+    let condition = &setting.chart.transitions.as_slice()[transition.0 as usize].condition;
+    Ok(eval(condition.expr(), view, ticks)?.is_true())
+}
 
 // Whether the transition is enabled and its condition TRUE; that of one that isn't enabled is not evaluated.
 fn evaluate<V: View>(
@@ -36,8 +53,7 @@ fn evaluate<V: View>(
     if !steps.enabled(setting.tables, transition, ticks) {
         return Ok(false);
     }
-    let condition = &setting.chart.transitions.as_slice()[transition.0 as usize].condition;
-    Ok(eval(condition.expr(), view, ticks)?.is_true())
+    condition_holds(setting, view, transition, ticks)
 }
 
 // No flag is set.
