@@ -51,11 +51,21 @@ fn take_line<R: Files + AllocGlobal>(rt: &R, case: &mut Case, key: &str, text: &
 }
 
 // The cases of a file as far as they are read: what the group's cases have in common, and the case that was begun.
-#[derive(Drop)]
 struct Reader {
     group: Case,
     begun: Option<Case>,
     cases: Vec<Case>,
+}
+
+// By hand, so that a caller that drops one proves one call.
+impl Drop for Reader {
+    fn drop(self) {
+        let Reader {
+            group: _,
+            begun: _,
+            cases: _,
+        } = self;
+    }
 }
 
 impl Reader {
@@ -95,6 +105,33 @@ impl Reader {
         }
         Ok(())
     }
+
+    // Takes the lines of a file.
+    fn take_lines<R: Files + AllocGlobal>(
+        &mut self,
+        rt: &R,
+        name: &str,
+        lines: &str,
+    ) -> Result<()> {
+        for (index, line) in lines.lines().enumerate() {
+            let number = index.wrapping_add(1);
+            let (key, text) = key_and_text(line);
+            self.take(rt, key, text)
+                .context(format_args!("{name} line {number}"))?;
+        }
+        self.end_case()?;
+        Ok(())
+    }
+
+    // The cases that were read.
+    fn into_cases(self) -> Vec<Case> {
+        let Reader {
+            group: _,
+            begun: _,
+            cases,
+        } = self;
+        cases
+    }
 }
 
 // The first word of a line, and what stands behind the blank that follows it; no word where the line begins with #.
@@ -107,22 +144,10 @@ fn key_and_text(line: &str) -> (&str, &str) {
 
 // The cases of a file of many.
 fn groups_of<R: Files + AllocGlobal>(rt: &R, name: &str) -> Result<Vec<Case>> {
-    let text = fs::read_to_string(rt, name)?;
+    let lines = fs::read_to_string(rt, name)?;
     let mut reader = Reader::new(rt.alloc())?;
-    for (index, line) in text.lines().enumerate() {
-        let number = index.wrapping_add(1);
-        let (key, text) = key_and_text(line);
-        reader
-            .take(rt, key, text)
-            .context(format_args!("{name} line {number}"))?;
-    }
-    reader.end_case()?;
-    let Reader {
-        group: _group,
-        begun: _begun,
-        cases,
-    } = reader;
-    Ok(cases)
+    reader.take_lines(rt, name, &lines)?;
+    Ok(reader.into_cases())
 }
 
 // Takes a file as one of the texts, where there is such a file.
@@ -141,17 +166,28 @@ fn take_file<R: Files + AllocGlobal>(
     Ok(())
 }
 
+// Takes the lines of the file of one case.
+fn take_lines<R: Files + AllocGlobal>(rt: &R, case: &mut Case, name: &str) -> Result<()> {
+    let lines = fs::read_to_string(rt, name)?;
+    for line in lines.lines() {
+        let (key, text) = key_and_text(line);
+        take_line(rt, case, key, text).context(format_args!("{name}"))?;
+    }
+    Ok(())
+}
+
+// Takes the files beside that of one case as its texts.
+fn take_files<R: Files + AllocGlobal>(rt: &R, case: &mut Case, stem: &str) -> Result<()> {
+    take_file(rt, case, stem, "chart", "chart")?;
+    take_file(rt, case, stem, "script", "script")?;
+    take_file(rt, case, stem, "expect", "output")
+}
+
 // The case of a file of one, whose texts are files beside it.
 fn single_of<R: Files + AllocGlobal>(rt: &R, name: &str, stem: &str) -> Result<Case> {
-    let text = fs::read_to_string(rt, name)?;
     let mut case = Case::new(rt.alloc(), stem)?;
-    for line in text.lines() {
-        let (key, text) = key_and_text(line);
-        take_line(rt, &mut case, key, text).context(format_args!("{name}"))?;
-    }
-    take_file(rt, &mut case, stem, "chart", "chart")?;
-    take_file(rt, &mut case, stem, "script", "script")?;
-    take_file(rt, &mut case, stem, "expect", "output")?;
+    take_lines(rt, &mut case, name)?;
+    take_files(rt, &mut case, stem)?;
     Ok(case)
 }
 

@@ -143,18 +143,29 @@ fn with_command<'a>(
     command.subcommand(more?)
 }
 
-fn sfcmon_command<'a>(alloc: Global) -> Result<Command<'a>, AllocError> {
-    let command = Command::new(alloc, "sfcmon")
-        .bin_name("sfcmon")?
-        .version("0.2.0")
-        .about(
-            "Runs Sequential Function Charts (IEC 61131-3:2003) exactly as their definitions say",
-        )
-        .after_help(NOTES)
-        .subcommand_required(true)
-        .arg_required_else_help(true);
+// The program without its commands.
+fn bare_command<'a>(alloc: Global) -> Result<Command<'a>, AllocError> {
+    let command = Command::new(alloc, "sfcmon").bin_name("sfcmon")?;
+    Ok(
+        command
+            .version("0.2.0")
+            .about(
+                "Runs Sequential Function Charts (IEC 61131-3:2003) exactly as their definitions say",
+            )
+            .after_help(NOTES)
+            .subcommand_required(true)
+            .arg_required_else_help(true),
+    )
+}
+
+// With the commands that take a chart alone.
+fn with_chart_commands<'a>(alloc: Global, command: Command<'a>) -> Result<Command<'a>, AllocError> {
     let command = with_command(command, check_command(alloc))?;
-    let command = with_command(command, list_command(alloc))?;
+    with_command(command, list_command(alloc))
+}
+
+fn sfcmon_command<'a>(alloc: Global) -> Result<Command<'a>, AllocError> {
+    let command = with_chart_commands(alloc, bare_command(alloc)?)?;
     let command = with_command(command, replay_command(alloc))?;
     with_command(command, explain_command(alloc))
 }
@@ -182,26 +193,50 @@ fn explain_request(alloc: Global, names: Option<&[&str]>) -> Result<Request, All
     }
 }
 
+// A chart to be checked, where one is named.
+fn check_request(alloc: Global, matches: &ArgMatches) -> Result<Request, AllocError> {
+    match matches.get_str("FILE") {
+        Some(chart) => {
+            let chart = String::from_str(alloc, chart)?;
+            Ok(Request::Check { chart })
+        }
+        None => Ok(Request::Answered(2)),
+    }
+}
+
+// A chart to be listed, where one is named.
+fn list_request(alloc: Global, matches: &ArgMatches) -> Result<Request, AllocError> {
+    match matches.get_str("FILE") {
+        Some(chart) => {
+            let chart = String::from_str(alloc, chart)?;
+            Ok(Request::List { chart })
+        }
+        None => Ok(Request::Answered(2)),
+    }
+}
+
+// A script to be played on a chart, where both are named.
+fn replay_request(alloc: Global, matches: &ArgMatches) -> Result<Request, AllocError> {
+    match (matches.get_str("FILE"), matches.get_str("SCRIPT")) {
+        (Some(chart), Some(script)) => {
+            let chart = String::from_str(alloc, chart)?;
+            let script = String::from_str(alloc, script)?;
+            Ok(Request::Replay { chart, script })
+        }
+        _ => Ok(Request::Answered(2)),
+    }
+}
+
 // What the words that matched ask for.
 fn request_of(alloc: Global, matches: &ArgMatches) -> Result<Request, AllocError> {
     if let Some(check) = matches.subcommand_matches("check") {
-        if let Some(chart) = check.get_str("FILE") {
-            let chart = String::from_str(alloc, chart)?;
-            return Ok(Request::Check { chart });
-        }
+        return check_request(alloc, check);
     }
     if let Some(list) = matches.subcommand_matches("list") {
-        if let Some(chart) = list.get_str("FILE") {
-            let chart = String::from_str(alloc, chart)?;
-            return Ok(Request::List { chart });
-        }
+        return list_request(alloc, list);
     }
     if let Some(replay) = matches.subcommand_matches("replay") {
-        if let (Some(chart), Some(script)) = (replay.get_str("FILE"), replay.get_str("SCRIPT")) {
-            let chart = String::from_str(alloc, chart)?;
-            let script = String::from_str(alloc, script)?;
-            return Ok(Request::Replay { chart, script });
-        }
+        return replay_request(alloc, replay);
     }
     if let Some(explain) = matches.subcommand_matches("explain") {
         return explain_request(alloc, explain.get_strs("NAME"));
