@@ -1,6 +1,7 @@
 pub mod Cleared
 pub mod FirstScan
 pub mod Flagged
+pub mod Instants
 pub mod Listed
 pub mod Looks
 pub mod Measured
@@ -10,4 +11,5 @@ pub mod Placed
 pub mod Proposed
 pub mod Skipped
 pub mod TableFacts
+pub mod Tested
 pub mod Works

@@ -1,9 +1,10 @@
 -- Which transitions are proposed.
 use Rattle.std.proofs.Common.{◌≡◌, inl, inr, ℕ, zero, suc, ◌+◌, ◌<◌, ◌≤◌, ◌==◌, ◌||◌, Bool, true, false, cond, ℤ}
 use Rattle.std.proofs.Common.{List, [], ◌∷◌, length, get_or, drop, arith, refl, sym, ◌∙◌, ap, subst}
-use Rattle.std.specs.Prelude.{All, filter, replicate, slice_set, sum_by, pos}
+use Rattle.std.specs.Prelude.{All, filter, replicate, slice_set, sum_by, pos, ◌≤ℤ◌, ◌^◌}
 use Rattle.std.specs.List.{list_any, range_with_len}
 use Rattle.std.proofs.lemmas.Bool.Decides.{nat_tests}
+use Rattle.std.proofs.lemmas.Int.{ints}
 use Rattle.std.proofs.lemmas.List.{length-set, length-map, length-replicate, get_or-map}
 use Rattle.std.proofs.lemmas.List.Elements.{All-nil, All-cons, All-head, All-tail}
 use Rattle.std.proofs.lemmas.List.FromFn.{length-range_with_len}
@@ -15,7 +16,7 @@ use Rattle.sfc_tables.specs.Tables.{Tabled, AreTables, sides_at}
 use Rattle.sfc_tables.specs.Departures.{first_of, first_steps, first_step, places_of, departures}
 use Rattle.sfc_evolve.specs.Clearing.{of_rank}
 use Rattle.sfc_evolve.specs.Evolution.{transition_count, preceding_of, is_enabled}
-use Rattle.sfc_evolve.specs.Private.Keeping.{number, set_at, AreKept}
+use Rattle.sfc_evolve.specs.Private.Keeping.{AreInstants, number, set_at, AreKept}
 use Rattle.sfc_evolve.specs.Private.Proposing.{proposed_by, AreProposed}
 use Rattle.sfc_evolve.proofs.Flagged.{flag-set_at, is_member}
 use Rattle.sfc_evolve.proofs.Looks.{bool_cases}
@@ -235,6 +236,10 @@ zero_at : (n s : ℕ) → pos 0 ≡ number (replicate n (pos 0)) s
 zero_at zero s = refl
 zero_at (suc n) zero = refl
 zero_at (suc n) (suc s) = zero_at n s
+
+pub fresh_instants : (n : ℕ) → AreInstants (replicate n (pos 0))
+fresh_instants n s =
+    (subst (λ (x : ℤ). pos 0 ≤ℤ x) (zero_at n s) (omega (arith, ints)), subst (λ (x : ℤ). x ≤ℤ pos (2 ^ 62)) (zero_at n s) (omega (arith, ints)))
 
 pub fresh : (tables : Tabled) (n m : ℕ) (active : List Bool) (since kept : List ℤ) (cleared on : List Bool)
     → active ≡ replicate n false → kept ≡ replicate n (pos 0) → cleared ≡ replicate m false → on ≡ replicate n false

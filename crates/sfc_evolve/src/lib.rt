@@ -6,6 +6,7 @@
 //! - `marking`: the steps before and after cleared transitions.
 //! - `marks`: tests and writes at listed steps.
 //! - `proposing`: which transitions may be enabled.
+//! - `rooms`: room for what is kept of several steps or transitions.
 //! - `starting`: initial steps in the first scan.
 //! - `steps`: the steps of a program instance.
 //! - `times`: when steps were activated, and the times that they keep.
@@ -17,6 +18,7 @@ pub mod laws;
 mod marking;
 mod marks;
 mod proposing;
+mod rooms;
 mod starting;
 pub mod steps;
 mod times;

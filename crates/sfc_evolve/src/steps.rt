@@ -8,8 +8,9 @@ use crate::copying::{copy_flags, copy_times};
 use crate::marking::{mark_following, unmark_preceding};
 use crate::marks::all_set;
 use crate::proposing::propose;
+use crate::rooms::{three_sets, two_lists, two_sets};
 use crate::starting::start;
-use crate::times::{begin, keep_times, measure_active};
+use crate::times::{begin, keep_times, measure_active, time_since};
 use sfc_expr::ticks::Ticks;
 use sfc_expr::variable::StepId;
 use sfc_flags::flags::Flags;
@@ -72,15 +73,18 @@ impl Steps {
     {
         let n = tables.steps();
         let m = tables.transitions();
+        let (since, kept) = two_lists(alloc, n)?;
+        let (cleared, candidates) = two_sets(alloc, m)?;
+        let (active, used, on) = three_sets(alloc, n)?;
         Ok(Steps {
             begun: false,
-            active: Flags::new(alloc, n)?,
-            since: vec![in alloc; 0; n]?,
-            kept: vec![in alloc; 0; n]?,
-            cleared: Flags::new(alloc, m)?,
-            candidates: Flags::new(alloc, m)?,
-            used: Flags::new(alloc, n)?,
-            on: Flags::new(alloc, n)?,
+            active,
+            since,
+            kept,
+            cleared,
+            candidates,
+            used,
+            on,
         })
     }
 
@@ -170,7 +174,7 @@ impl Steps {
     {
         let s = step.0 as usize;
         if self.active.get(s) {
-            t - self.since[s]
+            time_since(self.since[s], t)
         } else {
             self.kept[s]
         }

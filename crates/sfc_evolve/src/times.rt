@@ -13,8 +13,8 @@ use sfc_flags::flags::Flags;
 use sfc_tables::ids::TransitionId;
 use sfc_tables::tables::Tables;
 
-// The time since an instant.
-fn time_since(since: i64, t: i64) -> i64
+/// The time since an instant.
+pub fn time_since(since: i64, t: i64) -> i64
     requires low { pos 0 ≤ℤ t }
     requires high { t ≤ℤ pos (2 ^ 62) }
     requires since_low { pos 0 ≤ℤ since }

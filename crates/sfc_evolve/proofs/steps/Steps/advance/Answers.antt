@@ -65,6 +65,155 @@ scanned c proposes =
     c.begin.ensures.active
     (begins ∙ ap (begun_at c.args.t (places_from on 0)) c.deref_mut-2.ensures.value)
 
+pub clear_in_order-requires-clause-tables : goal.clear_in_order-requires-clause-tables
+clear_in_order-requires-clause-tables c = c.steps-steps.ensures.tables
+
+pub clear_in_order-requires-clause-active_len : goal.clear_in_order-requires-clause-active_len
+clear_in_order-requires-clause-active_len c = c.requires.sizes.same_steps
+
+pub clear_in_order-requires-clause-conditions_len : goal.clear_in_order-requires-clause-conditions_len
+clear_in_order-requires-clause-conditions_len c = c.requires.conditions
+
+pub clear_in_order-requires-clause-used_len : goal.clear_in_order-requires-clause-used_len
+clear_in_order-requires-clause-used_len c =
+    let self = c.args.self.now in
+    ap length c.clear_all.ensures.flags ∙ length-replicate (length self.used) false ∙ self.used_len ∙ c.requires.sizes.same_steps
+
+pub clear_in_order-requires-clause-cleared : goal.clear_in_order-requires-clause-cleared
+clear_in_order-requires-clause-cleared c =
+    c.clear_all-2.ensures.flags ∙ ap (λ k. replicate k false) c.requires.sizes.same_transitions
+
+pub clear_in_order-requires-clause-candidates_len : goal.clear_in_order-requires-clause-candidates_len
+clear_in_order-requires-clause-candidates_len c = c.args.self.now.candidates_len ∙ c.requires.sizes.same_transitions
+
+pub keep_times-requires-clause-tables : goal.keep_times-requires-clause-tables
+keep_times-requires-clause-tables c = c.steps-steps.ensures.tables
+
+pub keep_times-requires-clause-cleared_len : goal.keep_times-requires-clause-cleared_len
+keep_times-requires-clause-cleared_len c =
+    c.clear_in_order.ensures.cleared_len
+    ∙ ap length c.clear_all-2.ensures.flags
+    ∙ length-replicate (length c.args.self.now.cleared) false
+    ∙ c.requires.sizes.same_transitions
+
+pub keep_times-requires-clause-since_len : goal.keep_times-requires-clause-since_len
+keep_times-requires-clause-since_len c =
+    ap length c.deref.ensures.value ∙ c.args.self.now.since_len ∙ c.requires.sizes.same_steps
+
+pub keep_times-requires-clause-kept_len : goal.keep_times-requires-clause-kept_len
+keep_times-requires-clause-kept_len c =
+    let self = c.args.self.now in
+    ap length c.deref_mut.ensures.value ∙ self.kept_len ∙ sym (ap length c.deref.ensures.value ∙ self.since_len)
+
+pub keep_times-requires-clause-instants : goal.keep_times-requires-clause-instants
+keep_times-requires-clause-instants c = subst AreInstants (sym c.deref.ensures.value) c.args.self.now.instants
+
+pub keep_times-requires-clause-low : goal.keep_times-requires-clause-low
+keep_times-requires-clause-low c =
+    let fits : SFits w64 c.args.t = c.ranges.t in
+    rw (to_z-of_z w64 c.args.t) c.requires.low
+
+pub keep_times-requires-clause-high : goal.keep_times-requires-clause-high
+keep_times-requires-clause-high c =
+    let fits : SFits w64 c.args.t = c.ranges.t in
+    rw (to_z-of_z w64 c.args.t) c.requires.high
+
+pub unmark_preceding-requires-clause-tables : goal.unmark_preceding-requires-clause-tables
+unmark_preceding-requires-clause-tables c = c.steps-steps.ensures.tables
+
+pub unmark_preceding-requires-clause-cleared_len : goal.unmark_preceding-requires-clause-cleared_len
+unmark_preceding-requires-clause-cleared_len c =
+    c.clear_in_order.ensures.cleared_len
+    ∙ ap length c.clear_all-2.ensures.flags
+    ∙ length-replicate (length c.args.self.now.cleared) false
+    ∙ c.requires.sizes.same_transitions
+
+pub unmark_preceding-requires-clause-active_len : goal.unmark_preceding-requires-clause-active_len
+unmark_preceding-requires-clause-active_len c = c.requires.sizes.same_steps
+
+pub start-requires-clause-tables : goal.start-requires-clause-tables
+start-requires-clause-tables c = c.steps-steps.ensures.tables
+
+pub start-requires-clause-on_len : goal.start-requires-clause-on_len
+start-requires-clause-on_len c = c.args.self.now.on_len ∙ c.requires.sizes.same_steps
+
+pub mark_following-requires-clause-tables : goal.mark_following-requires-clause-tables
+mark_following-requires-clause-tables c = c.steps-steps.ensures.tables
+
+pub mark_following-requires-clause-cleared_len : goal.mark_following-requires-clause-cleared_len
+mark_following-requires-clause-cleared_len c =
+    c.clear_in_order.ensures.cleared_len
+    ∙ ap length c.clear_all-2.ensures.flags
+    ∙ length-replicate (length c.args.self.now.cleared) false
+    ∙ c.requires.sizes.same_transitions
+
+pub mark_following-requires-clause-on_len : goal.mark_following-requires-clause-on_len
+mark_following-requires-clause-on_len c =
+    c.start.ensures.len ∙ c.args.self.now.on_len ∙ c.requires.sizes.same_steps
+
+pub begin-requires-clause-low : goal.begin-requires-clause-low
+begin-requires-clause-low c =
+    let fits : SFits w64 c.args.t = c.ranges.t in
+    rw (to_z-of_z w64 c.args.t) c.requires.low
+
+pub begin-requires-clause-high : goal.begin-requires-clause-high
+begin-requires-clause-high c =
+    let fits : SFits w64 c.args.t = c.ranges.t in
+    rw (to_z-of_z w64 c.args.t) c.requires.high
+
+pub begin-requires-clause-instants : goal.begin-requires-clause-instants
+begin-requires-clause-instants c = subst AreInstants (sym c.deref_mut-2.ensures.value) c.args.self.now.instants
+
+pub begin-requires-clause-on_len : goal.begin-requires-clause-on_len
+begin-requires-clause-on_len c =
+    let self = c.args.self.now in
+    c.mark_following.ensures.len ∙ c.start.ensures.len ∙ self.on_len ∙ sym (ap length c.deref_mut-2.ensures.value ∙ self.since_len)
+
+pub begin-requires-clause-active_len : goal.begin-requires-clause-active_len
+begin-requires-clause-active_len c =
+    c.unmark_preceding.ensures.len ∙ sym (c.mark_following.ensures.len ∙ c.start.ensures.len ∙ c.args.self.now.on_len)
+
+pub propose-requires-clause-tables : goal.propose-requires-clause-tables
+propose-requires-clause-tables c = c.steps-steps.ensures.tables
+
+pub propose-requires-clause-active_len : goal.propose-requires-clause-active_len
+propose-requires-clause-active_len c =
+    c.begin.ensures.active_len ∙ c.unmark_preceding.ensures.len ∙ c.requires.sizes.same_steps
+
+pub propose-requires-clause-candidates_len : goal.propose-requires-clause-candidates_len
+propose-requires-clause-candidates_len c = c.args.self.now.candidates_len ∙ c.requires.sizes.same_transitions
+
+pub returns-clause-sizes : goal.returns-clause-sizes
+returns-clause-sizes c = record {
+  same_steps = c.begin.ensures.active_len ∙ c.unmark_preceding.ensures.len ∙ c.requires.sizes.same_steps;
+  same_transitions =
+      c.clear_in_order.ensures.cleared_len
+      ∙ ap length c.clear_all-2.ensures.flags
+      ∙ length-replicate (length c.args.self.now.cleared) false
+      ∙ c.requires.sizes.same_transitions;
+}
+
+pub invariant_of-self-clause-since_len : goal.invariant_of-self-clause-since_len
+invariant_of-self-clause-since_len c =
+    let self = c.args.self.now in
+    let same : length c.begin.new.since ≡ length c.begin.new.active =
+    omega (arith, self.since_len, c.begin.ensures.active_len, c.unmark_preceding.ensures.len) in
+    ap length (with_items_is self.since c.begin.new.since (omega arith)) ∙ same
+
+pub invariant_of-self-clause-used_len : goal.invariant_of-self-clause-used_len
+invariant_of-self-clause-used_len c =
+    let self = c.args.self.now in
+    c.clear_in_order.ensures.used_len
+    ∙ ap length c.clear_all.ensures.flags
+    ∙ length-replicate (length self.used) false
+    ∙ self.used_len
+    ∙ sym (c.begin.ensures.active_len ∙ c.unmark_preceding.ensures.len)
+
+pub invariant_of-self-clause-on_len : goal.invariant_of-self-clause-on_len
+invariant_of-self-clause-on_len c =
+    c.mark_following.ensures.len ∙ c.start.ensures.len ∙ c.args.self.now.on_len
+    ∙ sym (c.begin.ensures.active_len ∙ c.unmark_preceding.ensures.len)
+
 pub returns-clause-kept : goal.returns-clause-kept
 unfolding StepsAgree
 returns-clause-kept c scans k =

@@ -1,9 +1,9 @@
-use Rattle.std.proofs.Common.{◌≡◌, length, arith, ◌∙◌, refl, sym, SFits, w64}
+use Rattle.std.proofs.Common.{◌≡◌, length, arith, ap, subst, ◌∙◌, refl, sym, SFits, w64}
 use Rattle.std.proofs.lemmas.Int.{to_z-of_z}
 use Rattle.std.proofs.lemmas.List.{with_items_is}
 use Rattle.sfc_flags.specs.Flags.{places_from}
 use Rattle.sfc_evolve.specs.Agreement.{StepsAgree, measured_times}
-use Rattle.sfc_evolve.specs.Private.Keeping.{measured_at}
+use Rattle.sfc_evolve.specs.Private.Keeping.{AreInstants, measured_at}
 use Rattle.sfc_evolve.proofs.Next.{kept_at}
 use Rattle.sfc_evolve.proofs.Measured.{still_kept, times_are}
 use Rattle.sfc_evolve.proofs.steps.Steps.measure.Goals as goal
@@ -18,6 +18,33 @@ made c =
     ≡ measured_at c.args.t c.deref.result.now (places_from self.active 0) c.deref_mut.result.now =
     simp to_z-of_z at c.measure_active.ensures.times in
     raw ∙ (λ i. measured_at c.args.t (c.deref.ensures.value i) (places_from self.active 0) (c.deref_mut.ensures.value i))
+
+pub measure_active-requires-clause-low : goal.measure_active-requires-clause-low
+measure_active-requires-clause-low c =
+    let fits : SFits w64 c.args.t = c.ranges.t in
+    rw (to_z-of_z w64 c.args.t) c.requires.low
+
+pub measure_active-requires-clause-high : goal.measure_active-requires-clause-high
+measure_active-requires-clause-high c =
+    let fits : SFits w64 c.args.t = c.ranges.t in
+    rw (to_z-of_z w64 c.args.t) c.requires.high
+
+pub measure_active-requires-clause-instants : goal.measure_active-requires-clause-instants
+measure_active-requires-clause-instants c = subst AreInstants (sym c.deref.ensures.value) c.args.self.now.instants
+
+pub measure_active-requires-clause-active_len : goal.measure_active-requires-clause-active_len
+measure_active-requires-clause-active_len c = sym (ap length c.deref.ensures.value ∙ c.args.self.now.since_len)
+
+pub measure_active-requires-clause-times_len : goal.measure_active-requires-clause-times_len
+measure_active-requires-clause-times_len c =
+    let self = c.args.self.now in
+    ap length c.deref_mut.ensures.value ∙ self.kept_len ∙ sym (ap length c.deref.ensures.value ∙ self.since_len)
+
+pub invariant_of-self-clause-kept_len : goal.invariant_of-self-clause-kept_len
+invariant_of-self-clause-kept_len c =
+    let self = c.args.self.now in
+    ap length (with_items_is self.kept c.measure_active.new.times (omega arith))
+    ∙ c.measure_active.ensures.len ∙ ap length c.deref_mut.ensures.value ∙ self.kept_len
 
 pub returns-clause-kept : goal.returns-clause-kept
 unfolding StepsAgree

@@ -1,0 +1,78 @@
+-- Instants and the times between them, and one step of a walk that writes them.
+use Rattle.std.proofs.Common.{◌≡◌, ◌⊎◌, inl, inr, zero, suc, subst, ℕ, ◌+◌, ◌<◌, ◌≤◌, ◌^◌, List, [], ◌∷◌, length, get_or, drop}
+use Rattle.std.proofs.Common.{ℤ, pos, ◌-ℤ◌, ◌≤ℤ◌, to_z, of_z, w64, arith, refl, sym, ap, ◌∙◌}
+use Rattle.std.specs.Prelude.{slice_set}
+use Rattle.std.proofs.Math.Numerals.{add-one}
+use Rattle.std.proofs.Math.Seq.{drop-cons}
+use Rattle.std.proofs.lemmas.Int.{ints}
+use Rattle.std.proofs.lemmas.List.{drop_all}
+use Rattle.sfc_expr.specs.declared.variable.StepId.{StepId}
+use Rattle.sfc_evolve.specs.Private.Keeping.{AreInstants, number, left_at, begun_at, measured_at}
+
+-- an instant fits in 64 bits
+pub same_instant : (x : ℤ) → pos 0 ≤ℤ x → x ≤ℤ pos (2 ^ 62) → to_z w64 (of_z w64 x) ≡ x
+same_instant x low high = omega (arith, ints)
+
+pub instant_low : (x : ℤ) → pos 0 ≤ℤ x → x ≤ℤ pos (2 ^ 62) → pos 0 ≤ℤ to_z w64 (of_z w64 x)
+instant_low x low high = subst (λ (y : ℤ). pos 0 ≤ℤ y) (sym (same_instant x low high)) low
+
+pub instant_high : (x : ℤ) → pos 0 ≤ℤ x → x ≤ℤ pos (2 ^ 62) → to_z w64 (of_z w64 x) ≤ℤ pos (2 ^ 62)
+instant_high x low high = subst (λ (y : ℤ). y ≤ℤ pos (2 ^ 62)) (sym (same_instant x low high)) high
+
+-- so does the time between two instants
+pub time_is : (t since x : ℤ) → pos 0 ≤ℤ t → t ≤ℤ pos (2 ^ 62) → pos 0 ≤ℤ since → since ≤ℤ pos (2 ^ 62)
+    → x ≡ (to_z w64 (of_z w64 t) -ℤ to_z w64 (of_z w64 since)) → to_z w64 (of_z w64 x) ≡ (t -ℤ since)
+time_is t since x low high since_low since_high e = omega (arith, ints)
+
+module _ (t t' : ℤ) (same : t' ≡ t) (since : List ℤ) where
+  -- the time of one step more is kept
+  pub left_one : (steps : List StepId) (i : ℕ) (kept : List ℤ) (v : ℤ) → i < length steps
+      → v ≡ (t -ℤ number since (get_or steps i record { 0 = 0 }).0)
+      → left_at t' since (drop (i + 1) steps) (slice_set kept (get_or steps i record { 0 = 0 }).0 v)
+      ≡ left_at t' since (drop i steps) kept
+  left_one steps i kept v lt e = rw (e, same, add-one, drop-cons steps i record { 0 = 0 }) refl
+
+  -- those of all are
+  pub left_all : (steps : List StepId) (i : ℕ) (kept before : List ℤ) → length steps ≤ i
+      → left_at t' since (drop i steps) kept ≡ left_at t' since steps before → kept ≡ left_at t since steps before
+  left_all steps i kept before le rest =
+      sym (ap (λ (xs : List StepId). left_at t' since xs kept) (drop_all i steps le)) ∙ rest
+      ∙ ap (λ (x : ℤ). left_at x since steps before) same
+
+  -- one place more is measured
+  pub measured_one : (places more : List ℕ) (s : ℕ) (times : List ℤ) (v : ℤ) → places ≡ s ∷ more → v ≡ (t -ℤ number since s)
+      → measured_at t' since more (slice_set times s v) ≡ measured_at t' since places times
+  measured_one places more s times v is e = rw (e, same, is) refl
+
+  -- all places have begun
+  pub begun_all : (left all : List ℕ) (before : List ℤ) → left ≡ [] → begun_at t' left since ≡ begun_at t' all before
+      → since ≡ begun_at t all before
+  begun_all left all before none rest =
+      sym (ap (λ (places : List ℕ). begun_at t' places since) none) ∙ rest ∙ ap (λ (x : ℤ). begun_at x all before) same
+
+  -- all places are measured
+  pub measured_all : (left all : List ℕ) (times before : List ℤ) → left ≡ []
+      → measured_at t' since left times ≡ measured_at t' since all before → times ≡ measured_at t since all before
+  measured_all left all times before none rest =
+      sym (ap (λ (places : List ℕ). measured_at t' since places times) none) ∙ rest
+      ∙ ap (λ (x : ℤ). measured_at x since all before) same
+
+-- an instant set keeps them instants
+pub begun_instants : (t t' : ℤ) (since : List ℤ) (s : ℕ) → t' ≡ t → pos 0 ≤ℤ t → t ≤ℤ pos (2 ^ 62) → AreInstants since
+    → AreInstants (slice_set since s t')
+begun_instants t t' since s same low high instants k = elim (cases_at since s k t') [
+  | inl put ↦ (let is = put ∙ same in
+      (subst (λ (x : ℤ). pos 0 ≤ℤ x) (sym is) low, subst (λ (x : ℤ). x ≤ℤ pos (2 ^ 62)) (sym is) high))
+  | inr other ↦ (
+    subst (λ (x : ℤ). pos 0 ≤ℤ x) (sym other) (instants k).0,
+    subst (λ (x : ℤ). x ≤ℤ pos (2 ^ 62)) (sym other) (instants k).1,
+  )
+]
+  where
+    cases_at : (since : List ℤ) (s k : ℕ) (v : ℤ)
+        → (number (slice_set since s v) k ≡ v) ⊎ (number (slice_set since s v) k ≡ number since k)
+    cases_at [] s k v = inr refl
+    cases_at (x ∷ xs) zero zero v = inl refl
+    cases_at (x ∷ xs) zero (suc k) v = inr refl
+    cases_at (x ∷ xs) (suc s) zero v = inr refl
+    cases_at (x ∷ xs) (suc s) (suc k) v = cases_at xs s k v

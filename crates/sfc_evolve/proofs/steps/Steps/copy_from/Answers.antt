@@ -1,0 +1,70 @@
+use Rattle.std.proofs.Common.{arith, ap, sym, subst, length, ◌∙◌}
+use Rattle.std.proofs.lemmas.List.{with_items_is}
+use Rattle.sfc_evolve.specs.Private.Keeping.{AreInstants}
+use Rattle.sfc_evolve.proofs.steps.Steps.copy_from.Goals as goal
+
+pub copy_from-requires-2 : goal.copy_from-requires-2
+copy_from-requires-2 c =
+    c.args.other.now.candidates_len ∙ c.requires.transitions ∙ sym c.args.self.now.candidates_len
+
+pub copy_times-requires-clause-kept_len : goal.copy_times-requires-clause-kept_len
+copy_times-requires-clause-kept_len c =
+    let self = c.args.self.now in
+    ap length c.deref_mut-2.ensures.value ∙ self.kept_len ∙ sym (ap length c.deref_mut.ensures.value ∙ self.since_len)
+
+pub copy_times-requires-clause-from_since_len : goal.copy_times-requires-clause-from_since_len
+copy_times-requires-clause-from_since_len c =
+    ap length c.deref.ensures.value ∙ c.args.other.now.since_len ∙ c.requires.steps
+    ∙ sym (ap length c.deref_mut.ensures.value ∙ c.args.self.now.since_len)
+
+pub copy_times-requires-clause-from_kept_len : goal.copy_times-requires-clause-from_kept_len
+copy_times-requires-clause-from_kept_len c =
+    ap length c.deref-2.ensures.value ∙ c.args.other.now.kept_len ∙ c.requires.steps
+    ∙ sym (ap length c.deref_mut.ensures.value ∙ c.args.self.now.since_len)
+
+pub invariant_of-self-clause-since_len : goal.invariant_of-self-clause-since_len
+invariant_of-self-clause-since_len c =
+    ap length (with_items_is c.args.self.now.since c.copy_times.new.since (omega arith)
+    ∙ c.copy_times.ensures.since ∙ c.deref.ensures.value)
+    ∙ c.args.other.now.since_len ∙ sym (ap length c.copy_flags.ensures.active)
+
+pub invariant_of-self-clause-kept_len : goal.invariant_of-self-clause-kept_len
+invariant_of-self-clause-kept_len c =
+    ap length (with_items_is c.args.self.now.kept c.copy_times.new.kept (omega arith)
+    ∙ c.copy_times.ensures.kept ∙ c.deref-2.ensures.value)
+    ∙ c.args.other.now.kept_len ∙ sym (ap length c.copy_flags.ensures.active)
+
+pub invariant_of-self-clause-candidates_len : goal.invariant_of-self-clause-candidates_len
+invariant_of-self-clause-candidates_len c =
+    ap length c.copy_from-2.ensures.flags ∙ c.args.other.now.candidates_len ∙ sym (ap length c.copy_from.ensures.flags)
+
+pub invariant_of-self-clause-used_len : goal.invariant_of-self-clause-used_len
+invariant_of-self-clause-used_len c =
+    c.args.self.now.used_len ∙ sym (ap length c.copy_flags.ensures.active ∙ c.requires.steps)
+
+pub invariant_of-self-clause-on_len : goal.invariant_of-self-clause-on_len
+invariant_of-self-clause-on_len c =
+    ap length c.copy_flags.ensures.on ∙ c.args.other.now.on_len ∙ sym (ap length c.copy_flags.ensures.active)
+
+pub invariant_of-self-clause-instants : goal.invariant_of-self-clause-instants
+invariant_of-self-clause-instants c =
+    subst AreInstants
+    (sym (with_items_is c.args.self.now.since c.copy_times.new.since (omega arith)
+    ∙ c.copy_times.ensures.since ∙ c.deref.ensures.value))
+    c.args.other.now.instants
+
+pub returns-clause-ticks : goal.returns-clause-ticks
+returns-clause-ticks c =
+    let self = c.args.self.now in
+    let room = ap length c.deref_mut.ensures.value in (
+      omega arith,
+      omega (
+        arith,
+        c.copy_from.ensures.ticks,
+        c.copy_from-2.ensures.ticks,
+        c.copy_times.ensures.ticks,
+        self.candidates_len,
+        self.since_len,
+        room,
+      ),
+    )
