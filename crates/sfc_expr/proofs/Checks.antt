@@ -170,6 +170,12 @@ none_left names xs i end = ap (λ (l : List written.Statement). checked_body nam
 pub no_branch_left : (names : Names) (xs : List written_branch.Branch) (i : ℕ) → length xs ≤ i → checked_branches names (text.branches_of (drop i xs)) ≡ Ok NoBranch
 no_branch_left names xs i end = ap (λ (l : List written_branch.Branch). checked_branches names (text.branches_of l)) (drop_all i xs end)
 
+pub all_checked : (names : Names) (xs : List written.Statement) (i : ℕ) (done : Body) (whole : Checked Body) → behind_body done (checked_body names (text.block_of (drop i xs))) ≡ whole → length xs ≤ i → whole ≡ Ok done
+all_checked names xs i done whole so_far end = sym so_far ∙ ap (behind_body done) (none_left names xs i end) ∙ ap Ok (append_nothing done)
+
+pub all_branches : (names : Names) (xs : List written_branch.Branch) (i : ℕ) (done : Branches) (whole : Checked Branches) → behind_branches done (checked_branches names (text.branches_of (drop i xs))) ≡ whole → length xs ≤ i → whole ≡ Ok done
+all_branches names xs i done whole so_far end = sym so_far ∙ ap (behind_branches done) (no_branch_left names xs i end) ∙ ap Ok (join_nothing done)
+
 pub ruleset statements = (one_more, one_fails, none_left, append_nothing)
 
 pub ruleset branches = (branch_more, branch_fails, no_branch_left, join_nothing)

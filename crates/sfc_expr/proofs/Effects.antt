@@ -1,6 +1,6 @@
 -- A statement before others, and a branch before others.
-use Rattle.std.proofs.Common.{◌≡◌, ℕ, ◌+◌, ◌<◌, true, List, ◌∷◌, Vec, Global, length, get_or, drop, refl, ap, sym, ◌∙◌, arith, Result, Ok, Err}
-use Rattle.std.proofs.lemmas.List.{drop_more}
+use Rattle.std.proofs.Common.{◌≡◌, ℕ, ◌+◌, ◌<◌, ◌≤◌, true, false, List, ◌∷◌, Vec, Global, length, get_or, drop, refl, ap, sym, ◌∙◌, arith, Result, Ok, Err}
+use Rattle.std.proofs.lemmas.List.{drop_more, drop_all}
 use Rattle.sfc_expr.specs.declared.value.Value.{Value}
 use Rattle.sfc_expr.specs.declared.fault.Fault.{Fault}
 use Rattle.sfc_expr.specs.declared.expr.Expr.{Expr}
@@ -47,6 +47,17 @@ effect-if s v env is = ap (λ (x : Statement). effect (before x Nothing) env) is
 pub nodes-if : (s : Statement) (v : Vec Branch Global) → s ≡ statement.If v → body_nodes (before s Nothing) ≡ branch_nodes (branches_of v.items) + 1
 nodes-if s v is = let e : body_nodes (before s Nothing) ≡ branch_nodes (branches_of v.items) + 1 + 0 = ap (λ (x : Statement). body_nodes (before x Nothing)) is ∙ ap body_nodes (before-if v Nothing) in omega arith
 
+pub as_branches : (s : Statement) (v : Vec Branch Global) → s ≡ statement.If v → (bs : List Branch) → bs ≡ v.items → (env : Environment) → effect (before s Nothing) env ≡ branch_effect (branches_of bs) env
+as_branches s v is bs at env = effect-if s v env is ∙ ap (λ (l : List Branch). branch_effect (branches_of l) env) (sym at)
+
+-- ---- a list at its end
+
+pub finished : (xs : List Statement) (i : ℕ) (env : Environment) (whole : Outcome) → effect (body_of (drop i xs)) env ≡ whole → length xs ≤ i → whole ≡ done env
+finished xs i env whole so_far end = sym so_far ∙ ap (λ (s : List Statement). effect (body_of s) env) (drop_all i xs end)
+
+pub tried_all : (xs : List Branch) (i : ℕ) (env : Environment) (whole : Outcome) → branch_effect (branches_of (drop i xs)) env ≡ whole → length xs ≤ i → whole ≡ done env
+tried_all xs i env whole so_far end = sym so_far ∙ ap (λ (b : List Branch). branch_effect (branches_of b) env) (drop_all i xs end)
+
 -- ---- one element of a list, and those behind it
 
 pub split : {A : Type 0} (xs : List A) (i : ℕ) (x : A) → i < length xs → x ≡ get_or xs i x → drop i xs ≡ x ∷ drop (i + 1) xs
@@ -90,6 +101,21 @@ module _ (xs : List Branch) (i : ℕ) (x : Branch) (lt : i < length xs) (is : x 
 
     pub applies : (env : Environment) (y : Value) → Ok y ≡ value_of env (expression_of e) → truth y ≡ true → effect (body_of v.items) env ≡ branch_effect (branches_of (drop i xs)) env
     applies env y is_value is_true = rw (when_at, ← is_value, is_true) refl
+
+    pub takes : (env : Environment) (y : Value) → Ok y ≡ value_of env (expression_of e) → truth y ≡ true → (ss : List Statement) → ss ≡ v.items → (whole : Outcome) → branch_effect (branches_of (drop i xs)) env ≡ whole → effect (body_of ss) env ≡ whole
+    takes env y is_value is_true ss at whole so_far = ap (λ (l : List Statement). effect (body_of l) env) at ∙ applies env y is_value is_true ∙ so_far
+
+    passes : (env : Environment) (y : Value) → Ok y ≡ value_of env (expression_of e) → truth y ≡ false → branch_effect (branches_of (drop (i + 1) xs)) env ≡ branch_effect (branches_of (drop i xs)) env
+    passes env y is_value is_false = rw (when_at, ← is_value, is_false) refl
+
+    faults : (env : Environment) (fault : Fault) → Err fault ≡ value_of env (expression_of e) → branch_effect (branches_of (drop i xs)) env ≡ ended env fault
+    faults env fault is_fault = rw (when_at, ← is_fault) refl
+
+    pub passed : (env : Environment) (y : Value) → Ok y ≡ value_of env (expression_of e) → truth y ≡ false → (whole : Outcome) → branch_effect (branches_of (drop i xs)) env ≡ whole → branch_effect (branches_of (drop (i + 1) xs)) env ≡ whole
+    passed env y is_value is_false whole so_far = passes env y is_value is_false ∙ so_far
+
+    pub faulted : (env : Environment) (fault : Fault) → Err fault ≡ value_of env (expression_of e) → (whole : Outcome) → branch_effect (branches_of (drop i xs)) env ≡ whole → whole ≡ ended env fault
+    faulted env fault is_fault whole so_far = sym so_far ∙ faults env fault is_fault
 
     pub nodes-when : branch_nodes (branches_of (drop i xs)) ≡ nodes (expression_of e) + body_nodes (body_of v.items) + branch_nodes (branches_of (drop (i + 1) xs))
     nodes-when = ap branch_nodes when_at

@@ -1,6 +1,7 @@
 //! The types of expressions (3.3.1).
 
 ghost use Rattle.std.specs.Prelude.{◌≡◌};
+ghost use Rattle.sfc_text.specs.Trees as written;
 ghost use Rattle.sfc_text.specs.Trees.{tree_of};
 ghost use Rattle.sfc_expr.specs.Checking as checking;
 ghost use Rattle.sfc_expr.specs.Naturals as naturals;
@@ -22,6 +23,7 @@ use std::alloc::Global;
 
 /// The typed tree of an expression that is wanted of a type, or its first type fault: an operator's own before those
 /// of its operands, the left operand's before the right one's.
+#[cycle(check)]
 pub fn check<S: Scope>(
     alloc: Global,
     expression: &Expression,
@@ -33,24 +35,63 @@ pub fn check<S: Scope>(
     match expression {
         Expression::Literal(literal) => Ok(Expr::Literal(check_literal(*literal, wanted)?)),
         Expression::Variable(name) => check_name(name, scope, wanted),
-        Expression::Not(operand) => {
-            want(VarType::Bool, wanted)?;
-            let operand = check(alloc, operand, scope, VarType::Bool)?;
-            Ok(Expr::Not(Box::new(alloc, operand)?))
-        }
-        Expression::Minus(operand) => {
-            let var_type = integer(wanted)?;
-            let operand = check(alloc, operand, scope, var_type)?;
-            Ok(Expr::Minus(var_type, Box::new(alloc, operand)?))
-        }
+        Expression::Not(operand) => check_not(alloc, operand, scope, wanted),
+        Expression::Minus(operand) => check_minus(alloc, operand, scope, wanted),
         Expression::Binary(written, left, right) => {
             let operator = Operator::of_text(*written);
             let var_type = operand_type(operator.family(), wanted, left, right, scope)?;
-            let left = Box::new(alloc, check(alloc, left, scope, var_type)?)?;
-            let right = Box::new(alloc, check(alloc, right, scope, var_type)?)?;
+            let left = check_operand(alloc, left, scope, var_type)?;
+            let right = check_operand(alloc, right, scope, var_type)?;
             Ok(Expr::Binary(operator, var_type, left, right))
         }
     }
+}
+
+// The typed tree of a NOT of an operand.
+#[cycle(check)]
+fn check_not<S: Scope>(
+    alloc: Global,
+    operand: &Expression,
+    scope: &S,
+    wanted: VarType,
+) -> Result<Expr, TypeError>
+    ensures { Gives expression_of result
+        (checking.checked (S.names scope.now) (written.Not (tree_of operand.now)) wanted) }
+{
+    want(VarType::Bool, wanted)?;
+    let operand = check_operand(alloc, operand, scope, VarType::Bool)?;
+    Ok(Expr::Not(operand))
+}
+
+// The typed tree of a minus before an operand.
+#[cycle(check)]
+fn check_minus<S: Scope>(
+    alloc: Global,
+    operand: &Expression,
+    scope: &S,
+    wanted: VarType,
+) -> Result<Expr, TypeError>
+    ensures { Gives expression_of result
+        (checking.checked (S.names scope.now) (written.Minus (tree_of operand.now)) wanted) }
+{
+    let var_type = integer(wanted)?;
+    let operand = check_operand(alloc, operand, scope, var_type)?;
+    Ok(Expr::Minus(var_type, operand))
+}
+
+// The typed tree of an operand, in memory of its own.
+#[cycle(check)]
+fn check_operand<S: Scope>(
+    alloc: Global,
+    operand: &Expression,
+    scope: &S,
+    wanted: VarType,
+) -> Result<Box<Expr>, TypeError>
+    ensures { Gives (λ b. expression_of b.value) result
+        (checking.checked (S.names scope.now) (tree_of operand.now) wanted) }
+{
+    let operand = check(alloc, operand, scope, wanted)?;
+    Ok(Box::new(alloc, operand)?)
 }
 
 // The typed tree of a name.
