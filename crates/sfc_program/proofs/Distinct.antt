@@ -1,10 +1,12 @@
 -- Names of which none stands twice, part after part.
-use Rattle.std.proofs.Common.{◌≡◌, ℕ, Bool, true, false, ◌||◌, List, [], ◌∷◌, ◌++◌, Some, None, refl, sym, ap, ◌∙◌, append_assoc}
+use Rattle.std.proofs.Common.{◌≡◌, ℕ, Bool, true, false, ◌||◌, List, [], ◌∷◌, ◌++◌, Some, None, refl, sym, ap, ◌∙◌, subst, append_assoc}
 use Rattle.std.proofs.lemmas.List.{append-nil}
 use Rattle.std.proofs.lemmas.List.Folds.{list_any-append}
 use Rattle.sfc_tokens.specs.Case.{same_word}
 use Rattle.sfc_expr.specs.NameLists.{has}
-use Rattle.sfc_variables.specs.Checks.{Check, ◌then◌}
+use Rattle.sfc_variables.specs.declared.load_error.LoadError.{LoadError}
+use Rattle.sfc_variables.specs.Checks.{Check, ◌then◌, Fails}
+use Rattle.sfc_variables.proofs.Checks.{passes, fails_first}
 use Rattle.sfc_text.specs.Trees.{ElementTree}
 use Rattle.sfc_program.specs.Elements.{step_names, action_names, transition_names}
 use Rattle.sfc_program.specs.Loading.{name_check, distinct_check, element_names}
@@ -30,6 +32,19 @@ in_parts before (x ∷ a) b =
     (in_parts (before ++ x ∷ []) a b
     ∙ ap (λ (l : List (List ℕ)). distinct_check (before ++ x ∷ []) a then distinct_check l b) (append_assoc before (x ∷ []) a))
     ∙ sym (then_then (name_check before x) (distinct_check (before ++ x ∷ []) a) (distinct_check (before ++ x ∷ a) b))
+
+-- where the first part passes
+pub part_passes : (before after a b : List (List ℕ)) → distinct_check before a ≡ None → after ≡ before ++ a
+    → distinct_check before (a ++ b) ≡ distinct_check after b
+part_passes before after a b passed e =
+    in_parts before a b
+    ∙ passes (distinct_check before a) (distinct_check (before ++ a) b) passed
+    ∙ ap (λ (l : List (List ℕ)). distinct_check l b) (sym e)
+
+-- where it does not
+pub part_fails : (f : LoadError) (before a b : List (List ℕ)) → Fails f (distinct_check before a) → Fails f (distinct_check before (a ++ b))
+part_fails f before a b h =
+    subst (Fails f) (sym (in_parts before a b)) (fails_first f (distinct_check before a) (distinct_check (before ++ a) b) h)
 
 -- the steps before the others
 pub steps_first : (before : List (List ℕ)) (trees : List ElementTree)

@@ -2,3 +2,4 @@ pub mod Typing
 pub mod Distinct
 pub mod Soundness
 pub mod StepNames
+pub mod Turns

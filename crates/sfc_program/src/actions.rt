@@ -1,6 +1,6 @@
 //! Declared actions (2.6.4.1).
 
-ghost use Rattle.std.specs.Prelude.{◌≡◌, ◌++◌, map, Some};
+ghost use Rattle.std.specs.Prelude.{◌≡◌, ◌++◌, ◌∷◌, [], map, Some, OnOk};
 ghost use Rattle.sfc_text.specs.Trees as trees;
 ghost use Rattle.sfc_text.specs.Trees.{element_of, block_of};
 ghost use Rattle.sfc_expr.specs.Checking.{checked_body};
@@ -38,20 +38,21 @@ fn load_body(
     Ok(Statements::new(statements))
 }
 
-// An action with its body.
-fn load_action(
+// Puts an action with its body last among those that are loaded.
+fn add_action(
     alloc: Global,
     action: &tree::Action,
     scope: &ProgramScope,
-) -> Result<Action, LoadError>
-    ensures { let written : _ = trees.action_of action.now in
-        Loads (λ loaded. loaded) result (action_check scope.now written) (action_of scope.now written) }
+    loaded: &mut Vec<Action>,
+) -> Result<(), LoadError>
+    ensures loads { Loads (λ u. u) result (action_check scope.now (trees.action_of action.now)) tt }
+    ensures added { OnOk result
+        (loaded.new.items ≡ loaded.old.items ++ action_of scope.now (trees.action_of action.now) ∷ []) }
 {
     let body = load_body(alloc, action, scope)?;
-    Ok(Action {
-        name: action.name.copy(alloc)?,
-        body,
-    })
+    let name = action.name.copy(alloc)?;
+    loaded.push(Action { name, body })?;
+    Ok(())
 }
 
 /// The declared actions of a program type, in text order, or the first fault in one of their bodies.
@@ -68,7 +69,7 @@ pub fn load_actions(
     let mut rest = elements;
     'elements: while let Some((element, after)) = rest.split_first() {
         if let Element::Action(action) = element {
-            loaded.push(load_action(alloc, action, scope)?)?;
+            add_action(alloc, action, scope, &mut loaded)?;
         }
         rest = after;
     }

@@ -1,6 +1,6 @@
 //! Steps with their associations (2.6.2, 2.6.4).
 
-ghost use Rattle.std.specs.Prelude.{◌≡◌, ◌++◌, map};
+ghost use Rattle.std.specs.Prelude.{◌≡◌, ◌++◌, ◌∷◌, [], map, OnOk};
 ghost use Rattle.sfc_text.specs.Trees.{element_of};
 ghost use Rattle.sfc_variables.specs.Checks.{Loads, each};
 ghost use Rattle.sfc_variables.specs.Finding.{variable_named};
@@ -104,14 +104,20 @@ fn load_qualifier(written: &tree::Qualifier, scope: &ProgramScope) -> Result<Qua
     }
 }
 
-// An indicator variable, which is of any type (2.6.4.3).
-fn load_indicator(name: &Name, scope: &ProgramScope) -> Result<Variable, LoadError>
-    ensures { Loads (λ variable. variable) result (indicator_check scope.now name.now) (variable_in scope.now name.now) }
+// Puts an indicator variable, which is of any type (2.6.4.3), last among those that are loaded.
+fn add_indicator(
+    name: &Name,
+    scope: &ProgramScope,
+    loaded: &mut Vec<Variable>,
+) -> Result<(), LoadError>
+    ensures loads { Loads (λ u. u) result (indicator_check scope.now name.now) tt }
+    ensures added { OnOk result (loaded.new.items ≡ loaded.old.items ++ variable_in scope.now name.now ∷ []) }
 {
-    match scope.variable(name.spelling()) {
-        Some((variable, _)) => Ok(variable),
-        None => Err(LoadError::Unknown),
-    }
+    let Some((variable, _)) = scope.variable(name.spelling()) else {
+        return Err(LoadError::Unknown);
+    };
+    loaded.push(variable)?;
+    Ok(())
 }
 
 // Indicator variables, in text order.
@@ -126,29 +132,32 @@ fn load_indicators(
     let mut loaded = Vec::new(alloc);
     let mut rest = names;
     'names: while let Some((name, after)) = rest.split_first() {
-        loaded.push(load_indicator(name, scope)?)?;
+        add_indicator(name, scope, &mut loaded)?;
         rest = after;
     }
     Ok(loaded)
 }
 
-// One line of an action block (2.6.4.3).
-fn load_association(
+// Puts one line of an action block (2.6.4.3) last among those that are loaded.
+fn add_association(
     alloc: Global,
     association: &tree::Association,
     scope: &ProgramScope,
-) -> Result<Association, LoadError>
-    ensures { Loads (λ loaded. loaded) result
-        (association_check scope.now association.now) (association_of scope.now association.now) }
+    loaded: &mut Vec<Association>,
+) -> Result<(), LoadError>
+    ensures loads { Loads (λ u. u) result (association_check scope.now association.now) tt }
+    ensures added { OnOk result
+        (loaded.new.items ≡ loaded.old.items ++ association_of scope.now association.now ∷ []) }
 {
     let target = load_target(&association.action, scope)?;
     let qualifier = load_qualifier(&association.qualifier, scope)?;
     let indicators = load_indicators(alloc, association.indicators.as_slice(), scope)?;
-    Ok(Association {
+    loaded.push(Association {
         target,
         qualifier,
         indicators: Items::from_vec(indicators),
-    })
+    })?;
+    Ok(())
 }
 
 // The associations of a step, in text order.
@@ -163,22 +172,30 @@ fn load_associations(
     let mut loaded = Vec::new(alloc);
     let mut rest = associations;
     'associations: while let Some((association, after)) = rest.split_first() {
-        loaded.push(load_association(alloc, association, scope)?)?;
+        add_association(alloc, association, scope, &mut loaded)?;
         rest = after;
     }
     Ok(loaded)
 }
 
-// A step with its associations.
-fn load_step(alloc: Global, step: &tree::Step, scope: &ProgramScope) -> Result<Step, LoadError>
-    ensures { Loads (λ loaded. loaded) result (step_check scope.now step.now) (step_of scope.now step.now) }
+// Puts a step with its associations last among those that are loaded.
+fn add_step(
+    alloc: Global,
+    step: &tree::Step,
+    scope: &ProgramScope,
+    loaded: &mut Vec<Step>,
+) -> Result<(), LoadError>
+    ensures loads { Loads (λ u. u) result (step_check scope.now step.now) tt }
+    ensures added { OnOk result (loaded.new.items ≡ loaded.old.items ++ step_of scope.now step.now ∷ []) }
 {
     let associations = load_associations(alloc, step.associations.as_slice(), scope)?;
-    Ok(Step {
-        name: step.name.copy(alloc)?,
+    let name = step.name.copy(alloc)?;
+    loaded.push(Step {
+        name,
         is_initial: step.is_initial,
         associations: Items::from_vec(associations),
-    })
+    })?;
+    Ok(())
 }
 
 /// The steps of a program type, in text order, or the first fault in one of their associations.
@@ -194,7 +211,7 @@ pub fn load_steps(
     let mut rest = elements;
     'elements: while let Some((element, after)) = rest.split_first() {
         if let Element::Step(step) = element {
-            loaded.push(load_step(alloc, step, scope)?)?;
+            add_step(alloc, step, scope, &mut loaded)?;
         }
         rest = after;
     }

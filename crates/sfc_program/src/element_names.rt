@@ -15,10 +15,19 @@ use sfc_variables::load_error::LoadError;
 use std::alloc::Global;
 
 /// The names of the steps and of the declared actions of a program type, each in text order.
-#[derive(Drop)]
 pub struct ElementNames {
     pub steps: NameTable,
     pub actions: NameTable,
+}
+
+// By hand, so that a caller that drops one proves one call.
+impl Drop for ElementNames {
+    fn drop(self) {
+        let ElementNames {
+            steps: _,
+            actions: _,
+        } = self;
+    }
 }
 
 // Puts a name last in the name space, if it isn't there.
@@ -50,7 +59,6 @@ fn add_to_kind(
 }
 
 // Puts the names of the steps last in the name space, and answers the table of them.
-#[tactic(auto, using(crate::proofs::Distinct::not_behind))]
 fn add_steps(
     alloc: Global,
     elements: &[Element],
@@ -72,7 +80,6 @@ fn add_steps(
 }
 
 // Puts the names of the actions last in the name space, and answers the table of them.
-#[tactic(auto, using(crate::proofs::Distinct::not_behind))]
 fn add_actions(
     alloc: Global,
     elements: &[Element],
@@ -114,7 +121,6 @@ fn add_transitions(
 }
 
 // Puts the names of the actions and then of the transitions last in the name space, and answers the table of the first.
-#[tactic(auto, using(crate::proofs::Distinct::in_parts))]
 fn add_others(
     alloc: Global,
     elements: &[Element],

@@ -10,7 +10,7 @@ ghost use Rattle.sfc_program.specs.Built.{chart_of, program_of};
 
 use crate::actions::load_actions;
 use crate::associations::load_steps;
-use crate::element_names::{check_initial, load_element_names};
+use crate::element_names::{ElementNames, check_initial, load_element_names};
 use crate::limits::check_limits;
 use crate::program_type::ProgramType;
 use crate::scope::ProgramScope;
@@ -39,6 +39,29 @@ fn load_chart(alloc: Global, elements: &[Element], scope: &ProgramScope) -> Resu
     })
 }
 
+// The chart of the elements, whose names are these: an initial step, then the chart.
+fn load_named(
+    alloc: Global,
+    elements: &[Element],
+    globals: &VariableTable,
+    locals: &VariableTable,
+    names: &ElementNames,
+) -> Result<Chart, LoadError>
+    requires { length names.now.steps ≤ 1024 }
+    ensures { let trees : _ = map element_of elements.now in
+        let space : _ = record {
+          globals = globals.now;
+          locals = locals.now;
+          steps = names.now.steps;
+          actions = names.now.actions;
+        } in
+        Loads (λ chart. chart) result (initial_check trees then chart_check space trees) (chart_of space trees) }
+{
+    check_initial(elements)?;
+    let scope = ProgramScope::new(globals, locals, &names.steps, &names.actions);
+    load_chart(alloc, elements, &scope)
+}
+
 // The chart of the elements, whose names stand in one name space with those of the variables: names, then an initial
 // step, then the chart.
 fn load_elements(
@@ -61,9 +84,7 @@ fn load_elements(
         (chart_of names trees) }
 {
     let names = load_element_names(alloc, elements, space)?;
-    check_initial(elements)?;
-    let scope = ProgramScope::new(globals, locals, &names.steps, &names.actions);
-    load_chart(alloc, elements, &scope)
+    load_named(alloc, elements, globals, locals, &names)
 }
 
 /// The program type that the trees are, where the global variables are these.

@@ -43,8 +43,26 @@ pub struct ActionScope<'a> {
 
 ghost use Rattle.std.specs.Prelude.{◌≡◌, ◌≤◌, length, Some, None};
 ghost use Rattle.sfc_expr.specs.NameLists.{place_of};
+ghost use Rattle.sfc_variables.specs.Finding.{variable_named};
 ghost use Rattle.sfc_program.specs.Names.{names_in};
 ghost use Rattle.sfc_program.specs.Scoping.AnyCase.{ignoring_case};
+
+/// The variable of this name with its type: a local one, else a global one (2.4.3).
+pub fn find_variable(
+    globals: &VariableTable,
+    locals: &VariableTable,
+    name: &[u8],
+) -> Option<(Variable, VarType)>
+    ensures { result ≡ variable_named locals.now globals.now name.now }
+{
+    if let Some(place) = locals.find(name) {
+        let variable = locals.as_slice().get(place)?;
+        return Some((Variable::Local(LocalId(place)), variable.var_type));
+    }
+    let place = globals.find(name)?;
+    let variable = globals.as_slice().get(place)?;
+    Some((Variable::Global(GlobalId(place)), variable.var_type))
+}
 
 impl<'a> ProgramScope<'a> {
     /// A program type with these variables, steps and actions.
@@ -82,13 +100,7 @@ impl Scope for ProgramScope<'_> {
     ghost names = { λ space. names_in space None };
 
     fn variable(&self, name: &[u8]) -> Option<(Variable, VarType)> {
-        if let Some(place) = self.locals.find(name) {
-            let variable = self.locals.as_slice().get(place)?;
-            return Some((Variable::Local(LocalId(place)), variable.var_type));
-        }
-        let place = self.globals.find(name)?;
-        let variable = self.globals.as_slice().get(place)?;
-        Some((Variable::Global(GlobalId(place)), variable.var_type))
+        find_variable(self.globals, self.locals, name)
     }
 
     fn step(&self, name: &[u8]) -> Option<StepId> {

@@ -28,16 +28,17 @@ use sfc_tokens::var_type::VarType;
 use sfc_variables::load_error::LoadError;
 use std::alloc::{AllocError, Global};
 
-// A step that a transition names, which it hasn't named on the same side before.
-fn load_side_step(
+// Puts a step that a transition names, and hasn't named on the same side before, last among those of the side.
+fn add_side_step(
     alloc: Global,
     name: &Name,
     scope: &ProgramScope,
     seen: &mut NameTable,
-) -> Result<StepId, LoadError>
-    ensures loads { Loads (λ step. step) result
-        (side_step_check scope.now.steps seen.old name.now) (step_id scope.now.steps name.now) }
+    loaded: &mut Vec<StepId>,
+) -> Result<(), LoadError>
+    ensures loads { Loads (λ u. u) result (side_step_check scope.now.steps seen.old name.now) tt }
     ensures named { OnOk result (seen.new ≡ seen.old ++ name.now ∷ []) }
+    ensures added { OnOk result (loaded.new.items ≡ loaded.old.items ++ step_id scope.now.steps name.now ∷ []) }
 {
     let Some(step) = scope.step(name.spelling()) else {
         return Err(LoadError::UnknownStep);
@@ -45,7 +46,8 @@ fn load_side_step(
     if !seen.add(alloc, name.spelling())? {
         return Err(LoadError::Duplicate);
     }
-    Ok(step)
+    loaded.push(step)?;
+    Ok(())
 }
 
 // The steps that a transition names on one side, in text order.
@@ -57,8 +59,7 @@ fn load_side(alloc: Global, names: &[Name], scope: &ProgramScope) -> Result<Vec<
     let mut loaded = Vec::new(alloc);
     let mut rest = names;
     'names: while let Some((name, after)) = rest.split_first() {
-        let step = load_side_step(alloc, name, scope, &mut seen)?;
-        loaded.push(step)?;
+        add_side_step(alloc, name, scope, &mut seen, &mut loaded)?;
         rest = after;
     }
     Ok(loaded)
@@ -91,26 +92,29 @@ fn copy_some_name(alloc: Global, name: &Option<Name>) -> Result<Option<Name>, Al
     }
 }
 
-// A transition with its steps and its condition.
-fn load_transition(
+// Puts a transition with its steps and its condition last among those that are loaded.
+fn add_transition(
     alloc: Global,
     transition: &tree::Transition,
     scope: &ProgramScope,
-) -> Result<Transition, LoadError>
-    ensures { let written : _ = trees.transition_of transition.now in
-        Loads (λ loaded. loaded) result (transition_check scope.now written) (transition_of scope.now written) }
+    loaded: &mut Vec<Transition>,
+) -> Result<(), LoadError>
+    ensures loads { Loads (λ u. u) result (transition_check scope.now (trees.transition_of transition.now)) tt }
+    ensures added { OnOk result
+        (loaded.new.items ≡ loaded.old.items ++ transition_of scope.now (trees.transition_of transition.now) ∷ []) }
 {
     let preceding = load_side(alloc, transition.preceding.as_slice(), scope)?;
     let following = load_side(alloc, transition.following.as_slice(), scope)?;
     let condition = load_condition(alloc, &transition.condition, scope)?;
     let name = copy_some_name(alloc, &transition.name)?;
-    Ok(Transition {
+    loaded.push(Transition {
         name,
         priority: transition.priority,
         preceding: Items::from_vec(preceding),
         following: Items::from_vec(following),
         condition,
-    })
+    })?;
+    Ok(())
 }
 
 /// The transitions of a program type, in text order, or the first fault in one of them.
@@ -127,7 +131,7 @@ pub fn load_transitions(
     let mut rest = elements;
     'elements: while let Some((element, after)) = rest.split_first() {
         if let Element::Transition(transition) = element {
-            loaded.push(load_transition(alloc, transition, scope)?)?;
+            add_transition(alloc, transition, scope, &mut loaded)?;
         }
         rest = after;
     }

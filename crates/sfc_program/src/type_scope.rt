@@ -1,8 +1,9 @@
 //! What names stand for in a program type that was loaded (2.4.3, 2.6.2, 2.6.4.1).
 
 use crate::program_type::ProgramType;
+use crate::scope::find_variable;
 use sfc_expr::scope::Scope;
-use sfc_expr::variable::{GlobalId, LocalId, StepId, Variable};
+use sfc_expr::variable::{StepId, Variable};
 use sfc_tokens::var_type::VarType;
 use sfc_variables::variable_table::VariableTable;
 use std::marker::Model;
@@ -44,13 +45,7 @@ impl Scope for TypeScope<'_> {
     ghost names = { λ space. names_in space None };
 
     fn variable(&self, name: &[u8]) -> Option<(Variable, VarType)> {
-        if let Some(place) = self.program.locals.find(name) {
-            let variable = self.program.locals.as_slice().get(place)?;
-            return Some((Variable::Local(LocalId(place)), variable.var_type));
-        }
-        let place = self.globals.find(name)?;
-        let variable = self.globals.as_slice().get(place)?;
-        Some((Variable::Global(GlobalId(place)), variable.var_type))
+        find_variable(self.globals, &self.program.locals, name)
     }
 
     #[tactic(auto, using(crate::proofs::StepNames::step_place_among, crate::proofs::StepNames::step_place_below))]
