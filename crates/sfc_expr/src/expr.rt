@@ -6,7 +6,7 @@ use crate::variable::{StepId, Variable};
 use sfc_tokens::var_type::VarType;
 
 /// An expression whose types were checked.
-#[derive(Debug, Drop)]
+#[derive(Debug)]
 pub enum Expr {
     /// A literal, its sign included.
     Literal(Value),
@@ -24,4 +24,20 @@ pub enum Expr {
     Minus(VarType, Box<Expr>),
     /// A binary operator on two operands of this type, the left one first.
     Binary(Operator, VarType, Box<Expr>, Box<Expr>),
+}
+
+// By hand, so that a caller that drops one proves one call.
+impl Drop for Expr {
+    fn drop(self) {
+        match self {
+            Expr::Literal(_) => {}
+            Expr::Variable(_) => {}
+            Expr::StepActive(_) => {}
+            Expr::StepTime(_) => {}
+            Expr::ActionQ => {}
+            Expr::Not(_) => {}
+            Expr::Minus(_, _) => {}
+            Expr::Binary(_, _, _, _) => {}
+        }
+    }
 }
