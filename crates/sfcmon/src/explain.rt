@@ -8,18 +8,23 @@ use sfc_explain::table::TABLE;
 use sfc_monitor::monitor_error::MonitorError;
 use std::io;
 
+// All refusals and faults.
+fn entries() -> &'static [Entry] {
+    &TABLE
+}
+
 // The entry with this number or name. A word of digits is a number.
 fn entry_of(word: &str) -> Option<&'static Entry> {
     match word.parse::<u8>() {
-        Ok(number) => entry_numbered(&TABLE, number),
-        Err(_) => entry_named(&TABLE, word.as_bytes()),
+        Ok(number) => entry_numbered(entries(), number),
+        Err(_) => entry_named(entries(), word.as_bytes()),
     }
 }
 
 /// Prints the number and the name of each refusal and fault, a line each: the exit status.
 pub fn list_entries<R: Print + Eprint>(rt: &R) -> u8 {
     let mut out = io::writer(rt);
-    match put_list(&TABLE, &mut out) {
+    match put_list(entries(), &mut out) {
         Ok(()) => 0,
         Err(fault) => end_with(rt, MonitorError::from(fault)),
     }
