@@ -107,7 +107,7 @@ module _ (n b : ℕ) (q : TimedQualifier) where
 
 -- ---- blocks of one action and qualifier
 
-same_timed_is : (p q : TimedQualifier) → same_timed p q ≡ true → q ≡ p
+pub same_timed_is : (p q : TimedQualifier) → same_timed p q ≡ true → q ≡ p
 same_timed_is Limited Limited e = refl
 same_timed_is Limited _ e = absurd cc
 same_timed_is Delayed Delayed e = refl
@@ -119,15 +119,15 @@ same_timed_is DelayedStored _ e = absurd cc
 same_timed_is StoredLimited StoredLimited e = refl
 same_timed_is StoredLimited _ e = absurd cc
 
-and_left : (x y : Bool) → (x && y) ≡ true → x ≡ true
+pub and_left : (x y : Bool) → (x && y) ≡ true → x ≡ true
 and_left true y e = refl
 and_left false y e = e
 
-and_right : (x y : Bool) → (x && y) ≡ true → y ≡ true
+pub and_right : (x y : Bool) → (x && y) ≡ true → y ≡ true
 and_right true y e = e
 and_right false y e = absurd cc
 
-elapsed_of : (tables : Tabled) (h : List Scan) (a : ℕ) (q : TimedQualifier) (block : Block) → BlockAgrees tables h block
+pub elapsed_of : (tables : Tabled) (h : List Scan) (a : ℕ) (q : TimedQualifier) (block : Block) → BlockAgrees tables h block
     → is_of a q block ≡ true → block.elapsed ≡ on_delay tables a (called tables a q) h
 elapsed_of tables h a q block agrees e =
     let t = and_left (block.action.0 == a) (same_timed q block.qualifier) e in
@@ -241,7 +241,7 @@ never_stored tables a letter none (scan ∷ h) =
     is_on_next (input tables a letter (scan ∷ h)) (input tables a R (scan ∷ h)) _
     ∙ (λ i. (never_stored tables a letter none h i || none (scan ∷ h) i) && not (input tables a R (scan ∷ h)))
 
-never_called : (tables : Tabled) (blocks : List Block) (a : ℕ) (q : TimedQualifier) → All (IsCovered blocks) tables.associations
+pub never_called : (tables : Tabled) (blocks : List Block) (a : ℕ) (q : TimedQualifier) → All (IsCovered blocks) tables.associations
     → list_any (is_of a q) blocks ≡ false → (h : List Scan) → called tables a q h ≡ false
 never_called tables blocks a Limited covered empty h = no_input tables blocks a Limited covered empty h
 never_called tables blocks a Delayed covered empty h = no_input tables blocks a Delayed covered empty h
@@ -251,7 +251,7 @@ never_called tables blocks a DelayedStored covered empty h = no_input tables blo
 never_called tables blocks a StoredLimited covered empty h =
     never_stored tables a SL (no_input tables blocks a StoredLimited covered empty) h
 
-never_elapsed : (x : Bool) (p t : ℤ) (h : List Reading) → x ≡ false → has_elapsed ((x, p, t) ∷ h) ≡ false
+pub never_elapsed : (x : Bool) (p t : ℤ) (h : List Reading) → x ≡ false → has_elapsed ((x, p, t) ∷ h) ≡ false
 never_elapsed true p t h e = absurd cc
 never_elapsed false p t h e = refl
 

@@ -6,6 +6,7 @@ pub mod Failures
 pub mod Fitting
 pub mod Moments
 pub mod Next
+pub mod Pasts
 pub mod Rows
 pub mod Numbers
 pub mod Sizes

@@ -10,5 +10,7 @@ pub mod Delays
 pub mod Work
 -- what a `Controls` agrees with
 pub mod Agreement
+-- what later answers need of a history
+pub mod Past
 -- What private clauses cite.
 pub mod Private

@@ -1,8 +1,12 @@
 //! What holds of the definitions themselves. Each law is a function whose contract is the law; a body, where there is
 //! one, cites another law.
 
-ghost use Rattle.std.specs.Prelude.{◌≡◌, ◌↔◌, ◌||◌, ◌∷◌, ℕ, Bool, List, true, false};
-ghost use Rattle.sfc_tables.specs.Tables.{Tabled};
+ghost use Rattle.std.specs.Prelude.{◌≡◌, ◌<◌, ◌↔◌, ◌||◌, ◌∷◌, ◌++◌, ℕ, Bool, List, length, true, false};
+ghost use Rattle.sfc_tables.specs.Tables.{Tabled, AreTables};
+ghost use Rattle.sfc_action.specs.declared.kept.Kept.{Kept};
+ghost use Rattle.sfc_action.specs.Agreement.{ControlsAgree};
+ghost use Rattle.sfc_action.specs.Past.{controls_past, past_in};
+ghost use Rattle.sfc_action.specs.ActionControl.{first_fault};
 ghost use Rattle.sfc_action.specs.ActionControl.{Scan, Letter, R, P1, P0, input, stored, delayed, q, executed, rises, falls};
 ghost use Rattle.sfc_action.specs.ScanNumbers.{IsStoredSince, HasActedSince};
 
@@ -39,4 +43,31 @@ pub fn overriding_reset()
     ensures no_q { (tables : Tabled) (a : ℕ) (h : List Scan) → input tables a R h ≡ true → q tables a h ≡ false }
     ensures unstored { (tables : Tabled) (a : ℕ) (letter : Letter) (h : List Scan) →
         input tables a R h ≡ true → stored tables a letter h ≡ false }
+{}
+
+/// What is kept is the past of the scans: all that later answers need, and for all lists of scans of this past the same.
+pub fn kept_past()
+    ensures kept { (tables : Tabled) (kept : Kept) (h : List Scan) → ControlsAgree tables kept h →
+        past_in tables kept ≡ controls_past tables h }
+    ensures same { (tables : Tabled) (kept : Kept) (h other : List Scan) → ControlsAgree tables kept h →
+        controls_past tables h ≡ controls_past tables other → ControlsAgree tables kept other }
+{}
+
+/// The scans of a life may be cut at any place: after others of the same past the same scans give the same past, and
+/// the same fault.
+pub fn cut()
+    ensures past { (tables : Tabled) (h other later : List Scan) →
+        controls_past tables h ≡ controls_past tables other →
+        controls_past tables (later ++ h) ≡ controls_past tables (later ++ other) }
+    ensures fault { (tables : Tabled) (scan : Scan) (h other : List Scan) → AreTables tables →
+        controls_past tables h ≡ controls_past tables other →
+        first_fault tables (scan ∷ h) ≡ first_fault tables (scan ∷ other) }
+{}
+
+/// The past gives all answers.
+pub fn past_answers()
+    ensures q { (tables : Tabled) (h other : List Scan) (a : ℕ) → a < length tables.actions →
+        controls_past tables h ≡ controls_past tables other → q tables a h ≡ q tables a other }
+    ensures executed { (tables : Tabled) (h other : List Scan) (a : ℕ) → a < length tables.actions →
+        controls_past tables h ≡ controls_past tables other → executed tables a h ≡ executed tables a other }
 {}

@@ -1,3 +1,4 @@
+pub mod Charts
 pub mod Images
 pub mod Named
 pub mod Walk

@@ -1,3 +1,5 @@
+pub mod Pasts
+mod Instants
 -- what a variable of the image is
 pub mod Places
 -- which SINGLE rises
@@ -36,4 +38,6 @@ pub mod MomentsFaults
 pub mod MomentsForces
 -- when tasks are due, and which of them goes first
 pub mod MomentsTasks
+-- what a history leaves for later events
+pub mod MomentsOpenings
 mod Bounds

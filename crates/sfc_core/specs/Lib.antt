@@ -18,5 +18,9 @@ pub mod Work
 pub mod Keeping
 -- which histories a resource agrees with; opaque to the crates above
 pub mod Agreement
+-- what later answers need of a history
+pub mod Past
+-- what an opening stands for; opaque to the crates above
+pub mod Openings
 -- What private clauses cite.
 pub mod Private

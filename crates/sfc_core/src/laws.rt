@@ -1,7 +1,11 @@
 //! What the definitions mean: each law is a function with an empty body, whose contract is the law.
 
-ghost use Rattle.std.specs.Prelude.{◌≡◌, ◌≢◌, ◌∷◌, [], ℤ, List, Ok, Err, Some, None, Option, slice_get, true, false, ◌++◌, All};
-ghost use Rattle.std.specs.Prelude.{◌≤◌, ◌+◌, ◌<ℤ◌, length, count_by, AllPairs};
+ghost use Rattle.std.specs.Prelude.{◌≡◌, ◌≢◌, ◌↔◌, ◌∷◌, [], ℤ, List, Ok, Err, Some, None, Option, slice_get, true, false, ◌++◌, All};
+ghost use Rattle.std.specs.Prelude.{◌<◌, ◌≤◌, ◌+◌, ◌<ℤ◌, length, count_by, AllPairs};
+ghost use Rattle.sfc_chart.specs.Sound.{IsPlant};
+ghost use Rattle.sfc_core.specs.declared.resource.Resource.{Resource};
+ghost use Rattle.sfc_core.specs.Agreement.{Agrees, plant_of};
+ghost use Rattle.sfc_core.specs.Past.{history_past, past_in};
 ghost use Rattle.sfc_expr.specs.declared.value.Value.{Value};
 ghost use Rattle.sfc_chart.specs.declared.ids.ProgId.{ProgId};
 ghost use Rattle.sfc_chart.specs.declared.ids.TaskId.{TaskId};
@@ -10,12 +14,15 @@ ghost use Rattle.sfc_chart.specs.declared.instance.Instance.{Instance};
 ghost use Rattle.sfc_chart.specs.Plants.{PlantData};
 ghost use Rattle.sfc_image.specs.Changes.{Change, Stored};
 ghost use Rattle.sfc_image.specs.Events as image;
-ghost use Rattle.sfc_image.specs.Values.{stored_value, initial_of, is_local_of};
+ghost use Rattle.sfc_image.specs.Values.{stored_value, initial_of, is_local_of, variable_count};
 ghost use Rattle.sfc_instance.specs.declared.scan_fault.ScanFault.{ScanFault};
 ghost use Rattle.sfc_instance.specs.Life.{fresh};
+ghost use Rattle.sfc_instance.specs.Past.{standing_past};
+ghost use Rattle.sfc_tables.specs.Tables.{tables_of};
+ghost use Rattle.sfc_chart.specs.Finding.{chart_of};
 ghost use Rattle.sfc_tasks.specs.Calls.{Call};
 ghost use Rattle.sfc_tasks.specs.Releases.{waits_since, waiting, capped, interval_of};
-ghost use Rattle.sfc_tasks.specs.Pick.{IsPicked};
+ghost use Rattle.sfc_tasks.specs.Pick.{picked, IsPicked};
 ghost use Rattle.sfc_tasks.specs.Meaning as tasks;
 ghost use Rattle.sfc_tasks.specs.Stretches.{AreStretches, releases_in, beyond_firsts, serving_scans, multiples_in};
 ghost use Rattle.sfc_events.specs.declared.event.Event.{Event};
@@ -148,4 +155,42 @@ pub fn bounded_scans()
         event_work plant (Scan task) ≤ task_limit plant task 0 plant.instances + 128 }
     ensures forced { (plant : PlantData) (task : TaskId) →
         event_work plant (ForcedScan task) ≤ task_limit plant task 0 plant.instances + 128 }
+{}
+
+/// What a resource keeps is the past of its history: all that later answers need, so that it agrees with each history of this
+/// past, and with no other.
+pub fn kept_past()
+    ensures { (resource : Resource) (h : History) →
+        Agrees resource h ↔ (past_in resource ≡ history_past (plant_of resource) h) }
+{}
+
+/// A history may be cut at any place, and what came before replaced by its past: after another of the same past the same events
+/// give the same past, each variable, instance and task answers the same, and each event gets the same verdict.
+pub fn cut()
+    ensures past { (plant : PlantData) (h other later : History) → IsPlant plant →
+        history_past plant h ≡ history_past plant other →
+        history_past plant (later ++ h) ≡ history_past plant (later ++ other) }
+    ensures value { (plant : PlantData) (h other later : History) (id : VarId) → IsPlant plant →
+        history_past plant h ≡ history_past plant other → id.0 < variable_count plant →
+        value_of plant (later ++ h) id ≡ value_of plant (later ++ other) id }
+    ensures force { (plant : PlantData) (h other later : History) (id : VarId) → IsPlant plant →
+        history_past plant h ≡ history_past plant other → id.0 < variable_count plant →
+        forced_of plant (later ++ h) id ≡ forced_of plant (later ++ other) id }
+    ensures life { (plant : PlantData) (h other later : History) (p : ProgId) → IsPlant plant →
+        history_past plant h ≡ history_past plant other → p.0 < length plant.instances →
+        let tables = tables_of (chart_of plant p) in
+        standing_past tables (standing_of plant (later ++ h) p) ≡ standing_past tables (standing_of plant (later ++ other) p) }
+    ensures waits { (plant : PlantData) (h other later : History) (task : TaskId) (t : ℤ) → IsPlant plant →
+        history_past plant h ≡ history_past plant other → task.0 < length plant.tasks →
+        waits_since plant.tasks (calls_at plant (later ++ h) t) task.0
+        ≡ waits_since plant.tasks (calls_at plant (later ++ other) t) task.0 }
+    ensures picked { (plant : PlantData) (h other later : History) (t : ℤ) → IsPlant plant →
+        history_past plant h ≡ history_past plant other →
+        picked plant.tasks (calls_at plant (later ++ h) t) ≡ picked plant.tasks (calls_at plant (later ++ other) t) }
+    ensures overruns { (plant : PlantData) (h other later : History) (task : TaskId) → IsPlant plant →
+        history_past plant h ≡ history_past plant other → task.0 < length plant.tasks →
+        overruns_of plant (later ++ h) task ≡ overruns_of plant (later ++ other) task }
+    ensures verdict { (plant : PlantData) (h other later : History) (event : Event) (t : ℤ) → IsPlant plant →
+        history_past plant h ≡ history_past plant other →
+        verdict plant (later ++ h) event t ≡ verdict plant (later ++ other) event t }
 {}

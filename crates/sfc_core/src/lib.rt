@@ -4,6 +4,7 @@
 //! - `due`: the tasks at the instant of an event.
 //! - `inputs`: which variables are inputs.
 //! - `laws`: what the definitions mean.
+//! - `opening`: what came before, in place of the events.
 //! - `refusing`: why an event is refused.
 //! - `resource`: a plant that runs.
 //! - `singles`: what the SINGLE of tasks reads.
@@ -13,6 +14,7 @@ mod changing;
 mod due;
 mod inputs;
 pub mod laws;
+pub mod opening;
 mod refusing;
 pub mod resource;
 mod singles;

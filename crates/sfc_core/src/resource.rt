@@ -10,6 +10,7 @@ ghost use Rattle.sfc_core.specs.Keeping.{Keeps};
 
 use crate::changing::{change, outcome};
 use crate::due::Due;
+use crate::opening::Opening;
 use crate::refusing::{refuse_event, refuse_instant};
 use crate::singles::Singles;
 use sfc_chart::ids::{ProgId, TaskId, VarId};
@@ -65,6 +66,8 @@ impl Resource {
     ghost use Rattle.sfc_core.specs.Verdict.{instant_refusal, event_refusal, or_then, answer, verdict, after, after_all, accepted};
     ghost use Rattle.sfc_core.specs.Work.{event_work, machine_work};
     ghost use Rattle.sfc_core.specs.Agreement.{Agrees, plant_of};
+    ghost use Rattle.sfc_core.specs.Past.{history_past};
+    ghost use Rattle.sfc_core.specs.Openings.{IsOpeningFor, past_of};
     ghost use Rattle.sfc_core.specs.Private.Naming.{IsKnown};
     ghost use Rattle.sfc_core.specs.Private.Ready.{IsDueOf, IsReady};
 
@@ -225,6 +228,31 @@ impl Resource {
         ensures { (h : History) → Agrees self.now h → result ≡ overruns_of (plant_of self.now) h task }
     {
         self.tasks.overruns(task)
+    }
+
+    /// Puts into the opening what the events so far leave for later ones. It takes no memory.
+    pub fn save(&self, opening: &mut Opening)
+        requires { IsOpeningFor (plant_of self.now) opening.old }
+        ensures sizes { IsOpeningFor (plant_of self.now) opening.new }
+        ensures saved { (h : History) → Agrees self.now h →
+            past_of (plant_of self.now) opening.new ≡ history_past (plant_of self.now) h }
+    {
+        opening.machine.copy_from(&self.plant, &self.machine);
+        opening.tasks.copy_from(&self.tasks);
+        opening.last = self.last;
+    }
+
+    /// Goes on from the opening: what the resource was told before counts no more, and each later event gets the answer that
+    /// it gets after the events that the opening stands for. It takes no memory.
+    pub fn restore(&mut self, opening: &Opening)
+        requires { IsOpeningFor (plant_of self.old) opening.now }
+        ensures plant { plant_of self.new ≡ plant_of self.old }
+        ensures restored { (h : History) →
+            past_of (plant_of self.old) opening.now ≡ history_past (plant_of self.old) h → Agrees self.new h }
+    {
+        self.machine.copy_from(&self.plant, &opening.machine);
+        self.tasks.copy_from(&opening.tasks);
+        self.last = opening.last;
     }
 
     /// The plant that was opened.

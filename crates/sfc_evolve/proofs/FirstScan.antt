@@ -32,7 +32,7 @@ length-cleared_set tables active conditions =
     (replicate (transition_count tables) false)
     ∙ length-replicate (transition_count tables) false
 
-past_end : (flags : List Bool) (i : ℕ) → length flags ≤ i → flag flags i ≡ false
+pub past_end : (flags : List Bool) (i : ℕ) → length flags ≤ i → flag flags i ≡ false
 past_end [] i le = refl
 past_end (b ∷ flags) zero le = absurd (omega arith)
 past_end (b ∷ flags) (suc i) le = past_end flags i (omega arith)

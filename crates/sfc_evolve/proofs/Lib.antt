@@ -7,6 +7,7 @@ pub mod Looks
 pub mod Measured
 pub mod Next
 pub mod NumberedLooks
+pub mod Pasts
 pub mod Placed
 pub mod Proposed
 pub mod Skipped

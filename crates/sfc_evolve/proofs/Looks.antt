@@ -42,7 +42,7 @@ module _ {A : Type 0} (on off : A → Bool) (at : A → ℤ) (apart : (x : A) �
       rw (p, q) (ap (time_from at now (find on h)) (or_none (oldest off (leading (λ row. not (on row)) h))))
 
   -- a step that is in has not ended since it last came on
-  in_goes_on : (h : List A) → is_in on off h ≡ true → oldest off (leading (λ row. not (on row)) h) ≡ None
+  pub in_goes_on : (h : List A) → is_in on off h ≡ true → oldest off (leading (λ row. not (on row)) h) ≡ None
   in_goes_on [] e = refl
   in_goes_on (x ∷ h) e = elim (bool_cases (on x)) [
     | inl p ↦ rw p refl

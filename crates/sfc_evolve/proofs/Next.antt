@@ -123,7 +123,7 @@ module _ (tables : Tabled) (s : ℕ) (row : Row) (rows : List Row) where
       → is_deactivated tables s row ≡ (not on && off)
   left_is on off p q = rw (p, q) refl
 
-  next_active : (on off active : Bool) → is_activated tables s row ≡ on → leaves tables row.cleared s ≡ off
+  pub next_active : (on off active : Bool) → is_activated tables s row ≡ on → leaves tables row.cleared s ≡ off
       → active ≡ is_active tables rows s → ((not off && active) || on) ≡ is_active tables (row ∷ rows) s
   next_active true off active p q e = or_true (not off && active)
       ∙ sym (is_in_on (is_activated tables s) (is_deactivated tables s) (λ r. r.at) (apart tables s) row rows p)

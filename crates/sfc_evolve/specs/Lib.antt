@@ -14,5 +14,7 @@ pub mod ScanNumbers
 pub mod Work
 -- what a `Steps` agrees with
 pub mod Agreement
+-- what later answers need of a history
+pub mod Past
 -- What private clauses cite.
 pub mod Private

@@ -1,15 +1,19 @@
 //! What holds of the definitions themselves. Each law is a function with an empty body, whose contract is the law.
 
-ghost use Rattle.std.specs.Prelude.{◌≡◌, ◌<◌, ◌≤◌, ◌↔◌, ◌∷◌, ◌-ℤ◌, ◌&&◌};
+ghost use Rattle.std.specs.Prelude.{◌≡◌, ◌<◌, ◌≤◌, ◌↔◌, ◌∷◌, ◌++◌, ◌-ℤ◌, ◌&&◌};
 ghost use Rattle.std.specs.Prelude.{[], ℕ, ℤ, Bool, List, length, pos, true, false};
 ghost use Rattle.sfc_flags.specs.Flags.{flag};
 ghost use Rattle.sfc_tables.specs.Tables.{Tabled, AreTables};
 ghost use Rattle.sfc_evolve.specs.Evolution.{Scan, Row, transition_count, is_activated, is_deactivated, is_active};
-ghost use Rattle.sfc_evolve.specs.Evolution.{step_time, row_after, was_cleared};
+ghost use Rattle.sfc_evolve.specs.Evolution.{step_time, row_after, was_cleared, was_activated};
 ghost use Rattle.sfc_evolve.specs.Evolution.{preceding_of, is_enabled, cleared_set};
 ghost use Rattle.sfc_evolve.specs.Clearing.{of_rank, shares, IsClearedSet};
 ghost use Rattle.sfc_evolve.specs.ScanNumbers.{IsActiveSince, IsLatest, NoneBetween, activated_at, deactivated_at};
 ghost use Rattle.sfc_evolve.specs.ScanNumbers.{scan_instant_at};
+ghost use Rattle.sfc_evolve.specs.Evolution.{rows_of, step_count, step_times};
+ghost use Rattle.sfc_evolve.specs.declared.steps.Steps.{Steps};
+ghost use Rattle.sfc_evolve.specs.Agreement.{StepsAgree};
+ghost use Rattle.sfc_evolve.specs.Past.{steps_past, past_in};
 
 /// The pass over the transitions in rank order gives the one set in which a transition stands exactly when it may
 /// clear (2.6.5).
@@ -57,4 +61,38 @@ pub fn first_scan()
         (tr : ℕ) → was_cleared (row_after tables [] scan ∷ []) tr ≡ false }
     ensures starts { (tables : Tabled) (scan : Scan) → AreTables tables →
         (s : ℕ) → is_active tables (row_after tables [] scan ∷ []) s ≡ flag tables.initial s }
+{}
+
+/// What is kept is the past of the scans: all that later answers need, and for all lists of scans of this past the same.
+pub fn kept_past()
+    ensures kept { (tables : Tabled) (steps : Steps) (scans : List Scan) → StepsAgree tables steps scans →
+        past_in tables steps ≡ steps_past tables scans }
+    ensures same { (tables : Tabled) (steps : Steps) (scans other : List Scan) → StepsAgree tables steps scans →
+        steps_past tables scans ≡ steps_past tables other → StepsAgree tables steps other }
+{}
+
+/// The scans of a life may be cut at any place: after others of the same past the same scans give the same past.
+pub fn cut()
+    ensures { (tables : Tabled) (scans other later : List Scan) → AreTables tables →
+        steps_past tables scans ≡ steps_past tables other →
+        steps_past tables (later ++ scans) ≡ steps_past tables (later ++ other) }
+{}
+
+/// The past gives all answers.
+pub fn past_answers()
+    ensures active { (tables : Tabled) (scans other : List Scan) (s : ℕ) → s < step_count tables →
+        steps_past tables scans ≡ steps_past tables other →
+        is_active tables (rows_of tables scans) s ≡ is_active tables (rows_of tables other) s }
+    ensures time { (tables : Tabled) (scans other : List Scan) (s : ℕ) (now : ℤ) → s < step_count tables →
+        steps_past tables scans ≡ steps_past tables other →
+        step_time tables (rows_of tables scans) s now ≡ step_time tables (rows_of tables other) s now }
+    ensures times { (tables : Tabled) (scans other : List Scan) (now : ℤ) →
+        steps_past tables scans ≡ steps_past tables other →
+        step_times tables (rows_of tables scans) now ≡ step_times tables (rows_of tables other) now }
+    ensures activated { (tables : Tabled) (scans other : List Scan) (s : ℕ) → s < step_count tables →
+        steps_past tables scans ≡ steps_past tables other →
+        was_activated tables (rows_of tables scans) s ≡ was_activated tables (rows_of tables other) s }
+    ensures cleared { (tables : Tabled) (scans other : List Scan) (tr : ℕ) →
+        steps_past tables scans ≡ steps_past tables other →
+        was_cleared (rows_of tables scans) tr ≡ was_cleared (rows_of tables other) tr }
 {}

@@ -184,14 +184,14 @@ forces_left_by plant p env rest i = forces_stay plant p (left_by plant p env) re
 
 -- ---- histories that give all variables the same values
 
-record GivesSame (plant : PlantData) (one other : Told) : Type 0 where
+pub record GivesSame (plant : PlantData) (one other : Told) : Type 0 where
   pub opened : is_some one.tried ≡ is_some other.tried
   pub kept : (i : ℕ) → stored_value plant one.kept i ≡ stored_value plant other.kept i
   pub stored : (i : ℕ) → stored_value plant (all_of one) i ≡ stored_value plant (all_of other) i
   pub forced : (i : ℕ) → forced_value (all_of one) i ≡ forced_value (all_of other) i
   pub held : (i : ℕ) → forced_value one.kept i ≡ forced_value other.kept i
 
-same_kept : (plant : PlantData) (slots : List Slot) (locals : List Locals) (count : ℕ) (b : Bool) (one other : Told)
+pub same_kept : (plant : PlantData) (slots : List Slot) (locals : List Locals) (count : ℕ) (b : Bool) (one other : Told)
     → GivesSame plant one other → AreKept plant slots locals count b one → AreKept plant slots locals count b other
 same_kept plant slots locals count b one other same h = record {
   variables = h.variables;

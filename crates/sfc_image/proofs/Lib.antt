@@ -8,6 +8,7 @@ pub mod Left
 pub mod LocalNumbers
 pub mod Numbers
 pub mod Outputs
+pub mod Pasts
 pub mod Puts
 pub mod Tracked
 pub mod Viewed

@@ -16,5 +16,7 @@ pub mod Answers
 pub mod Events
 -- what an `Image` agrees with; opaque to the crates above
 pub mod Agreement
+-- what later answers need of a history
+pub mod Past
 -- What private clauses cite.
 pub mod Private

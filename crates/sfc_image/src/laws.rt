@@ -1,6 +1,13 @@
 //! What the definitions mean: each law is a function with an empty body, whose contract is the law.
 
-ghost use Rattle.std.specs.Prelude.{◌≡◌, ◌≢◌, ◌↔◌, ◌++◌, ◌∷◌, ℕ, true, false, List, All, Some};
+ghost use Rattle.std.specs.Prelude.{◌≡◌, ◌≢◌, ◌<◌, ◌↔◌, ◌++◌, ◌∷◌, ℕ, true, false, List, All, Some};
+ghost use Rattle.sfc_image.specs.declared.image.Image.{Image};
+ghost use Rattle.sfc_image.specs.Agreement.{ImageAgrees};
+ghost use Rattle.sfc_image.specs.Changes.{settled};
+ghost use Rattle.sfc_image.specs.Environments.{Moment, environment_of};
+ghost use Rattle.sfc_image.specs.Answers.{read_answer, release_fault};
+ghost use Rattle.sfc_image.specs.Values.{variable_count};
+ghost use Rattle.sfc_image.specs.Past.{image_past, past_in};
 ghost use Rattle.sfc_chart.specs.declared.ids.ProgId.{ProgId};
 ghost use Rattle.sfc_chart.specs.declared.ids.VarId.{VarId};
 ghost use Rattle.sfc_chart.specs.Plants.{PlantData};
@@ -71,4 +78,35 @@ pub fn bodies()
         stored_value plant (left_by plant p env ++ changes) i ≡ stored_value plant changes i }
     ensures forces { (plant : PlantData) (p : ProgId) (env : Environment) (changes : List Change) (i : ℕ) →
         forced_value (left_by plant p env ++ changes) i ≡ forced_value changes i }
+{}
+
+/// What is kept, where no scratch is open, is the past of the changes: all that later answers need, and for all lists of
+/// changes of this past the same.
+pub fn kept_past()
+    ensures kept { (plant : PlantData) (image : Image) (changes : List Change) →
+        ImageAgrees plant image (settled changes) → past_in plant image ≡ image_past plant changes }
+    ensures same { (plant : PlantData) (image : Image) (changes other : List Change) →
+        ImageAgrees plant image (settled changes) → image_past plant changes ≡ image_past plant other →
+        ImageAgrees plant image (settled other) }
+{}
+
+/// The changes may be cut at any place: after others of the same past the same changes give the same past.
+pub fn cut()
+    ensures { (plant : PlantData) (changes other later : List Change) →
+        image_past plant changes ≡ image_past plant other →
+        image_past plant (later ++ changes) ≡ image_past plant (later ++ other) }
+{}
+
+/// The past gives all answers.
+pub fn past_answers()
+    ensures value { (plant : PlantData) (changes other : List Change) (i : ℕ) → i < variable_count plant →
+        image_past plant changes ≡ image_past plant other → value_of plant changes i ≡ value_of plant other i }
+    ensures read { (plant : PlantData) (changes other : List Change) (id : VarId) →
+        image_past plant changes ≡ image_past plant other → read_answer plant changes id ≡ read_answer plant other id }
+    ensures release { (plant : PlantData) (changes other : List Change) (id : VarId) →
+        image_past plant changes ≡ image_past plant other →
+        release_fault plant changes id ≡ release_fault plant other id }
+    ensures environment { (plant : PlantData) (changes other : List Change) (p : ProgId) (moment : Moment) →
+        image_past plant changes ≡ image_past plant other →
+        environment_of plant changes p moment ≡ environment_of plant other p moment }
 {}

@@ -21,3 +21,5 @@ pub mod Faults
 -- what a program shows of its tables
 pub mod Places
 pub mod Bounds
+-- the past of how an instance stands
+pub mod Pasts

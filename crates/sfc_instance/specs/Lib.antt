@@ -12,5 +12,7 @@ pub mod Work
 pub mod Answers
 -- what a `Program` agrees with; opaque to the crates above
 pub mod Agreement
+-- what later answers need of a history
+pub mod Past
 -- What private clauses cite.
 pub mod Private

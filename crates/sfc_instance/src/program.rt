@@ -129,6 +129,24 @@ impl Program {
         self.fault = None;
     }
 
+    /// Takes over what the other keeps, which was made from the same tables. It takes no memory.
+    pub fn copy_from(&mut self, tables: &Tables, other: &Program)
+        requires own { IsFor tables.now self.old }
+        requires others { IsFor tables.now other.now }
+        ensures sizes { IsFor tables.now self.new }
+        ensures kept { (standing : Standing) → ProgramAgrees tables.now other.now standing →
+            ProgramAgrees tables.now self.new standing }
+    {
+        let mut ticks = Ticks::new();
+        self.scanner
+            .now
+            .copy_from(tables, &other.scanner.now, &mut ticks);
+        self.fresh.copy_from(tables, &other.fresh, &mut ticks);
+        self.scans = other.scans;
+        self.at = other.at;
+        self.fault = other.fault;
+    }
+
     /// How many steps its chart has.
     pub fn steps(&self) -> usize
         ensures { result ≡ step_places self.now }

@@ -10,5 +10,7 @@ pub mod Singles
 pub mod Work
 -- what a `Machine` agrees with; opaque to the crates above
 pub mod Agreement
+-- what later answers need of a history
+pub mod Past
 -- What private clauses cite.
 pub mod Private

@@ -4,3 +4,4 @@
 pub mod Building
 -- a scan of a task
 pub mod Scanning
+pub mod Copying

@@ -1,6 +1,15 @@
 //! What the definitions mean: each law is a function with an empty body, whose contract is the law.
 
-ghost use Rattle.std.specs.Prelude.{◌≡◌, ◌≢◌, ◌↔◌, ℕ, ℤ, true, is_some, slice_get, Some};
+ghost use Rattle.std.specs.Prelude.{◌≡◌, ◌≢◌, ◌<◌, ◌↔◌, ℕ, ℤ, length, true, is_some, slice_get, Some};
+ghost use Rattle.sfc_chart.specs.Sound.{IsPlant};
+ghost use Rattle.sfc_image.specs.Changes.{Change};
+ghost use Rattle.sfc_instance.specs.declared.ended.Ended.{Ended};
+ghost use Rattle.sfc_machine.specs.declared.machine.Machine.{Machine};
+ghost use Rattle.sfc_machine.specs.Table.{with_change};
+ghost use Rattle.sfc_machine.specs.Ends.{bits_of};
+ghost use Rattle.sfc_machine.specs.Singles.{singles_in};
+ghost use Rattle.sfc_machine.specs.Agreement.{IsMachineOf, MachineAgrees};
+ghost use Rattle.sfc_machine.specs.Past.{machine_past, past_in};
 ghost use Rattle.sfc_chart.specs.declared.ids.ProgId.{ProgId};
 ghost use Rattle.sfc_chart.specs.declared.ids.TaskId.{TaskId};
 ghost use Rattle.sfc_chart.specs.declared.instance.Instance.{Instance};
@@ -48,4 +57,32 @@ pub fn resets()
     ensures anew { (p : ProgId) (table : Table) → (after_reset p table).standing p.0 ≡ fresh }
     ensures others { (p : ProgId) (table : Table) (k : ℕ) → k ≢ p.0 →
         (after_reset p table).standing k ≡ table.standing k }
+{}
+
+/// What is kept is the past of the table: all that later answers need, and for all tables of this past the same.
+pub fn kept_past()
+    ensures kept { (plant : PlantData) (machine : Machine) (table : Table) → IsMachineOf plant machine →
+        MachineAgrees plant machine table → past_in plant machine ≡ machine_past plant table }
+    ensures same { (plant : PlantData) (machine : Machine) (table other : Table) → IsMachineOf plant machine →
+        MachineAgrees plant machine table → machine_past plant table ≡ machine_past plant other →
+        MachineAgrees plant machine other }
+{}
+
+/// What is done goes by the past alone: over tables of the same past a scan of a task ends the same, and leaves the same past,
+/// and so do a reset and a change; and SINGLE reads the same.
+pub fn by_past()
+    ensures task { (plant : PlantData) (task : TaskId) (t : ℤ) (table other : Table) → IsPlant plant →
+        machine_past plant table ≡ machine_past plant other →
+        machine_past plant (after_task plant task t 0 plant.instances table)
+        ≡ machine_past plant (after_task plant task t 0 plant.instances other) }
+    ensures bits { (how : Ended) (plant : PlantData) (task : TaskId) (t : ℤ) (table other : Table) → IsPlant plant →
+        machine_past plant table ≡ machine_past plant other →
+        bits_of how plant task t 0 plant.instances table ≡ bits_of how plant task t 0 plant.instances other }
+    ensures reset { (plant : PlantData) (p : ProgId) (table other : Table) → machine_past plant table ≡ machine_past plant other →
+        machine_past plant (after_reset p table) ≡ machine_past plant (after_reset p other) }
+    ensures change { (plant : PlantData) (change : Change) (table other : Table) →
+        machine_past plant table ≡ machine_past plant other →
+        machine_past plant (with_change change table) ≡ machine_past plant (with_change change other) }
+    ensures singles { (plant : PlantData) (table other : Table) → IsPlant plant →
+        machine_past plant table ≡ machine_past plant other → singles_in plant table.changes ≡ singles_in plant other.changes }
 {}

@@ -39,7 +39,7 @@ ghost use Rattle.sfc_machine.specs.Table.{Table, opened, with_change, after_prog
 ghost use Rattle.sfc_machine.specs.Ends.{AreBits};
 ghost use Rattle.sfc_machine.specs.Singles.{single_in, singles_in};
 ghost use Rattle.sfc_machine.specs.Work.{program_work, task_work, reset_work};
-ghost use Rattle.sfc_machine.specs.Agreement.{IsMachineOf, MachineAgrees, variable_places, instance_places};
+ghost use Rattle.sfc_machine.specs.Agreement.{IsMachineOf, MachineAgrees, AreFor, AreKept, variable_places, instance_places};
 ghost use Rattle.sfc_machine.specs.Private.Building.{AreOpened};
 
 use crate::bits::Bits;
@@ -99,6 +99,23 @@ fn setting_of<'a>(tables: &'a [Tables], plant: &'a Plant, instance: ProgId) -> S
     }
 }
 
+// Each takes over what the other of its place keeps. `tables` are those of each program type.
+fn copy_programs(programs: &mut [Program], tables: &[Tables], plant: &Plant, from: &[Program])
+    requires tables { tables.now ≡ map (λ p. tables_of p.chart) plant.now.types }
+    requires len { length programs.old ≡ length plant.now.instances }
+    requires from_len { length from.now ≡ length plant.now.instances }
+    requires sizes { AreFor plant.now programs.old }
+    requires from_sizes { AreFor plant.now from.now }
+    ensures len { length programs.new ≡ length programs.old }
+    ensures sizes { AreFor plant.now programs.new }
+    ensures kept { (table : Table) → AreKept plant.now from.now table → AreKept plant.now programs.new table }
+{
+    for k in 0..plant.instances().len() {
+        let setting = setting_of(tables, plant, ProgId(k as u8));
+        programs[k].copy_from(setting.tables, &from[k]);
+    }
+}
+
 #[tactic(auto, unfolding(crate::specs::Agreement::MachineAgrees))]
 impl Machine {
     /// The variables with their initial values, none of them forced, and the program instances before their first scans.
@@ -115,6 +132,18 @@ impl Machine {
             image,
             programs,
         })
+    }
+
+    /// Takes over what the other keeps, which was made of the same plant. It takes no memory.
+    pub fn copy_from(&mut self, plant: &Plant, other: &Machine)
+        requires own { IsMachineOf plant.now self.old }
+        requires others { IsMachineOf plant.now other.now }
+        ensures sizes { IsMachineOf plant.now self.new }
+        ensures kept { (table : Table) → MachineAgrees plant.now other.now table → MachineAgrees plant.now self.new table }
+    {
+        let mut ticks = Ticks::new();
+        self.image.copy_from(&other.image, &mut ticks);
+        copy_programs(&mut self.programs, &self.tables, plant, &other.programs);
     }
 
     /// How many variables there are.

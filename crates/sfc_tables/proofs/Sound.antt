@@ -1,5 +1,5 @@
 -- What tables name is there.
-use Rattle.std.proofs.Common.{◌≡◌, ℕ, suc, ◌+◌, ◌<◌, ◌≤◌, List, [], ◌∷◌, length, get_or, sym, ◌∙◌, ap, subst, arith}
+use Rattle.std.proofs.Common.{◌≡◌, ℕ, suc, ◌+◌, ◌<◌, ◌≤◌, List, [], ◌∷◌, length, get_or, refl, sym, ◌∙◌, ap, subst, arith}
 use Rattle.std.specs.Prelude.{map, All}
 use Rattle.std.specs.List.Sorted.{IsPermutation}
 use Rattle.std.proofs.lemmas.List.{length-map}
@@ -12,11 +12,12 @@ use Rattle.sfc_tables.specs.declared.chart.Chart.{Chart}
 use Rattle.sfc_tables.specs.declared.step_action.StepAction.{StepAction}
 use Rattle.sfc_tables.specs.Actions.{actions_of, number_of}
 use Rattle.sfc_tables.specs.Chart.{Space, IsChart}
-use Rattle.sfc_tables.specs.Ranks.{transitions_to}
+use Rattle.sfc_tables.specs.Ranks.{priorities_of, transitions_to}
 use Rattle.sfc_tables.specs.Tables.{Sides, Tabled, sides_of, in_text, numbered}
-use Rattle.sfc_tables.specs.Tables.{associations_of, IsTablesOf, AreSides, IsStepAction, AreTables}
+use Rattle.sfc_tables.specs.Tables.{associations_of, tables_of, IsTablesOf, AreSides, IsStepAction, AreTables}
 use Rattle.sfc_tables.proofs.Found.{all_found}
 use Rattle.sfc_tables.proofs.Numberings.{length-numbered, length-in_text, numbers_rise}
+use Rattle.sfc_tables.proofs.RankOrders.{rank_order_ranks}
 
 abbrev Pair : Type 0
 Pair = StepId × Association
@@ -101,3 +102,8 @@ module _ (space : Space) (chart : Chart) (sound : IsChart space chart)
           sound.association_limit,
         );
   }
+
+-- the tables that the definitions give are the tables of the chart
+pub tables_of_made : (chart : Chart) → IsTablesOf chart (tables_of chart)
+tables_of_made chart =
+    record { initial = refl; sides = refl; ranked = rank_order_ranks (priorities_of chart.transitions); actions = refl; associations = refl }

@@ -1,3 +1,4 @@
+pub mod Pasts
 pub mod Firsts
 pub mod Kept
 pub mod MultipleLemmas

@@ -14,5 +14,7 @@ pub mod Meaning
 pub mod Stretches
 -- what a `TaskTable` agrees with; opaque to the crates above
 pub mod Agreement
+-- what later answers need of a history
+pub mod Past
 -- What private clauses cite.
 pub mod Private

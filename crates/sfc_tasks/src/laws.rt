@@ -1,9 +1,13 @@
 //! What the definitions mean: each law is a function with an empty body, whose contract is the law.
 
-ghost use Rattle.std.specs.Prelude.{◌≡◌, ◌↔◌, ◌<ℤ◌, ◌≤ℤ◌, ◌+◌, ◌^◌, ℤ, ℕ, pos, List, [], ◌++◌, All, AllPairs, Contains, Some, None};
+ghost use Rattle.std.specs.Prelude.{◌≡◌, ◌<◌, ◌↔◌, ◌<ℤ◌, ◌≤ℤ◌, ◌+◌, ◌^◌, ℤ, ℕ, pos, List, [], ◌++◌, All, AllPairs, Contains, Some, None};
 ghost use Rattle.std.specs.Prelude.{length, count_by};
 ghost use Rattle.sfc_chart.specs.declared.ids.TaskId.{TaskId};
 ghost use Rattle.sfc_chart.specs.declared.task.Task.{Task};
+ghost use Rattle.sfc_tasks.specs.declared.table.TaskTable.{TaskTable};
+ghost use Rattle.sfc_tasks.specs.Agreement.{TasksAgree};
+ghost use Rattle.sfc_tasks.specs.Releases.{interval_of, waits_since};
+ghost use Rattle.sfc_tasks.specs.Past.{tasks_past, past_in};
 ghost use Rattle.sfc_tasks.specs.Multiples.{multiple, multiples_between, next_multiple};
 ghost use Rattle.sfc_tasks.specs.Calls.{Call, serves};
 ghost use Rattle.sfc_tasks.specs.Releases.{waiting, first_of, capped, overruns};
@@ -97,4 +101,29 @@ pub fn picked_task()
 /// At most one task is picked.
 pub fn one_picked()
     ensures { (tasks : List Task) (calls : List Call) (k j : ℕ) → IsPicked tasks calls k → IsPicked tasks calls j → k ≡ j }
+{}
+
+/// What is kept is the past of the calls: all that later answers need, and for all lists of calls of this past the same.
+pub fn kept_past()
+    ensures kept { (tasks : List Task) (table : TaskTable) (calls : List Call) → TasksAgree tasks table calls →
+        past_in tasks table ≡ tasks_past tasks calls }
+    ensures same { (tasks : List Task) (table : TaskTable) (calls other : List Call) → TasksAgree tasks table calls →
+        tasks_past tasks calls ≡ tasks_past tasks other → TasksAgree tasks table other }
+{}
+
+/// The calls may be cut at any place: after others of the same past the same calls give the same past.
+pub fn cut()
+    ensures { (tasks : List Task) (calls other later : List Call) → tasks_past tasks calls ≡ tasks_past tasks other →
+        tasks_past tasks (later ++ calls) ≡ tasks_past tasks (later ++ other) }
+{}
+
+/// The past gives all answers.
+pub fn past_answers()
+    ensures waits { (tasks : List Task) (calls other : List Call) (k : ℕ) → k < length tasks →
+        tasks_past tasks calls ≡ tasks_past tasks other → waits_since tasks calls k ≡ waits_since tasks other k }
+    ensures picked { (tasks : List Task) (calls other : List Call) → tasks_past tasks calls ≡ tasks_past tasks other →
+        picked tasks calls ≡ picked tasks other }
+    ensures overruns { (tasks : List Task) (calls other : List Call) (k : ℕ) → k < length tasks →
+        tasks_past tasks calls ≡ tasks_past tasks other →
+        overruns (interval_of tasks k) k calls ≡ overruns (interval_of tasks k) k other }
 {}

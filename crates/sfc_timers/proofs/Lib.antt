@@ -1,1 +1,3 @@
+pub mod Cuts
 mod Numbers
+pub mod Pasts

@@ -4,3 +4,5 @@ pub mod Timers
 pub mod Numbered
 -- what a block has seen; opaque to the crates above
 pub mod Agreement
+-- what later answers need of a history
+pub mod Past

@@ -1,0 +1,304 @@
+-- What is kept is the past of the history, and what is answered goes by it.
+use denote.Struct.Props.{props}
+use Rattle.std.proofs.Common.{◌≡◌, inl, inr, ℕ, zero, suc, ◌<◌, ◌≤◌, arith, not, Bool, true, false, cond, ◌&&◌, List, [], ◌∷◌, ◌++◌, length}
+use Rattle.std.proofs.Common.{refl, sym, ◌∙◌, ap, ℤ, Option, Some, None, Result, Ok, Err}
+use Rattle.std.specs.Prelude.{nat_lt, is_none}
+use Rattle.std.proofs.lemmas.Bool.{cases_lt}
+use mathlib.Core.Logic.{∥∥₁_elim}
+use Rattle.sfc_tables.specs.Tables.{tables_of}
+use Rattle.sfc_chart.specs.declared.ids.ProgId.{ProgId}
+use Rattle.sfc_chart.specs.declared.ids.TaskId.{TaskId}
+use Rattle.sfc_chart.specs.declared.ids.VarId.{VarId}
+use Rattle.sfc_chart.specs.Finding.{chart_of}
+use Rattle.sfc_chart.specs.Plants.{PlantData}
+use Rattle.sfc_chart.specs.Sound.{IsPlant}
+use Rattle.sfc_image.specs.Changes.{Stored, Forced, Released}
+use Rattle.sfc_image.specs.Past.{image_past}
+use Rattle.sfc_image.specs.Values.{variable_count}
+use Rattle.sfc_image.proofs.Pasts as image
+use Rattle.sfc_instance.specs.Past.{standing_past}
+use Rattle.sfc_instance.specs.declared.ended.Ended.TheVariants.{Ran, Faulted, Skipped}
+use Rattle.sfc_tasks.specs.Calls.{Call, Elapsed, Rose, Served, single_of}
+use Rattle.sfc_tasks.specs.Releases.{interval_of, waits_since}
+use Rattle.sfc_tasks.specs.Multiples.{next_release}
+use Rattle.sfc_tasks.specs.Pick.{picked}
+use Rattle.sfc_tasks.specs.Past.{tasks_past}
+use Rattle.sfc_tasks.specs.declared.table.TaskTable.{TaskTable}
+use Rattle.sfc_tasks.proofs.Pasts as task_table
+use Rattle.sfc_events.specs.declared.event.Event.{Event}
+use Rattle.sfc_events.specs.declared.event.Event.TheVariants.{Scan, ForcedScan, Input, Force, Release, Reset}
+use Rattle.sfc_events.specs.declared.event.Outcome.{Outcome}
+use Rattle.sfc_events.specs.declared.event.Outcome.TheVariants.{Done, Scanned}
+use Rattle.sfc_events.specs.declared.refusal.Refusal.{Refusal}
+use Rattle.sfc_events.specs.declared.refusal.Refusal.TheVariants.{UnknownTask, NotDue}
+use Rattle.sfc_events.specs.History.{Entry, History, last_instant}
+use Rattle.sfc_machine.specs.Table.{Table, with_change, after_task, after_reset}
+use Rattle.sfc_machine.specs.Past.{machine_past}
+use Rattle.sfc_machine.specs.declared.machine.Machine.{Machine}
+use Rattle.sfc_machine.specs.Agreement.{IsMachineOf}
+use Rattle.sfc_machine.proofs.Pasts as machines
+use Rattle.sfc_core.specs.declared.resource.Resource.{Resource}
+use Rattle.sfc_core.specs.Agreement.{Agrees, plant_of}
+use Rattle.sfc_core.specs.Table.{after_event, table_of}
+use Rattle.sfc_core.specs.Due.{singles_of, with_rise, with_rises, with_service, calls_of, calls_at}
+use Rattle.sfc_core.specs.Answers.{value_of, forced_of, standing_of, overruns_of}
+use Rattle.sfc_core.specs.Verdict.{refused_if, or_then, instant_refusal, task_refusal, of_image, event_refusal, due_refusal, yield_to}
+use Rattle.sfc_core.specs.Verdict.{yield_refusal, turn_refusal, first_refusal, ended_bits, scan_answer, answer, verdict_by, verdict}
+use Rattle.sfc_core.specs.Past.{HistoryPast, history_past, past_kept, past_in}
+use Rattle.sfc_core.specs.declared.opening.Opening.{Opening}
+use Rattle.sfc_core.specs.Openings.{IsOpeningFor, past_of}
+use Rattle.sfc_core.specs.Keeping.{Keeps}
+
+-- ---- what is kept is the past
+
+module _ (plant : PlantData) (machine : Machine) (tasks : TaskTable) (last : ℤ) where
+  pub parts_keep : (h : History) → IsMachineOf plant machine → Keeps plant machine tasks last h
+      → past_kept plant machine tasks last ≡ history_past plant h
+  parts_keep h whole k =
+      let machines = machines.keeps_past plant machine (table_of plant h) whole k.machines in
+      let tasked = task_table.keeps_past plant.tasks tasks (calls_of plant h) k.tasked in
+      (λ i. record { last = k.instant i; machine = machines i; tasks = tasked i })
+
+  parts_same : (h g : History) → IsMachineOf plant machine → Keeps plant machine tasks last h
+      → history_past plant h ≡ history_past plant g → Keeps plant machine tasks last g
+  parts_same h g whole k e = record {
+    instant = k.instant ∙ ap (λ p. p.last) e;
+    machines = machines.same_past plant machine (table_of plant h) (table_of plant g) whole k.machines (ap (λ p. p.machine) e);
+    tasked = task_table.same_past plant.tasks tasks (calls_of plant h) (calls_of plant g) k.tasked (ap (λ p. p.tasks) e);
+  }
+
+  -- in one way at most
+  parts_prop : (h : History) → IsProp (Keeps plant machine tasks last h)
+  parts_prop h = hlevel (props, machines.agrees_prop, task_table.agrees_prop)
+
+  -- what some history leaves is what each history of this past leaves
+  pub parts_agree : (g : History) → IsMachineOf plant machine → ∥ ((h : History) × Keeps plant machine tasks last h) ∥₁
+      → past_kept plant machine tasks last ≡ history_past plant g → Keeps plant machine tasks last g
+  parts_agree g whole some e =
+      ∥∥₁_elim some (parts_prop g) (λ x. parts_same x.0 g whole x.1 (sym (parts_keep x.0 whole x.1) ∙ e))
+
+pub keeps_past : (resource : Resource) (h : History) → Agrees resource h → past_in resource ≡ history_past (plant_of resource) h
+unfolding Agrees plant_of past_in
+keeps_past resource h k = parts_keep resource.plant resource.machine resource.tasks resource.last h resource.whole k
+
+pub past_agrees : (resource : Resource) (h : History) → past_in resource ≡ history_past (plant_of resource) h → Agrees resource h
+unfolding Agrees plant_of past_in
+past_agrees resource h e = parts_agree resource.plant resource.machine resource.tasks resource.last h resource.whole resource.told e
+
+pub opening_agrees : (plant : PlantData) (opening : Opening) (h : History) → IsOpeningFor plant opening
+    → past_of plant opening ≡ history_past plant h → Keeps plant opening.machine opening.tasks opening.last h
+unfolding IsOpeningFor past_of
+opening_agrees plant opening h made e = parts_agree plant opening.machine opening.tasks opening.last h made.whole made.some e
+
+abbrev waits_for_turn : Event → Bool
+waits_for_turn (Scan task) = true
+waits_for_turn _ = false
+
+-- ---- what the tasks are told
+
+module _ (plant : PlantData) where
+  rise_by : (t : ℤ) (k : ℕ) (x y : Bool) (c d : List Call) → tasks_past plant.tasks c ≡ tasks_past plant.tasks d
+      → tasks_past plant.tasks (with_rise t k x y c) ≡ tasks_past plant.tasks (with_rise t k x y d)
+  rise_by t k x y c d e = by (not x && y) where
+    by : (b : Bool) → tasks_past plant.tasks (cond b (Rose (record { 0 = k }) t ∷ c) c)
+        ≡ tasks_past plant.tasks (cond b (Rose (record { 0 = k }) t ∷ d) d)
+    by true = task_table.past_next plant.tasks (Rose (record { 0 = k }) t) c d e
+    by false = e
+
+  rises_by : (t : ℤ) (k : ℕ) (before after : List Bool) (c d : List Call) → tasks_past plant.tasks c ≡ tasks_past plant.tasks d
+      → tasks_past plant.tasks (with_rises t k before after c) ≡ tasks_past plant.tasks (with_rises t k before after d)
+  rises_by t k [] after c d e = e
+  rises_by t k (x ∷ before) [] c d e = e
+  rises_by t k (x ∷ before) (y ∷ after) c d e =
+      rises_by t (suc k) before after (with_rise t k x y c) (with_rise t k x y d) (rise_by t k x y c d e)
+
+  service_by : (event : Event) (c d : List Call) → tasks_past plant.tasks c ≡ tasks_past plant.tasks d
+      → tasks_past plant.tasks (with_service event c) ≡ tasks_past plant.tasks (with_service event d)
+  service_by (Scan task) c d e = task_table.past_next plant.tasks (Served task) c d e
+  service_by (ForcedScan task) c d e = task_table.past_next plant.tasks (Served task) c d e
+  service_by (Input id v) c d e = e
+  service_by (Force id v) c d e = e
+  service_by (Release id) c d e = e
+  service_by (Reset p) c d e = e
+
+-- ---- one event more
+
+module _ (plant : PlantData) (sound : IsPlant plant) where
+  event_by : (event : Event) (t : ℤ) (one two : Table) → machine_past plant one ≡ machine_past plant two
+      → machine_past plant (after_event plant event t one) ≡ machine_past plant (after_event plant event t two)
+  event_by (Scan task) t one two e = machines.task_by plant task t sound one two e
+  event_by (ForcedScan task) t one two e = machines.task_by plant task t sound one two e
+  event_by (Input id v) t one two e = machines.change_by plant (Stored id v) one two e
+  event_by (Force id v) t one two e = machines.change_by plant (Forced id v) one two e
+  event_by (Release id) t one two e = machines.change_by plant (Released id) one two e
+  event_by (Reset p) t one two e = machines.reset_by plant p one two e
+
+  singles_by : (h g : History) → machine_past plant (table_of plant h) ≡ machine_past plant (table_of plant g)
+      → singles_of plant h ≡ singles_of plant g
+  unfolding singles_of
+  singles_by h g e = machines.singles_by plant (table_of plant h) (table_of plant g) sound e
+
+  table_next : (entry : Entry) (h g : History) → machine_past plant (table_of plant h) ≡ machine_past plant (table_of plant g)
+      → machine_past plant (table_of plant (entry ∷ h)) ≡ machine_past plant (table_of plant (entry ∷ g))
+  unfolding table_of
+  table_next entry h g e = event_by entry.0 entry.1 (table_of plant h) (table_of plant g) e
+
+  calls_next : (entry : Entry) (h g : History) → history_past plant h ≡ history_past plant g
+      → tasks_past plant.tasks (calls_of plant (entry ∷ h)) ≡ tasks_past plant.tasks (calls_of plant (entry ∷ g))
+  unfolding calls_of
+  calls_next entry h g same =
+      let before = singles_by h g (ap (λ p. p.machine) same) in
+      let after = singles_by (entry ∷ h) (entry ∷ g) (table_next entry h g (ap (λ p. p.machine) same)) in
+      let told : Call = Elapsed entry.1 (singles_of plant g) in
+      (λ i. tasks_past plant.tasks (with_rises entry.1 0 (before i) (after i)
+      (with_service entry.0 (Elapsed entry.1 (before i) ∷ calls_of plant h))))
+      ∙ rises_by plant entry.1 0 (singles_of plant g) (singles_of plant (entry ∷ g))
+      (with_service entry.0 (told ∷ calls_of plant h)) (with_service entry.0 (told ∷ calls_of plant g))
+      (service_by plant entry.0 (told ∷ calls_of plant h) (told ∷ calls_of plant g)
+      (task_table.past_next plant.tasks told (calls_of plant h) (calls_of plant g) (ap (λ p. p.tasks) same)))
+
+  pub past_next : (entry : Entry) (h g : History) → history_past plant h ≡ history_past plant g
+      → history_past plant (entry ∷ h) ≡ history_past plant (entry ∷ g)
+  past_next entry h g same =
+      let table = table_next entry h g (ap (λ p. p.machine) same) in
+      let calls = calls_next entry h g same in
+      (λ i. record { last = entry.1; machine = table i; tasks = calls i })
+
+  pub past_cut : (h g later : History) → history_past plant h ≡ history_past plant g
+      → history_past plant (later ++ h) ≡ history_past plant (later ++ g)
+  past_cut h g [] e = e
+  past_cut h g (entry ∷ later) e = past_next entry (later ++ h) (later ++ g) (past_cut h g later e)
+
+  -- ---- the answer to an event
+
+  refusal_by : (event : Event) (h g : History) → machine_past plant (table_of plant h) ≡ machine_past plant (table_of plant g)
+      → event_refusal plant (table_of plant h).changes event ≡ event_refusal plant (table_of plant g).changes event
+  refusal_by (Scan task) h g e = refl
+  refusal_by (ForcedScan task) h g e = refl
+  refusal_by (Input id v) h g e = refl
+  refusal_by (Force id v) h g e = refl
+  refusal_by (Release id) h g e =
+      ap of_image (image.release_by plant (table_of plant h).changes (table_of plant g).changes (ap (λ p. p.variables) e) id)
+  refusal_by (Reset p) h g e = refl
+
+  told_by : (t : ℤ) (h g : History) → history_past plant h ≡ history_past plant g
+      → tasks_past plant.tasks (calls_at plant h t) ≡ tasks_past plant.tasks (calls_at plant g t)
+  told_by t h g same =
+      let before = singles_by h g (ap (λ p. p.machine) same) in
+      (λ i. tasks_past plant.tasks (Elapsed t (before i) ∷ calls_of plant h))
+      ∙ task_table.past_next plant.tasks (Elapsed t (singles_of plant g)) (calls_of plant h) (calls_of plant g) (ap (λ p. p.tasks) same)
+
+  turn_by : (task : TaskId) (t : ℤ) (h g : History) → task.0 < length plant.tasks → history_past plant h ≡ history_past plant g
+      → turn_refusal plant.tasks (singles_of plant h) (calls_at plant h t) (Scan task) t
+      ≡ turn_refusal plant.tasks (singles_of plant g) (calls_at plant g t) (Scan task) t
+  unfolding turn_refusal
+  turn_by task t h g lt same =
+      let singles = singles_by h g (ap (λ p. p.machine) same) in
+      let told = told_by t h g same in
+      let waits = task_table.waits_by plant.tasks (calls_at plant h t) (calls_at plant g t) told task.0 lt in
+      let first = task_table.picked_by plant.tasks (calls_at plant h t) (calls_at plant g t) told in
+      (λ i. or_then
+      (refused_if (is_none (waits i)) (NotDue (next_release (interval_of plant.tasks task.0) (single_of (singles i) task.0) t)))
+      (yield_to task (first i)))
+
+  scanned_by : (event : Event) (task : TaskId) (t : ℤ) (h g : History) → task.0 < length plant.tasks
+      → history_past plant h ≡ history_past plant g → scan_answer plant h event task t ≡ scan_answer plant g event task t
+  unfolding scan_answer
+  scanned_by event task t h g lt same =
+      let e = ap (λ p. p.machine) same in
+      let ran = machines.bits_by plant task t sound Ran (table_of plant h) (table_of plant g) e in
+      let faulted = machines.bits_by plant task t sound Faulted (table_of plant h) (table_of plant g) e in
+      let skipped = machines.bits_by plant task t sound Skipped (table_of plant h) (table_of plant g) e in
+      let late = task_table.overruns_by plant.tasks (calls_of plant ((event, t) ∷ h)) (calls_of plant ((event, t) ∷ g))
+      (calls_next (event, t) h g same) task.0 lt in
+      (λ i. Scanned (ran i) (faulted i) (skipped i) (late i))
+
+  -- where the refusal and the answer are the same
+  joined : (event : Event) (t : ℤ) (h g : History) → history_past plant h ≡ history_past plant g
+      → turn_refusal plant.tasks (singles_of plant h) (calls_at plant h t) event t
+      ≡ turn_refusal plant.tasks (singles_of plant g) (calls_at plant g t) event t
+      → answer plant h event t ≡ answer plant g event t → verdict plant h event t ≡ verdict plant g event t
+  unfolding first_refusal
+  joined event t h g same turn answers =
+      let last = ap (λ p. p.last) same in
+      let named = refusal_by event h g (ap (λ p. p.machine) same) in
+      (λ i. verdict_by (or_then (instant_refusal (last i) t) (or_then (named i) (turn i))) (answers i))
+
+  -- where there is no such task
+  refused : (first : Option Refusal) (x y : Option Refusal) (o u : Outcome)
+      → verdict_by (or_then first (or_then (Some UnknownTask) x)) o ≡ verdict_by (or_then first (or_then (Some UnknownTask) y)) u
+  refused None x y o u = refl
+  refused (Some f) x y o u = refl
+
+  unknown : (event : Event) (t : ℤ) (h g : History) → history_past plant h ≡ history_past plant g
+      → event_refusal plant (table_of plant h).changes event ≡ Some UnknownTask
+      → event_refusal plant (table_of plant g).changes event ≡ Some UnknownTask → verdict plant h event t ≡ verdict plant g event t
+  unfolding first_refusal
+  unknown event t h g same x y =
+      let last = ap (λ p. p.last) same in
+      ap (λ r. verdict_by (or_then (instant_refusal (last_instant h) t)
+      (or_then r (turn_refusal plant.tasks (singles_of plant h) (calls_at plant h t) event t))) (answer plant h event t)) x
+      ∙ refused (instant_refusal (last_instant h) t) (turn_refusal plant.tasks (singles_of plant h) (calls_at plant h t) event t)
+      (turn_refusal plant.tasks (singles_of plant g) (calls_at plant g t) event t) (answer plant h event t) (answer plant g event t)
+      ∙ ap (λ l. verdict_by (or_then (instant_refusal l t)
+      (or_then (Some UnknownTask) (turn_refusal plant.tasks (singles_of plant g) (calls_at plant g t) event t))) (answer plant g event t)) last
+      ∙ sym (ap (λ r. verdict_by (or_then (instant_refusal (last_instant g) t)
+      (or_then r (turn_refusal plant.tasks (singles_of plant g) (calls_at plant g t) event t))) (answer plant g event t)) y)
+
+  free : (event : Event) (t : ℤ) (s s' : List Bool) (c c' : List Call) → waits_for_turn event ≡ false
+      → turn_refusal plant.tasks s c event t ≡ turn_refusal plant.tasks s' c' event t
+  unfolding turn_refusal
+  free (Scan task) t s s' c c' e = absurd cc
+  free (ForcedScan task) t s s' c c' e = refl
+  free (Input id v) t s s' c c' e = refl
+  free (Force id v) t s s' c c' e = refl
+  free (Release id) t s s' c c' e = refl
+  free (Reset p) t s s' c c' e = refl
+
+  no_task : (task : TaskId) → length plant.tasks ≤ task.0 → task_refusal plant task ≡ Some UnknownTask
+  no_task task le = let e : nat_lt task.0 (length plant.tasks) ≡ false = grind arith in rw e refl
+
+  pub verdict_cut : (event : Event) (t : ℤ) (h g : History) → history_past plant h ≡ history_past plant g
+      → verdict plant h event t ≡ verdict plant g event t
+  verdict_cut (Scan task) t h g same = elim (cases_lt task.0 (length plant.tasks)) [
+    | inl lt ↦ joined (Scan task) t h g same (turn_by task t h g lt same) (scanned_by (Scan task) task t h g lt same)
+    | inr le ↦ unknown (Scan task) t h g same (no_task task le) (no_task task le)
+  ]
+  verdict_cut (ForcedScan task) t h g same = elim (cases_lt task.0 (length plant.tasks)) [
+    | inl lt ↦ joined (ForcedScan task) t h g same (free (ForcedScan task) t (singles_of plant h) (singles_of plant g) (calls_at plant h t) (calls_at plant g t) refl) (scanned_by (ForcedScan task) task t h g lt same)
+    | inr le ↦ unknown (ForcedScan task) t h g same (no_task task le) (no_task task le)
+  ]
+  verdict_cut (Input id v) t h g same = joined (Input id v) t h g same
+      (free (Input id v) t (singles_of plant h) (singles_of plant g) (calls_at plant h t) (calls_at plant g t) refl) refl
+  verdict_cut (Force id v) t h g same = joined (Force id v) t h g same
+      (free (Force id v) t (singles_of plant h) (singles_of plant g) (calls_at plant h t) (calls_at plant g t) refl) refl
+  verdict_cut (Release id) t h g same = joined (Release id) t h g same
+      (free (Release id) t (singles_of plant h) (singles_of plant g) (calls_at plant h t) (calls_at plant g t) refl) refl
+  verdict_cut (Reset p) t h g same = joined (Reset p) t h g same
+      (free (Reset p) t (singles_of plant h) (singles_of plant g) (calls_at plant h t) (calls_at plant g t) refl) refl
+
+-- ---- the answers to questions
+
+module _ (plant : PlantData) (sound : IsPlant plant) (h g : History) (same : history_past plant h ≡ history_past plant g) where
+  abbrev alike : image_past plant (table_of plant h).changes ≡ image_past plant (table_of plant g).changes
+  alike = ap (λ p. p.machine.variables) same
+
+  pub value_by : (id : VarId) → id.0 < variable_count plant → value_of plant h id ≡ value_of plant g id
+  value_by id lt = image.value_by plant (table_of plant h).changes (table_of plant g).changes alike id.0 lt
+
+  pub force_by : (id : VarId) → id.0 < variable_count plant → forced_of plant h id ≡ forced_of plant g id
+  force_by id lt = image.forced_by plant (table_of plant h).changes (table_of plant g).changes alike id.0 lt
+
+  pub life_by : (p : ProgId) → p.0 < length plant.instances
+      → standing_past (tables_of (chart_of plant p)) (standing_of plant h p) ≡ standing_past (tables_of (chart_of plant p)) (standing_of plant g p)
+  life_by p lt = (machines.same_tables plant (table_of plant h) (table_of plant g) (ap (λ p. p.machine) same)).programs p.0 lt
+
+  pub waits_by : (task : TaskId) (t : ℤ) → task.0 < length plant.tasks
+      → waits_since plant.tasks (calls_at plant h t) task.0 ≡ waits_since plant.tasks (calls_at plant g t) task.0
+  waits_by task t lt = task_table.waits_by plant.tasks (calls_at plant h t) (calls_at plant g t) (told_by plant sound t h g same) task.0 lt
+
+  pub picked_by : (t : ℤ) → picked plant.tasks (calls_at plant h t) ≡ picked plant.tasks (calls_at plant g t)
+  picked_by t = task_table.picked_by plant.tasks (calls_at plant h t) (calls_at plant g t) (told_by plant sound t h g same)
+
+  pub overruns_by : (task : TaskId) → task.0 < length plant.tasks → overruns_of plant h task ≡ overruns_of plant g task
+  overruns_by task lt = task_table.overruns_by plant.tasks (calls_of plant h) (calls_of plant g) (ap (λ p. p.tasks) same) task.0 lt
