@@ -5,6 +5,7 @@ ghost use Rattle.sfc_instance.specs.Agreement.{IsFor};
 
 use crate::texts::plant_of;
 use sfc_chart::ids::{ProgId, TaskId, VarId};
+use sfc_core::opening::Opening;
 use sfc_core::resource::Resource;
 use sfc_events::event::{Event, Outcome};
 use sfc_events::refusal::Refusal;
@@ -148,6 +149,22 @@ impl Bench {
         self.resource.run(events)
     }
 
+    /// The resource is saved, told these events, and restored.
+    pub fn interrupt(&mut self, alloc: Global, events: &[(Event, i64)]) -> Result<(), Fail> {
+        let mut opening = Opening::new(alloc, self.resource.plant())?;
+        self.resource.save(&mut opening);
+        self.resource.run(events);
+        self.resource.restore(&opening);
+        Ok(())
+    }
+
+    /// The resource is as one that was opened anew.
+    pub fn begin_anew(&mut self, alloc: Global) -> Result<(), Fail> {
+        let opening = Opening::new(alloc, self.resource.plant())?;
+        self.resource.restore(&opening);
+        Ok(())
+    }
+
     // Which of the first five variables are TRUE.
     fn values_text(&self, alloc: Global) -> Result<String, AllocError> {
         let mut values = Vec::new(alloc);
@@ -177,5 +194,43 @@ impl Bench {
         let (program, overruns) = self.first_text(alloc)?.ok_or("no program")?;
         let values = self.values_text(alloc)?;
         Ok(format!(in alloc; "{program} {values} overruns {overruns}")?)
+    }
+
+    // What the program instance of this number shows.
+    fn instance_text(&self, alloc: Global, number: usize) -> Result<String, AllocError> {
+        if number >= self.resource.plant().instances().len() {
+            return Ok(String::new(alloc));
+        }
+        let instance = ProgId(number as u8);
+        let setting = self.resource.setting(instance);
+        program_text(alloc, setting.tables, self.resource.program(instance))
+    }
+
+    // What each variable reads, and to which value it is forced.
+    fn image_text(&self, alloc: Global) -> Result<String, AllocError> {
+        let mut values = Vec::new(alloc);
+        for number in 0..self.resource.variables() {
+            let id = VarId(number as u16);
+            values.push((self.resource.value(id), self.resource.forced(id)))?;
+        }
+        format!(in alloc; "{values:?}")
+    }
+
+    // The overruns of each task.
+    fn overruns_text(&self, alloc: Global) -> Result<String, AllocError> {
+        let mut overruns = Vec::new(alloc);
+        for number in 0..self.resource.plant().tasks().len() {
+            overruns.push(self.resource.overruns(TaskId(number as u8)))?;
+        }
+        format!(in alloc; "{overruns:?}")
+    }
+
+    /// All that a resource of two instances shows.
+    pub fn all_shown(&self, alloc: Global) -> Result<String, AllocError> {
+        let first = self.instance_text(alloc, 0)?;
+        let second = self.instance_text(alloc, 1)?;
+        let image = self.image_text(alloc)?;
+        let overruns = self.overruns_text(alloc)?;
+        format!(in alloc; "{first}; {second}; {image}; {overruns}")
     }
 }

@@ -1,6 +1,7 @@
 //! Tests of what no case can show: devices that fail, calls on their own, whole plants.
 //!
-//! - `bench`: a resource, and all that it shows as text; `broken`: devices that fail; `texts`: charts.
+//! - `bench`: a resource, and all that it shows as text; `broken`: devices that fail; `stations` and `texts`:
+//!   charts.
 //! - The rest: tests.
 #![tactic(auto)]
 
@@ -13,9 +14,13 @@ mod devices;
 #[cfg(test)]
 mod faults;
 #[cfg(test)]
+mod openings;
+#[cfg(test)]
 mod plants;
 #[cfg(test)]
 mod resource;
+#[cfg(test)]
+mod stations;
 #[cfg(test)]
 mod texts;
 #[cfg(test)]

@@ -52,14 +52,9 @@ pub fn kept_past()
         standing_past tables standing ≡ standing_past tables other → ProgramAgrees tables program other }
 {}
 
-/// A scan goes by the pasts of the instance and of the variables alone: where these are the same it ends the same, and leaves
-/// the same pasts.
-pub fn scan_by_pasts()
-    ensures ended { (plant : PlantData) (p : ProgId) (standing other : Standing) (changes others : List Change) (t : ℤ) →
-        IsPlant plant → p.0 < length plant.instances →
-        standing_past (tables_of (chart_of plant p)) standing ≡ standing_past (tables_of (chart_of plant p)) other →
-        image_past plant changes ≡ image_past plant others →
-        (after_scan plant p standing changes t).ended ≡ (after_scan plant p other others t).ended }
+/// What came before may be replaced by its past: over the same pasts of the instance and of the variables a scan leaves the same
+/// pasts.
+pub fn cut()
     ensures standing { (plant : PlantData) (p : ProgId) (standing other : Standing) (changes others : List Change) (t : ℤ) →
         IsPlant plant → p.0 < length plant.instances →
         standing_past (tables_of (chart_of plant p)) standing ≡ standing_past (tables_of (chart_of plant p)) other →
@@ -74,8 +69,13 @@ pub fn scan_by_pasts()
         ≡ image_past plant (after_scan plant p other others t).changes }
 {}
 
-/// The past gives all that an instance shows.
+/// The past gives how a scan ends, and all that an instance shows.
 pub fn past_answers()
+    ensures ended { (plant : PlantData) (p : ProgId) (standing other : Standing) (changes others : List Change) (t : ℤ) →
+        IsPlant plant → p.0 < length plant.instances →
+        standing_past (tables_of (chart_of plant p)) standing ≡ standing_past (tables_of (chart_of plant p)) other →
+        image_past plant changes ≡ image_past plant others →
+        (after_scan plant p standing changes t).ended ≡ (after_scan plant p other others t).ended }
     ensures active { (tables : Tabled) (standing other : Standing) (s : ℕ) → s < step_count tables →
         standing_past tables standing ≡ standing_past tables other →
         is_step_active tables standing s ≡ is_step_active tables other s }

@@ -68,21 +68,27 @@ pub fn kept_past()
         MachineAgrees plant machine other }
 {}
 
-/// What is done goes by the past alone: over tables of the same past a scan of a task ends the same, and leaves the same past,
-/// and so do a reset and a change; and SINGLE reads the same.
-pub fn by_past()
+/// What came before may be replaced by its past: over tables of the same past a scan of a task, a reset and a change leave tables
+/// of the same past.
+pub fn cut()
     ensures task { (plant : PlantData) (task : TaskId) (t : ℤ) (table other : Table) → IsPlant plant →
         machine_past plant table ≡ machine_past plant other →
         machine_past plant (after_task plant task t 0 plant.instances table)
         ≡ machine_past plant (after_task plant task t 0 plant.instances other) }
-    ensures bits { (how : Ended) (plant : PlantData) (task : TaskId) (t : ℤ) (table other : Table) → IsPlant plant →
+    ensures reset { (plant : PlantData) (p : ProgId) (table other : Table) →
         machine_past plant table ≡ machine_past plant other →
-        bits_of how plant task t 0 plant.instances table ≡ bits_of how plant task t 0 plant.instances other }
-    ensures reset { (plant : PlantData) (p : ProgId) (table other : Table) → machine_past plant table ≡ machine_past plant other →
         machine_past plant (after_reset p table) ≡ machine_past plant (after_reset p other) }
     ensures change { (plant : PlantData) (change : Change) (table other : Table) →
         machine_past plant table ≡ machine_past plant other →
         machine_past plant (with_change change table) ≡ machine_past plant (with_change change other) }
+{}
+
+/// The past gives how each instance's scan ends, and what the SINGLE of each task reads.
+pub fn past_answers()
+    ensures bits { (how : Ended) (plant : PlantData) (task : TaskId) (t : ℤ) (table other : Table) → IsPlant plant →
+        machine_past plant table ≡ machine_past plant other →
+        bits_of how plant task t 0 plant.instances table ≡ bits_of how plant task t 0 plant.instances other }
     ensures singles { (plant : PlantData) (table other : Table) → IsPlant plant →
-        machine_past plant table ≡ machine_past plant other → singles_in plant table.changes ≡ singles_in plant other.changes }
+        machine_past plant table ≡ machine_past plant other →
+        singles_in plant table.changes ≡ singles_in plant other.changes }
 {}

@@ -3,7 +3,12 @@ use Rattle.sfc_evolve.specs.Evolution.{step_time}
 use Rattle.sfc_evolve.proofs.Pasts as evolve
 use Rattle.sfc_action.proofs.Pasts as action
 use Rattle.sfc_instance.specs.Life.{evolution_scans, evolution_rows, control_scans, latest_instant}
+use Rattle.sfc_instance.proofs.Pasts.{has_tables, scan_same}
 use Rattle.sfc_instance.proofs.laws.past_answers.Goals as goal
+
+pub returns-clause-ended : goal.returns-clause-ended
+returns-clause-ended c plant p standing other changes others t sound lt same e =
+    (scan_same plant p (has_tables plant sound p.0 lt) standing other changes others t same e).ended
 
 pub returns-clause-active : goal.returns-clause-active
 returns-clause-active c tables standing other s lt e = evolve.active_by tables (evolution_scans standing.life) (evolution_scans other.life) (ap (λ p. p.steps) e) s lt

@@ -1,9 +1,5 @@
 use Rattle.sfc_instance.proofs.Pasts.{has_tables, scan_same}
-use Rattle.sfc_instance.proofs.laws.scan_by_pasts.Goals as goal
-
-pub returns-clause-ended : goal.returns-clause-ended
-returns-clause-ended c plant p standing other changes others t sound lt same e =
-    (scan_same plant p (has_tables plant sound p.0 lt) standing other changes others t same e).ended
+use Rattle.sfc_instance.proofs.laws.cut.Goals as goal
 
 pub returns-clause-standing : goal.returns-clause-standing
 returns-clause-standing c plant p standing other changes others t sound lt same e =
