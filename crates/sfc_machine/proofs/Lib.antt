@@ -1,6 +1,7 @@
 pub mod Copied
 pub mod Built
 pub mod Ended
+pub mod EndBits
 pub mod Kept
 pub mod Pasts
 pub mod Scanned

@@ -1,6 +1,7 @@
 //! What the definitions mean: each law is a function with an empty body, whose contract is the law.
 
-ghost use Rattle.std.specs.Prelude.{◌≡◌, ◌≢◌, ◌<◌, ◌↔◌, ℕ, ℤ, length, true, is_some, slice_get, Some};
+ghost use Rattle.std.specs.Prelude.{◌≡◌, ◌≢◌, ◌<◌, ◌≤◌, ◌↔◌, ℕ, ℤ, length, true, is_some, slice_get, Some, take};
+ghost use Rattle.std.specs.Int.{bit_at};
 ghost use Rattle.sfc_chart.specs.Sound.{IsPlant};
 ghost use Rattle.sfc_image.specs.Changes.{Change};
 ghost use Rattle.sfc_instance.specs.declared.ended.Ended.{Ended};
@@ -57,6 +58,18 @@ pub fn resets()
     ensures anew { (p : ProgId) (table : Table) → (after_reset p table).standing p.0 ≡ fresh }
     ensures others { (p : ProgId) (table : Table) (k : ℕ) → k ≢ p.0 →
         (after_reset p table).standing k ≡ table.standing k }
+{}
+
+/// Of the answer to a scan of a task the bit of an instance is set exactly where the instance is the task's, and its scan, over
+/// what those before it in the text left, ended so (2.7.2); no other bit is set.
+pub fn bits()
+    ensures instances { (how : Ended) (plant : PlantData) (task : TaskId) (t : ℤ) (table : Table) (k : ℕ) (instance : Instance) →
+        slice_get plant.instances k ≡ Some instance →
+        (bit_at (bits_of how plant task t 0 plant.instances table) k ≡ 1)
+        ↔ ((instance.task.0 ≡ task.0)
+        × ((program_scan plant t k (after_task plant task t 0 (take k plant.instances) table)).ended ≡ how)) }
+    ensures others { (how : Ended) (plant : PlantData) (task : TaskId) (t : ℤ) (table : Table) (k : ℕ) →
+        length plant.instances ≤ k → bit_at (bits_of how plant task t 0 plant.instances table) k ≡ 0 }
 {}
 
 /// What is kept is the past of the table: all that later answers need, and for all tables of this past the same.
