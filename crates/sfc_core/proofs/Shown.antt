@@ -1,10 +1,10 @@
 -- What variables read after an event.
-use Rattle.std.proofs.Common.{◌≡◌, ◌≢◌, ◌∙◌, List, ◌∷◌, Option, Some, None, unwrap_or, ap}
+use Rattle.std.proofs.Common.{◌≡◌, ◌≢◌, ◌∙◌, Bool, cond, List, ◌∷◌, Option, Some, None, unwrap_or, ap}
 use Rattle.std.proofs.lemmas.Bool.{ne_eqb}
 use Rattle.sfc_chart.specs.declared.ids.VarId.{VarId}
 use Rattle.sfc_chart.specs.Plants.{PlantData}
 use Rattle.sfc_expr.specs.declared.value.Value.{Value}
-use Rattle.sfc_image.specs.Changes.{Change, Stored, Forced}
+use Rattle.sfc_image.specs.Changes.{Change, Stored, Forced, Released}
 use Rattle.sfc_image.specs.Values.{stored_value, forced_value, value_of}
 use Rattle.sfc_image.proofs.Counting.{same_number}
 use Rattle.sfc_image.proofs.Written.{stored_here, stored_there, forced_here}
@@ -26,3 +26,14 @@ module _ (plant : PlantData) (changes : List Change) (id : VarId) (v : Value) wh
   pub other_reads : (other : VarId) → id.0 ≢ other.0 → value_of plant (Stored id v ∷ changes) other.0 ≡ value_of plant changes other.0
   other_reads other ne =
       ap (λ (x : Value). unwrap_or (forced_value changes other.0) x) (stored_there plant changes id v other.0 (ne_eqb id.0 other.0 ne))
+
+  pub force_elsewhere : (other : VarId) → id.0 ≢ other.0 → value_of plant (Forced id v ∷ changes) other.0 ≡ value_of plant changes other.0
+  force_elsewhere other ne =
+      ap (λ (b : Bool). unwrap_or (cond b (Some v) (forced_value changes other.0)) (stored_value plant changes other.0))
+      (ne_eqb id.0 other.0 ne)
+
+pub release_elsewhere : (plant : PlantData) (changes : List Change) (id other : VarId) → id.0 ≢ other.0
+    → value_of plant (Released id ∷ changes) other.0 ≡ value_of plant changes other.0
+release_elsewhere plant changes id other ne =
+    ap (λ (b : Bool). unwrap_or (cond b None (forced_value changes other.0)) (stored_value plant changes other.0))
+    (ne_eqb id.0 other.0 ne)

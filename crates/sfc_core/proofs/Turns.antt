@@ -4,9 +4,12 @@ use Rattle.std.proofs.Common.{ℤ, Option, Some, None, Ok, Err, is_none}
 use Rattle.std.proofs.lemmas.Bool.Decides.{eqb_tells, nat_tests}
 use Rattle.sfc_chart.specs.declared.ids.TaskId.{TaskId}
 use Rattle.sfc_chart.specs.Plants.{PlantData}
-use Rattle.sfc_tasks.specs.Releases.{waits_since}
+use Rattle.sfc_image.proofs.Counting.{same_number}
+use Rattle.sfc_tasks.specs.Calls.{single_of}
+use Rattle.sfc_tasks.specs.Multiples.{next_release}
+use Rattle.sfc_tasks.specs.Releases.{interval_of, waits_since}
 use Rattle.sfc_tasks.specs.Pick.{picked, IsPicked}
-use Rattle.sfc_tasks.proofs.Picking.{picked_is, none_waits}
+use Rattle.sfc_tasks.proofs.Picking.{picked_is, is_picked, none_waits}
 use Rattle.sfc_events.specs.declared.event.Event.TheVariants.{Scan}
 use Rattle.sfc_events.specs.declared.event.Outcome.{Outcome}
 use Rattle.sfc_events.specs.declared.refusal.Refusal.{Refusal}
@@ -125,6 +128,23 @@ module _ (plant : PlantData) (h : History) (task : TaskId) (t : ℤ) where
       ap is_none (none_waits plant.tasks (calls_at plant h t) nobody task.0 within) in
       absurd cc)
       (λ first is same. subst (λ n. IsPicked plant.tasks (calls_at plant h t) n) same (picked_is plant.tasks (calls_at plant h t) first is))
+
+  -- where nothing is wrong with the instant
+  pub picked_runs : instant_refusal (last_instant h) t ≡ None → IsPicked plant.tasks (calls_at plant h t) task.0
+      → verdict plant h (Scan task) t ≡ Ok (answer plant h (Scan task) t)
+  unfolding undue unpicked
+  picked_runs instant first =
+      let known : nat_lt task.0 (length plant.tasks) ≡ true = let lt = first.number in grind arith in
+      let there : task_refusal plant task ≡ None = ap (λ b. refused_if (not b) UnknownTask) known in
+      let due : undue ≡ None =
+      ap (λ o. refused_if (is_none o) (NotDue (next_release (interval_of plant.tasks task.0) (single_of (singles_of plant h) task.0) t)))
+      first.waits in
+      let turn : unpicked ≡ None =
+      ap (yield_to task) (is_picked plant.tasks (calls_at plant h t) task first)
+      ∙ ap (λ b. refused_if (not b) (Yield task)) (same_number task.0) in
+      let unrefused : first_refusal plant h (Scan task) t ≡ None =
+      refusals ∙ (λ i. or_then (instant i) (or_then (there i) (or_then (due i) (turn i)))) in
+      ap (λ o. verdict_by o (answer plant h (Scan task) t)) unrefused
 
   -- the part of the refusals that comes last
   turn_told : (refusal : Refusal) → (InstantRange ≡ refusal → ⊥) → (ClockBack ≡ refusal → ⊥) → (UnknownTask ≡ refusal → ⊥)

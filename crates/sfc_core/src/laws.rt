@@ -30,11 +30,11 @@ ghost use Rattle.sfc_events.specs.declared.event.Event.TheVariants.{Scan, Forced
 ghost use Rattle.sfc_events.specs.declared.event.Outcome.{Outcome};
 ghost use Rattle.sfc_events.specs.declared.refusal.Refusal.{Refusal};
 ghost use Rattle.sfc_events.specs.declared.refusal.Refusal.TheVariants.{NotDue, Yield};
-ghost use Rattle.sfc_events.specs.History.{Entry, History};
+ghost use Rattle.sfc_events.specs.History.{Entry, History, last_instant};
 ghost use Rattle.sfc_core.specs.Table.{table_of};
 ghost use Rattle.sfc_core.specs.Due.{calls_of, calls_at, is_scan_of};
 ghost use Rattle.sfc_core.specs.Answers.{value_of, forced_of, standing_of, overruns_of};
-ghost use Rattle.sfc_core.specs.Verdict.{verdict, after, after_all};
+ghost use Rattle.sfc_core.specs.Verdict.{instant_refusal, answer, verdict, after, after_all};
 ghost use Rattle.sfc_core.specs.Forcing.{turns};
 ghost use Rattle.sfc_core.specs.Order.{AreInOrder};
 ghost use Rattle.sfc_core.specs.Work.{event_work, task_limit};
@@ -76,11 +76,15 @@ pub fn overruns()
         AllPairs (λ u v. u <ℤ v) (multiples_in (interval_of plant.tasks task.0) task.0 [] (calls_of plant h)) }
 {}
 
-/// A scan that is accepted where it has to be due is of the task that goes first; it is refused with `NotDue` only where no
-/// release of the task waits, and with `Yield` only where the task that is told goes first, which is another (2.7.2).
+/// A scan that is accepted where it has to be due is of the task that goes first, and that of the task that goes first is
+/// accepted, at an instant that is in range and not before the latest event; it is refused with `NotDue` only where no release
+/// of the task waits, and with `Yield` only where the task that is told goes first, which is another (2.7.2).
 pub fn turns()
     ensures accepted { (plant : PlantData) (h : History) (task : TaskId) (t : ℤ) (outcome : Outcome) →
         verdict plant h (Scan task) t ≡ Ok outcome → IsPicked plant.tasks (calls_at plant h t) task.0 }
+    ensures picked { (plant : PlantData) (h : History) (task : TaskId) (t : ℤ) → instant_refusal (last_instant h) t ≡ None →
+        IsPicked plant.tasks (calls_at plant h t) task.0 →
+        verdict plant h (Scan task) t ≡ Ok (answer plant h (Scan task) t) }
     ensures undue { (plant : PlantData) (h : History) (task : TaskId) (t : ℤ) (next : Option ℤ) →
         verdict plant h (Scan task) t ≡ Err (NotDue next) → waits_since plant.tasks (calls_at plant h t) task.0 ≡ None }
     ensures second { (plant : PlantData) (h : History) (task first : TaskId) (t : ℤ) →
@@ -102,6 +106,10 @@ pub fn values()
         value_of plant ((Release id, t) ∷ h) id ≡ stored_value plant (table_of plant h).changes id.0 }
     ensures others { (plant : PlantData) (h : History) (id other : VarId) (v : Value) (t : ℤ) → id.0 ≢ other.0 →
         value_of plant ((Input id v, t) ∷ h) other ≡ value_of plant h other }
+    ensures force_others { (plant : PlantData) (h : History) (id other : VarId) (v : Value) (t : ℤ) → id.0 ≢ other.0 →
+        value_of plant ((Force id v, t) ∷ h) other ≡ value_of plant h other }
+    ensures release_others { (plant : PlantData) (h : History) (id other : VarId) (t : ℤ) → id.0 ≢ other.0 →
+        value_of plant ((Release id, t) ∷ h) other ≡ value_of plant h other }
 {}
 
 /// Only a force and a release of a variable change whether and to what it is forced; a scan does not (2.4).

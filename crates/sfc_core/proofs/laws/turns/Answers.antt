@@ -1,6 +1,6 @@
 use Rattle.sfc_tasks.proofs.Picking.{picked_is}
 use Rattle.sfc_core.specs.Due.{calls_at}
-use Rattle.sfc_core.proofs.Turns.{picked_first, waits_not, another_first}
+use Rattle.sfc_core.proofs.Turns.{picked_first, picked_runs, waits_not, another_first}
 use Rattle.sfc_core.proofs.laws.turns.Goals as goal
 
 pub returns-clause-accepted : goal.returns-clause-accepted
@@ -15,3 +15,6 @@ returns-clause-second c plant h task first t e =
 
 pub returns-clause-other : goal.returns-clause-other
 returns-clause-other c plant h task first t e = (another_first plant h task t first e).other
+
+pub returns-clause-picked : goal.returns-clause-picked
+returns-clause-picked c plant h task t instant first = picked_runs plant h task t instant first

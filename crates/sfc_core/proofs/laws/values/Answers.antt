@@ -1,6 +1,6 @@
 use Rattle.sfc_image.proofs.Happened.{release_shows}
 use Rattle.sfc_core.specs.Table.{table_of}
-use Rattle.sfc_core.proofs.Shown.{given_reads, hidden_reads, forced_reads, other_reads}
+use Rattle.sfc_core.proofs.Shown.{given_reads, hidden_reads, forced_reads, other_reads, force_elsewhere, release_elsewhere}
 use Rattle.sfc_core.proofs.laws.values.Goals as goal
 
 pub returns-clause-given : goal.returns-clause-given
@@ -22,3 +22,11 @@ returns-clause-released c plant h id t = release_shows plant (table_of plant h).
 pub returns-clause-others : goal.returns-clause-others
 unfolding table_of
 returns-clause-others c plant h id other v t ne = other_reads plant (table_of plant h).changes id v other ne
+
+pub returns-clause-force_others : goal.returns-clause-force_others
+unfolding table_of
+returns-clause-force_others c plant h id other v t ne = force_elsewhere plant (table_of plant h).changes id v other ne
+
+pub returns-clause-release_others : goal.returns-clause-release_others
+unfolding table_of
+returns-clause-release_others c plant h id other t ne = release_elsewhere plant (table_of plant h).changes id other ne
