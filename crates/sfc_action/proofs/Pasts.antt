@@ -1,7 +1,7 @@
 -- What is kept of the scans of a life is their past, and the past goes on by one scan.
 use denote.Struct.Props.{props}
 use Rattle.std.proofs.Common.{◌≡◌, inl, inr, ℕ, ◌<◌, ◌==◌, not, ◌&&◌, ◌||◌, Bool, true, false, List, [], ◌∷◌, ◌++◌}
-use Rattle.std.proofs.Common.{length, arith, refl, sym, ◌∙◌, ap, subst, ℤ, Option, Some, None}
+use Rattle.std.proofs.Common.{length, arith, refl, sym, ◌∙◌, ap, ℤ, Option, Some, None}
 use Rattle.std.specs.Prelude.{find, slice_index_or, All}
 use Rattle.std.specs.List.{list_any}
 use Rattle.std.proofs.lemmas.Bool.Decides.{nat_tests}
@@ -9,8 +9,7 @@ use Rattle.std.proofs.lemmas.List.Elements.{All-head, All-tail}
 use Rattle.sfc_text.specs.declared.tree.TimedQualifier.{TimedQualifier}
 use Rattle.sfc_text.specs.declared.tree.TimedQualifier.TheVariants.{Limited, Delayed, StoredDelayed, DelayedStored, StoredLimited}
 use Rattle.sfc_timers.specs.Timers.{Reading, has_elapsed}
-use Rattle.sfc_timers.specs.Agreement.{OnDelayAgrees}
-use Rattle.sfc_timers.specs.Past.{on_delay_past, on_delay_in}
+use Rattle.sfc_timers.specs.Past.{on_delay_past}
 use Rattle.sfc_timers.proofs.Cuts.{past_cut, elapsed_cut}
 use Rattle.sfc_timers.proofs.Pasts.{on_delay_keeps, on_delay_agrees, on_delay_prop}
 use Rattle.sfc_tables.specs.Tables.{Tabled, AreTables}
@@ -21,11 +20,11 @@ use Rattle.sfc_action.specs.declared.blocks.Block.{Block}
 use Rattle.sfc_action.specs.declared.kept.Kept.{Kept}
 use Rattle.sfc_action.specs.declared.fault.ControlFault.{ControlFault}
 use Rattle.sfc_action.specs.Delays.{same_timed}
-use Rattle.sfc_action.specs.ActionControl.{Scan, N, R, S, L, D, P, SD, DS, SL, P1, P0, input, stored, delayed, delayed_then_stored}
-use Rattle.sfc_action.specs.ActionControl.{stored_then_delayed, preset, q, executed, fault_of, fault_by, is_two_timed, first_in, first_fault}
+use Rattle.sfc_action.specs.ActionControl.{Scan, N, R, S, L, P, SD, DS, SL, P1, P0, input, stored, delayed, delayed_then_stored}
+use Rattle.sfc_action.specs.ActionControl.{preset, q, executed, fault_of, fault_by, is_two_timed, first_in, first_fault}
 use Rattle.sfc_action.specs.Agreement.{ControlsAgree}
-use Rattle.sfc_action.specs.Past.{DelayPast, ActionPast, delay_past, action_past, controls_past, delay_in, action_in, past_in}
-use Rattle.sfc_action.specs.Private.Keeping.{is_of, called, readings, IsCovered, BlockAgrees, AreKept}
+use Rattle.sfc_action.specs.Past.{DelayPast, delay_past, action_past, controls_past, delay_in, action_in, past_in}
+use Rattle.sfc_action.specs.Private.Keeping.{is_of, called, readings, IsCovered, BlockAgrees}
 use Rattle.sfc_action.proofs.Elapsed.{bool_cases, and_left, and_right, same_timed_is, is_on_next, never_called}
 
 -- ---- the past of each action

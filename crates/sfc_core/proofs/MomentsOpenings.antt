@@ -1,5 +1,5 @@
 -- What a history leaves for later events: small plants at single moments. Scans are 10 ms apart, the first at 0.
-use Rattle.std.proofs.Common.{◌≡◌, refl, ℕ, true, false, List, [], ◌∷◌, Some, None, pos, negsuc, Option}
+use Rattle.std.proofs.Common.{◌≡◌, refl, ℕ, ℤ, Bool, true, false, List, [], ◌∷◌, Some, None, pos, negsuc, Option}
 use Rattle.std.specs.Prelude.{codes}
 use Rattle.sfc_tokens.specs.declared.var_type.VarType.TheVariants as types
 use Rattle.sfc_expr.specs.declared.fault.Fault.TheVariants.{DivZero}
@@ -12,7 +12,6 @@ use Rattle.sfc_tables.specs.declared.association.Association.{Association}
 use Rattle.sfc_tables.specs.declared.association.Qualifier.TheVariants.{NonStored}
 use Rattle.sfc_tables.specs.declared.chart.Transition.{Transition}
 use Rattle.sfc_tables.specs.Ranks.{rank_order}
-use Rattle.sfc_evolve.specs.Past.{StepsPast}
 use Rattle.sfc_action.specs.Past.{DelayPast, ActionPast}
 use Rattle.sfc_chart.specs.Plants.{PlantData}
 use Rattle.sfc_image.specs.Past.{VariablePast}
@@ -38,11 +37,16 @@ first_of (p ∷ ps) = Some p
 abbrev program_left : PlantData → History → Option StandingPast
 program_left plant h = first_of (history_past plant h).machine.programs
 
-abbrev steps_in : Option StandingPast → Option StepsPast
-steps_in None = None
-steps_in (Some p) = Some p.steps
+-- of its steps: whether there was a scan, which are active, their times at the instant 0, which transitions the latest scan
+-- cleared, and which steps it activated
+abbrev StepsLeft : Type 0
+StepsLeft = Bool × List Bool × List ℤ × List Bool × List Bool
 
-abbrev steps_left : PlantData → History → Option StepsPast
+abbrev steps_in : Option StandingPast → Option StepsLeft
+steps_in None = None
+steps_in (Some p) = Some (p.steps.begun, p.steps.active, p.steps.times, p.steps.cleared, p.steps.activated)
+
+abbrev steps_left : PlantData → History → Option StepsLeft
 steps_left plant h = steps_in (program_left plant h)
 
 abbrev delay_among : TimedQualifier → List ActionPast → Option DelayPast
@@ -129,36 +133,18 @@ sl_runs_on = refl
 
 -- At 20 ms: step 0 was left at 10 ms and keeps its 10 ms; step 1 is active since 10 ms, which is its time at the instant 0.
 step_left : steps_left (leaving (sets NonStored 0)) (scans 3)
-    ≡ Some (record {
-      begun = true;
-      active = false ∷ true ∷ [];
-      times = ms 10 ∷ negsuc 9_999 ∷ [];
-      cleared = false ∷ [];
-      activated = false ∷ false ∷ [];
-    })
+    ≡ Some ((true, false ∷ true ∷ [], ms 10 ∷ negsuc 9_999 ∷ [], false ∷ [], false ∷ false ∷ []))
 unfolding table_of program_scan rank_order
 step_left = refl
 
 -- at 10 ms the transition is cleared
 step_entered : steps_left (leaving (sets NonStored 0)) (scans 2)
-    ≡ Some (record {
-      begun = true;
-      active = false ∷ true ∷ [];
-      times = ms 10 ∷ negsuc 9_999 ∷ [];
-      cleared = true ∷ [];
-      activated = false ∷ true ∷ [];
-    })
+    ≡ Some ((true, false ∷ true ∷ [], ms 10 ∷ negsuc 9_999 ∷ [], true ∷ [], false ∷ true ∷ []))
 unfolding table_of program_scan rank_order
 step_entered = refl
 
-abbrev no_scan : StepsPast
-no_scan = record {
-  begun = false;
-  active = false ∷ false ∷ [];
-  times = pos 0 ∷ pos 0 ∷ [];
-  cleared = false ∷ [];
-  activated = false ∷ false ∷ [];
-}
+abbrev no_scan : StepsLeft
+no_scan = (false, false ∷ false ∷ [], pos 0 ∷ pos 0 ∷ [], false ∷ [], false ∷ false ∷ [])
 
 before_first_scan : steps_left (leaving (sets NonStored 0)) [] ≡ Some no_scan
 unfolding table_of program_scan rank_order

@@ -231,6 +231,7 @@ impl Resource {
     }
 
     /// Puts into the opening what the events so far leave for later ones. It takes no memory.
+    #[tactic(auto, unfolding(crate::specs::Agreement::Agrees, crate::specs::Agreement::plant_of, crate::specs::Openings::IsOpeningFor))]
     pub fn save(&self, opening: &mut Opening)
         requires { IsOpeningFor (plant_of self.now) opening.old }
         ensures sizes { IsOpeningFor (plant_of self.now) opening.new }
@@ -244,6 +245,7 @@ impl Resource {
 
     /// Goes on from the opening: what the resource was told before counts no more, and each later event gets the answer that
     /// it gets after the events that the opening stands for. It takes no memory.
+    #[tactic(auto, unfolding(crate::specs::Agreement::Agrees, crate::specs::Agreement::plant_of, crate::specs::Openings::IsOpeningFor))]
     pub fn restore(&mut self, opening: &Opening)
         requires { IsOpeningFor (plant_of self.old) opening.now }
         ensures plant { plant_of self.new ≡ plant_of self.old }

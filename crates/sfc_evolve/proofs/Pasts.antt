@@ -1,26 +1,25 @@
 -- What is kept of the scans of a life is their past, and the past goes on by one scan.
 use denote.Struct.Props.{props}
-use Rattle.std.proofs.Common.{◌≡◌, inl, inr, ℕ, zero, suc, ◌+◌, ◌<◌, ◌≤◌, not, ◌&&◌, ◌||◌, Bool, true, false, cond, List, [], ◌∷◌, ◌++◌}
-use Rattle.std.proofs.Common.{length, arith, refl, sym, ◌∙◌, ap, ℤ, pos, ◌-ℤ◌, ◌+ℤ◌, Option, Some, None}
-use Rattle.std.specs.Prelude.{map, find, replicate, get_or}
+use Rattle.std.proofs.Common.{◌≡◌, inl, inr, ℕ, ◌<◌, ◌≤◌, not, Bool, true, false, cond, List, [], ◌∷◌, ◌++◌}
+use Rattle.std.proofs.Common.{arith, refl, sym, ◌∙◌, ap, ℤ, pos, ◌-ℤ◌, ◌+ℤ◌, Some, None}
+use Rattle.std.specs.Prelude.{map, find, replicate}
 use Rattle.std.specs.List.{range_with_len}
 use Rattle.std.proofs.lemmas.Bool.{cases_lt}
 use Rattle.std.proofs.lemmas.Int.{ints}
-use Rattle.std.proofs.lemmas.List.FromFn.{fill_by_all, get_or-map-range_with_len}
 use Rattle.sfc_expr.proofs.ByPlace.{at_place, mapped}
 use Rattle.sfc_flags.specs.Flags.{flag}
 use Rattle.sfc_tables.specs.Tables.{Tabled, AreTables}
 use Rattle.sfc_evolve.specs.declared.steps.Steps.{Steps}
-use Rattle.sfc_evolve.specs.Lookback.{leading, oldest, is_in, is_empty, time_from, time_in}
+use Rattle.sfc_evolve.specs.Lookback.{leading, oldest, is_in, is_empty, time_in}
 use Rattle.sfc_evolve.specs.Evolution.{Scan, Row, rows_of, row_after, step_count, transition_count, cleared_set}
-use Rattle.sfc_evolve.specs.Evolution.{is_active, is_activated, is_deactivated, active_steps, activates, leaves}
+use Rattle.sfc_evolve.specs.Evolution.{is_active, is_activated, is_deactivated, active_steps, leaves}
 use Rattle.sfc_evolve.specs.Evolution.{step_time, step_times, was_cleared, was_activated}
-use Rattle.sfc_evolve.specs.Agreement.{Keeps, StepsAgree}
-use Rattle.sfc_evolve.specs.Past.{StepsPast, steps_past, past_in}
-use Rattle.sfc_evolve.specs.Private.Keeping.{number, AreKept}
+use Rattle.sfc_evolve.specs.Agreement.{StepsAgree}
+use Rattle.sfc_evolve.specs.Past.{steps_past, past_in}
+use Rattle.sfc_evolve.specs.Private.Keeping.{number}
 use Rattle.sfc_evolve.proofs.FirstScan.{length-cleared_set, past_end}
 use Rattle.sfc_evolve.proofs.Listed.{listed}
-use Rattle.sfc_evolve.proofs.Looks.{bool_cases, is_in_on, is_in_off, is_in_kept, time_on, time_kept, time_off, time_out, in_goes_on}
+use Rattle.sfc_evolve.proofs.Looks.{bool_cases, is_in_off, is_in_kept, time_on, time_kept, time_off, time_out, in_goes_on}
 use Rattle.sfc_evolve.proofs.Next.{apart, cleared_same, next_active}
 use Rattle.sfc_evolve.proofs.TableFacts.{all_preceding_below}
 

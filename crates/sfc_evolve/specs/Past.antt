@@ -1,5 +1,5 @@
 -- What later answers need of the scans of a life.
-use Rattle.std.specs.Prelude.{Bool, not, List, map, ℤ, pos, ◌-ℤ◌, cond, length}
+use Rattle.std.specs.Prelude.{Bool, not, List, map, ℤ, pos, ◌-ℤ◌, cond}
 use Rattle.std.specs.List.{range_with_len}
 use Rattle.sfc_flags.specs.Flags.{flag}
 use Rattle.sfc_tables.specs.Tables.{Tabled}

@@ -1,8 +1,7 @@
 -- What a block's past gives after one call more.
 use Rattle.std.proofs.Common.{◌≡◌, Bool, true, false, List, [], ◌∷◌, ◌++◌, refl, sym, ◌∙◌, ap, ℤ, ◌-ℤ◌, int_le, Option, Some, None}
-use Rattle.sfc_timers.specs.Timers.{Bistable, Reading, is_on, has_elapsed, run_of, start_of, preset_of, instant_of}
-use Rattle.sfc_timers.specs.Agreement.{begun_at}
-use Rattle.sfc_timers.specs.Past.{flip_flop_past, on_delay_past, edge_past}
+use Rattle.sfc_timers.specs.Timers.{Bistable, Reading, is_on, has_elapsed, instant_of}
+use Rattle.sfc_timers.specs.Past.{on_delay_past, edge_past}
 
 -- the past after a call, by the past before it
 abbrev on_after : Bistable → Bool → Bool
