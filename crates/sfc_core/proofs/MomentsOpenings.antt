@@ -133,13 +133,13 @@ sl_runs_on = refl
 
 -- At 20 ms: step 0 was left at 10 ms and keeps its 10 ms; step 1 is active since 10 ms, which is its time at the instant 0.
 step_left : steps_left (leaving (sets NonStored 0)) (scans 3)
-    ≡ Some ((true, false ∷ true ∷ [], ms 10 ∷ negsuc 9_999 ∷ [], false ∷ [], false ∷ false ∷ []))
+    ≡ Some (true, false ∷ true ∷ [], ms 10 ∷ negsuc 9_999 ∷ [], false ∷ [], false ∷ false ∷ [])
 unfolding table_of program_scan rank_order
 step_left = refl
 
 -- at 10 ms the transition is cleared
 step_entered : steps_left (leaving (sets NonStored 0)) (scans 2)
-    ≡ Some ((true, false ∷ true ∷ [], ms 10 ∷ negsuc 9_999 ∷ [], true ∷ [], false ∷ true ∷ []))
+    ≡ Some (true, false ∷ true ∷ [], ms 10 ∷ negsuc 9_999 ∷ [], true ∷ [], false ∷ true ∷ [])
 unfolding table_of program_scan rank_order
 step_entered = refl
 
