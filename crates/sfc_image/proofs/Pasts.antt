@@ -2,31 +2,27 @@
 use denote.Struct.Props.{props}
 use Rattle.std.proofs.Common.{◌≡◌, inl, inr, ℕ, zero, suc, ◌+◌, ◌<◌, ◌≤◌, ◌==◌, arith, Bool, true, false, cond, List, [], ◌∷◌, ◌++◌, length}
 use Rattle.std.proofs.Common.{refl, sym, ◌∙◌, ap, Option, Some, None, Ok}
-use Rattle.std.specs.Prelude.{map, get_or, unwrap_or, nat_lt, take, flat_map, slice_get, is_some}
-use Rattle.std.specs.List.{range_with_len}
+use Rattle.std.specs.Prelude.{unwrap_or, take, flat_map, slice_get}
 use Rattle.std.proofs.lemmas.Bool.{cases_lt}
 use Rattle.std.proofs.lemmas.List.{length-append}
-use Rattle.std.proofs.lemmas.List.FromFn.{get_or-map-range_with_len}
 use Rattle.sfc_expr.proofs.ByPlace.{at_place, mapped}
 use Rattle.sfc_chart.specs.declared.ids.ProgId.{ProgId}
 use Rattle.sfc_chart.specs.declared.ids.VarId.{VarId}
 use Rattle.sfc_chart.specs.declared.instance.Instance.{Instance}
 use Rattle.sfc_program.specs.declared.program_type.ProgramType.{ProgramType}
 use Rattle.sfc_chart.specs.Plants.{PlantData}
-use Rattle.sfc_chart.specs.Image.{image_variables, locals_of}
+use Rattle.sfc_chart.specs.Image.{locals_of}
 use Rattle.sfc_chart.specs.Finding.{first_local, instance_locals, locals_at}
 use Rattle.sfc_expr.specs.declared.value.Value.{Value}
 use Rattle.sfc_expr.specs.declared.variable.Variable.{Variable}
 use Rattle.sfc_expr.specs.declared.variable.Variable.TheVariants.{Global, Local}
-use Rattle.sfc_expr.specs.Environment.{Environment}
 use Rattle.sfc_image.specs.declared.image.Image.{Image}
-use Rattle.sfc_image.specs.Changes.{Told, Change, Stored, Forced, Released, Reset, settled, all_of}
+use Rattle.sfc_image.specs.Changes.{Told, Change, Stored, Forced, Released, Reset, settled}
 use Rattle.sfc_image.specs.Values.{variable_count, initial_of, is_local_of, latest_write, stored_value, forced_value, value_of}
 use Rattle.sfc_image.specs.Environments.{number_of, read_at, force_at, Moment, environment_of}
-use Rattle.sfc_image.specs.Agreement.{Keeps, ImageAgrees}
+use Rattle.sfc_image.specs.Agreement.{ImageAgrees}
 use Rattle.sfc_image.specs.Answers.{is_variable, read_answer, not_forced, release_fault}
-use Rattle.sfc_image.specs.Past.{VariablePast, variable_past, image_past, variable_in, past_in}
-use Rattle.sfc_image.specs.Private.Keeping.{slot_at, AreKept}
+use Rattle.sfc_image.specs.Past.{variable_past, image_past, variable_in, past_in}
 use Rattle.sfc_image.proofs.Counting.{bool_cases}
 use Rattle.sfc_image.proofs.Numbers.{below_some}
 
@@ -70,9 +66,9 @@ pub keeps_past : (plant : PlantData) (image : Image) (changes : List Change) →
 unfolding ImageAgrees past_in
 keeps_past plant image changes k =
     mapped (variable_in image) (variable_past plant changes) (variable_count plant) (λ i lt.
-        let long = k.kept.variables in
-        let one = k.kept.each i (omega arith) in
-        (λ j. record { stored = one.stored j; forced = one.forced j }))
+    let long = k.kept.variables in
+    let one = k.kept.each i (omega arith) in
+    (λ j. record { stored = one.stored j; forced = one.forced j }))
 
 pub same_past : (plant : PlantData) (image : Image) (changes other : List Change) → ImageAgrees plant image (settled changes)
     → image_past plant changes ≡ image_past plant other → ImageAgrees plant image (settled other)
@@ -133,9 +129,9 @@ pub past_next : (plant : PlantData) (change : Change) (changes other : List Chan
     → image_past plant (change ∷ changes) ≡ image_past plant (change ∷ other)
 past_next plant change changes other same =
     mapped (variable_past plant (change ∷ changes)) (variable_past plant (change ∷ other)) (variable_count plant) (λ i lt.
-        let stored = stored_next plant change changes other i (stored_by plant changes other same i lt) in
-        let forced = forced_next change changes other i (forced_by plant changes other same i lt) in
-        (λ j. record { stored = stored j; forced = forced j }))
+    let stored = stored_next plant change changes other i (stored_by plant changes other same i lt) in
+    let forced = forced_next change changes other i (forced_by plant changes other same i lt) in
+    (λ j. record { stored = stored j; forced = forced j }))
 
 pub past_cut : (plant : PlantData) (changes other later : List Change) → image_past plant changes ≡ image_past plant other
     → image_past plant (later ++ changes) ≡ image_past plant (later ++ other)

@@ -1,5 +1,5 @@
 -- What later answers need of what was done with an image.
-use Rattle.std.specs.Prelude.{ℕ, List, map, length, Option}
+use Rattle.std.specs.Prelude.{ℕ, List, map, Option}
 use Rattle.std.specs.List.{range_with_len}
 use Rattle.sfc_chart.specs.Plants.{PlantData}
 use Rattle.sfc_expr.specs.declared.value.Value.{Value}

@@ -1,14 +1,13 @@
 -- What is kept is the past of how the instance stands, and a scan goes by it.
 use denote.Struct.Props.{props}
-use Rattle.std.proofs.Common.{◌≡◌, ℕ, zero, suc, ◌+◌, ◌<◌, ◌^◌, ◌-◌, arith, Bool, true, false, cond, ◌&&◌, List, [], ◌∷◌, ◌++◌, length}
-use Rattle.std.proofs.Common.{refl, sym, ◌∙◌, ap, subst, ℤ, Option, Some, None, Result, Ok, Err}
+use Rattle.std.proofs.Common.{◌≡◌, ℕ, suc, ◌+◌, ◌<◌, ◌^◌, ◌-◌, arith, Bool, true, false, cond, ◌&&◌, List, [], ◌∷◌, ◌++◌, length}
+use Rattle.std.proofs.Common.{refl, ◌∙◌, ap, subst, ℤ, Option, Some, None, Result, Ok, Err}
 use Rattle.std.specs.Prelude.{map, slice_get, min}
 use Rattle.std.specs.List.{range_with_len}
 use Rattle.std.specs.Result.{result_err}
 use Rattle.sfc_expr.specs.declared.value.Value.TheVariants as value
 use Rattle.sfc_expr.specs.declared.fault.Fault.{Fault}
 use Rattle.sfc_expr.specs.Environment.{Environment}
-use Rattle.sfc_expr.specs.Trees.{Body}
 use Rattle.sfc_expr.specs.Effect.{Outcome, effect}
 use Rattle.sfc_tables.specs.declared.association.Target.{Target}
 use Rattle.sfc_tables.specs.declared.association.Target.TheVariants.{Boolean, Declared}
@@ -16,8 +15,7 @@ use Rattle.sfc_tables.specs.declared.chart.Chart.{Chart}
 use Rattle.sfc_tables.specs.declared.ids.TransitionId.{TransitionId}
 use Rattle.sfc_tables.specs.Tables.{Tabled, AreTables, tables_of}
 use Rattle.sfc_tables.proofs.Sound.{tables_sound, tables_of_made}
-use Rattle.sfc_evolve.specs.Evolution as evolution
-use Rattle.sfc_evolve.specs.Evolution.{is_active, active_steps, is_enabled, preceding_of, transition_count, step_count}
+use Rattle.sfc_evolve.specs.Evolution.{is_active, active_steps, preceding_of, transition_count, step_count}
 use Rattle.sfc_evolve.specs.Lookback.{or_else}
 use Rattle.sfc_evolve.specs.Past.{steps_past}
 use Rattle.sfc_evolve.proofs.Next.{all_same}
@@ -33,21 +31,20 @@ use Rattle.sfc_chart.specs.Finding.{chart_of}
 use Rattle.sfc_chart.specs.Sound.{IsPlant}
 use Rattle.sfc_chart.proofs.Charts.{chart_sound}
 use Rattle.sfc_image.specs.Changes.{Change}
-use Rattle.sfc_image.specs.Environments.{Moment, environment_of}
+use Rattle.sfc_image.specs.Environments.{environment_of}
 use Rattle.sfc_image.specs.Bodies.{assignment, left_by}
 use Rattle.sfc_image.specs.Past.{image_past}
 use Rattle.sfc_image.proofs.Pasts as image
 use Rattle.sfc_instance.specs.declared.scan_fault.ScanFault.{ScanFault}
 use Rattle.sfc_instance.specs.declared.scan_fault.ScanFault.TheVariants as fault
 use Rattle.sfc_instance.specs.declared.program.Program.{Program}
-use Rattle.sfc_instance.specs.Life.{Row, Life, Standing, evolution_scan, evolution_scans, evolution_rows, control_scans, latest_instant}
-use Rattle.sfc_instance.specs.Answers.{scan_count}
-use Rattle.sfc_instance.specs.ProgramScan.{moment, environment, enabled, condition_result, is_true, condition_flags, fault_at, condition_fault}
+use Rattle.sfc_instance.specs.Life.{Row, Life, Standing, evolution_scan, evolution_scans, evolution_rows, control_scans}
+use Rattle.sfc_instance.specs.ProgramScan.{moment, environment, enabled, condition_result, is_true, condition_flags, condition_fault}
 use Rattle.sfc_instance.specs.ProgramScan.{association_times, row_of, body_in, and_then, after_body, acted, after_actions, unless}
 use Rattle.sfc_instance.specs.ProgramScan.{of_condition, of_control, of_body, with_row, next_row, attempt, After, after_attempt}
 use Rattle.sfc_instance.specs.ProgramScan.{unless_faulted, after_scan}
 use Rattle.sfc_instance.specs.Agreement.{StateAgrees, ProgramAgrees}
-use Rattle.sfc_instance.specs.Past.{StandingPast, standing_past, past_in}
+use Rattle.sfc_instance.specs.Past.{standing_past, past_in}
 
 -- the chart of each instance has tables
 pub has_tables : (plant : PlantData) → IsPlant plant → (k : ℕ) → k < length plant.instances

@@ -1,14 +1,11 @@
 -- Copies of programs, one after the other.
-use Rattle.std.proofs.Common.{◌≡◌, inl, inr, ℕ, ◌+◌, ◌<◌, ◌≤◌, arith, List, length, get_or, slice_set, sym, ◌∙◌, ap, subst}
+use Rattle.std.proofs.Common.{◌≡◌, inl, inr, ℕ, ◌+◌, ◌<◌, arith, List, length, get_or, slice_set, sym, ◌∙◌, subst}
 use Rattle.std.proofs.lemmas.Bool.{cases_lt}
 use Rattle.std.proofs.lemmas.Bool.Decides.{eqb_tells}
 use Rattle.std.proofs.lemmas.List.{get_or-set_same, get_or-set_other, get_or_default, length-set}
-use Rattle.sfc_tables.specs.Tables.{Tabled, tables_of}
 use Rattle.sfc_chart.specs.Plants.{PlantData}
-use Rattle.sfc_chart.specs.Finding.{chart_of}
 use Rattle.sfc_instance.specs.declared.program.Program.{Program}
-use Rattle.sfc_instance.specs.Agreement.{IsFor, ProgramAgrees}
-use Rattle.sfc_instance.specs.Life.{Standing}
+use Rattle.sfc_instance.specs.Agreement.{IsFor}
 use Rattle.sfc_machine.specs.Agreement.{AreFor}
 use Rattle.sfc_machine.specs.Past.{tables_at}
 use Rattle.sfc_machine.specs.Private.Copying.{Takes, AreTaken}

@@ -1,6 +1,6 @@
 -- Which bit of the answer to a scan tells of which instance.
-use Rattle.std.proofs.Common.{◌≡◌, ◌↔◌, ℕ, zero, suc, ◌+◌, ◌*◌, ◌-◌, ◌^◌, ◌<◌, ◌≤◌, ◌==◌, arith, Bool, true, false, cond, ◌&&◌, List, [], ◌∷◌}
-use Rattle.std.proofs.Common.{length, refl, sym, ◌∙◌, ap, subst, ℤ, Option, Some, slice_get, add_comm}
+use Rattle.std.proofs.Common.{◌≡◌, ◌↔◌, ℕ, zero, suc, ◌+◌, ◌*◌, ◌^◌, ◌<◌, ◌≤◌, ◌==◌, arith, Bool, true, false, cond, ◌&&◌, List, [], ◌∷◌}
+use Rattle.std.proofs.Common.{length, refl, sym, ◌∙◌, ap, ℤ, Some, slice_get, add_comm}
 use Rattle.std.specs.Prelude.{take}
 use Rattle.std.specs.Int.{bit_at}
 use Rattle.std.proofs.Math.Nat.{add-mul, mul_assoc, pow-succ'}
@@ -71,8 +71,7 @@ module _ (how : Ended) (plant : PlantData) (task : TaskId) (t : ℤ) where
   multiple k [] table = (0, omega arith)
   multiple k (x ∷ xs) table =
       let rest = multiple (suc k) xs (after k x table) in
-      let b = ends_so k x table in
-      (
+      let b = ends_so k x table in (
         one_if b + rest.0 * 2,
         bits_first k x xs table ∙ ap (λ n. bit_if b k + n) rest.1 ∙ joined b k rest.0,
       )
@@ -152,8 +151,7 @@ pub bit_says : (how : Ended) (plant : PlantData) (task : TaskId) (t : ℤ) (tabl
 bit_says how plant task t table k instance is =
     let before = after_task plant task t 0 (take k plant.instances) table in
     let ended = (program_scan plant t k before).ended in
-    let bit = bit_of_instance how plant task t 0 k k plant.instances table instance (omega arith) is in
-    (
+    let bit = bit_of_instance how plant task t 0 k k plant.instances table instance (omega arith) is in (
       λ e.
           let flags = split (instance.task.0 == task.0) (is_so how ended) (one_true _ (sym bit ∙ e)) in
           let own : (instance.task.0 == task.0) ≡ true = flags.0 in

@@ -1,6 +1,6 @@
 -- What is kept is the past of the table, and what is done goes by it.
 use denote.Struct.Props.{props}
-use Rattle.std.proofs.Common.{◌≡◌, inl, inr, ℕ, zero, suc, ◌+◌, ◌<◌, ◌≤◌, ◌==◌, arith, Bool, true, false, cond, List, [], ◌∷◌, ◌++◌, length}
+use Rattle.std.proofs.Common.{◌≡◌, inl, inr, ℕ, suc, ◌+◌, ◌<◌, ◌==◌, arith, Bool, true, false, cond, List, [], ◌∷◌, length}
 use Rattle.std.proofs.Common.{refl, sym, ◌∙◌, ap, subst, ℤ, Option, Some, None}
 use Rattle.std.specs.Prelude.{map, All, slice_index_or, flat_map}
 use Rattle.std.specs.List.{range_with_len}
@@ -19,25 +19,22 @@ use Rattle.sfc_chart.specs.Image.{locals_of}
 use Rattle.sfc_chart.specs.Sound.{IsPlant, IsTask, IsSingle}
 use Rattle.sfc_image.specs.Changes.{Change}
 use Rattle.sfc_image.specs.Changes as image
-use Rattle.sfc_image.specs.Values.{variable_count}
 use Rattle.sfc_image.specs.Past.{image_past}
 use Rattle.sfc_image.proofs.Pasts as variables
 use Rattle.sfc_image.proofs.Counting.{bool_cases}
 use Rattle.sfc_instance.specs.declared.ended.Ended.{Ended}
 use Rattle.sfc_instance.specs.declared.program.Program.{Program}
 use Rattle.sfc_instance.specs.Life.{Standing, fresh}
-use Rattle.sfc_instance.specs.ProgramScan.{After}
 use Rattle.sfc_instance.specs.Agreement.{ProgramAgrees}
-use Rattle.sfc_instance.specs.Past as program
-use Rattle.sfc_instance.specs.Past.{StandingPast, standing_past}
+use Rattle.sfc_instance.specs.Past.{standing_past}
 use Rattle.sfc_instance.proofs.Pasts as programs
 use Rattle.sfc_instance.proofs.Pasts.{has_tables}
 use Rattle.sfc_machine.specs.declared.machine.Machine.{Machine}
 use Rattle.sfc_machine.specs.Table.{Table, with_standing, with_change, after_program, program_scan, after_instance, after_task, after_reset}
-use Rattle.sfc_machine.specs.Ends.{bit_of, instance_bit, bits_of}
+use Rattle.sfc_machine.specs.Ends.{bit_of, bits_of}
 use Rattle.sfc_machine.specs.Singles.{single_in, singles_in}
 use Rattle.sfc_machine.specs.Agreement.{IsMachineOf, MachineAgrees}
-use Rattle.sfc_machine.specs.Past.{MachinePast, tables_at, program_past, machine_past, programs_in, past_in}
+use Rattle.sfc_machine.specs.Past.{tables_at, program_past, machine_past, programs_in, past_in}
 
 -- ---- what is kept is the past
 
@@ -51,8 +48,8 @@ programs_kept plant table k (p ∷ ps) each =
     subst (λ (n : ℕ). ProgramAgrees (tables_at plant n) p (table.standing n)) here (each 0 p (omega arith)) in
     let first = programs.keeps_past (tables_at plant k) p (table.standing k) agrees in
     let rest = programs_kept plant table (k + 1) ps (λ j d lt.
-        let s : k + suc j ≡ k + 1 + j = omega arith in
-        subst (λ (n : ℕ). ProgramAgrees (tables_at plant n) (slice_index_or ps j d) (table.standing n)) s (each (suc j) d (omega arith))) in
+    let s : k + suc j ≡ k + 1 + j = omega arith in
+    subst (λ (n : ℕ). ProgramAgrees (tables_at plant n) (slice_index_or ps j d) (table.standing n)) s (each (suc j) d (omega arith))) in
     (λ i. first i ∷ rest i)
 
 pub keeps_past : (plant : PlantData) (machine : Machine) (table : Table) → IsMachineOf plant machine → MachineAgrees plant machine table
@@ -61,9 +58,9 @@ unfolding MachineAgrees past_in
 keeps_past plant machine table sizes k =
     let changes = variables.keeps_past plant machine.image table.changes k.image in
     let each = programs_kept plant table 0 machine.programs.items (λ j d lt.
-        let s : j ≡ 0 + j = omega arith in
-        subst (λ (n : ℕ). ProgramAgrees (tables_at plant n) (slice_index_or machine.programs.items j d) (table.standing n)) s
-        (k.programs j d lt)) in
+    let s : j ≡ 0 + j = omega arith in
+    subst (λ (n : ℕ). ProgramAgrees (tables_at plant n) (slice_index_or machine.programs.items j d) (table.standing n)) s
+    (k.programs j d lt)) in
     let long = sizes.instances in
     (λ i. record { variables = changes i; programs = each i })
     ∙ (λ i. record {

@@ -1,21 +1,18 @@
 -- What is kept of the calls is their past, and the past goes on by one call.
 use denote.Struct.Props.{props}
-use Rattle.std.proofs.Common.{◌≡◌, ℕ, zero, suc, ◌+◌, ◌-◌, ◌<◌, ◌^◌, arith, Bool, true, false, cond, ◌&&◌, List, [], ◌∷◌, ◌++◌, length}
-use Rattle.std.proofs.Common.{refl, sym, ◌∙◌, ap, ℤ, pos, Option, Some, None}
-use Rattle.std.specs.Prelude.{map, find, get_or, min, option_map}
+use Rattle.std.proofs.Common.{◌≡◌, ℕ, zero, suc, ◌+◌, ◌<◌, arith, Bool, true, false, cond, ◌&&◌, List, [], ◌∷◌, ◌++◌, length}
+use Rattle.std.proofs.Common.{refl, sym, ◌∙◌, ap, ℤ, Option, Some, None}
+use Rattle.std.specs.Prelude.{map, find, option_map}
 use Rattle.std.specs.List.{list_all, range_with_len}
 use Rattle.std.proofs.lemmas.List.{length-append}
-use Rattle.std.proofs.lemmas.List.FromFn.{get_or-map-range_with_len}
 use Rattle.sfc_expr.proofs.ByPlace.{at_place, mapped}
 use Rattle.sfc_chart.specs.declared.task.Task.{Task}
-use Rattle.sfc_chart.specs.declared.ids.TaskId.{TaskId}
 use Rattle.sfc_tasks.specs.declared.table.TaskTable.{TaskTable}
 use Rattle.sfc_tasks.specs.Calls.{Call, Elapsed, Rose, Served, serves, last_instant}
 use Rattle.sfc_tasks.specs.Releases.{interval_of, released, waiting, first_of, beyond_first, late_releases, capped, overruns, waits_since}
-use Rattle.sfc_tasks.specs.Pick.{rank_of, is_before_task, is_before_all, goes_first, goes_first_since, picked}
-use Rattle.sfc_tasks.specs.Agreement.{Keeps, TasksAgree}
-use Rattle.sfc_tasks.specs.Past.{TaskPast, TasksPast, task_past, tasks_past, task_in, past_in}
-use Rattle.sfc_tasks.specs.Private.Keeping.{place_at}
+use Rattle.sfc_tasks.specs.Pick.{rank_of, is_before_task, goes_first, goes_first_since, picked}
+use Rattle.sfc_tasks.specs.Agreement.{TasksAgree}
+use Rattle.sfc_tasks.specs.Past.{task_past, tasks_past, task_in, past_in}
 
 -- ---- the past of each task
 
@@ -37,8 +34,8 @@ unfolding TasksAgree past_in
 keeps_past tasks table calls k =
     let each : map (task_in table) (range_with_len 0 (length tasks)) ≡ map (task_past tasks calls) (range_with_len 0 (length tasks)) =
     mapped (task_in table) (task_past tasks calls) (length tasks) (λ n lt.
-        let one = k.each n lt in
-        (λ i. record { since = one.releases.since i; more = one.releases.more i; overruns = one.overruns i })) in
+    let one = k.each n lt in
+    (λ i. record { since = one.releases.since i; more = one.releases.more i; overruns = one.overruns i })) in
     (λ i. record { last = k.last i; each = each i })
 
 pub same_past : (tasks : List Task) (table : TaskTable) (calls other : List Call) → TasksAgree tasks table calls
@@ -189,9 +186,9 @@ picked_by tasks calls other same =
         all_from (λ j. is_before_task tasks rank j (waits_since tasks calls j)) (λ j. is_before_task tasks rank j (waits_since tasks other j))
         0 (length tasks)
         (λ j lt.
-            zero_and (λ j. is_before_task tasks rank j (waits_since tasks calls j)) j
-            ∙ ap (is_before_task tasks rank j) (waits_by tasks calls other same j lt)
-            ∙ sym (zero_and (λ j. is_before_task tasks rank j (waits_since tasks other j)) j))
+        zero_and (λ j. is_before_task tasks rank j (waits_since tasks calls j)) j
+        ∙ ap (is_before_task tasks rank j) (waits_by tasks calls other same j lt)
+        ∙ sym (zero_and (λ j. is_before_task tasks rank j (waits_since tasks other j)) j))
 
 -- it agrees in one way at most
 pub agrees_prop : (tasks : List Task) (table : TaskTable) (calls : List Call) → IsProp (TasksAgree tasks table calls)

@@ -1,4 +1,4 @@
-use Rattle.std.proofs.Common.{◌≡◌, ◌∙◌, ap}
+use Rattle.std.proofs.Common.{◌∙◌, ap}
 use Rattle.sfc_evolve.specs.Evolution.{step_time}
 use Rattle.sfc_evolve.proofs.Pasts as evolve
 use Rattle.sfc_action.proofs.Pasts as action
