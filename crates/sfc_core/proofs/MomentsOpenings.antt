@@ -10,7 +10,6 @@ use Rattle.sfc_text.specs.declared.tree.TimedQualifier.{TimedQualifier}
 use Rattle.sfc_text.specs.declared.tree.TimedQualifier.TheVariants.{Limited, Delayed, StoredDelayed, DelayedStored, StoredLimited}
 use Rattle.sfc_tables.specs.declared.association.Association.{Association}
 use Rattle.sfc_tables.specs.declared.association.Qualifier.TheVariants.{NonStored}
-use Rattle.sfc_tables.specs.declared.chart.Transition.{Transition}
 use Rattle.sfc_tables.specs.Ranks.{rank_order}
 use Rattle.sfc_action.specs.Past.{DelayPast, ActionPast}
 use Rattle.sfc_chart.specs.Plants.{PlantData}
@@ -23,7 +22,7 @@ use Rattle.sfc_events.specs.History.{History}
 use Rattle.sfc_core.specs.Due.{singles_of, calls_of}
 use Rattle.sfc_core.specs.Past.{history_past}
 use Rattle.sfc_core.specs.Table.{table_of}
-use Rattle.sfc_core.proofs.MomentPlants.{ms, flag, int, dial, switch, time_variable, always, reads, number, sets, for, for_as_long_as}
+use Rattle.sfc_core.proofs.MomentPlants.{ms, flag, dial, switch, time_variable, always, reads, number, sets, for, for_as_long_as}
 use Rattle.sfc_core.proofs.MomentPlants.{initial_step, step, goes, chart, program, instance, single_task, plant, small}
 use Rattle.sfc_core.proofs.MomentPlants.{scan, input, force, reset, scans}
 

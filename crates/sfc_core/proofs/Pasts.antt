@@ -1,7 +1,7 @@
 -- What is kept is the past of the history, and what is answered goes by it.
 use denote.Struct.Props.{props}
-use Rattle.std.proofs.Common.{◌≡◌, inl, inr, ℕ, zero, suc, ◌<◌, ◌≤◌, arith, not, Bool, true, false, cond, ◌&&◌, List, [], ◌∷◌, ◌++◌, length}
-use Rattle.std.proofs.Common.{refl, sym, ◌∙◌, ap, ℤ, Option, Some, None, Result, Ok, Err}
+use Rattle.std.proofs.Common.{◌≡◌, inl, inr, ℕ, suc, ◌<◌, ◌≤◌, arith, not, Bool, true, false, cond, ◌&&◌, List, [], ◌∷◌, ◌++◌, length}
+use Rattle.std.proofs.Common.{refl, sym, ◌∙◌, ap, ℤ, Option, Some, None}
 use Rattle.std.specs.Prelude.{nat_lt, is_none}
 use Rattle.std.proofs.lemmas.Bool.{cases_lt}
 use mathlib.Core.Logic.{∥∥₁_elim}
@@ -28,11 +28,11 @@ use Rattle.sfc_tasks.proofs.Pasts as task_table
 use Rattle.sfc_events.specs.declared.event.Event.{Event}
 use Rattle.sfc_events.specs.declared.event.Event.TheVariants.{Scan, ForcedScan, Input, Force, Release, Reset}
 use Rattle.sfc_events.specs.declared.event.Outcome.{Outcome}
-use Rattle.sfc_events.specs.declared.event.Outcome.TheVariants.{Done, Scanned}
+use Rattle.sfc_events.specs.declared.event.Outcome.TheVariants.{Scanned}
 use Rattle.sfc_events.specs.declared.refusal.Refusal.{Refusal}
 use Rattle.sfc_events.specs.declared.refusal.Refusal.TheVariants.{UnknownTask, NotDue}
 use Rattle.sfc_events.specs.History.{Entry, History, last_instant}
-use Rattle.sfc_machine.specs.Table.{Table, with_change, after_task, after_reset}
+use Rattle.sfc_machine.specs.Table.{Table}
 use Rattle.sfc_machine.specs.Past.{machine_past}
 use Rattle.sfc_machine.specs.declared.machine.Machine.{Machine}
 use Rattle.sfc_machine.specs.Agreement.{IsMachineOf}
@@ -42,9 +42,9 @@ use Rattle.sfc_core.specs.Agreement.{Agrees, plant_of}
 use Rattle.sfc_core.specs.Table.{after_event, table_of}
 use Rattle.sfc_core.specs.Due.{singles_of, with_rise, with_rises, with_service, calls_of, calls_at}
 use Rattle.sfc_core.specs.Answers.{value_of, forced_of, standing_of, overruns_of}
-use Rattle.sfc_core.specs.Verdict.{refused_if, or_then, instant_refusal, task_refusal, of_image, event_refusal, due_refusal, yield_to}
-use Rattle.sfc_core.specs.Verdict.{yield_refusal, turn_refusal, first_refusal, ended_bits, scan_answer, answer, verdict_by, verdict}
-use Rattle.sfc_core.specs.Past.{HistoryPast, history_past, past_kept, past_in}
+use Rattle.sfc_core.specs.Verdict.{refused_if, or_then, instant_refusal, task_refusal, of_image, event_refusal, yield_to}
+use Rattle.sfc_core.specs.Verdict.{turn_refusal, first_refusal, scan_answer, answer, verdict_by, verdict}
+use Rattle.sfc_core.specs.Past.{history_past, past_kept, past_in}
 use Rattle.sfc_core.specs.declared.opening.Opening.{Opening}
 use Rattle.sfc_core.specs.Openings.{IsOpeningFor, past_of}
 use Rattle.sfc_core.specs.Keeping.{Keeps}

@@ -1,6 +1,5 @@
 use Rattle.std.proofs.Common.{[], refl}
 use Rattle.sfc_core.specs.Due.{calls_of}
-use Rattle.sfc_core.specs.Keeping.{Keeps}
 use Rattle.sfc_core.specs.Openings.{IsOpeningFor, past_of}
 use Rattle.sfc_core.specs.Table.{table_of}
 use Rattle.sfc_core.proofs.Pasts.{parts_keep}

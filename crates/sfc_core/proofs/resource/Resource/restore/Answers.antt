@@ -1,4 +1,4 @@
-use Rattle.std.proofs.Common.{◌≡◌, ◌∙◌, ◌≤ℤ◌, ◌^◌, pos, negsuc, ℤ, to_z-of_z, sym, subst}
+use Rattle.std.proofs.Common.{◌∙◌, ◌≤ℤ◌, ◌^◌, pos, negsuc, ℤ, to_z-of_z, sym, subst}
 use Rattle.std.proofs.Math.Logic.{∥∥₁_map}
 use Rattle.sfc_core.specs.Agreement.{Agrees, plant_of}
 use Rattle.sfc_core.specs.Due.{calls_of}

@@ -1,9 +1,7 @@
-use Rattle.std.proofs.Common.{◌≡◌, ◌∙◌, to_z-of_z}
+use Rattle.std.proofs.Common.{◌∙◌, to_z-of_z}
 use Rattle.std.proofs.Math.Logic.{∥∥₁_map}
-use Rattle.sfc_events.specs.History.{History}
 use Rattle.sfc_core.specs.Agreement.{Agrees, plant_of}
 use Rattle.sfc_core.specs.Due.{calls_of}
-use Rattle.sfc_core.specs.Keeping.{Keeps}
 use Rattle.sfc_core.specs.Openings.{IsOpeningFor, past_of}
 use Rattle.sfc_core.specs.Table.{table_of}
 use Rattle.sfc_core.proofs.Instants.{fits}
