@@ -1,7 +1,7 @@
 //! What a resource leaves to another that was told something else: the mixing station's events, cut at each place.
 
 use crate::bench::Bench;
-use crate::stations::{mixing_events, mixing_station, other_events, TimedEvent};
+use crate::stations::{TimedEvent, mixing_events, mixing_station, other_events};
 use sfc_events::event::Outcome;
 use sfc_events::refusal::Refusal;
 use std::alloc::Global;
@@ -43,7 +43,11 @@ fn check_seen(
     for (event, wanted) in events.iter().zip(wanted) {
         let seen = see(alloc, bench, *event)?;
         assert_eq!(rt; seen.answer, wanted.answer, "of {event:?}");
-        assert_eq!(rt; seen.shown.as_str(), wanted.shown.as_str(), "behind {event:?}");
+        assert_eq!(rt;
+            seen.shown.as_str(),
+            wanted.shown.as_str(),
+            "behind {event:?}"
+        );
     }
     Ok(())
 }

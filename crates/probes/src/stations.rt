@@ -22,8 +22,8 @@ TRANSITION FROM Mixing TO Draining := Mixing.T >= T#200ms; END_TRANSITION \
 TRANSITION FROM Draining TO Ready := Empty; END_TRANSITION \
 ACTION Count: Batches := Batches + 1; END_ACTION END_PROGRAM \
 PROGRAM Alarm VAR Rest : INT := 10; END_VAR \
-INITIAL_STEP On: Horn(SD, T#150ms); Light(DS, T#50ms); END_STEP STEP Off: Horn(R); Divide(P1); END_STEP \
-TRANSITION FROM On TO Off := On.T >= T#400ms; END_TRANSITION TRANSITION FROM Off TO On := TRUE; END_TRANSITION \
+INITIAL_STEP Ringing: Horn(SD, T#150ms); Light(DS, T#50ms); END_STEP STEP Silent: Horn(R); Divide(P1); END_STEP \
+TRANSITION FROM Ringing TO Silent := Ringing.T >= T#400ms; END_TRANSITION TRANSITION FROM Silent TO Ringing := TRUE; END_TRANSITION \
 ACTION Divide: Rest := 10 / (Rest - 10); END_ACTION END_PROGRAM \
 CONFIGURATION Station RESOURCE Cpu ON Plc VAR_GLOBAL Start AT %IX0.0 : BOOL; Full AT %IX0.1 : BOOL; \
 Empty AT %IX0.2 : BOOL := TRUE; WaterValve AT %QX0.0 : BOOL; SyrupValve AT %QX0.1 : BOOL; Mixer AT %QX0.2 : BOOL; \
@@ -41,25 +41,21 @@ const FULL: VarId = VarId(1);
 
 const EMPTY: VarId = VarId(2);
 
-const fn input(id: VarId, value: bool) -> Event {
-    Event::Input(id, Value::Bool(value))
-}
-
 // The script of the example, with scans of the other task, a force over an input and refused events between.
 const MIXING_EVENTS: [TimedEvent; 33] = [
     (MAIN, 0),
     (SIDE, 0),
-    (input(START, true), 50_000),
+    (Event::Input(START, Value::Bool(true)), 50_000),
     (MAIN, 100_000),
-    (input(START, false), 150_000),
-    (input(EMPTY, false), 150_000),
+    (Event::Input(START, Value::Bool(false)), 150_000),
+    (Event::Input(EMPTY, Value::Bool(false)), 150_000),
     (SIDE, 150_000),
     (MAIN, 200_000),
     (SIDE, 210_000),
-    (input(FULL, true), 250_000),
+    (Event::Input(FULL, Value::Bool(true)), 250_000),
     (SIDE, 260_000),
     (Event::Force(START, Value::Bool(true)), 270_000),
-    (input(START, false), 280_000),
+    (Event::Input(START, Value::Bool(false)), 280_000),
     (MAIN, 300_000),
     (MAIN, 400_000),
     (MAIN, 450_000),
@@ -68,10 +64,10 @@ const MIXING_EVENTS: [TimedEvent; 33] = [
     (MAIN, 500_000),
     (MAIN, 600_000),
     (MAIN, 700_000),
-    (input(FULL, false), 750_000),
+    (Event::Input(FULL, Value::Bool(false)), 750_000),
     (MAIN, 800_000),
     (SIDE, 820_000),
-    (input(EMPTY, true), 850_000),
+    (Event::Input(EMPTY, Value::Bool(true)), 850_000),
     (MAIN, 900_000),
     (SIDE, 930_000),
     (MAIN, 1_000_000),
@@ -88,7 +84,7 @@ const OTHER_EVENTS: [TimedEvent; 9] = [
     (SIDE, 5_000_000),
     (Event::Force(FULL, Value::Bool(true)), 5_010_000),
     (Event::Force(EMPTY, Value::Bool(true)), 5_020_000),
-    (input(START, true), 5_050_000),
+    (Event::Input(START, Value::Bool(true)), 5_050_000),
     (MAIN, 5_100_000),
     (SIDE, 5_700_000),
     (Event::ForcedScan(TaskId(1)), 6_300_000),
