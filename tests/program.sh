@@ -316,5 +316,21 @@ read_by "fish reads its completion" fish -n "$share/completions/sfcmon.fish"
 read_by "groff sets the man page" groff -man -ww -z "$manual"
 read_by "mandoc has nothing to say of the man page" mandoc -Tlint "$manual"
 
+# ---- what the pages name is there, which counts one by one
+
+if ! command -v python3 >/dev/null; then
+  echo "not asked, python3 isn't there: the pages"
+else
+  "$top/tools/check-pages" >"$work/out" 2>"$work/err" </dev/null
+  status=$?
+  if [[ $(tail -n 1 "$work/out") =~ ^([0-9]+)\ passed,\ ([0-9]+)\ failed$ ]]; then
+    passed=$((passed + BASH_REMATCH[1])) failed=$((failed + BASH_REMATCH[2]))
+    sed '$d' "$work/out"
+  else
+    cat "$work/err"
+    note 1 "the pages"
+  fi
+fi
+
 echo "$passed passed, $failed failed"
 [ "$failed" = 0 ]
