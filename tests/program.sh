@@ -165,6 +165,12 @@ awk '/^\| (KIND|Other faults) / { on = 1 } !/^\|/ { on = 0 } on && /^\| `/' "$to
 grep -v '^[0-9]' "$work/told" | cut -d'|' -f2 | diff - "$work/rows"
 note $? "the tables of faults in docs/FORMATS.md"
 
+# the table of limits in docs/LANGUAGE.md has the same numbers
+# shellcheck disable=SC2016
+sed -nE 's/^\| .* \| ([0-9,]+) \| 22 `Limit ([A-Za-z]+)` \|$/\2 (\1)/p' "$top/docs/LANGUAGE.md" | sort >"$work/rows"
+"$program" explain 22 | sed -n 's/^  meaning: //p' | grep -oE '[A-Za-z]+ \([0-9,]+\)' | sort | diff - "$work/rows"
+note $? "the table of limits in docs/LANGUAGE.md"
+
 # ---- the examples of explain lead to what they explain
 
 cat >"$work/frame" <<'FRAME'
@@ -256,6 +262,58 @@ while IFS='|' read -r number name _ line; do
   leads "$number" "$name" "$line"
   note $? "the example of ${number:+$number }$name"
 done <"$work/told"
+
+# ---- docs/TUTORIAL.md: its files, changes and commands, one after the other, give what the page shows
+
+tutorial=$work/tutorial
+mkdir "$tutorial" "$work/blocks"
+ln -s "$program" "$tutorial/sfcmon"
+ln -s "$examples" "$tutorial/examples"
+# a file for each block: its kind, the file that the line above names, and its lines
+awk -v folder="$work/blocks" '
+  /^```/ && block { close(block); block = ""; next }
+  /^```/ {
+    block = sprintf("%s/%03d", folder, ++count)
+    name = match(above, /`[^`]+`:$/) ? substr(above, RSTART + 1, RLENGTH - 3) : ""
+    print substr($0, 4) "|" name >block
+    next
+  }
+  block { print >block; next }
+  { above = $0 }' "$top/docs/TUTORIAL.md"
+# changed FILE BLOCK: the file, with the change that the block shows, of lines that stand there once
+changed() {
+  awk '
+    FILENAME == ARGV[2] {
+      mark = substr($0, 1, 1)
+      if (FNR > 1 && mark != "+") old = old "\n" substr($0, 2)
+      if (FNR > 1 && mark != "-") new = new "\n" substr($0, 2)
+      next
+    }
+    { text = text "\n" $0 }
+    END {
+      text = text "\n"; old = old "\n"; new = new "\n"
+      at = index(text, old)
+      if (!at || index(substr(text, at + 1), old)) exit 1
+      printf "%s", substr(substr(text, 1, at - 1) new substr(text, at + length(old)), 2)
+    }' "$1" "$2"
+}
+# played BLOCK: each of its commands, with what it prints
+played() {
+  local line
+  while IFS= read -r line; do
+    [[ $line != '$ '* ]] || { printf '%s\n' "$line"; (cd "$tutorial" && bash -c "${line#??}" 2>&1 </dev/null); }
+  done <"$1"
+}
+status=0
+for block in "$work"/blocks/*; do
+  IFS='|' read -r kind name <"$block"
+  case $kind in
+    console) diff <(tail -n +2 "$block") <(played "$block") ;;
+    diff) changed "$tutorial/$name" "$block" >"$work/changed" && cp "$work/changed" "$tutorial/$name" ;;
+    *) [ -n "$name" ] && tail -n +2 "$block" >"$tutorial/$name" ;;
+  esac
+  note $? "the tutorial's block ${block##*/}: $(sed -n 2p "$block")"
+done
 
 # ---- completions and the man page have the commands and options of the help
 
