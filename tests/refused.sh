@@ -55,22 +55,32 @@ sweep "$work/ok" check "$data/listed_mix.chart"
 awk '/^## Refusals/ { seen = 1 } seen && /^```/ { if (++fence == 2) exit; next } fence == 1' "$top/docs/FORMATS.md" >"$work/shown"
 sweep "$work/shown" explain 14
 
-# A test in code that makes openings, which no command does yet: each allocation that is refused is told as want of memory, or the
-# run is undisturbed. A hundred undisturbed ones in turn are behind the last allocation.
+# Tests in code that make openings, read conditions and open a debugger, which no command does yet: each allocation that is refused
+# is told as want of memory, or the run is undisturbed. A hundred undisturbed ones in turn are behind the last allocation.
 probe=$top/crates/probes/out/probes_tests
 if [ -x "$probe" ]; then
-  words=(openings::the_opening_of_no_event_begins_anew)
-  calm=0
-  for ((n = 1; n <= 20000 && calm < 100; n++)); do
-    SFC_REFUSE=alloc:$n LD_PRELOAD="$work/refuse.so" "$probe" "${words[0]}" >"$work/out" 2>&1
-    status=$?
-    if [ "$status" = 0 ]; then calm=$((calm + 1)); else calm=0; fi
-    [ "$status" = 0 ] || grep -qE '^error: .*(Memory|AllocError|AllocFailed)' "$work/out"
-    note $? "allocation $n refused"
+  for test in openings::the_opening_of_no_event_begins_anew debugger::a_debugger_is_interrupted_once; do
+    words=("$test")
+    calm=0
+    for ((n = 1; n <= 20000 && calm < 100; n++)); do
+      SFC_REFUSE=alloc:$n LD_PRELOAD="$work/refuse.so" "$probe" "${words[0]}" >"$work/out" 2>&1
+      status=$?
+      if [ "$status" = 0 ]; then calm=$((calm + 1)); else calm=0; fi
+      [ "$status" = 0 ] || grep -qE '^error: .*(Memory|AllocError|AllocFailed)' "$work/out"
+      note $? "allocation $n refused"
+    done
+    [ "$calm" = 100 ]; note $? "the undisturbed run"
   done
-  [ "$calm" = 100 ]; note $? "the undisturbed run"
+  # Ten scans and a hundred thousand make equally many allocations: all memory is taken at the opening.
+  for scans in ten a_hundred_thousand; do
+    SFC_COUNTS="$work/counts" LD_PRELOAD="$work/refuse.so" "$probe" "scans::${scans}_are_accepted" >"$work/out" 2>&1
+    status=$?
+    read -r allocations reads <"$work/counts"
+    [ "$status" = 0 ] && [ "$allocations" -gt 0 ] && [ "$allocations" = "${few:=$allocations}" ]
+    note $? "$scans scans: $allocations allocations, where ten make $few"
+  done
 else
-  echo "not asked: want of memory in a test of openings, which rt test in crates/probes builds"
+  echo "not asked: want of memory in a test of openings, and what scans allocate, which rt test in crates/probes builds"
 fi
 echo "$passed passed, $failed failed"
 [ "$failed" = 0 ]

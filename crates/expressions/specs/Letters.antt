@@ -2,8 +2,8 @@
 use Rattle.std.proofs.Common.{◌≡◌, ℕ, List, [], ◌∷◌, Bool, true, false, ◌&&◌, T, eqb, refl, ap, sym, subst}
 use Rattle.std.specs.Char.{to_ascii_uppercase}
 use Rattle.std.proofs.lemmas.Bool.{eqb-true}
-use Rattle.sfc_tokens.specs.Case.{same_word}
-use Rattle.sfc_expr.specs.Scopes.{IgnoresCase}
+use Rattle.sfc_base.specs.Case.{same_word}
+use Rattle.sfc_check.specs.Scopes.{IgnoresCase}
 use Rattle.expressions.specs.Names.{letter_of, variable_of, step_of, names}
 
 never : {A : Type 0} → false ≡ true → A

@@ -1,9 +1,9 @@
 -- What the expressions read and the statements write.
 use Rattle.std.specs.Prelude.{◌==◌, nat_lt, List, None, Bool, true, false, pos, length, slice_index_or, if◌then◌else◌}
-use Rattle.sfc_expr.specs.declared.value.Value.{Value}
-use Rattle.sfc_expr.specs.declared.value.Value.TheVariants as value
-use Rattle.sfc_expr.specs.declared.variable.Variable.{Variable}
-use Rattle.sfc_expr.specs.declared.variable.Variable.TheVariants.{Global, Local}
+use Rattle.sfc_base.specs.declared.value.Value.{Value}
+use Rattle.sfc_base.specs.declared.value.Value.TheVariants as value
+use Rattle.sfc_base.specs.declared.references.Variable.{Variable}
+use Rattle.sfc_base.specs.declared.references.Variable.TheVariants.{Global, Local}
 use Rattle.sfc_expr.specs.Environment.{Environment}
 
 -- the variables are the globals

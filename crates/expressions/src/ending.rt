@@ -1,7 +1,7 @@
 //! Why a text has no value or effect.
 
+use sfc_check::type_error::TypeError;
 use sfc_expr::fault::Fault;
-use sfc_expr::type_error::TypeError;
 use sfc_tokens::read_error::{ReadError, ReadErrorKind};
 use std::alloc::AllocError;
 use std::fmt;

@@ -4,9 +4,9 @@ ghost use Rattle.std.specs.Prelude.{◌≡◌};
 ghost use Rattle.expressions.specs.Names as names;
 ghost use Rattle.expressions.specs.Letters.{ignoring_case};
 
-use sfc_expr::scope::Scope;
-use sfc_expr::variable::{GlobalId, StepId, Variable};
-use sfc_tokens::var_type::VarType;
+use sfc_base::references::{GlobalId, StepId, Variable};
+use sfc_base::var_type::VarType;
+use sfc_check::scope::Scope;
 
 /// The fixed scope: ten global variables, the steps S and R, and the own action A.
 #[derive(Clone, Copy)]

@@ -1,7 +1,7 @@
 //! A line of a table.
 
 use anyhow::{Context, Result, bail};
-use sfc_tokens::var_type::VarType;
+use sfc_base::var_type::VarType;
 
 /// What the text of a row is.
 #[derive(Clone, Copy)]

@@ -3,9 +3,9 @@
 ghost use Rattle.std.proofs.Common.{◌≡◌, ◌∙◌, refl, length};
 ghost use Rattle.expressions.specs.Values as values;
 
-use sfc_expr::scratch::Scratch;
-use sfc_expr::value::Value;
-use sfc_expr::variable::{GlobalId, StepId, Variable};
+use sfc_base::references::{GlobalId, StepId, Variable};
+use sfc_base::value::Value;
+use sfc_expr::store::Store;
 use sfc_expr::view::View;
 use std::alloc::{AllocError, Global};
 
@@ -65,7 +65,7 @@ impl View for Values {
     }
 }
 
-impl Scratch for Values {
+impl Store for Values {
     // as many variables as before
     ghost reaches = { λ old new. length new.values.items ≡ length old.values.items };
 

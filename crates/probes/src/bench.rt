@@ -1,21 +1,19 @@
 //! A resource on a bench: each call of the core behind one that needs no condition, and all that it shows.
 
 ghost use Rattle.std.specs.Prelude.{◌<◌, length};
-ghost use Rattle.sfc_instance.specs.Agreement.{IsFor};
+ghost use Rattle.sfc_instance.specs.Views.{tables_in};
 
 use crate::texts::plant_of;
-use sfc_chart::ids::{ProgId, TaskId, VarId};
+use sfc_base::ids::{ActionNumber, ProgId, TaskId, TransitionId, VarId};
+use sfc_base::references::{StepId, Variable};
+use sfc_base::ticks::Ticks;
+use sfc_base::value::Value;
 use sfc_core::opening::Opening;
 use sfc_core::resource::Resource;
 use sfc_events::event::{Event, Outcome};
 use sfc_events::refusal::Refusal;
-use sfc_expr::ticks::Ticks;
-use sfc_expr::value::Value;
-use sfc_expr::variable::{StepId, Variable};
-use sfc_instance::program::Program;
-use sfc_tables::association::Target;
-use sfc_tables::ids::{ActionNumber, TransitionId};
-use sfc_tables::tables::Tables;
+use sfc_instance::program_view::ProgramView;
+use sfc_plant::association::Target;
 use std::alloc::{AllocError, Global};
 use std::test::Fail;
 
@@ -26,26 +24,19 @@ pub struct Bench {
 }
 
 // Whether a step is active, whether the latest scan activated it, and its time.
-fn step_at(tables: &Tables, program: &Program, step: StepId) -> (bool, bool, i64)
-    requires sizes { IsFor tables.now program.now }
-    requires step { step.0 < length tables.now.initial }
+fn step_at(view: &ProgramView<'_>, step: StepId) -> (bool, bool, i64)
+    requires { step.0 < length (tables_in view.now).initial }
 {
-    (
-        program.active(step),
-        program.activated(step),
-        program.elapsed(step),
-    )
+    (view.active(step), view.activated(step), view.elapsed(step))
 }
 
 // The active steps, those that the latest scan activated, and the times of all.
-fn steps_text(alloc: Global, tables: &Tables, program: &Program) -> Result<String, AllocError>
-    requires { IsFor tables.now program.now }
-{
+fn steps_text(alloc: Global, view: &ProgramView<'_>) -> Result<String, AllocError> {
     let mut active = Vec::new(alloc);
     let mut activated = Vec::new(alloc);
     let mut elapsed = Vec::new(alloc);
-    for number in 0..tables.steps() {
-        let (is_active, is_activated, time) = step_at(tables, program, StepId(number as u16));
+    for number in 0..view.tables().steps() {
+        let (is_active, is_activated, time) = step_at(view, StepId(number as u16));
         if is_active {
             active.push(number)?;
         }
@@ -58,20 +49,17 @@ fn steps_text(alloc: Global, tables: &Tables, program: &Program) -> Result<Strin
 }
 
 // Whether the latest scan cleared the transition.
-fn is_cleared(tables: &Tables, program: &Program, transition: TransitionId) -> bool
-    requires sizes { IsFor tables.now program.now }
-    requires transition { transition.0 < length tables.now.sides }
+fn is_cleared(view: &ProgramView<'_>, transition: TransitionId) -> bool
+    requires { transition.0 < length (tables_in view.now).sides }
 {
-    program.cleared(transition)
+    view.cleared(transition)
 }
 
 // The transitions that the latest scan cleared.
-fn transitions_text(alloc: Global, tables: &Tables, program: &Program) -> Result<String, AllocError>
-    requires { IsFor tables.now program.now }
-{
+fn transitions_text(alloc: Global, view: &ProgramView<'_>) -> Result<String, AllocError> {
     let mut cleared = Vec::new(alloc);
-    for number in 0..tables.transitions() {
-        if is_cleared(tables, program, TransitionId(number as u16)) {
+    for number in 0..view.tables().transitions() {
+        if is_cleared(view, TransitionId(number as u16)) {
             cleared.push(number)?;
         }
     }
@@ -87,26 +75,23 @@ fn variable_of(target: Target) -> Option<usize> {
 }
 
 // Of an action its variable, whether its Q is 1, and whether the latest scan executed it.
-fn action_at(tables: &Tables, program: &Program, number: usize) -> (Option<usize>, bool, bool)
-    requires sizes { IsFor tables.now program.now }
-    requires number { number < length tables.now.actions }
+fn action_at(view: &ProgramView<'_>, number: usize) -> (Option<usize>, bool, bool)
+    requires { number < length (tables_in view.now).actions }
 {
     let action = ActionNumber(number);
     (
-        variable_of(tables.target(action)),
-        program.q(action),
-        program.executed(action),
+        variable_of(view.tables().target(action)),
+        view.q(action),
+        view.executed(action),
     )
 }
 
 // The variables of the actions whose Q is 1, and of those that the latest scan executed.
-fn actions_text(alloc: Global, tables: &Tables, program: &Program) -> Result<String, AllocError>
-    requires { IsFor tables.now program.now }
-{
+fn actions_text(alloc: Global, view: &ProgramView<'_>) -> Result<String, AllocError> {
     let mut q = Vec::new(alloc);
     let mut executed = Vec::new(alloc);
-    for number in 0..tables.actions() {
-        let (variable, has_q, is_executed) = action_at(tables, program, number);
+    for number in 0..view.tables().actions() {
+        let (variable, has_q, is_executed) = action_at(view, number);
         if let Some(id) = variable {
             if has_q {
                 q.push(id)?;
@@ -120,13 +105,11 @@ fn actions_text(alloc: Global, tables: &Tables, program: &Program) -> Result<Str
 }
 
 // The scans of a program, its steps, transitions and actions.
-fn program_text(alloc: Global, tables: &Tables, program: &Program) -> Result<String, AllocError>
-    requires { IsFor tables.now program.now }
-{
-    let scans = program.scans();
-    let steps = steps_text(alloc, tables, program)?;
-    let transitions = transitions_text(alloc, tables, program)?;
-    let actions = actions_text(alloc, tables, program)?;
+fn program_text(alloc: Global, view: &ProgramView<'_>) -> Result<String, AllocError> {
+    let scans = view.scans();
+    let steps = steps_text(alloc, view)?;
+    let transitions = transitions_text(alloc, view)?;
+    let actions = actions_text(alloc, view)?;
     format!(in alloc; "{scans} {steps} {transitions} {actions}")
 }
 
@@ -183,8 +166,7 @@ impl Bench {
         if plant.tasks().is_empty() || plant.instances().is_empty() {
             return Ok(None);
         }
-        let setting = self.resource.setting(ProgId(0));
-        let text = program_text(alloc, setting.tables, self.resource.program(ProgId(0)))?;
+        let text = program_text(alloc, &self.resource.program(ProgId(0)))?;
         Ok(Some((text, self.resource.overruns(TaskId(0)))))
     }
 
@@ -201,9 +183,7 @@ impl Bench {
         if number >= self.resource.plant().instances().len() {
             return Ok(String::new(alloc));
         }
-        let instance = ProgId(number as u8);
-        let setting = self.resource.setting(instance);
-        program_text(alloc, setting.tables, self.resource.program(instance))
+        program_text(alloc, &self.resource.program(ProgId(number as u8)))
     }
 
     // What each variable reads, and to which value it is forced.

@@ -1,4 +1,4 @@
-//! Devices that fail.
+//! Devices that fail, and one that records.
 
 use std::alloc::Global;
 use std::io::{self, ErrorKind, Read, Write};
@@ -65,6 +65,35 @@ impl Write for BrokenWriter {
         self.taken.extend_from_slice(&buf[..count])?;
         self.left -= count;
         Ok(count)
+    }
+
+    fn flush(&mut self) -> io::Result<()> {
+        Ok(())
+    }
+}
+
+/// A writer that takes all that it is given, and tells the pieces apart.
+#[derive(Drop)]
+pub struct Recorder {
+    pub alloc: Global,
+    pub pieces: Vec<Vec<u8>>,
+}
+
+impl Recorder {
+    /// Was given nothing yet.
+    pub fn new(alloc: Global) -> Recorder {
+        Recorder {
+            alloc,
+            pieces: Vec::new(alloc),
+        }
+    }
+}
+
+impl Write for Recorder {
+    fn write(&mut self, buf: &[u8]) -> io::Result<usize> {
+        let piece = Vec::from_slice(self.alloc, buf)?;
+        self.pieces.push(piece)?;
+        Ok(buf.len())
     }
 
     fn flush(&mut self) -> io::Result<()> {

@@ -1,13 +1,13 @@
 //! Readers and writers that fail, or that take and give little at a time.
 
-use crate::broken::{BrokenReader, BrokenWriter};
+use crate::broken::{BrokenReader, BrokenWriter, Recorder};
 use crate::texts::one_step;
+use sfc_base::time_text::put_time;
+use sfc_base::write_fault::{WriteFault, put_all};
 use sfc_monitor::monitor_error::{ChartError, MonitorError};
 use sfc_monitor::replay::replay;
-use sfc_tokens::time_text::put_time;
-use sfc_tokens::write_fault::{WriteFault, put_all};
 use sfc_variables::load_error::LoadError;
-use std::alloc::Global;
+use std::alloc::{AllocError, Global};
 use std::process::Abort;
 use std::test::Fail;
 
@@ -147,4 +147,35 @@ fn a_time_is_put_whole_or_as_a_front(rt: HostRuntime) {
         assert_eq!(rt; answer.is_ok(), count == text.len(), "{count}");
         assert_eq!(rt; text.get(..count), Some(broken.taken.as_slice()));
     }
+}
+
+// A scan of the lamp's task each second, so often that its lines fill the buffer more than once.
+fn many_scans(alloc: Global) -> Result<String, AllocError> {
+    let mut script = String::new(alloc);
+    for second in 0..4_000 {
+        let line = format!(in alloc; "T#{second}s SCAN Main\n")?;
+        script.push_str(&line)?;
+    }
+    Ok(script)
+}
+
+// The pieces in which the output of these scans is written.
+fn pieces_of(alloc: Global, script: &str) -> Result<Vec<Vec<u8>>, Fail> {
+    let mut writer = Recorder::new(alloc);
+    let mut chart = BrokenReader::new(one_step().chart, false);
+    let mut script = BrokenReader::new(script.as_bytes(), false);
+    replay(alloc, &mut chart, &mut script, &mut writer).map_err(|_| "a refusal")?;
+    let Recorder { alloc: _, pieces } = writer;
+    Ok(pieces)
+}
+
+#[test]
+fn whole_commands_are_written_at_once(rt: HostRuntime) -> Result<(), Fail> {
+    let script = many_scans(rt.alloc())?;
+    let pieces = pieces_of(rt.alloc(), &script)?;
+    assert!(rt; pieces.len() > 2, "{} pieces", pieces.len());
+    for piece in &pieces {
+        assert!(rt; piece.starts_with(b"T#") && piece.ends_with(b"\n"));
+    }
+    Ok(())
 }

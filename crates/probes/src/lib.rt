@@ -1,14 +1,17 @@
 //! Tests of what no case can show: devices that fail, calls on their own, whole plants.
 //!
-//! - `bench`: a resource, and all that it shows as text; `broken`: devices that fail; `stations` and `texts`:
-//!   charts.
+//! - `bench`: a resource, and all that it shows as text; `broken`: devices that fail; `stations` and `texts`: charts.
 //! - The rest: tests.
 #![tactic(auto)]
 
 #[cfg(test)]
 mod bench;
 #[cfg(test)]
+mod books;
+#[cfg(test)]
 mod broken;
+#[cfg(test)]
+mod debugger;
 #[cfg(test)]
 mod devices;
 #[cfg(test)]
@@ -19,6 +22,8 @@ mod openings;
 mod plants;
 #[cfg(test)]
 mod resource;
+#[cfg(test)]
+mod scans;
 #[cfg(test)]
 mod stations;
 #[cfg(test)]

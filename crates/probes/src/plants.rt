@@ -1,8 +1,8 @@
 //! What is loaded of a text: each part of the plant, by number where the text has names.
 
 use crate::texts::{mixture, plant_of, written_out};
-use sfc_chart::plant::Plant;
-use sfc_program::program_type::ProgramType;
+use sfc_plant::plant::Plant;
+use sfc_plant::program_type::ProgramType;
 use std::alloc::Global;
 use std::process::Abort;
 use std::test::Fail;
@@ -19,7 +19,7 @@ const MIXTURE: Wanted = Wanted {
 [Variable { name: 'out', var_type: Bool, location: Some(Location { area: Output, size: Bit, numbers: <0, 1> }), \
 initial: Bool(false) }] \
 [Task { name: 'main', single: None, interval: 10000, priority: 1 }] \
-[Instance { name: 'p', task: TaskId(0), program: 0 }]",
+[Instance { name: 'p', task: TaskId(0), program: TypeId(0) }]",
     types: &[
         "'mix' \
 [Variable { name: 'n', var_type: Int, location: None, initial: Int(255) }, \
@@ -79,8 +79,8 @@ Variable { name: 'Level', var_type: Dint, location: Some(Location { area: Memory
 initial: Dint(5) }] \
 [Task { name: 'Slow', single: None, interval: 1000000, priority: 4 }, \
 Task { name: 'Once', single: Some(GlobalId(0)), interval: 0, priority: 0 }] \
-[Instance { name: 'A', task: TaskId(1), program: 0 }, \
-Instance { name: 'B', task: TaskId(0), program: 1 }]",
+[Instance { name: 'A', task: TaskId(1), program: TypeId(0) }, \
+Instance { name: 'B', task: TaskId(0), program: TypeId(1) }]",
     types: &[
         "'Fill' \
 [Variable { name: 'Wait', var_type: Time, location: None, initial: Time(2000000) }, \

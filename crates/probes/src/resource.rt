@@ -2,10 +2,10 @@
 
 use crate::bench::Bench;
 use crate::texts::one_step;
-use sfc_chart::ids::{TaskId, VarId};
+use sfc_base::ids::{TaskId, VarId};
+use sfc_base::value::Value;
 use sfc_events::event::{Event, Outcome};
 use sfc_events::refusal::Refusal;
-use sfc_expr::value::Value;
 use std::alloc::Global;
 use std::process::Abort;
 use std::test::Fail;

@@ -1,9 +1,9 @@
 //! The mixing station of the examples, with a second task, and events for it. They stand behind functions, so that no proof goes
 //! through them.
 
-use sfc_chart::ids::{ProgId, TaskId, VarId};
+use sfc_base::ids::{ProgId, TaskId, VarId};
+use sfc_base::value::Value;
 use sfc_events::event::Event;
-use sfc_expr::value::Value;
 
 /// An event, and its instant in microseconds.
 pub type TimedEvent = (Event, i64);

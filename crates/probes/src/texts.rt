@@ -1,7 +1,7 @@
 //! Charts, and a script and what it prints. A text stands behind a function, so that no proof goes through it.
 
-use sfc_chart::load::load;
-use sfc_chart::plant::Plant;
+use sfc_load::load::load;
+use sfc_plant::plant::Plant;
 use sfc_text::read::read;
 use std::alloc::{AllocError, Global};
 use std::test::Fail;
@@ -52,6 +52,50 @@ var_global out at %q0.1 : bool; end_var
 task main(interval := t#10ms, priority := 1);
 program p with main : mix;
 end_resource end_configuration";
+
+// Two tasks of unlike priority, each with one instance of the one step, and an input word.
+const TWO_TASKS: &[u8] = b"PROGRAM Mix INITIAL_STEP S: Lamp(N); END_STEP END_PROGRAM \
+CONFIGURATION C RESOURCE R ON Plc VAR_GLOBAL Lamp : BOOL; X AT %IW0 : INT; END_VAR \
+TASK T1(INTERVAL := T#10ms, PRIORITY := 1); TASK T2(INTERVAL := T#10ms, PRIORITY := 0); \
+PROGRAM A WITH T1 : Mix; PROGRAM B WITH T2 : Mix; END_RESOURCE END_CONFIGURATION";
+
+// Sixteen tasks with a release each millisecond.
+const SIXTEEN_TASKS: &[u8] = b"PROGRAM Mix INITIAL_STEP S: Lamp(N); END_STEP END_PROGRAM \
+CONFIGURATION C RESOURCE R ON Plc VAR_GLOBAL Lamp : BOOL; END_VAR \
+TASK T0(INTERVAL := T#1ms, PRIORITY := 1); TASK T1(INTERVAL := T#1ms, PRIORITY := 1); TASK T2(INTERVAL := T#1ms, PRIORITY := 1); \
+TASK T3(INTERVAL := T#1ms, PRIORITY := 1); TASK T4(INTERVAL := T#1ms, PRIORITY := 1); TASK T5(INTERVAL := T#1ms, PRIORITY := 1); \
+TASK T6(INTERVAL := T#1ms, PRIORITY := 1); TASK T7(INTERVAL := T#1ms, PRIORITY := 1); TASK T8(INTERVAL := T#1ms, PRIORITY := 1); \
+TASK T9(INTERVAL := T#1ms, PRIORITY := 1); TASK T10(INTERVAL := T#1ms, PRIORITY := 1); TASK T11(INTERVAL := T#1ms, PRIORITY := 1); \
+TASK T12(INTERVAL := T#1ms, PRIORITY := 1); TASK T13(INTERVAL := T#1ms, PRIORITY := 1); TASK T14(INTERVAL := T#1ms, PRIORITY := 1); \
+TASK T15(INTERVAL := T#1ms, PRIORITY := 1); \
+PROGRAM P0 WITH T0 : Mix; PROGRAM P1 WITH T1 : Mix; PROGRAM P2 WITH T2 : Mix; PROGRAM P3 WITH T3 : Mix; \
+PROGRAM P4 WITH T4 : Mix; PROGRAM P5 WITH T5 : Mix; PROGRAM P6 WITH T6 : Mix; PROGRAM P7 WITH T7 : Mix; \
+PROGRAM P8 WITH T8 : Mix; PROGRAM P9 WITH T9 : Mix; PROGRAM P10 WITH T10 : Mix; PROGRAM P11 WITH T11 : Mix; \
+PROGRAM P12 WITH T12 : Mix; PROGRAM P13 WITH T13 : Mix; PROGRAM P14 WITH T14 : Mix; PROGRAM P15 WITH T15 : Mix; \
+END_RESOURCE END_CONFIGURATION";
+
+// One step with every qualifier, each with a variable of its own, left after 40 ms.
+const ALL_QUALIFIERS: &[u8] = b"PROGRAM Mix INITIAL_STEP S1: \
+bN(N); bS(S); bL(L, T#20ms); bD(D, T#20ms); bP(P); bSD(SD, T#20ms); bDS(DS, T#20ms); bSL(SL, T#20ms); bP1(P1); bP0(P0); \
+END_STEP TRANSITION FROM S1 TO S2 := S1.T >= T#40ms; END_TRANSITION STEP S2: END_STEP END_PROGRAM \
+CONFIGURATION C RESOURCE R ON Plc VAR_GLOBAL bN : BOOL; bS : BOOL; bL : BOOL; bD : BOOL; bP : BOOL; \
+bSD : BOOL; bDS : BOOL; bSL : BOOL; bP1 : BOOL; bP0 : BOOL; END_VAR \
+TASK Main(INTERVAL := T#10ms, PRIORITY := 1); PROGRAM P WITH Main : Mix; END_RESOURCE END_CONFIGURATION";
+
+/// Two tasks of unlike priority, each with one instance of the one step, and an input word.
+pub fn two_tasks() -> &'static [u8] {
+    TWO_TASKS
+}
+
+/// Sixteen tasks with a release each millisecond, each with one instance of the one step.
+pub fn sixteen_tasks() -> &'static [u8] {
+    SIXTEEN_TASKS
+}
+
+/// One step with every qualifier, each with a variable of its own, left after 40 ms.
+pub fn all_qualifiers() -> &'static [u8] {
+    ALL_QUALIFIERS
+}
 
 /// A chart with something of each kind.
 pub fn mixture() -> &'static [u8] {

@@ -1,7 +1,7 @@
 //! The text of TIME values, and durations that are read from it.
 
+use sfc_base::time_text::put_time;
 use sfc_tokens::duration::duration;
-use sfc_tokens::time_text::put_time;
 use std::alloc::Global;
 use std::process::Abort;
 use std::test::Fail;

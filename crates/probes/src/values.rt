@@ -1,8 +1,8 @@
 //! Values and lists on their own.
 
-use sfc_expr::value::{Value, default_value};
-use sfc_tokens::items::Items;
-use sfc_tokens::var_type::VarType;
+use sfc_base::items::Items;
+use sfc_base::value::{Value, default_value};
+use sfc_base::var_type::VarType;
 use std::test::Fail;
 
 #[test]

@@ -7,16 +7,16 @@ use Rattle.std.proofs.lemmas.Bool.Decides.{nat_tests}
 use Rattle.std.proofs.lemmas.List.{length-append, map-append, get_or_default, at_drop_more, at_drop_all}
 use Rattle.std.proofs.lemmas.List.Elements.{All-nil, All-push}
 use Rattle.std.proofs.lemmas.List.Folds.{list_any-append}
-use Rattle.sfc_text.specs.declared.tree.TimedQualifier.{TimedQualifier}
-use Rattle.sfc_text.specs.declared.tree.TimedQualifier.TheVariants.{Limited, Delayed, StoredDelayed, DelayedStored, StoredLimited}
-use Rattle.sfc_tables.specs.declared.association.Time.{Time}
-use Rattle.sfc_tables.specs.declared.association.Qualifier.{Qualifier}
-use Rattle.sfc_tables.specs.declared.association.Qualifier.TheVariants.{Timed}
+use Rattle.sfc_base.specs.declared.qualifier.TimedQualifier.{TimedQualifier}
+use Rattle.sfc_base.specs.declared.qualifier.TimedQualifier.TheVariants.{Limited, Delayed, StoredDelayed, DelayedStored, StoredLimited}
+use Rattle.sfc_plant.specs.declared.association.Time.{Time}
+use Rattle.sfc_plant.specs.declared.association.Qualifier.{Qualifier}
+use Rattle.sfc_plant.specs.declared.association.Qualifier.TheVariants.{Timed}
 use Rattle.sfc_tables.specs.declared.step_action.StepAction.{StepAction}
 use Rattle.sfc_flags.specs.Flags.{flag}
 use Rattle.sfc_action.specs.declared.timed.Timed as timed
 use Rattle.sfc_action.specs.declared.blocks.Block.{Block}
-use Rattle.sfc_action.specs.Delays.{Delay, is_delay, same_timed, with_delay, with_delays}
+use Rattle.sfc_action.specs.Private.DelayLists.{Delay, is_delay, same_timed, with_delay, with_delays}
 use Rattle.sfc_action.specs.Private.TimedSets.{AreAll, by, none, with_action}
 use Rattle.sfc_action.specs.Private.Keeping.{delay_of, is_of, has_block, IsCovered}
 use Rattle.sfc_action.specs.Private.Listing.{IsNew, IsListing, IsLonger}
@@ -126,8 +126,8 @@ module _ (xs : List StepAction) (index : ℕ) (e : StepAction) where
   pub covered_more : (old new : List Block) → index < length xs → ((x : StepAction) → IsCovered old x → IsCovered new x)
       → IsCovered new (get_or xs index e) → ((k : ℕ) (d : StepAction) → k < index → IsCovered old (get_or xs k d))
       → (k : ℕ) (d : StepAction) → k < index + 1 → IsCovered new (get_or xs k d)
-  covered_more old new lt kept here was k d le = elim (cases_lt k index) [
-    | inl earlier ↦ kept (get_or xs k d) (was k d earlier)
+  covered_more old new lt still here was k d le = elim (cases_lt k index) [
+    | inl earlier ↦ still (get_or xs k d) (was k d earlier)
     | inr later ↦ (
         let at : k ≡ index = omega arith in
         rw (at, get_or_default xs index d e lt) here)

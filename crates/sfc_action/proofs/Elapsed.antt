@@ -4,13 +4,13 @@ use Rattle.std.specs.Prelude.{slice_set, All}
 use Rattle.std.specs.List.{list_any}
 use Rattle.std.proofs.lemmas.Bool.Decides.{nat_tests}
 use Rattle.std.proofs.lemmas.List.Elements.{All-head, All-tail}
-use Rattle.sfc_text.specs.declared.tree.TimedQualifier.{TimedQualifier}
-use Rattle.sfc_text.specs.declared.tree.TimedQualifier.TheVariants.{Limited, Delayed, StoredDelayed, DelayedStored, StoredLimited}
+use Rattle.sfc_base.specs.declared.qualifier.TimedQualifier.{TimedQualifier}
+use Rattle.sfc_base.specs.declared.qualifier.TimedQualifier.TheVariants.{Limited, Delayed, StoredDelayed, DelayedStored, StoredLimited}
 use Rattle.sfc_flags.specs.Flags.{flag}
 use Rattle.sfc_timers.specs.Timers.{Reading, Bistable, has_elapsed, is_on}
-use Rattle.sfc_tables.specs.declared.association.Qualifier.{Qualifier}
-use Rattle.sfc_tables.specs.declared.association.Qualifier.TheVariants.{NonStored, Reset, Set, Pulse, RisingPulse, FallingPulse}
-use Rattle.sfc_tables.specs.declared.association.Qualifier.TheVariants as qualifier
+use Rattle.sfc_plant.specs.declared.association.Qualifier.{Qualifier}
+use Rattle.sfc_plant.specs.declared.association.Qualifier.TheVariants.{NonStored, Reset, Set, Pulse, RisingPulse, FallingPulse}
+use Rattle.sfc_plant.specs.declared.association.Qualifier.TheVariants as qualifier
 use Rattle.sfc_tables.specs.declared.step_action.StepAction.{StepAction}
 use Rattle.sfc_tables.specs.Tables.{Tabled}
 use Rattle.sfc_action.specs.declared.timed.Timed.{Timed}
@@ -19,9 +19,9 @@ use Rattle.sfc_action.specs.ActionControl.{Scan, Letter, L, D, SD, DS, SL, R, is
 use Rattle.sfc_action.specs.Private.TimedSets.{AreAll, none, by, with_action}
 use Rattle.sfc_action.specs.Private.Delays.{gathered, AreOf}
 use Rattle.sfc_action.specs.Private.Keeping.{is_of, has_block, IsCovered, called, readings, BlockAgrees}
-use Rattle.sfc_action.specs.Delays.{same_timed}
+use Rattle.sfc_action.specs.Private.DelayLists.{same_timed}
 use Rattle.sfc_action.proofs.Sizes.{all_added, all_none}
-use Rattle.sfc_action.proofs.Told.{one_set}
+use Rattle.sfc_action.proofs.ScanInputs.{one_set}
 use Rattle.sfc_action.proofs.Timings.{flag-replicate}
 
 pub bool_cases : (b : Bool) → (b ≡ true) ⊎ (b ≡ false)

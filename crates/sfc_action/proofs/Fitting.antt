@@ -1,19 +1,34 @@
 -- What fits tables.
-use Rattle.std.proofs.Common.{◌≡◌, length, ◌∙◌, ap}
+use denote.Struct.Props.{props}
+use Rattle.std.proofs.Common.{◌≡◌, length, ◌∙◌, ap, sym}
 use Rattle.sfc_tables.specs.Tables.{Tabled}
-use Rattle.sfc_action.specs.declared.kept.Kept.{Kept}
+use Rattle.sfc_action.specs.declared.control_state.ControlState.{ControlState}
 use Rattle.sfc_action.specs.Private.Keeping.{AreFor}
-use Rattle.sfc_action.specs.Agreement.{IsFor, HasDelays}
+use Rattle.sfc_action.specs.Agreement.{IsFor, HasDelays, action_total}
 
-pub is_for : (tables : Tabled) (kept : Kept) → AreFor tables kept → IsFor tables kept
+pub is_for : (tables : Tabled) (state : ControlState) → AreFor tables state → IsFor tables state
 unfolding HasDelays
-is_for tables kept h = record { same_actions = h.sized.q; same_delays = h.count; few_delays = h.few; delays = h }
+is_for tables state h = record { same_actions = h.sized.q; delays = h }
 
-pub are_for : (tables : Tabled) (kept : Kept) → IsFor tables kept → AreFor tables kept
+pub are_for : (tables : Tabled) (state : ControlState) → IsFor tables state → AreFor tables state
 unfolding HasDelays
-are_for tables kept h = h.delays
+are_for tables state h = h.delays
 
 -- what is kept has as many actions as the tables that it is for
-pub actions_for : (tables : Tabled) (inside kept : Kept) → inside ≡ kept → IsFor tables kept
+pub actions_for : (tables : Tabled) (inside state : ControlState) → inside ≡ state → IsFor tables state
     → length inside.q ≡ length tables.actions
-actions_for tables inside kept same h = ap (λ (k : Kept). length k.q) same ∙ h.same_actions
+actions_for tables inside state same h = ap (λ (k : ControlState). length k.q) same ∙ h.same_actions
+
+-- what fits the same tables has as many actions and on-delays
+pub same_actions : (tables : Tabled) (one other : ControlState) → IsFor tables one → IsFor tables other
+    → action_total one ≡ action_total other
+same_actions tables one other h g = h.same_actions ∙ sym g.same_actions
+
+pub same_delays : (tables : Tabled) (one other : ControlState) → IsFor tables one → IsFor tables other
+    → length one.blocks.items ≡ length other.blocks.items
+same_delays tables one other h g = (are_for tables one h).count ∙ sym (are_for tables other g).count
+
+-- it has the on-delays in one way at most
+pub delays_prop : (tables : Tabled) (state : ControlState) → IsProp (HasDelays tables state)
+unfolding HasDelays
+delays_prop tables state = hlevel props

@@ -11,7 +11,8 @@ pub mod Rows
 pub mod Numbers
 pub mod Sizes
 pub mod Starts
+pub mod StoredTimes
 pub mod Timings
-pub mod Told
+pub mod ScanInputs
 pub mod Walks
 pub mod Works

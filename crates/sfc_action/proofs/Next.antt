@@ -4,13 +4,13 @@ use Rattle.std.specs.Prelude.{All, slice_index_or, map, filter, Option}
 use Rattle.std.specs.List.{list_any}
 use Rattle.std.proofs.lemmas.Bool.Decides.{nat_tests}
 use Rattle.std.proofs.lemmas.List.Elements.{All-head, All-tail}
-use Rattle.sfc_text.specs.declared.tree.TimedQualifier.{TimedQualifier}
-use Rattle.sfc_text.specs.declared.tree.TimedQualifier.TheVariants.{Limited, Delayed, StoredDelayed, DelayedStored, StoredLimited}
+use Rattle.sfc_base.specs.declared.qualifier.TimedQualifier.{TimedQualifier}
+use Rattle.sfc_base.specs.declared.qualifier.TimedQualifier.TheVariants.{Limited, Delayed, StoredDelayed, DelayedStored, StoredLimited}
 use Rattle.sfc_flags.specs.Flags.{flag, places_from}
 use Rattle.sfc_timers.specs.Timers.{has_elapsed}
 use Rattle.sfc_timers.specs.Agreement.{OnDelayAgrees}
-use Rattle.sfc_tables.specs.declared.association.Qualifier.{Qualifier}
-use Rattle.sfc_tables.specs.declared.association.Qualifier.TheVariants as qualifier
+use Rattle.sfc_plant.specs.declared.association.Qualifier.{Qualifier}
+use Rattle.sfc_plant.specs.declared.association.Qualifier.TheVariants as qualifier
 use Rattle.sfc_tables.specs.declared.step_action.StepAction.{StepAction}
 use Rattle.sfc_tables.specs.Tables.{Tabled, AreTables}
 use Rattle.sfc_evolve.specs.Lookback.{or_else}
@@ -19,7 +19,7 @@ use Rattle.sfc_action.specs.declared.timed.Timed.{Timed}
 use Rattle.sfc_action.specs.declared.inputs.Inputs.{Inputs}
 use Rattle.sfc_action.specs.declared.stores.Stores.{Stores}
 use Rattle.sfc_action.specs.declared.blocks.Block.{Block}
-use Rattle.sfc_action.specs.declared.kept.Kept.{Kept}
+use Rattle.sfc_action.specs.declared.control_state.ControlState.{ControlState}
 use Rattle.sfc_action.specs.ActionControl.{Scan, Letter, N, R, S, L, D, P, SD, DS, SL, P1, P0, is, acts, is_timed, input, preset}
 use Rattle.sfc_action.specs.ActionControl.{stored, on_delay, delayed, delayed_then_stored, q, executed, acting_times}
 use Rattle.sfc_action.specs.ActionControl.{fault_by, fault_of, first_in, first_fault}
@@ -28,41 +28,41 @@ use Rattle.sfc_action.specs.Private.Marking.{cleared, marked_at, presets_at, IsW
 use Rattle.sfc_action.specs.Private.Storing.{AreNext}
 use Rattle.sfc_action.specs.Private.Delays.{input_of, preset_of, IsStepped, gathered}
 use Rattle.sfc_action.specs.Private.Failing.{fault_at}
-use Rattle.sfc_action.specs.Private.Keeping.{AreFor, AreKept, IsActed, BlockAgrees, IsCovered, called, readings, has_block, is_of, AreKeptSized}
-use Rattle.sfc_action.specs.Delays.{same_timed}
+use Rattle.sfc_action.specs.Private.Keeping.{AreFor, IsStateAfter, IsActed, BlockAgrees, IsCovered, called, readings, has_block, is_of, IsStateSized}
+use Rattle.sfc_action.specs.Private.DelayLists.{same_timed}
 use Rattle.sfc_action.proofs.Choices.{executions}
 use Rattle.sfc_action.proofs.Elapsed.{bool_cases, is_on_next, elapsed_are}
 use Rattle.sfc_action.proofs.Timings.{inputs_are, timing_is, more_are, preset_is}
-use Rattle.sfc_action.proofs.Told.{flags_at}
+use Rattle.sfc_action.proofs.ScanInputs.{flags_at}
 use Rattle.sfc_action.proofs.Works.{within}
 
 -- inputs and times are those of the scan
-pub record AreTold (tables : Tabled) (scan : Scan) (i : Inputs) (ps : List ℤ) : Type 0 where
+pub record AreScanInputs (tables : Tabled) (scan : Scan) (i : Inputs) (ps : List ℤ) : Type 0 where
   pub letters : (a : ℕ) (letter : Letter)
       → flag (flags_at i letter) a ≡ list_any (λ x. acts a scan x && is letter x.qualifier) tables.associations
   pub more : (a : ℕ) → flag i.more_times a ≡ nat_lt 1 (length (acting_times tables a scan))
   pub times : (a : ℕ) → flag i.more_times a ≡ false → preset_of i ps a ≡ preset tables a scan
 
-pub are_told : (tables : Tabled) → AreTables tables → (scan : Scan) (ps new_ps : List ℤ) (i : Inputs)
+pub are_scan_inputs : (tables : Tabled) → AreTables tables → (scan : Scan) (ps new_ps : List ℤ) (i : Inputs)
     → length scan.times ≡ length tables.associations → length ps ≡ length tables.actions
     → i ≡ marked_at tables.associations (places_from scan.active 0) (cleared (length tables.actions))
     → new_ps ≡ presets_at scan.times tables.associations (places_from scan.active 0) ps
-    → AreTold tables scan i new_ps
-are_told tables sound scan ps new_ps i et ep ei en =
+    → AreScanInputs tables scan i new_ps
+are_scan_inputs tables sound scan ps new_ps i et ep ei en =
     let n = length tables.actions in
     let m = length scan.times in
     let all : All (IsWithin n m) tables.associations = within tables sound n m refl et in
     let timing = λ (a : ℕ). timing_is n m scan.times a scan tables.associations ps all ep in
     let i_0 = marked_at tables.associations (places_from scan.active 0) (cleared n) in
     let ps_0 = presets_at scan.times tables.associations (places_from scan.active 0) ps in
-    let told : AreTold tables scan i_0 ps_0 = record {
+    let scan_input : AreScanInputs tables scan i_0 ps_0 = record {
       letters = λ a letter. inputs_are n m scan.times scan tables.associations ps a letter all ep;
       more = λ a. more_are n m scan.times a (flag i_0.more_times a) (flag i_0.any_time a) (slice_index_or ps_0 a (pos 0))
           (acting_times tables a scan) (timing a);
       times = λ a few. preset_is n m scan.times a (flag i_0.more_times a) (flag i_0.any_time a)
           (slice_index_or ps_0 a (pos 0)) (acting_times tables a scan) (timing a) few;
     } in
-    rw (ei, en) told
+    rw (ei, en) scan_input
 
 -- neither of two faults is one
 both_none : (o rest : Option ControlFault) → or_else o rest ≡ None → (o ≡ None) × (rest ≡ None)
@@ -71,8 +71,8 @@ both_none (Some f) rest e = absurd cc
 
 -- ---- flip-flops
 
-module _ (tables : Tabled) (kept : Kept) (scan : Scan) (h : List Scan) (i : Inputs) (ps : List ℤ) (next : Stores)
-    (each : AreKept tables kept h) (told : AreTold tables scan i ps) (stores : AreNext kept.stores i next) where
+module _ (tables : Tabled) (state : ControlState) (scan : Scan) (h : List Scan) (i : Inputs) (ps : List ℤ) (next : Stores)
+    (each : IsStateAfter tables state h) (scan_input : AreScanInputs tables scan i ps) (stores : AreNext state.stores i next) where
   abbrev n : ℕ
   n = length tables.actions
 
@@ -82,26 +82,26 @@ module _ (tables : Tabled) (kept : Kept) (scan : Scan) (h : List Scan) (i : Inpu
   pub set_is : (a : ℕ) → a < n → flag next.set a ≡ stored tables a S h'
   set_is a lt =
       stores.set a
-      ∙ (λ k. (each.set a lt k || told.letters a S k) && not (told.letters a R k))
+      ∙ (λ k. (each.set a lt k || scan_input.letters a S k) && not (scan_input.letters a R k))
       ∙ sym (is_on_next (input tables a S h') (input tables a R h') _)
 
   pub stored_delayed_is : (a : ℕ) → a < n → flag next.stored_delayed a ≡ stored tables a SD h'
   stored_delayed_is a lt =
       stores.stored_delayed a
-      ∙ (λ k. (each.stored_delayed a lt k || told.letters a SD k) && not (told.letters a R k))
+      ∙ (λ k. (each.stored_delayed a lt k || scan_input.letters a SD k) && not (scan_input.letters a R k))
       ∙ sym (is_on_next (input tables a SD h') (input tables a R h') _)
 
   pub stored_limited_is : (a : ℕ) → a < n → flag next.stored_limited a ≡ stored tables a SL h'
   stored_limited_is a lt =
       stores.stored_limited a
-      ∙ (λ k. (each.stored_limited a lt k || told.letters a SL k) && not (told.letters a R k))
+      ∙ (λ k. (each.stored_limited a lt k || scan_input.letters a SL k) && not (scan_input.letters a R k))
       ∙ sym (is_on_next (input tables a SL h') (input tables a R h') _)
 
   -- ---- faults
 
   fault_is : (a : ℕ) → a < n → fault_at i next a ≡ fault_of tables a h'
-  fault_is a lt = λ k. fault_by (told.more a k) (told.letters a SD k && stored_limited_is a lt k)
-      (told.letters a SL k && stored_delayed_is a lt k)
+  fault_is a lt = λ k. fault_by (scan_input.more a k) (scan_input.letters a SD k && stored_limited_is a lt k)
+      (scan_input.letters a SL k && stored_delayed_is a lt k)
 
   faults_in : (xs : List StepAction) → All (λ x. x.action.0 < n) xs
       → first_in (fault_at i next) xs ≡ first_in (λ a. fault_of tables a h') xs
@@ -143,16 +143,16 @@ no_times b scan (x ∷ xs) e =
     or_right true y e = absurd cc
     or_right false y e = e
 
-pub few_times : (tables : Tabled) (scan : Scan) (i : Inputs) (ps : List ℤ) (next : Stores) → AreTold tables scan i ps
+pub few_times : (tables : Tabled) (scan : Scan) (i : Inputs) (ps : List ℤ) (next : Stores) → AreScanInputs tables scan i ps
     → first_in (fault_at i next) tables.associations ≡ None → (a : ℕ) → flag i.more_times a ≡ false
-few_times tables scan i ps next told e a =
+few_times tables scan i ps next scan_input e a =
     elim (bool_cases (list_any (λ (x : StepAction). x.action.0 == a) tables.associations)) [
       | inl there ↦ (
           let fine = none_at (fault_at i next) tables.associations a e there in
           no_more (flag i.more_times a) (flag i.timed.stored_delayed a && flag next.stored_limited a)
           (flag i.timed.stored_limited a && flag next.stored_delayed a) fine)
       | inr empty ↦ (
-          told.more a
+          scan_input.more a
           ∙ ap (λ (xs : List StepAction). nat_lt 1 (length (map (λ x. slice_index_or scan.times x.number.0 (pos 0)) xs)))
           (no_times a scan tables.associations empty)
           ∙ none_more)
@@ -167,8 +167,8 @@ few_times tables scan i ps next told e a =
 
 -- ---- sizes
 
-module _ (tables : Tabled) (kept new : Kept) (i : Inputs) (ps : List ℤ) (next : Stores) (t : ℤ) (size : AreFor tables kept)
-    (acted : IsActed i next ps t kept new) where
+module _ (tables : Tabled) (state new : ControlState) (i : Inputs) (ps : List ℤ) (next : Stores) (t : ℤ) (size : AreFor tables state)
+    (acted : IsActed i next ps t state new) where
   same_any : (a : ℕ) (p : TimedQualifier) (xs ys : List Block) → length ys ≡ length xs
       → ((k : ℕ) (d : Block) → k < length xs → (get_or ys k d).action ≡ (get_or xs k d).action)
       → ((k : ℕ) (d : Block) → k < length xs → (get_or ys k d).qualifier ≡ (get_or xs k d).qualifier)
@@ -183,9 +183,9 @@ module _ (tables : Tabled) (kept new : Kept) (i : Inputs) (ps : List ℤ) (next 
       (λ k d lt. qualifiers (suc k) d (omega arith)) in
       (λ k. (((first k).0 == a) && same_timed p (second k)) || rest k)
 
-  same_block : (a : ℕ) (p : Qualifier) → has_block new.blocks.items a p ≡ has_block kept.blocks.items a p
+  same_block : (a : ℕ) (p : Qualifier) → has_block new.blocks.items a p ≡ has_block state.blocks.items a p
   same_block a (qualifier.Timed p time) =
-      same_any a p kept.blocks.items new.blocks.items acted.same_blocks (λ k d lt. (acted.blocks k d lt).action)
+      same_any a p state.blocks.items new.blocks.items acted.same_blocks (λ k d lt. (acted.blocks k d lt).action)
       (λ k d lt. (acted.blocks k d lt).qualifier)
   same_block a _ = refl
 
@@ -195,7 +195,7 @@ module _ (tables : Tabled) (kept new : Kept) (i : Inputs) (ps : List ℤ) (next 
 
   pub next_size : AreFor tables new
   next_size = record {
-    sized = subst (λ n. AreKeptSized n new) size.sized.q acted.sized;
+    sized = subst (λ n. IsStateSized n new) size.sized.q acted.sized;
     count = acted.same_blocks ∙ size.count;
     few = let e = acted.same_blocks in let few = size.few in omega arith;
     covered = covered;
@@ -203,10 +203,10 @@ module _ (tables : Tabled) (kept new : Kept) (i : Inputs) (ps : List ℤ) (next 
 
 -- ---- on-delays
 
-module _ (tables : Tabled) (kept new : Kept) (scan : Scan) (h : List Scan) (i : Inputs) (ps : List ℤ) (next : Stores)
-    (size : AreFor tables kept) (each : AreKept tables kept h) (told : AreTold tables scan i ps)
-    (stores : AreNext kept.stores i next) (faultless : first_in (fault_at i next) tables.associations ≡ None)
-    (acted : IsActed i next ps scan.at kept new) where
+module _ (tables : Tabled) (state new : ControlState) (scan : Scan) (h : List Scan) (i : Inputs) (ps : List ℤ) (next : Stores)
+    (size : AreFor tables state) (each : IsStateAfter tables state h) (scan_input : AreScanInputs tables scan i ps)
+    (stores : AreNext state.stores i next) (faultless : first_in (fault_at i next) tables.associations ≡ None)
+    (acted : IsActed i next ps scan.at state new) where
   abbrev m : ℕ
   m = length tables.actions
 
@@ -214,11 +214,11 @@ module _ (tables : Tabled) (kept new : Kept) (scan : Scan) (h : List Scan) (i : 
   now = scan ∷ h
 
   called_is : (q : TimedQualifier) (a : ℕ) → a < m → flag (input_of q i next) a ≡ called tables a q now
-  called_is Limited a lt = told.letters a L
-  called_is Delayed a lt = told.letters a D
-  called_is DelayedStored a lt = told.letters a DS
-  called_is StoredDelayed a lt = stored_delayed_is tables kept scan h i ps next each told stores a lt
-  called_is StoredLimited a lt = stored_limited_is tables kept scan h i ps next each told stores a lt
+  called_is Limited a lt = scan_input.letters a L
+  called_is Delayed a lt = scan_input.letters a D
+  called_is DelayedStored a lt = scan_input.letters a DS
+  called_is StoredDelayed a lt = stored_delayed_is tables state scan h i ps next each scan_input stores a lt
+  called_is StoredLimited a lt = stored_limited_is tables state scan h i ps next each scan_input stores a lt
 
   one_agrees : (old block : Block) (input : Bool) (pt : ℤ) → BlockAgrees tables h old → IsStepped input pt scan.at old block
       → input ≡ called tables old.action.0 old.qualifier now → pt ≡ preset tables old.action.0 scan
@@ -231,66 +231,66 @@ module _ (tables : Tabled) (kept new : Kept) (scan : Scan) (h : List Scan) (i : 
       (λ k. (ei k, ep k, scan.at) ∷ col) in
       let is : ((input, pt, scan.at) ∷ col) ≡ readings tables block.action.0 block.qualifier now = all ∙ sym same_readings in
       record {
-        delay = subst (OnDelayAgrees block.delay) is (stepped.kept col agrees.delay);
+        delay = subst (OnDelayAgrees block.delay) is (stepped.agrees col agrees.delay);
         elapsed = stepped.answer col agrees.delay ∙ ap has_elapsed is;
       }
 
   blocks_agree : All (BlockAgrees tables now) new.blocks.items
   blocks_agree = λ k d lt.
-      let within : k < length kept.blocks.items = let e = acted.same_blocks in omega arith in
-      let old = slice_index_or kept.blocks.items k d in
+      let within : k < length state.blocks.items = let e = acted.same_blocks in omega arith in
+      let old = slice_index_or state.blocks.items k d in
       let lt_action : old.action.0 < m = size.sized.blocks k d within in
       one_agrees old (slice_index_or new.blocks.items k d) (flag (input_of old.qualifier i next) old.action.0)
       (preset_of i ps old.action.0) (each.blocks k d within) (acted.blocks k d within)
       (called_is old.qualifier old.action.0 lt_action)
-      (told.times old.action.0 (few_times tables scan i ps next told faultless old.action.0))
+      (scan_input.times old.action.0 (few_times tables scan i ps next scan_input faultless old.action.0))
 
   -- ---- outputs
 
   abbrev elapsed : Timed
-  elapsed = gathered new.blocks.items (none (length kept.q))
+  elapsed = gathered new.blocks.items (none (length state.q))
 
   elapsed_is : (p : TimedQualifier) (a : ℕ) → flag (by p elapsed) a ≡ on_delay tables a (called tables a p) now
-  elapsed_is p a = elapsed_are tables scan h (length kept.q) new.blocks.items p a acted.sized.blocks blocks_agree
-      (covered tables kept new i ps next scan.at size acted)
+  elapsed_is p a = elapsed_are tables scan h (length state.q) new.blocks.items p a acted.sized.blocks blocks_agree
+      (covered tables state new i ps next scan.at size acted)
 
   delayed_stored_is : (a : ℕ) → a < m → flag new.delayed_stored a ≡ delayed_then_stored tables a DS now
   delayed_stored_is a lt =
       acted.delayed_stored a
-      ∙ (λ k. (each.delayed_stored a lt k || elapsed_is DelayedStored a k) && not (told.letters a R k))
+      ∙ (λ k. (each.delayed_stored a lt k || elapsed_is DelayedStored a k) && not (scan_input.letters a R k))
       ∙ sym (is_on_next (delayed tables a DS now) (input tables a R now) _)
 
   q_is : (a : ℕ) → a < m → flag new.q a ≡ q tables a now
   q_is a lt =
       acted.outputs a
-      ∙ (λ k. not (told.letters a R k) && (
-      told.letters a N k
-      || set_is tables kept scan h i ps next each told stores a lt k
-      || (told.letters a L k && not (elapsed_is Limited a k))
+      ∙ (λ k. not (scan_input.letters a R k) && (
+      scan_input.letters a N k
+      || set_is tables state scan h i ps next each scan_input stores a lt k
+      || (scan_input.letters a L k && not (elapsed_is Limited a k))
       || elapsed_is Delayed a k
-      || (told.letters a P k && not (each.pulse a lt k))
+      || (scan_input.letters a P k && not (each.pulse a lt k))
       || elapsed_is StoredDelayed a k
       || delayed_stored_is a lt k
-      || (stored_limited_is tables kept scan h i ps next each told stores a lt k && not (elapsed_is StoredLimited a k))))
+      || (stored_limited_is tables state scan h i ps next each scan_input stores a lt k && not (elapsed_is StoredLimited a k))))
 
   executed_is : (a : ℕ) → a < m → flag new.executed a ≡ executed tables a now
   executed_is a lt =
       acted.executions a
-      ∙ (λ k. ((each.q a lt k || q_is a lt k) || (told.letters a P1 k && not (each.rising_pulse a lt k)))
-      || (each.falling_pulse a lt k && not (told.letters a P0 k)))
+      ∙ (λ k. ((each.q a lt k || q_is a lt k) || (scan_input.letters a P1 k && not (each.rising_pulse a lt k)))
+      || (each.falling_pulse a lt k && not (scan_input.letters a P0 k)))
       ∙ executions (q tables a h) (q tables a now) (input tables a P1 now && not (input tables a P1 h))
       (input tables a P0 h && not (input tables a P0 now))
 
-  pub next_kept : AreKept tables new now
-  next_kept = record {
-    pulse = λ a lt. ap (λ xs. flag xs a) acted.pulse ∙ told.letters a P;
-    rising_pulse = λ a lt. ap (λ xs. flag xs a) acted.rising_pulse ∙ told.letters a P1;
-    falling_pulse = λ a lt. ap (λ xs. flag xs a) acted.falling_pulse ∙ told.letters a P0;
-    set = λ a lt. ap (λ (s : Stores). flag s.set a) acted.stores ∙ set_is tables kept scan h i ps next each told stores a lt;
+  pub next_state : IsStateAfter tables new now
+  next_state = record {
+    pulse = λ a lt. ap (λ xs. flag xs a) acted.pulse ∙ scan_input.letters a P;
+    rising_pulse = λ a lt. ap (λ xs. flag xs a) acted.rising_pulse ∙ scan_input.letters a P1;
+    falling_pulse = λ a lt. ap (λ xs. flag xs a) acted.falling_pulse ∙ scan_input.letters a P0;
+    set = λ a lt. ap (λ (s : Stores). flag s.set a) acted.stores ∙ set_is tables state scan h i ps next each scan_input stores a lt;
     stored_delayed = λ a lt. ap (λ (s : Stores). flag s.stored_delayed a) acted.stores
-        ∙ stored_delayed_is tables kept scan h i ps next each told stores a lt;
+        ∙ stored_delayed_is tables state scan h i ps next each scan_input stores a lt;
     stored_limited = λ a lt. ap (λ (s : Stores). flag s.stored_limited a) acted.stores
-        ∙ stored_limited_is tables kept scan h i ps next each told stores a lt;
+        ∙ stored_limited_is tables state scan h i ps next each scan_input stores a lt;
     delayed_stored = delayed_stored_is;
     q = q_is;
     executed = executed_is;
@@ -300,33 +300,33 @@ module _ (tables : Tabled) (kept new : Kept) (scan : Scan) (h : List Scan) (i : 
 -- ---- a scan that was read
 
 -- what reading a scan left: `active` are the active steps after it
-pub record IsRead (tables : Tabled) (kept : Kept) (active : List Bool) (times ps : List ℤ) (i : Inputs) (new_ps : List ℤ)
+pub record IsRead (tables : Tabled) (state : ControlState) (active : List Bool) (times ps : List ℤ) (i : Inputs) (new_ps : List ℤ)
     (next : Stores) : Type 0 where
   pub sound : AreTables tables
   pub same_times : length times ≡ length tables.associations
-  pub room : length ps ≡ length tables.actions
+  pub presets_len : length ps ≡ length tables.actions
   pub inputs : i ≡ marked_at tables.associations (places_from active 0) (cleared (length tables.actions))
   pub presets : new_ps ≡ presets_at times tables.associations (places_from active 0) ps
-  pub stores : AreNext kept.stores i next
+  pub stores : AreNext state.stores i next
 
 -- the scan with these active steps
 abbrev pub scan_of : List Bool → List ℤ → ℤ → Scan
 scan_of active times t = record { active = active; times = times; at = t }
 
-module _ (tables : Tabled) (kept : Kept) (active : List Bool) (times ps : List ℤ) (i : Inputs) (new_ps : List ℤ) (next : Stores)
-    (t : ℤ) (h : List Scan) (read : IsRead tables kept active times ps i new_ps next) (each : AreKept tables kept h) where
-  what : AreTold tables (scan_of active times t) i new_ps
-  what = are_told tables read.sound (scan_of active times t) ps new_ps i read.same_times read.room read.inputs read.presets
+module _ (tables : Tabled) (state : ControlState) (active : List Bool) (times ps : List ℤ) (i : Inputs) (new_ps : List ℤ) (next : Stores)
+    (t : ℤ) (h : List Scan) (read : IsRead tables state active times ps i new_ps next) (each : IsStateAfter tables state h) where
+  what : AreScanInputs tables (scan_of active times t) i new_ps
+  what = are_scan_inputs tables read.sound (scan_of active times t) ps new_ps i read.same_times read.presets_len read.inputs read.presets
 
   pub fault_read : (steps : List Bool) → active ≡ steps
       → first_in (fault_at i next) tables.associations ≡ first_fault tables (scan_of steps times t ∷ h)
   fault_read steps e =
-      first_fault_is tables kept (scan_of active times t) h i new_ps next each what read.stores read.sound
+      first_fault_is tables state (scan_of active times t) h i new_ps next each what read.stores read.sound
       ∙ ap (λ xs. first_fault tables (scan_of xs times t ∷ h)) e
 
-  pub kept_read : (new : Kept) (steps : List Bool) → active ≡ steps → AreFor tables kept
-      → first_in (fault_at i next) tables.associations ≡ None → IsActed i next new_ps t kept new
-      → AreKept tables new (scan_of steps times t ∷ h)
-  kept_read new steps e size faultless acted =
-      subst (λ (xs : List Bool). AreKept tables new (scan_of xs times t ∷ h)) e
-      (next_kept tables kept new (scan_of active times t) h i new_ps next size each what read.stores faultless acted)
+  pub state_read : (new : ControlState) (steps : List Bool) → active ≡ steps → AreFor tables state
+      → first_in (fault_at i next) tables.associations ≡ None → IsActed i next new_ps t state new
+      → IsStateAfter tables new (scan_of steps times t ∷ h)
+  state_read new steps e size faultless acted =
+      subst (λ (xs : List Bool). IsStateAfter tables new (scan_of xs times t ∷ h)) e
+      (next_state tables state new (scan_of active times t) h i new_ps next size each what read.stores faultless acted)

@@ -6,8 +6,8 @@ use Rattle.std.specs.Prelude.{find, slice_index_or, All}
 use Rattle.std.specs.List.{list_any}
 use Rattle.std.proofs.lemmas.Bool.Decides.{nat_tests}
 use Rattle.std.proofs.lemmas.List.Elements.{All-head, All-tail}
-use Rattle.sfc_text.specs.declared.tree.TimedQualifier.{TimedQualifier}
-use Rattle.sfc_text.specs.declared.tree.TimedQualifier.TheVariants.{Limited, Delayed, StoredDelayed, DelayedStored, StoredLimited}
+use Rattle.sfc_base.specs.declared.qualifier.TimedQualifier.{TimedQualifier}
+use Rattle.sfc_base.specs.declared.qualifier.TimedQualifier.TheVariants.{Limited, Delayed, StoredDelayed, DelayedStored, StoredLimited}
 use Rattle.sfc_timers.specs.Timers.{Reading, has_elapsed}
 use Rattle.sfc_timers.specs.Past.{on_delay_past}
 use Rattle.sfc_timers.proofs.Cuts.{past_cut, elapsed_cut}
@@ -15,11 +15,11 @@ use Rattle.sfc_timers.proofs.Pasts.{on_delay_keeps, on_delay_agrees, on_delay_pr
 use Rattle.sfc_tables.specs.Tables.{Tabled, AreTables}
 use Rattle.sfc_tables.specs.declared.step_action.StepAction.{StepAction}
 use Rattle.sfc_evolve.specs.Lookback.{or_else}
-use Rattle.sfc_expr.proofs.ByPlace.{at_place, mapped}
+use Rattle.sfc_base.proofs.ByPlace.{at_place, mapped}
 use Rattle.sfc_action.specs.declared.blocks.Block.{Block}
-use Rattle.sfc_action.specs.declared.kept.Kept.{Kept}
+use Rattle.sfc_action.specs.declared.control_state.ControlState.{ControlState}
 use Rattle.sfc_action.specs.declared.fault.ControlFault.{ControlFault}
-use Rattle.sfc_action.specs.Delays.{same_timed}
+use Rattle.sfc_action.specs.Private.DelayLists.{same_timed}
 use Rattle.sfc_action.specs.ActionControl.{Scan, N, R, S, L, P, SD, DS, SL, P1, P0, input, stored, delayed, delayed_then_stored}
 use Rattle.sfc_action.specs.ActionControl.{preset, q, executed, fault_of, fault_by, is_two_timed, first_in, first_fault}
 use Rattle.sfc_action.specs.Agreement.{ControlsAgree}
@@ -45,10 +45,10 @@ block_same tables h other block agrees e = record {
   elapsed = agrees.elapsed ∙ ap (λ p. p.elapsed) e;
 }
 
-pub same_past : (tables : Tabled) (kept : Kept) (h other : List Scan) → ControlsAgree tables kept h
-    → controls_past tables h ≡ controls_past tables other → ControlsAgree tables kept other
+pub same_past : (tables : Tabled) (state : ControlState) (h other : List Scan) → ControlsAgree tables state h
+    → controls_past tables h ≡ controls_past tables other → ControlsAgree tables state other
 unfolding ControlsAgree
-same_past tables kept h other k e =
+same_past tables state h other k e =
     let each = k.each in
     let by = action_by tables h other e in
     record {
@@ -64,7 +64,7 @@ same_past tables kept h other k e =
         q = λ a lt. each.q a lt ∙ ap (λ p. p.q) (by a lt);
         executed = λ a lt. each.executed a lt ∙ ap (λ p. p.executed) (by a lt);
         blocks = λ j d lt.
-            let block = slice_index_or kept.blocks.items j d in
+            let block = slice_index_or state.blocks.items j d in
             block_same tables h other block (each.blocks j d lt)
             (ap (λ p. p.delay block.qualifier) (by block.action.0 (k.size.sized.blocks j d lt)));
       };
@@ -122,9 +122,9 @@ delay_kept tables h a p blocks agree covered = elim (bool_cases (list_any (is_of
   | inr empty ↦ ap delay_in (none_found (is_of a p) blocks empty) ∙ no_delay tables blocks a p covered empty h
 ]
 
-pub keeps_past : (tables : Tabled) (kept : Kept) (h : List Scan) → ControlsAgree tables kept h → past_in tables kept ≡ controls_past tables h
+pub keeps_past : (tables : Tabled) (state : ControlState) (h : List Scan) → ControlsAgree tables state h → past_in tables state ≡ controls_past tables h
 unfolding ControlsAgree past_in
-keeps_past tables kept h k = mapped (action_in kept) (action_past tables h) (length tables.actions) (λ a lt.
+keeps_past tables state h k = mapped (action_in state) (action_past tables h) (length tables.actions) (λ a lt.
     let each = k.each in
     (λ i. record {
       pulse = each.pulse a lt i;
@@ -136,7 +136,7 @@ keeps_past tables kept h k = mapped (action_in kept) (action_past tables h) (len
       delayed_stored = each.delayed_stored a lt i;
       q = each.q a lt i;
       executed = each.executed a lt i;
-      delay = λ p. delay_kept tables h a p kept.blocks.items each.blocks k.size.covered i;
+      delay = λ p. delay_kept tables h a p state.blocks.items each.blocks k.size.covered i;
     }))
 
 -- ---- one scan more
@@ -246,6 +246,6 @@ fault_cut tables scan h other sound same =
     (λ a lt. fault_next tables scan h other a (action_by tables h other same a lt)) (λ k d lt. (sound.associations k d lt).action)
 
 -- it agrees in one way at most
-pub agrees_prop : (tables : Tabled) (kept : Kept) (h : List Scan) → IsProp (ControlsAgree tables kept h)
+pub agrees_prop : (tables : Tabled) (state : ControlState) (h : List Scan) → IsProp (ControlsAgree tables state h)
 unfolding ControlsAgree
-agrees_prop tables kept h = hlevel (props, on_delay_prop)
+agrees_prop tables state h = hlevel (props, on_delay_prop)

@@ -10,14 +10,14 @@ use Rattle.sfc_flags.proofs.Wordwise.{all_done, past, same_flags}
 use Rattle.sfc_action.specs.declared.timed.Timed.{Timed}
 use Rattle.sfc_action.specs.declared.stores.Stores.{Stores}
 use Rattle.sfc_action.specs.declared.inputs.Inputs.{Inputs}
-use Rattle.sfc_action.specs.declared.scratch.Scratch.{Scratch}
-use Rattle.sfc_action.specs.declared.kept.Kept.{Kept}
+use Rattle.sfc_action.specs.declared.control_scan.ControlScan.{ControlScan}
+use Rattle.sfc_action.specs.declared.control_state.ControlState.{ControlState}
 use Rattle.sfc_action.specs.Private.TimedSets.{AreAll, none}
 use Rattle.sfc_action.specs.Private.Storing.{AreStores}
 use Rattle.sfc_action.specs.Private.Marking.{AreSized, cleared}
-use Rattle.sfc_action.specs.Private.Rooms.{IsScratch}
-use Rattle.sfc_action.specs.Private.Keeping.{AreKeptSized}
-use Rattle.sfc_action.specs.Private.Rows.{timed_row, store_row, input_row, kept_row, no_times, no_store, no_inputs, nothing, kept_row_after, kept_after, stores_after}
+use Rattle.sfc_action.specs.Private.ControlScans.{IsControlScan}
+use Rattle.sfc_action.specs.Private.Keeping.{IsStateSized}
+use Rattle.sfc_action.specs.Private.Rows.{timed_row, store_row, input_row, state_row, no_times, no_store, no_inputs, nothing, state_row_after, state_after, stores_after}
 use Rattle.sfc_action.proofs.Sizes.{all_none, are_sized}
 
 -- ---- past the last action
@@ -52,15 +52,15 @@ module _ (n a : ℕ) (le : n ≤ a) where
     more_times = past n a inputs.more_times h.more_times le i;
   }
 
-  pub kept_past : (kept : Kept) → AreKeptSized n kept → kept_row kept a ≡ nothing
-  kept_past kept h = λ i. record {
-    pulse = past n a kept.pulse h.pulse le i;
-    rising_pulse = past n a kept.rising_pulse h.rising_pulse le i;
-    falling_pulse = past n a kept.falling_pulse h.falling_pulse le i;
-    stores = stores_past kept.stores h.stores i;
-    delayed_stored = past n a kept.delayed_stored h.delayed_stored le i;
-    q = past n a kept.q h.q le i;
-    executed = past n a kept.executed h.executed le i;
+  pub kept_past : (state : ControlState) → IsStateSized n state → state_row state a ≡ nothing
+  kept_past state h = λ i. record {
+    pulse = past n a state.pulse h.pulse le i;
+    rising_pulse = past n a state.rising_pulse h.rising_pulse le i;
+    falling_pulse = past n a state.falling_pulse h.falling_pulse le i;
+    stores = stores_past state.stores h.stores i;
+    delayed_stored = past n a state.delayed_stored h.delayed_stored le i;
+    q = past n a state.q h.q le i;
+    executed = past n a state.executed h.executed le i;
   }
 
   pub stores_after_past : (inputs : Inputs) (stores : Stores) → AreSized n inputs → AreStores n stores
@@ -68,11 +68,11 @@ module _ (n a : ℕ) (le : n ≤ a) where
   stores_after_past inputs stores i s = λ j. stores_after (inputs_past inputs i j) (stores_past stores s j)
 
   -- what a scan makes of nothing is nothing
-  pub after_past : (scratch : Scratch) (kept : Kept) → IsScratch n scratch → AreKeptSized n kept
-      → kept_row_after scratch (kept_row kept) a ≡ nothing
-  after_past scratch kept s k = λ j.
-      kept_after (inputs_past scratch.inputs s.inputs j) (stores_past scratch.stores s.stores j)
-      (timed_past scratch.elapsed s.elapsed j) (kept_past kept k j)
+  pub after_past : (control_scan : ControlScan) (state : ControlState) → IsControlScan n control_scan → IsStateSized n state
+      → state_row_after control_scan (state_row state) a ≡ nothing
+  after_past control_scan state s k = λ j.
+      state_after (inputs_past control_scan.inputs s.inputs j) (stores_past control_scan.stores s.stores j)
+      (timed_past control_scan.elapsed s.elapsed j) (kept_past state k j)
 
 -- ---- tables with the same rows are the same
 

@@ -3,25 +3,25 @@ use Rattle.std.proofs.Common.{◌≡◌, ℕ, suc, ◌<◌, ◌==◌, Bool, fals
 use Rattle.std.specs.Prelude.{All, slice_index_or, replicate}
 use Rattle.std.specs.List.{list_any}
 use Rattle.std.proofs.lemmas.List.{length-replicate, length-map}
-use Rattle.sfc_text.specs.declared.tree.TimedQualifier.{TimedQualifier}
+use Rattle.sfc_base.specs.declared.qualifier.TimedQualifier.{TimedQualifier}
 use Rattle.sfc_flags.specs.Flags.{flag}
 use Rattle.sfc_timers.specs.Timers.{has_elapsed}
 use Rattle.sfc_timers.specs.Agreement.{OnDelayAgrees}
-use Rattle.sfc_tables.specs.declared.association.Qualifier.{Qualifier}
-use Rattle.sfc_tables.specs.declared.association.Qualifier.TheVariants as qualifier
+use Rattle.sfc_plant.specs.declared.association.Qualifier.{Qualifier}
+use Rattle.sfc_plant.specs.declared.association.Qualifier.TheVariants as qualifier
 use Rattle.sfc_tables.specs.declared.step_action.StepAction.{StepAction}
 use Rattle.sfc_tables.specs.Tables.{Tabled}
 use Rattle.sfc_action.specs.declared.stores.Stores.{Stores}
 use Rattle.sfc_action.specs.declared.timed.Timed.{Timed}
 use Rattle.sfc_action.specs.declared.blocks.Block.{Block}
-use Rattle.sfc_action.specs.declared.kept.Kept.{Kept}
+use Rattle.sfc_action.specs.declared.control_state.ControlState.{ControlState}
 use Rattle.sfc_action.specs.ActionControl.{Scan}
 use Rattle.sfc_action.specs.Private.TimedSets.{none}
 use Rattle.sfc_action.specs.Private.Storing.{AreStores}
 use Rattle.sfc_action.specs.Private.Delays.{AreOf}
 use Rattle.sfc_action.specs.Private.Copies.{AreCopied}
-use Rattle.sfc_action.specs.Private.Keeping.{AreKeptSized, IsFresh, IsCopy, AreFor, AreKept, BlockAgrees, IsCovered, has_block, is_of, delay_of, readings}
-use Rattle.sfc_action.specs.Delays.{same_timed, with_delays}
+use Rattle.sfc_action.specs.Private.Keeping.{IsStateSized, IsFresh, IsCopy, AreFor, IsStateAfter, BlockAgrees, IsCovered, has_block, is_of, delay_of, readings}
+use Rattle.sfc_action.specs.Private.DelayLists.{same_timed, with_delays}
 use Rattle.sfc_action.specs.Private.Listing.{IsNew, IsList}
 use Rattle.sfc_action.proofs.Sizes.{sized_stores}
 use Rattle.sfc_action.proofs.Timings.{flag-replicate}
@@ -40,23 +40,23 @@ sized_flags n flags e = ap length e ∙ length-replicate n false
 no_flag : (n a : ℕ) (flags : List Bool) → flags ≡ replicate n false → flag flags a ≡ false
 no_flag n a flags e = ap (λ xs. flag xs a) e ∙ flag-replicate n a
 
-pub fresh_sized : (n : ℕ) (blocks : List Block) (kept : Kept) → IsFresh n blocks kept → AreOf n blocks → AreKeptSized n kept
-fresh_sized n blocks kept fresh of = record {
-  pulse = sized_flags n kept.pulse fresh.pulse;
-  rising_pulse = sized_flags n kept.rising_pulse fresh.rising_pulse;
-  falling_pulse = sized_flags n kept.falling_pulse fresh.falling_pulse;
+pub fresh_sized : (n : ℕ) (blocks : List Block) (state : ControlState) → IsFresh n blocks state → AreOf n blocks → IsStateSized n state
+fresh_sized n blocks state fresh of = record {
+  pulse = sized_flags n state.pulse fresh.pulse;
+  rising_pulse = sized_flags n state.rising_pulse fresh.rising_pulse;
+  falling_pulse = sized_flags n state.falling_pulse fresh.falling_pulse;
   stores = subst (AreStores n) (sym fresh.stores) (sized_stores n);
-  delayed_stored = sized_flags n kept.delayed_stored fresh.delayed_stored;
-  q = sized_flags n kept.q fresh.q;
-  executed = sized_flags n kept.executed fresh.executed;
+  delayed_stored = sized_flags n state.delayed_stored fresh.delayed_stored;
+  q = sized_flags n state.q fresh.q;
+  executed = sized_flags n state.executed fresh.executed;
   blocks = subst (AreOf n) (sym fresh.blocks) of;
 }
 
-pub fresh_for : (tables : Tabled) (n : ℕ) (associations : List StepAction) (blocks : List Block) (kept : Kept)
-    → n ≡ length tables.actions → associations ≡ tables.associations → IsFresh n blocks kept → IsList n associations blocks
-    → AreFor tables kept
-fresh_for tables n associations blocks kept en ea fresh listed = record {
-  sized = subst (λ k. AreKeptSized k kept) en (fresh_sized n blocks kept fresh listed.actions);
+pub fresh_for : (tables : Tabled) (n : ℕ) (associations : List StepAction) (blocks : List Block) (state : ControlState)
+    → n ≡ length tables.actions → associations ≡ tables.associations → IsFresh n blocks state → IsList n associations blocks
+    → AreFor tables state
+fresh_for tables n associations blocks state en ea fresh listed = record {
+  sized = subst (λ k. IsStateSized k state) en (fresh_sized n blocks state fresh listed.actions);
   count =
       ap length fresh.blocks ∙ sym (length-map blocks delay_of) ∙ ap length listed.delays
       ∙ ap (λ (xs : List StepAction). length (with_delays [] xs)) ea;
@@ -65,25 +65,25 @@ fresh_for tables n associations blocks kept en ea fresh listed = record {
       (subst (λ (xs : List StepAction). All (IsCovered blocks) xs) ea listed.covered);
 }
 
-pub fresh_kept : (tables : Tabled) (n : ℕ) (blocks : List Block) (kept : Kept) → IsFresh n blocks kept → All IsNew blocks
-    → AreKept tables kept []
-fresh_kept tables n blocks kept fresh all = record {
-  pulse = λ a lt. no_flag n a kept.pulse fresh.pulse;
-  rising_pulse = λ a lt. no_flag n a kept.rising_pulse fresh.rising_pulse;
-  falling_pulse = λ a lt. no_flag n a kept.falling_pulse fresh.falling_pulse;
+pub fresh_state : (tables : Tabled) (n : ℕ) (blocks : List Block) (state : ControlState) → IsFresh n blocks state → All IsNew blocks
+    → IsStateAfter tables state []
+fresh_state tables n blocks state fresh all = record {
+  pulse = λ a lt. no_flag n a state.pulse fresh.pulse;
+  rising_pulse = λ a lt. no_flag n a state.rising_pulse fresh.rising_pulse;
+  falling_pulse = λ a lt. no_flag n a state.falling_pulse fresh.falling_pulse;
   set = λ a lt. ap (λ (s : Stores). flag s.set a) fresh.stores ∙ flag-replicate n a;
   stored_delayed = λ a lt. ap (λ (s : Stores). flag s.stored_delayed a) fresh.stores ∙ flag-replicate n a;
   stored_limited = λ a lt. ap (λ (s : Stores). flag s.stored_limited a) fresh.stores ∙ flag-replicate n a;
-  delayed_stored = λ a lt. no_flag n a kept.delayed_stored fresh.delayed_stored;
-  q = λ a lt. no_flag n a kept.q fresh.q;
-  executed = λ a lt. no_flag n a kept.executed fresh.executed;
+  delayed_stored = λ a lt. no_flag n a state.delayed_stored fresh.delayed_stored;
+  q = λ a lt. no_flag n a state.q fresh.q;
+  executed = λ a lt. no_flag n a state.executed fresh.executed;
   blocks = subst (λ (xs : List Block). All (BlockAgrees tables []) xs) (sym fresh.blocks)
       (λ k d lt. record { delay = (all k d lt).delay; elapsed = (all k d lt).elapsed });
 }
 
 -- ---- copies
 
-copied_sized : (n : ℕ) (from to : Kept) → IsCopy from to → AreKeptSized n from → AreKeptSized n to
+copied_sized : (n : ℕ) (from to : ControlState) → IsCopy from to → IsStateSized n from → IsStateSized n to
 copied_sized n from to copy sized = record {
   pulse = ap length copy.pulse ∙ sized.pulse;
   rising_pulse = ap length copy.rising_pulse ∙ sized.rising_pulse;
@@ -109,12 +109,12 @@ same_any a p (x ∷ xs) (y ∷ ys) e copied =
     let rest = same_any a p xs ys (omega arith) (λ k d lt. copied (suc k) d (omega arith)) in
     (λ k. (((first.action k).0 == a) && same_timed p (first.qualifier k)) || rest k)
 
-same_block : (from to : Kept) → IsCopy from to → (a : ℕ) (p : Qualifier)
+same_block : (from to : ControlState) → IsCopy from to → (a : ℕ) (p : Qualifier)
     → has_block to.blocks.items a p ≡ has_block from.blocks.items a p
 same_block from to copy a (qualifier.Timed p time) = same_any a p from.blocks.items to.blocks.items copy.same_blocks copy.blocks
 same_block from to copy a _ = refl
 
-pub copied_for : (tables : Tabled) (from to : Kept) → IsCopy from to → AreFor tables from → AreFor tables to
+pub copied_for : (tables : Tabled) (from to : ControlState) → IsCopy from to → AreFor tables from → AreFor tables to
 copied_for tables from to copy for = record {
   sized = copied_sized (length tables.actions) from to copy for.sized;
   count = copy.same_blocks ∙ for.count;
@@ -124,8 +124,8 @@ copied_for tables from to copy for = record {
       ∙ for.covered k d lt;
 }
 
-pub copied_kept : (tables : Tabled) (from to : Kept) (h : List Scan) → IsCopy from to → AreKept tables from h → AreKept tables to h
-copied_kept tables from to h copy each = record {
+pub copied_state : (tables : Tabled) (from to : ControlState) (h : List Scan) → IsCopy from to → IsStateAfter tables from h → IsStateAfter tables to h
+copied_state tables from to h copy each = record {
   pulse = λ a lt. ap (λ xs. flag xs a) copy.pulse ∙ each.pulse a lt;
   rising_pulse = λ a lt. ap (λ xs. flag xs a) copy.rising_pulse ∙ each.rising_pulse a lt;
   falling_pulse = λ a lt. ap (λ xs. flag xs a) copy.falling_pulse ∙ each.falling_pulse a lt;

@@ -5,15 +5,15 @@ use Rattle.std.specs.List.{list_any}
 use Rattle.std.proofs.lemmas.Bool.Decides.{nat_tests}
 use Rattle.std.proofs.lemmas.Grind.{common_steps}
 use Rattle.sfc_flags.specs.Flags.{flag, places_from}
-use Rattle.sfc_tables.specs.declared.association.Qualifier.{Qualifier}
-use Rattle.sfc_tables.specs.declared.association.Qualifier.TheVariants.{Timed}
+use Rattle.sfc_plant.specs.declared.association.Qualifier.{Qualifier}
+use Rattle.sfc_plant.specs.declared.association.Qualifier.TheVariants.{Timed}
 use Rattle.sfc_tables.specs.declared.step_action.StepAction.{StepAction}
 use Rattle.sfc_action.specs.declared.inputs.Inputs.{Inputs}
 use Rattle.sfc_action.specs.ActionControl.{Scan, Letter, N, is, is_timed, acts}
 use Rattle.sfc_action.specs.Private.Marking.{AreSized, cleared, marked, marked_at, presets_at, IsWithin}
 use Rattle.sfc_action.proofs.Sizes.{sized_cleared}
 use Rattle.sfc_action.proofs.Walks.{Gathering, total}
-use Rattle.sfc_action.proofs.Told.{one_set, flags_at, letter_marked, gathered_at}
+use Rattle.sfc_action.proofs.ScanInputs.{one_set, flags_at, letter_marked, gathered_at}
 use Rattle.sfc_action.proofs.Works.{within}
 
 pub flag-replicate : (n k : ℕ) → flag (replicate n false) k ≡ false
@@ -228,17 +228,17 @@ module _ (n m : ℕ) (times : List ℤ) (b : ℕ) where
 
   pub more_are : (more any : Bool) (p : ℤ) (ts : List ℤ) → timing more any p ≡ listed ts → more ≡ nat_lt 1 (length ts)
   unfolding is_often
-  more_are more any p ts e = sym (kept more any p) ∙ ap is_often e ∙ told ts
+  more_are more any p ts e = sym (often_kept more any p) ∙ ap is_often e ∙ often_is ts
     where
-      kept : (more any : Bool) (p : ℤ) → is_often (timing more any p) ≡ more
-      kept true any p = refl
-      kept false true p = refl
-      kept false false p = refl
+      often_kept : (more any : Bool) (p : ℤ) → is_often (timing more any p) ≡ more
+      often_kept true any p = refl
+      often_kept false true p = refl
+      often_kept false false p = refl
 
-      told : (ts : List ℤ) → is_often (listed ts) ≡ nat_lt 1 (length ts)
-      told [] = grind (arith, nat_tests)
-      told (t ∷ []) = grind (arith, nat_tests)
-      told (t ∷ (u ∷ ts)) = grind (arith, nat_tests)
+      often_is : (ts : List ℤ) → is_often (listed ts) ≡ nat_lt 1 (length ts)
+      often_is [] = grind (arith, nat_tests)
+      often_is (t ∷ []) = grind (arith, nat_tests)
+      often_is (t ∷ (u ∷ ts)) = grind (arith, nat_tests)
 
   pub preset_is : (more any : Bool) (p : ℤ) (ts : List ℤ) → timing more any p ≡ listed ts → more ≡ false
       → cond any p (pos 0) ≡ slice_index_or ts 0 (pos 0)

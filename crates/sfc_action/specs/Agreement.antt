@@ -1,39 +1,33 @@
 -- Which scans a `Controls` agrees with.
-use Rattle.std.specs.Prelude.{ℕ, ◌≡◌, ◌≤◌, List, length, ℤ}
+use Rattle.std.specs.Prelude.{ℕ, ◌≡◌, List, length, ℤ}
 use Rattle.sfc_tables.specs.Tables.{Tabled}
 use Rattle.sfc_evolve.specs.Evolution as evolution
-use Rattle.sfc_action.specs.declared.kept.Kept.{Kept}
+use Rattle.sfc_action.specs.declared.control_state.ControlState.{ControlState}
 use Rattle.sfc_action.specs.ActionControl.{Scan}
-use Rattle.sfc_action.specs.Delays.{delay_count}
-use Rattle.sfc_action.specs.Private.Keeping.{AreFor, AreKept}
+use Rattle.sfc_action.specs.Private.Keeping.{AreFor, IsStateAfter}
 
--- how many actions and on-delays it has room for
-abbrev pub action_places : Kept → ℕ
-action_places kept = length kept.q
+-- how many actions it is for
+abbrev pub action_total : ControlState → ℕ
+action_total state = length state.q
 
-abbrev pub delay_places : Kept → ℕ
-delay_places kept = length kept.blocks.items
+-- it has the on-delays of the actions of these tables
+unfoldable pub HasDelays : Tabled → ControlState → Type 0
+HasDelays tables state = AreFor tables state
 
--- it has the actions and on-delays of these tables
-unfoldable pub HasDelays : Tabled → Kept → Type 0
-HasDelays tables kept = AreFor tables kept
-
-pub record IsFor (tables : Tabled) (kept : Kept) : Type 0 where
-  pub same_actions : action_places kept ≡ length tables.actions
-  pub same_delays : delay_places kept ≡ delay_count tables
-  pub few_delays : delay_places kept ≤ length tables.associations
-  pub delays : HasDelays tables kept
+pub record IsFor (tables : Tabled) (state : ControlState) : Type 0 where
+  pub same_actions : action_total state ≡ length tables.actions
+  pub delays : HasDelays tables state
 
 -- it is for these tables, and what it keeps is what these scans give
-pub record Keeps (tables : Tabled) (kept : Kept) (h : List Scan) : Type 0 where
-  pub size : AreFor tables kept
-  pub each : AreKept tables kept h
+pub record Keeps (tables : Tabled) (state : ControlState) (h : List Scan) : Type 0 where
+  pub size : AreFor tables state
+  pub each : IsStateAfter tables state h
 
 -- after these scans, the newest first, all answers are those of the definitions
-unfoldable pub ControlsAgree : Tabled → Kept → List Scan → Type 0
-ControlsAgree tables kept h = Keeps tables kept h
+unfoldable pub ControlsAgree : Tabled → ControlState → List Scan → Type 0
+ControlsAgree tables state h = Keeps tables state h
 
--- what action control is told after these scans of the steps
-abbrev pub told : Tabled → List evolution.Scan → List ℤ → ℤ → Scan
-told tables scans times t =
+-- the input of action control for a scan, after these scans of the steps
+abbrev pub scan_input : Tabled → List evolution.Scan → List ℤ → ℤ → Scan
+scan_input tables scans times t =
     record { active = evolution.active_steps tables (evolution.rows_of tables scans); times = times; at = t }

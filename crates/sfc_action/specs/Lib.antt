@@ -4,8 +4,6 @@
 pub mod ActionControl
 -- the same by the numbers of scans
 pub mod ScanNumbers
--- which on-delays there are
-pub mod Delays
 -- how much a scan handles
 pub mod Work
 -- what a `Controls` agrees with

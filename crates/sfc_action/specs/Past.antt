@@ -1,13 +1,13 @@
 -- What later answers need of the scans of a life.
 use Rattle.std.specs.Prelude.{ℕ, Bool, false, List, map, length, find, ℤ, Option, Some, None}
 use Rattle.std.specs.List.{range_with_len}
-use Rattle.sfc_text.specs.declared.tree.TimedQualifier.{TimedQualifier}
+use Rattle.sfc_base.specs.declared.qualifier.TimedQualifier.{TimedQualifier}
 use Rattle.sfc_flags.specs.Flags.{flag}
 use Rattle.sfc_timers.specs.Timers.{has_elapsed}
 use Rattle.sfc_timers.specs.Past.{on_delay_past, on_delay_in}
 use Rattle.sfc_tables.specs.Tables.{Tabled}
 use Rattle.sfc_action.specs.declared.blocks.Block.{Block}
-use Rattle.sfc_action.specs.declared.kept.Kept.{Kept}
+use Rattle.sfc_action.specs.declared.control_state.ControlState.{ControlState}
 use Rattle.sfc_action.specs.ActionControl.{Scan, S, DS, P, SD, SL, P1, P0, input, stored, delayed_then_stored, q, executed}
 use Rattle.sfc_action.specs.Private.Keeping.{is_of, readings}
 
@@ -60,19 +60,19 @@ abbrev pub delay_in : Option Block → DelayPast
 delay_in None = record { begun = None; elapsed = false }
 delay_in (Some block) = record { begun = on_delay_in block.delay; elapsed = block.elapsed }
 
-abbrev pub action_in : Kept → ℕ → ActionPast
-action_in kept a = record {
-  pulse = flag kept.pulse a;
-  rising_pulse = flag kept.rising_pulse a;
-  falling_pulse = flag kept.falling_pulse a;
-  set = flag kept.stores.set a;
-  stored_delayed = flag kept.stores.stored_delayed a;
-  stored_limited = flag kept.stores.stored_limited a;
-  delayed_stored = flag kept.delayed_stored a;
-  q = flag kept.q a;
-  executed = flag kept.executed a;
-  delay = λ qualifier. delay_in (find (is_of a qualifier) kept.blocks.items);
+abbrev pub action_in : ControlState → ℕ → ActionPast
+action_in state a = record {
+  pulse = flag state.pulse a;
+  rising_pulse = flag state.rising_pulse a;
+  falling_pulse = flag state.falling_pulse a;
+  set = flag state.stores.set a;
+  stored_delayed = flag state.stores.stored_delayed a;
+  stored_limited = flag state.stores.stored_limited a;
+  delayed_stored = flag state.delayed_stored a;
+  q = flag state.q a;
+  executed = flag state.executed a;
+  delay = λ qualifier. delay_in (find (is_of a qualifier) state.blocks.items);
 }
 
-unfoldable pub past_in : Tabled → Kept → List ActionPast
-past_in tables kept = map (action_in kept) (range_with_len 0 (length tables.actions))
+unfoldable pub past_in : Tabled → ControlState → List ActionPast
+past_in tables state = map (action_in state) (range_with_len 0 (length tables.actions))

@@ -3,8 +3,9 @@ pub mod TimedSets
 pub mod Marking
 pub mod Storing
 pub mod Delays
+pub mod DelayLists
 pub mod Failing
-pub mod Rooms
+pub mod ControlScans
 pub mod Outputs
 pub mod Copies
 pub mod Rows

@@ -5,3 +5,7 @@ use Rattle.sfc_tables.specs.Tables.{Tabled}
 -- of action control in a scan
 abbrev pub control_work : Tabled → ℕ
 control_work tables = length tables.initial + 4 * length tables.associations + 5 * length tables.actions
+
+-- of a copy
+abbrev pub copy_work : Tabled → ℕ
+copy_work tables = length tables.actions + length tables.associations

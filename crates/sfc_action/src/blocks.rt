@@ -1,7 +1,7 @@
 //! On-delays of actions.
 
 ghost use Rattle.std.specs.Prelude.{◌≡◌, ◌<◌, ◌*◌, ◌^◌, ◌≤ℤ◌, pos, All, length};
-ghost use Rattle.sfc_expr.specs.Ticks.{Within};
+ghost use Rattle.sfc_base.specs.Ticks.{Within};
 ghost use Rattle.sfc_flags.specs.Flags.{flag};
 ghost use Rattle.sfc_action.specs.Private.TimedSets.{AreAll};
 ghost use Rattle.sfc_action.specs.Private.Marking.{AreSized};
@@ -12,9 +12,9 @@ ghost use Rattle.sfc_action.specs.Private.Copies.{IsCopied, AreCopied};
 use crate::inputs::Inputs;
 use crate::stores::Stores;
 use crate::timed::Timed;
-use sfc_expr::ticks::Ticks;
-use sfc_tables::ids::ActionNumber;
-use sfc_text::tree::TimedQualifier;
+use sfc_base::ids::ActionNumber;
+use sfc_base::qualifier::TimedQualifier;
+use sfc_base::ticks::Ticks;
 use sfc_timers::OnDelay;
 
 /// The on-delay of an action by one of its qualifiers with a time, and whether it has elapsed at the newest scan.

@@ -1,7 +1,7 @@
 //! The first fault of a scan.
 
 ghost use Rattle.std.specs.Prelude.{◌≡◌, ◌<◌, ◌+◌, ℕ, All, None, true, length};
-ghost use Rattle.sfc_expr.specs.Ticks.{Within};
+ghost use Rattle.sfc_base.specs.Ticks.{Within};
 ghost use Rattle.sfc_flags.specs.Words.{word_count, word_of};
 ghost use Rattle.sfc_action.specs.ActionControl.{first_in};
 ghost use Rattle.sfc_action.specs.Private.Marking.{AreSized};
@@ -11,7 +11,7 @@ ghost use Rattle.sfc_action.specs.Private.Failing.{fault_at};
 use crate::fault::ControlFault;
 use crate::inputs::Inputs;
 use crate::stores::Stores;
-use sfc_expr::ticks::Ticks;
+use sfc_base::ticks::Ticks;
 use sfc_tables::step_action::StepAction;
 
 // The fault of this action.

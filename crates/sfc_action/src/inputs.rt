@@ -1,14 +1,14 @@
 //! The inputs of all blocks in one scan.
 
 use crate::input_words::InputWords;
-use crate::sets::{three_sets, two_sets};
 use crate::timed::Timed;
 use crate::timed_words::TimedWords;
-use sfc_expr::ticks::Ticks;
+use sfc_base::qualifier::TimedQualifier;
+use sfc_base::ticks::Ticks;
+use sfc_evolve::new_sets::{three_sets, two_sets};
 use sfc_flags::flags::Flags;
 use sfc_flags::word::Word;
-use sfc_tables::association::Qualifier;
-use sfc_text::tree::TimedQualifier;
+use sfc_plant::association::Qualifier;
 use std::alloc::{AllocError, Global};
 
 /// The actions with each input, those with an association that acts and has a time, and those with more than one such.
@@ -43,7 +43,7 @@ impl Drop for Inputs {
 
 impl Inputs {
     ghost use Rattle.std.specs.Prelude.{◌≡◌, ◌<◌, ℕ, length, IfOk};
-    ghost use Rattle.sfc_expr.specs.Ticks.{Within};
+    ghost use Rattle.sfc_base.specs.Ticks.{Within};
     ghost use Rattle.sfc_flags.specs.Words.{word_count, word_of, ArePut};
     ghost use Rattle.sfc_action.specs.Private.Marking.{AreSized, cleared, marked, marked_timed};
     ghost use Rattle.sfc_action.specs.Private.Rows.{inputs_in, input_row, no_inputs};

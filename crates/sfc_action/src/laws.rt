@@ -1,14 +1,15 @@
 //! What holds of the definitions themselves. Each law is a function whose contract is the law; a body, where there is
 //! one, cites another law.
 
-ghost use Rattle.std.specs.Prelude.{◌≡◌, ◌<◌, ◌↔◌, ◌||◌, ◌∷◌, ◌++◌, ℕ, Bool, List, length, true, false};
+ghost use Rattle.std.specs.Prelude.{◌≡◌, ◌<◌, ◌↔◌, not, ◌&&◌, ◌||◌, ◌∷◌, ◌++◌, ℕ, Bool, List, length, true, false};
 ghost use Rattle.sfc_tables.specs.Tables.{Tabled, AreTables};
-ghost use Rattle.sfc_action.specs.declared.kept.Kept.{Kept};
+ghost use Rattle.sfc_action.specs.declared.control_state.ControlState.{ControlState};
 ghost use Rattle.sfc_action.specs.Agreement.{ControlsAgree};
 ghost use Rattle.sfc_action.specs.Past.{controls_past, past_in};
 ghost use Rattle.sfc_action.specs.ActionControl.{first_fault};
-ghost use Rattle.sfc_action.specs.ActionControl.{Scan, Letter, R, P1, P0, input, stored, delayed, q, executed, rises, falls};
-ghost use Rattle.sfc_action.specs.ScanNumbers.{IsStoredSince, HasActedSince};
+ghost use Rattle.sfc_action.specs.ActionControl.{Scan, Letter, R, P1, P0, SD, DS, SL, input, q, executed, rises, falls};
+ghost use Rattle.sfc_action.specs.ActionControl.{stored, delayed, stored_then_delayed, delayed_then_stored};
+ghost use Rattle.sfc_action.specs.ScanNumbers.{IsStoredSince, HasActedSince, HasBeenStoredSince, IsStoredOnceDelayed};
 
 use sfc_timers::laws as timers;
 
@@ -30,6 +31,23 @@ pub fn delayed_by_time()
     timers::delayed();
 }
 
+/// SD, DS and SL by the numbers of scans (2.6.4.5). What SD gives Q is 1 exactly when the action has been stored by SD
+/// since some scan m, and not at the one before, and the time since is at least T, as it was at scan m. What DS gives
+/// is 1 exactly when at some scan the on-delay of the input DS had elapsed, and no scan from that one on had R. What SL
+/// gives is 1 exactly when the action is stored by SL since some scan, and has not been for T.
+pub fn stored_and_delayed()
+    ensures stored_delayed { (tables : Tabled) (a : ℕ) (h : List Scan) →
+        (stored_then_delayed tables a SD h ≡ true) ↔ ((m : ℕ) × HasBeenStoredSince tables a SD h m) }
+    ensures delayed_stored { (tables : Tabled) (a : ℕ) (h : List Scan) →
+        (delayed_then_stored tables a DS h ≡ true) ↔ ((j : ℕ) × IsStoredOnceDelayed tables a h j) }
+    ensures stored_limited { (tables : Tabled) (a : ℕ) (h : List Scan) →
+        ((stored tables a SL h && not (stored_then_delayed tables a SL h)) ≡ true) ↔
+        (((j : ℕ) × IsStoredSince tables a SL h j) × ((m : ℕ) → HasBeenStoredSince tables a SL h m → ⊥)) }
+{
+    timers::held();
+    timers::delayed();
+}
+
 /// Without an edge of P1 or P0, a scan executes an action exactly when it has Q or had it in the scan before: it is
 /// executed once more after its Q has fallen, and then no more (2.6.4.5).
 pub fn final_scan()
@@ -47,10 +65,10 @@ pub fn overriding_reset()
 
 /// What is kept is the past of the scans: all that later answers need, and for all lists of scans of this past the same.
 pub fn kept_past()
-    ensures kept { (tables : Tabled) (kept : Kept) (h : List Scan) → ControlsAgree tables kept h →
-        past_in tables kept ≡ controls_past tables h }
-    ensures same { (tables : Tabled) (kept : Kept) (h other : List Scan) → ControlsAgree tables kept h →
-        controls_past tables h ≡ controls_past tables other → ControlsAgree tables kept other }
+    ensures kept { (tables : Tabled) (state : ControlState) (h : List Scan) → ControlsAgree tables state h →
+        past_in tables state ≡ controls_past tables h }
+    ensures same { (tables : Tabled) (state : ControlState) (h other : List Scan) → ControlsAgree tables state h →
+        controls_past tables h ≡ controls_past tables other → ControlsAgree tables state other }
 {}
 
 /// The scans of a life may be cut at any place: after others of the same past the same scans give the same past, and

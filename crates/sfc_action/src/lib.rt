@@ -7,14 +7,13 @@
 //! - `faults`: the first fault of a scan.
 //! - `input_words`: of 64 actions the inputs.
 //! - `inputs`: the inputs of all blocks in one scan.
-//! - `kept`: what is kept from scan to scan.
-//! - `kept_words`: the same of 64 actions.
+//! - `control_state`: its state from scan to scan.
+//! - `state_words`: the same of 64 actions.
 //! - `laws`: what holds of the definitions themselves.
 //! - `listing`: which on-delays there are.
 //! - `marking`: what the active steps give as inputs.
 //! - `scan_words`: of 64 actions the inputs of a scan, its flip-flops and its on-delays.
-//! - `scratch`: room for a scan.
-//! - `sets`: several sets of actions at once.
+//! - `control_scan`: one scan of action control.
 //! - `store_words`: of 64 actions the flip-flops.
 //! - `stores`: flip-flops of actions.
 //! - `timed`: sets of actions by the qualifiers with a time.
@@ -22,20 +21,19 @@
 #![tactic(auto)]
 
 mod blocks;
+mod control_scan;
+mod control_state;
 pub mod controls;
 mod delays;
 pub mod fault;
 mod faults;
 mod input_words;
 mod inputs;
-mod kept;
-mod kept_words;
 pub mod laws;
 mod listing;
 mod marking;
 mod scan_words;
-mod scratch;
-mod sets;
+mod state_words;
 mod store_words;
 mod stores;
 mod timed;

@@ -1,13 +1,13 @@
 //! Which on-delays there are.
 
 ghost use Rattle.std.specs.Prelude.{◌≡◌, ◌<◌, [], All, length, map, IfOk, OnOk};
-ghost use Rattle.sfc_action.specs.Delays.{with_delay};
+ghost use Rattle.sfc_action.specs.Private.DelayLists.{with_delay};
 ghost use Rattle.sfc_action.specs.Private.Listing.{IsListing, IsLonger, IsList};
 ghost use Rattle.sfc_action.specs.Private.Keeping.{IsCovered, delay_of};
 
 use crate::blocks::Block;
 use crate::timed::Timed;
-use sfc_tables::association::Qualifier;
+use sfc_plant::association::Qualifier;
 use sfc_tables::step_action::StepAction;
 use sfc_timers::OnDelay;
 use std::alloc::{AllocError, Global};

@@ -1,17 +1,17 @@
 //! What the active steps give as inputs.
 
 ghost use Rattle.std.specs.Prelude.{◌≡◌, ◌<◌, ◌+◌, All, length};
-ghost use Rattle.sfc_expr.specs.Ticks.{Within};
+ghost use Rattle.sfc_base.specs.Ticks.{Within};
 ghost use Rattle.sfc_flags.specs.Flags.{places_from};
 ghost use Rattle.sfc_tables.specs.Tables.{AreTables};
 ghost use Rattle.sfc_action.specs.Private.Marking.{AreSized, IsWithin, marked, all_marked, marked_at};
 ghost use Rattle.sfc_action.specs.Private.Marking.{with_preset, all_presets, presets_at};
 
 use crate::inputs::Inputs;
-use sfc_expr::ticks::Ticks;
-use sfc_expr::variable::StepId;
+use sfc_base::references::StepId;
+use sfc_base::ticks::Ticks;
 use sfc_flags::flags::Flags;
-use sfc_tables::association::Qualifier;
+use sfc_plant::association::Qualifier;
 use sfc_tables::step_action::StepAction;
 use sfc_tables::tables::Tables;
 

@@ -1,9 +1,9 @@
 //! Flip-flops of actions.
 
 use crate::inputs::Inputs;
-use crate::sets::three_sets;
 use crate::store_words::StoreWords;
-use sfc_expr::ticks::Ticks;
+use sfc_base::ticks::Ticks;
+use sfc_evolve::new_sets::three_sets;
 use sfc_flags::flags::Flags;
 use std::alloc::{AllocError, Global};
 
@@ -27,7 +27,7 @@ impl Drop for Stores {
 
 impl Stores {
     ghost use Rattle.std.specs.Prelude.{◌≡◌, ◌<◌, ◌≤◌, ℕ, length, IfOk};
-    ghost use Rattle.sfc_expr.specs.Ticks.{Within};
+    ghost use Rattle.sfc_base.specs.Ticks.{Within};
     ghost use Rattle.sfc_flags.specs.Words.{word_count, word_of, ArePut};
     ghost use Rattle.sfc_action.specs.Private.Marking.{AreSized};
     ghost use Rattle.sfc_action.specs.Private.Storing.{AreStores, no_stores, AreNext};

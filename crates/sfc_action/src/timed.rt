@@ -1,10 +1,10 @@
 //! Sets of actions by the qualifiers with a time.
 
-use crate::sets::{three_sets, two_sets};
 use crate::timed_words::TimedWords;
-use sfc_expr::ticks::Ticks;
+use sfc_base::qualifier::TimedQualifier;
+use sfc_base::ticks::Ticks;
+use sfc_evolve::new_sets::{three_sets, two_sets};
 use sfc_flags::flags::Flags;
-use sfc_text::tree::TimedQualifier;
 use std::alloc::{AllocError, Global};
 
 /// A set of actions for each qualifier with a time.
@@ -31,7 +31,7 @@ impl Drop for Timed {
 
 impl Timed {
     ghost use Rattle.std.specs.Prelude.{◌≡◌, ◌<◌, ◌≤◌, ℕ, length, IfOk};
-    ghost use Rattle.sfc_expr.specs.Ticks.{Within};
+    ghost use Rattle.sfc_base.specs.Ticks.{Within};
     ghost use Rattle.sfc_flags.specs.Flags.{flag};
     ghost use Rattle.sfc_flags.specs.Words.{word_count, word_of, ArePut};
     ghost use Rattle.sfc_action.specs.Private.TimedSets.{AreAll, none, with_action, by};

@@ -1,6 +1,6 @@
 -- What an accepted event leaves.
 use Rattle.std.proofs.Common.{◌≡◌, ◌∙◌, ℕ, List, ◌∷◌, Bool, Option, Some, None, ℤ, refl, ap, subst}
-use Rattle.sfc_chart.specs.Plants.{PlantData}
+use Rattle.sfc_plant.specs.Plants.{PlantData}
 use Rattle.sfc_image.specs.declared.image_error.ImageError.{ImageError}
 use Rattle.sfc_image.specs.declared.image_error.ImageError.TheVariants as image
 use Rattle.sfc_image.specs.Answers.{value_fault, release_fault}
@@ -13,21 +13,21 @@ use Rattle.sfc_events.specs.declared.event.Event.TheVariants.{Scan, ForcedScan, 
 use Rattle.sfc_events.specs.declared.event.Outcome.TheVariants.{Scanned}
 use Rattle.sfc_events.specs.declared.refusal.Refusal.{Refusal}
 use Rattle.sfc_events.specs.History.{History}
-use Rattle.sfc_chart.specs.declared.ids.TaskId.{TaskId}
-use Rattle.sfc_instance.specs.declared.ended.Ended.TheVariants.{Ran, Faulted}
-use Rattle.sfc_machine.specs.declared.bits.Bits.{Bits}
-use Rattle.sfc_machine.specs.declared.machine.Machine.{Machine}
-use Rattle.sfc_machine.specs.Agreement.{MachineAgrees}
-use Rattle.sfc_machine.specs.Ends.{AreBits}
-use Rattle.sfc_machine.specs.Singles.{singles_in}
-use Rattle.sfc_machine.specs.Table.{Table}
+use Rattle.sfc_base.specs.declared.ids.TaskId.{TaskId}
+use Rattle.sfc_instance.specs.declared.scan_end.ScanEnd.TheVariants.{Ran, Faulted}
+use Rattle.sfc_instances.specs.declared.bits.Bits.{Bits}
+use Rattle.sfc_instances.specs.declared.instances.Instances.{Instances}
+use Rattle.sfc_instances.specs.Agreement.{InstancesAgree}
+use Rattle.sfc_instances.specs.Ends.{AreBits}
+use Rattle.sfc_instances.specs.Singles.{singles_in}
+use Rattle.sfc_instances.specs.PlantState.{PlantState}
 use Rattle.sfc_core.specs.declared.due.Due.{Due}
 use Rattle.sfc_core.specs.declared.singles.Singles.{Singles}
-use Rattle.sfc_core.specs.Table.{after_event, table_of}
+use Rattle.sfc_core.specs.PlantState.{after_event, state_of}
 use Rattle.sfc_core.specs.Due.{singles_of, calls_of, calls_at, with_rises, with_service}
 use Rattle.sfc_core.specs.Answers.{overruns_of}
 use Rattle.sfc_core.specs.Keeping.{Keeps}
-use Rattle.sfc_core.specs.Verdict.{or_then, of_image, input_refusal, event_refusal, ended_bits, scan_answer, answer}
+use Rattle.sfc_core.specs.Verdict.{or_then, of_image, input_refusal, event_refusal, end_bits, scan_answer, answer}
 use Rattle.sfc_core.specs.Private.Naming.{IsTaken}
 use Rattle.sfc_core.specs.Private.Ready.{flags_of, IsReady}
 use Rattle.sfc_core.specs.Private.Ending.{AreEventBits, scanned, outcome_by}
@@ -56,31 +56,31 @@ taken plant changes (Reset p) e = tt
 
 -- ---- what is kept of it
 
-module _ (plant : PlantData) (event : Event) (t : ℤ) (old new : Machine) (due served risen : Due) (after : Singles) (tasks : TaskTable)
-    (changed : (table : Table) → MachineAgrees plant old table → IsTaken plant table.changes event
-    → MachineAgrees plant new (after_event plant event t table))
-    (read : (table : Table) → MachineAgrees plant new table → flags_of after ≡ singles_in plant table.changes)
+module _ (plant : PlantData) (event : Event) (t : ℤ) (old new : Instances) (due served risen : Due) (after : Singles) (tasks : TaskTable)
+    (changed : (state : PlantState) → InstancesAgree plant old state → IsTaken plant state.changes event
+    → InstancesAgree plant new (after_event plant event t state))
+    (read : (state : PlantState) → InstancesAgree plant new state → flags_of after ≡ singles_in plant state.changes)
     (same : served.singles ≡ due.singles)
     (serves : (calls : List Call) → TasksAgree plant.tasks due.tasks calls → TasksAgree plant.tasks served.tasks (with_service event calls))
     (rises : (calls : List Call) → TasksAgree plant.tasks served.tasks calls
     → TasksAgree plant.tasks risen.tasks (with_rises t 0 (flags_of served.singles) (flags_of after) calls))
     (copied : (calls : List Call) → TasksAgree plant.tasks risen.tasks calls → TasksAgree plant.tasks tasks calls) (h : History)
-    (agrees : MachineAgrees plant old (table_of plant h)) (ready : IsReady plant h event t due) where
-  machine_after : MachineAgrees plant new (table_of plant ((event, t) ∷ h))
-  unfolding table_of
-  machine_after = changed (table_of plant h) agrees (taken plant (table_of plant h).changes event ready.named)
+    (agrees : InstancesAgree plant old (state_of plant h)) (ready : IsReady plant h event t due) where
+  instances_after : InstancesAgree plant new (state_of plant ((event, t) ∷ h))
+  unfolding state_of
+  instances_after = changed (state_of plant h) agrees (taken plant (state_of plant h).changes event ready.named)
 
   read_after : flags_of after ≡ singles_of plant ((event, t) ∷ h)
   unfolding singles_of
-  read_after = read (table_of plant ((event, t) ∷ h)) machine_after
+  read_after = read (state_of plant ((event, t) ∷ h)) instances_after
 
   read_before : flags_of served.singles ≡ singles_of plant h
-  read_before = ap flags_of same ∙ ready.told.singles
+  read_before = ap flags_of same ∙ ready.is_due.singles
 
-  told_so : with_rises t 0 (flags_of served.singles) (flags_of after) (with_service event (calls_at plant h t))
+  calls_are : with_rises t 0 (flags_of served.singles) (flags_of after) (with_service event (calls_at plant h t))
       ≡ calls_of plant ((event, t) ∷ h)
   unfolding calls_of
-  told_so =
+  calls_are =
       ap (λ (xs : List Bool). with_rises t 0 xs (flags_of after) (with_service event (calls_at plant h t))) read_before
       ∙ ap (λ (ys : List Bool). with_rises t 0 (singles_of plant h) ys (with_service event (calls_at plant h t))) read_after
 
@@ -88,25 +88,25 @@ module _ (plant : PlantData) (event : Event) (t : ℤ) (old new : Machine) (due 
   pub kept_after : Keeps plant new tasks t ((event, t) ∷ h)
   kept_after = record {
     instant = refl;
-    machines = machine_after;
+    instances_agree = instances_after;
     tasked =
-        subst (λ (calls : List Call). TasksAgree plant.tasks tasks calls) told_so
-        (copied _ (rises _ (serves (calls_at plant h t) ready.told.tasks)));
+        subst (λ (calls : List Call). TasksAgree plant.tasks tasks calls) calls_are
+        (copied _ (rises _ (serves (calls_at plant h t) ready.is_due.tasks)));
   }
 
 -- ---- what it answers
 
 scan_answered : (plant : PlantData) (h : History) (event : Event) (task : TaskId) (t : ℤ) (bits : Bits)
-    → AreBits plant task t (table_of plant h) bits
+    → AreBits plant task t (state_of plant h) bits
     → scanned plant.tasks (calls_of plant ((event, t) ∷ h)) bits task ≡ scan_answer plant h event task t
 unfolding scan_answer
 scan_answered plant h event task t bits are =
     let count : ℕ = overruns_of plant ((event, t) ∷ h) task in
     ap (λ (n : ℕ). Scanned n bits.faulted bits.skipped count) are.ran
-    ∙ ap (λ (n : ℕ). Scanned (ended_bits Ran plant h task t) n bits.skipped count) are.faulted
-    ∙ ap (λ (n : ℕ). Scanned (ended_bits Ran plant h task t) (ended_bits Faulted plant h task t) n count) are.skipped
+    ∙ ap (λ (n : ℕ). Scanned (end_bits Ran plant h task t) n bits.skipped count) are.faulted
+    ∙ ap (λ (n : ℕ). Scanned (end_bits Ran plant h task t) (end_bits Faulted plant h task t) n count) are.skipped
 
-pub answered : (plant : PlantData) (h : History) (event : Event) (t : ℤ) (bits : Bits) → AreEventBits plant event t (table_of plant h) bits
+pub answered : (plant : PlantData) (h : History) (event : Event) (t : ℤ) (bits : Bits) → AreEventBits plant event t (state_of plant h) bits
     → outcome_by plant.tasks (calls_of plant ((event, t) ∷ h)) bits event ≡ answer plant h event t
 answered plant h (Scan task) t bits are = scan_answered plant h (Scan task) task t bits are
 answered plant h (ForcedScan task) t bits are = scan_answered plant h (ForcedScan task) task t bits are

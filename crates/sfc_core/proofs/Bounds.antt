@@ -1,12 +1,12 @@
 -- How much a scan of a task handles at most.
 use Rattle.std.proofs.Common.{ℕ, suc, ◌≤◌, ◌==◌, Bool, true, false, cond, List, [], ◌∷◌, arith}
-use Rattle.sfc_chart.specs.declared.ids.TaskId.{TaskId}
-use Rattle.sfc_chart.specs.declared.instance.Instance.{Instance}
-use Rattle.sfc_chart.specs.Plants.{PlantData}
+use Rattle.sfc_base.specs.declared.ids.TaskId.{TaskId}
+use Rattle.sfc_plant.specs.declared.instance.Instance.{Instance}
+use Rattle.sfc_plant.specs.Plants.{PlantData}
 use Rattle.sfc_image.specs.Values.{variable_count}
-use Rattle.sfc_chart.specs.Finding.{chart_of}
+use Rattle.sfc_plant.specs.Finding.{chart_of}
 use Rattle.sfc_instance.proofs.Bounds.{scan_within}
-use Rattle.sfc_machine.specs.Work.{task_work}
+use Rattle.sfc_instances.specs.Work.{task_work}
 use Rattle.sfc_core.specs.Work.{task_limit}
 
 where_own : (b : Bool) (m n : ℕ) → m ≤ n → cond b m 0 ≤ cond b n 0

@@ -5,18 +5,18 @@ use Rattle.std.specs.List.{cons_option}
 use Rattle.std.specs.Option.{option_map}
 use Rattle.std.proofs.lemmas.List.{append_assoc}
 use Rattle.sfc_expr.specs.declared.fault.Fault.{Fault}
-use Rattle.sfc_expr.specs.declared.value.Value.{Value}
-use Rattle.sfc_expr.specs.declared.variable.Variable.{Variable}
+use Rattle.sfc_base.specs.declared.value.Value.{Value}
+use Rattle.sfc_base.specs.declared.references.Variable.{Variable}
 use Rattle.sfc_expr.specs.Environment.{Environment}
-use Rattle.sfc_expr.specs.Effect.{Outcome, effect}
+use Rattle.sfc_expr.specs.Effect.{BodyEffect, effect}
 use Rattle.sfc_tables.specs.Tables.{Tabled, tables_of}
-use Rattle.sfc_tables.specs.declared.association.Target.{Target}
-use Rattle.sfc_tables.specs.declared.association.Target.TheVariants.{Boolean, Declared}
+use Rattle.sfc_plant.specs.declared.association.Target.{Target}
+use Rattle.sfc_plant.specs.declared.association.Target.TheVariants.{Boolean, Declared}
 use Rattle.sfc_action.specs.ActionControl as control
-use Rattle.sfc_chart.specs.declared.ids.ProgId.{ProgId}
-use Rattle.sfc_chart.specs.declared.ids.TaskId.{TaskId}
-use Rattle.sfc_chart.specs.declared.instance.Instance.{Instance}
-use Rattle.sfc_chart.specs.Plants.{PlantData}
+use Rattle.sfc_base.specs.declared.ids.ProgId.{ProgId}
+use Rattle.sfc_base.specs.declared.ids.TaskId.{TaskId}
+use Rattle.sfc_plant.specs.declared.instance.Instance.{Instance}
+use Rattle.sfc_plant.specs.Plants.{PlantData}
 use Rattle.sfc_image.specs.Changes.{Change, Stored, Forced, Released, Reset}
 use Rattle.sfc_image.specs.Values.{forced_value}
 use Rattle.sfc_image.specs.Environments.{number_of}
@@ -24,15 +24,15 @@ use Rattle.sfc_image.specs.Bodies.{stored_to, left_in, left_by, changes_in, assi
 use Rattle.sfc_image.proofs.Written.{forced_there, released_there}
 use Rattle.sfc_instance.specs.declared.scan_fault.ScanFault.{ScanFault}
 use Rattle.sfc_instance.specs.Life.{Life, Row, control_scans}
-use Rattle.sfc_chart.specs.Finding.{chart_of}
+use Rattle.sfc_plant.specs.Finding.{chart_of}
 use Rattle.sfc_instance.specs.ProgramScan.{and_then, body_in, after_body, acted, after_actions, condition_fault, environment}
 use Rattle.sfc_instance.specs.ProgramScan.{unless, of_condition, of_control, of_body, with_row, next_row, attempt}
 use Rattle.sfc_instance.specs.ProgramScan.{after_attempt, unless_faulted}
 use Rattle.sfc_events.specs.declared.event.Event.{Event}
 use Rattle.sfc_events.specs.declared.event.Event.TheVariants as event
 use Rattle.sfc_events.specs.History.{History}
-use Rattle.sfc_machine.specs.Table.{Table, after_program, program_scan, after_instance, after_task}
-use Rattle.sfc_core.specs.Table.{after_event, table_of}
+use Rattle.sfc_instances.specs.PlantState.{PlantState, after_program, program_scan, after_instance, after_task}
+use Rattle.sfc_core.specs.PlantState.{after_event, state_of}
 use Rattle.sfc_core.specs.Forcing.{turns}
 
 abbrev IsStore : Change → Type 0
@@ -127,9 +127,9 @@ module _ (plant : PlantData) (p : ProgId) where
       let tables : Tabled = tables_of (chart_of plant p) in
       let scans = control_scans tables life in
       let body = body_in (slice_get (chart_of plant p).actions id.0) in
-      let outcome : Outcome = effect body (environment plant p life old t (control.q tables a scans)) in
-      either_by (control.executed tables a scans) old (after_body plant p old outcome) (Ok old)
-      (body_grows old outcome.result outcome.environment) (stays old)
+      let body_effect : BodyEffect = effect body (environment plant p life old t (control.q tables a scans)) in
+      either_by (control.executed tables a scans) old (after_body plant p old body_effect) (Ok old)
+      (body_grows old body_effect.result body_effect.environment) (stays old)
 
   actions_grow : (life : Life) (t : ℤ) (a : ℕ) (targets : List Target) (old : List Change)
       → GrowsBy old (after_actions plant p life t a targets old)
@@ -159,45 +159,45 @@ module _ (plant : PlantData) (p : ProgId) where
 
 -- ---- a scan of a task
 
-either_grows : (b : Bool) (old : List Change) (x y : Table) → Grows old x.changes → Grows old y.changes → Grows old (cond b x y).changes
+either_grows : (b : Bool) (old : List Change) (x y : PlantState) → Grows old x.changes → Grows old y.changes → Grows old (cond b x y).changes
 either_grows true old x y f g = f
 either_grows false old x y f g = g
 
-program_grows : (plant : PlantData) (t : ℤ) (k : ℕ) (table : Table) → Grows table.changes (program_scan plant t k table).changes
+program_grows : (plant : PlantData) (t : ℤ) (k : ℕ) (state : PlantState) → Grows state.changes (program_scan plant t k state).changes
 unfolding program_scan
-program_grows plant t k table = scan_grows plant (record { 0 = k }) (table.standing k).life table.changes t (table.standing k).fault
+program_grows plant t k state = scan_grows plant (record { 0 = k }) (state.instance_state k).life state.changes t (state.instance_state k).fault
 
-task_grows : (plant : PlantData) (task : TaskId) (t : ℤ) (k : ℕ) (instances : List Instance) (table : Table)
-    → Grows table.changes (after_task plant task t k instances table).changes
-task_grows plant task t k [] table = stays table.changes
-task_grows plant task t k (instance ∷ instances) table =
-    let next : Table = after_instance plant task t k instance table in
-    on_and_on table.changes next.changes (after_task plant task t (suc k) instances next).changes
-    (either_grows (instance.task.0 == task.0) table.changes (after_program (record { 0 = k }) (program_scan plant t k table) table) table
-    (program_grows plant t k table) (stays table.changes))
+task_grows : (plant : PlantData) (task : TaskId) (t : ℤ) (k : ℕ) (instances : List Instance) (state : PlantState)
+    → Grows state.changes (after_task plant task t k instances state).changes
+task_grows plant task t k [] state = stays state.changes
+task_grows plant task t k (instance ∷ instances) state =
+    let next : PlantState = after_instance plant task t k instance state in
+    on_and_on state.changes next.changes (after_task plant task t (suc k) instances next).changes
+    (either_grows (instance.task.0 == task.0) state.changes (after_program (record { 0 = k }) (program_scan plant t k state) state) state
+    (program_grows plant t k state) (stays state.changes))
     (task_grows plant task t (suc k) instances next)
 
 -- ---- an event
 
 -- what was done before stands below what the event did
-event_grows : (plant : PlantData) (e : Event) (t : ℤ) (table : Table)
-    → (recent : List Change) × ((after_event plant e t table).changes ≡ recent ++ table.changes)
-event_grows plant (event.Scan task) t table = let g = task_grows plant task t 0 plant.instances table in (g.recent, g.is)
-event_grows plant (event.ForcedScan task) t table = let g = task_grows plant task t 0 plant.instances table in (g.recent, g.is)
-event_grows plant (event.Input id v) t table = (Stored id v ∷ [], refl)
-event_grows plant (event.Force id v) t table = (Forced id v ∷ [], refl)
-event_grows plant (event.Release id) t table = (Released id ∷ [], refl)
-event_grows plant (event.Reset p) t table = (Reset p ∷ [], refl)
+event_grows : (plant : PlantData) (e : Event) (t : ℤ) (state : PlantState)
+    → (recent : List Change) × ((after_event plant e t state).changes ≡ recent ++ state.changes)
+event_grows plant (event.Scan task) t state = let g = task_grows plant task t 0 plant.instances state in (g.recent, g.is)
+event_grows plant (event.ForcedScan task) t state = let g = task_grows plant task t 0 plant.instances state in (g.recent, g.is)
+event_grows plant (event.Input id v) t state = (Stored id v ∷ [], refl)
+event_grows plant (event.Force id v) t state = (Forced id v ∷ [], refl)
+event_grows plant (event.Release id) t state = (Released id ∷ [], refl)
+event_grows plant (event.Reset p) t state = (Reset p ∷ [], refl)
 
 pub history_grows : (plant : PlantData) (later h : History)
-    → (recent : List Change) × ((table_of plant (later ++ h)).changes ≡ recent ++ (table_of plant h).changes)
-unfolding table_of
+    → (recent : List Change) × ((state_of plant (later ++ h)).changes ≡ recent ++ (state_of plant h).changes)
+unfolding state_of
 history_grows plant [] h = ([], refl)
-history_grows plant (entry ∷ later) h =
+history_grows plant (timed_event ∷ later) h =
     let before = history_grows plant later h in
-    let now = event_grows plant entry.0 entry.1 (table_of plant (later ++ h)) in (
+    let now = event_grows plant timed_event.0 timed_event.1 (state_of plant (later ++ h)) in (
       now.0 ++ before.0,
-      now.1 ∙ ap (λ (xs : List Change). now.0 ++ xs) before.1 ∙ sym (append_assoc now.0 before.0 (table_of plant h).changes),
+      now.1 ∙ ap (λ (xs : List Change). now.0 ++ xs) before.1 ∙ sym (append_assoc now.0 before.0 (state_of plant h).changes),
     )
 
 -- ---- forces
@@ -209,17 +209,17 @@ unforced (Forced id v ∷ recent) old i (one, all) = absurd one
 unforced (Released id ∷ recent) old i (one, all) = absurd one
 unforced (Reset p ∷ recent) old i (one, all) = absurd one
 
-task_forces : (plant : PlantData) (task : TaskId) (t : ℤ) (table : Table) (i : ℕ)
-    → forced_value (after_task plant task t 0 plant.instances table).changes i ≡ forced_value table.changes i
-task_forces plant task t table i =
-    let g = task_grows plant task t 0 plant.instances table in
-    ap (λ (xs : List Change). forced_value xs i) g.is ∙ unforced g.recent table.changes i g.stores
+task_forces : (plant : PlantData) (task : TaskId) (t : ℤ) (state : PlantState) (i : ℕ)
+    → forced_value (after_task plant task t 0 plant.instances state).changes i ≡ forced_value state.changes i
+task_forces plant task t state i =
+    let g = task_grows plant task t 0 plant.instances state in
+    ap (λ (xs : List Change). forced_value xs i) g.is ∙ unforced g.recent state.changes i g.stores
 
-pub event_forces : (plant : PlantData) (e : Event) (t : ℤ) (table : Table) (i : ℕ) → turns i e ≡ false
-    → forced_value (after_event plant e t table).changes i ≡ forced_value table.changes i
-event_forces plant (event.Scan task) t table i off = task_forces plant task t table i
-event_forces plant (event.ForcedScan task) t table i off = task_forces plant task t table i
-event_forces plant (event.Input id v) t table i off = refl
-event_forces plant (event.Force id v) t table i off = forced_there table.changes id v i off
-event_forces plant (event.Release id) t table i off = released_there table.changes id i off
-event_forces plant (event.Reset p) t table i off = refl
+pub event_forces : (plant : PlantData) (e : Event) (t : ℤ) (state : PlantState) (i : ℕ) → turns i e ≡ false
+    → forced_value (after_event plant e t state).changes i ≡ forced_value state.changes i
+event_forces plant (event.Scan task) t state i off = task_forces plant task t state i
+event_forces plant (event.ForcedScan task) t state i off = task_forces plant task t state i
+event_forces plant (event.Input id v) t state i off = refl
+event_forces plant (event.Force id v) t state i off = forced_there state.changes id v i off
+event_forces plant (event.Release id) t state i off = released_there state.changes id i off
+event_forces plant (event.Reset p) t state i off = refl

@@ -1,7 +1,8 @@
 pub mod Pasts
+-- openings
+pub mod OpeningsMade
 mod Instants
 -- what a variable of the image is
-pub mod Places
 -- which SINGLE rises
 pub mod Rises
 -- many events
@@ -12,8 +13,12 @@ pub mod Verdicts
 pub mod Accepted
 -- accepted events, and what the tasks are told, in order
 pub mod Ordered
+-- values of the types of variables
+pub mod Typed
 -- what they are told, between the scans of a task
 pub mod Stretched
+-- which releases wait
+pub mod Releasing
 -- what the answer to a scan tells
 pub mod Turns
 -- an instance with a fault
@@ -41,3 +46,5 @@ pub mod MomentsTasks
 -- what a history leaves for later events
 pub mod MomentsOpenings
 mod Bounds
+-- which values may go to another thread
+pub mod Crosses

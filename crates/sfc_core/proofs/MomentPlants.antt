@@ -2,41 +2,41 @@
 use Rattle.std.proofs.Common.{ℕ, suc, zero, ◌*◌, Bool, true, false, List, [], ◌∷◌, map, ℤ, pos, Option, Some, None, Result}
 use Rattle.std.specs.Prelude.{codes, filter, length}
 use Rattle.std.specs.List.{range_with_len}
-use Rattle.sfc_tokens.specs.declared.var_type.VarType.{VarType}
-use Rattle.sfc_tokens.specs.declared.var_type.VarType.TheVariants as types
-use Rattle.sfc_tokens.specs.declared.location.Area.TheVariants as areas
-use Rattle.sfc_tokens.specs.declared.location.Size.TheVariants as sizes
-use Rattle.sfc_expr.specs.declared.value.Value.{Value}
-use Rattle.sfc_expr.specs.declared.value.Value.TheVariants as value
+use Rattle.sfc_base.specs.declared.var_type.VarType.{VarType}
+use Rattle.sfc_base.specs.declared.var_type.VarType.TheVariants as types
+use Rattle.sfc_base.specs.declared.location.Area.TheVariants as areas
+use Rattle.sfc_base.specs.declared.location.Size.TheVariants as sizes
+use Rattle.sfc_base.specs.declared.value.Value.{Value}
+use Rattle.sfc_base.specs.declared.value.Value.TheVariants as value
 use Rattle.sfc_expr.specs.declared.operator.Operator.TheVariants as op
-use Rattle.sfc_expr.specs.declared.variable.StepId.{StepId}
-use Rattle.sfc_expr.specs.declared.variable.Variable.{Variable}
-use Rattle.sfc_expr.specs.declared.variable.Variable.TheVariants.{Global}
+use Rattle.sfc_base.specs.declared.references.StepId.{StepId}
+use Rattle.sfc_base.specs.declared.references.Variable.{Variable}
+use Rattle.sfc_base.specs.declared.references.Variable.TheVariants.{Global}
 use Rattle.sfc_expr.specs.Trees.{Expression, Literal, Read, StepTime, Binary, Body}
-use Rattle.sfc_text.specs.declared.tree.TimedQualifier.{TimedQualifier}
-use Rattle.sfc_tables.specs.declared.association.Qualifier.{Qualifier}
-use Rattle.sfc_tables.specs.declared.association.Qualifier.TheVariants.{Timed}
-use Rattle.sfc_tables.specs.declared.association.Target.TheVariants.{Boolean, Declared}
-use Rattle.sfc_tables.specs.declared.association.Time.TheVariants as time
-use Rattle.sfc_tables.specs.declared.association.Association.{Association}
-use Rattle.sfc_tables.specs.declared.action.Action.{Action}
-use Rattle.sfc_tables.specs.declared.chart.Step.{Step}
-use Rattle.sfc_tables.specs.declared.chart.Transition.{Transition}
-use Rattle.sfc_tables.specs.declared.chart.Chart.{Chart}
+use Rattle.sfc_base.specs.declared.qualifier.TimedQualifier.{TimedQualifier}
+use Rattle.sfc_plant.specs.declared.association.Qualifier.{Qualifier}
+use Rattle.sfc_plant.specs.declared.association.Qualifier.TheVariants.{Timed}
+use Rattle.sfc_plant.specs.declared.association.Target.TheVariants.{Boolean, Declared}
+use Rattle.sfc_plant.specs.declared.association.Time.TheVariants as time
+use Rattle.sfc_plant.specs.declared.association.Association.{Association}
+use Rattle.sfc_plant.specs.declared.action.Action.{Action}
+use Rattle.sfc_plant.specs.declared.chart.Step.{Step}
+use Rattle.sfc_plant.specs.declared.chart.Transition.{Transition}
+use Rattle.sfc_plant.specs.declared.chart.Chart.{Chart}
 use Rattle.sfc_tables.specs.Tables.{Tabled, tables_of}
-use Rattle.sfc_variables.specs.declared.variable.Variable as declared
-use Rattle.sfc_program.specs.declared.program_type.ProgramType.{ProgramType}
-use Rattle.sfc_chart.specs.declared.instance.Instance.{Instance}
-use Rattle.sfc_chart.specs.declared.task.Task.{Task}
-use Rattle.sfc_chart.specs.Plants.{PlantData}
+use Rattle.sfc_plant.specs.declared.variable.Variable as declared
+use Rattle.sfc_plant.specs.declared.program_type.ProgramType.{ProgramType}
+use Rattle.sfc_plant.specs.declared.instance.Instance.{Instance}
+use Rattle.sfc_plant.specs.declared.task.Task.{Task}
+use Rattle.sfc_plant.specs.Plants.{PlantData}
 use Rattle.sfc_instance.specs.declared.scan_fault.ScanFault.{ScanFault}
-use Rattle.sfc_chart.specs.Finding.{chart_of}
+use Rattle.sfc_plant.specs.Finding.{chart_of}
 use Rattle.sfc_instance.specs.Answers.{is_step_active, step_elapsed, is_transition_cleared, action_q, is_action_executed}
 use Rattle.sfc_events.specs.declared.event.Event.TheVariants.{Scan, ForcedScan, Input, Force, Release, Reset}
 use Rattle.sfc_events.specs.declared.event.Outcome.{Outcome}
 use Rattle.sfc_events.specs.declared.refusal.Refusal.{Refusal}
-use Rattle.sfc_events.specs.History.{Entry, History}
-use Rattle.sfc_core.specs.Answers.{value_of, standing_of, forced_of}
+use Rattle.sfc_events.specs.History.{TimedEvent, History}
+use Rattle.sfc_core.specs.Answers.{value_of, instance_state_of, forced_of}
 use Rattle.sfc_core.specs.Verdict.{verdict}
 
 abbrev pub ms : ℕ → ℤ
@@ -159,7 +159,7 @@ program locals chart = record { name = codes "Mix"; locals = locals; externals =
 
 -- an instance of the program type with this number, with this task
 abbrev pub instance : ℕ → ℕ → Instance
-instance t n = record { name = codes "P"; task = record { 0 = t }; program = n }
+instance t n = record { name = codes "P"; task = record { 0 = t }; program = record { 0 = n } }
 
 abbrev pub plant : List declared.Variable → List Task → List ProgramType → List Instance → PlantData
 plant globals tasks types instances = record {
@@ -179,25 +179,25 @@ small globals chart = plant globals (task 10 1 ∷ []) (program [] chart ∷ [])
 -- ---- events
 
 -- a scan of the task with this number
-abbrev pub scan_of : ℕ → ℕ → Entry
+abbrev pub scan_of : ℕ → ℕ → TimedEvent
 scan_of k t = (Scan (record { 0 = k }), ms t)
 
-abbrev pub scan : ℕ → Entry
+abbrev pub scan : ℕ → TimedEvent
 scan t = scan_of 0 t
 
-abbrev pub forced_scan : ℕ → Entry
+abbrev pub forced_scan : ℕ → TimedEvent
 forced_scan t = (ForcedScan (record { 0 = 0 }), ms t)
 
-abbrev pub input : ℕ → Value → ℕ → Entry
+abbrev pub input : ℕ → Value → ℕ → TimedEvent
 input n v t = (Input (record { 0 = n }) v, ms t)
 
-abbrev pub force : ℕ → Value → ℕ → Entry
+abbrev pub force : ℕ → Value → ℕ → TimedEvent
 force n v t = (Force (record { 0 = n }) v, ms t)
 
-abbrev pub release : ℕ → ℕ → Entry
+abbrev pub release : ℕ → ℕ → TimedEvent
 release n t = (Release (record { 0 = n }), ms t)
 
-abbrev pub reset : ℕ → ℕ → Entry
+abbrev pub reset : ℕ → ℕ → TimedEvent
 reset p t = (Reset (record { 0 = p }), ms t)
 
 -- so many scans, the first at 0, and 10 ms from each to the next
@@ -206,8 +206,8 @@ scans zero = []
 scans (suc n) = scan (n * 10) ∷ scans n
 
 -- what an event is answered
-abbrev pub told : PlantData → History → Entry → Result Outcome Refusal
-told plant h entry = verdict plant h entry.0 entry.1
+abbrev pub answer_to : PlantData → History → TimedEvent → Result Outcome Refusal
+answer_to plant h timed_event = verdict plant h timed_event.0 timed_event.1
 
 -- ---- what program instance p shows
 
@@ -216,33 +216,33 @@ tables_in plant p = tables_of (chart_of plant (record { 0 = p }))
 
 abbrev pub active_in : PlantData → ℕ → History → List ℕ
 active_in plant p h =
-    filter (is_step_active (tables_in plant p) (standing_of plant h (record { 0 = p })))
+    filter (is_step_active (tables_in plant p) (instance_state_of plant h (record { 0 = p })))
     (range_with_len 0 (length (tables_in plant p).initial))
 
 abbrev pub cleared_in : PlantData → ℕ → History → List ℕ
 cleared_in plant p h =
-    filter (is_transition_cleared (tables_in plant p) (standing_of plant h (record { 0 = p })))
+    filter (is_transition_cleared (tables_in plant p) (instance_state_of plant h (record { 0 = p })))
     (range_with_len 0 (length (tables_in plant p).sides))
 
 -- the actions that the latest scan executed
 abbrev pub executed_in : PlantData → ℕ → History → List ℕ
 executed_in plant p h =
-    filter (is_action_executed (tables_in plant p) (standing_of plant h (record { 0 = p })))
+    filter (is_action_executed (tables_in plant p) (instance_state_of plant h (record { 0 = p })))
     (range_with_len 0 (length (tables_in plant p).actions))
 
 abbrev pub q_in : PlantData → ℕ → ℕ → History → Bool
-q_in plant p a h = action_q (tables_in plant p) (standing_of plant h (record { 0 = p })) a
+q_in plant p a h = action_q (tables_in plant p) (instance_state_of plant h (record { 0 = p })) a
 
 -- the time of step s
 abbrev pub time_in : PlantData → ℕ → ℕ → History → ℤ
-time_in plant p s h = step_elapsed (tables_in plant p) (standing_of plant h (record { 0 = p })) s
+time_in plant p s h = step_elapsed (tables_in plant p) (instance_state_of plant h (record { 0 = p })) s
 
 -- how many scans its life has had
 abbrev pub life_in : PlantData → ℕ → History → ℕ
-life_in plant p h = length (standing_of plant h (record { 0 = p })).life
+life_in plant p h = length (instance_state_of plant h (record { 0 = p })).life
 
 abbrev pub fault_in : PlantData → ℕ → History → Option ScanFault
-fault_in plant p h = (standing_of plant h (record { 0 = p })).fault
+fault_in plant p h = (instance_state_of plant h (record { 0 = p })).fault
 
 -- ---- the same where there is one
 

@@ -6,18 +6,18 @@ use Rattle.std.specs.Prelude.{nat_lt, is_none}
 use Rattle.std.proofs.lemmas.Bool.{cases_lt}
 use mathlib.Core.Logic.{∥∥₁_elim}
 use Rattle.sfc_tables.specs.Tables.{tables_of}
-use Rattle.sfc_chart.specs.declared.ids.ProgId.{ProgId}
-use Rattle.sfc_chart.specs.declared.ids.TaskId.{TaskId}
-use Rattle.sfc_chart.specs.declared.ids.VarId.{VarId}
-use Rattle.sfc_chart.specs.Finding.{chart_of}
-use Rattle.sfc_chart.specs.Plants.{PlantData}
-use Rattle.sfc_chart.specs.Sound.{IsPlant}
+use Rattle.sfc_base.specs.declared.ids.ProgId.{ProgId}
+use Rattle.sfc_base.specs.declared.ids.TaskId.{TaskId}
+use Rattle.sfc_base.specs.declared.ids.VarId.{VarId}
+use Rattle.sfc_plant.specs.Finding.{chart_of}
+use Rattle.sfc_plant.specs.Plants.{PlantData}
+use Rattle.sfc_plant.specs.Sound.{IsPlant}
 use Rattle.sfc_image.specs.Changes.{Stored, Forced, Released}
 use Rattle.sfc_image.specs.Past.{image_past}
 use Rattle.sfc_image.specs.Values.{variable_count}
 use Rattle.sfc_image.proofs.Pasts as image
-use Rattle.sfc_instance.specs.Past.{standing_past}
-use Rattle.sfc_instance.specs.declared.ended.Ended.TheVariants.{Ran, Faulted, Skipped}
+use Rattle.sfc_instance.specs.Past.{instance_past}
+use Rattle.sfc_instance.specs.declared.scan_end.ScanEnd.TheVariants.{Ran, Faulted, Skipped}
 use Rattle.sfc_tasks.specs.Calls.{Call, Elapsed, Rose, Served, single_of}
 use Rattle.sfc_tasks.specs.Releases.{interval_of, waits_since}
 use Rattle.sfc_tasks.specs.Multiples.{next_release}
@@ -31,17 +31,17 @@ use Rattle.sfc_events.specs.declared.event.Outcome.{Outcome}
 use Rattle.sfc_events.specs.declared.event.Outcome.TheVariants.{Scanned}
 use Rattle.sfc_events.specs.declared.refusal.Refusal.{Refusal}
 use Rattle.sfc_events.specs.declared.refusal.Refusal.TheVariants.{UnknownTask, NotDue}
-use Rattle.sfc_events.specs.History.{Entry, History, last_instant}
-use Rattle.sfc_machine.specs.Table.{Table}
-use Rattle.sfc_machine.specs.Past.{machine_past}
-use Rattle.sfc_machine.specs.declared.machine.Machine.{Machine}
-use Rattle.sfc_machine.specs.Agreement.{IsMachineOf}
-use Rattle.sfc_machine.proofs.Pasts as machines
+use Rattle.sfc_events.specs.History.{TimedEvent, History, last_instant}
+use Rattle.sfc_instances.specs.PlantState.{PlantState}
+use Rattle.sfc_instances.specs.Past.{instances_past}
+use Rattle.sfc_instances.specs.declared.instances.Instances.{Instances}
+use Rattle.sfc_instances.specs.Agreement.{AreInstancesOf}
+use Rattle.sfc_instances.proofs.Pasts as all_instances
 use Rattle.sfc_core.specs.declared.resource.Resource.{Resource}
 use Rattle.sfc_core.specs.Agreement.{Agrees, plant_of}
-use Rattle.sfc_core.specs.Table.{after_event, table_of}
+use Rattle.sfc_core.specs.PlantState.{after_event, state_of}
 use Rattle.sfc_core.specs.Due.{singles_of, with_rise, with_rises, with_service, calls_of, calls_at}
-use Rattle.sfc_core.specs.Answers.{value_of, forced_of, standing_of, overruns_of}
+use Rattle.sfc_core.specs.Answers.{value_of, forced_of, instance_state_of, overruns_of}
 use Rattle.sfc_core.specs.Verdict.{refused_if, or_then, instant_refusal, task_refusal, of_image, event_refusal, yield_to}
 use Rattle.sfc_core.specs.Verdict.{turn_refusal, first_refusal, scan_answer, answer, verdict_by, verdict}
 use Rattle.sfc_core.specs.Past.{history_past, past_kept, past_in}
@@ -51,44 +51,44 @@ use Rattle.sfc_core.specs.Keeping.{Keeps}
 
 -- ---- what is kept is the past
 
-module _ (plant : PlantData) (machine : Machine) (tasks : TaskTable) (last : ℤ) where
-  pub parts_keep : (h : History) → IsMachineOf plant machine → Keeps plant machine tasks last h
-      → past_kept plant machine tasks last ≡ history_past plant h
+module _ (plant : PlantData) (instances : Instances) (tasks : TaskTable) (last : ℤ) where
+  pub parts_keep : (h : History) → AreInstancesOf plant instances → Keeps plant instances tasks last h
+      → past_kept plant instances tasks last ≡ history_past plant h
   parts_keep h whole k =
-      let machines = machines.keeps_past plant machine (table_of plant h) whole k.machines in
+      let instances_agree = all_instances.keeps_past plant instances (state_of plant h) whole k.instances_agree in
       let tasked = task_table.keeps_past plant.tasks tasks (calls_of plant h) k.tasked in
-      (λ i. record { last = k.instant i; machine = machines i; tasks = tasked i })
+      (λ i. record { last = k.instant i; instances = instances_agree i; tasks = tasked i })
 
-  parts_same : (h g : History) → IsMachineOf plant machine → Keeps plant machine tasks last h
-      → history_past plant h ≡ history_past plant g → Keeps plant machine tasks last g
+  parts_same : (h g : History) → AreInstancesOf plant instances → Keeps plant instances tasks last h
+      → history_past plant h ≡ history_past plant g → Keeps plant instances tasks last g
   parts_same h g whole k e = record {
     instant = k.instant ∙ ap (λ p. p.last) e;
-    machines = machines.same_past plant machine (table_of plant h) (table_of plant g) whole k.machines (ap (λ p. p.machine) e);
+    instances_agree = all_instances.same_past plant instances (state_of plant h) (state_of plant g) whole k.instances_agree (ap (λ p. p.instances) e);
     tasked = task_table.same_past plant.tasks tasks (calls_of plant h) (calls_of plant g) k.tasked (ap (λ p. p.tasks) e);
   }
 
   -- in one way at most
-  parts_prop : (h : History) → IsProp (Keeps plant machine tasks last h)
-  parts_prop h = hlevel (props, machines.agrees_prop, task_table.agrees_prop)
+  parts_prop : (h : History) → IsProp (Keeps plant instances tasks last h)
+  parts_prop h = hlevel (props, all_instances.agrees_prop, task_table.agrees_prop)
 
   -- what some history leaves is what each history of this past leaves
-  pub parts_agree : (g : History) → IsMachineOf plant machine → ∥ ((h : History) × Keeps plant machine tasks last h) ∥₁
-      → past_kept plant machine tasks last ≡ history_past plant g → Keeps plant machine tasks last g
+  pub parts_agree : (g : History) → AreInstancesOf plant instances → ∥ ((h : History) × Keeps plant instances tasks last h) ∥₁
+      → past_kept plant instances tasks last ≡ history_past plant g → Keeps plant instances tasks last g
   parts_agree g whole some e =
       ∥∥₁_elim some (parts_prop g) (λ x. parts_same x.0 g whole x.1 (sym (parts_keep x.0 whole x.1) ∙ e))
 
 pub keeps_past : (resource : Resource) (h : History) → Agrees resource h → past_in resource ≡ history_past (plant_of resource) h
 unfolding Agrees plant_of past_in
-keeps_past resource h k = parts_keep resource.plant resource.machine resource.tasks resource.last h resource.whole k
+keeps_past resource h k = parts_keep resource.plant resource.instances resource.tasks resource.last h resource.whole k
 
 pub past_agrees : (resource : Resource) (h : History) → past_in resource ≡ history_past (plant_of resource) h → Agrees resource h
 unfolding Agrees plant_of past_in
-past_agrees resource h e = parts_agree resource.plant resource.machine resource.tasks resource.last h resource.whole resource.told e
+past_agrees resource h e = parts_agree resource.plant resource.instances resource.tasks resource.last h resource.whole resource.agrees e
 
 pub opening_agrees : (plant : PlantData) (opening : Opening) (h : History) → IsOpeningFor plant opening
-    → past_of plant opening ≡ history_past plant h → Keeps plant opening.machine opening.tasks opening.last h
+    → past_of plant opening ≡ history_past plant h → Keeps plant opening.instances opening.tasks opening.last h
 unfolding IsOpeningFor past_of
-opening_agrees plant opening h made e = parts_agree plant opening.machine opening.tasks opening.last h made.whole made.some e
+opening_agrees plant opening h made e = parts_agree plant opening.instances opening.tasks opening.last h made.whole made.some e
 
 abbrev waits_for_turn : Event → Bool
 waits_for_turn (Scan task) = true
@@ -124,67 +124,67 @@ module _ (plant : PlantData) where
 -- ---- one event more
 
 module _ (plant : PlantData) (sound : IsPlant plant) where
-  event_by : (event : Event) (t : ℤ) (one two : Table) → machine_past plant one ≡ machine_past plant two
-      → machine_past plant (after_event plant event t one) ≡ machine_past plant (after_event plant event t two)
-  event_by (Scan task) t one two e = machines.task_by plant task t sound one two e
-  event_by (ForcedScan task) t one two e = machines.task_by plant task t sound one two e
-  event_by (Input id v) t one two e = machines.change_by plant (Stored id v) one two e
-  event_by (Force id v) t one two e = machines.change_by plant (Forced id v) one two e
-  event_by (Release id) t one two e = machines.change_by plant (Released id) one two e
-  event_by (Reset p) t one two e = machines.reset_by plant p one two e
+  event_by : (event : Event) (t : ℤ) (one two : PlantState) → instances_past plant one ≡ instances_past plant two
+      → instances_past plant (after_event plant event t one) ≡ instances_past plant (after_event plant event t two)
+  event_by (Scan task) t one two e = all_instances.task_by plant task t sound one two e
+  event_by (ForcedScan task) t one two e = all_instances.task_by plant task t sound one two e
+  event_by (Input id v) t one two e = all_instances.change_by plant (Stored id v) one two e
+  event_by (Force id v) t one two e = all_instances.change_by plant (Forced id v) one two e
+  event_by (Release id) t one two e = all_instances.change_by plant (Released id) one two e
+  event_by (Reset p) t one two e = all_instances.reset_by plant p one two e
 
-  singles_by : (h g : History) → machine_past plant (table_of plant h) ≡ machine_past plant (table_of plant g)
+  singles_by : (h g : History) → instances_past plant (state_of plant h) ≡ instances_past plant (state_of plant g)
       → singles_of plant h ≡ singles_of plant g
   unfolding singles_of
-  singles_by h g e = machines.singles_by plant (table_of plant h) (table_of plant g) sound e
+  singles_by h g e = all_instances.singles_by plant (state_of plant h) (state_of plant g) sound e
 
-  table_next : (entry : Entry) (h g : History) → machine_past plant (table_of plant h) ≡ machine_past plant (table_of plant g)
-      → machine_past plant (table_of plant (entry ∷ h)) ≡ machine_past plant (table_of plant (entry ∷ g))
-  unfolding table_of
-  table_next entry h g e = event_by entry.0 entry.1 (table_of plant h) (table_of plant g) e
+  state_next : (timed_event : TimedEvent) (h g : History) → instances_past plant (state_of plant h) ≡ instances_past plant (state_of plant g)
+      → instances_past plant (state_of plant (timed_event ∷ h)) ≡ instances_past plant (state_of plant (timed_event ∷ g))
+  unfolding state_of
+  state_next timed_event h g e = event_by timed_event.0 timed_event.1 (state_of plant h) (state_of plant g) e
 
-  calls_next : (entry : Entry) (h g : History) → history_past plant h ≡ history_past plant g
-      → tasks_past plant.tasks (calls_of plant (entry ∷ h)) ≡ tasks_past plant.tasks (calls_of plant (entry ∷ g))
+  calls_next : (timed_event : TimedEvent) (h g : History) → history_past plant h ≡ history_past plant g
+      → tasks_past plant.tasks (calls_of plant (timed_event ∷ h)) ≡ tasks_past plant.tasks (calls_of plant (timed_event ∷ g))
   unfolding calls_of
-  calls_next entry h g same =
-      let before = singles_by h g (ap (λ p. p.machine) same) in
-      let after = singles_by (entry ∷ h) (entry ∷ g) (table_next entry h g (ap (λ p. p.machine) same)) in
-      let told : Call = Elapsed entry.1 (singles_of plant g) in
-      (λ i. tasks_past plant.tasks (with_rises entry.1 0 (before i) (after i)
-      (with_service entry.0 (Elapsed entry.1 (before i) ∷ calls_of plant h))))
-      ∙ rises_by plant entry.1 0 (singles_of plant g) (singles_of plant (entry ∷ g))
-      (with_service entry.0 (told ∷ calls_of plant h)) (with_service entry.0 (told ∷ calls_of plant g))
-      (service_by plant entry.0 (told ∷ calls_of plant h) (told ∷ calls_of plant g)
-      (task_table.past_next plant.tasks told (calls_of plant h) (calls_of plant g) (ap (λ p. p.tasks) same)))
+  calls_next timed_event h g same =
+      let before = singles_by h g (ap (λ p. p.instances) same) in
+      let after = singles_by (timed_event ∷ h) (timed_event ∷ g) (state_next timed_event h g (ap (λ p. p.instances) same)) in
+      let elapsed_call : Call = Elapsed timed_event.1 (singles_of plant g) in
+      (λ i. tasks_past plant.tasks (with_rises timed_event.1 0 (before i) (after i)
+      (with_service timed_event.0 (Elapsed timed_event.1 (before i) ∷ calls_of plant h))))
+      ∙ rises_by plant timed_event.1 0 (singles_of plant g) (singles_of plant (timed_event ∷ g))
+      (with_service timed_event.0 (elapsed_call ∷ calls_of plant h)) (with_service timed_event.0 (elapsed_call ∷ calls_of plant g))
+      (service_by plant timed_event.0 (elapsed_call ∷ calls_of plant h) (elapsed_call ∷ calls_of plant g)
+      (task_table.past_next plant.tasks elapsed_call (calls_of plant h) (calls_of plant g) (ap (λ p. p.tasks) same)))
 
-  pub past_next : (entry : Entry) (h g : History) → history_past plant h ≡ history_past plant g
-      → history_past plant (entry ∷ h) ≡ history_past plant (entry ∷ g)
-  past_next entry h g same =
-      let table = table_next entry h g (ap (λ p. p.machine) same) in
-      let calls = calls_next entry h g same in
-      (λ i. record { last = entry.1; machine = table i; tasks = calls i })
+  pub past_next : (timed_event : TimedEvent) (h g : History) → history_past plant h ≡ history_past plant g
+      → history_past plant (timed_event ∷ h) ≡ history_past plant (timed_event ∷ g)
+  past_next timed_event h g same =
+      let state = state_next timed_event h g (ap (λ p. p.instances) same) in
+      let calls = calls_next timed_event h g same in
+      (λ i. record { last = timed_event.1; instances = state i; tasks = calls i })
 
   pub past_cut : (h g later : History) → history_past plant h ≡ history_past plant g
       → history_past plant (later ++ h) ≡ history_past plant (later ++ g)
   past_cut h g [] e = e
-  past_cut h g (entry ∷ later) e = past_next entry (later ++ h) (later ++ g) (past_cut h g later e)
+  past_cut h g (timed_event ∷ later) e = past_next timed_event (later ++ h) (later ++ g) (past_cut h g later e)
 
   -- ---- the answer to an event
 
-  refusal_by : (event : Event) (h g : History) → machine_past plant (table_of plant h) ≡ machine_past plant (table_of plant g)
-      → event_refusal plant (table_of plant h).changes event ≡ event_refusal plant (table_of plant g).changes event
+  refusal_by : (event : Event) (h g : History) → instances_past plant (state_of plant h) ≡ instances_past plant (state_of plant g)
+      → event_refusal plant (state_of plant h).changes event ≡ event_refusal plant (state_of plant g).changes event
   refusal_by (Scan task) h g e = refl
   refusal_by (ForcedScan task) h g e = refl
   refusal_by (Input id v) h g e = refl
   refusal_by (Force id v) h g e = refl
   refusal_by (Release id) h g e =
-      ap of_image (image.release_by plant (table_of plant h).changes (table_of plant g).changes (ap (λ p. p.variables) e) id)
+      ap of_image (image.release_by plant (state_of plant h).changes (state_of plant g).changes (ap (λ p. p.variables) e) id)
   refusal_by (Reset p) h g e = refl
 
-  told_by : (t : ℤ) (h g : History) → history_past plant h ≡ history_past plant g
+  calls_by : (t : ℤ) (h g : History) → history_past plant h ≡ history_past plant g
       → tasks_past plant.tasks (calls_at plant h t) ≡ tasks_past plant.tasks (calls_at plant g t)
-  told_by t h g same =
-      let before = singles_by h g (ap (λ p. p.machine) same) in
+  calls_by t h g same =
+      let before = singles_by h g (ap (λ p. p.instances) same) in
       (λ i. tasks_past plant.tasks (Elapsed t (before i) ∷ calls_of plant h))
       ∙ task_table.past_next plant.tasks (Elapsed t (singles_of plant g)) (calls_of plant h) (calls_of plant g) (ap (λ p. p.tasks) same)
 
@@ -193,10 +193,10 @@ module _ (plant : PlantData) (sound : IsPlant plant) where
       ≡ turn_refusal plant.tasks (singles_of plant g) (calls_at plant g t) (Scan task) t
   unfolding turn_refusal
   turn_by task t h g lt same =
-      let singles = singles_by h g (ap (λ p. p.machine) same) in
-      let told = told_by t h g same in
-      let waits = task_table.waits_by plant.tasks (calls_at plant h t) (calls_at plant g t) told task.0 lt in
-      let first = task_table.picked_by plant.tasks (calls_at plant h t) (calls_at plant g t) told in
+      let singles = singles_by h g (ap (λ p. p.instances) same) in
+      let same_calls = calls_by t h g same in
+      let waits = task_table.waits_by plant.tasks (calls_at plant h t) (calls_at plant g t) same_calls task.0 lt in
+      let first = task_table.picked_by plant.tasks (calls_at plant h t) (calls_at plant g t) same_calls in
       (λ i. or_then
       (refused_if (is_none (waits i)) (NotDue (next_release (interval_of plant.tasks task.0) (single_of (singles i) task.0) t)))
       (yield_to task (first i)))
@@ -205,10 +205,10 @@ module _ (plant : PlantData) (sound : IsPlant plant) where
       → history_past plant h ≡ history_past plant g → scan_answer plant h event task t ≡ scan_answer plant g event task t
   unfolding scan_answer
   scanned_by event task t h g lt same =
-      let e = ap (λ p. p.machine) same in
-      let ran = machines.bits_by plant task t sound Ran (table_of plant h) (table_of plant g) e in
-      let faulted = machines.bits_by plant task t sound Faulted (table_of plant h) (table_of plant g) e in
-      let skipped = machines.bits_by plant task t sound Skipped (table_of plant h) (table_of plant g) e in
+      let e = ap (λ p. p.instances) same in
+      let ran = all_instances.bits_by plant task t sound Ran (state_of plant h) (state_of plant g) e in
+      let faulted = all_instances.bits_by plant task t sound Faulted (state_of plant h) (state_of plant g) e in
+      let skipped = all_instances.bits_by plant task t sound Skipped (state_of plant h) (state_of plant g) e in
       let late = task_table.overruns_by plant.tasks (calls_of plant ((event, t) ∷ h)) (calls_of plant ((event, t) ∷ g))
       (calls_next (event, t) h g same) task.0 lt in
       (λ i. Scanned (ran i) (faulted i) (skipped i) (late i))
@@ -221,7 +221,7 @@ module _ (plant : PlantData) (sound : IsPlant plant) where
   unfolding first_refusal
   joined event t h g same turn answers =
       let last = ap (λ p. p.last) same in
-      let named = refusal_by event h g (ap (λ p. p.machine) same) in
+      let named = refusal_by event h g (ap (λ p. p.instances) same) in
       (λ i. verdict_by (or_then (instant_refusal (last i) t) (or_then (named i) (turn i))) (answers i))
 
   -- where there is no such task
@@ -231,8 +231,8 @@ module _ (plant : PlantData) (sound : IsPlant plant) where
   refused (Some f) x y o u = refl
 
   unknown : (event : Event) (t : ℤ) (h g : History) → history_past plant h ≡ history_past plant g
-      → event_refusal plant (table_of plant h).changes event ≡ Some UnknownTask
-      → event_refusal plant (table_of plant g).changes event ≡ Some UnknownTask → verdict plant h event t ≡ verdict plant g event t
+      → event_refusal plant (state_of plant h).changes event ≡ Some UnknownTask
+      → event_refusal plant (state_of plant g).changes event ≡ Some UnknownTask → verdict plant h event t ≡ verdict plant g event t
   unfolding first_refusal
   unknown event t h g same x y =
       let last = ap (λ p. p.last) same in
@@ -280,25 +280,25 @@ module _ (plant : PlantData) (sound : IsPlant plant) where
 -- ---- the answers to questions
 
 module _ (plant : PlantData) (sound : IsPlant plant) (h g : History) (same : history_past plant h ≡ history_past plant g) where
-  abbrev alike : image_past plant (table_of plant h).changes ≡ image_past plant (table_of plant g).changes
-  alike = ap (λ p. p.machine.variables) same
+  abbrev alike : image_past plant (state_of plant h).changes ≡ image_past plant (state_of plant g).changes
+  alike = ap (λ p. p.instances.variables) same
 
   pub value_by : (id : VarId) → id.0 < variable_count plant → value_of plant h id ≡ value_of plant g id
-  value_by id lt = image.value_by plant (table_of plant h).changes (table_of plant g).changes alike id.0 lt
+  value_by id lt = image.value_by plant (state_of plant h).changes (state_of plant g).changes alike id.0 lt
 
   pub force_by : (id : VarId) → id.0 < variable_count plant → forced_of plant h id ≡ forced_of plant g id
-  force_by id lt = image.forced_by plant (table_of plant h).changes (table_of plant g).changes alike id.0 lt
+  force_by id lt = image.forced_by plant (state_of plant h).changes (state_of plant g).changes alike id.0 lt
 
   pub life_by : (p : ProgId) → p.0 < length plant.instances
-      → standing_past (tables_of (chart_of plant p)) (standing_of plant h p) ≡ standing_past (tables_of (chart_of plant p)) (standing_of plant g p)
-  life_by p lt = (machines.same_tables plant (table_of plant h) (table_of plant g) (ap (λ p. p.machine) same)).programs p.0 lt
+      → instance_past (tables_of (chart_of plant p)) (instance_state_of plant h p) ≡ instance_past (tables_of (chart_of plant p)) (instance_state_of plant g p)
+  life_by p lt = (all_instances.same_tables plant (state_of plant h) (state_of plant g) (ap (λ p. p.instances) same)).programs p.0 lt
 
   pub waits_by : (task : TaskId) (t : ℤ) → task.0 < length plant.tasks
       → waits_since plant.tasks (calls_at plant h t) task.0 ≡ waits_since plant.tasks (calls_at plant g t) task.0
-  waits_by task t lt = task_table.waits_by plant.tasks (calls_at plant h t) (calls_at plant g t) (told_by plant sound t h g same) task.0 lt
+  waits_by task t lt = task_table.waits_by plant.tasks (calls_at plant h t) (calls_at plant g t) (calls_by plant sound t h g same) task.0 lt
 
   pub picked_by : (t : ℤ) → picked plant.tasks (calls_at plant h t) ≡ picked plant.tasks (calls_at plant g t)
-  picked_by t = task_table.picked_by plant.tasks (calls_at plant h t) (calls_at plant g t) (told_by plant sound t h g same)
+  picked_by t = task_table.picked_by plant.tasks (calls_at plant h t) (calls_at plant g t) (calls_by plant sound t h g same)
 
   pub overruns_by : (task : TaskId) → task.0 < length plant.tasks → overruns_of plant h task ≡ overruns_of plant g task
   overruns_by task lt = task_table.overruns_by plant.tasks (calls_of plant h) (calls_of plant g) (ap (λ p. p.tasks) same) task.0 lt

@@ -2,7 +2,7 @@
 use Rattle.std.proofs.Common.{◌≡◌, ◌∙◌, ℕ, suc, ◌<◌, Bool, true, false, cond, List, ◌∷◌, drop, get_or, length, sym, ap, subst, ℤ}
 use Rattle.std.proofs.Math.Seq.{drop-cons}
 use Rattle.std.specs.Prelude.{not, ◌&&◌}
-use Rattle.sfc_chart.specs.declared.task.Task.{Task}
+use Rattle.sfc_plant.specs.declared.task.Task.{Task}
 use Rattle.sfc_tasks.specs.Calls.{Call, Rose}
 use Rattle.sfc_tasks.specs.Agreement.{TasksAgree}
 use Rattle.sfc_tasks.specs.declared.table.TaskTable.{TaskTable}
@@ -32,10 +32,10 @@ module _ (t : ℤ) (before after : List Bool) (k : ℕ) (lt : k < length before)
       → b ≡ (not (get_or before k false) && get_or after k false) → b ≡ true
       → ((now : List Call) → TasksAgree all old now → TasksAgree all new (Rose (record { 0 = k }) t ∷ now))
       → Rises all t before after calls k old → Rises all t before after calls (suc k) new
-  risen all calls old new b e on kept h =
+  risen all calls old new b e on goes_on h =
       let rise : Rose (record { 0 = k }) t ∷ h.now ≡ with_rise t k (get_or before k false) (get_or after k false) h.now =
       ap (λ (b : Bool). cond b (Rose (record { 0 = k }) t ∷ h.now) h.now) (sym on ∙ e) in
-      further all calls old new h (subst (λ (now : List Call). TasksAgree all new now) rise (kept h.now h.agrees))
+      further all calls old new h (subst (λ (now : List Call). TasksAgree all new now) rise (goes_on h.now h.agrees))
 
   -- it did not
   pub unrisen : (all : List Task) (calls : List Call) (tasks : TaskTable) (b : Bool)

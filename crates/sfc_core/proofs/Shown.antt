@@ -1,9 +1,9 @@
 -- What variables read after an event.
 use Rattle.std.proofs.Common.{◌≡◌, ◌≢◌, ◌∙◌, Bool, cond, List, ◌∷◌, Option, Some, None, unwrap_or, ap}
 use Rattle.std.proofs.lemmas.Bool.{ne_eqb}
-use Rattle.sfc_chart.specs.declared.ids.VarId.{VarId}
-use Rattle.sfc_chart.specs.Plants.{PlantData}
-use Rattle.sfc_expr.specs.declared.value.Value.{Value}
+use Rattle.sfc_base.specs.declared.ids.VarId.{VarId}
+use Rattle.sfc_plant.specs.Plants.{PlantData}
+use Rattle.sfc_base.specs.declared.value.Value.{Value}
 use Rattle.sfc_image.specs.Changes.{Change, Stored, Forced, Released}
 use Rattle.sfc_image.specs.Values.{stored_value, forced_value, value_of}
 use Rattle.sfc_image.proofs.Counting.{same_number}

@@ -1,8 +1,8 @@
 -- What the tasks are told, cut at the scans of a task.
 use Rattle.std.proofs.Common.{◌≡◌, ℕ, suc, ◌+◌, arith, Bool, true, false, not, ◌&&◌, cond, List, [], ◌∷◌, length, count_by, append-nil, refl, sym, ◌∙◌, subst, ℤ, ◌<ℤ◌, AllPairs}
 use Rattle.std.proofs.lemmas.List.Sums.{sum_by-cons}
-use Rattle.sfc_chart.specs.declared.ids.TaskId.{TaskId}
-use Rattle.sfc_chart.specs.Plants.{PlantData}
+use Rattle.sfc_base.specs.declared.ids.TaskId.{TaskId}
+use Rattle.sfc_plant.specs.Plants.{PlantData}
 use Rattle.sfc_tasks.specs.Calls.{Call, Elapsed, Rose, Served, serves}
 use Rattle.sfc_tasks.specs.Releases.{waiting, capped, interval_of}
 use Rattle.sfc_tasks.specs.Meaning as tasks
@@ -12,7 +12,7 @@ use Rattle.sfc_tasks.proofs.Counting.{overruns_are, each_counts}
 use Rattle.sfc_tasks.proofs.Apart.{each_once}
 use Rattle.sfc_events.specs.declared.event.Event.{Event}
 use Rattle.sfc_events.specs.declared.event.Event.TheVariants.{Scan, ForcedScan, Input, Force, Release, Reset}
-use Rattle.sfc_events.specs.History.{Entry, History}
+use Rattle.sfc_events.specs.History.{TimedEvent, History}
 use Rattle.sfc_core.specs.Due.{singles_of, calls_of, with_rise, with_rises, with_service, is_scan_of}
 use Rattle.sfc_core.specs.Answers.{overruns_of}
 use Rattle.sfc_core.specs.Order.{AreInOrder}
@@ -44,7 +44,7 @@ abbrev counts : ℕ → List Call → ℕ
 counts k calls = count_by (serves k) calls
 
 abbrev scan_counts : ℕ → History → ℕ
-scan_counts k h = count_by (λ (entry : Entry). is_scan_of k entry.0) h
+scan_counts k h = count_by (λ (timed_event : TimedEvent). is_scan_of k timed_event.0) h
 
 one_more : (k : ℕ) (call : Call) (calls : List Call) → counts k (call ∷ calls) ≡ cond (serves k call) 1 0 + counts k calls
 one_more k call calls = sum_by-cons (λ (x : Call). cond (serves k x) 1 0) call calls
@@ -73,19 +73,19 @@ by_service k (Reset p) calls = omega arith
 by_scans : (plant : PlantData) (k : ℕ) (h : History) → counts k (calls_of plant h) ≡ scan_counts k h
 unfolding calls_of
 by_scans plant k [] = refl
-by_scans plant k (entry ∷ h) =
-    let told : List Call = Elapsed entry.1 (singles_of plant h) ∷ calls_of plant h in
-    let rises : counts k (calls_of plant (entry ∷ h)) ≡ counts k (with_service entry.0 told) =
-    by_rises entry.1 k 0 (singles_of plant h) (singles_of plant (entry ∷ h)) (with_service entry.0 told) in
-    let service : counts k (with_service entry.0 told) ≡ cond (is_scan_of k entry.0) 1 0 + counts k told = by_service k entry.0 told in
-    let elapsed : counts k told ≡ 0 + counts k (calls_of plant h) =
-    one_more k (Elapsed entry.1 (singles_of plant h)) (calls_of plant h) in
+by_scans plant k (timed_event ∷ h) =
+    let told_calls : List Call = Elapsed timed_event.1 (singles_of plant h) ∷ calls_of plant h in
+    let rises : counts k (calls_of plant (timed_event ∷ h)) ≡ counts k (with_service timed_event.0 told_calls) =
+    by_rises timed_event.1 k 0 (singles_of plant h) (singles_of plant (timed_event ∷ h)) (with_service timed_event.0 told_calls) in
+    let service : counts k (with_service timed_event.0 told_calls) ≡ cond (is_scan_of k timed_event.0) 1 0 + counts k told_calls = by_service k timed_event.0 told_calls in
+    let elapsed : counts k told_calls ≡ 0 + counts k (calls_of plant h) =
+    one_more k (Elapsed timed_event.1 (singles_of plant h)) (calls_of plant h) in
     let older : counts k (calls_of plant h) ≡ scan_counts k h = by_scans plant k h in
-    let more : scan_counts k (entry ∷ h) ≡ cond (is_scan_of k entry.0) 1 0 + scan_counts k h =
-    sum_by-cons (λ (x : Entry). cond (is_scan_of k x.0) 1 0) entry h in
+    let more : scan_counts k (timed_event ∷ h) ≡ cond (is_scan_of k timed_event.0) 1 0 + scan_counts k h =
+    sum_by-cons (λ (x : TimedEvent). cond (is_scan_of k x.0) 1 0) timed_event h in
     omega (arith, rises, service, elapsed, older, more)
 
 pub scans_counted : (plant : PlantData) (h : History) (task : TaskId) (since : List Call) (ended : List (List Call))
-    → AreStretches task.0 (calls_of plant h) since ended → length ended ≡ count_by (λ (entry : Entry). is_scan_of task.0 entry.0) h
+    → AreStretches task.0 (calls_of plant h) since ended → length ended ≡ count_by (λ (timed_event : TimedEvent). is_scan_of task.0 timed_event.0) h
 scans_counted plant h task since ended are =
     one_each task.0 (calls_of plant h) since ended are ∙ by_scans plant task.0 h

@@ -1,9 +1,9 @@
 -- What the answer to a scan tells of the tasks that wait.
-use Rattle.std.proofs.Common.{◌≡◌, ◌≢◌, ◌∙◌, inl, inr, ◌<◌, ◌==◌, Bool, true, false, not, length, nat_lt, int_lt, arith, refl, sym, subst, ap}
+use Rattle.std.proofs.Common.{◌≡◌, ◌≢◌, ◌∙◌, inl, inr, ℕ, ◌<◌, ◌==◌, Bool, true, false, not, length, nat_lt, int_lt, arith, refl, sym, subst, ap}
 use Rattle.std.proofs.Common.{ℤ, Option, Some, None, Ok, Err, is_none}
 use Rattle.std.proofs.lemmas.Bool.Decides.{eqb_tells, nat_tests}
-use Rattle.sfc_chart.specs.declared.ids.TaskId.{TaskId}
-use Rattle.sfc_chart.specs.Plants.{PlantData}
+use Rattle.sfc_base.specs.declared.ids.TaskId.{TaskId}
+use Rattle.sfc_plant.specs.Plants.{PlantData}
 use Rattle.sfc_image.proofs.Counting.{same_number}
 use Rattle.sfc_tasks.specs.Calls.{single_of}
 use Rattle.sfc_tasks.specs.Multiples.{next_release}
@@ -66,16 +66,16 @@ in_range true b rest refusal range back e = let same : InstantRange ≡ refusal 
 in_range false true rest refusal range back e = let same : ClockBack ≡ refusal = cc in absurd (back same)
 in_range false false rest refusal range back e = e
 
-not_told : (b : Bool) (one other : Refusal) → (one ≡ other → ⊥) → refused_if b one ≡ Some other → ⊥
-not_told true one other differ e = let same : one ≡ other = cc in differ same
-not_told false one other differ e = cc
+not_other_refusal : (b : Bool) (one other : Refusal) → (one ≡ other → ⊥) → refused_if b one ≡ Some other → ⊥
+not_other_refusal true one other differ e = let same : one ≡ other = cc in differ same
+not_other_refusal false one other differ e = cc
 
-due_told : (since : Option ℤ) (told : Option ℤ) (task : TaskId) (o : Option TaskId) (next : Option ℤ)
-    → or_then (refused_if (is_none since) (NotDue told)) (yield_to task o) ≡ Some (NotDue next) → since ≡ None
-due_told None told task o next e = refl
-due_told (Some u) told task None next e = absurd cc
-due_told (Some u) told task (Some first) next e =
-    absurd (not_told (not (first.0 == task.0)) (Yield first) (NotDue next) (λ f. cc) e)
+due_refused : (since : Option ℤ) (shown : Option ℤ) (task : TaskId) (o : Option TaskId) (next : Option ℤ)
+    → or_then (refused_if (is_none since) (NotDue shown)) (yield_to task o) ≡ Some (NotDue next) → since ≡ None
+due_refused None shown task o next e = refl
+due_refused (Some u) shown task None next e = absurd cc
+due_refused (Some u) shown task (Some first) next e =
+    absurd (not_other_refusal (not (first.0 == task.0)) (Yield first) (NotDue next) (λ f. cc) e)
 
 pub record Tells (task first : TaskId) (o : Option TaskId) : Type 0 where
   pub is : o ≡ Some first
@@ -93,6 +93,12 @@ yield_some task first (Some other) e =
           let same : other ≡ first = cc in
           record { is = ap Some same; other = λ e'. w.1 (ap (λ (x : TaskId). x.0) same ∙ e') }
     ]
+
+differs : (n m : ℕ) → n ≢ m → (n == m) ≡ false
+differs n m other = elim (eqb_tells n m) as (λ _. (n == m) ≡ false) [
+  | inl e ↦ absurd (other e.1)
+  | inr e ↦ e.0
+]
 
 module _ (plant : PlantData) (h : History) (task : TaskId) (t : ℤ) where
   -- the refusals of a scan, by parts
@@ -146,10 +152,42 @@ module _ (plant : PlantData) (h : History) (task : TaskId) (t : ℤ) where
       refusals ∙ (λ i. or_then (instant i) (or_then (there i) (or_then (due i) (turn i)))) in
       ap (λ o. verdict_by o (answer plant h (Scan task) t)) unrefused
 
+  is_known : task.0 < length plant.tasks → task_refusal plant task ≡ None
+  is_known lt =
+      let known : nat_lt task.0 (length plant.tasks) ≡ true = grind (arith, nat_tests, lt) in
+      ap (λ b. refused_if (not b) UnknownTask) known
+
+  -- where no release of the task waits
+  pub idle_refused : instant_refusal (last_instant h) t ≡ None → task.0 < length plant.tasks
+      → waits_since plant.tasks (calls_at plant h t) task.0 ≡ None
+      → verdict plant h (Scan task) t ≡ Err (NotDue (next_release (interval_of plant.tasks task.0) (single_of (singles_of plant h) task.0) t))
+  unfolding undue unpicked
+  idle_refused instant lt idle =
+      let next : Option ℤ = next_release (interval_of plant.tasks task.0) (single_of (singles_of plant h) task.0) t in
+      let due : undue ≡ Some (NotDue next) = ap (λ o. refused_if (is_none o) (NotDue next)) idle in
+      let refused : first_refusal plant h (Scan task) t ≡ Some (NotDue next) =
+      refusals ∙ (λ i. or_then (instant i) (or_then (is_known lt i) (or_then (due i) unpicked))) in
+      ap (λ o. verdict_by o (answer plant h (Scan task) t)) refused
+
+  -- where one waits, and another task goes first
+  pub behind_refused : (first : TaskId) (since : ℤ) → instant_refusal (last_instant h) t ≡ None → task.0 < length plant.tasks
+      → waits_since plant.tasks (calls_at plant h t) task.0 ≡ Some since → IsPicked plant.tasks (calls_at plant h t) first.0
+      → first.0 ≢ task.0 → verdict plant h (Scan task) t ≡ Err (Yield first)
+  unfolding undue unpicked
+  behind_refused first since instant lt waits goes_first other =
+      let due : undue ≡ None =
+      ap (λ o. refused_if (is_none o) (NotDue (next_release (interval_of plant.tasks task.0) (single_of (singles_of plant h) task.0) t))) waits in
+      let turn : unpicked ≡ Some (Yield first) =
+      ap (yield_to task) (is_picked plant.tasks (calls_at plant h t) first goes_first)
+      ∙ ap (λ b. refused_if (not b) (Yield first)) (differs first.0 task.0 other) in
+      let refused : first_refusal plant h (Scan task) t ≡ Some (Yield first) =
+      refusals ∙ (λ i. or_then (instant i) (or_then (is_known lt i) (or_then (due i) (turn i)))) in
+      ap (λ o. verdict_by o (answer plant h (Scan task) t)) refused
+
   -- the part of the refusals that comes last
-  turn_told : (refusal : Refusal) → (InstantRange ≡ refusal → ⊥) → (ClockBack ≡ refusal → ⊥) → (UnknownTask ≡ refusal → ⊥)
+  turn_refused : (refusal : Refusal) → (InstantRange ≡ refusal → ⊥) → (ClockBack ≡ refusal → ⊥) → (UnknownTask ≡ refusal → ⊥)
       → verdict plant h (Scan task) t ≡ Err refusal → or_then undue unpicked ≡ Some refusal
-  turn_told refusal range back unknown e =
+  turn_refused refusal range back unknown e =
       let one : or_then (instant_refusal (last_instant h) t) (or_then (task_refusal plant task) (or_then undue unpicked)) ≡ Some refusal =
       sym refusals ∙ one_stands (first_refusal plant h (Scan task) t) (answer plant h (Scan task) t) refusal e in
       later (not (nat_lt task.0 (length plant.tasks))) UnknownTask refusal (or_then undue unpicked) unknown
@@ -160,8 +198,8 @@ module _ (plant : PlantData) (h : History) (task : TaskId) (t : ℤ) where
       → waits_since plant.tasks (calls_at plant h t) task.0 ≡ None
   unfolding undue unpicked
   waits_not next e =
-      due_told (waits_since plant.tasks (calls_at plant h t) task.0) _ task (picked plant.tasks (calls_at plant h t)) next
-      (turn_told (NotDue next) (λ f. cc) (λ f. cc) (λ f. cc) e)
+      due_refused (waits_since plant.tasks (calls_at plant h t) task.0) _ task (picked plant.tasks (calls_at plant h t)) next
+      (turn_refused (NotDue next) (λ f. cc) (λ f. cc) (λ f. cc) e)
 
   pub another_first : (first : TaskId) → verdict plant h (Scan task) t ≡ Err (Yield first)
       → Tells task first (picked plant.tasks (calls_at plant h t))
@@ -169,4 +207,4 @@ module _ (plant : PlantData) (h : History) (task : TaskId) (t : ℤ) where
   another_first first e =
       yield_some task first (picked plant.tasks (calls_at plant h t))
       (later (is_none (waits_since plant.tasks (calls_at plant h t) task.0)) _ (Yield first) unpicked (λ f. cc)
-      (turn_told (Yield first) (λ f. cc) (λ f. cc) (λ f. cc) e))
+      (turn_refused (Yield first) (λ f. cc) (λ f. cc) (λ f. cc) e))

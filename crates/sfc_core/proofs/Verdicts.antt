@@ -1,15 +1,15 @@
 -- The first refusal, by parts.
 use Rattle.std.proofs.Common.{◌≡◌, ◌∙◌, List, ◌∷◌, Bool, Option, Some, None, Ok, Err, ℤ, refl, sym, ap, subst}
-use Rattle.sfc_chart.specs.Plants.{PlantData}
+use Rattle.sfc_plant.specs.Plants.{PlantData}
 use Rattle.sfc_tasks.specs.Agreement.{TasksAgree}
 use Rattle.sfc_tasks.specs.Calls.{Elapsed}
 use Rattle.sfc_events.specs.declared.event.Event.{Event}
 use Rattle.sfc_events.specs.declared.event.Outcome.{Outcome}
 use Rattle.sfc_events.specs.declared.refusal.Refusal.{Refusal}
 use Rattle.sfc_events.specs.History.{History, last_instant}
-use Rattle.sfc_machine.specs.Singles.{singles_in}
+use Rattle.sfc_instances.specs.Singles.{singles_in}
 use Rattle.sfc_core.specs.declared.due.Due.{Due}
-use Rattle.sfc_core.specs.Table.{table_of}
+use Rattle.sfc_core.specs.PlantState.{state_of}
 use Rattle.sfc_core.specs.Due.{singles_of, calls_of, calls_at}
 use Rattle.sfc_core.specs.Verdict.{or_then, instant_refusal, event_refusal, turn_refusal, first_refusal, answer, verdict, verdict_by}
 use Rattle.sfc_core.specs.Private.Ready.{flags_of, IsDueAt, IsReady}
@@ -28,7 +28,7 @@ none_of (Some x) other = absurd (other x refl)
 none_of None other = refl
 
 -- what is due at the instant of an event
-pub due_there : (plant : PlantData) (h : History) (t : ℤ) (due : Due) → flags_of due.singles ≡ singles_in plant (table_of plant h).changes
+pub due_there : (plant : PlantData) (h : History) (t : ℤ) (due : Due) → flags_of due.singles ≡ singles_in plant (state_of plant h).changes
     → TasksAgree plant.tasks due.tasks (Elapsed t (flags_of due.singles) ∷ calls_of plant h) → IsDueAt plant h t due
 unfolding singles_of
 due_there plant h t due e agrees = record {
@@ -37,11 +37,11 @@ due_there plant h t due e agrees = record {
 }
 
 module _ (plant : PlantData) (h : History) (event : Event) (t : ℤ) (named : Option Refusal)
-    (e : named ≡ or_then (instant_refusal (last_instant h) t) (event_refusal plant (table_of plant h).changes event)) where
+    (e : named ≡ or_then (instant_refusal (last_instant h) t) (event_refusal plant (state_of plant h).changes event)) where
   by_parts : first_refusal plant h event t ≡ or_then named (turn_refusal plant.tasks (singles_of plant h) (calls_at plant h t) event t)
   unfolding first_refusal
   by_parts =
-      or_then_assoc (instant_refusal (last_instant h) t) (event_refusal plant (table_of plant h).changes event)
+      or_then_assoc (instant_refusal (last_instant h) t) (event_refusal plant (state_of plant h).changes event)
       (turn_refusal plant.tasks (singles_of plant h) (calls_at plant h t) event t)
       ∙ sym (ap (λ (o : Option Refusal). or_then o (turn_refusal plant.tasks (singles_of plant h) (calls_at plant h t) event t)) e)
 
@@ -69,7 +69,7 @@ module _ (plant : PlantData) (h : History) (event : Event) (t : ℤ) (named : Op
 
   pub ready_there : named ≡ None → (due : Due) → IsDueAt plant h t due → IsReady plant h event t due
   ready_there none due there = record {
-    told = there;
+    is_due = there;
     named =
-        second_none (instant_refusal (last_instant h) t) (event_refusal plant (table_of plant h).changes event) (sym e ∙ none);
+        second_none (instant_refusal (last_instant h) t) (event_refusal plant (state_of plant h).changes event) (sym e ∙ none);
   }

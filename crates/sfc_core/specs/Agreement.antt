@@ -1,5 +1,5 @@
 -- Which histories a resource agrees with.
-use Rattle.sfc_chart.specs.Plants.{PlantData}
+use Rattle.sfc_plant.specs.Plants.{PlantData}
 use Rattle.sfc_events.specs.History.{History}
 use Rattle.sfc_core.specs.declared.resource.Resource.{Resource}
 use Rattle.sfc_core.specs.Keeping.{Keeps}
@@ -10,4 +10,4 @@ plant_of resource = resource.plant
 
 -- each answer that it gives is the definition's over the history
 unfoldable pub Agrees : Resource → History → Type 0
-Agrees resource h = Keeps resource.plant resource.machine resource.tasks resource.last h
+Agrees resource h = Keeps resource.plant resource.instances resource.tasks resource.last h

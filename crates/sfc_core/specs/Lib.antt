@@ -1,15 +1,19 @@
 -- The rules, in reading order.
 
 -- how the variables and the program instances stand after a history
-pub mod Table
+pub mod PlantState
 -- what SINGLE reads, and what the table of tasks is told
 pub mod Due
+-- the releases of a task by the events, and which of them no scan has served
+pub mod Releases
 -- what the readers of a resource answer
 pub mod Answers
 -- what an event is refused for, and what it gives
 pub mod Verdict
 -- events in the order of their instants
 pub mod Order
+-- values of the types of variables
+pub mod Types
 -- what an event does with forces
 pub mod Forcing
 -- how much an event handles

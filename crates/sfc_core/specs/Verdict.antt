@@ -2,22 +2,22 @@
 use Rattle.std.specs.Prelude.{ℕ, ◌+◌, ◌==◌, ◌^◌, nat_lt, Bool, true, false, cond, not, ◌||◌}
 use Rattle.std.specs.Prelude.{is_none, is_ok, List, [], ◌∷◌, length}
 use Rattle.std.specs.Prelude.{ℤ, pos, int_lt, Option, Some, None, Result, Ok, Err, slice_get}
-use Rattle.sfc_tokens.specs.declared.location.Area.{Area}
-use Rattle.sfc_tokens.specs.declared.location.Area.TheVariants as areas
-use Rattle.sfc_tokens.specs.declared.location.Location.{Location}
-use Rattle.sfc_variables.specs.declared.variable.Variable.{Variable}
-use Rattle.sfc_chart.specs.declared.ids.ProgId.{ProgId}
-use Rattle.sfc_chart.specs.declared.ids.TaskId.{TaskId}
-use Rattle.sfc_chart.specs.declared.ids.VarId.{VarId}
-use Rattle.sfc_chart.specs.declared.task.Task.{Task}
-use Rattle.sfc_chart.specs.Plants.{PlantData}
-use Rattle.sfc_chart.specs.Image.{image_variables}
+use Rattle.sfc_base.specs.declared.location.Area.{Area}
+use Rattle.sfc_base.specs.declared.location.Area.TheVariants as areas
+use Rattle.sfc_base.specs.declared.location.Location.{Location}
+use Rattle.sfc_plant.specs.declared.variable.Variable.{Variable}
+use Rattle.sfc_base.specs.declared.ids.ProgId.{ProgId}
+use Rattle.sfc_base.specs.declared.ids.TaskId.{TaskId}
+use Rattle.sfc_base.specs.declared.ids.VarId.{VarId}
+use Rattle.sfc_plant.specs.declared.task.Task.{Task}
+use Rattle.sfc_plant.specs.Plants.{PlantData}
+use Rattle.sfc_plant.specs.Image.{image_variables}
 use Rattle.sfc_image.specs.declared.image_error.ImageError.{ImageError}
 use Rattle.sfc_image.specs.declared.image_error.ImageError.TheVariants as image
 use Rattle.sfc_image.specs.Changes.{Change}
 use Rattle.sfc_image.specs.Answers.{value_fault, release_fault}
-use Rattle.sfc_instance.specs.declared.ended.Ended.{Ended}
-use Rattle.sfc_instance.specs.declared.ended.Ended.TheVariants.{Ran, Faulted, Skipped}
+use Rattle.sfc_instance.specs.declared.scan_end.ScanEnd.{ScanEnd}
+use Rattle.sfc_instance.specs.declared.scan_end.ScanEnd.TheVariants.{Ran, Faulted, Skipped}
 use Rattle.sfc_tasks.specs.Multiples.{next_release}
 use Rattle.sfc_tasks.specs.Calls.{Call, single_of}
 use Rattle.sfc_tasks.specs.Releases.{interval_of, waits_since}
@@ -29,9 +29,10 @@ use Rattle.sfc_events.specs.declared.event.Outcome.TheVariants.{Done, Scanned}
 use Rattle.sfc_events.specs.declared.refusal.Refusal.{Refusal}
 use Rattle.sfc_events.specs.declared.refusal.Refusal.TheVariants.{InstantRange, ClockBack, UnknownTask, UnknownProgram}
 use Rattle.sfc_events.specs.declared.refusal.Refusal.TheVariants.{UnknownVar, ValueType, NotInput, NotForced, NotDue, Yield}
-use Rattle.sfc_events.specs.History.{Entry, History, last_instant}
-use Rattle.sfc_machine.specs.Ends.{bits_of}
-use Rattle.sfc_core.specs.Table.{table_of}
+use Rattle.sfc_events.specs.Events.{scanned_task}
+use Rattle.sfc_events.specs.History.{TimedEvent, History, last_instant}
+use Rattle.sfc_instances.specs.Ends.{bits_of}
+use Rattle.sfc_core.specs.PlantState.{state_of}
 use Rattle.sfc_core.specs.Due.{singles_of, calls_at}
 use Rattle.sfc_core.specs.Answers.{overruns_of}
 
@@ -118,39 +119,35 @@ yield_refusal tasks calls task = yield_to task (picked tasks calls)
 unfoldable pub turn_refusal : List Task → List Bool → List Call → Event → ℤ → Option Refusal
 turn_refusal tasks singles calls (Scan task) t =
     or_then (due_refusal tasks singles calls task t) (yield_refusal tasks calls task)
-turn_refusal tasks singles calls (ForcedScan task) t = None
-turn_refusal tasks singles calls (Input id v) t = None
-turn_refusal tasks singles calls (Force id v) t = None
-turn_refusal tasks singles calls (Release id) t = None
-turn_refusal tasks singles calls (Reset p) t = None
+turn_refusal tasks singles calls _ t = None
 
 -- The first refusal that applies, in one order (our choice): of the instant, of what the event names, and of its turn.
 unfoldable pub first_refusal : PlantData → History → Event → ℤ → Option Refusal
 first_refusal plant h event t =
     or_then (instant_refusal (last_instant h) t)
-    (or_then (event_refusal plant (table_of plant h).changes event)
+    (or_then (event_refusal plant (state_of plant h).changes event)
     (turn_refusal plant.tasks (singles_of plant h) (calls_at plant h t) event t))
 
 -- ---- answers
 
 -- one bit for each instance of which a scan of the task after a history ends so
-abbrev pub ended_bits : Ended → PlantData → History → TaskId → ℤ → ℕ
-ended_bits how plant h task t = bits_of how plant task t 0 plant.instances (table_of plant h)
+abbrev pub end_bits : ScanEnd → PlantData → History → TaskId → ℤ → ℕ
+end_bits how plant h task t = bits_of how plant task t 0 plant.instances (state_of plant h)
 
 -- to an event at t that is a scan of this task
 unfoldable pub scan_answer : PlantData → History → Event → TaskId → ℤ → Outcome
 scan_answer plant h event task t =
-    Scanned (ended_bits Ran plant h task t) (ended_bits Faulted plant h task t) (ended_bits Skipped plant h task t)
+    Scanned (end_bits Ran plant h task t) (end_bits Faulted plant h task t) (end_bits Skipped plant h task t)
     (overruns_of plant ((event, t) ∷ h) task)
+
+-- to an event at t that is a scan of this task, or of none
+abbrev pub answer_of : PlantData → History → Event → ℤ → Option TaskId → Outcome
+answer_of plant h event t None = Done
+answer_of plant h event t (Some task) = scan_answer plant h event task t
 
 -- what an accepted event answers
 abbrev pub answer : PlantData → History → Event → ℤ → Outcome
-answer plant h (Scan task) t = scan_answer plant h (Scan task) task t
-answer plant h (ForcedScan task) t = scan_answer plant h (ForcedScan task) task t
-answer plant h (Input id v) t = Done
-answer plant h (Force id v) t = Done
-answer plant h (Release id) t = Done
-answer plant h (Reset p) t = Done
+answer plant h event t = answer_of plant h event t (scanned_task event)
 
 -- the refusal, if there is one, else the answer
 abbrev pub verdict_by : Option Refusal → Outcome → Result Outcome Refusal
@@ -164,21 +161,21 @@ verdict plant h event t = verdict_by (first_refusal plant h event t) (answer pla
 -- ---- many events
 
 -- the history after an event that was answered so
-abbrev pub history_by : Result Outcome Refusal → History → Entry → History
-history_by (Ok outcome) h entry = entry ∷ h
-history_by (Err refusal) h entry = h
+abbrev pub history_by : Result Outcome Refusal → History → TimedEvent → History
+history_by (Ok outcome) h timed_event = timed_event ∷ h
+history_by (Err refusal) h timed_event = h
 
 -- the history after an event, accepted or not
-abbrev pub after : PlantData → History → Entry → History
-after plant h entry = history_by (verdict plant h entry.0 entry.1) h entry
+abbrev pub after : PlantData → History → TimedEvent → History
+after plant h timed_event = history_by (verdict plant h timed_event.0 timed_event.1) h timed_event
 
 -- the history after a list of events, the first of them first
-abbrev pub after_all : PlantData → History → List Entry → History
+abbrev pub after_all : PlantData → History → List TimedEvent → History
 after_all plant h [] = h
-after_all plant h (entry ∷ entries) = after_all plant (after plant h entry) entries
+after_all plant h (timed_event ∷ timed_events) = after_all plant (after plant h timed_event) timed_events
 
 -- how many of them are accepted
-abbrev pub accepted : PlantData → History → List Entry → ℕ
+abbrev pub accepted : PlantData → History → List TimedEvent → ℕ
 accepted plant h [] = 0
-accepted plant h (entry ∷ entries) =
-    cond (is_ok (verdict plant h entry.0 entry.1)) 1 0 + accepted plant (after plant h entry) entries
+accepted plant h (timed_event ∷ timed_events) =
+    cond (is_ok (verdict plant h timed_event.0 timed_event.1)) 1 0 + accepted plant (after plant h timed_event) timed_events

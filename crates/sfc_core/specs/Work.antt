@@ -1,27 +1,27 @@
 -- How much an event handles, at most.
 use Rattle.std.specs.Prelude.{ℕ, suc, ◌+◌, ◌==◌, cond, List, [], ◌∷◌}
-use Rattle.sfc_chart.specs.declared.ids.TaskId.{TaskId}
-use Rattle.sfc_chart.specs.declared.instance.Instance.{Instance}
-use Rattle.sfc_chart.specs.Plants.{PlantData}
+use Rattle.sfc_base.specs.declared.ids.TaskId.{TaskId}
+use Rattle.sfc_plant.specs.declared.instance.Instance.{Instance}
+use Rattle.sfc_plant.specs.Plants.{PlantData}
 use Rattle.sfc_events.specs.declared.event.Event.{Event}
 use Rattle.sfc_events.specs.declared.event.Event.TheVariants.{Scan, ForcedScan, Input, Force, Release, Reset}
 use Rattle.sfc_image.specs.Values.{variable_count}
-use Rattle.sfc_chart.specs.Finding.{chart_of}
+use Rattle.sfc_plant.specs.Finding.{chart_of}
 use Rattle.sfc_instance.specs.Work.{scan_limit}
-use Rattle.sfc_machine.specs.Work.{task_work, reset_work}
+use Rattle.sfc_instances.specs.Work.{task_work, reset_work}
 
 -- among the variables and the program instances
-abbrev pub machine_work : PlantData → Event → ℕ
-machine_work plant (Scan task) = task_work plant task 0 plant.instances
-machine_work plant (ForcedScan task) = task_work plant task 0 plant.instances
-machine_work plant (Input id v) = 1
-machine_work plant (Force id v) = 0
-machine_work plant (Release id) = 0
-machine_work plant (Reset p) = reset_work plant p
+abbrev pub instances_work : PlantData → Event → ℕ
+instances_work plant (Scan task) = task_work plant task 0 plant.instances
+instances_work plant (ForcedScan task) = task_work plant task 0 plant.instances
+instances_work plant (Input id v) = 1
+instances_work plant (Force id v) = 1
+instances_work plant (Release id) = 1
+instances_work plant (Reset p) = reset_work plant p
 
 -- with the places of the tasks
 abbrev pub event_work : PlantData → Event → ℕ
-event_work plant event = machine_work plant event + 128
+event_work plant event = instances_work plant event + 128
 
 -- ---- how much a scan of a task handles at most
 

@@ -1,25 +1,27 @@
 //! What the definitions mean: each law is a function with an empty body, whose contract is the law.
 
-ghost use Rattle.std.specs.Prelude.{◌≡◌, ◌≢◌, ◌↔◌, ◌∷◌, [], ℤ, List, Ok, Err, Some, None, Option, slice_get, true, false, ◌++◌, All};
-ghost use Rattle.std.specs.Prelude.{◌<◌, ◌≤◌, ◌+◌, ◌<ℤ◌, length, count_by, AllPairs};
-ghost use Rattle.sfc_chart.specs.Sound.{IsPlant};
+ghost use Rattle.std.specs.Prelude.{◌≡◌, ◌≢◌, ◌↔◌, ◌⊎◌, Contains, ◌∷◌, [], ℤ, List, Ok, Err, Some, None, Option, slice_get, true, false, ◌++◌, All};
+ghost use Rattle.std.specs.Prelude.{◌<◌, ◌≤◌, ◌+◌, ◌<ℤ◌, length, count_by, AllPairs, IfSome};
+ghost use Rattle.sfc_plant.specs.Sound.{IsPlant};
 ghost use Rattle.sfc_core.specs.declared.resource.Resource.{Resource};
 ghost use Rattle.sfc_core.specs.Agreement.{Agrees, plant_of};
 ghost use Rattle.sfc_core.specs.Past.{history_past, past_in};
-ghost use Rattle.sfc_expr.specs.declared.value.Value.{Value};
-ghost use Rattle.sfc_chart.specs.declared.ids.ProgId.{ProgId};
-ghost use Rattle.sfc_chart.specs.declared.ids.TaskId.{TaskId};
-ghost use Rattle.sfc_chart.specs.declared.ids.VarId.{VarId};
-ghost use Rattle.sfc_chart.specs.declared.instance.Instance.{Instance};
-ghost use Rattle.sfc_chart.specs.Plants.{PlantData};
+ghost use Rattle.sfc_base.specs.declared.value.Value.{Value};
+ghost use Rattle.sfc_base.specs.declared.ids.ProgId.{ProgId};
+ghost use Rattle.sfc_base.specs.declared.ids.TaskId.{TaskId};
+ghost use Rattle.sfc_base.specs.declared.ids.VarId.{VarId};
+ghost use Rattle.sfc_plant.specs.declared.instance.Instance.{Instance};
+ghost use Rattle.sfc_plant.specs.Plants.{PlantData};
 ghost use Rattle.sfc_image.specs.Changes.{Change, Stored};
 ghost use Rattle.sfc_image.specs.Events as image;
-ghost use Rattle.sfc_image.specs.Values.{stored_value, initial_of, is_local_of, variable_count};
+ghost use Rattle.sfc_image.specs.Values.{stored_value, initial_of, type_of_variable, is_local_of, variable_count};
 ghost use Rattle.sfc_instance.specs.declared.scan_fault.ScanFault.{ScanFault};
 ghost use Rattle.sfc_instance.specs.Life.{fresh};
-ghost use Rattle.sfc_instance.specs.Past.{standing_past};
+ghost use Rattle.sfc_instances.specs.Types.{IsTypedPlant};
+ghost use Rattle.sfc_expr.specs.Types.{IsOf};
+ghost use Rattle.sfc_instance.specs.Past.{instance_past};
 ghost use Rattle.sfc_tables.specs.Tables.{tables_of};
-ghost use Rattle.sfc_chart.specs.Finding.{chart_of};
+ghost use Rattle.sfc_plant.specs.Finding.{chart_of};
 ghost use Rattle.sfc_tasks.specs.Calls.{Call};
 ghost use Rattle.sfc_tasks.specs.Releases.{waits_since, waiting, capped, interval_of};
 ghost use Rattle.sfc_tasks.specs.Pick.{picked, IsPicked};
@@ -30,13 +32,16 @@ ghost use Rattle.sfc_events.specs.declared.event.Event.TheVariants.{Scan, Forced
 ghost use Rattle.sfc_events.specs.declared.event.Outcome.{Outcome};
 ghost use Rattle.sfc_events.specs.declared.refusal.Refusal.{Refusal};
 ghost use Rattle.sfc_events.specs.declared.refusal.Refusal.TheVariants.{NotDue, Yield};
-ghost use Rattle.sfc_events.specs.History.{Entry, History, last_instant};
-ghost use Rattle.sfc_core.specs.Table.{table_of};
+ghost use Rattle.sfc_events.specs.History.{TimedEvent, History, last_instant};
+ghost use Rattle.sfc_core.specs.PlantState.{state_of};
 ghost use Rattle.sfc_core.specs.Due.{calls_of, calls_at, is_scan_of};
-ghost use Rattle.sfc_core.specs.Answers.{value_of, forced_of, standing_of, overruns_of};
+ghost use Rattle.sfc_core.specs.Releases.{single_after, IsUnserved, IsMultipleUntil};
+ghost use Rattle.sfc_tasks.specs.Multiples.{next_release};
+ghost use Rattle.sfc_core.specs.Answers.{value_of, forced_of, instance_state_of, overruns_of};
 ghost use Rattle.sfc_core.specs.Verdict.{instant_refusal, answer, verdict, after, after_all};
 ghost use Rattle.sfc_core.specs.Forcing.{turns};
 ghost use Rattle.sfc_core.specs.Order.{AreInOrder};
+ghost use Rattle.sfc_core.specs.Types.{GiveInRange};
 ghost use Rattle.sfc_core.specs.Work.{event_work, task_limit};
 
 /// What is accepted is the latest event of the history, and what is refused changes nothing.
@@ -49,11 +54,24 @@ pub fn histories()
 
 /// Whatever events come, those that are accepted are at instants and in their order.
 pub fn accepted_events()
-    ensures { (plant : PlantData) (events : List Entry) → AreInOrder (after_all plant [] events) }
+    ensures { (plant : PlantData) (events : List TimedEvent) → AreInOrder (after_all plant [] events) }
+{}
+
+/// Where each variable begins with a value of its type, and the actions of each instance have types, whatever events
+/// come: what is stored in a variable, what it is forced to, and what it reads are of its type (2.4.2, 2.4.3, 3.3.2).
+pub fn types()
+    ensures stored { (plant : PlantData) (events : List TimedEvent) (id : VarId) → IsTypedPlant plant →
+        GiveInRange events →
+        IsOf (type_of_variable plant id.0) (stored_value plant (state_of plant (after_all plant [] events)).changes id.0) }
+    ensures reads { (plant : PlantData) (events : List TimedEvent) (id : VarId) → IsTypedPlant plant →
+        GiveInRange events → IsOf (type_of_variable plant id.0) (value_of plant (after_all plant [] events) id) }
+    ensures forced { (plant : PlantData) (events : List TimedEvent) (id : VarId) → IsTypedPlant plant →
+        GiveInRange events →
+        IfSome (forced_of plant (after_all plant [] events) id) (IsOf (type_of_variable plant id.0)) }
 {}
 
 /// What the tasks are told by such events is in order, so that of the releases that wait the first is the earliest (2.7.2).
-pub fn told_in_order()
+pub fn calls_in_order()
     ensures { (plant : PlantData) (h : History) → AreInOrder h → tasks.AreInOrder (calls_of plant h) }
 {}
 
@@ -66,7 +84,7 @@ pub fn overruns()
         AreStretches task.0 (calls_of plant h) since ended →
         overruns_of plant h task ≡ capped (beyond_firsts (interval_of plant.tasks task.0) task.0 ended) }
     ensures scans { (plant : PlantData) (h : History) (task : TaskId) (since : List Call) (ended : List (List Call)) →
-        AreStretches task.0 (calls_of plant h) since ended → length ended ≡ count_by (λ entry. is_scan_of task.0 entry.0) h }
+        AreStretches task.0 (calls_of plant h) since ended → length ended ≡ count_by (λ timed_event. is_scan_of task.0 timed_event.0) h }
     ensures once { (plant : PlantData) (h : History) (task : TaskId) (since : List Call) (ended : List (List Call)) →
         AreStretches task.0 (calls_of plant h) since ended →
         length (releases_in (interval_of plant.tasks task.0) task.0 [] (calls_of plant h)) ≡
@@ -76,9 +94,21 @@ pub fn overruns()
         AllPairs (λ u v. u <ℤ v) (multiples_in (interval_of plant.tasks task.0) task.0 [] (calls_of plant h)) }
 {}
 
+/// What waits for a task are exactly the releases that no scan of it has served: after a history, and at an instant before an
+/// event that may be refused, where the multiples until then wait too. A release is a multiple of the interval, after the event
+/// before and not after the event, while SINGLE reads FALSE, or a rise of SINGLE by an event (2.7.2).
+pub fn releases()
+    ensures waiting { (plant : PlantData) (h : History) (task : TaskId) (u : ℤ) →
+        Contains (waiting (interval_of plant.tasks task.0) task.0 (calls_of plant h)) u ↔ IsUnserved plant h task.0 u }
+    ensures now { (plant : PlantData) (h : History) (task : TaskId) (t u : ℤ) →
+        Contains (waiting (interval_of plant.tasks task.0) task.0 (calls_at plant h t)) u ↔
+        (IsUnserved plant h task.0 u ⊎ IsMultipleUntil plant h task.0 t u) }
+{}
+
 /// A scan that is accepted where it has to be due is of the task that goes first, and that of the task that goes first is
-/// accepted, at an instant that is in range and not before the latest event; it is refused with `NotDue` only where no release
-/// of the task waits, and with `Yield` only where the task that is told goes first, which is another (2.7.2).
+/// accepted, at an instant that is in range and not before the latest event; it is refused with `NotDue` exactly where no
+/// release of the task waits, which tells the next one by its interval, and with `Yield` exactly where one waits and the task
+/// that is told goes first, which is another (2.7.2).
 pub fn turns()
     ensures accepted { (plant : PlantData) (h : History) (task : TaskId) (t : ℤ) (outcome : Outcome) →
         verdict plant h (Scan task) t ≡ Ok outcome → IsPicked plant.tasks (calls_at plant h t) task.0 }
@@ -91,6 +121,13 @@ pub fn turns()
         verdict plant h (Scan task) t ≡ Err (Yield first) → IsPicked plant.tasks (calls_at plant h t) first.0 }
     ensures other { (plant : PlantData) (h : History) (task first : TaskId) (t : ℤ) →
         verdict plant h (Scan task) t ≡ Err (Yield first) → first.0 ≢ task.0 }
+    ensures idle { (plant : PlantData) (h : History) (task : TaskId) (t : ℤ) → instant_refusal (last_instant h) t ≡ None →
+        task.0 < length plant.tasks → waits_since plant.tasks (calls_at plant h t) task.0 ≡ None →
+        verdict plant h (Scan task) t ≡ Err (NotDue (next_release (interval_of plant.tasks task.0) (single_after plant h task.0) t)) }
+    ensures behind { (plant : PlantData) (h : History) (task first : TaskId) (t since : ℤ) →
+        instant_refusal (last_instant h) t ≡ None → task.0 < length plant.tasks →
+        waits_since plant.tasks (calls_at plant h t) task.0 ≡ Some since → IsPicked plant.tasks (calls_at plant h t) first.0 →
+        first.0 ≢ task.0 → verdict plant h (Scan task) t ≡ Err (Yield first) }
 {}
 
 /// An input is what the variable reads, where it is not forced; under a force it reads the forced value, until it is
@@ -103,7 +140,7 @@ pub fn values()
     ensures forced { (plant : PlantData) (h : History) (id : VarId) (v : Value) (t : ℤ) →
         value_of plant ((Force id v, t) ∷ h) id ≡ v }
     ensures released { (plant : PlantData) (h : History) (id : VarId) (t : ℤ) →
-        value_of plant ((Release id, t) ∷ h) id ≡ stored_value plant (table_of plant h).changes id.0 }
+        value_of plant ((Release id, t) ∷ h) id ≡ stored_value plant (state_of plant h).changes id.0 }
     ensures others { (plant : PlantData) (h : History) (id other : VarId) (v : Value) (t : ℤ) → id.0 ≢ other.0 →
         value_of plant ((Input id v, t) ∷ h) other ≡ value_of plant h other }
     ensures force_others { (plant : PlantData) (h : History) (id other : VarId) (v : Value) (t : ℤ) → id.0 ≢ other.0 →
@@ -121,39 +158,39 @@ pub fn forces()
 /// Nothing that was done with the variables is lost: what later events do comes on top of it. So what an input stored stays
 /// stored until a later change writes the variable, under whatever force (2.4).
 pub fn writes()
-    ensures kept { (plant : PlantData) (later h : History) →
-        (recent : List Change) × ((table_of plant (later ++ h)).changes ≡ recent ++ (table_of plant h).changes) }
+    ensures stays { (plant : PlantData) (later h : History) →
+        (recent : List Change) × ((state_of plant (later ++ h)).changes ≡ recent ++ (state_of plant h).changes) }
     ensures latest { (plant : PlantData) (later h : History) (id : VarId) (v : Value) (t : ℤ) (recent : List Change) →
-        (table_of plant (later ++ (Input id v, t) ∷ h)).changes ≡ recent ++ Stored id v ∷ (table_of plant h).changes →
+        (state_of plant (later ++ (Input id v, t) ∷ h)).changes ≡ recent ++ Stored id v ∷ (state_of plant h).changes →
         All (λ change. image.writes plant id.0 change ≡ false) recent →
-        stored_value plant (table_of plant (later ++ (Input id v, t) ∷ h)).changes id.0 ≡ v }
+        stored_value plant (state_of plant (later ++ (Input id v, t) ∷ h)).changes id.0 ≡ v }
 {}
 
 /// A scan of a task, due or forced, leaves how the instances of other tasks stand (2.7.2).
 pub fn scans()
     ensures due { (plant : PlantData) (h : History) (task : TaskId) (t : ℤ) (p : ProgId) (instance : Instance) →
         slice_get plant.instances p.0 ≡ Some instance → instance.task.0 ≢ task.0 →
-        standing_of plant ((Scan task, t) ∷ h) p ≡ standing_of plant h p }
+        instance_state_of plant ((Scan task, t) ∷ h) p ≡ instance_state_of plant h p }
     ensures forced { (plant : PlantData) (h : History) (task : TaskId) (t : ℤ) (p : ProgId) (instance : Instance) →
         slice_get plant.instances p.0 ≡ Some instance → instance.task.0 ≢ task.0 →
-        standing_of plant ((ForcedScan task, t) ∷ h) p ≡ standing_of plant h p }
+        instance_state_of plant ((ForcedScan task, t) ∷ h) p ≡ instance_state_of plant h p }
 {}
 
 /// An instance with a fault stands as it does until its reset, whatever comes (our choice).
 pub fn faults()
     ensures { (plant : PlantData) (h : History) (event : Event) (t : ℤ) (p : ProgId) (fault : ScanFault) →
-        (standing_of plant h p).fault ≡ Some fault → event ≢ Reset p →
-        standing_of plant ((event, t) ∷ h) p ≡ standing_of plant h p }
+        (instance_state_of plant h p).fault ≡ Some fault → event ≢ Reset p →
+        instance_state_of plant ((event, t) ∷ h) p ≡ instance_state_of plant h p }
 {}
 
 /// After a reset the instance has no scan and no fault, so that its next scan is a first scan; its locals have their initial
 /// values stored, and each other instance stands as it did (2.4.2, 2.6.2).
 pub fn resets()
-    ensures anew { (plant : PlantData) (h : History) (p : ProgId) (t : ℤ) → standing_of plant ((Reset p, t) ∷ h) p ≡ fresh }
+    ensures anew { (plant : PlantData) (h : History) (p : ProgId) (t : ℤ) → instance_state_of plant ((Reset p, t) ∷ h) p ≡ fresh }
     ensures locals { (plant : PlantData) (h : History) (p : ProgId) (t : ℤ) (id : VarId) → is_local_of plant p id.0 ≡ true →
-        stored_value plant (table_of plant ((Reset p, t) ∷ h)).changes id.0 ≡ initial_of plant id.0 }
+        stored_value plant (state_of plant ((Reset p, t) ∷ h)).changes id.0 ≡ initial_of plant id.0 }
     ensures others { (plant : PlantData) (h : History) (p other : ProgId) (t : ℤ) → other.0 ≢ p.0 →
-        standing_of plant ((Reset p, t) ∷ h) other ≡ standing_of plant h other }
+        instance_state_of plant ((Reset p, t) ∷ h) other ≡ instance_state_of plant h other }
 {}
 
 /// A scan of a task, due or forced, handles at most what its instances may handle together, and 128 more, however long the
@@ -187,7 +224,7 @@ pub fn cut()
     ensures life { (plant : PlantData) (h other later : History) (p : ProgId) → IsPlant plant →
         history_past plant h ≡ history_past plant other → p.0 < length plant.instances →
         let tables = tables_of (chart_of plant p) in
-        standing_past tables (standing_of plant (later ++ h) p) ≡ standing_past tables (standing_of plant (later ++ other) p) }
+        instance_past tables (instance_state_of plant (later ++ h) p) ≡ instance_past tables (instance_state_of plant (later ++ other) p) }
     ensures waits { (plant : PlantData) (h other later : History) (task : TaskId) (t : ℤ) → IsPlant plant →
         history_past plant h ≡ history_past plant other → task.0 < length plant.tasks →
         waits_since plant.tasks (calls_at plant (later ++ h) t) task.0

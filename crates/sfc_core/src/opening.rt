@@ -2,15 +2,15 @@
 
 ghost use Rattle.std.specs.Prelude.{◌≡◌, ◌≤ℤ◌, ◌^◌, pos, negsuc};
 
-use sfc_chart::plant::Plant;
-use sfc_machine::machine::Machine;
+use sfc_instances::instances::Instances;
+use sfc_plant::plant::Plant;
 use sfc_tasks::table::TaskTable;
 use std::alloc::{AllocError, Global};
 
 /// What a history leaves for later events: of each variable the stored and the forced value, of each program instance and each
 /// task what its next scan needs, and the instant of the latest event. It is used with the plant that it was made for.
 pub struct Opening {
-    pub(crate) machine: Machine,
+    pub(crate) instances: Instances,
     pub(crate) tasks: TaskTable,
     pub(crate) last: i64,
     ghost last_low: { negsuc 0 ≤ℤ last },
@@ -21,7 +21,7 @@ pub struct Opening {
 impl Drop for Opening {
     fn drop(self) {
         let Opening {
-            machine: _,
+            instances: _,
             tasks: _,
             last: _,
         } = self;
@@ -34,14 +34,14 @@ impl Opening {
     ghost use Rattle.sfc_core.specs.Past.{history_past};
     ghost use Rattle.sfc_core.specs.Openings.{IsOpeningFor, past_of};
 
-    /// That of no event: a resource that is restored from it is as one that was opened anew. All room is made here; the one
-    /// error is that memory was refused.
+    /// That of no event: a resource that is restored from it is as one that was opened anew. All memory is taken here;
+    /// the one error is that memory was refused.
     pub fn new(alloc: Global, plant: &Plant) -> Result<Opening, AllocError>
         ensures sizes { IfOk result (λ opening. IsOpeningFor plant.now opening) }
         ensures empty { IfOk result (λ opening. past_of plant.now opening ≡ history_past plant.now []) }
     {
         Ok(Opening {
-            machine: Machine::new(alloc, plant)?,
+            instances: Instances::new(alloc, plant)?,
             tasks: TaskTable::new(plant),
             last: -1,
         })

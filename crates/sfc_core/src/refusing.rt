@@ -2,19 +2,19 @@
 
 ghost use Rattle.std.specs.Prelude.{◌≡◌, ◌<◌, ◌≤ℤ◌, ◌^◌, pos, length, None};
 ghost use Rattle.sfc_image.specs.Answers as answers;
-ghost use Rattle.sfc_machine.specs.Agreement.{MachineAgrees};
-ghost use Rattle.sfc_machine.specs.Table.{Table};
+ghost use Rattle.sfc_instances.specs.Agreement.{InstancesAgree};
+ghost use Rattle.sfc_instances.specs.PlantState.{PlantState};
 ghost use Rattle.sfc_core.specs.Verdict as verdict;
 ghost use Rattle.sfc_core.specs.Private.Naming.{IsKnown};
 
 use crate::inputs::is_input;
-use sfc_chart::ids::{ProgId, TaskId, VarId};
-use sfc_chart::plant::Plant;
+use sfc_base::ids::{ProgId, TaskId, VarId};
+use sfc_base::value::Value;
 use sfc_events::event::Event;
 use sfc_events::refusal::Refusal;
-use sfc_expr::value::Value;
 use sfc_image::image_error::ImageError;
-use sfc_machine::machine::Machine;
+use sfc_instances::instances::Instances;
+use sfc_plant::plant::Plant;
 
 /// The last instant.
 const LATEST: i64 = 1 << 62;
@@ -58,8 +58,8 @@ fn refuse_program(plant: &Plant, instance: ProgId) -> Option<Refusal>
     }
 }
 
-// What is told of a fault of the variables.
-fn told(fault: Option<ImageError>) -> Option<Refusal>
+// The refusal for a fault of the variables.
+fn refusal_of(fault: Option<ImageError>) -> Option<Refusal>
     ensures { result ≡ verdict.of_image fault }
 {
     match fault {
@@ -71,11 +71,11 @@ fn told(fault: Option<ImageError>) -> Option<Refusal>
 }
 
 // That the variable is not there, the value is of another type, or the variable is no input.
-fn refuse_input(plant: &Plant, machine: &Machine, id: VarId, value: Value) -> Option<Refusal>
-    ensures { (table : Table) → MachineAgrees plant.now machine.now table →
+fn refuse_input(plant: &Plant, instances: &Instances, id: VarId, value: Value) -> Option<Refusal>
+    ensures { (state : PlantState) → InstancesAgree plant.now instances.now state →
         result ≡ verdict.or_then (verdict.of_image (answers.value_fault plant.now id value)) (verdict.input_refusal plant.now id) }
 {
-    match told(machine.value_fault(id, value)) {
+    match refusal_of(instances.image().value_fault(id, value)) {
         Some(refusal) => Some(refusal),
         None => {
             if is_input(plant, id) {
@@ -88,17 +88,17 @@ fn refuse_input(plant: &Plant, machine: &Machine, id: VarId, value: Value) -> Op
 }
 
 /// By what the event names.
-pub fn refuse_event(plant: &Plant, machine: &Machine, event: Event) -> Option<Refusal>
-    ensures value { (table : Table) → MachineAgrees plant.now machine.now table →
-        result ≡ verdict.event_refusal plant.now table.changes event }
+pub fn refuse_event(plant: &Plant, instances: &Instances, event: Event) -> Option<Refusal>
+    ensures value { (state : PlantState) → InstancesAgree plant.now instances.now state →
+        result ≡ verdict.event_refusal plant.now state.changes event }
     ensures known { result ≡ None → IsKnown plant.now event }
 {
     match event {
         Event::Scan(task) => refuse_task(plant, task),
         Event::ForcedScan(task) => refuse_task(plant, task),
-        Event::Input(id, value) => refuse_input(plant, machine, id, value),
-        Event::Force(id, value) => told(machine.value_fault(id, value)),
-        Event::Release(id) => told(machine.release_fault(id)),
+        Event::Input(id, value) => refuse_input(plant, instances, id, value),
+        Event::Force(id, value) => refusal_of(instances.image().value_fault(id, value)),
+        Event::Release(id) => refusal_of(instances.image().release_fault(id)),
         Event::Reset(instance) => refuse_program(plant, instance),
     }
 }

@@ -1,11 +1,11 @@
 //! One resource of a controller (2.7.1): a plant that runs by events.
 
 ghost use Rattle.std.specs.Prelude.{◌≡◌, ◌<◌, ◌≤ℤ◌, ◌^◌, length, pos, negsuc};
-ghost use Rattle.sfc_tasks.specs.Agreement.{task_places};
+ghost use Rattle.sfc_tasks.specs.Agreement.{task_total};
 ghost use Rattle.sfc_instance.proofs.Places.{for_prop};
 ghost use Rattle.sfc_events.specs.History.{History};
-ghost use Rattle.sfc_machine.specs.Agreement.{IsMachineOf};
-ghost use Rattle.sfc_machine.proofs.Kept.{machine_prop};
+ghost use Rattle.sfc_instances.specs.Agreement.{AreInstancesOf};
+ghost use Rattle.sfc_instances.proofs.OfOnePlant.{instances_prop};
 ghost use Rattle.sfc_core.specs.Keeping.{Keeps};
 
 use crate::changing::{change, outcome};
@@ -13,15 +13,15 @@ use crate::due::Due;
 use crate::opening::Opening;
 use crate::refusing::{refuse_event, refuse_instant};
 use crate::singles::Singles;
-use sfc_chart::ids::{ProgId, TaskId, VarId};
-use sfc_chart::plant::Plant;
+use sfc_base::ids::{ProgId, TaskId, VarId};
+use sfc_base::limits::VARIABLES;
+use sfc_base::ticks::Ticks;
+use sfc_base::value::Value;
 use sfc_events::event::{Event, Outcome};
 use sfc_events::refusal::Refusal;
-use sfc_expr::ticks::Ticks;
-use sfc_expr::value::Value;
-use sfc_instance::program::Program;
-use sfc_instance::setting::Setting;
-use sfc_machine::machine::Machine;
+use sfc_instance::program_view::ProgramView;
+use sfc_instances::instances::Instances;
+use sfc_plant::plant::Plant;
 use sfc_tasks::table::TaskTable;
 use std::alloc::{AllocError, Global};
 
@@ -29,14 +29,14 @@ use std::alloc::{AllocError, Global};
 /// event costs is bounded by the plant.
 pub struct Resource {
     plant: Plant,
-    machine: Machine,
+    instances: Instances,
     tasks: TaskTable,
     last: i64,
-    ghost whole: { IsMachineOf plant machine } by { machine_prop for_prop plant machine },
-    ghost places: { task_places tasks ≡ length plant.tasks },
+    ghost whole: { AreInstancesOf plant instances } by { instances_prop for_prop plant instances },
+    ghost tasks_sized: { task_total tasks ≡ length plant.tasks },
     ghost last_low: { negsuc 0 ≤ℤ last },
     ghost last_high: { last ≤ℤ pos (2 ^ 62) },
-    ghost told: { ∥ ((h : History) × Keeps plant machine tasks last h) ∥₁ },
+    ghost agrees: { ∥ ((h : History) × Keeps plant instances tasks last h) ∥₁ },
 }
 
 // By hand, so that a caller that drops one proves one call.
@@ -44,7 +44,7 @@ impl Drop for Resource {
     fn drop(self) {
         let Resource {
             plant: _,
-            machine: _,
+            instances: _,
             tasks: _,
             last: _,
         } = self;
@@ -53,18 +53,15 @@ impl Drop for Resource {
 
 #[tactic(auto, unfolding(crate::specs::Agreement::Agrees, crate::specs::Agreement::plant_of))]
 impl Resource {
-    ghost use Rattle.std.specs.Prelude.{◌∷◌, ◌≤◌, [], List, None, OnOk, OnErr, IfOk, is_ok, ◌+◌};
-    ghost use Rattle.sfc_expr.specs.Ticks.{Within};
-    ghost use Rattle.sfc_tables.specs.Tables.{tables_of};
+    ghost use Rattle.std.specs.Prelude.{◌∷◌, ◌≤◌, [], List, None, OnOk, OnErr, IfOk, is_ok, ◌+◌, ◌*◌};
+    ghost use Rattle.sfc_base.specs.Ticks.{Within};
     ghost use Rattle.sfc_image.specs.Values.{variable_count};
-    ghost use Rattle.sfc_chart.specs.Finding.{chart_of};
-    ghost use Rattle.sfc_instance.specs.Setting.{IsSettingOf};
-    ghost use Rattle.sfc_instance.specs.Agreement.{IsFor, ProgramAgrees};
-    ghost use Rattle.sfc_events.specs.History.{Entry, History, last_instant};
-    ghost use Rattle.sfc_core.specs.Table.{table_of};
-    ghost use Rattle.sfc_core.specs.Answers.{value_of, forced_of, standing_of, overruns_of};
+    ghost use Rattle.sfc_instance.specs.Views.{plant_in, instance_in, Shows};
+    ghost use Rattle.sfc_events.specs.History.{TimedEvent, History, last_instant};
+    ghost use Rattle.sfc_core.specs.PlantState.{state_of};
+    ghost use Rattle.sfc_core.specs.Answers.{value_of, forced_of, instance_state_of, overruns_of};
     ghost use Rattle.sfc_core.specs.Verdict.{instant_refusal, event_refusal, or_then, answer, verdict, after, after_all, accepted};
-    ghost use Rattle.sfc_core.specs.Work.{event_work, machine_work};
+    ghost use Rattle.sfc_core.specs.Work.{event_work, instances_work};
     ghost use Rattle.sfc_core.specs.Agreement.{Agrees, plant_of};
     ghost use Rattle.sfc_core.specs.Past.{history_past};
     ghost use Rattle.sfc_core.specs.Openings.{IsOpeningFor, past_of};
@@ -72,16 +69,16 @@ impl Resource {
     ghost use Rattle.sfc_core.specs.Private.Ready.{IsDueOf, IsReady};
 
     /// A resource that has seen no event: each variable has its initial value, none is forced, and no instance was
-    /// scanned. All room that events need is made here; the one error is that memory was refused.
+    /// scanned. All memory that events need is taken here; the one error is that memory was refused.
     pub fn open(alloc: Global, plant: Plant) -> Result<Resource, AllocError>
         ensures agrees { IfOk result (λ resource. Agrees resource []) }
         ensures plant { IfOk result (λ resource. plant_of resource ≡ plant) }
     {
-        let machine = Machine::new(alloc, &plant)?;
+        let instances = Instances::new(alloc, &plant)?;
         let tasks = TaskTable::new(&plant);
         Ok(Resource {
             plant,
-            machine,
+            instances,
             tasks,
             last: -1,
         })
@@ -90,14 +87,14 @@ impl Resource {
     // Why the event at t is refused by its instant and by what it names.
     fn refuse_named(&self, event: Event, t: i64) -> Option<Refusal>
         ensures value { (h : History) → Agrees self.now h → result ≡ or_then (instant_refusal (last_instant h) t)
-            (event_refusal (plant_of self.now) (table_of (plant_of self.now) h).changes event) }
+            (event_refusal (plant_of self.now) (state_of (plant_of self.now) h).changes event) }
         ensures known { result ≡ None → IsKnown (plant_of self.now) event }
         ensures low { result ≡ None → pos 0 ≤ℤ t }
         ensures high { result ≡ None → t ≤ℤ pos (2 ^ 62) }
     {
         match refuse_instant(self.last, t) {
             Some(refusal) => Some(refusal),
-            None => refuse_event(&self.plant, &self.machine, event),
+            None => refuse_event(&self.plant, &self.instances, event),
         }
     }
 
@@ -110,16 +107,16 @@ impl Resource {
         requires ready { (h : History) → Agrees self.old h → IsReady (plant_of self.old) h event t due }
         ensures plant { plant_of self.new ≡ plant_of self.old }
         ensures value { (h : History) → Agrees self.old h → result ≡ answer (plant_of self.old) h event t }
-        ensures kept { (h : History) → Agrees self.old h → Agrees self.new ((event, t) ∷ h) }
-        ensures ticks { Within (machine_work (plant_of self.old) event + length (plant_of self.old).tasks + 1) ticks.old ticks.new }
+        ensures agrees { (h : History) → Agrees self.old h → Agrees self.new ((event, t) ∷ h) }
+        ensures ticks { Within (instances_work (plant_of self.old) event + 3 * length (plant_of self.old).tasks + 2) ticks.old ticks.new }
     {
         due.serve(event, ticks);
-        let bits = change(&mut self.machine, &self.plant, event, t, ticks);
-        let after = Singles::read(&self.machine, &self.plant);
+        let bits = change(&mut self.instances, &self.plant, event, t, ticks);
+        let after = Singles::read(&self.instances, &self.plant, ticks);
         due.rise(&after, t, ticks);
-        self.tasks.copy_from(&due.tasks);
+        self.tasks.copy_from(&due.tasks, ticks);
         self.last = t;
-        outcome(event, bits, &self.tasks)
+        outcome(event, bits, &self.tasks, ticks)
     }
 
     /// One event at the instant t, in microseconds: what it is refused for, else what it answers. After a refusal the
@@ -140,7 +137,7 @@ impl Resource {
         if let Some(refusal) = self.refuse_named(event, t) {
             return Err(refusal);
         }
-        let due = Due::at(&self.plant, &self.machine, &self.tasks, t, ticks);
+        let due = Due::at(&self.plant, &self.instances, &self.tasks, t, ticks);
         match due.refuse_turn(event, t, ticks) {
             Some(refusal) => Err(refusal),
             None => Ok(self.accept(due, event, t, ticks)),
@@ -151,7 +148,7 @@ impl Resource {
     fn is_accepted(&mut self, event: Event, t: i64, ticks: &mut Ticks) -> bool
         ensures plant { plant_of self.new ≡ plant_of self.old }
         ensures value { (h : History) → Agrees self.old h → result ≡ is_ok (verdict (plant_of self.old) h event t) }
-        ensures kept { (h : History) → Agrees self.old h → Agrees self.new (after (plant_of self.old) h (event, t)) }
+        ensures agrees { (h : History) → Agrees self.old h → Agrees self.new (after (plant_of self.old) h (event, t)) }
     {
         match self.apply(event, t, ticks) {
             Ok(_) => true,
@@ -164,7 +161,7 @@ impl Resource {
     pub fn run(&mut self, events: &[(Event, i64)]) -> u64
         ensures plant { plant_of self.new ≡ plant_of self.old }
         ensures count { (h : History) → Agrees self.old h → result ≡ accepted (plant_of self.old) h events.now }
-        ensures kept { (h : History) → Agrees self.old h → Agrees self.new (after_all (plant_of self.old) h events.now) }
+        ensures agrees { (h : History) → Agrees self.old h → Agrees self.new (after_all (plant_of self.old) h events.now) }
     {
         let mut ticks = Ticks::new();
         let mut count: u64 = 0;
@@ -176,32 +173,24 @@ impl Resource {
         count
     }
 
-    /// The program instance, as its latest scan left it. The instance is one of the plant's.
-    pub fn program(&self, instance: ProgId) -> &Program
+    /// A window on the program instance, as its latest scan left it. The instance is one of the plant's.
+    pub fn program(&self, instance: ProgId) -> ProgramView<'_>
         requires { instance.0 < length (plant_of self.now).instances }
-        ensures sizes { IsFor (tables_of (chart_of (plant_of self.now) instance)) result.now }
-        ensures agrees { (h : History) → Agrees self.now h →
-            ProgramAgrees (tables_of (chart_of (plant_of self.now) instance)) result.now (standing_of (plant_of self.now) h instance) }
+        ensures plant { plant_in result ≡ plant_of self.now }
+        ensures instance { instance_in result ≡ instance }
+        ensures shows { (h : History) → Agrees self.now h →
+            Shows result (state_of (plant_of self.now) h).changes (instance_state_of (plant_of self.now) h instance) }
     {
-        self.machine.program(instance)
-    }
-
-    /// What the program instance runs in: its chart, and the tables of it. The instance is one of the plant's.
-    pub fn setting(&self, instance: ProgId) -> Setting<'_>
-        requires { instance.0 < length (plant_of self.now).instances }
-        ensures setting { IsSettingOf (plant_of self.now) result }
-        ensures instance { result.instance ≡ instance }
-    {
-        self.machine.setting(&self.plant, instance)
+        self.instances.view(&self.plant, instance)
     }
 
     /// How many variables there are, at most 4,096.
     pub fn variables(&self) -> usize
         ensures count { result ≡ variable_count (plant_of self.now) }
-        ensures limit { result ≤ 4096 }
+        ensures limit { result ≤ VARIABLES }
     {
         let _instances = self.plant.instances();
-        self.machine.variables()
+        self.instances.image().variables()
     }
 
     /// What the variable reads: the value to which it is forced, if it is, else the stored one. The variable is one of the
@@ -210,7 +199,7 @@ impl Resource {
         requires { id.0 < variable_count (plant_of self.now) }
         ensures { (h : History) → Agrees self.now h → result ≡ value_of (plant_of self.now) h id }
     {
-        self.machine.value(id)
+        self.instances.image().value(id)
     }
 
     /// The value to which the variable is forced, if it is. The variable is one of the plant's.
@@ -218,7 +207,7 @@ impl Resource {
         requires { id.0 < variable_count (plant_of self.now) }
         ensures { (h : History) → Agrees self.now h → result ≡ forced_of (plant_of self.now) h id }
     {
-        self.machine.forced(id)
+        self.instances.image().forced(id)
     }
 
     /// The overruns of the task since the opening: of all its scans, how many releases beyond the first they served; at most
@@ -227,7 +216,7 @@ impl Resource {
         requires { task.0 < length (plant_of self.now).tasks }
         ensures { (h : History) → Agrees self.now h → result ≡ overruns_of (plant_of self.now) h task }
     {
-        self.tasks.overruns(task)
+        self.tasks.overruns(task, &mut Ticks::new())
     }
 
     /// Puts into the opening what the events so far leave for later ones. It takes no memory.
@@ -238,8 +227,8 @@ impl Resource {
         ensures saved { (h : History) → Agrees self.now h →
             past_of (plant_of self.now) opening.new ≡ history_past (plant_of self.now) h }
     {
-        opening.machine.copy_from(&self.plant, &self.machine);
-        opening.tasks.copy_from(&self.tasks);
+        opening.instances.copy_from(&self.plant, &self.instances);
+        opening.tasks.copy_from(&self.tasks, &mut Ticks::new());
         opening.last = self.last;
     }
 
@@ -252,8 +241,8 @@ impl Resource {
         ensures restored { (h : History) →
             past_of (plant_of self.old) opening.now ≡ history_past (plant_of self.old) h → Agrees self.new h }
     {
-        self.machine.copy_from(&self.plant, &opening.machine);
-        self.tasks.copy_from(&opening.tasks);
+        self.instances.copy_from(&self.plant, &opening.instances);
+        self.tasks.copy_from(&opening.tasks, &mut Ticks::new());
         self.last = opening.last;
     }
 

@@ -1,5 +1,9 @@
 -- The rules, in reading order.
 
+-- what an event is
+pub mod Events
+-- which event a command of the debugger is
+pub mod Commands
 -- the numbers, names and texts of refusals
 pub mod Refusals
 -- the events that were accepted

@@ -4,6 +4,8 @@ use Rattle.std.specs.Fmt.{decimal}
 use Rattle.sfc_events.specs.declared.refusal.Refusal.{Refusal}
 use Rattle.sfc_events.specs.declared.refusal.Refusal.TheVariants.{InstantRange, ClockBack, UnknownTask, UnknownProgram}
 use Rattle.sfc_events.specs.declared.refusal.Refusal.TheVariants.{UnknownVar, ValueType, NotInput, NotForced, NotDue, Yield}
+use Rattle.sfc_events.specs.declared.refusal.Refusal.TheVariants.{Stopped, NotRunning, NotStopped, NoSuchPoint, TooManyPoints}
+use Rattle.sfc_events.specs.declared.refusal.Refusal.TheVariants.{HistoryFull, Ended, NoSuchCondition}
 
 abbrev pub number_of : Refusal → ℕ
 number_of UnknownVar = 24
@@ -16,6 +18,14 @@ number_of (Yield task) = 30
 number_of UnknownTask = 31
 number_of UnknownProgram = 32
 number_of InstantRange = 33
+number_of Stopped = 34
+number_of NotRunning = 35
+number_of NotStopped = 36
+number_of NoSuchPoint = 37
+number_of TooManyPoints = 38
+number_of HistoryFull = 39
+number_of Ended = 40
+number_of NoSuchCondition = 42
 
 abbrev pub name_of : Refusal → List ℕ
 name_of UnknownVar = codes "UnknownVar"
@@ -28,6 +38,14 @@ name_of (Yield task) = codes "Yield"
 name_of UnknownTask = codes "UnknownTask"
 name_of UnknownProgram = codes "UnknownProgram"
 name_of InstantRange = codes "InstantRange"
+name_of Stopped = codes "Stopped"
+name_of NotRunning = codes "NotRunning"
+name_of NotStopped = codes "NotStopped"
+name_of NoSuchPoint = codes "NoSuchPoint"
+name_of TooManyPoints = codes "TooManyPoints"
+name_of HistoryFull = codes "HistoryFull"
+name_of Ended = codes "Ended"
+name_of NoSuchCondition = codes "NoSuchCondition"
 
 -- what a refusal is told as
 abbrev pub refusal_text : Refusal → List ℕ

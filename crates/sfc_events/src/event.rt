@@ -1,7 +1,10 @@
 //! What may happen to a resource, and what it answers.
 
-use sfc_chart::ids::{ProgId, TaskId, VarId};
-use sfc_expr::value::Value;
+ghost use Rattle.std.specs.Prelude.{◌≡◌};
+ghost use Rattle.sfc_events.specs.Events as events;
+
+use sfc_base::ids::{ProgId, TaskId, VarId};
+use sfc_base::value::Value;
 
 /// What may happen to a resource.
 #[derive(Clone, Copy, Debug, PartialEq, Eq)]
@@ -18,6 +21,18 @@ pub enum Event {
     Release(VarId),
     /// The program instance begins a new life, and its locals get their initial values.
     Reset(ProgId),
+}
+
+impl Event {
+    /// The task that it scans, if it is a scan (2.7.2).
+    pub fn scanned_task(self) -> Option<TaskId>
+        ensures { result ≡ events.scanned_task self }
+    {
+        match self {
+            Event::Scan(task) | Event::ForcedScan(task) => Some(task),
+            Event::Input(_, _) | Event::Force(_, _) | Event::Release(_) | Event::Reset(_) => None,
+        }
+    }
 }
 
 /// What an accepted event answers.

@@ -1,8 +1,10 @@
 //! What may happen to a resource, what it answers, and why it refuses (IEC 61131-3:2003, 2.4, 2.6 and 2.7.2).
 //!
 //! - `event`: events, and what an accepted one answers.
-//! - `refusal`: why an event is refused.
+//! - `command`: what the debugger is asked, and what it answers.
+//! - `refusal`: why an event or a command is refused.
 #![tactic(auto)]
 
+pub mod command;
 pub mod event;
 pub mod refusal;

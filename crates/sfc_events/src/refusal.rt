@@ -1,13 +1,14 @@
-//! Why an event is refused.
+//! Why an event or a command is refused.
 
 ghost use Rattle.std.specs.Prelude.{◌≡◌};
 ghost use Rattle.sfc_events.specs.Refusals.{number_of, name_of};
 
-use sfc_chart::ids::TaskId;
+use sfc_base::ids::TaskId;
 use std::error::Error;
 use std::fmt;
 
-/// Why an event is refused, in the order in which the reasons are looked for (our choice).
+/// Why an event, or a command of the debugger, is refused (our choice). The order in which the reasons are looked for is that of
+/// `Resource::apply` and `Debugger::command`.
 #[derive(Clone, Copy, Debug, PartialEq, Eq)]
 pub enum Refusal {
     /// The instant is below 0 or above 2^62 microseconds.
@@ -30,6 +31,22 @@ pub enum Refusal {
     NotDue(Option<i64>),
     /// This other task goes first.
     Yield(TaskId),
+    /// The debugger has halted the resource: no task is scanned but one at a time.
+    Stopped,
+    /// The debugger has halted it already.
+    NotRunning,
+    /// It runs, and is not halted by the debugger.
+    NotStopped,
+    /// The chart has no such point, or no breakpoint is set there.
+    NoSuchPoint,
+    /// As many breakpoints are set as may be.
+    TooManyPoints,
+    /// As many commands were accepted as may be.
+    HistoryFull,
+    /// The debugger has ended, and accepts nothing more.
+    Ended,
+    /// There is no such condition, or it is one of another program instance.
+    NoSuchCondition,
 }
 
 impl Refusal {
@@ -48,6 +65,14 @@ impl Refusal {
             Refusal::UnknownTask => 31,
             Refusal::UnknownProgram => 32,
             Refusal::InstantRange => 33,
+            Refusal::Stopped => 34,
+            Refusal::NotRunning => 35,
+            Refusal::NotStopped => 36,
+            Refusal::NoSuchPoint => 37,
+            Refusal::TooManyPoints => 38,
+            Refusal::HistoryFull => 39,
+            Refusal::Ended => 40,
+            Refusal::NoSuchCondition => 42,
         }
     }
 
@@ -66,6 +91,14 @@ impl Refusal {
             Refusal::UnknownTask => "UnknownTask",
             Refusal::UnknownProgram => "UnknownProgram",
             Refusal::InstantRange => "InstantRange",
+            Refusal::Stopped => "Stopped",
+            Refusal::NotRunning => "NotRunning",
+            Refusal::NotStopped => "NotStopped",
+            Refusal::NoSuchPoint => "NoSuchPoint",
+            Refusal::TooManyPoints => "TooManyPoints",
+            Refusal::HistoryFull => "HistoryFull",
+            Refusal::Ended => "Ended",
+            Refusal::NoSuchCondition => "NoSuchCondition",
         }
     }
 }

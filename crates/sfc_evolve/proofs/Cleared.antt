@@ -4,12 +4,11 @@ use Rattle.std.proofs.Common.{true, false, cond, List, [], ◌∷◌, length, re
 use Rattle.std.specs.Prelude.{All}
 use Rattle.std.specs.List.{list_any}
 use Rattle.std.proofs.lemmas.List.Elements.{All-head, All-tail}
-use Rattle.sfc_expr.specs.declared.variable.StepId.{StepId}
+use Rattle.sfc_base.specs.declared.references.StepId.{StepId}
 use Rattle.sfc_flags.specs.Flags.{flag}
 use Rattle.sfc_evolve.specs.Private.Keeping.{AllBelow}
 use Rattle.sfc_evolve.specs.Marks.{has, marked}
-use Rattle.sfc_evolve.specs.Evolution.{is_enabled, is_cleared}
-use Rattle.sfc_evolve.specs.Clearing.{shares}
+use Rattle.sfc_evolve.specs.Clearing.{is_enabled, is_cleared, shares}
 use Rattle.sfc_evolve.proofs.Flagged.{flag-marked, length-marked}
 use Rattle.sfc_evolve.proofs.Looks.{bool_cases}
 

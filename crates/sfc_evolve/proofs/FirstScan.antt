@@ -4,13 +4,14 @@ use Rattle.std.proofs.Common.{true, false, cond, List, [], ◌∷◌, length, ar
 use Rattle.std.specs.Prelude.{replicate, slice_set}
 use Rattle.std.proofs.lemmas.Bool.{cases_lt}
 use Rattle.std.proofs.lemmas.List.{length-set, length-replicate}
-use Rattle.sfc_expr.specs.declared.variable.StepId.{StepId}
+use Rattle.sfc_base.specs.declared.references.StepId.{StepId}
 use Rattle.sfc_flags.specs.Flags.{flag, places_from}
-use Rattle.sfc_tables.specs.declared.ids.TransitionId.{TransitionId}
+use Rattle.sfc_base.specs.declared.ids.TransitionId.{TransitionId}
 use Rattle.sfc_tables.specs.Tables.{Sides, Tabled, AreTables, sides_at}
 use Rattle.sfc_evolve.specs.Marks.{has, marked}
-use Rattle.sfc_evolve.specs.Evolution.{Scan, Row, transition_count, preceding_of, following_of, is_enabled, is_cleared}
-use Rattle.sfc_evolve.specs.Evolution.{cleared_in, cleared_set, some_cleared, row_after, is_active, is_activated, is_deactivated}
+use Rattle.sfc_evolve.specs.Clearing.{transition_count, preceding_of, following_of, is_enabled, is_cleared, cleared_in, cleared_set}
+use Rattle.sfc_evolve.specs.Evolution.{Scan, Row}
+use Rattle.sfc_evolve.specs.Evolution.{some_cleared, row_after, is_active, is_activated, is_deactivated}
 use Rattle.sfc_evolve.proofs.Flagged.{any_where, is_member}
 use Rattle.sfc_evolve.proofs.Looks.{bool_cases, is_in_on, is_in_kept}
 use Rattle.sfc_evolve.proofs.Next.{apart, set_enabled}

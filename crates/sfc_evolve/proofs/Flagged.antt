@@ -7,7 +7,7 @@ use Rattle.std.proofs.lemmas.Bool.Decides.{nat_tests}
 use Rattle.std.proofs.lemmas.Grind.{common_steps}
 use Rattle.std.proofs.lemmas.List.{length-set}
 use Rattle.std.proofs.lemmas.List.Elements.{All-nil, All-cons, All-head, All-tail}
-use Rattle.sfc_expr.specs.declared.variable.StepId.{StepId}
+use Rattle.sfc_base.specs.declared.references.StepId.{StepId}
 use Rattle.sfc_flags.specs.Flags.{flag, set_from, places_from}
 use Rattle.sfc_evolve.specs.Marks.{has, marked}
 use Rattle.sfc_evolve.specs.Private.Keeping.{AllBelow, number, unmarked, changed_by, left_at, left_by, begun_at, set_at, measured_at}
@@ -73,9 +73,9 @@ flag-unmarked n (p ∷ steps) flags s long below =
 
 -- ---- times of listed steps
 
-length-left_at : (t : ℤ) (since : List ℤ) (steps : List StepId) (kept : List ℤ) → length (left_at t since steps kept) ≡ length kept
-length-left_at t since [] kept = refl
-length-left_at t since (p ∷ steps) kept = length-left_at t since steps (slice_set kept p.0 (t -ℤ number since p.0)) ∙ length-set _ _ _
+length-left_at : (t : ℤ) (since : List ℤ) (steps : List StepId) (held_times : List ℤ) → length (left_at t since steps held_times) ≡ length held_times
+length-left_at t since [] held_times = refl
+length-left_at t since (p ∷ steps) held_times = length-left_at t since steps (slice_set held_times p.0 (t -ℤ number since p.0)) ∙ length-set _ _ _
 
 put_step : (h e : Bool) (x y k : ℤ) → (e ≡ true → y ≡ x) → cond h x (cond e y k) ≡ cond (e || h) x k
 put_step true true x y k same = refl
@@ -83,16 +83,16 @@ put_step true false x y k same = refl
 put_step false true x y k same = same refl
 put_step false false x y k same = refl
 
-number-left_at : (n : ℕ) (t : ℤ) (since : List ℤ) (steps : List StepId) (kept : List ℤ) (s : ℕ) → length kept ≡ n → AllBelow n steps
-    → number (left_at t since steps kept) s ≡ cond (has steps s) (t -ℤ number since s) (number kept s)
-number-left_at n t since [] kept s long below = refl
-number-left_at n t since (p ∷ steps) kept s long below =
+number-left_at : (n : ℕ) (t : ℤ) (since : List ℤ) (steps : List StepId) (held_times : List ℤ) (s : ℕ) → length held_times ≡ n → AllBelow n steps
+    → number (left_at t since steps held_times) s ≡ cond (has steps s) (t -ℤ number since s) (number held_times s)
+number-left_at n t since [] held_times s long below = refl
+number-left_at n t since (p ∷ steps) held_times s long below =
     let here = All-head (λ (step : StepId). step.0 < n) p steps below in
     let v = t -ℤ number since p.0 in
-    number-left_at n t since steps (slice_set kept p.0 v) s (length-set _ _ _ ∙ long)
+    number-left_at n t since steps (slice_set held_times p.0 v) s (length-set _ _ _ ∙ long)
     (All-tail (λ (step : StepId). step.0 < n) p steps below)
-    ∙ ap (λ k. cond (has steps s) (t -ℤ number since s) k) (one_put kept v p.0 s (omega arith))
-    ∙ put_step (has steps s) (p.0 == s) (t -ℤ number since s) v (number kept s)
+    ∙ ap (λ k. cond (has steps s) (t -ℤ number since s) k) (one_put held_times v p.0 s (omega arith))
+    ∙ put_step (has steps s) (p.0 == s) (t -ℤ number since s) v (number held_times s)
     (λ e. let same : p.0 ≡ s = grind (arith, nat_tests) in ap (λ k. t -ℤ number since k) same)
 
 pub number-begun_at : (n : ℕ) (t : ℤ) (places : List ℕ) (since : List ℤ) (s : ℕ) → length since ≡ n → All (λ p. p < n) places
@@ -164,13 +164,13 @@ module _ (n : ℕ) (side : ℕ → List StepId) (within : (tr : ℕ) → AllBelo
   cond_turn false true x k = refl
   cond_turn false false x k = refl
 
-  pub number-left_by : (t : ℤ) (since : List ℤ) (trs : List ℕ) (kept : List ℤ) (s : ℕ) → length kept ≡ n
-      → number (left_by t since side trs kept) s ≡ cond (some trs s) (t -ℤ number since s) (number kept s)
-  number-left_by t since [] kept s long = refl
-  number-left_by t since (tr ∷ trs) kept s long =
-      number-left_by t since trs (left_at t since (side tr) kept) s (length-left_at t since (side tr) kept ∙ long)
-      ∙ ap (λ k. cond (some trs s) (t -ℤ number since s) k) (number-left_at n t since (side tr) kept s long (within tr))
-      ∙ cond_turn (some trs s) (has (side tr) s) (t -ℤ number since s) (number kept s)
+  pub number-left_by : (t : ℤ) (since : List ℤ) (trs : List ℕ) (held_times : List ℤ) (s : ℕ) → length held_times ≡ n
+      → number (left_by t since side trs held_times) s ≡ cond (some trs s) (t -ℤ number since s) (number held_times s)
+  number-left_by t since [] held_times s long = refl
+  number-left_by t since (tr ∷ trs) held_times s long =
+      number-left_by t since trs (left_at t since (side tr) held_times) s (length-left_at t since (side tr) held_times ∙ long)
+      ∙ ap (λ k. cond (some trs s) (t -ℤ number since s) k) (number-left_at n t since (side tr) held_times s long (within tr))
+      ∙ cond_turn (some trs s) (has (side tr) s) (t -ℤ number since s) (number held_times s)
 
 -- ---- set places
 

@@ -6,7 +6,7 @@ use Rattle.std.proofs.Math.Numerals.{add-one}
 use Rattle.std.proofs.Math.Seq.{drop-cons}
 use Rattle.std.proofs.lemmas.Int.{ints}
 use Rattle.std.proofs.lemmas.List.{drop_all}
-use Rattle.sfc_expr.specs.declared.variable.StepId.{StepId}
+use Rattle.sfc_base.specs.declared.references.StepId.{StepId}
 use Rattle.sfc_evolve.specs.Private.Keeping.{AreInstants, number, left_at, begun_at, measured_at}
 
 -- an instant fits in 64 bits
@@ -26,17 +26,17 @@ time_is t since x low high since_low since_high e = omega (arith, ints)
 
 module _ (t t' : ℤ) (same : t' ≡ t) (since : List ℤ) where
   -- the time of one step more is kept
-  pub left_one : (steps : List StepId) (i : ℕ) (kept : List ℤ) (v : ℤ) → i < length steps
+  pub left_one : (steps : List StepId) (i : ℕ) (held_times : List ℤ) (v : ℤ) → i < length steps
       → v ≡ (t -ℤ number since (get_or steps i record { 0 = 0 }).0)
-      → left_at t' since (drop (i + 1) steps) (slice_set kept (get_or steps i record { 0 = 0 }).0 v)
-      ≡ left_at t' since (drop i steps) kept
-  left_one steps i kept v lt e = rw (e, same, add-one, drop-cons steps i record { 0 = 0 }) refl
+      → left_at t' since (drop (i + 1) steps) (slice_set held_times (get_or steps i record { 0 = 0 }).0 v)
+      ≡ left_at t' since (drop i steps) held_times
+  left_one steps i held_times v lt e = rw (e, same, add-one, drop-cons steps i record { 0 = 0 }) refl
 
   -- those of all are
-  pub left_all : (steps : List StepId) (i : ℕ) (kept before : List ℤ) → length steps ≤ i
-      → left_at t' since (drop i steps) kept ≡ left_at t' since steps before → kept ≡ left_at t since steps before
-  left_all steps i kept before le rest =
-      sym (ap (λ (xs : List StepId). left_at t' since xs kept) (drop_all i steps le)) ∙ rest
+  pub left_all : (steps : List StepId) (i : ℕ) (held_times before : List ℤ) → length steps ≤ i
+      → left_at t' since (drop i steps) held_times ≡ left_at t' since steps before → held_times ≡ left_at t since steps before
+  left_all steps i held_times before le rest =
+      sym (ap (λ (xs : List StepId). left_at t' since xs held_times) (drop_all i steps le)) ∙ rest
       ∙ ap (λ (x : ℤ). left_at x since steps before) same
 
   -- one place more is measured

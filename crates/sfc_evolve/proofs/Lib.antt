@@ -14,3 +14,4 @@ pub mod Skipped
 pub mod TableFacts
 pub mod Tested
 pub mod Works
+pub mod Shown

@@ -1,7 +1,8 @@
 -- How a new row changes the look-backs.
 use Rattle.std.proofs.Common.{◌≡◌, ◌⊎◌, inl, inr, not, Bool, true, false, List, [], ◌∷◌, refl, sym, ◌∙◌, ap, Option, Some, None, ℤ, ◌-ℤ◌}
 use Rattle.std.specs.List.{find}
-use Rattle.sfc_evolve.specs.Lookback.{leading, oldest, or_else, is_in, time_from, time_in}
+use Rattle.sfc_base.specs.Leading.{leading}
+use Rattle.sfc_evolve.specs.Lookback.{oldest, or_else, is_in, time_from, time_in}
 
 pub bool_cases : (b : Bool) → (b ≡ true) ⊎ (b ≡ false)
 bool_cases true = inl refl

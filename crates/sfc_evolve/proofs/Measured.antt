@@ -3,8 +3,9 @@ use Rattle.std.proofs.Common.{◌≡◌, ℕ, Bool, true, false, cond, List, len
 use Rattle.std.proofs.lemmas.List.FromFn.{fill_by_all}
 use Rattle.sfc_flags.specs.Flags.{flag, places_from}
 use Rattle.sfc_tables.specs.Tables.{Tabled}
-use Rattle.sfc_evolve.specs.Evolution.{Scan, rows_of, step_count, step_time, step_times}
-use Rattle.sfc_evolve.specs.Private.Keeping.{AreKept, number, measured_at}
+use Rattle.sfc_evolve.specs.Clearing.{step_count}
+use Rattle.sfc_evolve.specs.Evolution.{Scan, rows_of, step_time, step_times}
+use Rattle.sfc_evolve.specs.Private.Keeping.{FieldsAgree, number, measured_at}
 use Rattle.sfc_evolve.proofs.Flagged.{number-measured_at, members_below, is_member}
 
 -- at each step
@@ -22,26 +23,26 @@ itself : (b : Bool) (x y z : ℤ) → y ≡ cond b x z → y ≡ cond b x y
 itself true x y z e = e
 itself false x y z e = refl
 
-module _ (tables : Tabled) (begun : Bool) (active : List Bool) (since kept : List ℤ) (cleared on : List Bool) (scans : List Scan)
-    (t : ℤ) (times : List ℤ) (long : length kept ≡ length active)
-    (made : times ≡ measured_at t since (places_from active 0) kept) where
-  each : (s : ℕ) → number times s ≡ cond (flag active s) (t -ℤ number since s) (number kept s)
-  each s = ap (λ xs. number xs s) made ∙ measured_is t since active kept s long
+module _ (tables : Tabled) (begun : Bool) (active : List Bool) (since held_times : List ℤ) (cleared on : List Bool) (scans : List Scan)
+    (t : ℤ) (times : List ℤ) (long : length held_times ≡ length active)
+    (made : times ≡ measured_at t since (places_from active 0) held_times) where
+  each : (s : ℕ) → number times s ≡ cond (flag active s) (t -ℤ number since s) (number held_times s)
+  each s = ap (λ xs. number xs s) made ∙ measured_is t since active held_times s long
 
   -- what is kept stays so
-  pub still_kept : AreKept tables begun active since kept cleared on scans → AreKept tables begun active since times cleared on scans
-  still_kept k = record {
+  pub fields_still : FieldsAgree tables begun active since held_times cleared on scans → FieldsAgree tables begun active since times cleared on scans
+  fields_still k = record {
     has_begun = k.has_begun;
     activity = k.activity;
     time = λ s lt now. k.time s lt now
-        ∙ once_more (flag active s) (now -ℤ number since s) (t -ℤ number since s) (number kept s)
+        ∙ once_more (flag active s) (now -ℤ number since s) (t -ℤ number since s) (number held_times s)
         ∙ ap (λ x. cond (flag active s) (now -ℤ number since s) x) (sym (each s));
     clearing = k.clearing;
     activation = k.activation;
   }
 
   -- they are the times of all steps
-  pub times_are : length times ≡ step_count tables → AreKept tables begun active since times cleared on scans
+  pub times_are : length times ≡ step_count tables → FieldsAgree tables begun active since times cleared on scans
       → times ≡ step_times tables (rows_of tables scans) t
   times_are same k = fill_by_all (λ s. step_time tables (rows_of tables scans) s t) times (step_count tables) (pos 0) same
-      (λ s lt. itself (flag active s) (t -ℤ number since s) (number times s) (number kept s) (each s) ∙ sym (k.time s lt t))
+      (λ s lt. itself (flag active s) (t -ℤ number since s) (number times s) (number held_times s) (each s) ∙ sym (k.time s lt t))

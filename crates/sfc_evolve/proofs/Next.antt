@@ -6,17 +6,17 @@ use Rattle.std.specs.List.{list_any}
 use Rattle.std.proofs.lemmas.Bool.Decides.{nat_tests}
 use Rattle.std.proofs.lemmas.Grind.{common_steps}
 use Rattle.std.proofs.lemmas.List.Elements.{All-head, All-tail}
-use Rattle.sfc_expr.specs.declared.variable.StepId.{StepId}
+use Rattle.sfc_base.specs.declared.references.StepId.{StepId}
 use Rattle.sfc_flags.specs.Flags.{flag, places_from}
-use Rattle.sfc_tables.specs.declared.ids.TransitionId.{TransitionId}
+use Rattle.sfc_base.specs.declared.ids.TransitionId.{TransitionId}
 use Rattle.sfc_tables.specs.Tables.{Sides, Tabled, AreTables, sides_at}
 use Rattle.sfc_evolve.specs.Lookback.{is_empty}
 use Rattle.sfc_evolve.specs.Marks.{has, marked}
-use Rattle.sfc_evolve.specs.Evolution.{Scan, Row, step_count, transition_count}
-use Rattle.sfc_evolve.specs.Evolution.{preceding_of, following_of, is_enabled, is_cleared, cleared_in}
-use Rattle.sfc_evolve.specs.Evolution.{cleared_set, some_cleared, activates, leaves, is_activated}
+use Rattle.sfc_evolve.specs.Clearing.{step_count, transition_count, preceding_of, following_of, is_enabled, is_cleared, cleared_in, cleared_set}
+use Rattle.sfc_evolve.specs.Evolution.{Scan, Row}
+use Rattle.sfc_evolve.specs.Evolution.{some_cleared, activates, leaves, is_activated}
 use Rattle.sfc_evolve.specs.Evolution.{is_deactivated, is_active, step_time, row_after, rows_of}
-use Rattle.sfc_evolve.specs.Private.Keeping.{AllBelow, number, unmarked, changed_by, left_by, begun_at, set_at, AreKept}
+use Rattle.sfc_evolve.specs.Private.Keeping.{AllBelow, number, unmarked, changed_by, left_by, begun_at, set_at, FieldsAgree}
 use Rattle.sfc_evolve.proofs.Flagged.{any_where, is_member, members_below}
 use Rattle.sfc_evolve.proofs.Flagged.{flag-marked_by, flag-unmarked_by, flag-set_at, number-left_by, number-begun_at}
 use Rattle.sfc_evolve.proofs.Looks.{bool_cases, is_in_on, is_in_off, is_in_kept, time_on, time_kept, time_off_in}
@@ -141,25 +141,25 @@ module _ (tables : Tabled) (s : ℕ) (row : Row) (rows : List Row) where
       or_false true = refl
       or_false false = refl
 
-  next_time : (on off active : Bool) (since kept now : ℤ) → is_activated tables s row ≡ on → leaves tables row.cleared s ≡ off
+  next_time : (on off active : Bool) (since held_time now : ℤ) → is_activated tables s row ≡ on → leaves tables row.cleared s ≡ off
       → (off ≡ true → active ≡ true) → active ≡ is_active tables rows s
-      → ((now : ℤ) → step_time tables rows s now ≡ cond active (now -ℤ since) kept)
+      → ((now : ℤ) → step_time tables rows s now ≡ cond active (now -ℤ since) held_time)
       → step_time tables (row ∷ rows) s now
-      ≡ cond ((not off && active) || on) (now -ℤ cond on row.at since) (cond off (row.at -ℤ since) kept)
-  next_time true true active since kept now p q a e t =
+      ≡ cond ((not off && active) || on) (now -ℤ cond on row.at since) (cond off (row.at -ℤ since) held_time)
+  next_time true true active since held_time now p q a e t =
       time_on (is_activated tables s) (is_deactivated tables s) (λ r. r.at) (apart tables s) row rows now p
-  next_time true false true since kept now p q a e t =
+  next_time true false true since held_time now p q a e t =
       time_on (is_activated tables s) (is_deactivated tables s) (λ r. r.at) (apart tables s) row rows now p
-  next_time true false false since kept now p q a e t =
+  next_time true false false since held_time now p q a e t =
       time_on (is_activated tables s) (is_deactivated tables s) (λ r. r.at) (apart tables s) row rows now p
-  next_time false true true since kept now p q a e t =
+  next_time false true true since held_time now p q a e t =
       time_off_in (is_activated tables s) (is_deactivated tables s) (λ r. r.at) (apart tables s) row rows now p (left_is false true p q)
       (sym e) ∙ t row.at
-  next_time false true false since kept now p q a e t = absurd (let bad : false ≡ true = a refl in cc)
-  next_time false false true since kept now p q a e t =
+  next_time false true false since held_time now p q a e t = absurd (let bad : false ≡ true = a refl in cc)
+  next_time false false true since held_time now p q a e t =
       time_kept (is_activated tables s) (is_deactivated tables s) (λ r. r.at) (apart tables s) row rows now p (left_is false false p q)
       ∙ t now
-  next_time false false false since kept now p q a e t =
+  next_time false false false since held_time now p q a e t =
       time_kept (is_activated tables s) (is_deactivated tables s) (λ r. r.at) (apart tables s) row rows now p (left_is false false p q)
       ∙ t now
 
@@ -172,21 +172,21 @@ not_not true = refl
 not_not false = refl
 
 -- what one scan does to what is kept
-pub record Advanced (tables : Tabled) (begun : Bool) (active : List Bool) (since kept : List ℤ) (conditions : List Bool) (t : ℤ)
-    (cleared' on' active' : List Bool) (since' kept' : List ℤ) : Type 0 where
+pub record Advanced (tables : Tabled) (begun : Bool) (active : List Bool) (since held_times : List ℤ) (conditions : List Bool) (t : ℤ)
+    (cleared' on' active' : List Bool) (since' held_times' : List ℤ) : Type 0 where
   pub cleared_is : cleared' ≡ cleared_set tables (flag active) conditions
   pub on_is : (s : ℕ) → s < step_count tables → flag on' s ≡ activates tables (not begun) cleared' s
-  pub kept_is : (s : ℕ) → s < step_count tables → number kept' s ≡ cond (leaves tables cleared' s) (t -ℤ number since s) (number kept s)
+  pub held_times_are : (s : ℕ) → s < step_count tables → number held_times' s ≡ cond (leaves tables cleared' s) (t -ℤ number since s) (number held_times s)
   pub since_is : (s : ℕ) → s < step_count tables → number since' s ≡ cond (flag on' s) t (number since s)
   pub active_is : (s : ℕ) → s < step_count tables → flag active' s ≡ ((not (leaves tables cleared' s) && flag active s) || flag on' s)
 
-pub kept_next : (tables : Tabled) → AreTables tables
-    → (begun : Bool) (active : List Bool) (since kept : List ℤ) (cleared on conditions : List Bool) (t : ℤ)
-    (cleared' on' active' : List Bool) (since' kept' : List ℤ) (scans : List Scan)
-    → Advanced tables begun active since kept conditions t cleared' on' active' since' kept'
-    → AreKept tables begun active since kept cleared on scans
-    → AreKept tables true active' since' kept' cleared' on' (record { conditions = conditions; at = t } ∷ scans)
-kept_next tables sound begun active since kept cleared on conditions t cleared' on' active' since' kept' scans a k =
+pub fields_next : (tables : Tabled) → AreTables tables
+    → (begun : Bool) (active : List Bool) (since held_times : List ℤ) (cleared on conditions : List Bool) (t : ℤ)
+    (cleared' on' active' : List Bool) (since' held_times' : List ℤ) (scans : List Scan)
+    → Advanced tables begun active since held_times conditions t cleared' on' active' since' held_times'
+    → FieldsAgree tables begun active since held_times cleared on scans
+    → FieldsAgree tables true active' since' held_times' cleared' on' (record { conditions = conditions; at = t } ∷ scans)
+fields_next tables sound begun active since held_times cleared on conditions t cleared' on' active' since' held_times' scans a k =
     let scan : Scan = record { conditions = conditions; at = t } in
     let rows : List Row = rows_of tables scans in
     let row : Row = row_after tables rows scan in
@@ -209,8 +209,8 @@ kept_next tables sound begun active since kept cleared on conditions t cleared' 
       time = λ s lt now.
           (let ea = a.active_is s lt in
           let es = a.since_is s lt in
-          let ek = a.kept_is s lt in
-          next_time tables s row rows (flag on' s) (leaves tables cleared' s) (flag active s) (number since s) (number kept s) now
+          let ek = a.held_times_are s lt in
+          next_time tables s row rows (flag on' s) (leaves tables cleared' s) (flag active s) (number since s) (number held_times s) now
           (goes_on s lt) (goes_off s) (was_in s) (k.activity s lt) (k.time s lt)
           ∙ (λ i. cond (sym ea i) (now -ℤ sym es i) (sym ek i)));
       clearing = λ tr. ap (λ c. flag c tr) (sym same);
@@ -218,28 +218,28 @@ kept_next tables sound begun active since kept cleared on conditions t cleared' 
     }
 
 -- agreement depends on the lists alone
-pub kept_at : (tables : Tabled) (begun : Bool) (active active' : List Bool) (since since' kept kept' : List ℤ)
+pub fields_at : (tables : Tabled) (begun : Bool) (active active' : List Bool) (since since' held_times held_times' : List ℤ)
     (cleared cleared' on on' : List Bool) (scans : List Scan)
-    → active' ≡ active → since' ≡ since → kept' ≡ kept → cleared' ≡ cleared → on' ≡ on
-    → AreKept tables begun active since kept cleared on scans → AreKept tables begun active' since' kept' cleared' on' scans
-kept_at tables begun active active' since since' kept kept' cleared cleared' on on' scans ea es ek ec eo k = rw (ea, es, ek, ec, eo) k
+    → active' ≡ active → since' ≡ since → held_times' ≡ held_times → cleared' ≡ cleared → on' ≡ on
+    → FieldsAgree tables begun active since held_times cleared on scans → FieldsAgree tables begun active' since' held_times' cleared' on' scans
+fields_at tables begun active active' since since' held_times held_times' cleared cleared' on on' scans ea es ek ec eo k = rw (ea, es, ek, ec, eo) k
 
 -- what the parts of a scan leave, together
-module _ (tables : Tabled) (sound : AreTables tables) (begun : Bool) (active : List Bool) (since kept : List ℤ) (conditions : List Bool)
+module _ (tables : Tabled) (sound : AreTables tables) (begun : Bool) (active : List Bool) (since held_times : List ℤ) (conditions : List Bool)
     (t : ℤ)
-    (used cleared cleared' active1 on1 on' active' : List Bool) (since' kept' : List ℤ) where
-  pub advanced : length active ≡ step_count tables → length since ≡ step_count tables → length kept ≡ step_count tables
+    (used cleared cleared' active1 on1 on' active' : List Bool) (since' held_times' : List ℤ) where
+  pub advanced : length active ≡ step_count tables → length since ≡ step_count tables → length held_times ≡ step_count tables
       → length on1 ≡ step_count tables → length on' ≡ step_count tables
       → used ≡ replicate (step_count tables) false → cleared ≡ replicate (transition_count tables) false
       → cleared' ≡ cleared_in tables.sides (flag active) conditions tables.ranked used cleared
-      → kept' ≡ left_by t since (preceding_of tables.sides) (places_from cleared' 0) kept
+      → held_times' ≡ left_by t since (preceding_of tables.sides) (places_from cleared' 0) held_times
       → active1 ≡ changed_by unmarked (preceding_of tables.sides) (places_from cleared' 0) active
       → ((s : ℕ) → s < step_count tables → flag on1 s ≡ (not begun && flag tables.initial s))
       → on' ≡ changed_by marked (following_of tables.sides) (places_from cleared' 0) on1
       → length active1 ≡ step_count tables
       → active' ≡ set_at (places_from on' 0) active1
       → since' ≡ begun_at t (places_from on' 0) since
-      → Advanced tables begun active since kept conditions t cleared' on' active' since' kept'
+      → Advanced tables begun active since held_times conditions t cleared' on' active' since' held_times'
   advanced la ls lk lo lo' eu ec clears keeps leaves1 starts marks la1 joins begins =
       let n = step_count tables in
       let pre : (tr : ℕ) → AllBelow n (preceding_of tables.sides tr) = λ tr. all_preceding_below tables sound record { 0 = tr } in
@@ -250,8 +250,8 @@ module _ (tables : Tabled) (sound : AreTables tables) (begun : Bool) (active : L
             ap (λ f. flag f s) marks
             ∙ flag-marked_by n (following_of tables.sides) fol (places_from cleared' 0) on1 s lo
             ∙ ap (λ b. some_cleared (following_of tables.sides) cleared' s || b) (starts s lt);
-        kept_is = λ s lt. ap (λ xs. number xs s) keeps
-            ∙ number-left_by n (preceding_of tables.sides) pre t since (places_from cleared' 0) kept s lk;
+        held_times_are = λ s lt. ap (λ xs. number xs s) keeps
+            ∙ number-left_by n (preceding_of tables.sides) pre t since (places_from cleared' 0) held_times s lk;
         since_is = λ s lt.
             ap (λ xs. number xs s) begins
             ∙ number-begun_at n t (places_from on' 0) since s ls (members_below on' n lo')

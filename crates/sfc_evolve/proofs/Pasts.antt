@@ -6,12 +6,14 @@ use Rattle.std.specs.Prelude.{map, find, replicate}
 use Rattle.std.specs.List.{range_with_len}
 use Rattle.std.proofs.lemmas.Bool.{cases_lt}
 use Rattle.std.proofs.lemmas.Int.{ints}
-use Rattle.sfc_expr.proofs.ByPlace.{at_place, mapped}
+use Rattle.sfc_base.proofs.ByPlace.{at_place, mapped}
 use Rattle.sfc_flags.specs.Flags.{flag}
 use Rattle.sfc_tables.specs.Tables.{Tabled, AreTables}
 use Rattle.sfc_evolve.specs.declared.steps.Steps.{Steps}
-use Rattle.sfc_evolve.specs.Lookback.{leading, oldest, is_in, is_empty, time_in}
-use Rattle.sfc_evolve.specs.Evolution.{Scan, Row, rows_of, row_after, step_count, transition_count, cleared_set}
+use Rattle.sfc_base.specs.Leading.{leading}
+use Rattle.sfc_evolve.specs.Lookback.{oldest, is_in, is_empty, time_in}
+use Rattle.sfc_evolve.specs.Clearing.{step_count, transition_count, cleared_set}
+use Rattle.sfc_evolve.specs.Evolution.{Scan, Row, rows_of, row_after}
 use Rattle.sfc_evolve.specs.Evolution.{is_active, is_activated, is_deactivated, active_steps, leaves}
 use Rattle.sfc_evolve.specs.Evolution.{step_time, step_times, was_cleared, was_activated}
 use Rattle.sfc_evolve.specs.Agreement.{StepsAgree}
@@ -102,17 +104,17 @@ pub keeps_past : (tables : Tabled) (steps : Steps) (scans : List Scan) → Steps
 unfolding StepsAgree past_in
 keeps_past tables steps scans k =
     let rows = rows_of tables scans in
-    let begun : steps.begun ≡ not (is_empty scans) = k.kept.has_begun in
+    let begun : steps.begun ≡ not (is_empty scans) = k.fields.has_begun in
     let active : steps.active ≡ active_steps tables rows =
-    listed (is_active tables rows) (step_count tables) steps.active k.size.same_steps k.kept.activity in
-    let times : map (λ s. cond (flag steps.active s) (pos 0 -ℤ number steps.since.items s) (number steps.kept.items s))
+    listed (is_active tables rows) (step_count tables) steps.active k.size.same_steps k.fields.activity in
+    let times : map (λ s. cond (flag steps.active s) (pos 0 -ℤ number steps.since.items s) (number steps.held_times.items s))
     (range_with_len 0 (step_count tables)) ≡ step_times tables rows (pos 0) =
-    mapped (λ s. cond (flag steps.active s) (pos 0 -ℤ number steps.since.items s) (number steps.kept.items s))
-    (λ s. step_time tables rows s (pos 0)) (step_count tables) (λ s lt. sym (k.kept.time s lt (pos 0))) in
+    mapped (λ s. cond (flag steps.active s) (pos 0 -ℤ number steps.since.items s) (number steps.held_times.items s))
+    (λ s. step_time tables rows s (pos 0)) (step_count tables) (λ s lt. sym (k.fields.time s lt (pos 0))) in
     let cleared : steps.cleared ≡ map (was_cleared rows) (range_with_len 0 (transition_count tables)) =
-    listed (was_cleared rows) (transition_count tables) steps.cleared k.size.same_transitions (λ tr lt. k.kept.clearing tr) in
+    listed (was_cleared rows) (transition_count tables) steps.cleared k.size.same_transitions (λ tr lt. k.fields.clearing tr) in
     let activated : steps.on ≡ map (was_activated tables rows) (range_with_len 0 (step_count tables)) =
-    listed (was_activated tables rows) (step_count tables) steps.on (steps.on_len ∙ k.size.same_steps) k.kept.activation in
+    listed (was_activated tables rows) (step_count tables) steps.on (steps.on_len ∙ k.size.same_steps) k.fields.activation in
     (λ i. record { begun = begun i; active = active i; times = times i; cleared = cleared i; activated = activated i })
 
 pub same_past : (tables : Tabled) (steps : Steps) (scans other : List Scan) → StepsAgree tables steps scans
@@ -120,12 +122,12 @@ pub same_past : (tables : Tabled) (steps : Steps) (scans other : List Scan) → 
 unfolding StepsAgree
 same_past tables steps scans other k e = record {
   size = k.size;
-  kept = record {
-    has_begun = k.kept.has_begun ∙ ap (λ p. p.begun) e;
-    activity = λ s lt. k.kept.activity s lt ∙ active_by tables scans other e s lt;
-    time = λ s lt now. sym (time_by_past tables scans other e s now lt) ∙ k.kept.time s lt now;
-    clearing = λ tr. k.kept.clearing tr ∙ cleared_by tables scans other e tr;
-    activation = λ s lt. k.kept.activation s lt ∙ activated_by tables scans other e s lt;
+  fields = record {
+    has_begun = k.fields.has_begun ∙ ap (λ p. p.begun) e;
+    activity = λ s lt. k.fields.activity s lt ∙ active_by tables scans other e s lt;
+    time = λ s lt now. sym (time_by_past tables scans other e s now lt) ∙ k.fields.time s lt now;
+    clearing = λ tr. k.fields.clearing tr ∙ cleared_by tables scans other e tr;
+    activation = λ s lt. k.fields.activation s lt ∙ activated_by tables scans other e s lt;
   };
   proposed = k.proposed;
 }

@@ -11,15 +11,14 @@ use Rattle.std.proofs.lemmas.List.Elements.{All-head, All-tail, All-map}
 use Rattle.std.proofs.lemmas.List.FromFn.{length-map-range_with_len}
 use Rattle.std.proofs.lemmas.List.Sorted.{IsPermutation-map, length_permutation, list_any-IsPermutation}
 use Rattle.std.proofs.lemmas.Map.Keys.{IsDistinct-IsPermutation, IsDistinct-head, IsDistinct-tail}
-use Rattle.sfc_expr.specs.declared.variable.StepId.{StepId}
+use Rattle.sfc_base.specs.declared.references.StepId.{StepId}
 use Rattle.sfc_flags.specs.Flags.{flag}
-use Rattle.sfc_tables.specs.declared.ids.TransitionId.{TransitionId}
+use Rattle.sfc_base.specs.declared.ids.TransitionId.{TransitionId}
 use Rattle.sfc_tables.specs.Ranks.{transitions_to}
 use Rattle.sfc_tables.specs.Tables.{Sides, Tabled, AreTables, sides_at}
 use Rattle.sfc_evolve.specs.Private.Keeping.{AllBelow}
 use Rattle.sfc_evolve.specs.Marks.{marked}
-use Rattle.sfc_evolve.specs.Evolution.{step_count, transition_count, preceding_of, is_enabled, cleared_in, cleared_set}
-use Rattle.sfc_evolve.specs.Clearing.{of_rank, shares, MayClear, IsClearedSet}
+use Rattle.sfc_evolve.specs.Clearing.{step_count, transition_count, preceding_of, is_enabled, cleared_in, cleared_set, of_rank, shares, MayClear, IsClearedSet}
 use Rattle.sfc_evolve.proofs.Cleared.{Entry, before, condition_at, cleared_from, clears, is_used, AreWithin, Reason, Chosen, chosen, only}
 use Rattle.sfc_evolve.proofs.FirstScan.{length-cleared_set}
 use Rattle.sfc_evolve.proofs.Flagged.{one_set}

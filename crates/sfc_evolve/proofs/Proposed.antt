@@ -9,14 +9,13 @@ use Rattle.std.proofs.lemmas.List.{length-set, length-map, length-replicate, get
 use Rattle.std.proofs.lemmas.List.Elements.{All-nil, All-cons, All-head, All-tail}
 use Rattle.std.proofs.lemmas.List.FromFn.{length-range_with_len}
 use Rattle.std.proofs.lemmas.List.Sums.{sum_by-cons}
-use Rattle.sfc_expr.specs.declared.variable.StepId.{StepId}
+use Rattle.sfc_base.specs.declared.references.StepId.{StepId}
 use Rattle.sfc_flags.specs.Flags.{flag, places_from}
-use Rattle.sfc_tables.specs.declared.ids.TransitionId.{TransitionId}
+use Rattle.sfc_base.specs.declared.ids.TransitionId.{TransitionId}
 use Rattle.sfc_tables.specs.Tables.{Tabled, AreTables, sides_at}
 use Rattle.sfc_tables.specs.Departures.{first_of, first_steps, first_step, places_of, departures}
-use Rattle.sfc_evolve.specs.Clearing.{of_rank}
-use Rattle.sfc_evolve.specs.Evolution.{transition_count, preceding_of, is_enabled}
-use Rattle.sfc_evolve.specs.Private.Keeping.{AreInstants, number, set_at, AreKept}
+use Rattle.sfc_evolve.specs.Clearing.{of_rank, transition_count, preceding_of, is_enabled}
+use Rattle.sfc_evolve.specs.Private.Keeping.{AreInstants, number, set_at, FieldsAgree}
 use Rattle.sfc_evolve.specs.Private.Proposing.{proposed_by, AreProposed}
 use Rattle.sfc_evolve.proofs.Flagged.{flag-set_at, is_member}
 use Rattle.sfc_evolve.proofs.Looks.{bool_cases}
@@ -241,10 +240,10 @@ pub fresh_instants : (n : ℕ) → AreInstants (replicate n (pos 0))
 fresh_instants n s =
     (subst (λ (x : ℤ). pos 0 ≤ℤ x) (zero_at n s) (omega (arith, ints)), subst (λ (x : ℤ). x ≤ℤ pos (2 ^ 62)) (zero_at n s) (omega (arith, ints)))
 
-pub fresh : (tables : Tabled) (n m : ℕ) (active : List Bool) (since kept : List ℤ) (cleared on : List Bool)
-    → active ≡ replicate n false → kept ≡ replicate n (pos 0) → cleared ≡ replicate m false → on ≡ replicate n false
-    → AreKept tables false active since kept cleared on []
-fresh tables n m active since kept cleared on ea ek ec eo = record {
+pub fresh : (tables : Tabled) (n m : ℕ) (active : List Bool) (since held_times : List ℤ) (cleared on : List Bool)
+    → active ≡ replicate n false → held_times ≡ replicate n (pos 0) → cleared ≡ replicate m false → on ≡ replicate n false
+    → FieldsAgree tables false active since held_times cleared on []
+fresh tables n m active since held_times cleared on ea ek ec eo = record {
   has_begun = refl;
   activity = λ s lt. ap (λ (l : List Bool). flag l s) ea ∙ none_set n s;
   time = λ s lt now. rw (ea, ek, none_set n s) (zero_at n s);

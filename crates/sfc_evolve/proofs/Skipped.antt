@@ -4,12 +4,12 @@ use Rattle.std.proofs.Common.{List, [], ◌∷◌, length, get_or, drop, arith, 
 use Rattle.std.specs.Prelude.{slice_set}
 use Rattle.std.specs.List.{list_any}
 use Rattle.std.proofs.lemmas.List.Sums.{sum_by-cons}
-use Rattle.sfc_expr.specs.declared.variable.StepId.{StepId}
+use Rattle.sfc_base.specs.declared.references.StepId.{StepId}
 use Rattle.sfc_flags.specs.Flags.{flag, set_from}
-use Rattle.sfc_tables.specs.declared.ids.TransitionId.{TransitionId}
+use Rattle.sfc_base.specs.declared.ids.TransitionId.{TransitionId}
 use Rattle.sfc_tables.specs.Tables.{Sides, sides_at}
 use Rattle.sfc_evolve.specs.Marks.{marked}
-use Rattle.sfc_evolve.specs.Evolution.{preceding_of, is_enabled, is_cleared, cleared_in}
+use Rattle.sfc_evolve.specs.Clearing.{preceding_of, is_enabled, is_cleared, cleared_in}
 use Rattle.sfc_evolve.specs.Private.Keeping.{clearing_work}
 use Rattle.sfc_evolve.specs.Private.Proposing.{at_places}
 use Rattle.sfc_evolve.proofs.Looks.{bool_cases}

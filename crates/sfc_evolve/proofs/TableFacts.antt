@@ -6,8 +6,8 @@ use Rattle.std.proofs.lemmas.Bool.{cases_lt}
 use Rattle.std.proofs.lemmas.List.Elements.{All-nil, All-cons, All-map}
 use Rattle.std.proofs.lemmas.List.Sorted.{All-permutation}
 use Rattle.std.proofs.lemmas.List.Sums.{sum_by-cons}
-use Rattle.sfc_expr.specs.declared.variable.StepId.{StepId}
-use Rattle.sfc_tables.specs.declared.ids.TransitionId.{TransitionId}
+use Rattle.sfc_base.specs.declared.references.StepId.{StepId}
+use Rattle.sfc_base.specs.declared.ids.TransitionId.{TransitionId}
 use Rattle.sfc_tables.specs.Ranks.{transitions_to}
 use Rattle.sfc_tables.specs.Tables.{Sides, Tabled, AreTables, AreSides, sides_at}
 use Rattle.sfc_evolve.specs.Private.Keeping.{AllBelow, side_work}

@@ -5,7 +5,7 @@ use Rattle.std.specs.List.{list_all, list_any}
 use Rattle.std.proofs.Math.Numerals.{add-one}
 use Rattle.std.proofs.Math.Seq.{drop-cons}
 use Rattle.std.proofs.lemmas.List.{drop_all}
-use Rattle.sfc_expr.specs.declared.variable.StepId.{StepId}
+use Rattle.sfc_base.specs.declared.references.StepId.{StepId}
 use Rattle.sfc_evolve.specs.Private.Keeping.{unmarked, set_at}
 
 module _ (p : StepId → Bool) (steps : List StepId) (i : ℕ) where

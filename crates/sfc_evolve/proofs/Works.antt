@@ -5,7 +5,7 @@ use Rattle.std.proofs.lemmas.List.Elements.{All-head, All-tail}
 use Rattle.std.specs.List.{range_with_len}
 use Rattle.std.proofs.lemmas.List.Sorted.{sum_by-IsPermutation}
 use Rattle.std.proofs.lemmas.List.Sums.{sum_by-cons}
-use Rattle.sfc_tables.specs.declared.ids.TransitionId.{TransitionId}
+use Rattle.sfc_base.specs.declared.ids.TransitionId.{TransitionId}
 use Rattle.sfc_tables.specs.Ranks.{transitions_to}
 use Rattle.sfc_tables.specs.Tables.{Sides, Tabled, AreSides, AreTables, sides_at}
 use Rattle.sfc_evolve.specs.Private.Keeping.{clearing_work, side_work}

@@ -1,32 +1,37 @@
 -- Which scans a `Steps` agrees with.
-use Rattle.std.specs.Prelude.{ℕ, ◌≡◌, List, ℤ, length}
+use Rattle.std.specs.Prelude.{ℕ, ◌≡◌, cond, List, ℤ, ◌-ℤ◌, length}
 use Rattle.sfc_tables.specs.Tables.{Tabled}
 use Rattle.sfc_evolve.specs.declared.steps.Steps.{Steps}
-use Rattle.sfc_evolve.specs.Evolution.{Scan, rows_of, step_count, step_times, transition_count}
+use Rattle.sfc_evolve.specs.Clearing.{step_count, transition_count}
+use Rattle.sfc_evolve.specs.Evolution.{Scan, rows_of, step_times}
 use Rattle.sfc_flags.specs.Flags.{flag}
-use Rattle.sfc_evolve.specs.Private.Keeping.{AreKept}
+use Rattle.sfc_evolve.specs.Private.Keeping.{number, FieldsAgree}
 use Rattle.sfc_evolve.specs.Private.Proposing.{AreProposed}
 
--- how many steps and transitions it has room for
-abbrev pub step_places : Steps → ℕ
-step_places steps = length steps.active
+-- how many steps and transitions it is for
+abbrev pub step_total : Steps → ℕ
+step_total steps = length steps.active
 
-abbrev pub transition_places : Steps → ℕ
-transition_places steps = length steps.cleared
+abbrev pub transition_total : Steps → ℕ
+transition_total steps = length steps.cleared
 
 -- the times of its steps, as they were last worked out
 unfoldable pub measured_times : Steps → List ℤ
-measured_times steps = steps.kept.items
+measured_times steps = steps.held_times.items
+
+-- the time of a step at t, as it is answered: for each history that agrees it is the step's time (`laws::shown_times`)
+unfoldable pub shown_time : Steps → ℤ → ℕ → ℤ
+shown_time steps t s = cond (flag steps.active s) (t -ℤ number steps.since.items s) (number steps.held_times.items s)
 
 -- it is as large as the tables
 pub record IsFor (tables : Tabled) (steps : Steps) : Type 0 where
-  pub same_steps : step_places steps ≡ step_count tables
-  pub same_transitions : transition_places steps ≡ transition_count tables
+  pub same_steps : step_total steps ≡ step_count tables
+  pub same_transitions : transition_total steps ≡ transition_count tables
 
 -- it is as large as the tables, and what it keeps is what these scans give
 pub record Keeps (tables : Tabled) (steps : Steps) (scans : List Scan) : Type 0 where
   pub size : IsFor tables steps
-  pub kept : AreKept tables steps.begun steps.active steps.since.items steps.kept.items steps.cleared steps.on scans
+  pub fields : FieldsAgree tables steps.begun steps.active steps.since.items steps.held_times.items steps.cleared steps.on scans
   pub proposed : AreProposed tables (flag steps.active) steps.candidates
 
 -- after these scans, the newest first, all answers are those of the definitions

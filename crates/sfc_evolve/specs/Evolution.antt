@@ -1,12 +1,12 @@
 -- Which transitions a scan clears, which steps are active, and for how long (2.6.2, 2.6.3, 2.6.5).
-use Rattle.std.specs.Prelude.{ℕ, Bool, false, cond, not, ◌&&◌, ◌||◌, List, [], ◌∷◌, length, map, ℤ, replicate, slice_set}
-use Rattle.std.specs.List.{list_any, list_all, range_with_len}
-use Rattle.sfc_expr.specs.declared.variable.StepId.{StepId}
+use Rattle.std.specs.Prelude.{ℕ, Bool, false, not, ◌&&◌, ◌||◌, List, [], ◌∷◌, map, ℤ}
+use Rattle.std.specs.List.{list_any, range_with_len}
+use Rattle.sfc_base.specs.declared.references.StepId.{StepId}
 use Rattle.sfc_flags.specs.Flags.{flag, places_from}
-use Rattle.sfc_tables.specs.declared.ids.TransitionId.{TransitionId}
-use Rattle.sfc_tables.specs.Tables.{Sides, Tabled, sides_at}
+use Rattle.sfc_tables.specs.Tables.{Tabled}
 use Rattle.sfc_evolve.specs.Lookback.{is_in, time_in, is_empty}
-use Rattle.sfc_evolve.specs.Marks.{has, marked}
+use Rattle.sfc_evolve.specs.Marks.{has}
+use Rattle.sfc_evolve.specs.Clearing.{step_count, preceding_of, following_of, cleared_set}
 
 -- what one scan is told: the condition of each transition, in text order, and the instant
 pub record Scan : Type 0 where
@@ -19,42 +19,6 @@ pub record Row : Type 0 where
   pub at : ℤ
   pub first : Bool
   pub cleared : List Bool
-
-abbrev pub step_count : Tabled → ℕ
-step_count tables = length tables.initial
-
-abbrev pub transition_count : Tabled → ℕ
-transition_count tables = length tables.sides
-
-abbrev pub preceding_of : List Sides → ℕ → List StepId
-preceding_of sides tr = (sides_at sides record { 0 = tr }).preceding
-
-abbrev pub following_of : List Sides → ℕ → List StepId
-following_of sides tr = (sides_at sides record { 0 = tr }).following
-
--- a transition is enabled when all its preceding steps are active (2.6.3)
-abbrev pub is_enabled : (ℕ → Bool) → List StepId → Bool
-is_enabled active preceding = list_all (λ step. active step.0) preceding
-
--- A transition is cleared when it is enabled, its condition is true, and no transition that ranks before it was cleared
--- by one of its preceding steps. `used` has the preceding steps of those (2.6.5).
-abbrev pub is_cleared : (ℕ → Bool) → Bool → List StepId → List Bool → Bool
-is_cleared active condition preceding used =
-    is_enabled active preceding && condition && not (list_any (λ step. flag used step.0) preceding)
-
--- the cleared transitions, by place in the text, after those of `ranked`, the first in rank first
-abbrev pub cleared_in : List Sides → (ℕ → Bool) → List Bool → List TransitionId → List Bool → List Bool → List Bool
-cleared_in sides active conditions [] used cleared = cleared
-cleared_in sides active conditions (tr ∷ ranked) used cleared =
-    let preceding = (sides_at sides tr).preceding in
-    let clears = is_cleared active (flag conditions tr.0) preceding used in
-    cleared_in sides active conditions ranked (cond clears (marked preceding used) used) (slice_set cleared tr.0 clears)
-
--- the transitions that a scan clears, where these steps were active before it
-abbrev pub cleared_set : Tabled → (ℕ → Bool) → List Bool → List Bool
-cleared_set tables active conditions =
-    cleared_in tables.sides active conditions tables.ranked (replicate (step_count tables) false)
-    (replicate (transition_count tables) false)
 
 -- the step is among these steps of a cleared transition
 abbrev pub some_cleared : (ℕ → List StepId) → List Bool → ℕ → Bool

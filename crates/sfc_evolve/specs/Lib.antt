@@ -4,10 +4,10 @@
 pub mod Lookback
 -- sets of steps
 pub mod Marks
--- cleared transitions, active steps, step times
-pub mod Evolution
--- the set of cleared transitions, by what it is
+-- the set of cleared transitions, by what it is, and rank by rank
 pub mod Clearing
+-- active steps and step times
+pub mod Evolution
 -- the same by the numbers of scans
 pub mod ScanNumbers
 -- how much a scan handles

@@ -1,11 +1,7 @@
 -- Look-backs over a history, which lists its rows newest first.
 use Rattle.std.specs.Prelude.{Bool, true, false, cond, not, List, [], ◌∷◌, Option, Some, None, find, ℤ, pos, ◌-ℤ◌}
 use Rattle.std.specs.List.{list_any}
-
--- the rows from the newest on that pass
-abbrev pub leading : {A : Type 0} → (A → Bool) → List A → List A
-leading p [] = []
-leading p (x ∷ xs) = cond (p x) (x ∷ leading p xs) []
+use Rattle.sfc_base.specs.Leading.{leading}
 
 abbrev pub or_else : {A : Type 0} → Option A → Option A → Option A
 or_else (Some y) o = Some y

@@ -1,7 +1,7 @@
 -- Sets of steps as flags.
 use Rattle.std.specs.Prelude.{ℕ, ◌==◌, Bool, true, List, [], ◌∷◌, slice_set}
 use Rattle.std.specs.List.{list_any}
-use Rattle.sfc_expr.specs.declared.variable.StepId.{StepId}
+use Rattle.sfc_base.specs.declared.references.StepId.{StepId}
 
 -- the step is among these
 abbrev pub has : List StepId → ℕ → Bool

@@ -5,7 +5,8 @@ use Rattle.sfc_flags.specs.Flags.{flag}
 use Rattle.sfc_tables.specs.Tables.{Tabled}
 use Rattle.sfc_evolve.specs.declared.steps.Steps.{Steps}
 use Rattle.sfc_evolve.specs.Lookback.{is_empty}
-use Rattle.sfc_evolve.specs.Evolution.{Scan, rows_of, step_count, transition_count, active_steps, step_times, was_cleared, was_activated}
+use Rattle.sfc_evolve.specs.Clearing.{step_count, transition_count}
+use Rattle.sfc_evolve.specs.Evolution.{Scan, rows_of, active_steps, step_times, was_cleared, was_activated}
 use Rattle.sfc_evolve.specs.Private.Keeping.{number}
 
 pub record StepsPast : Type 0 where
@@ -35,7 +36,7 @@ unfoldable pub past_in : Tabled → Steps → StepsPast
 past_in tables steps = record {
   begun = steps.begun;
   active = steps.active;
-  times = map (λ s. cond (flag steps.active s) (pos 0 -ℤ number steps.since.items s) (number steps.kept.items s))
+  times = map (λ s. cond (flag steps.active s) (pos 0 -ℤ number steps.since.items s) (number steps.held_times.items s))
       (range_with_len 0 (step_count tables));
   cleared = steps.cleared;
   activated = steps.on;

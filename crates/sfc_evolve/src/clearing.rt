@@ -1,17 +1,17 @@
 //! Which transitions a scan clears (2.6.5).
 
 ghost use Rattle.std.specs.Prelude.{◌≡◌, ◌*◌, false, length, cond, replicate};
-ghost use Rattle.sfc_expr.specs.Ticks.{Within};
+ghost use Rattle.sfc_base.specs.Ticks.{Within};
 ghost use Rattle.sfc_flags.specs.Flags.{flag};
 ghost use Rattle.sfc_tables.specs.Tables.{AreTables};
 ghost use Rattle.sfc_evolve.specs.Marks.{marked};
-ghost use Rattle.sfc_evolve.specs.Evolution.{is_cleared, cleared_in};
+ghost use Rattle.sfc_evolve.specs.Clearing.{is_cleared, cleared_in};
 ghost use Rattle.sfc_evolve.specs.Private.Keeping.{AllBelow, clearing_work};
 ghost use Rattle.sfc_evolve.specs.Private.Proposing.{AreProposed};
 
 use crate::marks::{all_set, mark, some_set};
-use sfc_expr::ticks::Ticks;
-use sfc_expr::variable::StepId;
+use sfc_base::references::StepId;
+use sfc_base::ticks::Ticks;
 use sfc_flags::flags::Flags;
 use sfc_tables::tables::Tables;
 

@@ -1,9 +1,9 @@
 //! Copies of what is kept of steps.
 
 ghost use Rattle.std.specs.Prelude.{◌≡◌, length};
-ghost use Rattle.sfc_expr.specs.Ticks.{Within};
+ghost use Rattle.sfc_base.specs.Ticks.{Within};
 
-use sfc_expr::ticks::Ticks;
+use sfc_base::ticks::Ticks;
 use sfc_flags::flags::Flags;
 
 /// Takes over the flags of two tables. What is copied of a step is one tick, which `copy_times` counts.
@@ -32,19 +32,19 @@ fn count(steps: usize, ticks: &mut Ticks)
 /// Takes over all instants and times.
 pub fn copy_times(
     since: &mut [i64],
-    kept: &mut [i64],
+    held_times: &mut [i64],
     from_since: &[i64],
-    from_kept: &[i64],
+    from_held_times: &[i64],
     ticks: &mut Ticks,
 )
-    requires kept_len { length kept.old ≡ length since.old }
+    requires held_times_len { length held_times.old ≡ length since.old }
     requires from_since_len { length from_since.now ≡ length since.old }
-    requires from_kept_len { length from_kept.now ≡ length since.old }
+    requires from_held_times_len { length from_held_times.now ≡ length since.old }
     ensures since { since.new ≡ from_since.now }
-    ensures kept { kept.new ≡ from_kept.now }
+    ensures held_times { held_times.new ≡ from_held_times.now }
     ensures ticks { Within (length since.old) ticks.old ticks.new }
 {
     since.copy_from_slice(from_since);
-    kept.copy_from_slice(from_kept);
+    held_times.copy_from_slice(from_held_times);
     count(since.len(), ticks);
 }

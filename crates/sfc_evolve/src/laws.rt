@@ -4,15 +4,17 @@ ghost use Rattle.std.specs.Prelude.{◌≡◌, ◌<◌, ◌≤◌, ◌↔◌, �
 ghost use Rattle.std.specs.Prelude.{[], ℕ, ℤ, Bool, List, length, pos, true, false};
 ghost use Rattle.sfc_flags.specs.Flags.{flag};
 ghost use Rattle.sfc_tables.specs.Tables.{Tabled, AreTables};
-ghost use Rattle.sfc_evolve.specs.Evolution.{Scan, Row, transition_count, is_activated, is_deactivated, is_active};
+ghost use Rattle.sfc_evolve.specs.Clearing.{transition_count};
+ghost use Rattle.sfc_evolve.specs.Evolution.{Scan, Row, is_activated, is_deactivated, is_active};
 ghost use Rattle.sfc_evolve.specs.Evolution.{step_time, row_after, was_cleared, was_activated};
-ghost use Rattle.sfc_evolve.specs.Evolution.{preceding_of, is_enabled, cleared_set};
+ghost use Rattle.sfc_evolve.specs.Clearing.{preceding_of, is_enabled, cleared_set};
 ghost use Rattle.sfc_evolve.specs.Clearing.{of_rank, shares, IsClearedSet};
 ghost use Rattle.sfc_evolve.specs.ScanNumbers.{IsActiveSince, IsLatest, NoneBetween, activated_at, deactivated_at};
 ghost use Rattle.sfc_evolve.specs.ScanNumbers.{scan_instant_at};
-ghost use Rattle.sfc_evolve.specs.Evolution.{rows_of, step_count, step_times};
+ghost use Rattle.sfc_evolve.specs.Clearing.{step_count};
+ghost use Rattle.sfc_evolve.specs.Evolution.{rows_of, step_times};
 ghost use Rattle.sfc_evolve.specs.declared.steps.Steps.{Steps};
-ghost use Rattle.sfc_evolve.specs.Agreement.{StepsAgree};
+ghost use Rattle.sfc_evolve.specs.Agreement.{StepsAgree, shown_time};
 ghost use Rattle.sfc_evolve.specs.Past.{steps_past, past_in};
 
 /// The pass over the transitions in rank order gives the one set in which a transition stands exactly when it may
@@ -61,6 +63,12 @@ pub fn first_scan()
         (tr : ℕ) → was_cleared (row_after tables [] scan ∷ []) tr ≡ false }
     ensures starts { (tables : Tabled) (scan : Scan) → AreTables tables →
         (s : ℕ) → is_active tables (row_after tables [] scan ∷ []) s ≡ flag tables.initial s }
+{}
+
+/// The time of a step that is answered is the step's time after all scans that agree (2.6.2).
+pub fn shown_times()
+    ensures { (tables : Tabled) (steps : Steps) (scans : List Scan) (s : ℕ) (t : ℤ) → StepsAgree tables steps scans →
+        s < step_count tables → shown_time steps t s ≡ step_time tables (rows_of tables scans) s t }
 {}
 
 /// What is kept is the past of the scans: all that later answers need, and for all lists of scans of this past the same.

@@ -6,7 +6,7 @@
 //! - `marking`: the steps before and after cleared transitions.
 //! - `marks`: tests and writes at listed steps.
 //! - `proposing`: which transitions may be enabled.
-//! - `rooms`: room for what is kept of several steps or transitions.
+//! - `new_sets`: new lists and sets, with a time or a flag for each step, transition or action.
 //! - `starting`: initial steps in the first scan.
 //! - `steps`: the steps of a program instance.
 //! - `times`: when steps were activated, and the times that they keep.
@@ -17,8 +17,8 @@ mod copying;
 pub mod laws;
 mod marking;
 mod marks;
+pub mod new_sets;
 mod proposing;
-mod rooms;
 mod starting;
 pub mod steps;
 mod times;

@@ -1,17 +1,17 @@
 //! The steps before and after the transitions that a scan clears.
 
 ghost use Rattle.std.specs.Prelude.{◌≡◌, length};
-ghost use Rattle.sfc_expr.specs.Ticks.{Within};
+ghost use Rattle.sfc_base.specs.Ticks.{Within};
 ghost use Rattle.sfc_flags.specs.Flags.{places_from};
 ghost use Rattle.sfc_tables.specs.Tables.{AreTables};
 ghost use Rattle.sfc_evolve.specs.Marks.{marked};
-ghost use Rattle.sfc_evolve.specs.Evolution.{preceding_of, following_of};
+ghost use Rattle.sfc_evolve.specs.Clearing.{preceding_of, following_of};
 ghost use Rattle.sfc_evolve.specs.Private.Keeping.{unmarked, changed_by, side_work};
 
 use crate::marks::{mark, unmark};
-use sfc_expr::ticks::Ticks;
+use sfc_base::ids::TransitionId;
+use sfc_base::ticks::Ticks;
 use sfc_flags::flags::Flags;
-use sfc_tables::ids::TransitionId;
 use sfc_tables::tables::Tables;
 
 /// Marks the steps after the cleared transitions.

@@ -2,13 +2,13 @@
 
 ghost use Rattle.std.specs.Prelude.{◌≡◌, length};
 ghost use Rattle.std.specs.List.{list_all, list_any};
-ghost use Rattle.sfc_expr.specs.Ticks.{Within};
+ghost use Rattle.sfc_base.specs.Ticks.{Within};
 ghost use Rattle.sfc_flags.specs.Flags.{flag};
 ghost use Rattle.sfc_evolve.specs.Marks.{marked};
 ghost use Rattle.sfc_evolve.specs.Private.Keeping.{AllBelow, unmarked};
 
-use sfc_expr::ticks::Ticks;
-use sfc_expr::variable::StepId;
+use sfc_base::references::StepId;
+use sfc_base::ticks::Ticks;
 use sfc_flags::flags::Flags;
 
 /// Whether each of these steps has its flag.

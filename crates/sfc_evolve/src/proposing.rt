@@ -1,14 +1,14 @@
 //! Which transitions may be enabled: those whose first preceding step is active.
 
 ghost use Rattle.std.specs.Prelude.{All, ◌≡◌, ◌<◌, ◌+◌, ◌*◌, ℕ, false, true, length, replicate};
-ghost use Rattle.sfc_expr.specs.Ticks.{Within};
+ghost use Rattle.sfc_base.specs.Ticks.{Within};
 ghost use Rattle.sfc_flags.specs.Flags.{flag, places_from};
 ghost use Rattle.sfc_tables.specs.Tables.{AreTables};
 ghost use Rattle.sfc_evolve.specs.Private.Keeping.{set_at};
 ghost use Rattle.sfc_evolve.specs.Private.Proposing.{proposed_by};
 
-use sfc_expr::ticks::Ticks;
-use sfc_expr::variable::StepId;
+use sfc_base::references::StepId;
+use sfc_base::ticks::Ticks;
 use sfc_flags::flags::Flags;
 use sfc_tables::tables::Tables;
 

@@ -1,12 +1,12 @@
 //! Initial steps in the first scan of a life (2.6.2).
 
 ghost use Rattle.std.specs.Prelude.{◌≡◌, ◌<◌, ◌&&◌, ℕ, length};
-ghost use Rattle.sfc_expr.specs.Ticks.{Within};
+ghost use Rattle.sfc_base.specs.Ticks.{Within};
 ghost use Rattle.sfc_flags.specs.Flags.{flag};
 ghost use Rattle.sfc_tables.specs.Tables.{AreTables};
 
-use sfc_expr::ticks::Ticks;
-use sfc_expr::variable::StepId;
+use sfc_base::references::StepId;
+use sfc_base::ticks::Ticks;
 use sfc_flags::flags::Flags;
 use sfc_tables::tables::Tables;
 

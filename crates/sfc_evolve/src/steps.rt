@@ -7,31 +7,31 @@ use crate::clearing::clear_in_order;
 use crate::copying::{copy_flags, copy_times};
 use crate::marking::{mark_following, unmark_preceding};
 use crate::marks::all_set;
+use crate::new_sets::{three_sets, two_lists, two_sets};
 use crate::proposing::propose;
-use crate::rooms::{three_sets, two_lists, two_sets};
 use crate::starting::start;
 use crate::times::{begin, keep_times, measure_active, time_since};
-use sfc_expr::ticks::Ticks;
-use sfc_expr::variable::StepId;
+use sfc_base::ids::TransitionId;
+use sfc_base::references::StepId;
+use sfc_base::ticks::Ticks;
 use sfc_flags::flags::Flags;
-use sfc_tables::ids::TransitionId;
 use sfc_tables::tables::Tables;
 use std::alloc::{AllocError, Global};
 
 /// Of each step whether it is active, when it was last activated, what time it kept when it was left, and whether the
 /// latest scan activated it; of each transition whether the latest scan cleared it, and by place in rank order whether
-/// it may be enabled. The rest is room for a scan.
+/// it may be enabled. The rest is what a scan works on.
 pub struct Steps {
     begun: bool,
     active: Flags,
     since: Vec<i64>,
-    kept: Vec<i64>,
+    held_times: Vec<i64>,
     cleared: Flags,
     candidates: Flags,
     used: Flags,
     on: Flags,
     ghost since_len: { length since.items ≡ length active },
-    ghost kept_len: { length kept.items ≡ length active },
+    ghost held_times_len: { length held_times.items ≡ length active },
     ghost candidates_len: { length candidates ≡ length cleared },
     ghost used_len: { length used ≡ length active },
     ghost on_len: { length on ≡ length active },
@@ -45,7 +45,7 @@ impl Drop for Steps {
             begun: _,
             active: _,
             since: _,
-            kept: _,
+            held_times: _,
             cleared: _,
             candidates: _,
             used: _,
@@ -57,14 +57,16 @@ impl Drop for Steps {
 #[tactic(auto, unfolding(crate::specs::Agreement::StepsAgree, crate::specs::Agreement::measured_times))]
 impl Steps {
     ghost use Rattle.std.specs.Prelude.{◌≡◌, ◌<◌, ◌≤ℤ◌, ◌^◌, ◌+◌, ◌*◌, ◌∷◌, [], List, ℕ, pos, true, length, IfOk};
-    ghost use Rattle.sfc_expr.specs.Ticks.{Within};
+    ghost use Rattle.sfc_base.specs.Ticks.{Within};
     ghost use Rattle.sfc_flags.specs.Flags.{flag};
     ghost use Rattle.sfc_tables.specs.Tables.{Tabled, AreTables};
-    ghost use Rattle.sfc_evolve.specs.Evolution.{Scan, rows_of, is_active, active_steps, is_enabled, step_time};
-    ghost use Rattle.sfc_evolve.specs.Evolution.{was_cleared, was_activated, preceding_of};
+    ghost use Rattle.sfc_evolve.specs.Clearing.{is_enabled};
+    ghost use Rattle.sfc_evolve.specs.Evolution.{Scan, rows_of, is_active, active_steps, step_time};
+    ghost use Rattle.sfc_evolve.specs.Clearing.{preceding_of};
+    ghost use Rattle.sfc_evolve.specs.Evolution.{was_cleared, was_activated};
     ghost use Rattle.sfc_evolve.specs.Clearing.{of_rank};
     ghost use Rattle.sfc_evolve.specs.Work.{advance_work};
-    ghost use Rattle.sfc_evolve.specs.Agreement.{IsFor, StepsAgree, step_places, transition_places, measured_times, AreMeasured};
+    ghost use Rattle.sfc_evolve.specs.Agreement.{IsFor, StepsAgree, step_total, transition_total, measured_times, shown_time, AreMeasured};
 
     /// Before the first scan of a life. The one error is that memory was refused.
     pub fn new(alloc: Global, tables: &Tables) -> Result<Self, AllocError>
@@ -73,14 +75,14 @@ impl Steps {
     {
         let n = tables.steps();
         let m = tables.transitions();
-        let (since, kept) = two_lists(alloc, n)?;
+        let (since, held_times) = two_lists(alloc, n)?;
         let (cleared, candidates) = two_sets(alloc, m)?;
         let (active, used, on) = three_sets(alloc, n)?;
         Ok(Steps {
             begun: false,
             active,
             since,
-            kept,
+            held_times,
             cleared,
             candidates,
             used,
@@ -90,7 +92,7 @@ impl Steps {
 
     /// Whether the step is active (2.6.2).
     pub fn active(&self, step: StepId) -> bool
-        requires { step.0 < step_places self.now }
+        requires { step.0 < step_total self.now }
         ensures { (tables : Tabled) (scans : List Scan) → StepsAgree tables self.now scans →
             result ≡ is_active tables (rows_of tables scans) step.0 }
     {
@@ -105,7 +107,7 @@ impl Steps {
         requires low { pos 0 ≤ℤ t }
         requires high { t ≤ℤ pos (2 ^ 62) }
         ensures sizes { IsFor tables.now self.new }
-        ensures kept { (scans : List Scan) → StepsAgree tables.now self.old scans →
+        ensures agrees { (scans : List Scan) → StepsAgree tables.now self.old scans →
             StepsAgree tables.now self.new (record { conditions = conditions.now; at = t } ∷ scans) }
         ensures ticks { Within (advance_work tables.now) ticks.old ticks.new }
     {
@@ -121,7 +123,14 @@ impl Steps {
             &mut self.cleared,
             ticks,
         );
-        keep_times(tables, &self.cleared, &mut self.kept, &self.since, t, ticks);
+        keep_times(
+            tables,
+            &self.cleared,
+            &mut self.held_times,
+            &self.since,
+            t,
+            ticks,
+        );
         unmark_preceding(tables, &self.cleared, &mut self.active, ticks);
         start(tables, !self.begun, &mut self.on, ticks);
         mark_following(tables, &self.cleared, &mut self.on, ticks);
@@ -132,7 +141,7 @@ impl Steps {
 
     /// Which steps are active, by number.
     pub fn active_flags(&self) -> &Flags
-        ensures len { length result.now ≡ step_places self.now }
+        ensures len { length result.now ≡ step_total self.now }
         ensures flags { (tables : Tabled) (scans : List Scan) → StepsAgree tables self.now scans →
             result.now ≡ active_steps tables (rows_of tables scans) }
     {
@@ -141,7 +150,7 @@ impl Steps {
 
     /// Which transitions may be enabled, by place in rank order: each that is enabled is set (2.6.3, 2.6.5).
     pub fn candidates(&self) -> &Flags
-        ensures len { length result.now ≡ transition_places self.now }
+        ensures len { length result.now ≡ transition_total self.now }
         ensures enabled { (tables : Tabled) (scans : List Scan) → StepsAgree tables self.now scans → AreTables tables →
             (j : ℕ) → j < length tables.sides →
             is_enabled (is_active tables (rows_of tables scans)) (preceding_of tables.sides (of_rank tables j)) ≡ true →
@@ -165,18 +174,20 @@ impl Steps {
 
     /// The step's time at t: the time since its latest activation, and for a step that was left what it was then; 0
     /// where it was never active (2.6.2). In microseconds.
+    #[tactic(auto, unfolding(crate::specs::Agreement::StepsAgree, crate::specs::Agreement::shown_time))]
     pub fn elapsed(&self, step: StepId, t: i64) -> i64
-        requires place { step.0 < step_places self.now }
+        requires place { step.0 < step_total self.now }
         requires low { pos 0 ≤ℤ t }
         requires high { t ≤ℤ pos (2 ^ 62) }
-        ensures { (tables : Tabled) (scans : List Scan) → StepsAgree tables self.now scans →
+        ensures shown { result ≡ shown_time self.now t step.0 }
+        ensures agrees { (tables : Tabled) (scans : List Scan) → StepsAgree tables self.now scans →
             result ≡ step_time tables (rows_of tables scans) step.0 t }
     {
         let s = step.0 as usize;
         if self.active.get(s) {
             time_since(self.since[s], t)
         } else {
-            self.kept[s]
+            self.held_times[s]
         }
     }
 
@@ -185,26 +196,26 @@ impl Steps {
     pub fn measure(&mut self, t: i64, ticks: &mut Ticks)
         requires low { pos 0 ≤ℤ t }
         requires high { t ≤ℤ pos (2 ^ 62) }
-        ensures steps { step_places self.new ≡ step_places self.old }
-        ensures transitions { transition_places self.new ≡ transition_places self.old }
-        ensures kept { (tables : Tabled) (scans : List Scan) → StepsAgree tables self.old scans →
+        ensures steps { step_total self.new ≡ step_total self.old }
+        ensures transitions { transition_total self.new ≡ transition_total self.old }
+        ensures agrees { (tables : Tabled) (scans : List Scan) → StepsAgree tables self.old scans →
             StepsAgree tables self.new scans }
         ensures measured { AreMeasured t self.new }
-        ensures ticks { Within (step_places self.old) ticks.old ticks.new }
+        ensures ticks { Within (step_total self.old) ticks.old ticks.new }
     {
-        measure_active(&mut self.kept, &self.since, &self.active, t, ticks);
+        measure_active(&mut self.held_times, &self.since, &self.active, t, ticks);
     }
 
     /// The times of all steps by number, in microseconds, as they were last worked out.
     pub fn times(&self) -> &[i64]
         ensures { result.now ≡ measured_times self.now }
     {
-        &self.kept
+        &self.held_times
     }
 
     /// Whether the latest scan activated the step.
     pub fn activated(&self, step: StepId) -> bool
-        requires { step.0 < step_places self.now }
+        requires { step.0 < step_total self.now }
         ensures { (tables : Tabled) (scans : List Scan) → StepsAgree tables self.now scans →
             result ≡ was_activated tables (rows_of tables scans) step.0 }
     {
@@ -213,7 +224,7 @@ impl Steps {
 
     /// Whether the latest scan cleared the transition.
     pub fn cleared(&self, transition: TransitionId) -> bool
-        requires { transition.0 < transition_places self.now }
+        requires { transition.0 < transition_total self.now }
         ensures { (tables : Tabled) (scans : List Scan) → StepsAgree tables self.now scans →
             result ≡ was_cleared (rows_of tables scans) transition.0 }
     {
@@ -222,22 +233,22 @@ impl Steps {
 
     /// Takes over what the other keeps, which was made from tables of the same size. It takes no memory.
     pub fn copy_from(&mut self, other: &Steps, ticks: &mut Ticks)
-        requires steps { step_places other.now ≡ step_places self.old }
-        requires transitions { transition_places other.now ≡ transition_places self.old }
-        ensures steps { step_places self.new ≡ step_places self.old }
-        ensures transitions { transition_places self.new ≡ transition_places self.old }
-        ensures kept { (tables : Tabled) (scans : List Scan) → StepsAgree tables other.now scans →
+        requires steps { step_total other.now ≡ step_total self.old }
+        requires transitions { transition_total other.now ≡ transition_total self.old }
+        ensures steps { step_total self.new ≡ step_total self.old }
+        ensures transitions { transition_total self.new ≡ transition_total self.old }
+        ensures agrees { (tables : Tabled) (scans : List Scan) → StepsAgree tables other.now scans →
             StepsAgree tables self.new scans }
-        ensures ticks { Within (step_places self.old + 2 * transition_places self.old) ticks.old ticks.new }
+        ensures ticks { Within (step_total self.old + 2 * transition_total self.old) ticks.old ticks.new }
     {
         copy_flags(&mut self.active, &mut self.on, &other.active, &other.on);
         self.cleared.copy_from(&other.cleared, ticks);
         self.candidates.copy_from(&other.candidates, ticks);
         copy_times(
             &mut self.since,
-            &mut self.kept,
+            &mut self.held_times,
             &other.since,
-            &other.kept,
+            &other.held_times,
             ticks,
         );
         self.begun = other.begun;

@@ -1,16 +1,16 @@
 //! When steps were activated, and the times that they keep when they are left (2.6.2).
 
 ghost use Rattle.std.specs.Prelude.{◌≡◌, ◌≤ℤ◌, ◌-ℤ◌, ◌^◌, pos, length};
-ghost use Rattle.sfc_expr.specs.Ticks.{Within};
+ghost use Rattle.sfc_base.specs.Ticks.{Within};
 ghost use Rattle.sfc_flags.specs.Flags.{places_from};
 ghost use Rattle.sfc_tables.specs.Tables.{AreTables};
-ghost use Rattle.sfc_evolve.specs.Evolution.{preceding_of};
+ghost use Rattle.sfc_evolve.specs.Clearing.{preceding_of};
 ghost use Rattle.sfc_evolve.specs.Private.Keeping.{AllBelow, AreInstants, left_at, left_by, begun_at, set_at, measured_at, side_work};
 
-use sfc_expr::ticks::Ticks;
-use sfc_expr::variable::StepId;
+use sfc_base::ids::TransitionId;
+use sfc_base::references::StepId;
+use sfc_base::ticks::Ticks;
 use sfc_flags::flags::Flags;
-use sfc_tables::ids::TransitionId;
 use sfc_tables::tables::Tables;
 
 /// The time since an instant.
@@ -25,19 +25,19 @@ pub fn time_since(since: i64, t: i64) -> i64
 }
 
 /// These steps keep their times, as they are at t.
-pub fn leave(kept: &mut [i64], since: &[i64], steps: &[StepId], t: i64, ticks: &mut Ticks)
+pub fn leave(held_times: &mut [i64], since: &[i64], steps: &[StepId], t: i64, ticks: &mut Ticks)
     requires low { pos 0 ≤ℤ t }
     requires high { t ≤ℤ pos (2 ^ 62) }
     requires instants { AreInstants since.now }
-    requires kept_len { length kept.old ≡ length since.now }
+    requires held_times_len { length held_times.old ≡ length since.now }
     requires steps { AllBelow (length since.now) steps.now }
-    ensures kept { kept.new ≡ left_at t since.now steps.now kept.old }
+    ensures held_times { held_times.new ≡ left_at t since.now steps.now held_times.old }
     ensures ticks { Within (length steps.now) ticks.old ticks.new }
 {
     for step in steps {
         ticks.tick();
         let s = step.0 as usize;
-        kept[s] = time_since(since[s], t);
+        held_times[s] = time_since(since[s], t);
     }
 }
 
@@ -84,7 +84,7 @@ pub fn begin(active: &mut Flags, since: &mut [i64], on: &Flags, t: i64, ticks: &
 pub fn keep_times(
     tables: &Tables,
     cleared: &Flags,
-    kept: &mut [i64],
+    held_times: &mut [i64],
     since: &[i64],
     t: i64,
     ticks: &mut Ticks,
@@ -92,17 +92,17 @@ pub fn keep_times(
     requires tables { AreTables tables.now }
     requires cleared_len { length cleared.now ≡ length tables.now.sides }
     requires since_len { length since.now ≡ length tables.now.initial }
-    requires kept_len { length kept.old ≡ length since.now }
+    requires held_times_len { length held_times.old ≡ length since.now }
     requires instants { AreInstants since.now }
     requires low { pos 0 ≤ℤ t }
     requires high { t ≤ℤ pos (2 ^ 62) }
-    ensures kept { kept.new ≡ left_by t since.now (preceding_of tables.now.sides) (places_from cleared.now 0) kept.old }
+    ensures held_times { held_times.new ≡ left_by t since.now (preceding_of tables.now.sides) (places_from cleared.now 0) held_times.old }
     ensures ticks { Within (side_work (λ sides. sides.preceding) tables.now.sides) ticks.old ticks.new }
 {
     let mut at = 0;
     'cleared: while let Some(tr) = cleared.next_set(at, ticks) {
         leave(
-            kept,
+            held_times,
             since,
             tables.preceding(TransitionId(tr as u16)),
             t,

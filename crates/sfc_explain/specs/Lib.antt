@@ -2,7 +2,7 @@
 
 -- numbers and names
 pub mod Topics
--- entries by number and by name
+-- explanations by number and by name
 pub mod Finding
--- entries as text
+-- explanations as text
 pub mod Pages

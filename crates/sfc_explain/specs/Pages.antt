@@ -1,11 +1,11 @@
--- Entries as text (our choice).
+-- Explanations as text (our choice).
 use Rattle.std.specs.Prelude.{ℕ, List, [], ◌∷◌, ◌++◌, Option, Some, None, codes}
 use Rattle.std.specs.Fmt.{decimal}
-use Rattle.sfc_explain.specs.declared.entry.Entry.{Entry}
-use Rattle.sfc_explain.specs.declared.entry.LineMark.{LineMark}
-use Rattle.sfc_explain.specs.declared.entry.LineMark.TheVariants.{No, Yes, First}
-use Rattle.sfc_explain.specs.declared.entry.Place.{Place}
-use Rattle.sfc_explain.specs.declared.entry.Place.TheVariants.{Chart, Script, Shell}
+use Rattle.sfc_explain.specs.declared.explanation.Explanation.{Explanation}
+use Rattle.sfc_explain.specs.declared.explanation.LineMark.{LineMark}
+use Rattle.sfc_explain.specs.declared.explanation.LineMark.TheVariants.{No, Yes, First}
+use Rattle.sfc_explain.specs.declared.explanation.ExampleKind.{ExampleKind}
+use Rattle.sfc_explain.specs.declared.explanation.ExampleKind.TheVariants.{Chart, Script, Shell}
 use Rattle.sfc_explain.specs.declared.page.Label.{Label}
 use Rattle.sfc_explain.specs.declared.page.Label.TheVariants.{From, Line, Meaning, Cause}
 use Rattle.sfc_explain.specs.Topics.{number_of, name_of}
@@ -14,14 +14,14 @@ use Rattle.sfc_explain.specs.Topics.{number_of, name_of}
 unfoldable pub ended : List ℕ → List ℕ
 ended line = line ++ codes "\n"
 
--- what stands in front of a line of an entry
+-- what stands in front of a line of an explanation
 unfoldable pub label_text : Label → List ℕ
 label_text From = codes "  told by: "
 label_text Line = codes "  line: "
 label_text Meaning = codes "  meaning: "
 label_text Cause = codes "  usual cause: "
 
--- a line of an entry
+-- a line of an explanation
 unfoldable pub field : Label → List ℕ → List ℕ
 field label text = label_text label ++ ended text
 
@@ -37,36 +37,36 @@ mark_text Yes = codes "yes"
 mark_text First = codes "1"
 
 -- where an example stands
-abbrev pub place_text : Place → List ℕ
-place_text Chart = codes "  example, in a chart:\n"
-place_text Script = codes "  example, in a script:\n"
-place_text Shell = codes "  example, on the command line:\n"
+abbrev pub kind_text : ExampleKind → List ℕ
+kind_text Chart = codes "  example, in a chart:\n"
+kind_text Script = codes "  example, in a script:\n"
+kind_text Shell = codes "  example, on the command line:\n"
 
 -- the number and the name
-unfoldable pub heading : Entry → List ℕ
-heading entry = number_text (number_of entry.topic) ++ ended (name_of entry.topic)
+unfoldable pub heading : Explanation → List ℕ
+heading explanation = number_text (number_of explanation.topic) ++ ended (name_of explanation.topic)
 
--- the number and the name of each entry
-unfoldable pub headings : List Entry → List ℕ
+-- the number and the name of each explanation
+unfoldable pub headings : List Explanation → List ℕ
 headings [] = []
-headings (entry ∷ entries) = heading entry ++ headings entries
+headings (explanation ∷ explanations) = heading explanation ++ headings explanations
 
 -- what tells it, and whether with a line
-unfoldable pub source : Entry → List ℕ
-source entry = field From entry.from.now ++ field Line (mark_text entry.line)
+unfoldable pub source : Explanation → List ℕ
+source explanation = field From explanation.from.now ++ field Line (mark_text explanation.line)
 
 -- what it means, and what usually leads to it
-unfoldable pub sense : Entry → List ℕ
-sense entry = field Meaning entry.meaning.now ++ field Cause entry.cause.now
+unfoldable pub sense : Explanation → List ℕ
+sense explanation = field Meaning explanation.meaning.now ++ field Cause explanation.cause.now
 
 -- the example
-unfoldable pub example : Entry → List ℕ
-example entry = place_text entry.place ++ entry.example.now
+unfoldable pub example : Explanation → List ℕ
+example explanation = kind_text explanation.kind ++ explanation.example.now
 
 -- all but the number and the name
-unfoldable pub body : Entry → List ℕ
-body entry = source entry ++ (sense entry ++ example entry)
+unfoldable pub body : Explanation → List ℕ
+body explanation = source explanation ++ (sense explanation ++ example explanation)
 
--- an entry, whole
-abbrev pub page : Entry → List ℕ
-page entry = heading entry ++ body entry
+-- an explanation, whole
+abbrev pub page : Explanation → List ℕ
+page explanation = heading explanation ++ body explanation

@@ -1,15 +1,15 @@
-//! Entries as text.
+//! Explanations as text.
 
 ghost use Rattle.std.specs.Prelude.{◌≡◌};
-ghost use Rattle.sfc_tokens.specs.Writing.{Writes};
+ghost use Rattle.sfc_base.specs.Writing.{Writes};
 ghost use Rattle.sfc_explain.specs.Pages as text;
 
-use crate::entry::{Entry, LineMark, Place};
-use sfc_tokens::time_text::put_decimal;
-use sfc_tokens::write_fault::{WriteFault, put_all};
+use crate::explanation::{ExampleKind, Explanation, LineMark};
+use sfc_base::time_text::put_decimal;
+use sfc_base::write_fault::{WriteFault, put_all};
 use std::io::Write;
 
-/// What a line of an entry says.
+/// What a line of an explanation says.
 #[derive(Clone, Copy)]
 pub enum Label {
     /// What tells it.
@@ -47,13 +47,13 @@ fn mark_text(mark: LineMark) -> &'static [u8]
 }
 
 // What stands in front of an example.
-fn place_text(place: Place) -> &'static [u8]
-    ensures { result.now ≡ text.place_text place }
+fn kind_text(kind: ExampleKind) -> &'static [u8]
+    ensures { result.now ≡ text.kind_text kind }
 {
-    match place {
-        Place::Chart => b"  example, in a chart:\n",
-        Place::Script => b"  example, in a script:\n",
-        Place::Shell => b"  example, on the command line:\n",
+    match kind {
+        ExampleKind::Chart => b"  example, in a chart:\n",
+        ExampleKind::Script => b"  example, in a script:\n",
+        ExampleKind::Shell => b"  example, on the command line:\n",
     }
 }
 
@@ -89,72 +89,72 @@ fn put_number<W: Write>(number: Option<u8>, writer: &mut W) -> Result<(), WriteF
 
 // Writes the number and the name as a line.
 #[tactic(auto, unfolding(crate::specs::Pages::heading), using(crate::proofs::Put::then_writes, crate::proofs::Put::front_first))]
-fn put_heading<W: Write>(entry: &Entry, writer: &mut W) -> Result<(), WriteFault>
-    ensures { Writes (W.contents writer.old) (W.contents writer.new) result (text.heading entry.now) }
+fn put_heading<W: Write>(explanation: &Explanation, writer: &mut W) -> Result<(), WriteFault>
+    ensures { Writes (W.contents writer.old) (W.contents writer.new) result (text.heading explanation.now) }
 {
-    put_number(entry.topic.number(), writer)?;
-    put_end(entry.topic.name().as_bytes(), writer)
+    put_number(explanation.topic.number(), writer)?;
+    put_end(explanation.topic.name().as_bytes(), writer)
 }
 
 // Writes what tells it, and whether with a line.
 #[tactic(auto, unfolding(crate::specs::Pages::source), using(crate::proofs::Put::then_writes, crate::proofs::Put::front_first))]
-fn put_source<W: Write>(entry: &Entry, writer: &mut W) -> Result<(), WriteFault>
-    ensures { Writes (W.contents writer.old) (W.contents writer.new) result (text.source entry.now) }
+fn put_source<W: Write>(explanation: &Explanation, writer: &mut W) -> Result<(), WriteFault>
+    ensures { Writes (W.contents writer.old) (W.contents writer.new) result (text.source explanation.now) }
 {
-    put_field(Label::From, entry.from.as_bytes(), writer)?;
-    put_field(Label::Line, mark_text(entry.line), writer)
+    put_field(Label::From, explanation.from.as_bytes(), writer)?;
+    put_field(Label::Line, mark_text(explanation.line), writer)
 }
 
 // Writes what it means, and what usually leads to it.
 #[tactic(auto, unfolding(crate::specs::Pages::sense), using(crate::proofs::Put::then_writes, crate::proofs::Put::front_first))]
-fn put_sense<W: Write>(entry: &Entry, writer: &mut W) -> Result<(), WriteFault>
-    ensures { Writes (W.contents writer.old) (W.contents writer.new) result (text.sense entry.now) }
+fn put_sense<W: Write>(explanation: &Explanation, writer: &mut W) -> Result<(), WriteFault>
+    ensures { Writes (W.contents writer.old) (W.contents writer.new) result (text.sense explanation.now) }
 {
-    put_field(Label::Meaning, entry.meaning.as_bytes(), writer)?;
-    put_field(Label::Cause, entry.cause.as_bytes(), writer)
+    put_field(Label::Meaning, explanation.meaning.as_bytes(), writer)?;
+    put_field(Label::Cause, explanation.cause.as_bytes(), writer)
 }
 
-// Writes the example, behind the place in which it stands.
+// Writes the example, behind what it is written in.
 #[tactic(auto, unfolding(crate::specs::Pages::example), using(crate::proofs::Put::then_writes, crate::proofs::Put::front_first))]
-fn put_example<W: Write>(entry: &Entry, writer: &mut W) -> Result<(), WriteFault>
-    ensures { Writes (W.contents writer.old) (W.contents writer.new) result (text.example entry.now) }
+fn put_example<W: Write>(explanation: &Explanation, writer: &mut W) -> Result<(), WriteFault>
+    ensures { Writes (W.contents writer.old) (W.contents writer.new) result (text.example explanation.now) }
 {
-    put_all(writer, place_text(entry.place))?;
-    put_all(writer, entry.example.as_bytes())
+    put_all(writer, kind_text(explanation.kind))?;
+    put_all(writer, explanation.example.as_bytes())
 }
 
 // Writes all but the number and the name.
 #[tactic(auto, unfolding(crate::specs::Pages::body), using(crate::proofs::Put::then_writes, crate::proofs::Put::front_first))]
-fn put_body<W: Write>(entry: &Entry, writer: &mut W) -> Result<(), WriteFault>
-    ensures { Writes (W.contents writer.old) (W.contents writer.new) result (text.body entry.now) }
+fn put_body<W: Write>(explanation: &Explanation, writer: &mut W) -> Result<(), WriteFault>
+    ensures { Writes (W.contents writer.old) (W.contents writer.new) result (text.body explanation.now) }
 {
-    put_source(entry, writer)?;
-    put_sense(entry, writer)?;
-    put_example(entry, writer)
+    put_source(explanation, writer)?;
+    put_sense(explanation, writer)?;
+    put_example(explanation, writer)
 }
 
-/// Writes an entry whole: its number and name as a line, what tells it, whether with a line, what it means, what
+/// Writes an explanation whole: its number and name as a line, what tells it, whether with a line, what it means, what
 /// usually leads to it, and an example. It takes no memory.
 ///
 /// The one error is that the writer failed or took no byte: a front of the text was then written.
 #[tactic(auto, using(crate::proofs::Put::then_writes, crate::proofs::Put::front_first))]
-pub fn put_page<W: Write>(entry: &Entry, writer: &mut W) -> Result<(), WriteFault>
-    ensures { Writes (W.contents writer.old) (W.contents writer.new) result (text.page entry.now) }
+pub fn put_page<W: Write>(explanation: &Explanation, writer: &mut W) -> Result<(), WriteFault>
+    ensures { Writes (W.contents writer.old) (W.contents writer.new) result (text.page explanation.now) }
 {
-    put_heading(entry, writer)?;
-    put_body(entry, writer)
+    put_heading(explanation, writer)?;
+    put_body(explanation, writer)
 }
 
-/// Writes the number and the name of each of the entries, a line each. It takes no memory.
+/// Writes the number and the name of each of the explanations, a line each. It takes no memory.
 ///
 /// The one error is that the writer failed or took no byte: a front of the text was then written.
 #[tactic(auto, unfolding(crate::specs::Pages::headings), using(crate::proofs::Put::then_writes))]
-pub fn put_list<W: Write>(entries: &[Entry], writer: &mut W) -> Result<(), WriteFault>
-    ensures { Writes (W.contents writer.old) (W.contents writer.new) result (text.headings entries.now) }
+pub fn put_list<W: Write>(explanations: &[Explanation], writer: &mut W) -> Result<(), WriteFault>
+    ensures { Writes (W.contents writer.old) (W.contents writer.new) result (text.headings explanations.now) }
 {
-    let Some((entry, rest)) = entries.split_first() else {
+    let Some((explanation, rest)) = explanations.split_first() else {
         return Ok(());
     };
-    put_heading(entry, writer)?;
+    put_heading(explanation, writer)?;
     put_list(rest, writer)
 }

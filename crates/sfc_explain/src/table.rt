@@ -1,394 +1,394 @@
 //! All refusals and faults.
 
-use crate::entry::{Entry, LineMark, Place};
+use crate::explanation::{ExampleKind, Explanation, LineMark};
 use crate::topic::Topic;
-use sfc_chart::ids::TaskId;
+use sfc_base::ids::TaskId;
 use sfc_events::refusal::Refusal;
 use sfc_tokens::read_error::ReadErrorKind;
 use sfc_variables::load_error::{Limit, LoadError};
 
 /// All refusals and faults: first those with a number, in its order.
-pub static TABLE: [Entry; 42] = [
-    Entry {
+pub static TABLE: [Explanation; 42] = [
+    Explanation {
         topic: Topic::Reading(ReadErrorKind::TooLong),
         from: "reader",
         line: LineMark::First,
         meaning: "the chart has more than 1,048,576 bytes",
         cause: "the name of the file is that of another one; no chart that is written by hand is so long",
-        place: Place::Shell,
+        kind: ExampleKind::Shell,
         example: "    head -c 2000000 /dev/zero >long.chart; sfcmon check long.chart\n",
     },
-    Entry {
+    Explanation {
         topic: Topic::Reading(ReadErrorKind::NotAscii),
         from: "reader",
         line: LineMark::Yes,
         meaning: "a byte over 127 stands outside comments and pragmas",
         cause: "a letter with an accent in a name, or a typographic quote that an editor has put in",
-        place: Place::Chart,
+        kind: ExampleKind::Chart,
         example: "    VAR H\u{f6}he : INT; END_VAR\n",
     },
-    Entry {
+    Explanation {
         topic: Topic::Reading(ReadErrorKind::BadToken),
         from: "reader",
         line: LineMark::Yes,
         meaning: "a character or a word that is no token",
         cause: "two underscores together, a comment that isn't closed, a location without a number, a quote",
-        place: Place::Chart,
+        kind: ExampleKind::Chart,
         example: "    VAR Motor__1 : BOOL; END_VAR\n",
     },
-    Entry {
+    Explanation {
         topic: Topic::Reading(ReadErrorKind::Syntax),
         from: "reader",
         line: LineMark::Yes,
         meaning: "the token can't stand there",
         cause: "a missing ';' before it, a reserved word that is used as a name, a missing END_ word",
-        place: Place::Chart,
+        kind: ExampleKind::Chart,
         example: "    STEP Full: Lamp(N) END_STEP\n",
     },
-    Entry {
+    Explanation {
         topic: Topic::Reading(ReadErrorKind::TooDeep),
         from: "reader",
         line: LineMark::Yes,
         meaning: "over 64 open parentheses, prefix operators and IF statements, or over 256 operators in an expression",
         cause: "an expression that another program has written; declare variables for its parts",
-        place: Place::Chart,
+        kind: ExampleKind::Chart,
         example: "    TRANSITION FROM Idle TO Busy :=\n    \
             ((((((((((((((((((((((((((((((((((((((((((((((((((((((((((((((((( Start\n    \
             ))))))))))))))))))))))))))))))))))))))))))))))))))))))))))))))))); END_TRANSITION\n",
     },
-    Entry {
+    Explanation {
         topic: Topic::Reading(ReadErrorKind::BadDuration),
         from: "reader",
         line: LineMark::Yes,
         meaning: "no duration, or one beyond 2^62 microseconds",
         cause: "parts that aren't in falling order of unit, or a fraction of a microsecond",
-        place: Place::Chart,
+        kind: ExampleKind::Chart,
         example: "    TRANSITION FROM Idle TO Busy := Idle.T >= T#10ms5s; END_TRANSITION\n",
     },
-    Entry {
+    Explanation {
         topic: Topic::Reading(ReadErrorKind::BadNumber),
         from: "reader",
         line: LineMark::Yes,
         meaning: "letters behind digits, or a number over 4,294,967,295",
         cause: "a duration without T# before it",
-        place: Place::Chart,
+        kind: ExampleKind::Chart,
         example: "    TRANSITION FROM Idle TO Busy := Idle.T >= 100ms; END_TRANSITION\n",
     },
-    Entry {
+    Explanation {
         topic: Topic::Reading(ReadErrorKind::Memory),
         from: "reader",
         line: LineMark::No,
         meaning: "memory was refused while the chart was read; it is told as 'out of memory'",
         cause: "a limit on memory, of a shell or a container, that is too low",
-        place: Place::Shell,
+        kind: ExampleKind::Shell,
         example: "    (ulimit -v 20000; sfcmon check large.chart)    # of a million bytes\n",
     },
-    Entry {
+    Explanation {
         topic: Topic::Loading(LoadError::Unknown),
         from: "loader",
         line: LineMark::No,
         meaning: "a name isn't declared: of a variable, of a step before .X or .T, or .Q stands outside its action",
         cause: "a name that is spelt in another way than where it is declared, or is declared in another program type",
-        place: Place::Chart,
+        kind: ExampleKind::Chart,
         example: "    TRANSITION FROM Idle TO Busy := Strat; END_TRANSITION\n",
     },
-    Entry {
+    Explanation {
         topic: Topic::Loading(LoadError::WrongType),
         from: "loader",
         line: LineMark::No,
         meaning: "a type isn't the one that is wanted, or a location's size isn't the variable's",
         cause: "INT and DINT in one expression, a number as a condition, an INT at %QX in place of %QW",
-        place: Place::Chart,
+        kind: ExampleKind::Chart,
         example: "    TRANSITION FROM Idle TO Busy := Count; END_TRANSITION    (* Count is an INT *)\n",
     },
-    Entry {
+    Explanation {
         topic: Topic::Loading(LoadError::LiteralRange),
         from: "loader",
         line: LineMark::No,
         meaning: "an integer doesn't fit its type, or INTERVAL is negative",
         cause: "a number over 32767 for an INT: declare a DINT",
-        place: Place::Chart,
+        kind: ExampleKind::Chart,
         example: "    VAR Level : INT := 40000; END_VAR\n",
     },
-    Entry {
+    Explanation {
         topic: Topic::Loading(LoadError::NotAssignable),
         from: "loader",
         line: LineMark::No,
         meaning: "a name with a dot stands before :=",
         cause: "a body that is to switch a step or an action: transitions and associations do that",
-        place: Place::Chart,
+        kind: ExampleKind::Chart,
         example: "    ACTION Halt: Busy.X := FALSE; END_ACTION\n",
     },
-    Entry {
+    Explanation {
         topic: Topic::Loading(LoadError::Duplicate),
         from: "loader",
         line: LineMark::No,
         meaning: "a name is declared twice in its name space, or a step stands twice in a list of steps",
         cause: "two names that differ in the case of letters alone, or a step with the name of a variable",
-        place: Place::Chart,
+        kind: ExampleKind::Chart,
         example: "    VAR Level, level : INT; END_VAR\n",
     },
-    Entry {
+    Explanation {
         topic: Topic::Loading(LoadError::NoInitial),
         from: "loader",
         line: LineMark::No,
         meaning: "a program type has no INITIAL_STEP",
         cause: "the first step is declared by STEP",
-        place: Place::Chart,
+        kind: ExampleKind::Chart,
         example: "    PROGRAM Blink STEP Waiting: END_STEP END_PROGRAM\n",
     },
-    Entry {
+    Explanation {
         topic: Topic::Loading(LoadError::UnknownStep),
         from: "loader",
         line: LineMark::No,
         meaning: "a name behind FROM or TO is no step",
         cause: "a step that was renamed, but not in its transitions",
-        place: Place::Chart,
+        kind: ExampleKind::Chart,
         example: "    TRANSITION FROM Idle TO Bussy := Start; END_TRANSITION\n",
     },
-    Entry {
+    Explanation {
         topic: Topic::Loading(LoadError::UnknownAction),
         from: "loader",
         line: LineMark::No,
         meaning: "the name of an association is neither an action nor a variable",
         cause: "an action without its ACTION block, or an output that isn't declared",
-        place: Place::Chart,
+        kind: ExampleKind::Chart,
         example: "    STEP Full: Lanp(N); END_STEP\n",
     },
-    Entry {
+    Explanation {
         topic: Topic::Loading(LoadError::NotBool),
         from: "loader",
         line: LineMark::No,
         meaning: "the variable of an association or of SINGLE isn't BOOL",
         cause: "a number that is to change while a step is active: an action with a body does that",
-        place: Place::Chart,
+        kind: ExampleKind::Chart,
         example: "    STEP Full: Count(N); END_STEP    (* Count is an INT *)\n",
     },
-    Entry {
+    Explanation {
         topic: Topic::Loading(LoadError::NotTime),
         from: "loader",
         line: LineMark::No,
         meaning: "the variable of an association's time isn't TIME",
         cause: "a delay that is declared as a number of milliseconds",
-        place: Place::Chart,
+        kind: ExampleKind::Chart,
         example: "    STEP Full: Lamp(D, Count); END_STEP    (* Count is an INT *)\n",
     },
-    Entry {
+    Explanation {
         topic: Topic::Loading(LoadError::NoTask),
         from: "loader",
         line: LineMark::No,
         meaning: "the task behind WITH isn't declared, or WITH is left out",
         cause: "a task that was renamed or is missing",
-        place: Place::Chart,
+        kind: ExampleKind::Chart,
         example: "    PROGRAM Second WITH Fast : Mix;\n",
     },
-    Entry {
+    Explanation {
         topic: Topic::Loading(LoadError::UnknownType),
         from: "loader",
         line: LineMark::No,
         meaning: "the program type of an instance isn't declared",
         cause: "a program type in another file: one file has the whole chart",
-        place: Place::Chart,
+        kind: ExampleKind::Chart,
         example: "    PROGRAM Second WITH Main : Fill;\n",
     },
-    Entry {
+    Explanation {
         topic: Topic::Loading(LoadError::SameLocation),
         from: "loader",
         line: LineMark::No,
         meaning: "two variables have one location",
         cause: "a declaration that was copied, or two instances of a program type with a located variable",
-        place: Place::Chart,
+        kind: ExampleKind::Chart,
         example: "    VAR_GLOBAL Left AT %QX0.1 : BOOL; Right AT %QX0.1 : BOOL; END_VAR\n",
     },
-    Entry {
+    Explanation {
         topic: Topic::Loading(LoadError::Limit(Limit::Tasks)),
         from: "loader",
         line: LineMark::No,
         meaning: "too many Steps (1,024), Transitions (2,048), Associations (4,096), Variables (4,096), Instances (64) or Tasks (16)",
         cause: "a chart that another program has written; the message says what there is too much of",
-        place: Place::Chart,
+        kind: ExampleKind::Chart,
         example: "    TASK Seventeenth(PRIORITY := 1);\n",
     },
-    Entry {
+    Explanation {
         topic: Topic::Loading(LoadError::Memory),
         from: "loader",
         line: LineMark::No,
         meaning: "memory was refused while the chart was loaded; it is told as 'out of memory'",
         cause: "a limit on memory, of a shell or a container, that is too low",
-        place: Place::Shell,
+        kind: ExampleKind::Shell,
         example: "    (ulimit -v 20000; sfcmon check large.chart)    # of a million bytes\n",
     },
-    Entry {
+    Explanation {
         topic: Topic::Command(Refusal::UnknownVar),
         from: "INPUT, FORCE, RELEASE",
         line: LineMark::No,
         meaning: "there is no such variable",
         cause: "a variable of a program's own is named without its instance: P.Count is right",
-        place: Place::Script,
+        kind: ExampleKind::Script,
         example: "    T#0s FORCE Count 3\n",
     },
-    Entry {
+    Explanation {
         topic: Topic::Command(Refusal::ValueType),
         from: "INPUT, FORCE",
         line: LineMark::No,
         meaning: "the value isn't of the variable's type",
         cause: "a number for a TIME, which is written as T#5s, or a number over 1 for a BOOL",
-        place: Place::Script,
+        kind: ExampleKind::Script,
         example: "    T#0s FORCE P.Delay 5\n",
     },
-    Entry {
+    Explanation {
         topic: Topic::Command(Refusal::NotInput),
         from: "INPUT",
         line: LineMark::No,
         meaning: "the variable isn't located at %I",
         cause: "an output or a variable without a location is to be set: FORCE does that",
-        place: Place::Script,
+        kind: ExampleKind::Script,
         example: "    T#0s INPUT Lamp TRUE\n",
     },
-    Entry {
+    Explanation {
         topic: Topic::Command(Refusal::NotForced),
         from: "RELEASE",
         line: LineMark::No,
         meaning: "the variable isn't forced",
         cause: "it was released already, or its FORCE was refused",
-        place: Place::Script,
+        kind: ExampleKind::Script,
         example: "    T#0s RELEASE Lamp\n",
     },
-    Entry {
+    Explanation {
         topic: Topic::Command(Refusal::ClockBack),
         from: "each command",
         line: LineMark::No,
         meaning: "the instant is before that of an accepted command",
         cause: "the lines of a script aren't in order of time",
-        place: Place::Script,
+        kind: ExampleKind::Script,
         example: "    T#20ms FORCE Lamp TRUE\n    T#10ms RELEASE Lamp\n",
     },
-    Entry {
+    Explanation {
         topic: Topic::Command(Refusal::NotDue(None)),
         from: "SCAN",
         line: LineMark::No,
         meaning: "no release of the task waits; behind the name stands its next one by INTERVAL, or none",
         cause: "a second scan within one INTERVAL, or a SINGLE that hasn't risen",
-        place: Place::Script,
+        kind: ExampleKind::Script,
         example: "    T#0s SCAN Main\n    T#1ms SCAN Main\n",
     },
-    Entry {
+    Explanation {
         topic: Topic::Command(Refusal::Yield(TaskId(0))),
         from: "SCAN",
         line: LineMark::No,
         meaning: "another task that waits goes first: the one that is named",
         cause: "two tasks are due at one instant, and the one with the greater PRIORITY number is scanned first",
-        place: Place::Script,
+        kind: ExampleKind::Script,
         example: "    T#0s SCAN Slow\n",
     },
-    Entry {
+    Explanation {
         topic: Topic::Command(Refusal::UnknownTask),
         from: "SCAN",
         line: LineMark::No,
         meaning: "there is no such task",
         cause: "a program instance is named in place of its task",
-        place: Place::Script,
+        kind: ExampleKind::Script,
         example: "    T#0s SCAN P\n",
     },
-    Entry {
+    Explanation {
         topic: Topic::Command(Refusal::UnknownProgram),
         from: "RESET",
         line: LineMark::No,
         meaning: "there is no such program instance",
         cause: "a program type is named in place of its instance",
-        place: Place::Script,
+        kind: ExampleKind::Script,
         example: "    T#0s RESET Mix\n",
     },
-    Entry {
+    Explanation {
         topic: Topic::Command(Refusal::InstantRange),
         from: "each command",
         line: LineMark::No,
         meaning: "the instant is negative",
         cause: "instants are counted from a moment that isn't the first one",
-        place: Place::Script,
+        kind: ExampleKind::Script,
         example: "    T#-1s SCAN Main\n",
     },
-    Entry {
+    Explanation {
         topic: Topic::Named("DivZero"),
         from: "scan",
         line: LineMark::No,
         meaning: "a division by zero, by / or MOD, in a condition or a body",
         cause: "a variable that is 0 until something was counted or put in",
-        place: Place::Chart,
+        kind: ExampleKind::Chart,
         example: "    TRANSITION FROM Idle TO Busy := Count / Zero = 1; END_TRANSITION    (* Zero is 0 *)\n",
     },
-    Entry {
+    Explanation {
         topic: Topic::Named("Range"),
         from: "scan",
         line: LineMark::No,
         meaning: "a result that its type doesn't have, in a condition or a body",
         cause: "a counter that is never set back, or the product of two INT",
-        place: Place::Chart,
+        kind: ExampleKind::Chart,
         example: "    TRANSITION FROM Idle TO Busy := Count + 32767 > 0; END_TRANSITION    (* Count is 1 *)\n",
     },
-    Entry {
+    Explanation {
         topic: Topic::Named("TwoTimed"),
         from: "scan",
         line: LineMark::No,
         meaning: "an action has two active associations with a time",
         cause: "two steps of simultaneous sequences delay or limit one action",
-        place: Place::Chart,
+        kind: ExampleKind::Chart,
         example: "    INITIAL_STEP First: Lamp(L, T#1s); Lamp(D, T#2s); END_STEP\n",
     },
-    Entry {
+    Explanation {
         topic: Topic::Named("SdWhileSl"),
         from: "scan",
         line: LineMark::No,
         meaning: "an action has an active association with SD while SL is stored",
         cause: "an action that was stored by SL isn't reset by R before it is stored by SD",
-        place: Place::Chart,
+        kind: ExampleKind::Chart,
         example: "    INITIAL_STEP First: Lamp(SL, T#1m); END_STEP\n    \
             STEP Second: Lamp(SD, T#1m); END_STEP\n    TRANSITION FROM First TO Second := TRUE; END_TRANSITION\n",
     },
-    Entry {
+    Explanation {
         topic: Topic::Named("SlWhileSd"),
         from: "scan",
         line: LineMark::No,
         meaning: "an action has an active association with SL while SD is stored",
         cause: "an action that was stored by SD isn't reset by R before it is stored by SL",
-        place: Place::Chart,
+        kind: ExampleKind::Chart,
         example: "    INITIAL_STEP First: Lamp(SD, T#1m); END_STEP\n    \
             STEP Second: Lamp(SL, T#1m); END_STEP\n    TRANSITION FROM First TO Second := TRUE; END_TRANSITION\n",
     },
-    Entry {
+    Explanation {
         topic: Topic::Named("script line"),
         from: "script",
         line: LineMark::Yes,
         meaning: "this line of the script is no command: the first such line, counted from 1; 0 where the script is too long",
         cause: "a line without its instant, a word too many, a comment behind a command, or a number that no DINT has",
-        place: Place::Script,
+        kind: ExampleKind::Script,
         example: "    SCAN Main\n",
     },
-    Entry {
+    Explanation {
         topic: Topic::Named("read fault"),
         from: "files",
         line: LineMark::No,
         meaning: "a file can't be opened or read",
         cause: "the name of the file is misspelt, or it may not be read",
-        place: Place::Shell,
+        kind: ExampleKind::Shell,
         example: "    sfcmon check no.chart\n",
     },
-    Entry {
+    Explanation {
         topic: Topic::Named("write fault"),
         from: "files",
         line: LineMark::No,
         meaning: "the output can't be written; what was written is a front of it",
         cause: "a disk that is full, or a program behind a pipe that has ended, as head does",
-        place: Place::Shell,
+        kind: ExampleKind::Shell,
         example: "    sfcmon check examples/lamp.chart >/dev/full\n",
     },
-    Entry {
+    Explanation {
         topic: Topic::Named("out of memory"),
         from: "memory",
         line: LineMark::No,
         meaning: "memory was refused; what was written is a front of the output",
         cause: "a limit on memory, of a shell or a container, that is too low",
-        place: Place::Shell,
+        kind: ExampleKind::Shell,
         example: "    (ulimit -v 20000; sfcmon check large.chart)    # of a million bytes\n",
     },
 ];

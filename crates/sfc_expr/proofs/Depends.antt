@@ -1,13 +1,13 @@
 -- What an expression depends on, and what statements leave alone.
 use Rattle.std.proofs.Common.{◌≡◌, Bool, true, false, cond, Result, Ok, Err, refl, ap, ◌∙◌}
-use Rattle.sfc_expr.specs.declared.value.Value.{Value}
-use Rattle.sfc_expr.specs.declared.value.Value.TheVariants as value
+use Rattle.sfc_base.specs.declared.value.Value.{Value}
+use Rattle.sfc_base.specs.declared.value.Value.TheVariants as value
 use Rattle.sfc_expr.specs.declared.fault.Fault.{Fault}
-use Rattle.sfc_expr.specs.Values.{truth}
+use Rattle.sfc_base.specs.Values.{truth}
 use Rattle.sfc_expr.specs.Trees.{Expression, Literal, Read, StepActive, StepTime, ActionQ, Not, Minus, Binary, Body, Nothing, Assign, If, Branches, NoBranch, When, Otherwise}
 use Rattle.sfc_expr.specs.Environment.{Environment, assigned}
 use Rattle.sfc_expr.specs.Meaning.{value_of, of_truth}
-use Rattle.sfc_expr.specs.Effect.{Outcome, on_value, on_end, effect, branch_effect}
+use Rattle.sfc_expr.specs.Effect.{BodyEffect, on_value, on_end, effect, branch_effect}
 use Rattle.sfc_expr.specs.Dependence.{AgreeOn, KeepsAllButValues}
 
 pub value_same : (e : Expression) (one other : Environment) → AgreeOn e one other → value_of one e ≡ value_of other e
@@ -34,15 +34,15 @@ then_same a b c h k = record {
   q = k.q ∙ h.q;
 }
 
-on_value_same : (env : Environment) (r : Result Value Fault) (go : Value → Outcome) → ((x : Value) → KeepsAllButValues env (go x).environment) → KeepsAllButValues env (on_value env r go).environment
+on_value_same : (env : Environment) (r : Result Value Fault) (go : Value → BodyEffect) → ((x : Value) → KeepsAllButValues env (go x).environment) → KeepsAllButValues env (on_value env r go).environment
 on_value_same env (Ok x) go k = k x
 on_value_same env (Err fault) go k = same env
 
-on_end_same : (old : Environment) (r : Result (Unit {0}) Fault) (env : Environment) (go : Environment → Outcome) → KeepsAllButValues old env → KeepsAllButValues env (go env).environment → KeepsAllButValues old (on_end r env go).environment
+on_end_same : (old : Environment) (r : Result (Unit {0}) Fault) (env : Environment) (go : Environment → BodyEffect) → KeepsAllButValues old env → KeepsAllButValues env (go env).environment → KeepsAllButValues old (on_end r env go).environment
 on_end_same old (Ok x) env go h k = then_same old env _ h k
 on_end_same old (Err fault) env go h k = h
 
-either : (env : Environment) (b : Bool) (o p : Outcome) → KeepsAllButValues env o.environment → KeepsAllButValues env p.environment → KeepsAllButValues env (cond b o p).environment
+either : (env : Environment) (b : Bool) (o p : BodyEffect) → KeepsAllButValues env o.environment → KeepsAllButValues env p.environment → KeepsAllButValues env (cond b o p).environment
 either env true o p h k = h
 either env false o p h k = k
 

@@ -5,9 +5,8 @@ use Rattle.std.specs.Option.{SomeIff}
 use Rattle.std.specs.Int.{CanDivide}
 use Rattle.std.proofs.lemmas.Int.{ints, to_z-of_z, quot-rem, rem_below}
 use native.Mathlib.Nat.{zero-mod}
-use Rattle.sfc_tokens.specs.declared.var_type.VarType.{VarType}
-use Rattle.sfc_expr.specs.Values.{in_type}
-use Rattle.sfc_expr.specs.Meaning.{quotient, remainder}
+use Rattle.sfc_base.specs.declared.var_type.VarType.{VarType}
+use Rattle.sfc_expr.specs.Meaning.{in_type, quotient, remainder}
 use Rattle.sfc_expr.specs.Division.{IsDivision}
 
 not_zero : (b : ℤ) → (of_z w64 b ≡ 0 → ⊥) → int_eq b (pos 0) ≡ false

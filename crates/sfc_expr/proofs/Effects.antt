@@ -1,26 +1,26 @@
 -- A statement before others, and a branch before others.
 use Rattle.std.proofs.Common.{◌≡◌, ℕ, ◌+◌, ◌<◌, ◌≤◌, true, false, List, ◌∷◌, Vec, Global, length, get_or, drop, refl, ap, sym, ◌∙◌, arith, Result, Ok, Err}
 use Rattle.std.proofs.lemmas.List.{drop_more, drop_all}
-use Rattle.sfc_expr.specs.declared.value.Value.{Value}
+use Rattle.sfc_base.specs.declared.value.Value.{Value}
 use Rattle.sfc_expr.specs.declared.fault.Fault.{Fault}
 use Rattle.sfc_expr.specs.declared.expr.Expr.{Expr}
 use Rattle.sfc_expr.specs.declared.statement.Statement.{Statement}
 use Rattle.sfc_expr.specs.declared.statement.Statement.TheVariants as statement
 use Rattle.sfc_expr.specs.declared.statement.Branch.{Branch}
 use Rattle.sfc_expr.specs.declared.statement.Branch.TheVariants as branch
-use Rattle.sfc_expr.specs.Values.{truth}
+use Rattle.sfc_base.specs.Values.{truth}
 use Rattle.sfc_expr.specs.Trees.{Body, Nothing, Branches, When, Otherwise, expression_of, before, tried_before, body_of, branches_of}
 use Rattle.sfc_expr.specs.Environment.{Environment, assigned}
 use Rattle.sfc_expr.specs.Meaning.{value_of}
-use Rattle.sfc_expr.specs.Effect.{Outcome, done, ended, on_value, on_end, and_then, effect, branch_effect}
+use Rattle.sfc_expr.specs.Effect.{BodyEffect, done, ended, on_value, on_end, and_then, effect, branch_effect}
 use Rattle.sfc_expr.specs.Nodes.{nodes, body_nodes, branch_nodes}
 use Rattle.sfc_expr.proofs.Rows.{before-if, tried_before-when, tried_before-otherwise}
 
-on_value-value : (env : Environment) (r : Result Value Fault) (f : Value → Environment) (next : Environment → Outcome) → on_value env r (λ x. next (f x)) ≡ and_then (on_value env r (λ x. done (f x))) next
+on_value-value : (env : Environment) (r : Result Value Fault) (f : Value → Environment) (next : Environment → BodyEffect) → on_value env r (λ x. next (f x)) ≡ and_then (on_value env r (λ x. done (f x))) next
 on_value-value env (Ok x) f next = refl
 on_value-value env (Err fault) f next = refl
 
-on_end-none : (r : Result (Unit {0}) Fault) (env : Environment) (next : Environment → Outcome) → on_end r env next ≡ and_then (on_end r env done) next
+on_end-none : (r : Result (Unit {0}) Fault) (env : Environment) (next : Environment → BodyEffect) → on_end r env next ≡ and_then (on_end r env done) next
 on_end-none (Ok x) env next = refl
 on_end-none (Err fault) env next = refl
 
@@ -34,7 +34,7 @@ body_nodes-before (statement.If' shape bs) rest = omega arith
 
 -- ---- one IF
 
-alone : (o : Outcome) → and_then o done ≡ o
+alone : (o : BodyEffect) → and_then o done ≡ o
 alone o = at o.result o.environment
   where
     at : (r : Result (Unit {0}) Fault) (env : Environment) → on_end r env done ≡ record { result = r; environment = env }
@@ -52,10 +52,10 @@ as_branches s v is bs at env = effect-if s v env is ∙ ap (λ (l : List Branch)
 
 -- ---- a list at its end
 
-pub finished : (xs : List Statement) (i : ℕ) (env : Environment) (whole : Outcome) → effect (body_of (drop i xs)) env ≡ whole → length xs ≤ i → whole ≡ done env
+pub finished : (xs : List Statement) (i : ℕ) (env : Environment) (whole : BodyEffect) → effect (body_of (drop i xs)) env ≡ whole → length xs ≤ i → whole ≡ done env
 finished xs i env whole so_far end = sym so_far ∙ ap (λ (s : List Statement). effect (body_of s) env) (drop_all i xs end)
 
-pub tried_all : (xs : List Branch) (i : ℕ) (env : Environment) (whole : Outcome) → branch_effect (branches_of (drop i xs)) env ≡ whole → length xs ≤ i → whole ≡ done env
+pub tried_all : (xs : List Branch) (i : ℕ) (env : Environment) (whole : BodyEffect) → branch_effect (branches_of (drop i xs)) env ≡ whole → length xs ≤ i → whole ≡ done env
 tried_all xs i env whole so_far end = sym so_far ∙ ap (λ (b : List Branch). branch_effect (branches_of b) env) (drop_all i xs end)
 
 -- ---- one element of a list, and those behind it
@@ -63,14 +63,14 @@ tried_all xs i env whole so_far end = sym so_far ∙ ap (λ (b : List Branch). b
 pub split : {A : Type 0} (xs : List A) (i : ℕ) (x : A) → i < length xs → x ≡ get_or xs i x → drop i xs ≡ x ∷ drop (i + 1) xs
 split {A} xs i x lt is = drop_more xs i x lt ∙ ap (λ (y : A). y ∷ drop (i + 1) xs) (sym is)
 
-and_then-ok : (o : Outcome) (u : Unit {0}) (next : Environment → Outcome) → Ok u ≡ o.result → and_then o next ≡ next o.environment
+and_then-ok : (o : BodyEffect) (u : Unit {0}) (next : Environment → BodyEffect) → Ok u ≡ o.result → and_then o next ≡ next o.environment
 and_then-ok o u next r = ap (λ (x : Result (Unit {0}) Fault). on_end x o.environment next) (sym r)
 
-and_then-err : (o : Outcome) (fault : Fault) (next : Environment → Outcome) → Err fault ≡ o.result → and_then o next ≡ ended o.environment fault
+and_then-err : (o : BodyEffect) (fault : Fault) (next : Environment → BodyEffect) → Err fault ≡ o.result → and_then o next ≡ ended o.environment fault
 and_then-err o fault next r = ap (λ (x : Result (Unit {0}) Fault). on_end x o.environment next) (sym r)
 
 module _ (xs : List Statement) (i : ℕ) (x : Statement) (lt : i < length xs) (is : x ≡ get_or xs i x) where
-  abbrev first : Environment → Outcome
+  abbrev first : Environment → BodyEffect
   first env = effect (before x Nothing) env
 
   effect_at : (env : Environment) → effect (body_of (drop i xs)) env ≡ and_then (first env) (λ env'. effect (body_of (drop (i + 1) xs)) env')
@@ -83,10 +83,10 @@ module _ (xs : List Statement) (i : ℕ) (x : Statement) (lt : i < length xs) (i
   stops env fault r = effect_at env ∙ and_then-err (first env) fault _ r
 
   pub stops-result : (env : Environment) (fault : Fault) → Err fault ≡ (first env).result → (effect (body_of (drop i xs)) env).result ≡ Err fault
-  stops-result env fault r = ap (λ (o : Outcome). o.result) (stops env fault r)
+  stops-result env fault r = ap (λ (o : BodyEffect). o.result) (stops env fault r)
 
   pub stops-environment : (env : Environment) (fault : Fault) → Err fault ≡ (first env).result → (effect (body_of (drop i xs)) env).environment ≡ (effect (before x Nothing) env).environment
-  stops-environment env fault r = ap (λ (o : Outcome). o.environment) (stops env fault r)
+  stops-environment env fault r = ap (λ (o : BodyEffect). o.environment) (stops env fault r)
 
   pub nodes_at : body_nodes (body_of (drop i xs)) ≡ body_nodes (before x Nothing) + body_nodes (body_of (drop (i + 1) xs))
   nodes_at = ap (λ (s : List Statement). body_nodes (body_of s)) (split xs i x lt is) ∙ body_nodes-before x _
@@ -102,7 +102,7 @@ module _ (xs : List Branch) (i : ℕ) (x : Branch) (lt : i < length xs) (is : x 
     pub applies : (env : Environment) (y : Value) → Ok y ≡ value_of env (expression_of e) → truth y ≡ true → effect (body_of v.items) env ≡ branch_effect (branches_of (drop i xs)) env
     applies env y is_value is_true = rw (when_at, ← is_value, is_true) refl
 
-    pub takes : (env : Environment) (y : Value) → Ok y ≡ value_of env (expression_of e) → truth y ≡ true → (ss : List Statement) → ss ≡ v.items → (whole : Outcome) → branch_effect (branches_of (drop i xs)) env ≡ whole → effect (body_of ss) env ≡ whole
+    pub takes : (env : Environment) (y : Value) → Ok y ≡ value_of env (expression_of e) → truth y ≡ true → (ss : List Statement) → ss ≡ v.items → (whole : BodyEffect) → branch_effect (branches_of (drop i xs)) env ≡ whole → effect (body_of ss) env ≡ whole
     takes env y is_value is_true ss at whole so_far = ap (λ (l : List Statement). effect (body_of l) env) at ∙ applies env y is_value is_true ∙ so_far
 
     passes : (env : Environment) (y : Value) → Ok y ≡ value_of env (expression_of e) → truth y ≡ false → branch_effect (branches_of (drop (i + 1) xs)) env ≡ branch_effect (branches_of (drop i xs)) env
@@ -111,10 +111,10 @@ module _ (xs : List Branch) (i : ℕ) (x : Branch) (lt : i < length xs) (is : x 
     faults : (env : Environment) (fault : Fault) → Err fault ≡ value_of env (expression_of e) → branch_effect (branches_of (drop i xs)) env ≡ ended env fault
     faults env fault is_fault = rw (when_at, ← is_fault) refl
 
-    pub passed : (env : Environment) (y : Value) → Ok y ≡ value_of env (expression_of e) → truth y ≡ false → (whole : Outcome) → branch_effect (branches_of (drop i xs)) env ≡ whole → branch_effect (branches_of (drop (i + 1) xs)) env ≡ whole
+    pub passed : (env : Environment) (y : Value) → Ok y ≡ value_of env (expression_of e) → truth y ≡ false → (whole : BodyEffect) → branch_effect (branches_of (drop i xs)) env ≡ whole → branch_effect (branches_of (drop (i + 1) xs)) env ≡ whole
     passed env y is_value is_false whole so_far = passes env y is_value is_false ∙ so_far
 
-    pub faulted : (env : Environment) (fault : Fault) → Err fault ≡ value_of env (expression_of e) → (whole : Outcome) → branch_effect (branches_of (drop i xs)) env ≡ whole → whole ≡ ended env fault
+    pub faulted : (env : Environment) (fault : Fault) → Err fault ≡ value_of env (expression_of e) → (whole : BodyEffect) → branch_effect (branches_of (drop i xs)) env ≡ whole → whole ≡ ended env fault
     faulted env fault is_fault whole so_far = sym so_far ∙ faults env fault is_fault
 
     pub nodes-when : branch_nodes (branches_of (drop i xs)) ≡ nodes (expression_of e) + body_nodes (body_of v.items) + branch_nodes (branches_of (drop (i + 1) xs))

@@ -1,21 +1,21 @@
 -- Typed trees have values of their types.
 use Rattle.std.proofs.Common.{◌≡◌, ◌&&◌, ℕ, Bool, true, false, cond, Option, Some, None, unwrap_or, IfSome, ℤ, pos, int_div, Result, Ok, Err, IfOk, refl, sym, ap, subst, ◌∙◌}
 use Rattle.std.specs.Ordering.{int_eq}
-use Rattle.sfc_tokens.specs.declared.var_type.VarType.{VarType}
-use Rattle.sfc_tokens.specs.declared.var_type.VarType.TheVariants as types
-use Rattle.sfc_expr.specs.declared.value.Value.{Value}
-use Rattle.sfc_expr.specs.declared.value.Value.TheVariants as value
+use Rattle.sfc_base.specs.declared.var_type.VarType.{VarType}
+use Rattle.sfc_base.specs.declared.var_type.VarType.TheVariants as types
+use Rattle.sfc_base.specs.declared.value.Value.{Value}
+use Rattle.sfc_base.specs.declared.value.Value.TheVariants as value
 use Rattle.sfc_expr.specs.declared.fault.Fault.{Fault}
 use Rattle.sfc_expr.specs.declared.fault.Fault.TheVariants as faults
 use Rattle.sfc_expr.specs.declared.operator.Operator.{Operator}
 use Rattle.sfc_expr.specs.declared.operator.Operator.TheVariants as op
-use Rattle.sfc_expr.specs.Values.{is_in_range, in_type, truth, number}
-use Rattle.sfc_expr.specs.declared.variable.Variable.{Variable}
-use Rattle.sfc_expr.specs.declared.variable.Variable.TheVariants.{Global, Local}
+use Rattle.sfc_base.specs.Values.{is_in_range, truth, number}
+use Rattle.sfc_base.specs.declared.references.Variable.{Variable}
+use Rattle.sfc_base.specs.declared.references.Variable.TheVariants.{Global, Local}
 use Rattle.sfc_expr.specs.Trees.{Expression, Literal, Read, StepActive, StepTime, ActionQ, Not, Minus, Binary, Body, Nothing, Assign, If, Branches, NoBranch, When, Otherwise}
 use Rattle.sfc_expr.specs.Environment.{Environment, assigned, is_same}
-use Rattle.sfc_expr.specs.Effect.{Outcome, on_value, on_end, effect, branch_effect}
-use Rattle.sfc_expr.specs.Meaning.{◌>>=◌, value_of, operated, quotient}
+use Rattle.sfc_expr.specs.Effect.{BodyEffect, on_value, on_end, effect, branch_effect}
+use Rattle.sfc_expr.specs.Meaning.{in_type, ◌>>=◌, value_of, operated, quotient}
 use Rattle.sfc_expr.specs.Types.{Declared, IsOf, logical_type, integer_type, sum_type, ordering_type, result_type, HasType, IsTyped, AreTyped, GivesTypes}
 use borrow.Author.Tests.{eqb-true}
 
@@ -147,15 +147,15 @@ module _ (declared : Declared) where
           subst (λ (z : VarType). IsOf z x) types typed
       at w u h false e = gives.stored w u h
 
-  on_value_typed : (env : Environment) (r : Result Value Fault) (P : Value → Type 0) (go : Value → Outcome) → GivesTypes declared env → IfOk r P → ((x : Value) → P x → GivesTypes declared (go x).environment) → GivesTypes declared (on_value env r go).environment
+  on_value_typed : (env : Environment) (r : Result Value Fault) (P : Value → Type 0) (go : Value → BodyEffect) → GivesTypes declared env → IfOk r P → ((x : Value) → P x → GivesTypes declared (go x).environment) → GivesTypes declared (on_value env r go).environment
   on_value_typed env (Ok x) P go gives typed k = k x typed
   on_value_typed env (Err fault) P go gives typed k = gives
 
-  on_end_typed : (r : Result (Unit {0}) Fault) (env : Environment) (go : Environment → Outcome) → GivesTypes declared env → GivesTypes declared (go env).environment → GivesTypes declared (on_end r env go).environment
+  on_end_typed : (r : Result (Unit {0}) Fault) (env : Environment) (go : Environment → BodyEffect) → GivesTypes declared env → GivesTypes declared (go env).environment → GivesTypes declared (on_end r env go).environment
   on_end_typed (Ok x) env go gives k = k
   on_end_typed (Err fault) env go gives k = gives
 
-  either : (b : Bool) (o p : Outcome) → GivesTypes declared o.environment → GivesTypes declared p.environment → GivesTypes declared (cond b o p).environment
+  either : (b : Bool) (o p : BodyEffect) → GivesTypes declared o.environment → GivesTypes declared p.environment → GivesTypes declared (cond b o p).environment
   either true o p g h = g
   either false o p g h = h
 

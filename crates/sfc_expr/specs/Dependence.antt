@@ -1,7 +1,9 @@
 -- What an expression depends on, and what statements leave alone.
-use Rattle.std.specs.Prelude.{◌≡◌, ⊤}
+use Rattle.std.specs.Prelude.{◌≡◌, ◌||◌, Bool, false, ⊤}
+use Rattle.sfc_base.specs.declared.references.Variable.{Variable}
 use Rattle.sfc_expr.specs.Trees.{Expression, Literal, Read, StepActive, StepTime, ActionQ, Not, Minus, Binary}
-use Rattle.sfc_expr.specs.Environment.{Environment, value_at}
+use Rattle.sfc_expr.specs.Trees.{Body, Nothing, Assign, If, Branches, NoBranch, When, Otherwise}
+use Rattle.sfc_expr.specs.Environment.{Environment, value_at, is_same}
 
 -- two environments agree on what occurs in an expression
 abbrev pub AgreeOn : Expression → Environment → Environment → Type 0
@@ -21,3 +23,15 @@ pub record KeepsAllButValues (old new : Environment) : Type 0 where
   pub steps : new.is_active ≡ old.is_active
   pub times : new.time_of ≡ old.time_of
   pub q : new.q ≡ old.q
+
+-- some statement among these assigns the variable, be it executed or not
+abbrev mutual
+  pub is_assigned : Variable → Body → Bool
+  is_assigned v Nothing = false
+  is_assigned v (Assign w e rest) = is_same v w || is_assigned v rest
+  is_assigned v (If bs rest) = is_assigned_in v bs || is_assigned v rest
+
+  pub is_assigned_in : Variable → Branches → Bool
+  is_assigned_in v NoBranch = false
+  is_assigned_in v (When e body rest) = is_assigned v body || is_assigned_in v rest
+  is_assigned_in v (Otherwise body rest) = is_assigned v body || is_assigned_in v rest

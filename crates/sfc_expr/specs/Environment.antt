@@ -1,9 +1,9 @@
 -- What expressions and statements stand in (2.4.2, 2.6.2, 2.6.4.5).
 use Rattle.std.specs.Prelude.{◌==◌, ◌&&◌, Bool, false, ℤ, Option, unwrap_or, if◌then◌else◌}
-use Rattle.sfc_expr.specs.declared.value.Value.{Value}
-use Rattle.sfc_expr.specs.declared.variable.Variable.{Variable}
-use Rattle.sfc_expr.specs.declared.variable.Variable.TheVariants.{Global, Local}
-use Rattle.sfc_expr.specs.declared.variable.StepId.{StepId}
+use Rattle.sfc_base.specs.declared.value.Value.{Value}
+use Rattle.sfc_base.specs.declared.references.Variable.{Variable}
+use Rattle.sfc_base.specs.declared.references.Variable.TheVariants.{Global, Local}
+use Rattle.sfc_base.specs.declared.references.StepId.{StepId}
 
 -- Which variables there are, their stored values and the values to which they are forced, which steps are active, the
 -- times of steps in microseconds, and the output Q of the action whose body it is.

@@ -3,15 +3,15 @@ use Rattle.std.specs.Prelude.{◌&&◌, ◌||◌, Bool, not, Result, Ok, Err, if
 use Rattle.std.specs.Prelude.{ℤ, pos, ◌+ℤ◌, ◌-ℤ◌, ◌*ℤ◌, neg_ℤ, int_le, int_lt, int_div, int_rem}
 use Rattle.std.specs.Bool.{beq}
 use Rattle.std.specs.Ordering.{int_eq}
-use Rattle.sfc_tokens.specs.declared.var_type.VarType.{VarType}
-use Rattle.sfc_tokens.specs.declared.var_type.VarType.TheVariants as types
-use Rattle.sfc_expr.specs.declared.value.Value.{Value}
-use Rattle.sfc_expr.specs.declared.value.Value.TheVariants as value
+use Rattle.sfc_base.specs.declared.var_type.VarType.{VarType}
+use Rattle.sfc_base.specs.declared.var_type.VarType.TheVariants as types
+use Rattle.sfc_base.specs.declared.value.Value.{Value}
+use Rattle.sfc_base.specs.declared.value.Value.TheVariants as value
 use Rattle.sfc_expr.specs.declared.fault.Fault.{Fault}
-use Rattle.sfc_expr.specs.declared.fault.Fault.TheVariants.{DivZero}
+use Rattle.sfc_expr.specs.declared.fault.Fault.TheVariants.{DivZero, Range}
 use Rattle.sfc_expr.specs.declared.operator.Operator.{Operator}
 use Rattle.sfc_expr.specs.declared.operator.Operator.TheVariants as op
-use Rattle.sfc_expr.specs.Values.{truth, number, in_type}
+use Rattle.sfc_base.specs.Values.{truth, number, is_in_range, of_number}
 use Rattle.sfc_expr.specs.Trees.{Expression, Literal, Read, StepActive, StepTime, ActionQ, Not, Minus, Binary}
 use Rattle.sfc_expr.specs.Environment.{Environment, value_at}
 
@@ -23,6 +23,10 @@ abbrev pub ◌>>=◌ : {A B : Type 0} → Result A Fault → (A → Result B Fau
 
 abbrev pub of_truth : Bool → Result Value Fault
 of_truth b = Ok (value.Bool b)
+
+-- a result of this type, or the fault Range where the number lies outside the type's range
+abbrev pub in_type : VarType → ℤ → Result Value Fault
+in_type t n = if is_in_range t n then Ok (of_number t n) else Err Range
 
 -- two values of a type are equal
 abbrev pub are_equal : VarType → Value → Value → Bool

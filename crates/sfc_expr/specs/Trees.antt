@@ -1,10 +1,10 @@
 -- What a typed tree is, wherever its parts lie in memory (3.3).
 use Rattle.std.specs.Prelude.{List, [], ◌∷◌}
-use Rattle.sfc_tokens.specs.declared.var_type.VarType.{VarType}
-use Rattle.sfc_expr.specs.declared.value.Value.{Value}
+use Rattle.sfc_base.specs.declared.var_type.VarType.{VarType}
+use Rattle.sfc_base.specs.declared.value.Value.{Value}
 use Rattle.sfc_expr.specs.declared.operator.Operator.{Operator}
-use Rattle.sfc_expr.specs.declared.variable.Variable.{Variable}
-use Rattle.sfc_expr.specs.declared.variable.StepId.{StepId}
+use Rattle.sfc_base.specs.declared.references.Variable.{Variable}
+use Rattle.sfc_base.specs.declared.references.StepId.{StepId}
 use Rattle.sfc_expr.specs.declared.expr.Expr.{Expr}
 use Rattle.sfc_expr.specs.declared.expr.Expr.TheVariants as expr
 use Rattle.sfc_expr.specs.declared.statement.Statement.{Statement, Row_of-Branch, end_of-Branch, more_of-Branch}

@@ -1,14 +1,14 @@
 -- The types of expressions and statements (3.3.1, 3.3.2).
 use Rattle.std.specs.Prelude.{◌≡◌, Bool, true, Option, Some, None, IfSome, IsTrue, ⊤}
-use Rattle.sfc_tokens.specs.declared.var_type.VarType.{VarType}
-use Rattle.sfc_tokens.specs.declared.var_type.VarType.TheVariants as types
-use Rattle.sfc_expr.specs.declared.value.Value.{Value}
-use Rattle.sfc_expr.specs.declared.value.Value.TheVariants as value
+use Rattle.sfc_base.specs.declared.var_type.VarType.{VarType}
+use Rattle.sfc_base.specs.declared.var_type.VarType.TheVariants as types
+use Rattle.sfc_base.specs.declared.value.Value.{Value}
+use Rattle.sfc_base.specs.declared.value.Value.TheVariants as value
 use Rattle.sfc_expr.specs.declared.operator.Operator.{Operator}
 use Rattle.sfc_expr.specs.declared.operator.Operator.TheVariants as op
-use Rattle.sfc_expr.specs.declared.variable.Variable.{Variable}
-use Rattle.sfc_expr.specs.declared.variable.StepId.{StepId}
-use Rattle.sfc_expr.specs.Values.{type_of, is_in_range}
+use Rattle.sfc_base.specs.declared.references.Variable.{Variable}
+use Rattle.sfc_base.specs.declared.references.StepId.{StepId}
+use Rattle.sfc_base.specs.Values.{type_of, is_in_range}
 use Rattle.sfc_expr.specs.Trees.{Expression, Literal, Read, StepActive, StepTime, ActionQ, Not, Minus, Binary}
 use Rattle.sfc_expr.specs.Trees.{Body, Nothing, Assign, If, Branches, NoBranch, When, Otherwise}
 use Rattle.sfc_expr.specs.Environment.{Environment}

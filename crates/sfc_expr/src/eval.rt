@@ -1,7 +1,7 @@
 //! The value of an expression (3.3.1).
 
 ghost use Rattle.std.specs.Prelude.{◌≡◌};
-ghost use Rattle.sfc_expr.specs.Ticks.{Within};
+ghost use Rattle.sfc_base.specs.Ticks.{Within};
 ghost use Rattle.sfc_expr.specs.Trees.{expression_of};
 ghost use Rattle.sfc_expr.specs.Meaning.{value_of};
 ghost use Rattle.sfc_expr.specs.Nodes.{nodes};
@@ -10,9 +10,9 @@ use crate::expr::Expr;
 use crate::fault::Fault;
 use crate::number;
 use crate::operate::operate;
-use crate::ticks::Ticks;
-use crate::value::Value;
 use crate::view::View;
+use sfc_base::ticks::Ticks;
+use sfc_base::value::Value;
 
 /// The value of an expression over a view, or its first fault: `DivZero` where `/` divides by zero, `Range` where a
 /// result lies outside the range of its type. Operands are evaluated from left to right and always both, also those of

@@ -1,9 +1,9 @@
 //! Typed expressions (3.3.1). Nothing is folded: a tree has all that was written but parentheses.
 
 use crate::operator::Operator;
-use crate::value::Value;
-use crate::variable::{StepId, Variable};
-use sfc_tokens::var_type::VarType;
+use sfc_base::references::{StepId, Variable};
+use sfc_base::value::Value;
+use sfc_base::var_type::VarType;
 
 /// An expression whose types were checked.
 #[derive(Debug)]

@@ -4,12 +4,11 @@ ghost use Rattle.std.specs.Prelude.{◌≡◌, ◌≢◌, FitsSigned};
 ghost use Rattle.std.specs.Prelude.{ℤ, pos, ◌+ℤ◌, ◌-ℤ◌, ◌*ℤ◌, neg_ℤ, int_div};
 ghost use Rattle.std.specs.Option.{SomeIff};
 ghost use Rattle.std.specs.Int.{w64};
-ghost use Rattle.sfc_expr.specs.Values.{in_type};
-ghost use Rattle.sfc_expr.specs.Meaning.{quotient, remainder};
+ghost use Rattle.sfc_expr.specs.Meaning.{in_type, quotient, remainder};
 
 use crate::fault::Fault;
-use crate::value::Value;
-use sfc_tokens::var_type::VarType;
+use sfc_base::value::Value;
+use sfc_base::var_type::VarType;
 
 // The ends of INT, DINT and TIME (2.3.1; our choice for TIME).
 const INT_MIN: i64 = -0x8000;
@@ -94,7 +93,7 @@ fn fit(var_type: VarType, computed: Option<i64>) -> Result<Value, Fault>
 }
 
 // The number as a value of the type, or the fault Range.
-pub(crate) fn in_type(var_type: VarType, n: i64) -> Result<Value, Fault>
+pub fn in_type(var_type: VarType, n: i64) -> Result<Value, Fault>
     ensures { result ≡ in_type var_type n }
 {
     match var_type {

@@ -6,8 +6,8 @@ ghost use Rattle.sfc_expr.specs.Meaning.{are_equal, operated};
 use crate::fault::Fault;
 use crate::number;
 use crate::operator::Operator;
-use crate::value::Value;
-use sfc_tokens::var_type::VarType;
+use sfc_base::value::Value;
+use sfc_base::var_type::VarType;
 
 // The value of `left operator right`, both of this type.
 pub(crate) fn operate(

@@ -1,10 +1,5 @@
 //! Binary operators (3.3.1).
 
-ghost use Rattle.std.specs.Prelude.{◌≡◌};
-ghost use Rattle.sfc_expr.specs.Families as families;
-
-use sfc_text::expression::Operator as Written;
-
 /// A binary operator.
 #[derive(Clone, Copy, Debug, PartialEq, Eq)]
 pub enum Operator {
@@ -36,57 +31,4 @@ pub enum Operator {
     Divide,
     /// `MOD`.
     Modulo,
-}
-
-/// Operators with one rule for types.
-#[derive(Clone, Copy, Debug, PartialEq, Eq)]
-pub enum Family {
-    /// `OR`, `XOR` and `AND`.
-    Logical,
-    /// `=` and `<>`.
-    Equality,
-    /// `<`, `>`, `<=` and `>=`.
-    Order,
-    /// `+` and `-`.
-    Sum,
-    /// `*`, `/` and `MOD`.
-    Product,
-}
-
-impl Operator {
-    /// The operator that was written.
-    pub fn of_text(written: Written) -> Operator
-        ensures { result ≡ families.operator_of written }
-    {
-        match written {
-            Written::Or => Operator::Or,
-            Written::Xor => Operator::Xor,
-            Written::And => Operator::And,
-            Written::Equal => Operator::Equal,
-            Written::NotEqual => Operator::NotEqual,
-            Written::Less => Operator::Less,
-            Written::Greater => Operator::Greater,
-            Written::LessOrEqual => Operator::LessOrEqual,
-            Written::GreaterOrEqual => Operator::GreaterOrEqual,
-            Written::Add => Operator::Add,
-            Written::Subtract => Operator::Subtract,
-            Written::Multiply => Operator::Multiply,
-            Written::Divide => Operator::Divide,
-            Written::Modulo => Operator::Modulo,
-        }
-    }
-
-    /// The operators that share its rule for types.
-    pub fn family(self) -> Family
-        ensures { result ≡ families.family_of self }
-    {
-        match self {
-            Operator::Or | Operator::Xor | Operator::And => Family::Logical,
-            Operator::Equal | Operator::NotEqual => Family::Equality,
-            Operator::Less | Operator::Greater | Operator::LessOrEqual | Operator::GreaterOrEqual =>
-                Family::Order,
-            Operator::Add | Operator::Subtract => Family::Sum,
-            Operator::Multiply | Operator::Divide | Operator::Modulo => Family::Product,
-        }
-    }
 }

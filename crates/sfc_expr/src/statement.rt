@@ -1,7 +1,7 @@
 //! Typed statements (3.3.2).
 
 use crate::expr::Expr;
-use crate::variable::Variable;
+use sfc_base::references::Variable;
 
 /// A statement whose types were checked.
 #[cycle(statement)]

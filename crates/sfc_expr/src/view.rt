@@ -3,8 +3,8 @@
 ghost use Rattle.std.specs.Prelude.{◌≡◌};
 ghost use Rattle.sfc_expr.specs.Environment.{Environment, value_at};
 
-use crate::value::Value;
-use crate::variable::{StepId, Variable};
+use sfc_base::references::{StepId, Variable};
+use sfc_base::value::Value;
 
 /// What the expressions of a program read. The member `environment` says which environment it stands for. A view may
 /// give any values: no range is assumed of a TIME or of a step time.

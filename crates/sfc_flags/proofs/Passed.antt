@@ -14,7 +14,7 @@ none_passed : (n from : ℕ) (words : List ℕ) → IsTable n words → from < n
 none_passed n from words t lt = omega (arith, t.sized)
 
 -- a search passes no more words than places
-pub passed : (n places from : ℕ) (words seen : List ℕ) (found : Option ℕ) → IsTable n words → seen ≡ words → places ≡ n → from < n
-    → IfSome found (λ i. IsNext seen from i) → words_passed seen from found ≤ places_passed places from found
-passed n places from words seen (Some i) t e p lt next = place_passed from i next.after
-passed n places from words seen None t e p lt next = rw (e, p) (none_passed n from words t lt)
+pub passed : (n count from : ℕ) (words seen : List ℕ) (found : Option ℕ) → IsTable n words → seen ≡ words → count ≡ n → from < n
+    → IfSome found (λ i. IsNext seen from i) → words_passed seen from found ≤ places_passed count from found
+passed n count from words seen (Some i) t e p lt next = place_passed from i next.after
+passed n count from words seen None t e p lt next = rw (e, p) (none_passed n from words t lt)

@@ -1,14 +1,14 @@
 //! A table of flags, one bit each.
 
 ghost use Rattle.std.specs.Prelude.{◌≡◌, ◌≢◌, ◌==◌, ◌<◌, ◌≤◌, ◌^◌, ◌||◌, ◌&&◌, ◌↔◌, ◌∷◌, ◌+◌, ◌-◌, [], ℕ, List, Bool, not, true, false, cond, length, replicate, slice_set, IfOk, IfSome, None};
-ghost use Rattle.sfc_expr.specs.Ticks.{Within};
+ghost use Rattle.sfc_base.specs.Ticks.{Within};
 ghost use Rattle.sfc_flags.specs.Flags.{flag, places_from, places_passed};
 ghost use Rattle.sfc_flags.specs.Words.{has, word_count, word_of};
 ghost use Rattle.sfc_flags.specs.Private.Bits.{flags_of, IsTable};
 
 use crate::word::Word;
 use crate::words;
-use sfc_expr::ticks::Ticks;
+use sfc_base::ticks::Ticks;
 use std::alloc::{AllocError, Global};
 use std::marker::Model;
 
@@ -16,44 +16,41 @@ use std::marker::Model;
 ///
 /// Work by words counts a tick for each word of 64 flags, which is told as at most one for each place.
 pub struct Flags {
-    places: usize,
+    count: usize,
     words: Vec<u64>,
 }
 
 // By hand, so that a caller that drops one proves one call.
 impl Drop for Flags {
     fn drop(self) {
-        let Flags {
-            places: _,
-            words: _,
-        } = self;
+        let Flags { count: _, words: _ } = self;
     }
 }
 
 impl Model for Flags {
     ghost Value = { List Bool };
 
-    ghost view = { λ f. flags_of f.places f.words.items };
+    ghost view = { λ f. flags_of f.count f.words.items };
 
-    ghost invariant = { λ f. IsTable f.places f.words.items };
+    ghost invariant = { λ f. IsTable f.count f.words.items };
 }
 
 impl Flags {
     /// A table of so many places, none of which is set. The one error is that memory was refused.
-    pub fn new(alloc: Global, places: usize) -> Result<Self, AllocError>
-        ensures { IfOk result (λ flags. flags ≡ replicate places false) }
+    pub fn new(alloc: Global, count: usize) -> Result<Self, AllocError>
+        ensures { IfOk result (λ flags. flags ≡ replicate count false) }
     {
         Ok(Flags {
-            places,
-            words: vec![in alloc; 0; places.div_ceil(64)]?,
+            count,
+            words: vec![in alloc; 0; count.div_ceil(64)]?,
         })
     }
 
     /// The number of places.
-    pub fn places(&self) -> usize
+    pub fn count(&self) -> usize
         ensures { result ≡ length self.now }
     {
-        self.places
+        self.count
     }
 
     /// The flag of this place.
@@ -123,8 +120,8 @@ impl Flags {
         ensures len { length self.now < 2 ^ 64 }
         ensures ticks { Within (places_passed (length self.now) from result) ticks.old ticks.new }
     {
-        let places = self.places;
-        if from < places {
+        let count = self.count;
+        if from < count {
             words::next(&self.words, from, ticks)
         } else {
             None
@@ -141,8 +138,8 @@ impl Flags {
         ensures len { length self.now < 2 ^ 64 }
         ensures ticks { Within (places_passed (length self.now) from result) ticks.old ticks.new }
     {
-        let places = self.places;
-        if from < places {
+        let count = self.count;
+        if from < count {
             words::next_difference(&self.words, &other.words, from, ticks)
         } else {
             None

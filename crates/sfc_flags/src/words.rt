@@ -1,10 +1,10 @@
 //! Bits in a slice of words.
 
 ghost use Rattle.std.specs.Prelude.{◌≡◌, ◌==◌, ◌/◌, ◌<◌, ◌≤◌, ◌^◌, ◌-◌, ◌||◌, ◌&&◌, ◌↔◌, ℕ, not, true, false, length, cond, slice_index, slice_set, IfSome, None};
-ghost use Rattle.sfc_expr.specs.Ticks.{Within};
+ghost use Rattle.sfc_base.specs.Ticks.{Within};
 ghost use Rattle.sfc_flags.specs.Private.Bits.{bit, apart, IsNext, words_passed};
 
-use sfc_expr::ticks::Ticks;
+use sfc_base::ticks::Ticks;
 
 /// The bit of place i.
 pub fn get(words: &[u64], i: usize) -> bool

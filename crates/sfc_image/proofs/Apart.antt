@@ -2,15 +2,15 @@
 use Rattle.std.proofs.Common.{◌≡◌, ◌≢◌, ℕ, zero, suc, ◌+◌, ◌≤◌, ◌++◌, ◌∷◌, [], not, Bool, true, false, cond, arith, List, length, flat_map, map, filter, take, slice_get, Some, refl, sym, ◌∙◌, ap, subst}
 use Rattle.std.specs.List.{range_with_len}
 use Rattle.std.proofs.lemmas.List.{length-append}
-use Rattle.sfc_expr.specs.declared.variable.Variable.{Variable}
-use Rattle.sfc_expr.specs.declared.variable.Variable.TheVariants.{Global, Local}
-use Rattle.sfc_tables.specs.declared.association.Target.TheVariants.{Boolean, Declared}
-use Rattle.sfc_tables.specs.declared.chart.Chart.{Chart}
+use Rattle.sfc_base.specs.declared.references.Variable.{Variable}
+use Rattle.sfc_base.specs.declared.references.Variable.TheVariants.{Global, Local}
+use Rattle.sfc_plant.specs.declared.association.Target.TheVariants.{Boolean, Declared}
+use Rattle.sfc_plant.specs.declared.chart.Chart.{Chart}
 use Rattle.sfc_tables.specs.Actions.{same_variable, distinct, boolean_actions, booleans_of, associations_in, actions_of}
-use Rattle.sfc_chart.specs.declared.ids.ProgId.{ProgId}
-use Rattle.sfc_chart.specs.Plants.{PlantData}
-use Rattle.sfc_chart.specs.Image.{locals_of as locals_of_instance}
-use Rattle.sfc_chart.specs.Finding.{chart_of, first_local, instance_locals}
+use Rattle.sfc_base.specs.declared.ids.ProgId.{ProgId}
+use Rattle.sfc_plant.specs.Plants.{PlantData}
+use Rattle.sfc_plant.specs.Image.{locals_of as locals_of_instance}
+use Rattle.sfc_plant.specs.Finding.{chart_of, first_local, instance_locals}
 use Rattle.sfc_image.specs.Environments.{number_of}
 use Rattle.sfc_image.proofs.Counting.{same_number}
 use Rattle.sfc_image.proofs.Numbers.{one_variable}
@@ -26,37 +26,37 @@ abbrev AreApart : List Variable → Type 0
 AreApart [] = Unit {0}
 AreApart (v ∷ vs) = IsNone v vs × AreApart vs
 
-none_kept : (v w : Variable) (ws : List Variable) (b : Bool) → w ≢ v → IsNone v ws → IsNone v (cond b (w ∷ ws) ws)
-none_kept v w ws true ne none = (ne, none)
-none_kept v w ws false ne none = none
+none_still : (v w : Variable) (ws : List Variable) (b : Bool) → w ≢ v → IsNone v ws → IsNone v (cond b (w ∷ ws) ws)
+none_still v w ws true ne none = (ne, none)
+none_still v w ws false ne none = none
 
 none_filtered : (p : Variable → Bool) (v : Variable) (ws : List Variable) → IsNone v ws → IsNone v (filter p ws)
 none_filtered p v [] none = none
-none_filtered p v (w ∷ ws) none = none_kept v w (filter p ws) (p w) none.0 (none_filtered p v ws none.1)
+none_filtered p v (w ∷ ws) none = none_still v w (filter p ws) (p w) none.0 (none_filtered p v ws none.1)
 
-apart_kept : (v : Variable) (vs : List Variable) (b : Bool) → IsNone v vs → AreApart vs → AreApart (cond b (v ∷ vs) vs)
-apart_kept v vs true none apart = (none, apart)
-apart_kept v vs false none apart = apart
+apart_still : (v : Variable) (vs : List Variable) (b : Bool) → IsNone v vs → AreApart vs → AreApart (cond b (v ∷ vs) vs)
+apart_still v vs true none apart = (none, apart)
+apart_still v vs false none apart = apart
 
 apart_filtered : (p : Variable → Bool) (vs : List Variable) → AreApart vs → AreApart (filter p vs)
 apart_filtered p [] apart = apart
 apart_filtered p (v ∷ vs) apart =
-    apart_kept v (filter p vs) (p v) (none_filtered p v vs apart.0) (apart_filtered p vs apart.1)
+    apart_still v (filter p vs) (p v) (none_filtered p v vs apart.0) (apart_filtered p vs apart.1)
 
 same_itself : (v : Variable) → same_variable v v ≡ true
 same_itself (Global a) = same_number a.0
 same_itself (Local a) = same_number a.0
 
-other_kept : (v w : Variable) (ws : List Variable) (b : Bool) → same_variable w v ≡ b → IsNone v ws → IsNone v (cond (not b) (w ∷ ws) ws)
-other_kept v w ws true e none = none
-other_kept v w ws false e none =
+other_still : (v w : Variable) (ws : List Variable) (b : Bool) → same_variable w v ≡ b → IsNone v ws → IsNone v (cond (not b) (w ∷ ws) ws)
+other_still v w ws true e none = none
+other_still v w ws false e none =
     ((λ same. absurd (let on : same_variable w v ≡ true = ap (λ (x : Variable). same_variable x v) same ∙ same_itself v in cc)), none)
 
 -- those that are not v
 others_none : (v : Variable) (ws : List Variable) → IsNone v (filter (λ other. not (same_variable other v)) ws)
 others_none v [] = tt
 others_none v (w ∷ ws) =
-    other_kept v w (filter (λ other. not (same_variable other v)) ws) (same_variable w v) refl (others_none v ws)
+    other_still v w (filter (λ other. not (same_variable other v)) ws) (same_variable w v) refl (others_none v ws)
 
 distinct_apart : (vs : List Variable) → AreApart (distinct vs)
 distinct_apart [] = tt

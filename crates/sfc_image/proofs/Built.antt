@@ -5,18 +5,18 @@ use Rattle.std.proofs.lemmas.Grind.{flat_map-append}
 use Rattle.std.proofs.lemmas.Option.{slice_get_read, slice_get_cases}
 use Rattle.std.proofs.Math.Seq.{take-suc}
 use borrow.Author.Count.{below_more}
-use Rattle.sfc_variables.specs.declared.variable.Variable.{Variable}
-use Rattle.sfc_program.specs.declared.program_type.ProgramType.{ProgramType}
-use Rattle.sfc_chart.specs.declared.instance.Instance.{Instance}
-use Rattle.sfc_chart.specs.Plants.{PlantData}
-use Rattle.sfc_chart.specs.Image.{locals_of, image_of, image_variables}
-use Rattle.sfc_chart.specs.Finding.{locals_at as locals_at_instance}
-use Rattle.sfc_chart.proofs.Images.{starts_at}
+use Rattle.sfc_plant.specs.declared.variable.Variable.{Variable}
+use Rattle.sfc_plant.specs.declared.program_type.ProgramType.{ProgramType}
+use Rattle.sfc_plant.specs.declared.instance.Instance.{Instance}
+use Rattle.sfc_plant.specs.Plants.{PlantData}
+use Rattle.sfc_plant.specs.Image.{locals_of, image_of, image_variables}
+use Rattle.sfc_plant.specs.Finding.{locals_at as locals_at_instance}
+use Rattle.sfc_plant.proofs.Images.{starts_at}
 use Rattle.sfc_image.specs.declared.slot.Slot.{Slot}
 use Rattle.sfc_image.specs.declared.slot.Locals.{Locals}
 use Rattle.sfc_image.specs.Changes.{settled}
 use Rattle.sfc_image.specs.Values.{initial_in, type_in, initial_of, type_of_variable}
-use Rattle.sfc_image.specs.Private.Keeping.{fresh_slot, no_slot, slot_at, locals_at, AreTracked, AreWithin, IsKept, AreKept}
+use Rattle.sfc_image.specs.Private.Keeping.{fresh_slot, no_slot, slot_at, locals_at, AreTracked, AreWithin, SlotAgrees, SlotsAgree}
 use Rattle.sfc_image.proofs.Counting.{count_none}
 
 -- the locals of this instance
@@ -98,11 +98,11 @@ fresh_untried (v ∷ vs) (suc i) = fresh_untried vs i
 
 pub fresh_tracked : (variables : List Variable) (slots : List Slot) (written : List ℕ) → slots ≡ map fresh_slot variables
     → length written ≡ length slots → AreTracked slots written 0
-fresh_tracked variables slots written is room =
+fresh_tracked variables slots written is capacity =
     let untried : (i : ℕ) → (slot_at slots i).is_tried ≡ false =
     λ i. ap (λ (xs : List Slot). (slot_at xs i).is_tried) is ∙ fresh_untried variables i in
     record {
-      room = room;
+      capacity = capacity;
       counted = count_none (λ (slot : Slot). slot.is_tried) slots no_slot (λ i lt. untried i);
       numbers = λ j lt. absurd (omega arith);
       listed = λ i on. absurd (let off = untried i in cc);
@@ -114,27 +114,27 @@ fresh_at [] i lt = absurd (omega arith)
 fresh_at (v ∷ vs) zero lt = (v, refl, refl)
 fresh_at (v ∷ vs) (suc i) lt = fresh_at vs i (omega arith)
 
-fresh_slot_kept : (plant : PlantData) (i : ℕ) (v : Variable) (slot : Slot) → slice_get (image_variables plant) i ≡ Some v
-    → slot ≡ fresh_slot v → IsKept plant (settled []) i slot
-fresh_slot_kept plant i v slot found is =
+fresh_slot_agrees : (plant : PlantData) (i : ℕ) (v : Variable) (slot : Slot) → slice_get (image_variables plant) i ≡ Some v
+    → slot ≡ fresh_slot v → SlotAgrees plant (settled []) i slot
+fresh_slot_agrees plant i v slot found is =
     let initial : v.initial ≡ initial_of plant i = ap initial_in (sym found) in
     let of_type : v.var_type ≡ type_of_variable plant i = ap type_in (sym found) in
-    subst (λ (x : Slot). IsKept plant (settled []) i x) (sym is)
+    subst (λ (x : Slot). SlotAgrees plant (settled []) i x) (sym is)
     (record {
       var_type = of_type;
       initial = initial;
-      kept = initial;
+      committed = initial;
       stored = initial;
       forced = refl;
       held = refl;
       untried = λ off. refl;
     })
 
-pub fresh_kept : (plant : PlantData) (slots : List Slot) (locals : List Locals) → slots ≡ map fresh_slot (image_variables plant)
+pub fresh_agrees : (plant : PlantData) (slots : List Slot) (locals : List Locals) → slots ≡ map fresh_slot (image_variables plant)
     → length locals ≡ length plant.instances
     → ((k : ℕ) → k < length plant.instances → locals_at locals k ≡ places_of plant.globals plant.types plant.instances k)
-    → AreKept plant slots locals 0 false (settled [])
-fresh_kept plant slots locals is long places =
+    → SlotsAgree plant slots locals 0 false (settled [])
+fresh_agrees plant slots locals is long places =
     let size : length slots ≡ length (image_variables plant) = ap length is ∙ length-map (image_variables plant) fresh_slot in
     record {
       variables = size;
@@ -143,7 +143,7 @@ fresh_kept plant slots locals is long places =
       opened = refl;
       each = λ i lt.
           let fresh = fresh_at (image_variables plant) i (omega (arith, lt, size)) in
-          fresh_slot_kept plant i fresh.0 (slot_at slots i) fresh.1 (ap (λ (xs : List Slot). slot_at xs i) is ∙ fresh.2);
+          fresh_slot_agrees plant i fresh.0 (slot_at slots i) fresh.1 (ap (λ (xs : List Slot). slot_at xs i) is ∙ fresh.2);
     }
 
 -- the locals of each instance are among the variables, behind the globals

@@ -35,14 +35,14 @@ count_first p x xs b e =
     sum_by-cons (λ x. cond (p x) 1 0) x xs ∙ ap {B = ℕ} (λ (c : Bool). cond c 1 0 + count_by p xs) e
 
 -- where an element does not pass, not all do
-pub count_room : {X : Type 0} (p : X → Bool) (xs : List X) (i : ℕ) (d : X) → i < length xs → p (slice_index_or xs i d) ≡ false
+pub count_capacity : {X : Type 0} (p : X → Bool) (xs : List X) (i : ℕ) (d : X) → i < length xs → p (slice_index_or xs i d) ≡ false
     → count_by p xs < length xs
-count_room p [] i d lt off = absurd (omega arith)
-count_room p (x ∷ xs) zero d lt off =
+count_capacity p [] i d lt off = absurd (omega arith)
+count_capacity p (x ∷ xs) zero d lt off =
     let first : count_by p (x ∷ xs) ≡ 0 + count_by p xs = count_first p x xs false off in
     omega (arith, first, count_by-le-length p xs)
-count_room p (x ∷ xs) (suc i) d lt off =
-    let rest : count_by p xs < length xs = count_room p xs i d (omega arith) off in
+count_capacity p (x ∷ xs) (suc i) d lt off =
+    let rest : count_by p xs < length xs = count_capacity p xs i d (omega arith) off in
     elim (bool_cases (p x)) as (λ _. count_by p (x ∷ xs) < length (x ∷ xs)) [
       | inl w ↦
           let first : count_by p (x ∷ xs) ≡ 1 + count_by p xs = count_first p x xs true w in omega (arith, first, rest)

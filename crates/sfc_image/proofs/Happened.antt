@@ -1,10 +1,10 @@
 -- What changes that do not touch variable i leave.
 use Rattle.std.proofs.Common.{◌≡◌, ℕ, Bool, true, false, cond, List, [], ◌∷◌, ◌++◌, All, Option, Some, None, unwrap_or, refl, ◌∙◌, ap}
 use Rattle.std.proofs.lemmas.List.Elements.{All-head, All-tail}
-use Rattle.sfc_chart.specs.declared.ids.VarId.{VarId}
-use Rattle.sfc_chart.specs.declared.ids.ProgId.{ProgId}
-use Rattle.sfc_chart.specs.Plants.{PlantData}
-use Rattle.sfc_expr.specs.declared.value.Value.{Value}
+use Rattle.sfc_base.specs.declared.ids.VarId.{VarId}
+use Rattle.sfc_base.specs.declared.ids.ProgId.{ProgId}
+use Rattle.sfc_plant.specs.Plants.{PlantData}
+use Rattle.sfc_base.specs.declared.value.Value.{Value}
 use Rattle.sfc_image.specs.Changes.{Change, Stored, Forced, Released, Reset}
 use Rattle.sfc_image.specs.Values.{initial_of, is_local_of, latest_write, stored_value, forced_value, value_of}
 use Rattle.sfc_image.specs.Events.{writes, turns}

@@ -6,23 +6,23 @@ use Rattle.std.proofs.lemmas.Bool.Decides.{eqb_tells}
 use Rattle.std.proofs.lemmas.List.{append_assoc, get_or_append_left, get_or-append-add, length-append}
 use Rattle.std.proofs.lemmas.List.Elements.{All-nil, All-cons}
 use Rattle.std.proofs.lemmas.List.FromFn.{get_or-map-range_with_len, length-map-range_with_len}
-use Rattle.sfc_chart.specs.declared.ids.ProgId.{ProgId}
-use Rattle.sfc_chart.specs.Plants.{PlantData}
-use Rattle.sfc_chart.specs.Image.{locals_of as locals_of_instance}
-use Rattle.sfc_chart.specs.Finding.{first_local, instance_locals}
-use Rattle.sfc_expr.specs.declared.value.Value.{Value}
-use Rattle.sfc_expr.specs.declared.variable.Variable.{Variable}
-use Rattle.sfc_expr.specs.declared.variable.Variable.TheVariants.{Global, Local}
+use Rattle.sfc_base.specs.declared.ids.ProgId.{ProgId}
+use Rattle.sfc_plant.specs.Plants.{PlantData}
+use Rattle.sfc_plant.specs.Image.{locals_of as locals_of_instance}
+use Rattle.sfc_plant.specs.Finding.{first_local, instance_locals}
+use Rattle.sfc_base.specs.declared.value.Value.{Value}
+use Rattle.sfc_base.specs.declared.references.Variable.{Variable}
+use Rattle.sfc_base.specs.declared.references.Variable.TheVariants.{Global, Local}
 use Rattle.sfc_expr.specs.Environment.{Environment}
 use Rattle.sfc_image.specs.declared.slot.Slot.{Slot}
 use Rattle.sfc_image.specs.declared.slot.Locals.{Locals}
-use Rattle.sfc_image.specs.Changes.{Change, Stored, Forced, Released, Reset, Told, all_of, settled, trying, tried_more, with_change}
+use Rattle.sfc_image.specs.Changes.{Change, Stored, Forced, Released, Reset, Changes, all_of, settled, trying, tried_more, with_change}
 use Rattle.sfc_image.specs.Values.{stored_value, forced_value}
 use Rattle.sfc_image.specs.Environments.{number_of, read_at}
 use Rattle.sfc_image.specs.Events.{writes, turns}
 use Rattle.sfc_image.specs.Bodies.{global_at, local_at, variables_of, stored_to, left_in, left_by, tried_all, with_changes}
-use Rattle.sfc_image.specs.Private.Keeping.{locals_of, AreKept}
-use Rattle.sfc_image.specs.Private.Scratches.{IsWriteAmong}
+use Rattle.sfc_image.specs.Private.Keeping.{locals_of, SlotsAgree}
+use Rattle.sfc_image.specs.Private.Stores.{IsWriteAmong}
 use Rattle.sfc_image.proofs.Counting.{other_numbers}
 use Rattle.sfc_image.proofs.Happened.{stores_left, forces_left}
 use Rattle.sfc_image.proofs.Written.{stored_here, stored_there}
@@ -184,16 +184,16 @@ forces_left_by plant p env rest i = forces_stay plant p (left_by plant p env) re
 
 -- ---- histories that give all variables the same values
 
-pub record GivesSame (plant : PlantData) (one other : Told) : Type 0 where
+pub record GivesSame (plant : PlantData) (one other : Changes) : Type 0 where
   pub opened : is_some one.tried ≡ is_some other.tried
-  pub kept : (i : ℕ) → stored_value plant one.kept i ≡ stored_value plant other.kept i
+  pub committed : (i : ℕ) → stored_value plant one.committed i ≡ stored_value plant other.committed i
   pub stored : (i : ℕ) → stored_value plant (all_of one) i ≡ stored_value plant (all_of other) i
   pub forced : (i : ℕ) → forced_value (all_of one) i ≡ forced_value (all_of other) i
-  pub held : (i : ℕ) → forced_value one.kept i ≡ forced_value other.kept i
+  pub held : (i : ℕ) → forced_value one.committed i ≡ forced_value other.committed i
 
-pub same_kept : (plant : PlantData) (slots : List Slot) (locals : List Locals) (count : ℕ) (b : Bool) (one other : Told)
-    → GivesSame plant one other → AreKept plant slots locals count b one → AreKept plant slots locals count b other
-same_kept plant slots locals count b one other same h = record {
+pub same_agrees : (plant : PlantData) (slots : List Slot) (locals : List Locals) (count : ℕ) (b : Bool) (one other : Changes)
+    → GivesSame plant one other → SlotsAgree plant slots locals count b one → SlotsAgree plant slots locals count b other
+same_agrees plant slots locals count b one other same h = record {
   variables = h.variables;
   instances = h.instances;
   locals_are = h.locals_are;
@@ -203,7 +203,7 @@ same_kept plant slots locals count b one other same h = record {
       record {
         var_type = k.var_type;
         initial = k.initial;
-        kept = k.kept ∙ same.kept i;
+        committed = k.committed ∙ same.committed i;
         stored = k.stored ∙ same.stored i;
         forced = k.forced ∙ same.forced i;
         held = k.held ∙ same.held i;
@@ -212,55 +212,55 @@ same_kept plant slots locals count b one other same h = record {
 }
 
 -- what a body leaves, in place of the writes that it made
-pub left_kept : (plant : PlantData) (p : ProgId) (env : Environment) (slots : List Slot) (locals : List Locals) (count : ℕ) (b : Bool)
-    (told : Told) (made : List Change) → AreWrites plant p made
-    → ((v : Variable) → env.stored_at v ≡ read_at (stored_value plant (all_of (with_changes made told))) (number_of plant p v))
-    → AreKept plant slots locals count b (with_changes made told)
-    → AreKept plant slots locals count b (with_changes (left_by plant p env) told)
-left_kept plant p env slots locals count b told made writes =
-    by_tried told.tried where
+pub left_agrees : (plant : PlantData) (p : ProgId) (env : Environment) (slots : List Slot) (locals : List Locals) (count : ℕ) (b : Bool)
+    (log : Changes) (made : List Change) → AreWrites plant p made
+    → ((v : Variable) → env.stored_at v ≡ read_at (stored_value plant (all_of (with_changes made log))) (number_of plant p v))
+    → SlotsAgree plant slots locals count b (with_changes made log)
+    → SlotsAgree plant slots locals count b (with_changes (left_by plant p env) log)
+left_agrees plant p env slots locals count b log made writes =
+    by_tried log.tried where
       forces : (rest : List Change) (i : ℕ) → forced_value (made ++ rest) i ≡ forced_value (left_by plant p env ++ rest) i
       forces rest i =
           forces_stay plant p made rest i writes ∙ sym (forces_left_by plant p env rest i)
 
       by_tried : (o : Option (List Change))
-          → ((v : Variable) → env.stored_at v ≡ read_at (stored_value plant (all_of (tried_all made o told.kept))) (number_of plant p v))
-          → AreKept plant slots locals count b (tried_all made o told.kept)
-          → AreKept plant slots locals count b (tried_all (left_by plant p env) o told.kept)
+          → ((v : Variable) → env.stored_at v ≡ read_at (stored_value plant (all_of (tried_all made o log.committed))) (number_of plant p v))
+          → SlotsAgree plant slots locals count b (tried_all made o log.committed)
+          → SlotsAgree plant slots locals count b (tried_all (left_by plant p env) o log.committed)
       by_tried None gives =
-          let stored : (i : ℕ) → stored_value plant (made ++ told.kept) i ≡ stored_value plant (left_by plant p env ++ told.kept) i =
-          λ i. sym (stored_left plant p env made told.kept writes gives i) in
-          same_kept plant slots locals count b (settled (made ++ told.kept)) (settled (left_by plant p env ++ told.kept))
-          (record { opened = refl; kept = stored; stored = stored; forced = forces told.kept; held = forces told.kept })
+          let stored : (i : ℕ) → stored_value plant (made ++ log.committed) i ≡ stored_value plant (left_by plant p env ++ log.committed) i =
+          λ i. sym (stored_left plant p env made log.committed writes gives i) in
+          same_agrees plant slots locals count b (settled (made ++ log.committed)) (settled (left_by plant p env ++ log.committed))
+          (record { opened = refl; committed = stored; stored = stored; forced = forces log.committed; held = forces log.committed })
       by_tried (Some tried) gives =
-          let joined : (changes : List Change) → changes ++ tried ++ told.kept ≡ changes ++ (tried ++ told.kept) =
-          λ changes. append_assoc changes tried told.kept in
-          let gives' : (v : Variable) → env.stored_at v ≡ read_at (stored_value plant (made ++ (tried ++ told.kept))) (number_of plant p v) =
+          let joined : (changes : List Change) → changes ++ tried ++ log.committed ≡ changes ++ (tried ++ log.committed) =
+          λ changes. append_assoc changes tried log.committed in
+          let gives' : (v : Variable) → env.stored_at v ≡ read_at (stored_value plant (made ++ (tried ++ log.committed))) (number_of plant p v) =
           λ v. gives v ∙ ap (λ (changes : List Change). read_at (stored_value plant changes) (number_of plant p v)) (joined made) in
-          same_kept plant slots locals count b (trying told.kept (made ++ tried)) (trying told.kept (left_by plant p env ++ tried))
+          same_agrees plant slots locals count b (trying log.committed (made ++ tried)) (trying log.committed (left_by plant p env ++ tried))
           (record {
             opened = refl;
-            kept = λ i. refl;
+            committed = λ i. refl;
             stored = λ i.
                 ap (λ (changes : List Change). stored_value plant changes i) (joined made)
-                ∙ sym (stored_left plant p env made (tried ++ told.kept) writes gives' i)
+                ∙ sym (stored_left plant p env made (tried ++ log.committed) writes gives' i)
                 ∙ ap (λ (changes : List Change). stored_value plant changes i) (sym (joined (left_by plant p env)));
             forced = λ i.
-                ap (λ (changes : List Change). forced_value changes i) (joined made) ∙ forces (tried ++ told.kept) i
+                ap (λ (changes : List Change). forced_value changes i) (joined made) ∙ forces (tried ++ log.committed) i
                 ∙ ap (λ (changes : List Change). forced_value changes i) (sym (joined (left_by plant p env)));
             held = λ i. refl;
           })
 
 -- one change more
-pub one_change : (change : Change) (told : Told) → with_change change told ≡ with_changes (change ∷ []) told
-one_change change told = by_tried told.tried where
-  by_tried : (o : Option (List Change)) → tried_more change o told.kept ≡ tried_all (change ∷ []) o told.kept
+pub one_change : (change : Change) (changes : Changes) → with_change change changes ≡ with_changes (change ∷ []) changes
+one_change change changes = by_tried changes.tried where
+  by_tried : (o : Option (List Change)) → tried_more change o changes.committed ≡ tried_all (change ∷ []) o changes.committed
   by_tried None = refl
   by_tried (Some tried) = refl
 
 -- no change more
-pub no_change : (told : Told) → with_changes [] told ≡ told
-no_change told = by_tried told.kept told.tried where
-  by_tried : (kept : List Change) (o : Option (List Change)) → tried_all [] o kept ≡ record { kept = kept; tried = o }
-  by_tried kept None = refl
-  by_tried kept (Some tried) = refl
+pub no_change : (changes : Changes) → with_changes [] changes ≡ changes
+no_change changes = by_tried changes.committed changes.tried where
+  by_tried : (committed : List Change) (o : Option (List Change)) → tried_all [] o committed ≡ record { committed = committed; tried = o }
+  by_tried committed None = refl
+  by_tried committed (Some tried) = refl

@@ -2,7 +2,7 @@ pub mod Agreed
 pub mod Built
 pub mod Apart
 pub mod Counting
-pub mod Giving
+pub mod OutputMemos
 pub mod Happened
 pub mod Left
 pub mod LocalNumbers
@@ -11,5 +11,6 @@ pub mod Outputs
 pub mod Pasts
 pub mod Puts
 pub mod Tracked
+pub mod Typed
 pub mod Viewed
 pub mod Written

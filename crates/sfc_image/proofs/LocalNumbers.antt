@@ -1,11 +1,11 @@
 -- The numbers of an instance's locals.
 use Rattle.std.proofs.Common.{◌≡◌, ◌↔◌, ℕ, ◌+◌, ◌-◌, ◌&&◌, nat_le, nat_lt, cond, true, arith, length, Some, None}
 use Rattle.std.proofs.lemmas.Bool.Decides.{nat_tests}
-use Rattle.sfc_expr.specs.declared.variable.LocalId.{LocalId}
-use Rattle.sfc_expr.specs.declared.variable.Variable.TheVariants.{Local}
-use Rattle.sfc_chart.specs.declared.ids.ProgId.{ProgId}
-use Rattle.sfc_chart.specs.Plants.{PlantData}
-use Rattle.sfc_chart.specs.Finding.{first_local, instance_locals}
+use Rattle.sfc_base.specs.declared.references.LocalId.{LocalId}
+use Rattle.sfc_base.specs.declared.references.Variable.TheVariants.{Local}
+use Rattle.sfc_base.specs.declared.ids.ProgId.{ProgId}
+use Rattle.sfc_plant.specs.Plants.{PlantData}
+use Rattle.sfc_plant.specs.Finding.{first_local, instance_locals}
 use Rattle.sfc_image.specs.Values.{is_local_of}
 use Rattle.sfc_image.specs.Environments.{number_of}
 

@@ -6,31 +6,31 @@ use Rattle.std.specs.Prelude.{IfSome}
 use Rattle.std.proofs.lemmas.List.{take_all}
 use Rattle.std.proofs.lemmas.Option.{slice_get_within}
 use Rattle.std.specs.Option.{option_map}
-use Rattle.sfc_expr.specs.declared.variable.Variable.{Variable}
+use Rattle.sfc_base.specs.declared.references.Variable.{Variable}
 use Rattle.sfc_flags.specs.Flags.{flag}
-use Rattle.sfc_tables.specs.declared.association.Target.{Target}
-use Rattle.sfc_chart.specs.declared.ids.ProgId.{ProgId}
-use Rattle.sfc_chart.specs.Plants.{PlantData}
-use Rattle.sfc_image.specs.Changes.{Change, Told}
+use Rattle.sfc_plant.specs.declared.association.Target.{Target}
+use Rattle.sfc_base.specs.declared.ids.ProgId.{ProgId}
+use Rattle.sfc_plant.specs.Plants.{PlantData}
+use Rattle.sfc_image.specs.Changes.{Change, Changes}
 use Rattle.sfc_image.specs.Bodies.{with_changes}
 use Rattle.sfc_image.specs.Outputs.{output, outputs}
-use Rattle.sfc_tables.specs.declared.association.Target.TheVariants.{Boolean, Declared}
+use Rattle.sfc_plant.specs.declared.association.Target.TheVariants.{Boolean, Declared}
 use Rattle.sfc_tables.specs.Actions.{actions_of}
-use Rattle.sfc_chart.specs.Finding.{chart_of, first_local, instance_locals}
-use Rattle.sfc_expr.specs.declared.value.Value.TheVariants as value
+use Rattle.sfc_plant.specs.Finding.{chart_of, first_local, instance_locals}
+use Rattle.sfc_base.specs.declared.value.Value.TheVariants as value
 use Rattle.sfc_image.specs.declared.image.Image.{Image}
-use Rattle.sfc_image.specs.declared.given.Given.{Given}
+use Rattle.sfc_image.specs.declared.output_memo.OutputMemo.{OutputMemo}
 use Rattle.sfc_image.specs.declared.slot.Slot.{Slot}
 use Rattle.sfc_image.specs.declared.slot.Locals.{Locals}
 use Rattle.sfc_image.specs.Environments.{number_of}
 use Rattle.sfc_image.specs.Bodies.{changes_in, stored_to}
 use Rattle.sfc_image.specs.Agreement.{ImageAgrees, is_open}
 use Rattle.sfc_image.specs.Private.Keeping.{slot_at}
-use Rattle.sfc_image.specs.Private.Giving.{given_at, IsAssigned, HasQ, Stays}
-use Rattle.sfc_image.specs.Private.Scratches.{both_more}
+use Rattle.sfc_image.specs.Private.OutputMemos.{memo_at, IsAssigned, HasQ, Stays}
+use Rattle.sfc_image.specs.Private.Stores.{both_more}
 use Rattle.sfc_image.proofs.Agreed.{stored_again}
 use Rattle.sfc_image.proofs.Apart.{same_action}
-use Rattle.sfc_image.proofs.Giving.{others_have, here_has}
+use Rattle.sfc_image.proofs.OutputMemos.{others_have, here_has}
 use Rattle.sfc_image.proofs.Left.{no_change, one_change}
 use Rattle.sfc_image.proofs.Numbers.{of_number}
 use Rattle.sfc_image.proofs.Viewed.{first_of_all}
@@ -63,29 +63,29 @@ some_target [] k lt = absurd (omega arith)
 some_target (t ∷ ts) zero lt = (t, refl)
 some_target (t ∷ ts) (suc k) lt = some_target ts k (omega (arith, lt))
 
-pub outputs_after : (plant : PlantData) (p : ProgId) (q : List Bool) (targets : List Target) (k : ℕ) (target : Target) (told : Told)
+pub outputs_after : (plant : PlantData) (p : ProgId) (q : List Bool) (targets : List Target) (k : ℕ) (target : Target) (log : Changes)
     → slice_get targets k ≡ Some target
-    → with_changes (outputs plant p q 0 (take (k + 1) targets)) told
-    ≡ with_changes (output plant p target (flag q k)) (with_changes (outputs plant p q 0 (take k targets)) told)
-outputs_after plant p q targets k target told at =
+    → with_changes (outputs plant p q 0 (take (k + 1) targets)) log
+    ≡ with_changes (output plant p target (flag q k)) (with_changes (outputs plant p q 0 (take k targets)) log)
+outputs_after plant p q targets k target log at =
     let here : 0 + k ≡ k = omega arith in
-    ap (λ (changes : List Change). with_changes changes told)
+    ap (λ (changes : List Change). with_changes changes log)
     (outputs_more plant p q 0 targets k target at
     ∙ ap (λ (n : ℕ). output plant p target (flag q n) ++ outputs plant p q 0 (take k targets)) here)
-    ∙ both_more (output plant p target (flag q k)) (outputs plant p q 0 (take k targets)) told
+    ∙ both_more (output plant p target (flag q k)) (outputs plant p q 0 (take k targets)) log
 
 -- ---- what is given already
 
 -- the number of a variable is that of one of the slots
-number_within : (plant : PlantData) (p : ProgId) (image : Image) (told : Told) (v : Variable) (i : ℕ) → p.0 < length image.locals.items
-    → ImageAgrees plant image told → number_of plant p v ≡ Some i → i < length image.slots.items
+number_within : (plant : PlantData) (p : ProgId) (image : Image) (changes : Changes) (v : Variable) (i : ℕ) → p.0 < length image.locals.items
+    → ImageAgrees plant image changes → number_of plant p v ≡ Some i → i < length image.slots.items
 unfolding ImageAgrees
-number_within plant p image told v i lt h number =
-    let is = h.kept.locals_are p lt in
+number_within plant p image changes v i lt h number =
+    let is = h.slots.locals_are p lt in
     let bounds = image.within p.0 lt in
     let first = ap (λ (l : Locals). l.first) is in
     let count = ap (λ (l : Locals). l.count) is in
-    let zeroth = ap (λ (l : Locals). l.first) (h.kept.locals_are (record { 0 = 0 }) (omega (arith, lt))) in
+    let zeroth = ap (λ (l : Locals). l.first) (h.slots.locals_are (record { 0 = 0 }) (omega (arith, lt))) in
     let globals = first_of_all plant in
     by_number (number_of plant p v) refl number
     (of_number (λ o. IfSome o (λ k. k < length image.slots.items)) (length image.slots.items) (length plant.globals)
@@ -100,67 +100,67 @@ number_within plant p image told v i lt h number =
 module _ (plant : PlantData) (p : ProgId) (q : List Bool) (targets : List Target) (is : targets ≡ actions_of (chart_of plant p))
     (image : Image) (lt : p.0 < length image.locals.items) (opened : is_open image ≡ true) where
   -- a variable that has the value already is assigned it
-  one_again : (told : Told) (k : ℕ) (target : Target) → slice_get targets k ≡ Some target
-      → HasQ plant p image.slots.items k (flag q k) → ImageAgrees plant image told
-      → ImageAgrees plant image (with_changes (output plant p target (flag q k)) told)
+  one_again : (changes : Changes) (k : ℕ) (target : Target) → slice_get targets k ≡ Some target
+      → HasQ plant p image.slots.items k (flag q k) → ImageAgrees plant image changes
+      → ImageAgrees plant image (with_changes (output plant p target (flag q k)) changes)
   unfolding ImageAgrees
-  one_again told k (Declared id) at has h = subst (λ (t : Told). ImageAgrees plant image t) (sym (no_change told)) h
-  one_again told k (Boolean v) at has h = by_number (number_of plant p v) refl where
+  one_again changes k (Declared id) at has h = subst (λ (t : Changes). ImageAgrees plant image t) (sym (no_change changes)) h
+  one_again changes k (Boolean v) at has h = by_number (number_of plant p v) refl where
     by_number : (o : Option ℕ) → number_of plant p v ≡ o
-        → ImageAgrees plant image (with_changes (changes_in (option_map (stored_to (value.Bool (flag q k))) o)) told)
-    by_number None e = subst (λ (t : Told). ImageAgrees plant image t) (sym (no_change told)) h
+        → ImageAgrees plant image (with_changes (changes_in (option_map (stored_to (value.Bool (flag q k))) o)) changes)
+    by_number None e = subst (λ (t : Changes). ImageAgrees plant image t) (sym (no_change changes)) h
     by_number (Some i) e =
         let had = has v i (ap (λ (ts : List Target). slice_get ts k) (sym is) ∙ at) e in
-        subst (λ (t : Told). ImageAgrees plant image t) (one_change (stored_to (value.Bool (flag q k)) i) told)
+        subst (λ (t : Changes). ImageAgrees plant image t) (one_change (stored_to (value.Bool (flag q k)) i) changes)
         (record {
-          kept =
-              stored_again plant image.slots.items image.locals.items image.count image.is_trying told (record { 0 = i })
-              (value.Bool (flag q k)) opened (number_within plant p image told v i lt h e) had.stored h.kept;
-          given = h.given;
+          slots =
+              stored_again plant image.slots.items image.locals.items image.count image.is_trying changes (record { 0 = i })
+              (value.Bool (flag q k)) opened (number_within plant p image changes v i lt h e) had.stored h.slots;
+          memos = h.memos;
         })
 
   -- so are several
-  again : (told : Told) (n from : ℕ) → from + n ≤ length targets
+  again : (changes : Changes) (n from : ℕ) → from + n ≤ length targets
       → ((j : ℕ) → from ≤ j → j < from + n → HasQ plant p image.slots.items j (flag q j))
-      → ImageAgrees plant image (with_changes (outputs plant p q 0 (take from targets)) told)
-      → ImageAgrees plant image (with_changes (outputs plant p q 0 (take (from + n) targets)) told)
-  again told zero from le has h =
+      → ImageAgrees plant image (with_changes (outputs plant p q 0 (take from targets)) changes)
+      → ImageAgrees plant image (with_changes (outputs plant p q 0 (take (from + n) targets)) changes)
+  again changes zero from le has h =
       let here : from ≡ from + 0 = omega arith in
-      subst (λ (k : ℕ). ImageAgrees plant image (with_changes (outputs plant p q 0 (take k targets)) told)) here h
-  again told (suc n) from le has h =
+      subst (λ (k : ℕ). ImageAgrees plant image (with_changes (outputs plant p q 0 (take k targets)) changes)) here h
+  again changes (suc n) from le has h =
       let k : ℕ = from + n in
       let target = some_target targets k (omega (arith, le)) in
-      let before = again told n from (omega (arith, le)) (λ j a b. has j a (omega (arith, b))) h in
+      let before = again changes n from (omega (arith, le)) (λ j a b. has j a (omega (arith, b))) h in
       let next : k + 1 ≡ from + suc n = omega arith in
-      subst (λ (m : ℕ). ImageAgrees plant image (with_changes (outputs plant p q 0 (take m targets)) told)) next
-      (subst (λ (t : Told). ImageAgrees plant image t) (sym (outputs_after plant p q targets k target.0 told target.1))
-      (one_again (with_changes (outputs plant p q 0 (take k targets)) told) k target.0 target.1
+      subst (λ (m : ℕ). ImageAgrees plant image (with_changes (outputs plant p q 0 (take m targets)) changes)) next
+      (subst (λ (t : Changes). ImageAgrees plant image t) (sym (outputs_after plant p q targets k target.0 changes target.1))
+      (one_again (with_changes (outputs plant p q 0 (take k targets)) changes) k target.0 target.1
       (has k (omega arith) (omega arith)) before))
 
 -- ---- one after the other
 
 -- the first `from` actions of the instance were given their Q; where what was given before holds, the others have that
-pub record GivenTo (plant : PlantData) (told : Told) (p : ProgId) (q : List Bool) (holds : Bool) (targets : List Target) (from : ℕ)
+pub record AssignedTo (plant : PlantData) (changes : Changes) (p : ProgId) (q : List Bool) (holds : Bool) (targets : List Target) (from : ℕ)
     (image : Image) : Type 0 where
-  pub agrees : ImageAgrees plant image (with_changes (outputs plant p q 0 (take from targets)) told)
+  pub agrees : ImageAgrees plant image (with_changes (outputs plant p q 0 (take from targets)) changes)
   pub done : (a : ℕ) → a < from → HasQ plant p image.slots.items a (flag q a)
-  pub rest : holds ≡ true → (a : ℕ) → from ≤ a → HasQ plant p image.slots.items a (flag (given_at image.given.items p.0).q a)
+  pub rest : holds ≡ true → (a : ℕ) → from ≤ a → HasQ plant p image.slots.items a (flag (memo_at image.memos.items p.0).q a)
 
-module _ (plant : PlantData) (told : Told) (p : ProgId) (q : List Bool) (holds : Bool) (targets : List Target)
+module _ (plant : PlantData) (changes : Changes) (p : ProgId) (q : List Bool) (holds : Bool) (targets : List Target)
     (is : targets ≡ actions_of (chart_of plant p)) where
   -- those that have it already are passed over
   pub passed : (image : Image) (from to : ℕ) → p.0 < length image.locals.items → is_open image ≡ true → from ≤ to
       → to ≤ length targets
-      → ((j : ℕ) → from ≤ j → j < to → (holds ≡ true) × (flag (given_at image.given.items p.0).q j ≡ flag q j))
-      → GivenTo plant told p q holds targets from image → GivenTo plant told p q holds targets to image
+      → ((j : ℕ) → from ≤ j → j < to → (holds ≡ true) × (flag (memo_at image.memos.items p.0).q j ≡ flag q j))
+      → AssignedTo plant changes p q holds targets from image → AssignedTo plant changes p q holds targets to image
   passed image from to lt opened le fits same h =
       let has : (j : ℕ) → from ≤ j → j < to → HasQ plant p image.slots.items j (flag q j) =
       λ j a b. (let s = same j a b in subst (λ (x : Bool). HasQ plant p image.slots.items j x) s.1 (h.rest s.0 j a)) in
       let all : from + (to - from) ≡ to = omega (arith, le) in
       record {
         agrees =
-            subst (λ (k : ℕ). ImageAgrees plant image (with_changes (outputs plant p q 0 (take k targets)) told)) all
-            (again plant p q targets is image lt opened told (to - from) from (omega (arith, le, fits))
+            subst (λ (k : ℕ). ImageAgrees plant image (with_changes (outputs plant p q 0 (take k targets)) changes)) all
+            (again plant p q targets is image lt opened changes (to - from) from (omega (arith, le, fits))
             (λ j a b. has j a (omega (arith, b, le))) h.agrees);
         done = λ a below.
             elim (cases_lt a from) as (λ _. HasQ plant p image.slots.items a (flag q a)) [
@@ -172,14 +172,14 @@ module _ (plant : PlantData) (told : Told) (p : ProgId) (q : List Bool) (holds :
 
   -- one more is given its Q
   pub gave : (old new : Image) (a : ℕ) (target : Target) → slice_get targets a ≡ Some target
-      → new.given.items ≡ old.given.items
-      → ImageAgrees plant new (with_changes (output plant p target (flag q a)) (with_changes (outputs plant p q 0 (take a targets)) told))
+      → new.memos.items ≡ old.memos.items
+      → ImageAgrees plant new (with_changes (output plant p target (flag q a)) (with_changes (outputs plant p q 0 (take a targets)) changes))
       → ((v : Variable) (i : ℕ) → target ≡ Boolean v → number_of plant p v ≡ Some i → IsAssigned (slot_at new.slots.items i) (flag q a))
       → ((i : ℕ) → ((v : Variable) → target ≡ Boolean v → number_of plant p v ≢ Some i)
       → Stays (slot_at old.slots.items i) (slot_at new.slots.items i))
-      → GivenTo plant told p q holds targets a old → GivenTo plant told p q holds targets (a + 1) new
-  gave old new a target at given agrees here others h = record {
-    agrees = subst (λ (t : Told). ImageAgrees plant new t) (sym (outputs_after plant p q targets a target told at)) agrees;
+      → AssignedTo plant changes p q holds targets a old → AssignedTo plant changes p q holds targets (a + 1) new
+  gave old new a target at memos agrees here others h = record {
+    agrees = subst (λ (t : Changes). ImageAgrees plant new t) (sym (outputs_after plant p q targets a target changes at)) agrees;
     done = λ b below.
         elim (eqb_tells b a) as (λ _. HasQ plant p new.slots.items b (flag q b)) [
           | inl w ↦ subst (λ (k : ℕ). HasQ plant p new.slots.items k (flag q k)) (sym w.1) (has_now target at here)
@@ -187,8 +187,8 @@ module _ (plant : PlantData) (told : Told) (p : ProgId) (q : List Bool) (holds :
         ];
     rest = λ on b ge.
         subst (λ (q' : Bool). HasQ plant p new.slots.items b q')
-        (ap (λ (xs : List Given). flag (given_at xs p.0).q b) (sym given))
-        (still target at others b (λ e. absurd (omega (arith, e, ge))) (flag (given_at old.given.items p.0).q b)
+        (ap (λ (xs : List OutputMemo). flag (memo_at xs p.0).q b) (sym memos))
+        (still target at others b (λ e. absurd (omega (arith, e, ge))) (flag (memo_at old.memos.items p.0).q b)
         (h.rest on b (omega (arith, ge))));
   }
     where
@@ -198,9 +198,9 @@ module _ (plant : PlantData) (told : Told) (p : ProgId) (q : List Bool) (holds :
       has_now : (t : Target) → slice_get targets a ≡ Some t
           → ((v : Variable) (i : ℕ) → t ≡ Boolean v → number_of plant p v ≡ Some i → IsAssigned (slot_at new.slots.items i) (flag q a))
           → HasQ plant p new.slots.items a (flag q a)
-      has_now (Boolean v) e given_here =
-          here_has plant p old.slots.items new.slots.items a v (at_actions (Boolean v) e) (flag q a) (λ i number. given_here v i refl number)
-      has_now (Declared id) e given_here = λ v i found number. absurd (let other = at_actions (Declared id) e in cc)
+      has_now (Boolean v) e memo_here =
+          here_has plant p old.slots.items new.slots.items a v (at_actions (Boolean v) e) (flag q a) (λ i number. memo_here v i refl number)
+      has_now (Declared id) e memo_here = λ v i found number. absurd (let other = at_actions (Declared id) e in cc)
 
       still : (t : Target) → slice_get targets a ≡ Some t
           → ((i : ℕ) → ((v : Variable) → t ≡ Boolean v → number_of plant p v ≢ Some i)
@@ -216,22 +216,22 @@ module _ (plant : PlantData) (told : Told) (p : ProgId) (q : List Bool) (holds :
 
   -- and that is noted
   pub noted : (old new : Image) (a : ℕ) (x : Bool) → new.slots.items ≡ old.slots.items
-      → (holds ≡ true → length targets ≤ length (given_at old.given.items p.0).q)
-      → ((b : ℕ) → b < length (given_at old.given.items p.0).q
-      → flag (given_at new.given.items p.0).q b ≡ cond (b == a) x (flag (given_at old.given.items p.0).q b))
-      → ((t : Told) → ImageAgrees plant old t → ImageAgrees plant new t)
-      → GivenTo plant told p q holds targets (a + 1) old → GivenTo plant told p q holds targets (a + 1) new
-  noted old new a x slots room flags kept h = record {
-    agrees = kept (with_changes (outputs plant p q 0 (take (a + 1) targets)) told) h.agrees;
+      → (holds ≡ true → length targets ≤ length (memo_at old.memos.items p.0).q)
+      → ((b : ℕ) → b < length (memo_at old.memos.items p.0).q
+      → flag (memo_at new.memos.items p.0).q b ≡ cond (b == a) x (flag (memo_at old.memos.items p.0).q b))
+      → ((t : Changes) → ImageAgrees plant old t → ImageAgrees plant new t)
+      → AssignedTo plant changes p q holds targets (a + 1) old → AssignedTo plant changes p q holds targets (a + 1) new
+  noted old new a x slots capacity flags goes_on h = record {
+    agrees = goes_on (with_changes (outputs plant p q 0 (take (a + 1) targets)) changes) h.agrees;
     done = λ b below. subst (λ (xs : List Slot). HasQ plant p xs b (flag q b)) (sym slots) (h.done b below);
     rest = λ on b ge v i at number.
         let within : b < length targets =
         slice_get_within targets b (Boolean v) (ap (λ (ts : List Target). slice_get ts b) is ∙ at) in
-        let fits = room on in
-        let same : flag (given_at new.given.items p.0).q b ≡ flag (given_at old.given.items p.0).q b =
+        let fits = capacity on in
+        let same : flag (memo_at new.memos.items p.0).q b ≡ flag (memo_at old.memos.items p.0).q b =
         flags b (omega (arith, within, fits))
-        ∙ ap (λ (c : Bool). cond c x (flag (given_at old.given.items p.0).q b)) (other_numbers' b a (λ e. absurd (omega (arith, e, ge)))) in
-        subst (λ (xs : List Slot). IsAssigned (slot_at xs i) (flag (given_at new.given.items p.0).q b)) (sym slots)
+        ∙ ap (λ (c : Bool). cond c x (flag (memo_at old.memos.items p.0).q b)) (other_numbers' b a (λ e. absurd (omega (arith, e, ge)))) in
+        subst (λ (xs : List Slot). IsAssigned (slot_at xs i) (flag (memo_at new.memos.items p.0).q b)) (sym slots)
         (subst (λ (y : Bool). IsAssigned (slot_at old.slots.items i) y) (sym same) (h.rest on b ge v i at number));
   }
     where
@@ -240,33 +240,33 @@ module _ (plant : PlantData) (told : Told) (p : ProgId) (q : List Bool) (holds :
           elim (eqb_tells k i) as (λ _. (k == i) ≡ false) [ inl w ↦ absurd (ne w.1) | inr w ↦ w.0 ]
 
   -- before the first, and after the last
-  pub none_given : (new : Image) → ImageAgrees plant new told
-      → ((a : ℕ) → holds ≡ true → HasQ plant p new.slots.items a (flag (given_at new.given.items p.0).q a))
-      → GivenTo plant told p q holds targets 0 new
-  none_given new h all = record {
-    agrees = subst (λ (t : Told). ImageAgrees plant new t) (sym (no_change told)) h;
+  pub none_assigned : (new : Image) → ImageAgrees plant new changes
+      → ((a : ℕ) → holds ≡ true → HasQ plant p new.slots.items a (flag (memo_at new.memos.items p.0).q a))
+      → AssignedTo plant changes p q holds targets 0 new
+  none_assigned new h all = record {
+    agrees = subst (λ (t : Changes). ImageAgrees plant new t) (sym (no_change changes)) h;
     done = λ a lt. absurd (omega (arith, lt));
     rest = λ on a le. all a on;
   }
 
-  pub all_given : (image : Image) (from : ℕ) → p.0 < length image.locals.items → is_open image ≡ true → from ≤ length targets
-      → ((j : ℕ) → from ≤ j → j < length targets → (holds ≡ true) × (flag (given_at image.given.items p.0).q j ≡ flag q j))
-      → GivenTo plant told p q holds targets from image
-      → ImageAgrees plant image (with_changes (outputs plant p q 0 targets) told)
-  all_given image from lt opened fits same h =
-      subst (λ (xs : List Target). ImageAgrees plant image (with_changes (outputs plant p q 0 xs) told))
+  pub all_assigned : (image : Image) (from : ℕ) → p.0 < length image.locals.items → is_open image ≡ true → from ≤ length targets
+      → ((j : ℕ) → from ≤ j → j < length targets → (holds ≡ true) × (flag (memo_at image.memos.items p.0).q j ≡ flag q j))
+      → AssignedTo plant changes p q holds targets from image
+      → ImageAgrees plant image (with_changes (outputs plant p q 0 targets) changes)
+  all_assigned image from lt opened fits same h =
+      subst (λ (xs : List Target). ImageAgrees plant image (with_changes (outputs plant p q 0 xs) changes))
       (take_all (length targets) targets (omega arith))
       (passed image from (length targets) lt opened fits (omega arith) same h).agrees
 
   -- each variable has what was noted of it
   pub all_noted : (image : Image) (from : ℕ) → length q ≡ length targets
-      → ((a : ℕ) → a < from → a < length (given_at image.given.items p.0).q → flag (given_at image.given.items p.0).q a ≡ flag q a)
-      → ((j : ℕ) → from ≤ j → j < length targets → (holds ≡ true) × (flag (given_at image.given.items p.0).q j ≡ flag q j))
-      → GivenTo plant told p q holds targets from image
-      → length (given_at image.given.items p.0).q ≡ length q
-      → (a : ℕ) → HasQ plant p image.slots.items a (flag (given_at image.given.items p.0).q a)
+      → ((a : ℕ) → a < from → a < length (memo_at image.memos.items p.0).q → flag (memo_at image.memos.items p.0).q a ≡ flag q a)
+      → ((j : ℕ) → from ≤ j → j < length targets → (holds ≡ true) × (flag (memo_at image.memos.items p.0).q j ≡ flag q j))
+      → AssignedTo plant changes p q holds targets from image
+      → length (memo_at image.memos.items p.0).q ≡ length q
+      → (a : ℕ) → HasQ plant p image.slots.items a (flag (memo_at image.memos.items p.0).q a)
   all_noted image from sized before same h long a v i at number =
-      elim (cases_lt a from) as (λ _. IsAssigned (slot_at image.slots.items i) (flag (given_at image.given.items p.0).q a)) [
+      elim (cases_lt a from) as (λ _. IsAssigned (slot_at image.slots.items i) (flag (memo_at image.memos.items p.0).q a)) [
         | inl lt ↦
             subst (λ (x : Bool). IsAssigned (slot_at image.slots.items i) x)
             (sym (before a lt (omega (arith, within a v at, long, sized)))) (h.done a lt v i at number)
@@ -277,7 +277,7 @@ module _ (plant : PlantData) (told : Told) (p : ProgId) (q : List Bool) (holds :
       within a v at = slice_get_within targets a (Boolean v) (ap (λ (ts : List Target). slice_get ts a) is ∙ at)
 
 -- one more is noted
-pub noted_one : (q : List Bool) (a from : ℕ) (first old new : Given) (x : Bool) → old ≡ first → x ≡ flag q a
+pub noted_one : (q : List Bool) (a from : ℕ) (first old new : OutputMemo) (x : Bool) → old ≡ first → x ≡ flag q a
     → length new.q ≡ length old.q
     → ((b : ℕ) → b < length old.q → flag new.q b ≡ cond (b == a) x (flag old.q b))
     → ((b : ℕ) → b < from → b < length first.q → flag first.q b ≡ flag q b)
@@ -289,9 +289,9 @@ noted_one q a from first old new x is value long flags before between b lt fits 
       | inl w ↦
           flags b within ∙ ap (λ (c : Bool). cond c x (flag old.q b)) w.0 ∙ value ∙ ap (λ (k : ℕ). flag q k) (sym w.1)
       | inr w ↦
-          flags b within ∙ ap (λ (c : Bool). cond c x (flag old.q b)) w.0 ∙ ap (λ (g : Given). flag g.q b) is
+          flags b within ∙ ap (λ (c : Bool). cond c x (flag old.q b)) w.0 ∙ ap (λ (g : OutputMemo). flag g.q b) is
           ∙ elim (cases_lt b from) as (λ _. flag first.q b ≡ flag q b) [
-            | inl below ↦ before b below (omega (arith, within, ap (λ (g : Given). length g.q) is))
+            | inl below ↦ before b below (omega (arith, within, ap (λ (g : OutputMemo). length g.q) is))
             | inr ge ↦ between b ge (omega (arith, lt, w.1))
           ]
     ]

@@ -5,19 +5,19 @@ use Rattle.std.proofs.Common.{refl, sym, ◌∙◌, ap, Option, Some, None, Ok}
 use Rattle.std.specs.Prelude.{unwrap_or, take, flat_map, slice_get}
 use Rattle.std.proofs.lemmas.Bool.{cases_lt}
 use Rattle.std.proofs.lemmas.List.{length-append}
-use Rattle.sfc_expr.proofs.ByPlace.{at_place, mapped}
-use Rattle.sfc_chart.specs.declared.ids.ProgId.{ProgId}
-use Rattle.sfc_chart.specs.declared.ids.VarId.{VarId}
-use Rattle.sfc_chart.specs.declared.instance.Instance.{Instance}
-use Rattle.sfc_program.specs.declared.program_type.ProgramType.{ProgramType}
-use Rattle.sfc_chart.specs.Plants.{PlantData}
-use Rattle.sfc_chart.specs.Image.{locals_of}
-use Rattle.sfc_chart.specs.Finding.{first_local, instance_locals, locals_at}
-use Rattle.sfc_expr.specs.declared.value.Value.{Value}
-use Rattle.sfc_expr.specs.declared.variable.Variable.{Variable}
-use Rattle.sfc_expr.specs.declared.variable.Variable.TheVariants.{Global, Local}
+use Rattle.sfc_base.proofs.ByPlace.{at_place, mapped}
+use Rattle.sfc_base.specs.declared.ids.ProgId.{ProgId}
+use Rattle.sfc_base.specs.declared.ids.VarId.{VarId}
+use Rattle.sfc_plant.specs.declared.instance.Instance.{Instance}
+use Rattle.sfc_plant.specs.declared.program_type.ProgramType.{ProgramType}
+use Rattle.sfc_plant.specs.Plants.{PlantData}
+use Rattle.sfc_plant.specs.Image.{locals_of}
+use Rattle.sfc_plant.specs.Finding.{first_local, instance_locals, locals_at}
+use Rattle.sfc_base.specs.declared.value.Value.{Value}
+use Rattle.sfc_base.specs.declared.references.Variable.{Variable}
+use Rattle.sfc_base.specs.declared.references.Variable.TheVariants.{Global, Local}
 use Rattle.sfc_image.specs.declared.image.Image.{Image}
-use Rattle.sfc_image.specs.Changes.{Told, Change, Stored, Forced, Released, Reset, settled}
+use Rattle.sfc_image.specs.Changes.{Changes, Change, Stored, Forced, Released, Reset, settled}
 use Rattle.sfc_image.specs.Values.{variable_count, initial_of, is_local_of, latest_write, stored_value, forced_value, value_of}
 use Rattle.sfc_image.specs.Environments.{number_of, read_at, force_at, Moment, environment_of}
 use Rattle.sfc_image.specs.Agreement.{ImageAgrees}
@@ -66,35 +66,35 @@ pub keeps_past : (plant : PlantData) (image : Image) (changes : List Change) →
 unfolding ImageAgrees past_in
 keeps_past plant image changes k =
     mapped (variable_in image) (variable_past plant changes) (variable_count plant) (λ i lt.
-    let long = k.kept.variables in
-    let one = k.kept.each i (omega arith) in
+    let long = k.slots.variables in
+    let one = k.slots.each i (omega arith) in
     (λ j. record { stored = one.stored j; forced = one.forced j }))
 
 pub same_past : (plant : PlantData) (image : Image) (changes other : List Change) → ImageAgrees plant image (settled changes)
     → image_past plant changes ≡ image_past plant other → ImageAgrees plant image (settled other)
 unfolding ImageAgrees
 same_past plant image changes other k e = record {
-  kept = record {
-    variables = k.kept.variables;
-    instances = k.kept.instances;
-    locals_are = k.kept.locals_are;
-    opened = k.kept.opened;
+  slots = record {
+    variables = k.slots.variables;
+    instances = k.slots.instances;
+    locals_are = k.slots.locals_are;
+    opened = k.slots.opened;
     each = λ i lt.
-        let one = k.kept.each i lt in
-        let long = k.kept.variables in
+        let one = k.slots.each i lt in
+        let long = k.slots.variables in
         let stored = stored_by plant changes other e i (omega arith) in
         let forced = forced_by plant changes other e i (omega arith) in
         record {
           var_type = one.var_type;
           initial = one.initial;
-          kept = one.kept ∙ stored;
+          committed = one.committed ∙ stored;
           stored = one.stored ∙ stored;
           forced = one.forced ∙ forced;
           held = one.held ∙ forced;
           untried = one.untried;
         };
   };
-  given = k.given;
+  memos = k.memos;
 }
 
 -- ---- one change more
@@ -190,6 +190,6 @@ module _ (plant : PlantData) (changes other : List Change) (p : ProgId) (same : 
       })
 
 -- it agrees in one way at most
-pub agrees_prop : (plant : PlantData) (image : Image) (told : Told) → IsProp (ImageAgrees plant image told)
+pub agrees_prop : (plant : PlantData) (image : Image) (changes : Changes) → IsProp (ImageAgrees plant image changes)
 unfolding ImageAgrees
-agrees_prop plant image told = hlevel props
+agrees_prop plant image changes = hlevel props

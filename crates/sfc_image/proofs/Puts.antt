@@ -1,8 +1,8 @@
 -- What a value put into one slot makes of what is shown.
 use Rattle.std.proofs.Common.{◌≡◌, ◌≢◌, inl, inr, ℕ, ◌<◌, ◌≤◌, ◌&&◌, cond, Bool, true, false, List, length, slice_set, Option, Some, None, is_some, refl, sym, ◌∙◌, ap}
 use mathlib.Core.Path.{fun_ext}
-use Rattle.sfc_expr.specs.declared.value.Value.{Value}
-use Rattle.sfc_expr.specs.declared.variable.Variable.{Variable}
+use Rattle.sfc_base.specs.declared.value.Value.{Value}
+use Rattle.sfc_base.specs.declared.references.Variable.{Variable}
 use Rattle.sfc_expr.specs.Environment.{Environment, is_same, assigned}
 use Rattle.sfc_image.specs.declared.slot.Slot.{Slot}
 use Rattle.sfc_image.specs.declared.slot.Locals.{Locals}

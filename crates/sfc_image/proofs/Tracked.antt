@@ -6,7 +6,7 @@ use Rattle.std.proofs.lemmas.Option.{slice_get_read, get_or_from_slice_get}
 use Rattle.sfc_image.specs.declared.slot.Slot.{Slot}
 use Rattle.sfc_image.specs.declared.slot.Locals.{Locals}
 use Rattle.sfc_image.specs.Private.Keeping.{no_slot, slot_at, locals_at, number_at, tried_count, is_listed, AreTracked, closed, MayClose, AreClosed, begun, AreBegun}
-use Rattle.sfc_image.proofs.Counting.{bool_cases, count_same, count_more, count_room, count_none, or_left, or_right, or_cases, listed_more, listed_set, same_number, equal_numbers}
+use Rattle.sfc_image.proofs.Counting.{bool_cases, count_same, count_more, count_capacity, count_none, or_left, or_right, or_cases, listed_more, listed_set, same_number, equal_numbers}
 
 abbrev is_tried : Slot → Bool
 is_tried slot = slot.is_tried
@@ -33,7 +33,7 @@ pub tracked_same : (slots : List Slot) (written : List ℕ) (count i : ℕ) (y :
 tracked_same slots written count i y lt same h =
     let long : length (slice_set slots i y) ≡ length slots = length-set slots i y in
     record {
-      room = h.room ∙ sym long;
+      capacity = h.capacity ∙ sym long;
       counted = count_same is_tried slots i y no_slot lt same ∙ h.counted;
       numbers = λ j jlt. subst (λ (n : ℕ). number_at written j < n) (sym long) (h.numbers j jlt);
       listed = λ j.
@@ -41,11 +41,11 @@ tracked_same slots written count i y lt same h =
           (λ e on. h.listed j (ap (λ (k : ℕ). (slot_at slots k).is_tried) e ∙ sym same ∙ on)) (λ ne on. h.listed j on);
     }
 
-pub room_left : (slots : List Slot) (written : List ℕ) (count i : ℕ) → i < length slots → (slot_at slots i).is_tried ≡ false
+pub capacity_left : (slots : List Slot) (written : List ℕ) (count i : ℕ) → i < length slots → (slot_at slots i).is_tried ≡ false
     → AreTracked slots written count → count < length written
-room_left slots written count i lt off h =
-    let room : tried_count slots < length slots = count_room is_tried slots i no_slot lt off in
-    omega (arith, room, h.counted, h.room)
+capacity_left slots written count i lt off h =
+    let capacity : tried_count slots < length slots = count_capacity is_tried slots i no_slot lt off in
+    omega (arith, capacity, h.counted, h.capacity)
 
 -- a slot that was not tried, and now is
 pub tracked_more : (slots : List Slot) (written : List ℕ) (count i : ℕ) (y : Slot) → i < length slots
@@ -54,15 +54,15 @@ pub tracked_more : (slots : List Slot) (written : List ℕ) (count i : ℕ) (y :
 tracked_more slots written count i y lt off on h =
     let long : length (slice_set slots i y) ≡ length slots = length-set slots i y in
     let long_written : length (slice_set written count i) ≡ length written = length-set written count i in
-    let room : count < length written = room_left slots written count i lt off h in
+    let capacity : count < length written = capacity_left slots written count i lt off h in
     record {
-      room = long_written ∙ h.room ∙ sym long;
+      capacity = long_written ∙ h.capacity ∙ sym long;
       counted = count_more is_tried slots i y no_slot lt off on ∙ ap (λ (n : ℕ). n + 1) h.counted;
       numbers = λ j jlt.
           elim (eqb_tells j count) as (λ _. number_at (slice_set written count i) j < length (slice_set slots i y)) [
             | inl w ↦
                 let here : number_at (slice_set written count i) j ≡ i =
-                ap (λ (k : ℕ). number_at (slice_set written count i) k) w.1 ∙ get_or-set_same written count i 0 room in
+                ap (λ (k : ℕ). number_at (slice_set written count i) k) w.1 ∙ get_or-set_same written count i 0 capacity in
                 omega (arith, here, lt, long)
             | inr w ↦
                 let there : number_at (slice_set written count i) j ≡ number_at written j =
@@ -74,10 +74,10 @@ tracked_more slots written count i y lt off on h =
           by_slot (λ (slot : Slot). slot.is_tried ≡ true → is_listed (slice_set written count i) (count + 1) j ≡ true)
           slots i j y lt
           (λ e tried.
-          listed_set written count i j room
+          listed_set written count i j capacity
           ∙ or_right (is_listed written count j) (i == j) (ap (λ (k : ℕ). i == k) e ∙ same_number i))
           (λ ne tried.
-          listed_set written count i j room ∙ or_left (is_listed written count j) (i == j) (h.listed j tried));
+          listed_set written count i j capacity ∙ or_left (is_listed written count j) (i == j) (h.listed j tried));
     }
 
 -- ---- closing
@@ -142,7 +142,7 @@ all_closed keep written count old new h c i =
 pub tracked_closed : (keep : Bool) (written : List ℕ) (count : ℕ) (old new : List Slot) → length new ≡ length old
     → AreTracked old written count → AreClosed keep written count old new → AreTracked new written 0
 tracked_closed keep written count old new long h c = record {
-  room = h.room ∙ sym long;
+  capacity = h.capacity ∙ sym long;
   counted = count_none is_tried new no_slot (λ i lt. all_closed keep written count old new h c i);
   numbers = λ j lt. absurd (omega arith);
   listed = λ i on. absurd (let off : (slot_at new i).is_tried ≡ false = all_closed keep written count old new h c i in cc);

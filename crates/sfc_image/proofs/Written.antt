@@ -1,9 +1,9 @@
 -- What a change does to the values of variable i.
 use Rattle.std.proofs.Common.{◌≡◌, ℕ, ◌==◌, Bool, true, false, cond, List, ◌∷◌, Some, None, unwrap_or, ap}
-use Rattle.sfc_chart.specs.declared.ids.VarId.{VarId}
-use Rattle.sfc_chart.specs.declared.ids.ProgId.{ProgId}
-use Rattle.sfc_chart.specs.Plants.{PlantData}
-use Rattle.sfc_expr.specs.declared.value.Value.{Value}
+use Rattle.sfc_base.specs.declared.ids.VarId.{VarId}
+use Rattle.sfc_base.specs.declared.ids.ProgId.{ProgId}
+use Rattle.sfc_plant.specs.Plants.{PlantData}
+use Rattle.sfc_base.specs.declared.value.Value.{Value}
 use Rattle.sfc_image.specs.Changes.{Change, Stored, Forced, Released, Reset}
 use Rattle.sfc_image.specs.Values.{initial_of, is_local_of, latest_write, stored_value, forced_value}
 

@@ -1,10 +1,10 @@
 -- What each call answers.
 use Rattle.std.specs.Prelude.{◌≡◌, nat_lt, cond, Bool, List, Option, Some, None, Result, Ok, Err}
-use Rattle.sfc_chart.specs.declared.ids.VarId.{VarId}
-use Rattle.sfc_chart.specs.Plants.{PlantData}
-use Rattle.sfc_expr.specs.declared.value.Value.{Value}
-use Rattle.sfc_expr.specs.Values.{type_of}
-use Rattle.sfc_expr.specs.Checking.{is_same_type}
+use Rattle.sfc_base.specs.declared.ids.VarId.{VarId}
+use Rattle.sfc_plant.specs.Plants.{PlantData}
+use Rattle.sfc_base.specs.declared.value.Value.{Value}
+use Rattle.sfc_base.specs.Values.{type_of}
+use Rattle.sfc_base.specs.Values.{is_same_type}
 use Rattle.sfc_image.specs.declared.image_error.ImageError.{ImageError}
 use Rattle.sfc_image.specs.declared.image_error.ImageError.TheVariants.{UnknownVar, ValueType, NotForced}
 use Rattle.sfc_image.specs.Changes.{Change}

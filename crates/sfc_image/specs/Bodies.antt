@@ -2,14 +2,14 @@
 use Rattle.std.specs.Prelude.{ℕ, List, [], ◌∷◌, ◌++◌, length, map, filter_map, Option, Some, None}
 use Rattle.std.specs.List.{range_with_len}
 use Rattle.std.specs.Option.{option_map}
-use Rattle.sfc_expr.specs.declared.value.Value.{Value}
-use Rattle.sfc_expr.specs.declared.variable.Variable.{Variable}
-use Rattle.sfc_expr.specs.declared.variable.Variable.TheVariants.{Global, Local}
+use Rattle.sfc_base.specs.declared.value.Value.{Value}
+use Rattle.sfc_base.specs.declared.references.Variable.{Variable}
+use Rattle.sfc_base.specs.declared.references.Variable.TheVariants.{Global, Local}
 use Rattle.sfc_expr.specs.Environment.{Environment}
-use Rattle.sfc_chart.specs.declared.ids.ProgId.{ProgId}
-use Rattle.sfc_chart.specs.Plants.{PlantData}
-use Rattle.sfc_chart.specs.Finding.{instance_locals}
-use Rattle.sfc_image.specs.Changes.{Change, Stored, Told, settled, trying}
+use Rattle.sfc_base.specs.declared.ids.ProgId.{ProgId}
+use Rattle.sfc_plant.specs.Plants.{PlantData}
+use Rattle.sfc_plant.specs.Finding.{instance_locals}
+use Rattle.sfc_image.specs.Changes.{Change, Stored, Changes, settled, trying}
 use Rattle.sfc_image.specs.Environments.{number_of}
 
 abbrev pub global_at : ℕ → Variable
@@ -44,10 +44,10 @@ changes_in (Some change) = change ∷ []
 abbrev pub assignment : PlantData → ProgId → Variable → Value → List Change
 assignment plant p v x = changes_in (option_map (stored_to x) (number_of plant p v))
 
-abbrev pub tried_all : List Change → Option (List Change) → List Change → Told
-tried_all changes None kept = settled (changes ++ kept)
-tried_all changes (Some tried) kept = trying kept (changes ++ tried)
+abbrev pub tried_all : List Change → Option (List Change) → List Change → Changes
+tried_all changes None committed = settled (changes ++ committed)
+tried_all changes (Some tried) committed = trying committed (changes ++ tried)
 
--- several changes more; an open scratch takes them
-abbrev pub with_changes : List Change → Told → Told
-with_changes changes told = tried_all changes told.tried told.kept
+-- several changes more; an open transaction takes them
+abbrev pub with_changes : List Change → Changes → Changes
+with_changes changes log = tried_all changes log.tried log.committed

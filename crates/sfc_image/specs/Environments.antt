@@ -1,14 +1,14 @@
 -- What a program instance reads of an image (2.4.3, 2.5.3).
 use Rattle.std.specs.Prelude.{ℕ, ◌+◌, nat_lt, cond, Bool, false, List, length, ℤ, pos, Option, Some, None, is_some, slice_index_or}
 use Rattle.sfc_flags.specs.Flags.{flag}
-use Rattle.sfc_expr.specs.declared.value.Value.{Value}
-use Rattle.sfc_expr.specs.declared.value.Value.TheVariants as value
-use Rattle.sfc_expr.specs.declared.variable.Variable.{Variable}
-use Rattle.sfc_expr.specs.declared.variable.Variable.TheVariants.{Global, Local}
+use Rattle.sfc_base.specs.declared.value.Value.{Value}
+use Rattle.sfc_base.specs.declared.value.Value.TheVariants as value
+use Rattle.sfc_base.specs.declared.references.Variable.{Variable}
+use Rattle.sfc_base.specs.declared.references.Variable.TheVariants.{Global, Local}
 use Rattle.sfc_expr.specs.Environment.{Environment}
-use Rattle.sfc_chart.specs.declared.ids.ProgId.{ProgId}
-use Rattle.sfc_chart.specs.Plants.{PlantData}
-use Rattle.sfc_chart.specs.Finding.{first_local, instance_locals}
+use Rattle.sfc_base.specs.declared.ids.ProgId.{ProgId}
+use Rattle.sfc_plant.specs.Plants.{PlantData}
+use Rattle.sfc_plant.specs.Finding.{first_local, instance_locals}
 use Rattle.sfc_image.specs.Changes.{Change}
 use Rattle.sfc_image.specs.declared.step_readings.StepReadings.{StepReadings}
 use Rattle.sfc_image.specs.Values.{stored_value, forced_value}

@@ -1,6 +1,6 @@
 -- What happened to a variable (2.4).
 use Rattle.std.specs.Prelude.{ℕ, ◌==◌, Bool, false}
-use Rattle.sfc_chart.specs.Plants.{PlantData}
+use Rattle.sfc_plant.specs.Plants.{PlantData}
 use Rattle.sfc_image.specs.Changes.{Change, Stored, Forced, Released, Reset}
 use Rattle.sfc_image.specs.Values.{is_local_of}
 

@@ -10,6 +10,8 @@ pub mod Environments
 pub mod Bodies
 -- what its Boolean actions do with the variables
 pub mod Outputs
+-- values of the types of variables
+pub mod Types
 -- what each call answers
 pub mod Answers
 -- what was written, forced and reset, by what happened

@@ -1,8 +1,8 @@
 -- What later answers need of what was done with an image.
 use Rattle.std.specs.Prelude.{ℕ, List, map, Option}
 use Rattle.std.specs.List.{range_with_len}
-use Rattle.sfc_chart.specs.Plants.{PlantData}
-use Rattle.sfc_expr.specs.declared.value.Value.{Value}
+use Rattle.sfc_plant.specs.Plants.{PlantData}
+use Rattle.sfc_base.specs.declared.value.Value.{Value}
 use Rattle.sfc_image.specs.declared.image.Image.{Image}
 use Rattle.sfc_image.specs.Changes.{Change}
 use Rattle.sfc_image.specs.Values.{variable_count, stored_value, forced_value}
@@ -16,7 +16,7 @@ pub record VariablePast : Type 0 where
 abbrev pub variable_past : PlantData → List Change → ℕ → VariablePast
 variable_past plant changes i = record { stored = stored_value plant changes i; forced = forced_value changes i }
 
--- of each variable, by number; where no scratch is open nothing else is needed
+-- of each variable, by number; where no transaction is open nothing else is needed
 abbrev pub image_past : PlantData → List Change → List VariablePast
 image_past plant changes = map (variable_past plant changes) (range_with_len 0 (variable_count plant))
 

@@ -3,6 +3,6 @@
 -- what is kept of the variables
 pub mod Keeping
 -- what was last given to outputs, and how long that holds
-pub mod Giving
+pub mod OutputMemos
 -- what writes of a program make of an image
-pub mod Scratches
+pub mod Stores

@@ -1,31 +1,21 @@
 //! The slots of a plant's variables: the globals, and then the locals of each instance (2.4.3, 2.7.1).
 
 ghost use Rattle.std.specs.Prelude.{◌≡◌, ◌<◌, ◌++◌, ℕ, length, map, take, slice_get, OnOk, IfOk};
-ghost use Rattle.sfc_chart.specs.Image.{image_of};
-ghost use Rattle.sfc_chart.specs.Image as image;
-ghost use Rattle.sfc_chart.specs.Finding.{locals_at as locals_of_instance};
+ghost use Rattle.sfc_plant.specs.Image.{image_of};
+ghost use Rattle.sfc_plant.specs.Finding.{locals_at as locals_of_instance};
 ghost use Rattle.sfc_image.specs.Private.Keeping as keeping;
 ghost use Rattle.sfc_image.specs.Private.Keeping.{locals_at};
-ghost use Rattle.sfc_image.specs.Private.Giving.{given_at};
+ghost use Rattle.sfc_image.specs.Private.OutputMemos.{memo_at};
 
-use crate::given::Given;
+use crate::output_memo::OutputMemo;
 use crate::slot::{Locals, Slot, fresh_slot};
-use sfc_chart::instance::Instance;
 use sfc_flags::flags::Flags;
-use sfc_program::program_type::ProgramType;
+use sfc_plant::image::locals_of;
+use sfc_plant::instance::Instance;
+use sfc_plant::program_type::ProgramType;
+use sfc_plant::variable::Variable;
 use sfc_tables::tables::Tables;
-use sfc_variables::variable::Variable;
 use std::alloc::{AllocError, Global};
-
-// The locals of an instance.
-fn locals_of<'a>(types: &'a [ProgramType], instance: &Instance) -> &'a [Variable]
-    ensures { result.now ≡ image.locals_of types.now instance.now }
-{
-    match types.get(instance.program) {
-        Some(program) => program.locals.as_slice(),
-        None => &[],
-    }
-}
 
 // A slot for each of these variables, behind others.
 fn add_slots(slots: &mut Vec<Slot>, variables: &[Variable]) -> Result<(), AllocError>
@@ -69,27 +59,28 @@ pub fn build(
 
 // How many actions the type of an instance has.
 fn actions_of(tables: &[Tables], instance: &Instance) -> usize {
-    match tables.get(instance.program) {
+    match tables.get(instance.program.0) {
         Some(tables) => tables.actions(),
         None => 0,
     }
 }
 
-/// Room for what each instance gives its outputs; nothing was given yet. The one error is that memory was refused.
-pub fn build_given(
+/// A memo for each instance of what it gives its outputs; nothing was given yet. The one error is that memory was
+/// refused.
+pub fn build_memos(
     alloc: Global,
     tables: &[Tables],
     instances: &[Instance],
-) -> Result<Vec<Given>, AllocError>
-    ensures instances { IfOk result (λ given. length given.items ≡ length instances.now) }
-    ensures none { IfOk result (λ given. (k : ℕ) → k < length given.items → (given_at given.items k).epoch ≡ 0) }
+) -> Result<Vec<OutputMemo>, AllocError>
+    ensures instances { IfOk result (λ memos. length memos.items ≡ length instances.now) }
+    ensures none { IfOk result (λ memos. (k : ℕ) → k < length memos.items → (memo_at memos.items k).generation ≡ 0) }
 {
-    let mut given = Vec::new(alloc);
+    let mut memos = Vec::new(alloc);
     for k in 0..instances.len() {
-        given.push(Given {
+        memos.push(OutputMemo {
             q: Flags::new(alloc, actions_of(tables, &instances[k]))?,
-            epoch: 0,
+            generation: 0,
         })?;
     }
-    Ok(given)
+    Ok(memos)
 }

@@ -1,11 +1,11 @@
-//! What was tried is kept, or given up; and variables that begin anew.
+//! What was tried is committed, or given up; and variables that begin anew.
 
 ghost use Rattle.std.specs.Prelude.{◌+◌, ◌≤◌, length};
-ghost use Rattle.sfc_expr.specs.Ticks.{Within};
+ghost use Rattle.sfc_base.specs.Ticks.{Within};
 ghost use Rattle.sfc_image.specs.Private.Keeping.{AreNumbers, AreClosed, AreBegun};
 
 use crate::slot::{Slot, begun, closed};
-use sfc_expr::ticks::Ticks;
+use sfc_base::ticks::Ticks;
 
 #[tactic(auto, using(crate::proofs::Tracked::closed_none, crate::proofs::Tracked::closed_more))]
 /// Closes the slots of the first `count` numbers.

@@ -1,12 +1,12 @@
 //! What one image takes over from another.
 
 ghost use Rattle.std.specs.Prelude.{◌≡◌, ◌<◌, ℕ, length};
-ghost use Rattle.sfc_expr.specs.Ticks.{Within};
-ghost use Rattle.sfc_image.specs.Private.Giving.{given_at};
+ghost use Rattle.sfc_base.specs.Ticks.{Within};
+ghost use Rattle.sfc_image.specs.Private.OutputMemos.{memo_at};
 
-use crate::given::Given;
+use crate::output_memo::OutputMemo;
 use crate::slot::{Locals, Slot};
-use sfc_expr::ticks::Ticks;
+use sfc_base::ticks::Ticks;
 
 /// Takes over all slots and all numbers.
 pub fn copy_slots(
@@ -31,17 +31,22 @@ pub fn copy_slots(
 }
 
 /// Takes over where the locals of the instances are, and forgets what was given to their outputs.
-pub fn copy_locals(locals: &mut [Locals], given: &mut [Given], from: &[Locals], ticks: &mut Ticks)
+pub fn copy_locals(
+    locals: &mut [Locals],
+    memos: &mut [OutputMemo],
+    from: &[Locals],
+    ticks: &mut Ticks,
+)
     requires from_len { length from.now ≡ length locals.old }
-    requires given_len { length given.old ≡ length locals.old }
+    requires memos_len { length memos.old ≡ length locals.old }
     ensures locals { locals.new ≡ from.now }
-    ensures given_len { length given.new ≡ length given.old }
-    ensures given { (k : ℕ) → k < length given.new → (given_at given.new k).epoch ≡ 0 }
+    ensures memos_len { length memos.new ≡ length memos.old }
+    ensures memos { (k : ℕ) → k < length memos.new → (memo_at memos.new k).generation ≡ 0 }
     ensures ticks { Within (length locals.old) ticks.old ticks.new }
 {
     for k in 0..locals.len() {
         ticks.tick();
         locals[k] = from[k];
-        given[k].epoch = 0;
+        memos[k].generation = 0;
     }
 }

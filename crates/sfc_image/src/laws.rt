@@ -1,6 +1,6 @@
 //! What the definitions mean: each law is a function with an empty body, whose contract is the law.
 
-ghost use Rattle.std.specs.Prelude.{◌≡◌, ◌≢◌, ◌<◌, ◌↔◌, ◌++◌, ◌∷◌, ℕ, true, false, List, All, Some};
+ghost use Rattle.std.specs.Prelude.{◌≡◌, ◌≢◌, ◌<◌, ◌↔◌, ◌++◌, ◌∷◌, ℕ, true, false, List, All, Some, IfSome};
 ghost use Rattle.sfc_image.specs.declared.image.Image.{Image};
 ghost use Rattle.sfc_image.specs.Agreement.{ImageAgrees};
 ghost use Rattle.sfc_image.specs.Changes.{settled};
@@ -8,18 +8,24 @@ ghost use Rattle.sfc_image.specs.Environments.{Moment, environment_of};
 ghost use Rattle.sfc_image.specs.Answers.{read_answer, release_fault};
 ghost use Rattle.sfc_image.specs.Values.{variable_count};
 ghost use Rattle.sfc_image.specs.Past.{image_past, past_in};
-ghost use Rattle.sfc_chart.specs.declared.ids.ProgId.{ProgId};
-ghost use Rattle.sfc_chart.specs.declared.ids.VarId.{VarId};
-ghost use Rattle.sfc_chart.specs.Plants.{PlantData};
-ghost use Rattle.sfc_expr.specs.declared.value.Value.{Value};
-ghost use Rattle.sfc_expr.specs.declared.variable.LocalId.{LocalId};
-ghost use Rattle.sfc_expr.specs.declared.variable.Variable.{Variable};
-ghost use Rattle.sfc_expr.specs.declared.variable.Variable.TheVariants.{Local};
+ghost use Rattle.sfc_base.specs.declared.ids.ProgId.{ProgId};
+ghost use Rattle.sfc_base.specs.declared.ids.VarId.{VarId};
+ghost use Rattle.sfc_plant.specs.Plants.{PlantData};
+ghost use Rattle.sfc_base.specs.declared.value.Value.{Value};
+ghost use Rattle.sfc_base.specs.declared.references.LocalId.{LocalId};
+ghost use Rattle.sfc_base.specs.declared.references.Variable.{Variable};
+ghost use Rattle.sfc_base.specs.declared.references.Variable.TheVariants.{Local};
 ghost use Rattle.sfc_expr.specs.Environment.{Environment};
 ghost use Rattle.sfc_image.specs.Changes.{Change, Stored, Forced, Released, Reset};
-ghost use Rattle.sfc_image.specs.Values.{initial_of, is_local_of, stored_value, forced_value, value_of};
+ghost use Rattle.sfc_image.specs.Values.{initial_of, type_of_variable, is_local_of};
+ghost use Rattle.sfc_image.specs.Values.{stored_value, forced_value, value_of};
+ghost use Rattle.sfc_image.specs.Types.{BeginsTyped, GivesType, AreTimes, types_of};
 ghost use Rattle.sfc_image.specs.Environments.{number_of};
 ghost use Rattle.sfc_image.specs.Bodies.{left_by};
+ghost use Rattle.sfc_expr.specs.Dependence.{is_assigned};
+ghost use Rattle.sfc_expr.specs.Effect.{effect};
+ghost use Rattle.sfc_expr.specs.Trees.{Body};
+ghost use Rattle.sfc_expr.specs.Types.{IsOf, GivesTypes};
 ghost use Rattle.sfc_image.specs.Events.{writes, turns};
 
 /// A forced variable reads the forced value whatever is written later, until it is released or forced anew; then it
@@ -58,18 +64,18 @@ pub fn resets()
         forced_value (Reset p ∷ changes) i ≡ forced_value changes i }
 {}
 
-/// Where a scratch only stores, as it does, its undoing takes back no force; and it takes back the value of no variable
-/// that the scratch did not write.
+/// Where a transaction only stores, as it does, its undoing takes back no force; and it takes back the value of no
+/// variable that the transaction did not write.
 pub fn undoing()
-    ensures forces { (tried kept : List Change) (i : ℕ) → All (λ change. turns i change ≡ false) tried →
-        forced_value (tried ++ kept) i ≡ forced_value kept i }
-    ensures values { (plant : PlantData) (tried kept : List Change) (i : ℕ) →
+    ensures forces { (tried committed : List Change) (i : ℕ) → All (λ change. turns i change ≡ false) tried →
+        forced_value (tried ++ committed) i ≡ forced_value committed i }
+    ensures values { (plant : PlantData) (tried committed : List Change) (i : ℕ) →
         All (λ change. writes plant i change ≡ false) tried → All (λ change. turns i change ≡ false) tried →
-        value_of plant (tried ++ kept) i ≡ value_of plant kept i }
+        value_of plant (tried ++ committed) i ≡ value_of plant committed i }
 {}
 
 /// A body leaves in each variable that its program can name the value that the statements leave there, and what is stored
-/// in every other variable. It forces and releases none (2.4.3, 3.3.2).
+/// in every other variable; one that no statement assigns keeps its value. It forces and releases none (2.4.3, 3.3.2).
 pub fn bodies()
     ensures named { (plant : PlantData) (p : ProgId) (env : Environment) (changes : List Change) (v : Variable) (i : ℕ) →
         number_of plant p v ≡ Some i → stored_value plant (left_by plant p env ++ changes) i ≡ env.stored_at v }
@@ -78,10 +84,31 @@ pub fn bodies()
         stored_value plant (left_by plant p env ++ changes) i ≡ stored_value plant changes i }
     ensures forces { (plant : PlantData) (p : ProgId) (env : Environment) (changes : List Change) (i : ℕ) →
         forced_value (left_by plant p env ++ changes) i ≡ forced_value changes i }
+    ensures unassigned { (plant : PlantData) (p : ProgId) (changes : List Change) (moment : Moment) (body : Body) (v : Variable) (i : ℕ) →
+        number_of plant p v ≡ Some i → is_assigned v body ≡ false →
+        stored_value plant (left_by plant p (effect body (environment_of plant changes p moment)).environment ++ changes) i
+        ≡ stored_value plant changes i }
 {}
 
-/// What is kept, where no scratch is open, is the past of the changes: all that later answers need, and for all lists of
-/// changes of this past the same.
+/// Where each variable begins with a value of its type, and each store and each force gives one of its variable's type,
+/// a variable always has one: what is stored in it, what it is forced to, and what it reads (2.4.2). So an environment
+/// gives each variable of the instance's program values of its type.
+pub fn types()
+    ensures stored { (plant : PlantData) (changes : List Change) (i : ℕ) → BeginsTyped plant →
+        All (GivesType plant) changes → IsOf (type_of_variable plant i) (stored_value plant changes i) }
+    ensures forced { (plant : PlantData) (changes : List Change) (i : ℕ) → All (GivesType plant) changes →
+        IfSome (forced_value changes i) (IsOf (type_of_variable plant i)) }
+    ensures reads { (plant : PlantData) (changes : List Change) (i : ℕ) → BeginsTyped plant →
+        All (GivesType plant) changes → IsOf (type_of_variable plant i) (value_of plant changes i) }
+    ensures environment { (plant : PlantData) (changes : List Change) (p : ProgId) (moment : Moment) →
+        BeginsTyped plant → All (GivesType plant) changes → AreTimes moment.times →
+        GivesTypes (types_of plant p) (environment_of plant changes p moment) }
+    ensures body { (plant : PlantData) (p : ProgId) (env : Environment) → GivesTypes (types_of plant p) env →
+        All (GivesType plant) (left_by plant p env) }
+{}
+
+/// What is kept, where no transaction is open, is the past of the changes: all that later answers need, and for all
+/// lists of changes of this past the same.
 pub fn kept_past()
     ensures kept { (plant : PlantData) (image : Image) (changes : List Change) →
         ImageAgrees plant image (settled changes) → past_in plant image ≡ image_past plant changes }

@@ -2,13 +2,13 @@
 //! forced, and what is tried and may be undone.
 //!
 //! - `building`: the slots of a plant's variables.
-//! - `closing`: what was tried is kept, or given up.
+//! - `closing`: what was tried is committed, or given up.
 //! - `copying`: what one image takes over from another.
-//! - `given`: what an instance last gave the variables of its Boolean actions.
+//! - `output_memo`: what an instance last gave the variables of its Boolean actions.
 //! - `image`: the variables of a plant.
 //! - `image_error`: why a call is refused.
 //! - `laws`: what the definitions mean.
-//! - `scratch`: what the statements of a program instance write to.
+//! - `store`: what the statements of a program instance write to.
 //! - `slot`: what is kept for a variable.
 //! - `step_readings`: which steps of a program instance are active, and their times.
 //! - `trying`: stores that may be undone.
@@ -18,12 +18,12 @@
 mod building;
 mod closing;
 mod copying;
-mod given;
 pub mod image;
 pub mod image_error;
 pub mod laws;
-mod scratch;
+mod output_memo;
 mod slot;
 pub mod step_readings;
+mod store;
 mod trying;
 pub mod view;

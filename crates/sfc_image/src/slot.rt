@@ -4,19 +4,19 @@ ghost use Rattle.std.specs.Prelude.{◌≡◌, ◌<◌, length, None};
 ghost use Rattle.sfc_image.specs.Private.Keeping as keeping;
 
 use crate::image_error::ImageError;
-use sfc_chart::ids::VarId;
-use sfc_expr::value::Value;
-use sfc_tokens::var_type::VarType;
-use sfc_variables::variable::Variable;
+use sfc_base::ids::VarId;
+use sfc_base::value::Value;
+use sfc_base::var_type::VarType;
+use sfc_plant::variable::Variable;
 
-/// The type of a variable and its initial value; its value when a scratch was opened, or now if none is open; its value
-/// now; the value to which it is forced, if it is; whether it was written since a scratch was opened; and whether it is an
-/// output: the variable of a Boolean action that was given its Q.
+/// The type of a variable and its initial value; its value when a transaction was opened, or now if none is open; its
+/// value now; the value to which it is forced, if it is; whether it was written since a transaction was opened; and
+/// whether it is an output: the variable of a Boolean action that was given its Q.
 #[derive(Clone, Copy)]
 pub struct Slot {
     pub var_type: VarType,
     pub initial: Value,
-    pub kept: Value,
+    pub committed: Value,
     pub stored: Value,
     pub forced: Option<Value>,
     pub is_tried: bool,
@@ -37,7 +37,7 @@ pub fn fresh_slot(variable: &Variable) -> Slot
     Slot {
         var_type: variable.var_type,
         initial: variable.initial,
-        kept: variable.initial,
+        committed: variable.initial,
         stored: variable.initial,
         forced: None,
         is_tried: false,
@@ -45,15 +45,15 @@ pub fn fresh_slot(variable: &Variable) -> Slot
     }
 }
 
-/// What was tried is kept, or given up.
+/// What was tried is committed, or given up.
 pub fn closed(slot: Slot, keep: bool) -> Slot
     ensures { result ≡ keeping.closed keep slot }
 {
     let mut next = slot;
     if keep {
-        next.kept = slot.stored;
+        next.committed = slot.stored;
     } else {
-        next.stored = slot.kept;
+        next.stored = slot.committed;
     }
     next.is_tried = false;
     next
@@ -64,22 +64,22 @@ pub fn begun(slot: Slot) -> Slot
     ensures { result ≡ keeping.begun slot }
 {
     let mut next = slot;
-    next.kept = slot.initial;
+    next.committed = slot.initial;
     next.stored = slot.initial;
     next
 }
 
 /// A value is stored for good.
-pub fn given(slot: Slot, value: Value) -> Slot
-    ensures { result ≡ keeping.given value slot }
+pub fn with_value(slot: Slot, value: Value) -> Slot
+    ensures { result ≡ keeping.with_value value slot }
 {
     let mut next = slot;
-    next.kept = value;
+    next.committed = value;
     next.stored = value;
     next
 }
 
-/// A value is stored in a scratch.
+/// A value is stored in a transaction.
 pub fn tried(slot: Slot, value: Value) -> Slot
     ensures { result ≡ keeping.tried value slot }
 {

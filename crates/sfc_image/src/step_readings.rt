@@ -3,7 +3,7 @@
 ghost use Rattle.std.specs.Prelude.{◌≡◌, pos, slice_index_or};
 ghost use Rattle.sfc_flags.specs.Flags.{flag};
 
-use sfc_expr::variable::StepId;
+use sfc_base::references::StepId;
 use sfc_flags::flags::Flags;
 
 /// Which steps are active, and the times of the steps in microseconds, by the steps' numbers.
@@ -19,7 +19,7 @@ impl<'a> StepReadings<'a> {
         ensures { result ≡ flag self.now.active.now step.0 }
     {
         let s = step.0 as usize;
-        s < self.active.places() && self.active.get(s)
+        s < self.active.count() && self.active.get(s)
     }
 
     /// The time of the step in microseconds; 0 of a step that isn't there.

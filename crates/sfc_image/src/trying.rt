@@ -4,11 +4,11 @@ ghost use Rattle.std.specs.Prelude.{◌≡◌, ◌<◌, length, slice_set};
 ghost use Rattle.sfc_image.specs.Private.Keeping.{AreTracked, slot_at, tried as tried_slot};
 
 use crate::slot::{Slot, tried};
-use sfc_expr::value::Value;
+use sfc_base::value::Value;
 
-#[tactic(auto, using(crate::proofs::Tracked::tracked_same, crate::proofs::Tracked::tracked_more, crate::proofs::Tracked::room_left))]
-/// Stores a value in a scratch, and lists the variable if it wasn't written there before. It answers how many are listed
-/// now.
+#[tactic(auto, using(crate::proofs::Tracked::tracked_same, crate::proofs::Tracked::tracked_more, crate::proofs::Tracked::capacity_left))]
+/// Stores a value in a transaction, and lists the variable if it wasn't written there before. It answers how many are
+/// listed now.
 pub fn try_store(
     slots: &mut [Slot],
     written: &mut [usize],

@@ -6,8 +6,8 @@ ghost use Rattle.sfc_image.specs.Private.Keeping.{shown};
 
 use crate::slot::{Locals, Slot};
 use crate::step_readings::StepReadings;
-use sfc_expr::value::Value;
-use sfc_expr::variable::{GlobalId, LocalId, StepId, Variable};
+use sfc_base::references::{GlobalId, LocalId, StepId, Variable};
+use sfc_base::value::Value;
 use sfc_expr::view::View;
 
 /// The variables of a program instance in an image, which of its steps are active and their times, by the steps'

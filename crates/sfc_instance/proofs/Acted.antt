@@ -4,28 +4,28 @@ use Rattle.std.proofs.lemmas.List.{drop_all}
 use Rattle.std.proofs.lemmas.List.Sums.{sum_by-cons}
 use Rattle.sfc_expr.specs.declared.fault.Fault.{Fault}
 use Rattle.sfc_expr.specs.Trees.{Body}
-use Rattle.sfc_expr.specs.Effect.{Outcome, effect}
-use Rattle.sfc_tables.specs.declared.action.ActionId.{ActionId}
-use Rattle.sfc_tables.specs.declared.association.Target.{Target}
-use Rattle.sfc_tables.specs.declared.association.Target.TheVariants.{Declared}
-use Rattle.sfc_tables.specs.declared.chart.Chart.{Chart}
+use Rattle.sfc_expr.specs.Effect.{BodyEffect, effect}
+use Rattle.sfc_base.specs.declared.ids.ActionId.{ActionId}
+use Rattle.sfc_plant.specs.declared.association.Target.{Target}
+use Rattle.sfc_plant.specs.declared.association.Target.TheVariants.{Declared}
+use Rattle.sfc_plant.specs.declared.chart.Chart.{Chart}
 use Rattle.sfc_tables.specs.Tables.{Tabled, tables_of}
 use Rattle.sfc_action.specs.ActionControl as control
-use Rattle.sfc_chart.specs.declared.ids.ProgId.{ProgId}
-use Rattle.sfc_chart.specs.Plants.{PlantData}
+use Rattle.sfc_base.specs.declared.ids.ProgId.{ProgId}
+use Rattle.sfc_plant.specs.Plants.{PlantData}
 use Rattle.sfc_image.specs.declared.image.Image.{Image}
 use Rattle.sfc_image.specs.Changes.{Change, trying}
 use Rattle.sfc_image.specs.Environments.{Moment, environment_of}
 use Rattle.sfc_image.specs.Bodies.{left_by, with_changes}
 use Rattle.sfc_image.specs.Agreement.{ImageAgrees}
 use Rattle.sfc_instance.specs.Life.{Life, control_scans}
-use Rattle.sfc_chart.specs.Finding.{chart_of}
+use Rattle.sfc_plant.specs.Finding.{chart_of}
 use Rattle.sfc_instance.specs.ProgramScan.{acted, after_actions, after_body, and_then, body_in, moment, environment}
 use Rattle.sfc_instance.specs.Work.{action_work, actions_work}
 use Rattle.sfc_instance.specs.Private.Acting.{Acts, Ends, Follows}
 use Rattle.std.specs.Prelude.{slice_get}
 
-module _ (plant : PlantData) (p : ProgId) (life : Life) (t : ℤ) (a : ℕ) (kept tried : List Change) (image : Image) where
+module _ (plant : PlantData) (p : ProgId) (life : Life) (t : ℤ) (a : ℕ) (committed tried : List Change) (image : Image) where
   abbrev tables : Tabled
   tables = tables_of (chart_of plant p)
 
@@ -36,44 +36,44 @@ module _ (plant : PlantData) (p : ProgId) (life : Life) (t : ℤ) (a : ℕ) (kep
   is_executed = control.executed tables a (control_scans tables life)
 
   -- a declared action that isn't executed
-  pub passed : (id : ActionId) → is_executed ≡ false → ImageAgrees plant image (trying kept tried)
-      → Acts plant kept image (Ok tt) (acted plant p life t a (Declared id) (tried ++ kept))
+  pub passed : (id : ActionId) → is_executed ≡ false → ImageAgrees plant image (trying committed tried)
+      → Acts plant committed image (Ok tt) (acted plant p life t a (Declared id) (tried ++ committed))
   passed id off h = record {
     tried = tried;
     agrees = h;
-    ends = ap (λ (b : Bool). cond b (after_body plant p (tried ++ kept)
-        (effect (body_in (slice_get (chart_of plant p).actions id.0)) (environment plant p life (tried ++ kept) t the_q))) (Ok (tried ++ kept))) off;
+    ends = ap (λ (b : Bool). cond b (after_body plant p (tried ++ committed)
+        (effect (body_in (slice_get (chart_of plant p).actions id.0)) (environment plant p life (tried ++ committed) t the_q))) (Ok (tried ++ committed))) off;
   }
 
-  ended : (answer : Result (Unit {0}) Fault) (outcome : Outcome) → answer ≡ outcome.result
-      → Ends answer (after_body plant p (tried ++ kept) outcome) ((left_by plant p outcome.environment ++ tried) ++ kept)
-  ended (Ok u) outcome is =
-      ap (λ (r : Result (Unit {0}) Fault). and_then r (λ (x : Unit {0}). Ok (left_by plant p outcome.environment ++ (tried ++ kept)))) (sym is)
-      ∙ ap (λ (changes : List Change). Ok changes) (sym (append_assoc (left_by plant p outcome.environment) tried kept))
-  ended (Err f) outcome is =
-      ap (λ (r : Result (Unit {0}) Fault). and_then r (λ (x : Unit {0}). Ok (left_by plant p outcome.environment ++ (tried ++ kept)))) (sym is)
+  ends_so : (answer : Result (Unit {0}) Fault) (body_effect : BodyEffect) → answer ≡ body_effect.result
+      → Ends answer (after_body plant p (tried ++ committed) body_effect) ((left_by plant p body_effect.environment ++ tried) ++ committed)
+  ends_so (Ok u) body_effect is =
+      ap (λ (r : Result (Unit {0}) Fault). and_then r (λ (x : Unit {0}). Ok (left_by plant p body_effect.environment ++ (tried ++ committed)))) (sym is)
+      ∙ ap (λ (changes : List Change). Ok changes) (sym (append_assoc (left_by plant p body_effect.environment) tried committed))
+  ends_so (Err f) body_effect is =
+      ap (λ (r : Result (Unit {0}) Fault). and_then r (λ (x : Unit {0}). Ok (left_by plant p body_effect.environment ++ (tried ++ committed)))) (sym is)
 
   -- a declared action whose body is executed
   pub body_acted : (id : ActionId) (answer : Result (Unit {0}) Fault) (body : Body) (moment' : Moment)
       → is_executed ≡ true
       → body ≡ body_in (slice_get (chart_of plant p).actions id.0)
       → moment' ≡ moment tables life t the_q
-      → answer ≡ (effect body (environment_of plant (tried ++ kept) p moment')).result
-      → ImageAgrees plant image (with_changes (left_by plant p (effect body (environment_of plant (tried ++ kept) p moment')).environment) (trying kept tried))
-      → Acts plant kept image answer (acted plant p life t a (Declared id) (tried ++ kept))
+      → answer ≡ (effect body (environment_of plant (tried ++ committed) p moment')).result
+      → ImageAgrees plant image (with_changes (left_by plant p (effect body (environment_of plant (tried ++ committed) p moment')).environment) (trying committed tried))
+      → Acts plant committed image answer (acted plant p life t a (Declared id) (tried ++ committed))
   body_acted id answer body moment' on is when result h =
-      let outcome : Outcome = effect body (environment_of plant (tried ++ kept) p moment') in
-      let wanted : Outcome = effect (body_in (slice_get (chart_of plant p).actions id.0)) (environment plant p life (tried ++ kept) t the_q) in
-      let same : outcome ≡ wanted =
-      ap (λ (b : Body). effect b (environment_of plant (tried ++ kept) p moment')) is
-      ∙ ap (λ (m : Moment). effect (body_in (slice_get (chart_of plant p).actions id.0)) (environment_of plant (tried ++ kept) p m)) when in
+      let body_effect : BodyEffect = effect body (environment_of plant (tried ++ committed) p moment') in
+      let wanted : BodyEffect = effect (body_in (slice_get (chart_of plant p).actions id.0)) (environment plant p life (tried ++ committed) t the_q) in
+      let same : body_effect ≡ wanted =
+      ap (λ (b : Body). effect b (environment_of plant (tried ++ committed) p moment')) is
+      ∙ ap (λ (m : Moment). effect (body_in (slice_get (chart_of plant p).actions id.0)) (environment_of plant (tried ++ committed) p m)) when in
       record {
-        tried = left_by plant p outcome.environment ++ tried;
+        tried = left_by plant p body_effect.environment ++ tried;
         agrees = h;
-        ends = subst (λ (r : Result (List Change) Fault). Ends answer r ((left_by plant p outcome.environment ++ tried) ++ kept))
-            (ap (after_body plant p (tried ++ kept)) same
-            ∙ sym (ap (λ (b : Bool). cond b (after_body plant p (tried ++ kept) wanted) (Ok (tried ++ kept))) on))
-            (ended answer outcome result);
+        ends = subst (λ (r : Result (List Change) Fault). Ends answer r ((left_by plant p body_effect.environment ++ tried) ++ committed))
+            (ap (after_body plant p (tried ++ committed)) same
+            ∙ sym (ap (λ (b : Bool). cond b (after_body plant p (tried ++ committed) wanted) (Ok (tried ++ committed))) on))
+            (ends_so answer body_effect result);
       }
 
 -- ---- all of them
@@ -93,13 +93,13 @@ module _ (targets : List Target) (i : ℕ) (target : Target) where
       → actions_work chart (drop i targets) ≡ action_work chart target + actions_work chart (drop (i + 1) targets)
   work_split chart lt is = ap (actions_work chart) (split lt is) ∙ sum_by-cons (action_work chart) target (drop (i + 1) targets)
 
-module _ (plant : PlantData) (p : ProgId) (life : Life) (t : ℤ) (kept : List Change) (targets : List Target) (i : ℕ) (target : Target) where
+module _ (plant : PlantData) (p : ProgId) (life : Life) (t : ℤ) (committed : List Change) (targets : List Target) (i : ℕ) (target : Target) where
   -- where an action succeeded the others follow
   pub acts_on : (image : Image) (before changes : List Change) (answer : Result (Unit {0}) Fault) → is_err answer ≡ false
       → i < length targets → slice_get targets i ≡ Some target
-      → Acts plant kept image answer (acted plant p life t i target changes)
-      → after_actions plant p life t i (drop i targets) changes ≡ after_actions plant p life t 0 targets (before ++ kept)
-      → Follows plant p life t kept targets before (i + 1) image
+      → Acts plant committed image answer (acted plant p life t i target changes)
+      → after_actions plant p life t i (drop i targets) changes ≡ after_actions plant p life t 0 targets (before ++ committed)
+      → Follows plant p life t committed targets before (i + 1) image
   acts_on image before changes (Err f) off lt is h so = absurd cc
   acts_on image before changes (Ok u) off lt is h so = record {
     tried = h.tried;
@@ -107,7 +107,7 @@ module _ (plant : PlantData) (p : ProgId) (life : Life) (t : ℤ) (kept : List C
     rest =
         sym (ap (λ (ts : List Target). after_actions plant p life t i ts changes) (split targets i target lt is)
         ∙ ap (λ (r : Result (List Change) Fault). and_then r (λ after. after_actions plant p life t (suc i) (drop (i + 1) targets) after)) h.ends
-        ∙ ap (λ (k : ℕ). after_actions plant p life t k (drop (i + 1) targets) (h.tried ++ kept)) (next i))
+        ∙ ap (λ (k : ℕ). after_actions plant p life t k (drop (i + 1) targets) (h.tried ++ committed)) (next i))
         ∙ so;
   }
     where
@@ -117,9 +117,9 @@ module _ (plant : PlantData) (p : ProgId) (life : Life) (t : ℤ) (kept : List C
   -- where it failed its fault is that of all
   pub acts_end : (image : Image) (before changes : List Change) (answer : Result (Unit {0}) Fault) → is_err answer ≡ true
       → i < length targets → slice_get targets i ≡ Some target
-      → Acts plant kept image answer (acted plant p life t i target changes)
-      → after_actions plant p life t i (drop i targets) changes ≡ after_actions plant p life t 0 targets (before ++ kept)
-      → Acts plant kept image answer (after_actions plant p life t 0 targets (before ++ kept))
+      → Acts plant committed image answer (acted plant p life t i target changes)
+      → after_actions plant p life t i (drop i targets) changes ≡ after_actions plant p life t 0 targets (before ++ committed)
+      → Acts plant committed image answer (after_actions plant p life t 0 targets (before ++ committed))
   acts_end image before changes (Ok u) on lt is h so = absurd cc
   acts_end image before changes (Err f) on lt is h so = record {
     tried = h.tried;
@@ -131,11 +131,11 @@ module _ (plant : PlantData) (p : ProgId) (life : Life) (t : ℤ) (kept : List C
   }
 
 -- after the last action
-pub acts_all : (plant : PlantData) (p : ProgId) (life : Life) (t : ℤ) (kept : List Change) (targets : List Target) (before : List Change) (i : ℕ)
-    (image : Image) → length targets ≤ i → Follows plant p life t kept targets before i image
-    → Acts plant kept image (Ok tt) (after_actions plant p life t 0 targets (before ++ kept))
-acts_all plant p life t kept targets before i image le h = record {
+pub acts_all : (plant : PlantData) (p : ProgId) (life : Life) (t : ℤ) (committed : List Change) (targets : List Target) (before : List Change) (i : ℕ)
+    (image : Image) → length targets ≤ i → Follows plant p life t committed targets before i image
+    → Acts plant committed image (Ok tt) (after_actions plant p life t 0 targets (before ++ committed))
+acts_all plant p life t committed targets before i image le h = record {
   tried = h.tried;
   agrees = h.agrees;
-  ends = sym h.rest ∙ ap (λ (ts : List Target). after_actions plant p life t i ts (h.tried ++ kept)) (drop_all i targets le);
+  ends = sym h.rest ∙ ap (λ (ts : List Target). after_actions plant p life t i ts (h.tried ++ committed)) (drop_all i targets le);
 }

@@ -5,17 +5,17 @@ use Rattle.std.specs.List.{range_with_len}
 use Rattle.std.proofs.lemmas.List.{length-map}
 use Rattle.std.proofs.lemmas.List.Sums.{sum_by-cons}
 use Rattle.std.proofs.lemmas.List.Sorted.{sum_by-IsPermutation}
-use Rattle.sfc_expr.specs.declared.variable.StepId.{StepId}
+use Rattle.sfc_base.specs.declared.references.StepId.{StepId}
 use Rattle.sfc_expr.specs.Nodes.{nodes, body_nodes}
-use Rattle.sfc_tables.specs.declared.action.Action.{Action}
-use Rattle.sfc_tables.specs.declared.chart.Chart.{Chart}
-use Rattle.sfc_tables.specs.declared.chart.Transition.{Transition}
-use Rattle.sfc_tables.specs.declared.ids.TransitionId.{TransitionId}
+use Rattle.sfc_plant.specs.declared.action.Action.{Action}
+use Rattle.sfc_plant.specs.declared.chart.Chart.{Chart}
+use Rattle.sfc_plant.specs.declared.chart.Transition.{Transition}
+use Rattle.sfc_base.specs.declared.ids.TransitionId.{TransitionId}
 use Rattle.sfc_tables.specs.Actions.{boolean_actions, declared_actions}
 use Rattle.sfc_tables.specs.Ranks.{priorities_of, transitions_to}
 use Rattle.sfc_tables.specs.Tables.{Sides, sides_of, tables_of}
 use Rattle.sfc_tables.proofs.RankOrders.{rank_order_ranks}
-use Rattle.sfc_evolve.specs.Evolution.{preceding_of}
+use Rattle.sfc_evolve.specs.Clearing.{preceding_of}
 use Rattle.sfc_evolve.specs.Work.{links}
 use Rattle.sfc_instance.specs.ProgramScan.{condition_in, body_in}
 use Rattle.sfc_instance.proofs.Outputs.{actions_long, boolean_work, declared}

@@ -8,8 +8,8 @@ use Rattle.std.proofs.lemmas.List.Sorted.{list_any-IsPermutation}
 use Rattle.sfc_expr.specs.declared.fault.Fault.{Fault}
 use Rattle.sfc_expr.specs.Environment.{Environment}
 use Rattle.sfc_flags.specs.Flags.{flag, set_from}
-use Rattle.sfc_tables.specs.declared.chart.Chart.{Chart}
-use Rattle.sfc_tables.specs.declared.ids.TransitionId.{TransitionId}
+use Rattle.sfc_plant.specs.declared.chart.Chart.{Chart}
+use Rattle.sfc_base.specs.declared.ids.TransitionId.{TransitionId}
 use Rattle.sfc_tables.specs.Ranks.{transitions_to}
 use Rattle.sfc_tables.specs.Tables.{Tabled, AreTables}
 use Rattle.sfc_evolve.specs.Lookback.{or_else}

@@ -1,7 +1,7 @@
 -- What the actions of a scan leave in the image.
 use Rattle.std.proofs.Common.{◌≡◌, ◌++◌, true, false, List, Result, Ok, Err, is_ok, OnOk, refl}
 use Rattle.sfc_expr.specs.declared.fault.Fault.{Fault}
-use Rattle.sfc_chart.specs.Plants.{PlantData}
+use Rattle.sfc_plant.specs.Plants.{PlantData}
 use Rattle.sfc_image.specs.declared.image.Image.{Image}
 use Rattle.sfc_image.specs.Changes.{Change, settled, trying}
 use Rattle.sfc_image.specs.Agreement.{ImageAgrees}
@@ -17,7 +17,7 @@ hold_ok (Ok x) P h = h
 hold_ok (Err f) P h = tt
 
 module _ (plant : PlantData) (changes : List Change) (mid image : Image) (wanted : Result (List Change) Fault) where
-  -- a scratch that is kept where the call succeeded, and else given up
+  -- a transaction that is committed where the call succeeded, and else given up
   pub closed : (answer : Result (Unit {0}) Fault) → Acts plant changes mid answer wanted
       → (is_ok answer ≡ true → (tried : List Change) → ImageAgrees plant mid (trying changes tried) → ImageAgrees plant image (settled (tried ++ changes)))
       → (is_ok answer ≡ false → (tried : List Change) → ImageAgrees plant mid (trying changes tried) → ImageAgrees plant image (settled changes))

@@ -16,6 +16,10 @@ pub mod Left
 pub mod Readings
 -- how a scan ends
 pub mod Scanned
+-- the range of step times
+pub mod StepTimes
+-- the types of what a scan gives
+pub mod Typed
 -- what stays of a scan that faults
 pub mod Faults
 -- what a program shows of its tables
@@ -23,3 +27,4 @@ pub mod Places
 pub mod Bounds
 -- the past of how an instance stands
 pub mod Pasts
+pub mod Windows

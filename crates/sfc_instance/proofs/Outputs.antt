@@ -7,20 +7,20 @@ use Rattle.std.proofs.lemmas.List.FromFn.{length-map-range_with_len, get_or-map-
 use Rattle.std.proofs.lemmas.List.Sums.{sum_by-cons}
 use Rattle.std.proofs.lemmas.Option.{slice_get-get_or}
 use Rattle.std.proofs.Math.Seq.{drop-append_seam}
-use Rattle.sfc_expr.specs.declared.value.Value.TheVariants as value
-use Rattle.sfc_expr.specs.declared.variable.Variable.{Variable}
+use Rattle.sfc_base.specs.declared.value.Value.TheVariants as value
+use Rattle.sfc_base.specs.declared.references.Variable.{Variable}
 use Rattle.sfc_flags.specs.Flags.{flag}
-use Rattle.sfc_tables.specs.declared.action.Action.{Action}
-use Rattle.sfc_tables.specs.declared.action.ActionId.{ActionId}
-use Rattle.sfc_tables.specs.declared.association.Target.{Target}
-use Rattle.sfc_tables.specs.declared.association.Target.TheVariants.{Boolean, Declared}
-use Rattle.sfc_tables.specs.declared.chart.Chart.{Chart}
+use Rattle.sfc_plant.specs.declared.action.Action.{Action}
+use Rattle.sfc_base.specs.declared.ids.ActionId.{ActionId}
+use Rattle.sfc_plant.specs.declared.association.Target.{Target}
+use Rattle.sfc_plant.specs.declared.association.Target.TheVariants.{Boolean, Declared}
+use Rattle.sfc_plant.specs.declared.chart.Chart.{Chart}
 use Rattle.sfc_tables.specs.Actions.{boolean_actions, declared_actions}
 use Rattle.sfc_tables.specs.Tables.{Tabled, tables_of}
 use Rattle.sfc_action.specs.ActionControl as control
-use Rattle.sfc_chart.specs.declared.ids.ProgId.{ProgId}
-use Rattle.sfc_chart.specs.Plants.{PlantData}
-use Rattle.sfc_chart.specs.Finding.{chart_of}
+use Rattle.sfc_base.specs.declared.ids.ProgId.{ProgId}
+use Rattle.sfc_plant.specs.Plants.{PlantData}
+use Rattle.sfc_plant.specs.Finding.{chart_of}
 use Rattle.sfc_image.specs.Changes.{Change}
 use Rattle.sfc_image.specs.Bodies.{assignment}
 use Rattle.sfc_image.specs.Outputs.{outputs}

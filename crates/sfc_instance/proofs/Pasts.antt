@@ -5,17 +5,18 @@ use Rattle.std.proofs.Common.{refl, ◌∙◌, ap, subst, ℤ, Option, Some, Non
 use Rattle.std.specs.Prelude.{map, slice_get, min}
 use Rattle.std.specs.List.{range_with_len}
 use Rattle.std.specs.Result.{result_err}
-use Rattle.sfc_expr.specs.declared.value.Value.TheVariants as value
+use Rattle.sfc_base.specs.declared.value.Value.TheVariants as value
 use Rattle.sfc_expr.specs.declared.fault.Fault.{Fault}
 use Rattle.sfc_expr.specs.Environment.{Environment}
-use Rattle.sfc_expr.specs.Effect.{Outcome, effect}
-use Rattle.sfc_tables.specs.declared.association.Target.{Target}
-use Rattle.sfc_tables.specs.declared.association.Target.TheVariants.{Boolean, Declared}
-use Rattle.sfc_tables.specs.declared.chart.Chart.{Chart}
-use Rattle.sfc_tables.specs.declared.ids.TransitionId.{TransitionId}
+use Rattle.sfc_expr.specs.Effect.{BodyEffect, effect}
+use Rattle.sfc_plant.specs.declared.association.Target.{Target}
+use Rattle.sfc_plant.specs.declared.association.Target.TheVariants.{Boolean, Declared}
+use Rattle.sfc_plant.specs.declared.chart.Chart.{Chart}
+use Rattle.sfc_base.specs.declared.ids.TransitionId.{TransitionId}
 use Rattle.sfc_tables.specs.Tables.{Tabled, AreTables, tables_of}
 use Rattle.sfc_tables.proofs.Sound.{tables_sound, tables_of_made}
-use Rattle.sfc_evolve.specs.Evolution.{is_active, active_steps, preceding_of, transition_count, step_count}
+use Rattle.sfc_evolve.specs.Clearing.{preceding_of, transition_count, step_count}
+use Rattle.sfc_evolve.specs.Evolution.{is_active, active_steps}
 use Rattle.sfc_evolve.specs.Lookback.{or_else}
 use Rattle.sfc_evolve.specs.Past.{steps_past}
 use Rattle.sfc_evolve.proofs.Next.{all_same}
@@ -25,11 +26,11 @@ use Rattle.sfc_action.specs.ActionControl as control
 use Rattle.sfc_action.specs.declared.fault.ControlFault.{ControlFault}
 use Rattle.sfc_action.specs.Past.{controls_past}
 use Rattle.sfc_action.proofs.Pasts as action
-use Rattle.sfc_chart.specs.declared.ids.ProgId.{ProgId}
-use Rattle.sfc_chart.specs.Plants.{PlantData}
-use Rattle.sfc_chart.specs.Finding.{chart_of}
-use Rattle.sfc_chart.specs.Sound.{IsPlant}
-use Rattle.sfc_chart.proofs.Charts.{chart_sound}
+use Rattle.sfc_base.specs.declared.ids.ProgId.{ProgId}
+use Rattle.sfc_plant.specs.Plants.{PlantData}
+use Rattle.sfc_plant.specs.Finding.{chart_of}
+use Rattle.sfc_plant.specs.Sound.{IsPlant}
+use Rattle.sfc_plant.proofs.Charts.{chart_sound}
 use Rattle.sfc_image.specs.Changes.{Change}
 use Rattle.sfc_image.specs.Environments.{environment_of}
 use Rattle.sfc_image.specs.Bodies.{assignment, left_by}
@@ -38,13 +39,13 @@ use Rattle.sfc_image.proofs.Pasts as image
 use Rattle.sfc_instance.specs.declared.scan_fault.ScanFault.{ScanFault}
 use Rattle.sfc_instance.specs.declared.scan_fault.ScanFault.TheVariants as fault
 use Rattle.sfc_instance.specs.declared.program.Program.{Program}
-use Rattle.sfc_instance.specs.Life.{Row, Life, Standing, evolution_scan, evolution_scans, evolution_rows, control_scans}
+use Rattle.sfc_instance.specs.Life.{Row, Life, InstanceState, evolution_scan, evolution_scans, evolution_rows, control_scans}
 use Rattle.sfc_instance.specs.ProgramScan.{moment, environment, enabled, condition_result, is_true, condition_flags, condition_fault}
 use Rattle.sfc_instance.specs.ProgramScan.{association_times, row_of, body_in, and_then, after_body, acted, after_actions, unless}
 use Rattle.sfc_instance.specs.ProgramScan.{of_condition, of_control, of_body, with_row, next_row, attempt, After, after_attempt}
 use Rattle.sfc_instance.specs.ProgramScan.{unless_faulted, after_scan}
 use Rattle.sfc_instance.specs.Agreement.{StateAgrees, ProgramAgrees}
-use Rattle.sfc_instance.specs.Past.{standing_past, past_in}
+use Rattle.sfc_instance.specs.Past.{instance_past, past_in}
 
 -- the chart of each instance has tables
 pub has_tables : (plant : PlantData) → IsPlant plant → (k : ℕ) → k < length plant.instances
@@ -56,22 +57,22 @@ has_tables plant sound k lt =
 
 -- ---- what is kept is the past
 
-pub keeps_past : (tables : Tabled) (program : Program) (standing : Standing) → ProgramAgrees tables program standing
-    → past_in tables program ≡ standing_past tables standing
+pub keeps_past : (tables : Tabled) (program : Program) (instance_state : InstanceState) → ProgramAgrees tables program instance_state
+    → past_in tables program ≡ instance_past tables instance_state
 unfolding ProgramAgrees StateAgrees past_in
-keeps_past tables program standing k =
-    let steps = evolve.keeps_past tables program.scanner.now.steps (evolution_scans standing.life) k.now.steps in
-    let controls = action.keeps_past tables program.scanner.now.controls (control_scans tables standing.life) k.now.controls in
+keeps_past tables program instance_state k =
+    let steps = evolve.keeps_past tables program.run.now.steps (evolution_scans instance_state.life) k.now.steps in
+    let controls = action.keeps_past tables program.run.now.controls (control_scans tables instance_state.life) k.now.controls in
     (λ i. record { steps = steps i; controls = controls i; scans = k.scans i; at = k.at i; fault = k.fault i })
 
-pub same_past : (tables : Tabled) (program : Program) (standing other : Standing) → ProgramAgrees tables program standing
-    → standing_past tables standing ≡ standing_past tables other → ProgramAgrees tables program other
+pub same_past : (tables : Tabled) (program : Program) (instance_state other : InstanceState) → ProgramAgrees tables program instance_state
+    → instance_past tables instance_state ≡ instance_past tables other → ProgramAgrees tables program other
 unfolding ProgramAgrees StateAgrees
-same_past tables program standing other k e = record {
+same_past tables program instance_state other k e = record {
   now = record {
-    steps = evolve.same_past tables program.scanner.now.steps (evolution_scans standing.life) (evolution_scans other.life) k.now.steps
+    steps = evolve.same_past tables program.run.now.steps (evolution_scans instance_state.life) (evolution_scans other.life) k.now.steps
         (ap (λ p. p.steps) e);
-    controls = action.same_past tables program.scanner.now.controls (control_scans tables standing.life)
+    controls = action.same_past tables program.run.now.controls (control_scans tables instance_state.life)
         (control_scans tables other.life) k.now.controls (ap (λ p. p.controls) e);
   };
   fresh = k.fresh;
@@ -108,13 +109,13 @@ body_same plant (Err x) (Ok d) same = absurd same
 body_same plant (Err x) (Err y) same = ap (λ f. fault.Expression f) same
 
 -- what a body leaves over changes
-body_done : (plant : PlantData) (p : ProgId) (c d : List Change) (outcome : Outcome) → image_past plant c ≡ image_past plant d
-    → SameDone plant (after_body plant p c outcome) (after_body plant p d outcome)
-body_done plant p c d outcome same = by outcome.result where
+body_done : (plant : PlantData) (p : ProgId) (c d : List Change) (body_effect : BodyEffect) → image_past plant c ≡ image_past plant d
+    → SameDone plant (after_body plant p c body_effect) (after_body plant p d body_effect)
+body_done plant p c d body_effect same = by body_effect.result where
   by : (r : Result (Unit {0}) Fault)
-      → SameDone plant (and_then r (λ (u : Unit {0}). Ok (left_by plant p outcome.environment ++ c)))
-      (and_then r (λ (u : Unit {0}). Ok (left_by plant p outcome.environment ++ d)))
-  by (Ok u) = image.past_cut plant c d (left_by plant p outcome.environment) same
+      → SameDone plant (and_then r (λ (u : Unit {0}). Ok (left_by plant p body_effect.environment ++ c)))
+      (and_then r (λ (u : Unit {0}). Ok (left_by plant p body_effect.environment ++ d)))
+  by (Ok u) = image.past_cut plant c d (left_by plant p body_effect.environment) same
   by (Err f) = refl
 
 -- ---- lives with the same pasts
@@ -147,10 +148,10 @@ module _ (tables : Tabled) (sound : AreTables tables) (life other : Life) (same 
       let rest = faults_same chart env ranked in
       (λ i. or_else (cond (enabled_same tr.0 i) (result_err (condition_result chart env tr.0)) None) (rest i))
 
-  -- what action control is told of the next scan
-  told_same : (row : Row)
+  -- the input of action control at the next scan
+  active_same : (row : Row)
       → active_steps tables (evolution_rows tables (row ∷ life)) ≡ active_steps tables (evolution_rows tables (row ∷ other))
-  told_same row =
+  active_same row =
       ap (λ p. p.active)
       (evolve.past_next tables sound (evolution_scan row) (evolution_scans life) (evolution_scans other) same.steps)
 
@@ -159,7 +160,7 @@ module _ (tables : Tabled) (sound : AreTables tables) (life other : Life) (same 
   control_fault_same row =
       let scan : control.Scan = record { active = active_steps tables (evolution_rows tables (row ∷ other)); times = row.times; at = row.at } in
       (λ i. control.first_fault tables
-      (record { active = told_same row i; times = row.times; at = row.at } ∷ control_scans tables life))
+      (record { active = active_same row i; times = row.times; at = row.at } ∷ control_scans tables life))
       ∙ action.fault_cut tables scan (control_scans tables life) (control_scans tables other) sound same.controls
 
   lives_next : (row : Row) → SameLives tables (row ∷ life) (row ∷ other)
@@ -168,7 +169,7 @@ module _ (tables : Tabled) (sound : AreTables tables) (life other : Life) (same 
       record {
         steps = evolve.past_next tables sound (evolution_scan row) (evolution_scans life) (evolution_scans other) same.steps;
         controls = (λ i. controls_past tables
-            (record { active = told_same row i; times = row.times; at = row.at } ∷ control_scans tables life))
+            (record { active = active_same row i; times = row.times; at = row.at } ∷ control_scans tables life))
             ∙ action.past_next tables scan (control_scans tables life) (control_scans tables other) same.controls;
       }
 
@@ -205,9 +206,9 @@ module _ (plant : PlantData) (p : ProgId) (sound : AreTables (tables_of (chart_o
       (effect body (environment plant p life c t (control.q tables a (control_scans tables life))))
       (effect body (environment plant p other d t b)) (ap (effect body) env)
     where
-      run : (x y : Bool) → x ≡ y → (o u : Outcome) → o ≡ u
+      run : (x y : Bool) → x ≡ y → (o u : BodyEffect) → o ≡ u
           → SameDone plant (cond x (after_body plant p c o) (Ok c)) (cond y (after_body plant p d u) (Ok d))
-      run true true same o u f = subst (λ (w : Outcome). SameDone plant (after_body plant p c o) (after_body plant p d w)) f
+      run true true same o u f = subst (λ (w : BodyEffect). SameDone plant (after_body plant p c o) (after_body plant p d w)) f
           (body_done plant p c d o e)
       run true false same o u f = absurd (cc)
       run false true same o u f = absurd (cc)
@@ -267,37 +268,37 @@ module _ (plant : PlantData) (p : ProgId) (sound : AreTables (tables_of (chart_o
       (with_row_same life other c d t (next_row plant p life c t) same e)))
 
   pub record SameAfter (one two : After) : Type 0 where
-    pub standing : standing_past tables one.standing ≡ standing_past tables two.standing
+    pub instance_state : instance_past tables one.instance_state ≡ instance_past tables two.instance_state
     pub changes : image_past plant one.changes ≡ image_past plant two.changes
-    pub ended : one.ended ≡ two.ended
+    pub scan_end : one.scan_end ≡ two.scan_end
 
   counted : (life other : Life) → min (length life) (2 ^ 64 - 1) ≡ min (length other) (2 ^ 64 - 1)
       → min (suc (length life)) (2 ^ 64 - 1) ≡ min (suc (length other)) (2 ^ 64 - 1)
   counted life other e = omega arith
 
-  after_same : (standing other : Standing) (c d : List Change) (row row' : Row) (r s : Result (List Change) ScanFault)
-      → standing_past tables standing ≡ standing_past tables other → image_past plant c ≡ image_past plant d → row ≡ row'
-      → SameDone plant r s → SameAfter (after_attempt standing.life c row r) (after_attempt other.life d row' s)
-  after_same standing other c d row row' (Ok x) (Ok y) same e er done =
-      let lives : SameLives tables standing.life other.life =
+  after_same : (instance_state other : InstanceState) (c d : List Change) (row row' : Row) (r s : Result (List Change) ScanFault)
+      → instance_past tables instance_state ≡ instance_past tables other → image_past plant c ≡ image_past plant d → row ≡ row'
+      → SameDone plant r s → SameAfter (after_attempt instance_state.life c row r) (after_attempt other.life d row' s)
+  after_same instance_state other c d row row' (Ok x) (Ok y) same e er done =
+      let lives : SameLives tables instance_state.life other.life =
       record { steps = ap (λ p. p.steps) same; controls = ap (λ p. p.controls) same } in
-      let next = lives_next tables sound standing.life other.life lives row in
-      let scans = counted standing.life other.life (ap (λ p. p.scans) same) in
+      let next = lives_next tables sound instance_state.life other.life lives row in
+      let scans = counted instance_state.life other.life (ap (λ p. p.scans) same) in
       record {
-        standing = (λ i. record {
+        instance_state = (λ i. record {
           steps = next.steps i;
           controls = next.controls i;
           scans = scans i;
           at = row.at;
           fault = None;
-        }) ∙ (λ i. standing_past tables (record { life = er i ∷ other.life; fault = None }));
+        }) ∙ (λ i. instance_past tables (record { life = er i ∷ other.life; fault = None }));
         changes = done;
-        ended = refl;
+        scan_end = refl;
       }
-  after_same standing other c d row row' (Ok x) (Err g) same e er done = absurd done
-  after_same standing other c d row row' (Err f) (Ok y) same e er done = absurd done
-  after_same standing other c d row row' (Err f) (Err g) same e er done = record {
-    standing = (λ i. record {
+  after_same instance_state other c d row row' (Ok x) (Err g) same e er done = absurd done
+  after_same instance_state other c d row row' (Err f) (Ok y) same e er done = absurd done
+  after_same instance_state other c d row row' (Err f) (Err g) same e er done = record {
+    instance_state = (λ i. record {
       steps = (same i).steps;
       controls = (same i).controls;
       scans = (same i).scans;
@@ -305,20 +306,20 @@ module _ (plant : PlantData) (p : ProgId) (sound : AreTables (tables_of (chart_o
       fault = Some (done i);
     });
     changes = e;
-    ended = refl;
+    scan_end = refl;
   }
 
-  faulted_same : (standing other : Standing) (c d : List Change) (t : ℤ) (o u : Option ScanFault)
-      → standing_past tables standing ≡ standing_past tables other → image_past plant c ≡ image_past plant d → o ≡ u
-      → SameAfter (unless_faulted plant p standing.life c t o) (unless_faulted plant p other.life d t u)
-  faulted_same standing other c d t None None same e eo =
-      let lives : SameLives tables standing.life other.life =
+  faulted_same : (instance_state other : InstanceState) (c d : List Change) (t : ℤ) (o u : Option ScanFault)
+      → instance_past tables instance_state ≡ instance_past tables other → image_past plant c ≡ image_past plant d → o ≡ u
+      → SameAfter (unless_faulted plant p instance_state.life c t o) (unless_faulted plant p other.life d t u)
+  faulted_same instance_state other c d t None None same e eo =
+      let lives : SameLives tables instance_state.life other.life =
       record { steps = ap (λ p. p.steps) same; controls = ap (λ p. p.controls) same } in
-      after_same standing other c d (next_row plant p standing.life c t) (next_row plant p other.life d t)
-      (attempt plant p standing.life c t) (attempt plant p other.life d t) same e
-      (row_same standing.life other.life c d t lives e) (attempt_same standing.life other.life c d t lives e)
-  faulted_same standing other c d t (Some f) (Some g) same e eo = record {
-    standing = (λ i. record {
+      after_same instance_state other c d (next_row plant p instance_state.life c t) (next_row plant p other.life d t)
+      (attempt plant p instance_state.life c t) (attempt plant p other.life d t) same e
+      (row_same instance_state.life other.life c d t lives e) (attempt_same instance_state.life other.life c d t lives e)
+  faulted_same instance_state other c d t (Some f) (Some g) same e eo = record {
+    instance_state = (λ i. record {
       steps = (same i).steps;
       controls = (same i).controls;
       scans = (same i).scans;
@@ -326,17 +327,17 @@ module _ (plant : PlantData) (p : ProgId) (sound : AreTables (tables_of (chart_o
       fault = eo i;
     });
     changes = e;
-    ended = refl;
+    scan_end = refl;
   }
-  faulted_same standing other c d t None (Some g) same e eo = absurd (cc)
-  faulted_same standing other c d t (Some f) None same e eo = absurd (cc)
+  faulted_same instance_state other c d t None (Some g) same e eo = absurd (cc)
+  faulted_same instance_state other c d t (Some f) None same e eo = absurd (cc)
 
-  pub scan_same : (standing other : Standing) (c d : List Change) (t : ℤ)
-      → standing_past tables standing ≡ standing_past tables other → image_past plant c ≡ image_past plant d
-      → SameAfter (after_scan plant p standing c t) (after_scan plant p other d t)
-  scan_same standing other c d t same e = faulted_same standing other c d t standing.fault other.fault same e (ap (λ p. p.fault) same)
+  pub scan_same : (instance_state other : InstanceState) (c d : List Change) (t : ℤ)
+      → instance_past tables instance_state ≡ instance_past tables other → image_past plant c ≡ image_past plant d
+      → SameAfter (after_scan plant p instance_state c t) (after_scan plant p other d t)
+  scan_same instance_state other c d t same e = faulted_same instance_state other c d t instance_state.fault other.fault same e (ap (λ p. p.fault) same)
 
 -- it agrees in one way at most
-pub agrees_prop : (tables : Tabled) (program : Program) (standing : Standing) → IsProp (ProgramAgrees tables program standing)
+pub agrees_prop : (tables : Tabled) (program : Program) (instance_state : InstanceState) → IsProp (ProgramAgrees tables program instance_state)
 unfolding ProgramAgrees StateAgrees
-agrees_prop tables program standing = hlevel (props, evolve.agrees_prop, action.agrees_prop)
+agrees_prop tables program instance_state = hlevel (props, evolve.agrees_prop, action.agrees_prop)

@@ -2,23 +2,23 @@
 use Rattle.std.proofs.Common.{◌≡◌, ◌∷◌, true, false, List, ℤ, Option, Some, None, is_some, Result, Ok, Err, is_ok, refl, sym, ap, subst, ◌∙◌}
 use Rattle.sfc_expr.specs.declared.fault.Fault.{Fault}
 use Rattle.sfc_expr.specs.Environment.{Environment}
-use Rattle.sfc_tables.specs.declared.chart.Chart.{Chart}
+use Rattle.sfc_plant.specs.declared.chart.Chart.{Chart}
 use Rattle.sfc_tables.specs.Tables.{Tabled, tables_of}
 use Rattle.sfc_action.specs.ActionControl as control
 use Rattle.sfc_action.specs.declared.fault.ControlFault.{ControlFault}
-use Rattle.sfc_chart.specs.declared.ids.ProgId.{ProgId}
-use Rattle.sfc_chart.specs.Plants.{PlantData}
+use Rattle.sfc_base.specs.declared.ids.ProgId.{ProgId}
+use Rattle.sfc_plant.specs.Plants.{PlantData}
 use Rattle.sfc_image.specs.declared.image.Image.{Image}
 use Rattle.sfc_image.specs.Changes.{Change, settled}
 use Rattle.sfc_image.specs.Agreement.{ImageAgrees}
 use Rattle.sfc_instance.specs.declared.scan_fault.ScanFault.{ScanFault}
 use Rattle.sfc_instance.specs.declared.scan_fault.ScanFault.TheVariants as fault
-use Rattle.sfc_instance.specs.declared.ended.Ended.TheVariants.{Ran, Faulted}
-use Rattle.sfc_instance.specs.declared.setting.Setting.{Setting}
+use Rattle.sfc_instance.specs.declared.scan_end.ScanEnd.TheVariants.{Ran, Faulted}
+use Rattle.sfc_instance.specs.declared.program_context.ProgramContext.{ProgramContext}
 use Rattle.sfc_instance.specs.declared.state.State.{State}
-use Rattle.sfc_instance.specs.Life.{Life, Row, Standing, control_scans}
-use Rattle.sfc_chart.specs.Finding.{chart_of}
-use Rattle.sfc_instance.specs.Setting.{IsSettingOf}
+use Rattle.sfc_instance.specs.Life.{Life, Row, InstanceState, control_scans}
+use Rattle.sfc_plant.specs.Finding.{chart_of}
+use Rattle.sfc_instance.specs.Contexts.{IsContextOf}
 use Rattle.sfc_instance.specs.ProgramScan.{after_actions, after_attempt, after_scan, attempt, condition_fault, environment, next_row}
 use Rattle.sfc_instance.specs.ProgramScan.{of_body, of_condition, of_control, unless, unless_faulted, with_row}
 use Rattle.sfc_instance.specs.Agreement.{StateAgrees}
@@ -40,86 +40,86 @@ unfolding Moves
 moved_err tables life (Ok u) old new off h = absurd cc
 moved_err tables life (Err f) old new off h = h
 
-module _ (plant : PlantData) (setting : Setting) (is : IsSettingOf plant setting) (life : Life) (changes : List Change) (t : ℤ) where
+module _ (plant : PlantData) (context : ProgramContext) (is : IsContextOf plant context) (life : Life) (changes : List Change) (t : ℤ) where
   abbrev p : ProgId
-  p = setting.instance
+  p = context.instance
 
   abbrev wanted : Row → Result (List Change) Fault
-  wanted row = after_actions plant p (row ∷ life) t 0 setting.tables.now.actions changes
+  wanted row = after_actions plant p (row ∷ life) t 0 context.tables.now.actions changes
 
-  row_of_control : (row : Row) (o : Option ControlFault) → o ≡ control.first_fault setting.tables.now (control_scans setting.tables.now (row ∷ life))
+  row_of_control : (row : Row) (o : Option ControlFault) → o ≡ control.first_fault context.tables.now (control_scans context.tables.now (row ∷ life))
       → with_row plant p life changes t row ≡ unless (of_control o) (of_body (wanted row))
   row_of_control row o e =
       sym (ap (λ (x : Option ControlFault). unless (of_control x) (of_body (wanted row))) e
       ∙ ap (λ (x : Tabled). unless (of_control (control.first_fault x (control_scans x (row ∷ life))))
-      (of_body (after_actions plant p (row ∷ life) t 0 x.actions changes))) (tables_is plant setting is))
+      (of_body (after_actions plant p (row ∷ life) t 0 x.actions changes))) (tables_is plant context is))
 
   -- action control has a fault
   pub control_ends : (row : Row) (f : ControlFault) (state : State) (image : Image)
-      → Some f ≡ control.first_fault setting.tables.now (control_scans setting.tables.now (row ∷ life))
-      → StateAgrees setting.tables.now state life → ImageAgrees plant image (settled changes)
-      → HasScanned plant setting.tables.now life changes row state image (Err (fault.Control f)) (with_row plant p life changes t row)
+      → Some f ≡ control.first_fault context.tables.now (control_scans context.tables.now (row ∷ life))
+      → StateAgrees context.tables.now state life → ImageAgrees plant image (settled changes)
+      → HasScanned plant context.tables.now life changes row state image (Err (fault.Control f)) (with_row plant p life changes t row)
   unfolding HasScanned
   control_ends row f state image e s h = (row_of_control row (Some f) e, s, h)
 
   -- a body has a fault
   pub body_ends : (row : Row) (f : Fault) (answer : Result (Unit {0}) Fault) (old new : State) (image : Image)
-      → None ≡ control.first_fault setting.tables.now (control_scans setting.tables.now (row ∷ life))
-      → answer ≡ Err f → Moves setting.tables.now (row ∷ life) answer old new
-      → HasActed plant changes image answer (wanted row) → StateAgrees setting.tables.now old life
-      → HasScanned plant setting.tables.now life changes row new image (Err (fault.Expression f)) (with_row plant p life changes t row)
+      → None ≡ control.first_fault context.tables.now (control_scans context.tables.now (row ∷ life))
+      → answer ≡ Err f → Moves context.tables.now (row ∷ life) answer old new
+      → HasActed plant changes image answer (wanted row) → StateAgrees context.tables.now old life
+      → HasScanned plant context.tables.now life changes row new image (Err (fault.Expression f)) (with_row plant p life changes t row)
   unfolding HasScanned HasActed Moves
   body_ends row f answer old new image e is_err moves acted s =
-      let stays : new ≡ old = subst (λ (a : Result (Unit {0}) Fault). Moves setting.tables.now (row ∷ life) a old new) is_err moves in
+      let stays : new ≡ old = subst (λ (a : Result (Unit {0}) Fault). Moves context.tables.now (row ∷ life) a old new) is_err moves in
       let left = subst (λ (a : Result (Unit {0}) Fault). HasActed plant changes image a (wanted row)) is_err acted in (
         row_of_control row None e ∙ ap (λ (r : Result (List Change) Fault). of_body r) left.0,
-        subst (λ (x : State). StateAgrees setting.tables.now x life) (sym stays) s,
+        subst (λ (x : State). StateAgrees context.tables.now x life) (sym stays) s,
         left.1,
       )
 
   -- no fault ended it
   pub ends_well : (row : Row) (u : Unit {0}) (answer : Result (Unit {0}) Fault) (old new : State) (image : Image)
-      → None ≡ control.first_fault setting.tables.now (control_scans setting.tables.now (row ∷ life))
-      → answer ≡ Ok u → Moves setting.tables.now (row ∷ life) answer old new
+      → None ≡ control.first_fault context.tables.now (control_scans context.tables.now (row ∷ life))
+      → answer ≡ Ok u → Moves context.tables.now (row ∷ life) answer old new
       → HasActed plant changes image answer (wanted row)
-      → HasScanned plant setting.tables.now life changes row new image (Ok tt) (with_row plant p life changes t row)
+      → HasScanned plant context.tables.now life changes row new image (Ok tt) (with_row plant p life changes t row)
   unfolding HasScanned HasActed Moves
   ends_well row u answer old new image e is_ok moves acted =
-      let moved : StateAgrees setting.tables.now new (row ∷ life) =
-      subst (λ (a : Result (Unit {0}) Fault). Moves setting.tables.now (row ∷ life) a old new) is_ok moves in
+      let moved : StateAgrees context.tables.now new (row ∷ life) =
+      subst (λ (a : Result (Unit {0}) Fault). Moves context.tables.now (row ∷ life) a old new) is_ok moves in
       let left = subst (λ (a : Result (Unit {0}) Fault). HasActed plant changes image a (wanted row)) is_ok acted in
       (left.0, row_of_control row None e ∙ ap (λ (r : Result (List Change) Fault). of_body r) left.1, moved, left.2)
 
   -- ---- the conditions
 
   attempt_of_condition : (o : Option Fault)
-      → o ≡ condition_fault setting.tables.now setting.chart.now (environment plant p life changes t false) life setting.tables.now.ranked
+      → o ≡ condition_fault context.tables.now context.chart.now (environment plant p life changes t false) life context.tables.now.ranked
       → attempt plant p life changes t ≡ unless (of_condition o) (with_row plant p life changes t (next_row plant p life changes t))
   attempt_of_condition o e =
       let rest = with_row plant p life changes t (next_row plant p life changes t) in
       let env : Environment = environment plant p life changes t false in
       sym (ap (λ (x : Option Fault). unless (of_condition x) rest) e
-      ∙ ap (λ (x : Tabled). unless (of_condition (condition_fault x setting.chart.now env life x.ranked)) rest) (tables_is plant setting is)
+      ∙ ap (λ (x : Tabled). unless (of_condition (condition_fault x context.chart.now env life x.ranked)) rest) (tables_is plant context is)
       ∙ ap (λ (x : Chart). unless (of_condition (condition_fault (tables_of (chart_of plant p)) x env life (tables_of (chart_of plant p)).ranked)) rest) is.chart)
 
   -- a condition has a fault
   pub condition_ends : (row : Row) (f : Fault) (state : State) (image : Image)
-      → Some f ≡ condition_fault setting.tables.now setting.chart.now (environment plant p life changes t false) life setting.tables.now.ranked
-      → StateAgrees setting.tables.now state life → ImageAgrees plant image (settled changes)
-      → HasScanned plant setting.tables.now life changes row state image (Err (fault.Expression f)) (attempt plant p life changes t)
+      → Some f ≡ condition_fault context.tables.now context.chart.now (environment plant p life changes t false) life context.tables.now.ranked
+      → StateAgrees context.tables.now state life → ImageAgrees plant image (settled changes)
+      → HasScanned plant context.tables.now life changes row state image (Err (fault.Expression f)) (attempt plant p life changes t)
   unfolding HasScanned
   condition_ends row f state image e s h = (attempt_of_condition (Some f) e, s, h)
 
   -- the conditions have none
   pub goes_on : (row : Row) (answer : Result (Unit {0}) ScanFault) (state : State) (image : Image)
-      → None ≡ condition_fault setting.tables.now setting.chart.now (environment plant p life changes t false) life setting.tables.now.ranked
+      → None ≡ condition_fault context.tables.now context.chart.now (environment plant p life changes t false) life context.tables.now.ranked
       → row ≡ next_row plant p life changes t
-      → HasScanned plant setting.tables.now life changes row state image answer (with_row plant p life changes t row)
-      → HasScanned plant setting.tables.now life changes (next_row plant p life changes t) state image answer (attempt plant p life changes t)
+      → HasScanned plant context.tables.now life changes row state image answer (with_row plant p life changes t row)
+      → HasScanned plant context.tables.now life changes (next_row plant p life changes t) state image answer (attempt plant p life changes t)
   goes_on row answer state image e same h =
-      subst (λ (w : Result (List Change) ScanFault). HasScanned plant setting.tables.now life changes (next_row plant p life changes t) state image answer w)
+      subst (λ (w : Result (List Change) ScanFault). HasScanned plant context.tables.now life changes (next_row plant p life changes t) state image answer w)
       (sym (attempt_of_condition None e))
-      (subst (λ (r : Row). HasScanned plant setting.tables.now life changes r state image answer (with_row plant p life changes t r)) same h)
+      (subst (λ (r : Row). HasScanned plant context.tables.now life changes r state image answer (with_row plant p life changes t r)) same h)
 
 -- ---- the answers of a scan
 
@@ -140,19 +140,19 @@ no_fault None e = refl
 no_fault (Some f) e = cc
 
 -- how the instance stands after a scan, where no fault stood before it
-module _ (plant : PlantData) (p : ProgId) (standing : Standing) (changes : List Change) (t : ℤ) (on : standing.fault ≡ None) where
+module _ (plant : PlantData) (p : ProgId) (instance_state : InstanceState) (changes : List Change) (t : ℤ) (on : instance_state.fault ≡ None) where
   abbrev row : Row
-  row = next_row plant p standing.life changes t
+  row = next_row plant p instance_state.life changes t
 
-  unfaulted : after_scan plant p standing changes t ≡ after_attempt standing.life changes row (attempt plant p standing.life changes t)
-  unfaulted = ap (λ (o : Option ScanFault). unless_faulted plant p standing.life changes t o) on
+  unfaulted : after_scan plant p instance_state changes t ≡ after_attempt instance_state.life changes row (attempt plant p instance_state.life changes t)
+  unfaulted = ap (λ (o : Option ScanFault). unless_faulted plant p instance_state.life changes t o) on
 
-  pub after_run : (done : List Change) → attempt plant p standing.life changes t ≡ Ok done
-      → after_scan plant p standing changes t
-      ≡ record { standing = record { life = row ∷ standing.life; fault = None }; changes = done; ended = Ran }
-  after_run done e = unfaulted ∙ ap (λ (r : Result (List Change) ScanFault). after_attempt standing.life changes row r) e
+  pub after_run : (done : List Change) → attempt plant p instance_state.life changes t ≡ Ok done
+      → after_scan plant p instance_state changes t
+      ≡ record { instance_state = record { life = row ∷ instance_state.life; fault = None }; changes = done; scan_end = Ran }
+  after_run done e = unfaulted ∙ ap (λ (r : Result (List Change) ScanFault). after_attempt instance_state.life changes row r) e
 
-  pub after_fault : (f : ScanFault) → attempt plant p standing.life changes t ≡ Err f
-      → after_scan plant p standing changes t
-      ≡ record { standing = record { life = standing.life; fault = Some f }; changes = changes; ended = Faulted }
-  after_fault f e = unfaulted ∙ ap (λ (r : Result (List Change) ScanFault). after_attempt standing.life changes row r) e
+  pub after_fault : (f : ScanFault) → attempt plant p instance_state.life changes t ≡ Err f
+      → after_scan plant p instance_state changes t
+      ≡ record { instance_state = record { life = instance_state.life; fault = Some f }; changes = changes; scan_end = Faulted }
+  after_fault f e = unfaulted ∙ ap (λ (r : Result (List Change) ScanFault). after_attempt instance_state.life changes row r) e

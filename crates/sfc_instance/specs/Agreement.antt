@@ -1,17 +1,17 @@
 -- What a `Program` agrees with.
-use Rattle.std.specs.Prelude.{ℕ, ◌≡◌, [], length}
+use Rattle.std.specs.Prelude.{ℕ, ℤ, ◌≡◌, [], length}
 use Rattle.sfc_tables.specs.Tables.{Tabled}
 use Rattle.sfc_evolve.specs.Agreement as evolve
 use Rattle.sfc_action.specs.Agreement as action
 use Rattle.sfc_instance.specs.declared.state.State.{State}
-use Rattle.sfc_instance.specs.declared.room.Room.{Room}
-use Rattle.sfc_instance.specs.declared.scanner.Scanner.{Scanner}
+use Rattle.sfc_instance.specs.declared.scan_buffers.ScanBuffers.{ScanBuffers}
+use Rattle.sfc_instance.specs.declared.scan_run.ScanRun.{ScanRun}
 use Rattle.sfc_instance.specs.declared.program.Program.{Program}
-use Rattle.sfc_instance.specs.Life.{Life, Standing, evolution_scans, control_scans, latest_instant}
+use Rattle.sfc_instance.specs.Life.{Life, InstanceState, evolution_scans, control_scans, latest_instant}
 use Rattle.sfc_instance.specs.Answers.{scan_count}
 use Rattle.sfc_instance.specs.Private.Timing.{AreTimes}
 
--- it has room for what these tables show
+-- it is large enough for what these tables show
 pub record IsStateFor (tables : Tabled) (state : State) : Type 0 where
   pub steps : evolve.IsFor tables state.steps
   pub controls : action.IsFor tables state.controls
@@ -25,40 +25,44 @@ unfoldable pub StateAgrees : Tabled → State → Life → Type 0
 StateAgrees tables state life = StateKeeps tables state life
 
 -- how many steps, transitions and actions it shows
-abbrev pub step_places : Program → ℕ
-step_places program = evolve.step_places program.scanner.now.steps
+abbrev pub step_total : Program → ℕ
+step_total program = evolve.step_total program.run.now.steps
 
-abbrev pub transition_places : Program → ℕ
-transition_places program = evolve.transition_places program.scanner.now.steps
+abbrev pub transition_total : Program → ℕ
+transition_total program = evolve.transition_total program.run.now.steps
 
-abbrev pub action_places : Program → ℕ
-action_places program = action.action_places program.scanner.now.controls
+abbrev pub action_total : Program → ℕ
+action_total program = action.action_total program.run.now.controls
 
--- it has room for what these tables show, and the times that no scan has to read
-pub record IsRoomFor (tables : Tabled) (room : Room) : Type 0 where
-  pub conditions : length room.conditions.items ≡ length tables.sides
-  pub times : AreTimes tables.associations room.times.items room.varied.items
+-- the time of a step at the latest scan, as it is answered
+unfoldable pub shown_elapsed : Program → ℕ → ℤ
+shown_elapsed program s = evolve.shown_time program.run.now.steps program.at s
 
-pub record IsScannerFor (tables : Tabled) (scanner : Scanner) : Type 0 where
-  pub now : IsStateFor tables scanner.now
-  pub spare : IsStateFor tables scanner.spare
-  pub room : IsRoomFor tables scanner.room
+-- it is large enough for what these tables show, and the times that no scan has to read
+pub record AreBuffersFor (tables : Tabled) (buffers : ScanBuffers) : Type 0 where
+  pub conditions : length buffers.conditions.items ≡ length tables.sides
+  pub times : AreTimes tables.associations buffers.times.items buffers.varied.items
 
-pub record HasRoom (tables : Tabled) (program : Program) : Type 0 where
-  pub scanner : IsScannerFor tables program.scanner
+pub record IsScanRunFor (tables : Tabled) (run : ScanRun) : Type 0 where
+  pub now : IsStateFor tables run.now
+  pub spare : IsStateFor tables run.spare
+  pub buffers : AreBuffersFor tables run.buffers
+
+pub record HasBuffers (tables : Tabled) (program : Program) : Type 0 where
+  pub run : IsScanRunFor tables program.run
   pub fresh : IsStateFor tables program.fresh
 
 unfoldable pub IsFor : Tabled → Program → Type 0
-IsFor tables program = HasRoom tables program
+IsFor tables program = HasBuffers tables program
 
 -- what it keeps is how the instance stands
-pub record Keeps (tables : Tabled) (program : Program) (standing : Standing) : Type 0 where
-  pub now : StateAgrees tables program.scanner.now standing.life
+pub record Keeps (tables : Tabled) (program : Program) (instance_state : InstanceState) : Type 0 where
+  pub now : StateAgrees tables program.run.now instance_state.life
   pub fresh : StateAgrees tables program.fresh []
-  pub scans : program.scans ≡ scan_count standing
-  pub at : program.at ≡ latest_instant standing.life
-  pub fault : program.fault ≡ standing.fault
+  pub scans : program.scans ≡ scan_count instance_state
+  pub at : program.at ≡ latest_instant instance_state.life
+  pub fault : program.fault ≡ instance_state.fault
 
 -- all answers are those of an instance that stands so
-unfoldable pub ProgramAgrees : Tabled → Program → Standing → Type 0
-ProgramAgrees tables program standing = Keeps tables program standing
+unfoldable pub ProgramAgrees : Tabled → Program → InstanceState → Type 0
+ProgramAgrees tables program instance_state = Keeps tables program instance_state

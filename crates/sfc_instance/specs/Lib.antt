@@ -3,15 +3,19 @@
 -- the scans of a life
 pub mod Life
 -- what a program instance stands for in a plant
-pub mod Setting
+pub mod Contexts
 -- one scan of a program
 pub mod ProgramScan
+-- what gives variables values of their types
+pub mod Types
 -- how much a scan handles
 pub mod Work
 -- what a `Program` shows
 pub mod Answers
 -- what a `Program` agrees with; opaque to the crates above
 pub mod Agreement
+-- what a `ProgramView` shows
+pub mod Views
 -- what later answers need of a history
 pub mod Past
 -- What private clauses cite.

@@ -3,7 +3,7 @@ use Rattle.std.specs.Prelude.{Bool, List, [], ◌∷◌, map, ℤ, pos, Option, 
 use Rattle.sfc_tables.specs.Tables.{Tabled}
 use Rattle.sfc_evolve.specs.Evolution as evolution
 use Rattle.sfc_action.specs.ActionControl as control
-use Rattle.sfc_action.specs.Agreement.{told}
+use Rattle.sfc_action.specs.Agreement.{scan_input}
 use Rattle.sfc_instance.specs.declared.scan_fault.ScanFault.{ScanFault}
 
 -- One scan: what the condition of each transition gave, in text order, and FALSE where the transition wasn't enabled; the
@@ -28,23 +28,23 @@ evolution_scans life = map evolution_scan life
 abbrev pub evolution_rows : Tabled → Life → List evolution.Row
 evolution_rows tables life = evolution.rows_of tables (evolution_scans life)
 
--- what its action control was told
+-- the inputs of its action control
 abbrev pub control_scans : Tabled → Life → List control.Scan
 control_scans tables [] = []
 control_scans tables (row ∷ life) =
-    told tables (evolution_scans (row ∷ life)) row.times row.at ∷ control_scans tables life
+    scan_input tables (evolution_scans (row ∷ life)) row.times row.at ∷ control_scans tables life
 
 -- the instant of the latest scan; 0 before the first
 abbrev pub latest_instant : Life → ℤ
 latest_instant [] = pos 0
 latest_instant (row ∷ life) = row.at
 
--- How a program instance stands: its life, and the fault that ended its latest scan, if one did. After a fault it is not
--- scanned until its reset (our choice).
-pub record Standing : Type 0 where
+-- The state of a program instance: its life, and the fault that ended its latest scan, if one did. After a fault it is
+-- not scanned until its reset (our choice).
+pub record InstanceState : Type 0 where
   pub life : Life
   pub fault : Option ScanFault
 
 -- at the opening, and after a reset
-abbrev pub fresh : Standing
+abbrev pub fresh : InstanceState
 fresh = record { life = []; fault = None }

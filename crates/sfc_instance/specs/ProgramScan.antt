@@ -3,40 +3,41 @@ use Rattle.std.specs.Prelude.{ℕ, suc, Bool, false, cond, ◌&&◌, List, [], �
 use Rattle.std.specs.Prelude.{Option, Some, None, slice_get, Result, Ok, Err}
 use Rattle.std.specs.List.{range_with_len}
 use Rattle.std.specs.Result.{result_err}
-use Rattle.sfc_expr.specs.declared.value.Value.{Value}
-use Rattle.sfc_expr.specs.declared.value.Value.TheVariants as value
+use Rattle.sfc_base.specs.declared.value.Value.{Value}
+use Rattle.sfc_base.specs.declared.value.Value.TheVariants as value
 use Rattle.sfc_expr.specs.declared.fault.Fault.{Fault}
-use Rattle.sfc_expr.specs.Values.{truth, number}
+use Rattle.sfc_base.specs.Values.{truth, number}
 use Rattle.sfc_expr.specs.Environment.{Environment, value_at}
 use Rattle.sfc_expr.specs.Trees.{Expression, Literal, Body, Nothing}
 use Rattle.sfc_expr.specs.Meaning.{value_of}
-use Rattle.sfc_expr.specs.Effect.{Outcome, effect}
-use Rattle.sfc_tables.specs.declared.action.Action.{Action}
-use Rattle.sfc_tables.specs.declared.association.Qualifier.{Qualifier}
-use Rattle.sfc_tables.specs.declared.association.Qualifier.TheVariants.{Timed}
-use Rattle.sfc_tables.specs.declared.association.Target.{Target}
-use Rattle.sfc_tables.specs.declared.association.Target.TheVariants.{Boolean, Declared}
-use Rattle.sfc_tables.specs.declared.association.Time.TheVariants as time
-use Rattle.sfc_tables.specs.declared.chart.Chart.{Chart}
-use Rattle.sfc_tables.specs.declared.chart.Transition.{Transition}
-use Rattle.sfc_tables.specs.declared.ids.TransitionId.{TransitionId}
+use Rattle.sfc_expr.specs.Effect.{BodyEffect, effect}
+use Rattle.sfc_plant.specs.declared.action.Action.{Action}
+use Rattle.sfc_plant.specs.declared.association.Qualifier.{Qualifier}
+use Rattle.sfc_plant.specs.declared.association.Qualifier.TheVariants.{Timed}
+use Rattle.sfc_plant.specs.declared.association.Target.{Target}
+use Rattle.sfc_plant.specs.declared.association.Target.TheVariants.{Boolean, Declared}
+use Rattle.sfc_plant.specs.declared.association.Time.TheVariants as time
+use Rattle.sfc_plant.specs.declared.chart.Chart.{Chart}
+use Rattle.sfc_plant.specs.declared.chart.Transition.{Transition}
+use Rattle.sfc_base.specs.declared.ids.TransitionId.{TransitionId}
 use Rattle.sfc_tables.specs.Tables.{Tabled, tables_of}
 use Rattle.sfc_evolve.specs.Evolution as evolution
-use Rattle.sfc_evolve.specs.Evolution.{is_active, active_steps, is_enabled, preceding_of, transition_count}
+use Rattle.sfc_evolve.specs.Clearing.{is_enabled, preceding_of, transition_count}
+use Rattle.sfc_evolve.specs.Evolution.{is_active, active_steps}
 use Rattle.sfc_evolve.specs.Lookback.{or_else}
 use Rattle.sfc_action.specs.ActionControl as control
 use Rattle.sfc_action.specs.declared.fault.ControlFault.{ControlFault}
-use Rattle.sfc_chart.specs.declared.ids.ProgId.{ProgId}
-use Rattle.sfc_chart.specs.Plants.{PlantData}
+use Rattle.sfc_base.specs.declared.ids.ProgId.{ProgId}
+use Rattle.sfc_plant.specs.Plants.{PlantData}
 use Rattle.sfc_image.specs.Changes.{Change}
 use Rattle.sfc_image.specs.Environments.{Moment, environment_of}
 use Rattle.sfc_image.specs.Bodies.{assignment, left_by}
 use Rattle.sfc_instance.specs.declared.scan_fault.ScanFault.{ScanFault}
 use Rattle.sfc_instance.specs.declared.scan_fault.ScanFault.TheVariants as fault
-use Rattle.sfc_instance.specs.declared.ended.Ended.{Ended}
-use Rattle.sfc_instance.specs.declared.ended.Ended.TheVariants.{Ran, Faulted, Skipped}
-use Rattle.sfc_instance.specs.Life.{Row, Life, Standing, evolution_rows, control_scans}
-use Rattle.sfc_chart.specs.Finding.{chart_of}
+use Rattle.sfc_instance.specs.declared.scan_end.ScanEnd.{ScanEnd}
+use Rattle.sfc_instance.specs.declared.scan_end.ScanEnd.TheVariants.{Ran, Faulted, Skipped}
+use Rattle.sfc_instance.specs.Life.{Row, Life, InstanceState, evolution_rows, control_scans}
+use Rattle.sfc_plant.specs.Finding.{chart_of}
 
 -- ---- what is read
 
@@ -126,9 +127,9 @@ and_then (Ok x) next = next x
 and_then (Err f) next = Err f
 
 -- the changes by statements that ended so, or their fault
-abbrev pub after_body : PlantData → ProgId → List Change → Outcome → Result (List Change) Fault
-after_body plant p changes outcome =
-    and_then outcome.result (λ (u : Unit {0}). Ok (left_by plant p outcome.environment ++ changes))
+abbrev pub after_body : PlantData → ProgId → List Change → BodyEffect → Result (List Change) Fault
+after_body plant p changes body_effect =
+    and_then body_effect.result (λ (u : Unit {0}). Ok (left_by plant p body_effect.environment ++ changes))
 
 -- The variable of a Boolean action is assigned its Q, in every scan. The body of a declared action is executed where A
 -- is 1, over the image so far; it sees the new steps, their times, and Q. `life` has the scan's own row.
@@ -191,23 +192,23 @@ attempt plant p life changes t =
 
 -- how the instance stands after a scan, what was done with the image, and how the scan ended
 pub record After : Type 0 where
-  pub standing : Standing
+  pub instance_state : InstanceState
   pub changes : List Change
-  pub ended : Ended
+  pub scan_end : ScanEnd
 
 -- a scan that faults has no row, and leaves the image as it was
 abbrev pub after_attempt : Life → List Change → Row → Result (List Change) ScanFault → After
 after_attempt life changes row (Ok done) =
-    record { standing = record { life = row ∷ life; fault = None }; changes = done; ended = Ran }
+    record { instance_state = record { life = row ∷ life; fault = None }; changes = done; scan_end = Ran }
 after_attempt life changes row (Err f) =
-    record { standing = record { life = life; fault = Some f }; changes = changes; ended = Faulted }
+    record { instance_state = record { life = life; fault = Some f }; changes = changes; scan_end = Faulted }
 
 -- after a fault the instance is skipped
 abbrev pub unless_faulted : PlantData → ProgId → Life → List Change → ℤ → Option ScanFault → After
 unless_faulted plant p life changes t None =
     after_attempt life changes (next_row plant p life changes t) (attempt plant p life changes t)
 unless_faulted plant p life changes t (Some f) =
-    record { standing = record { life = life; fault = Some f }; changes = changes; ended = Skipped }
+    record { instance_state = record { life = life; fault = Some f }; changes = changes; scan_end = Skipped }
 
-abbrev pub after_scan : PlantData → ProgId → Standing → List Change → ℤ → After
-after_scan plant p standing changes t = unless_faulted plant p standing.life changes t standing.fault
+abbrev pub after_scan : PlantData → ProgId → InstanceState → List Change → ℤ → After
+after_scan plant p instance_state changes t = unless_faulted plant p instance_state.life changes t instance_state.fault

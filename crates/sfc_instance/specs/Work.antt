@@ -1,14 +1,14 @@
 -- How much a scan of a program instance handles, at most.
 use Rattle.std.specs.Prelude.{ℕ, ◌+◌, ◌*◌, List, length, sum_by, slice_get}
 use Rattle.sfc_expr.specs.Nodes.{nodes, body_nodes}
-use Rattle.sfc_tables.specs.declared.association.Target.{Target}
-use Rattle.sfc_tables.specs.declared.association.Target.TheVariants.{Boolean, Declared}
-use Rattle.sfc_tables.specs.declared.chart.Chart.{Chart}
-use Rattle.sfc_tables.specs.declared.ids.TransitionId.{TransitionId}
-use Rattle.sfc_tables.specs.declared.chart.Transition.{Transition}
-use Rattle.sfc_tables.specs.declared.action.Action.{Action}
+use Rattle.sfc_plant.specs.declared.association.Target.{Target}
+use Rattle.sfc_plant.specs.declared.association.Target.TheVariants.{Boolean, Declared}
+use Rattle.sfc_plant.specs.declared.chart.Chart.{Chart}
+use Rattle.sfc_base.specs.declared.ids.TransitionId.{TransitionId}
+use Rattle.sfc_plant.specs.declared.chart.Transition.{Transition}
+use Rattle.sfc_plant.specs.declared.action.Action.{Action}
 use Rattle.sfc_tables.specs.Tables.{Tabled, tables_of}
-use Rattle.sfc_evolve.specs.Evolution.{preceding_of}
+use Rattle.sfc_evolve.specs.Clearing.{preceding_of}
 use Rattle.sfc_evolve.specs.Work.{links, advance_work}
 use Rattle.sfc_action.specs.Work.{control_work}
 use Rattle.sfc_instance.specs.ProgramScan.{condition_in, body_in}

@@ -2,37 +2,36 @@
 
 ghost use Rattle.std.specs.Prelude.{◌≡◌, ◌<◌, ◌+◌, ◌++◌, List, ℤ, false, true, length, slice_get};
 ghost use Rattle.sfc_expr.specs.Trees.{body_of as statements_body};
-ghost use Rattle.sfc_tables.specs.declared.association.Target.TheVariants.{Declared};
+ghost use Rattle.sfc_plant.specs.declared.association.Target.TheVariants.{Declared};
 ghost use Rattle.sfc_expr.specs.Nodes.{body_nodes};
-ghost use Rattle.sfc_expr.specs.Ticks.{Within};
-ghost use Rattle.sfc_chart.specs.Plants.{PlantData};
+ghost use Rattle.sfc_base.specs.Ticks.{Within};
+ghost use Rattle.sfc_plant.specs.Plants.{PlantData};
 ghost use Rattle.sfc_image.specs.Changes.{Change, settled, trying};
-ghost use Rattle.sfc_image.specs.Agreement.{ImageAgrees, IsAsLarge, instance_places, variable_places, is_open};
+ghost use Rattle.sfc_image.specs.Agreement.{ImageAgrees, IsAsLarge, instance_total, variable_total, is_open};
 ghost use Rattle.sfc_instance.specs.Life.{Life, evolution_rows};
 ghost use Rattle.sfc_tables.specs.Tables.{Tabled, tables_of};
 ghost use Rattle.sfc_evolve.specs.Evolution.{active_steps};
 ghost use Rattle.sfc_evolve.specs.Agreement.{AreMeasured};
-ghost use Rattle.sfc_instance.specs.Setting.{IsSettingOf};
+ghost use Rattle.sfc_instance.specs.Contexts.{IsContextOf};
 ghost use Rattle.sfc_instance.specs.ProgramScan.{acted, after_actions, body_in};
 ghost use Rattle.sfc_instance.specs.Agreement.{IsStateFor, StateAgrees};
 ghost use Rattle.sfc_instance.specs.Work.{actions_work};
 ghost use Rattle.sfc_instance.specs.Private.Acting.{IsAfter, Acts, HasActed};
 
-use crate::setting::Setting;
+use crate::program_context::ProgramContext;
 use crate::state::State;
+use sfc_base::ids::{ActionId, ActionNumber};
+use sfc_base::ticks::Ticks;
 use sfc_expr::fault::Fault;
 use sfc_expr::statement::Statement;
-use sfc_expr::ticks::Ticks;
 use sfc_image::image::Image;
 use sfc_image::step_readings::StepReadings;
-use sfc_tables::action::ActionId;
-use sfc_tables::chart::Chart;
-use sfc_tables::ids::ActionNumber;
+use sfc_plant::chart::Chart;
 
-/// After a scan: its setting, its steps and action control, and the times of the steps, by number.
+/// After a scan: its context, its steps and action control, and the times of the steps, by number.
 #[derive(Clone, Copy)]
 pub struct Acting<'a> {
-    pub setting: Setting<'a>,
+    pub context: ProgramContext<'a>,
     pub state: &'a State,
     pub times: &'a [i64],
 }
@@ -69,15 +68,15 @@ fn act_one(
     id: ActionId,
     ticks: &mut Ticks,
 ) -> Result<(), Fault>
-    requires sizes { IsStateFor acting.setting.tables.now acting.state.now }
-    requires action { action.0 < length acting.setting.tables.now.actions }
-    requires instance { acting.setting.instance.0 < instance_places image.old }
+    requires sizes { IsStateFor acting.context.tables.now acting.state.now }
+    requires action { action.0 < length acting.context.tables.now.actions }
+    requires instance { acting.context.instance.0 < instance_total image.old }
     ensures large { IsAsLarge image.old image.new }
     ensures open { is_open image.new ≡ is_open image.old }
-    ensures kept { (plant : PlantData) (life : Life) (t : ℤ) (kept tried : List Change) →
-        IsAfter plant acting.entry life t → ImageAgrees plant image.old (trying kept tried) → Acts plant kept image.new result
-        (acted plant acting.entry.setting.instance life t action.0 (Declared id) (tried ++ kept)) }
-    ensures ticks { Within (1 + body_nodes (body_in (slice_get acting.entry.setting.chart.now.actions id.0)))
+    ensures agrees { (plant : PlantData) (life : Life) (t : ℤ) (committed tried : List Change) →
+        IsAfter plant acting.entry life t → ImageAgrees plant image.old (trying committed tried) → Acts plant committed image.new result
+        (acted plant acting.entry.context.instance life t action.0 (Declared id) (tried ++ committed)) }
+    ensures ticks { Within (1 + body_nodes (body_in (slice_get acting.entry.context.chart.now.actions id.0)))
         ticks.old ticks.new }
 {
     ticks.tick();
@@ -85,30 +84,30 @@ fn act_one(
     if !controls.executed(action) {
         return Ok(());
     }
-    let body = body_of(acting.setting.chart, id);
+    let body = body_of(acting.context.chart, id);
     let q = controls.q(action);
-    image.execute(acting.setting.instance, body, acting.readings(), q, ticks)
+    image.execute(acting.context.instance, body, acting.readings(), q, ticks)
 }
 
 // All actions: the variables of the Boolean ones are assigned all at once, and then the declared ones follow, one after
-// the other; the first fault of a body ends them. The image's scratch is open.
+// the other; the first fault of a body ends them. The image's transaction is open.
 fn act(acting: Acting<'_>, image: &mut Image, ticks: &mut Ticks) -> Result<(), Fault>
-    requires tables { acting.setting.tables.now ≡ tables_of acting.setting.chart.now }
-    requires sizes { IsStateFor acting.setting.tables.now acting.state.now }
-    requires instance { acting.setting.instance.0 < instance_places image.old }
+    requires tables { acting.context.tables.now ≡ tables_of acting.context.chart.now }
+    requires sizes { IsStateFor acting.context.tables.now acting.state.now }
+    requires instance { acting.context.instance.0 < instance_total image.old }
     requires open { is_open image.old ≡ true }
     ensures large { IsAsLarge image.old image.new }
     ensures open { is_open image.new ≡ is_open image.old }
-    ensures kept { (plant : PlantData) (life : Life) (t : ℤ) (kept tried : List Change) → IsAfter plant acting.entry life t →
-        ImageAgrees plant image.old (trying kept tried) → Acts plant kept image.new result
-        (after_actions plant acting.entry.setting.instance life t 0 acting.entry.setting.tables.now.actions (tried ++ kept)) }
-    ensures ticks { Within (actions_work acting.entry.setting.chart.now acting.entry.setting.tables.now.actions) ticks.old ticks.new }
+    ensures agrees { (plant : PlantData) (life : Life) (t : ℤ) (committed tried : List Change) → IsAfter plant acting.entry life t →
+        ImageAgrees plant image.old (trying committed tried) → Acts plant committed image.new result
+        (after_actions plant acting.entry.context.instance life t 0 acting.entry.context.tables.now.actions (tried ++ committed)) }
+    ensures ticks { Within (actions_work acting.entry.context.chart.now acting.entry.context.tables.now.actions) ticks.old ticks.new }
 {
-    let Setting {
+    let ProgramContext {
         tables,
         chart,
         instance,
-    } = acting.setting;
+    } = acting.context;
     image.assign_outputs(instance, tables, acting.state.controls.q_flags(), ticks);
     let count = tables.actions();
     let first = count - chart.actions.as_slice().len();
@@ -122,16 +121,16 @@ fn act(acting: Acting<'_>, image: &mut Image, ticks: &mut Ticks) -> Result<(), F
     Ok(())
 }
 
-// What was tried is kept, or given up.
+// What was tried is committed, or given up.
 fn close(image: &mut Image, keep: bool, ticks: &mut Ticks)
     requires { is_open image.old ≡ true }
     ensures large { IsAsLarge image.old image.new }
     ensures closed { is_open image.new ≡ false }
-    ensures kept { keep ≡ true → (plant : PlantData) (kept tried : List Change) →
-        ImageAgrees plant image.old (trying kept tried) → ImageAgrees plant image.new (settled (tried ++ kept)) }
-    ensures given_up { keep ≡ false → (plant : PlantData) (kept tried : List Change) →
-        ImageAgrees plant image.old (trying kept tried) → ImageAgrees plant image.new (settled kept) }
-    ensures ticks { Within (variable_places image.old) ticks.old ticks.new }
+    ensures agrees { keep ≡ true → (plant : PlantData) (committed tried : List Change) →
+        ImageAgrees plant image.old (trying committed tried) → ImageAgrees plant image.new (settled (tried ++ committed)) }
+    ensures given_up { keep ≡ false → (plant : PlantData) (committed tried : List Change) →
+        ImageAgrees plant image.old (trying committed tried) → ImageAgrees plant image.new (settled committed) }
+    ensures ticks { Within (variable_total image.old) ticks.old ticks.new }
 {
     if keep {
         image.commit(ticks);
@@ -143,26 +142,26 @@ fn close(image: &mut Image, keep: bool, ticks: &mut Ticks)
 /// What the actions do after a scan that left these steps and this action control, where the times of the steps are worked
 /// out. After a fault of a body the variables are as before.
 pub fn act_or_undo(
-    setting: Setting<'_>,
+    context: ProgramContext<'_>,
     state: &State,
     image: &mut Image,
     ticks: &mut Ticks,
 ) -> Result<(), Fault>
-    requires tables { setting.tables.now ≡ tables_of setting.chart.now }
-    requires state { IsStateFor setting.tables.now state.now }
-    requires instance { setting.instance.0 < instance_places image.old }
+    requires tables { context.tables.now ≡ tables_of context.chart.now }
+    requires state { IsStateFor context.tables.now state.now }
+    requires instance { context.instance.0 < instance_total image.old }
     requires closed { is_open image.old ≡ false }
     ensures large { IsAsLarge image.old image.new }
     ensures closed { is_open image.new ≡ false }
-    ensures kept { (plant : PlantData) (life : Life) (t : ℤ) (changes : List Change) → IsSettingOf plant setting.entry →
-        StateAgrees setting.entry.tables.now state.now life → AreMeasured t state.now.steps →
+    ensures agrees { (plant : PlantData) (life : Life) (t : ℤ) (changes : List Change) → IsContextOf plant context.entry →
+        StateAgrees context.entry.tables.now state.now life → AreMeasured t state.now.steps →
         ImageAgrees plant image.old (settled changes) → HasActed plant changes image.new result
-        (after_actions plant setting.entry.instance life t 0 setting.entry.tables.now.actions changes) }
-    ensures ticks { Within (actions_work setting.entry.chart.now setting.entry.tables.now.actions + variable_places image.old)
+        (after_actions plant context.entry.instance life t 0 context.entry.tables.now.actions changes) }
+    ensures ticks { Within (actions_work context.entry.chart.now context.entry.tables.now.actions + variable_total image.old)
         ticks.old ticks.new }
 {
     let acting = Acting {
-        setting,
+        context,
         state,
         times: state.steps.times(),
     };

@@ -3,7 +3,7 @@
 ghost use Rattle.std.specs.Prelude.{◌≡◌, ◌<◌, false, length, replicate, slice_get, OnOk};
 ghost use Rattle.std.specs.Result.{result_err};
 ghost use Rattle.sfc_expr.specs.Nodes.{nodes};
-ghost use Rattle.sfc_expr.specs.Ticks.{Within};
+ghost use Rattle.sfc_base.specs.Ticks.{Within};
 ghost use Rattle.sfc_tables.specs.Tables.{tables_of};
 ghost use Rattle.sfc_evolve.specs.Agreement.{IsFor, StepsAgree};
 ghost use Rattle.sfc_instance.specs.Life.{Life, evolution_scans};
@@ -11,49 +11,49 @@ ghost use Rattle.sfc_instance.specs.ProgramScan.{condition_fault, condition_flag
 ghost use Rattle.sfc_instance.specs.Private.Evaluating.{as_flag, evaluated, test_work};
 ghost use Rattle.sfc_instance.specs.Work.{condition_work};
 
-use crate::setting::Setting;
+use crate::program_context::ProgramContext;
+use sfc_base::ids::TransitionId;
+use sfc_base::ticks::Ticks;
 use sfc_evolve::steps::Steps;
 use sfc_expr::eval::eval;
 use sfc_expr::fault::Fault;
-use sfc_expr::ticks::Ticks;
 use sfc_expr::view::View;
-use sfc_tables::ids::TransitionId;
 
 // Whether the condition of the transition is TRUE.
 fn condition_holds<V: View>(
-    setting: Setting<'_>,
+    context: ProgramContext<'_>,
     view: &V,
     transition: TransitionId,
     ticks: &mut Ticks,
 ) -> Result<bool, Fault>
-    requires tables { setting.tables.now ≡ tables_of setting.chart.now }
-    requires transition { transition.0 < length setting.tables.now.sides }
-    ensures value { result ≡ as_flag (condition_result setting.entry.chart.now (V.environment view.now) transition.0) }
-    ensures ticks { Within (nodes (condition_in (slice_get setting.entry.chart.now.transitions transition.0))) ticks.old ticks.new }
+    requires tables { context.tables.now ≡ tables_of context.chart.now }
+    requires transition { transition.0 < length context.tables.now.sides }
+    ensures value { result ≡ as_flag (condition_result context.entry.chart.now (V.environment view.now) transition.0) }
+    ensures ticks { Within (nodes (condition_in (slice_get context.entry.chart.now.transitions transition.0))) ticks.old ticks.new }
 {
-    let condition = &setting.chart.transitions.as_slice()[transition.0 as usize].condition;
+    let condition = &context.chart.transitions.as_slice()[transition.0 as usize].condition;
     Ok(eval(condition.expr(), view, ticks)?.is_true())
 }
 
 // Whether the transition is enabled and its condition TRUE; that of one that isn't enabled is not evaluated.
 fn evaluate<V: View>(
-    setting: Setting<'_>,
+    context: ProgramContext<'_>,
     steps: &Steps,
     view: &V,
     transition: TransitionId,
     ticks: &mut Ticks,
 ) -> Result<bool, Fault>
-    requires tables { setting.tables.now ≡ tables_of setting.chart.now }
-    requires sizes { IsFor setting.tables.now steps.now }
-    requires transition { transition.0 < length setting.tables.now.sides }
-    ensures value { (life : Life) → StepsAgree setting.entry.tables.now steps.now (evolution_scans life) →
-        result ≡ evaluated setting.entry.tables.now setting.entry.chart.now (V.environment view.now) life transition.0 }
-    ensures ticks { Within (test_work setting.entry.tables.now setting.entry.chart.now transition) ticks.old ticks.new }
+    requires tables { context.tables.now ≡ tables_of context.chart.now }
+    requires sizes { IsFor context.tables.now steps.now }
+    requires transition { transition.0 < length context.tables.now.sides }
+    ensures value { (life : Life) → StepsAgree context.entry.tables.now steps.now (evolution_scans life) →
+        result ≡ evaluated context.entry.tables.now context.entry.chart.now (V.environment view.now) life transition.0 }
+    ensures ticks { Within (test_work context.entry.tables.now context.entry.chart.now transition) ticks.old ticks.new }
 {
-    if !steps.enabled(setting.tables, transition, ticks) {
+    if !steps.enabled(context.tables, transition, ticks) {
         return Ok(false);
     }
-    condition_holds(setting, view, transition, ticks)
+    condition_holds(context, view, transition, ticks)
 }
 
 // No flag is set.
@@ -65,30 +65,30 @@ fn clear(flags: &mut [bool])
 
 /// The conditions of all enabled transitions, by number, and FALSE for the others; or the first fault in rank order.
 pub fn evaluate_all<V: View>(
-    setting: Setting<'_>,
+    context: ProgramContext<'_>,
     steps: &Steps,
     view: &V,
     conditions: &mut [bool],
     ticks: &mut Ticks,
 ) -> Result<(), Fault>
-    requires tables { setting.tables.now ≡ tables_of setting.chart.now }
-    requires sizes { IsFor setting.tables.now steps.now }
-    requires len { length conditions.old ≡ length setting.tables.now.sides }
+    requires tables { context.tables.now ≡ tables_of context.chart.now }
+    requires sizes { IsFor context.tables.now steps.now }
+    requires len { length conditions.old ≡ length context.tables.now.sides }
     ensures len { length conditions.new ≡ length conditions.old }
-    ensures fault { (life : Life) → StepsAgree setting.entry.tables.now steps.now (evolution_scans life) →
+    ensures fault { (life : Life) → StepsAgree context.entry.tables.now steps.now (evolution_scans life) →
         result_err result
-        ≡ condition_fault setting.entry.tables.now setting.entry.chart.now (V.environment view.now) life setting.entry.tables.now.ranked }
-    ensures flags { OnOk result ((life : Life) → StepsAgree setting.entry.tables.now steps.now (evolution_scans life) →
-        conditions.new ≡ condition_flags setting.entry.tables.now setting.entry.chart.now (V.environment view.now) life) }
-    ensures ticks { Within (condition_work setting.entry.tables.now setting.entry.chart.now setting.entry.tables.now.ranked) ticks.old ticks.new }
+        ≡ condition_fault context.entry.tables.now context.entry.chart.now (V.environment view.now) life context.entry.tables.now.ranked }
+    ensures flags { OnOk result ((life : Life) → StepsAgree context.entry.tables.now steps.now (evolution_scans life) →
+        conditions.new ≡ condition_flags context.entry.tables.now context.entry.chart.now (V.environment view.now) life) }
+    ensures ticks { Within (condition_work context.entry.tables.now context.entry.chart.now context.entry.tables.now.ranked) ticks.old ticks.new }
 {
     clear(conditions);
-    let ranked = setting.tables.ranked();
+    let ranked = context.tables.ranked();
     let candidates = steps.candidates();
     let mut at = 0;
     'candidates: while let Some(j) = candidates.next_set(at, ticks) {
         let transition = ranked[j];
-        conditions[transition.0 as usize] = evaluate(setting, steps, view, transition, ticks)?;
+        conditions[transition.0 as usize] = evaluate(context, steps, view, transition, ticks)?;
         at = j + 1;
     }
     Ok(())

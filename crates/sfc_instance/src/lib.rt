@@ -3,25 +3,26 @@
 //!
 //! - `acting`: what the actions of a scan do with the variables.
 //! - `conditions`: the conditions of transitions.
-//! - `ended`: how a scan ended.
+//! - `scan_end`: how a scan ended.
 //! - `laws`: what the definitions mean.
-//! - `program`: a program instance, in running form.
+//! - `program`: a program instance, in running form; `program_view`: a window on one.
 //! - `reading`: the times of associations.
-//! - `room`: room for a scan.
+//! - `scan_buffers`: the buffers of a scan.
 //! - `scan_fault`: what ended a scan without a row.
-//! - `scanner`: what a scan works on.
-//! - `setting`: what a program instance runs in.
+//! - `scan_run`: what a scan works on.
+//! - `program_context`: what a program instance runs in.
 //! - `state`: steps and action control together.
 #![tactic(auto)]
 
 mod acting;
 mod conditions;
-pub mod ended;
 pub mod laws;
 pub mod program;
+pub mod program_context;
+pub mod program_view;
 mod reading;
-mod room;
+mod scan_buffers;
+pub mod scan_end;
 pub mod scan_fault;
-mod scanner;
-pub mod setting;
+mod scan_run;
 pub mod state;

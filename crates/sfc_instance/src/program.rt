@@ -2,22 +2,24 @@
 
 ghost use Rattle.std.specs.Prelude.{◌≤ℤ◌, ◌^◌, pos};
 
-use crate::ended::Ended;
+use crate::program_context::ProgramContext;
+use crate::scan_end::ScanEnd;
 use crate::scan_fault::ScanFault;
-use crate::scanner::Scanner;
-use crate::setting::Setting;
+use crate::scan_run::ScanRun;
 use crate::state::State;
-use sfc_expr::ticks::Ticks;
-use sfc_expr::variable::StepId;
+use sfc_base::ids::{ActionNumber, TransitionId};
+use sfc_base::references::StepId;
+use sfc_base::ticks::Ticks;
+use sfc_flags::flags::Flags;
 use sfc_image::image::Image;
-use sfc_tables::ids::{ActionNumber, TransitionId};
 use sfc_tables::tables::Tables;
 use std::alloc::{AllocError, Global};
 
-/// A program instance as its latest scan left it: its steps and its action control, the number of its scans, the instant
-/// of the latest, and the fault that ended a scan, if one did. The rest is room for a scan, and what a reset takes over.
+/// A program instance as its latest scan left it: its steps and its action control, the number of its scans, the
+/// instant of the latest, and the fault that ended a scan, if one did. The rest is what a scan works on, and what a
+/// reset takes over.
 pub struct Program {
-    scanner: Scanner,
+    run: ScanRun,
     fresh: State,
     scans: u64,
     at: i64,
@@ -30,7 +32,7 @@ pub struct Program {
 impl Drop for Program {
     fn drop(self) {
         let Program {
-            scanner: _,
+            run: _,
             fresh: _,
             scans: _,
             at: _,
@@ -42,25 +44,27 @@ impl Drop for Program {
 #[tactic(auto, unfolding(crate::specs::Agreement::IsFor, crate::specs::Agreement::ProgramAgrees, crate::specs::Agreement::StateAgrees))]
 impl Program {
     ghost use Rattle.std.specs.Prelude.{◌≡◌, ◌<◌, ◌≤ℤ◌, ◌^◌, pos, false, List, length, IfOk};
-    ghost use Rattle.sfc_expr.specs.Ticks.{Within};
+    ghost use Rattle.sfc_base.specs.Ticks.{Within};
     ghost use Rattle.sfc_tables.specs.Tables.{Tabled, tables_of};
-    ghost use Rattle.sfc_chart.specs.Plants.{PlantData};
+    ghost use Rattle.sfc_plant.specs.Plants.{PlantData};
     ghost use Rattle.sfc_image.specs.Changes.{Change, settled};
-    ghost use Rattle.sfc_image.specs.Agreement.{ImageAgrees, IsAsLarge, instance_places, variable_places, is_open};
-    ghost use Rattle.sfc_instance.specs.Life.{Life, Standing, fresh};
-    ghost use Rattle.sfc_instance.specs.Setting.{IsSettingOf};
+    ghost use Rattle.sfc_image.specs.Agreement.{ImageAgrees, IsAsLarge, instance_total, variable_total, is_open};
+    ghost use Rattle.sfc_evolve.specs.Evolution.{active_steps};
+    ghost use Rattle.sfc_instance.specs.Life.{Life, InstanceState, evolution_rows, fresh};
+    ghost use Rattle.sfc_instance.specs.Contexts.{IsContextOf};
     ghost use Rattle.sfc_instance.specs.ProgramScan.{after_scan};
     ghost use Rattle.sfc_instance.specs.Work.{scan_work, copy_work};
     ghost use Rattle.sfc_instance.specs.Answers as answers;
-    ghost use Rattle.sfc_instance.specs.Agreement.{IsFor, ProgramAgrees, step_places, transition_places, action_places};
+    ghost use Rattle.sfc_instance.specs.Agreement.{IsFor, ProgramAgrees, step_total, transition_total, action_total, shown_elapsed};
 
-    /// Before the first scan of a life. All room that scans need is made here; the one error is that memory was refused.
+    /// Before the first scan of a life. All memory that scans need is taken here; the one error is that memory was
+    /// refused.
     pub fn new(alloc: Global, tables: &Tables) -> Result<Program, AllocError>
         ensures sizes { IfOk result (λ program. IsFor tables.now program) }
         ensures agrees { IfOk result (λ program. ProgramAgrees tables.now program fresh) }
     {
         Ok(Program {
-            scanner: Scanner::new(alloc, tables)?,
+            run: ScanRun::new(alloc, tables)?,
             fresh: State::new(alloc, tables)?,
             scans: 0,
             at: 0,
@@ -73,43 +77,43 @@ impl Program {
     /// its reset (2.6.5; our choice). It takes no memory.
     pub fn scan(
         &mut self,
-        setting: Setting<'_>,
+        context: ProgramContext<'_>,
         image: &mut Image,
         t: i64,
         ticks: &mut Ticks,
-    ) -> Ended
-        requires tables { setting.tables.now ≡ tables_of setting.chart.now }
-        requires sizes { IsFor setting.tables.now self.old }
-        requires instance { setting.instance.0 < instance_places image.old }
+    ) -> ScanEnd
+        requires tables { context.tables.now ≡ tables_of context.chart.now }
+        requires sizes { IsFor context.tables.now self.old }
+        requires instance { context.instance.0 < instance_total image.old }
         requires closed { is_open image.old ≡ false }
         requires low { pos 0 ≤ℤ t }
         requires high { t ≤ℤ pos (2 ^ 62) }
-        ensures sizes { IsFor setting.entry.tables.now self.new }
+        ensures sizes { IsFor context.entry.tables.now self.new }
         ensures large { IsAsLarge image.old image.new }
         ensures closed { is_open image.new ≡ false }
-        ensures ended { (plant : PlantData) (standing : Standing) (changes : List Change) → IsSettingOf plant setting.entry →
-            ProgramAgrees setting.entry.tables.now self.old standing → ImageAgrees plant image.old (settled changes) →
-            result ≡ (after_scan plant setting.entry.instance standing changes t).ended }
-        ensures program { (plant : PlantData) (standing : Standing) (changes : List Change) → IsSettingOf plant setting.entry →
-            ProgramAgrees setting.entry.tables.now self.old standing → ImageAgrees plant image.old (settled changes) →
-            ProgramAgrees setting.entry.tables.now self.new (after_scan plant setting.entry.instance standing changes t).standing }
-        ensures image { (plant : PlantData) (standing : Standing) (changes : List Change) → IsSettingOf plant setting.entry →
-            ProgramAgrees setting.entry.tables.now self.old standing → ImageAgrees plant image.old (settled changes) →
-            ImageAgrees plant image.new (settled (after_scan plant setting.entry.instance standing changes t).changes) }
-        ensures ticks { Within (scan_work setting.entry.tables.now setting.entry.chart.now (variable_places image.old)) ticks.old ticks.new }
+        ensures scan_end { (plant : PlantData) (instance_state : InstanceState) (changes : List Change) → IsContextOf plant context.entry →
+            ProgramAgrees context.entry.tables.now self.old instance_state → ImageAgrees plant image.old (settled changes) →
+            result ≡ (after_scan plant context.entry.instance instance_state changes t).scan_end }
+        ensures program { (plant : PlantData) (instance_state : InstanceState) (changes : List Change) → IsContextOf plant context.entry →
+            ProgramAgrees context.entry.tables.now self.old instance_state → ImageAgrees plant image.old (settled changes) →
+            ProgramAgrees context.entry.tables.now self.new (after_scan plant context.entry.instance instance_state changes t).instance_state }
+        ensures image { (plant : PlantData) (instance_state : InstanceState) (changes : List Change) → IsContextOf plant context.entry →
+            ProgramAgrees context.entry.tables.now self.old instance_state → ImageAgrees plant image.old (settled changes) →
+            ImageAgrees plant image.new (settled (after_scan plant context.entry.instance instance_state changes t).changes) }
+        ensures ticks { Within (scan_work context.entry.tables.now context.entry.chart.now (variable_total image.old)) ticks.old ticks.new }
     {
         if self.fault.is_some() {
-            return Ended::Skipped;
+            return ScanEnd::Skipped;
         }
-        match self.scanner.scan(setting, image, t, ticks) {
+        match self.run.scan(context, image, t, ticks) {
             Ok(()) => {
                 self.scans = self.scans.saturating_add(1);
                 self.at = t;
-                Ended::Ran
+                ScanEnd::Ran
             }
             Err(fault) => {
                 self.fault = Some(fault);
-                Ended::Faulted
+                ScanEnd::Faulted
             }
         }
     }
@@ -119,11 +123,11 @@ impl Program {
     pub fn reset(&mut self, tables: &Tables, ticks: &mut Ticks)
         requires { IsFor tables.now self.old }
         ensures sizes { IsFor tables.now self.new }
-        ensures agrees { (standing : Standing) → ProgramAgrees tables.now self.old standing →
+        ensures agrees { (instance_state : InstanceState) → ProgramAgrees tables.now self.old instance_state →
             ProgramAgrees tables.now self.new fresh }
         ensures ticks { Within (copy_work tables.now) ticks.old ticks.new }
     {
-        self.scanner.now.copy_from(tables, &self.fresh, ticks);
+        self.run.now.copy_from(tables, &self.fresh, ticks);
         self.scans = 0;
         self.at = 0;
         self.fault = None;
@@ -134,92 +138,94 @@ impl Program {
         requires own { IsFor tables.now self.old }
         requires others { IsFor tables.now other.now }
         ensures sizes { IsFor tables.now self.new }
-        ensures kept { (standing : Standing) → ProgramAgrees tables.now other.now standing →
-            ProgramAgrees tables.now self.new standing }
+        ensures agrees { (instance_state : InstanceState) → ProgramAgrees tables.now other.now instance_state →
+            ProgramAgrees tables.now self.new instance_state }
     {
         let mut ticks = Ticks::new();
-        self.scanner
-            .now
-            .copy_from(tables, &other.scanner.now, &mut ticks);
+        self.run.now.copy_from(tables, &other.run.now, &mut ticks);
         self.fresh.copy_from(tables, &other.fresh, &mut ticks);
         self.scans = other.scans;
         self.at = other.at;
         self.fault = other.fault;
     }
 
-    /// How many steps its chart has.
-    pub fn steps(&self) -> usize
-        ensures { result ≡ step_places self.now }
+    /// Which steps are active, by number.
+    pub(crate) fn active_flags(&self) -> &Flags
+        ensures len { length result.now ≡ step_total self.now }
+        ensures flags { (tables : Tabled) (instance_state : InstanceState) → ProgramAgrees tables self.now instance_state →
+            result.now ≡ active_steps tables (evolution_rows tables instance_state.life) }
     {
-        self.scanner.now.steps.active_flags().places()
+        self.run.now.steps.active_flags()
     }
 
     /// How many scans its life has had; at most 2^64 - 1, where the count stays.
-    pub fn scans(&self) -> u64
-        ensures { (tables : Tabled) (standing : Standing) → ProgramAgrees tables self.now standing →
-            result ≡ answers.scan_count standing }
+    pub(crate) fn scans(&self) -> u64
+        ensures { (tables : Tabled) (instance_state : InstanceState) → ProgramAgrees tables self.now instance_state →
+            result ≡ answers.scan_count instance_state }
     {
         self.scans
     }
 
     /// The fault that ended a scan since its latest reset, if one did; each later scan is passed over for it.
-    pub fn fault(&self) -> Option<ScanFault>
-        ensures { (tables : Tabled) (standing : Standing) → ProgramAgrees tables self.now standing → result ≡ standing.fault }
+    pub(crate) fn fault(&self) -> Option<ScanFault>
+        ensures { (tables : Tabled) (instance_state : InstanceState) → ProgramAgrees tables self.now instance_state → result ≡ instance_state.fault }
     {
         self.fault
     }
 
     /// Whether the step is active (2.6.2).
-    pub fn active(&self, step: StepId) -> bool
-        requires { step.0 < step_places self.now }
-        ensures { (tables : Tabled) (standing : Standing) → ProgramAgrees tables self.now standing →
-            result ≡ answers.is_step_active tables standing step.0 }
+    pub(crate) fn active(&self, step: StepId) -> bool
+        requires { step.0 < step_total self.now }
+        ensures { (tables : Tabled) (instance_state : InstanceState) → ProgramAgrees tables self.now instance_state →
+            result ≡ answers.is_step_active tables instance_state step.0 }
     {
-        self.scanner.now.steps.active(step)
+        self.run.now.steps.active(step)
     }
 
     /// The step's time at the latest scan, in microseconds; what it kept, if it is not active (2.6.2).
-    pub fn elapsed(&self, step: StepId) -> i64
-        requires { step.0 < step_places self.now }
-        ensures { (tables : Tabled) (standing : Standing) → ProgramAgrees tables self.now standing →
-            result ≡ answers.step_elapsed tables standing step.0 }
+    #[tactic(auto, unfolding(crate::specs::Agreement::IsFor, crate::specs::Agreement::ProgramAgrees, crate::specs::Agreement::StateAgrees, crate::specs::Agreement::shown_elapsed))]
+    pub(crate) fn elapsed(&self, step: StepId) -> i64
+        requires { step.0 < step_total self.now }
+        ensures shown { result ≡ shown_elapsed self.now step.0 }
+        ensures agrees { (tables : Tabled) (instance_state : InstanceState) → ProgramAgrees tables self.now instance_state →
+            result ≡ answers.step_elapsed tables instance_state step.0 }
     {
-        self.scanner.now.steps.elapsed(step, self.at)
+        self.run.now.steps.elapsed(step, self.at)
     }
 
     /// Whether the latest scan activated the step, also if it was active before.
-    pub fn activated(&self, step: StepId) -> bool
-        requires { step.0 < step_places self.now }
-        ensures { (tables : Tabled) (standing : Standing) → ProgramAgrees tables self.now standing →
-            result ≡ answers.is_step_activated tables standing step.0 }
+    pub(crate) fn activated(&self, step: StepId) -> bool
+        requires { step.0 < step_total self.now }
+        ensures { (tables : Tabled) (instance_state : InstanceState) → ProgramAgrees tables self.now instance_state →
+            result ≡ answers.is_step_activated tables instance_state step.0 }
     {
-        self.scanner.now.steps.activated(step)
+        self.run.now.steps.activated(step)
     }
 
     /// Whether the latest scan cleared the transition (2.6.5).
-    pub fn cleared(&self, transition: TransitionId) -> bool
-        requires { transition.0 < transition_places self.now }
-        ensures { (tables : Tabled) (standing : Standing) → ProgramAgrees tables self.now standing →
-            result ≡ answers.is_transition_cleared tables standing transition.0 }
+    pub(crate) fn cleared(&self, transition: TransitionId) -> bool
+        requires { transition.0 < transition_total self.now }
+        ensures { (tables : Tabled) (instance_state : InstanceState) → ProgramAgrees tables self.now instance_state →
+            result ≡ answers.is_transition_cleared tables instance_state transition.0 }
     {
-        self.scanner.now.steps.cleared(transition)
+        self.run.now.steps.cleared(transition)
     }
 
     /// The action's Q after the latest scan (2.6.4.5).
-    pub fn q(&self, action: ActionNumber) -> bool
-        requires { action.0 < action_places self.now }
-        ensures { (tables : Tabled) (standing : Standing) → ProgramAgrees tables self.now standing →
-            result ≡ answers.action_q tables standing action.0 }
+    pub(crate) fn q(&self, action: ActionNumber) -> bool
+        requires { action.0 < action_total self.now }
+        ensures { (tables : Tabled) (instance_state : InstanceState) → ProgramAgrees tables self.now instance_state →
+            result ≡ answers.action_q tables instance_state action.0 }
     {
-        self.scanner.now.controls.q(action)
+        self.run.now.controls.q(action)
     }
 
     /// Whether the latest scan executed the action: its A (2.6.4.5).
-    pub fn executed(&self, action: ActionNumber) -> bool
-        requires { action.0 < action_places self.now }
-        ensures { (tables : Tabled) (standing : Standing) → ProgramAgrees tables self.now standing →
-            result ≡ answers.is_action_executed tables standing action.0 }
+    pub(crate) fn executed(&self, action: ActionNumber) -> bool
+        requires { action.0 < action_total self.now }
+        ensures { (tables : Tabled) (instance_state : InstanceState) → ProgramAgrees tables self.now instance_state →
+            result ≡ answers.is_action_executed tables instance_state action.0 }
     {
-        self.scanner.now.controls.executed(action)
+        self.run.now.controls.executed(action)
     }
 }

@@ -1,14 +1,14 @@
 //! The times of associations.
 
 ghost use Rattle.std.specs.Prelude.{◌≡◌, length, map, IfOk, IfSome};
-ghost use Rattle.sfc_expr.specs.Ticks.{Within};
+ghost use Rattle.sfc_base.specs.Ticks.{Within};
 ghost use Rattle.sfc_expr.specs.Environment.{Environment};
 ghost use Rattle.sfc_instance.specs.ProgramScan.{time_of as the_time};
 ghost use Rattle.sfc_instance.specs.Private.Timing.{AreTimes};
 
-use sfc_expr::ticks::Ticks;
+use sfc_base::ticks::Ticks;
 use sfc_expr::view::View;
-use sfc_tables::association::{Qualifier, Time};
+use sfc_plant::association::{Qualifier, Time};
 use sfc_tables::step_action::StepAction;
 use std::alloc::{AllocError, Global};
 

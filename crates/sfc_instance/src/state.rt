@@ -21,7 +21,7 @@ impl Drop for State {
 
 ghost use Rattle.std.specs.Prelude.{◌≡◌, ◌≤ℤ◌, ◌^◌, ◌+◌, ◌∷◌, [], pos, length, IfOk, OnOk};
 ghost use Rattle.std.specs.Result.{result_err};
-ghost use Rattle.sfc_expr.specs.Ticks.{Within};
+ghost use Rattle.sfc_base.specs.Ticks.{Within};
 ghost use Rattle.sfc_tables.specs.Tables.{Tabled};
 ghost use Rattle.sfc_evolve.specs.Agreement.{AreMeasured};
 ghost use Rattle.sfc_evolve.specs.Work.{advance_work};
@@ -32,7 +32,7 @@ ghost use Rattle.sfc_instance.specs.Work.{copy_work};
 ghost use Rattle.sfc_instance.specs.Agreement.{IsStateFor, StateAgrees};
 
 use sfc_action::fault::ControlFault;
-use sfc_expr::ticks::Ticks;
+use sfc_base::ticks::Ticks;
 use sfc_tables::tables::Tables;
 use std::alloc::{AllocError, Global};
 
@@ -54,11 +54,11 @@ impl State {
         requires own { IsStateFor tables.now self.old }
         requires others { IsStateFor tables.now other.now }
         ensures sizes { IsStateFor tables.now self.new }
-        ensures kept { (life : Life) → StateAgrees tables.now other.now life → StateAgrees tables.now self.new life }
+        ensures agrees { (life : Life) → StateAgrees tables.now other.now life → StateAgrees tables.now self.new life }
         ensures ticks { Within (copy_work tables.now) ticks.old ticks.new }
     {
         self.steps.copy_from(&other.steps, ticks);
-        self.controls.copy_from(&other.controls, ticks);
+        self.controls.copy_from(tables, &other.controls, ticks);
     }
 
     /// Works out the times of all steps at t, in microseconds from 0 to 2^62 (2.6.2). It takes no memory.
@@ -67,7 +67,7 @@ impl State {
         requires low { pos 0 ≤ℤ t }
         requires high { t ≤ℤ pos (2 ^ 62) }
         ensures sizes { IsStateFor tables.now self.new }
-        ensures kept { (life : Life) → StateAgrees tables.now self.old life → StateAgrees tables.now self.new life }
+        ensures agrees { (life : Life) → StateAgrees tables.now self.old life → StateAgrees tables.now self.new life }
         ensures measured { AreMeasured t self.new.steps }
         ensures ticks { Within (length tables.now.initial) ticks.old ticks.new }
     {
@@ -93,7 +93,7 @@ impl State {
         ensures sizes { IsStateFor tables.now self.new }
         ensures fault { (life : Life) → StateAgrees tables.now self.old life → result_err result ≡
             first_fault tables.now (control_scans tables.now (record { conditions = conditions.now; times = times.now; at = t } ∷ life)) }
-        ensures kept { OnOk result ((life : Life) → StateAgrees tables.now self.old life →
+        ensures agrees { OnOk result ((life : Life) → StateAgrees tables.now self.old life →
             StateAgrees tables.now self.new (record { conditions = conditions.now; times = times.now; at = t } ∷ life)) }
         ensures ticks { Within (advance_work tables.now + control_work tables.now) ticks.old ticks.new }
     {

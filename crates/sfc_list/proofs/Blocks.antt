@@ -1,7 +1,7 @@
 -- Blocks of variables, and intervals.
 use Rattle.std.proofs.Common.{◌≡◌, ℕ, suc, ℤ, pos, ◌==◌, false, List, [], ◌∷◌, ◌++◌, length, flat_map, codes, refl, ap, arith}
 use Rattle.std.proofs.lemmas.Grind.{common_steps}
-use Rattle.sfc_tokens.specs.TimeText.{time_text}
+use Rattle.sfc_base.specs.TimeText.{time_text}
 use Rattle.sfc_list.specs.Layout.{line, block}
 use Rattle.sfc_list.specs.Listing.{interval_text}
 

@@ -2,14 +2,14 @@
 use Rattle.std.proofs.Common.{◌≡◌, ℕ, zero, suc, ◌+◌, ◌<◌, length, take, get_or, List, [], ◌∷◌, ◌++◌, Vec, Global, flat_map, codes, refl, sym, ap, ◌∙◌, append_assoc, arith}
 use Rattle.std.proofs.lemmas.List.{append-nil}
 use Rattle.sfc_expr.specs.declared.expr.Expr.{Expr}
-use Rattle.sfc_expr.specs.declared.variable.Variable.{Variable}
+use Rattle.sfc_base.specs.declared.references.Variable.{Variable}
 use Rattle.sfc_expr.specs.declared.statement.Statement.{Statement}
 use Rattle.sfc_expr.specs.declared.statement.Statement.TheVariants as statement
 use Rattle.sfc_expr.specs.declared.statement.Branch.{Branch}
 use Rattle.sfc_expr.specs.declared.statement.Branch.TheVariants as branch
 use Rattle.sfc_expr.specs.Trees.{Body, Nothing, Branches, NoBranch, expression_of, before, tried_before, body_of, branches_of}
 use Rattle.sfc_expr.proofs.Rows.{before-if, tried_before-when, tried_before-otherwise}
-use Rattle.sfc_program.specs.Names.{Space}
+use Rattle.sfc_plant.specs.Spaces.{Space}
 use Rattle.sfc_list.specs.Layout.{line}
 use Rattle.sfc_list.specs.Statements.{assignment_text, branch_head, body_text, branches_text}
 use Rattle.sfc_list.specs.Private.Parts.{statement_text, branch_text, branch_word}

@@ -2,13 +2,13 @@ pub mod Texts
 pub mod Indents
 pub mod Numbers
 pub mod Sunk
-pub mod NamesAt
 pub mod Operands
 pub mod Bodies
 pub mod Blocks
 pub mod WrittenExpressions
 pub mod WrittenStatements
 pub mod WrittenNames
+pub mod WrittenAgain
 pub mod WrittenLists
 pub mod WrittenVariables
 pub mod WrittenOwn

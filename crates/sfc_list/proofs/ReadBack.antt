@@ -3,7 +3,7 @@ use Rattle.std.proofs.Common.{◌≡◌, ◌≤◌, ℕ, List, [], length, All, 
 use Rattle.sfc_tokens.specs.Spelling.{CanStand}
 use Rattle.sfc_tokens.specs.Texts.{longest}
 use Rattle.sfc_tokens.specs.Tokens.{Kinds}
-use Rattle.sfc_tokens.proofs.Spellings.{text_scans}
+use Rattle.sfc_tokens.proofs.Spellings.{text_lexes}
 use Rattle.sfc_tokens.proofs.Standing.{tokens_stand}
 use Rattle.sfc_text.specs.Limits.{ours}
 use Rattle.sfc_text.specs.Reads as reads
@@ -13,9 +13,9 @@ use Rattle.sfc_text.specs.Trees.{SourceTree}
 use Rattle.sfc_text.proofs.Declaring.{declares}
 use Rattle.sfc_text.proofs.Keeping.{keeps}
 use Rattle.sfc_text.proofs.SpelledSources.{source_derives}
-use Rattle.sfc_chart.specs.Accepted.{IsAccepted}
-use Rattle.sfc_chart.specs.Built.{source_check, plant_of}
-use Rattle.sfc_chart.specs.Plants.{PlantData}
+use Rattle.sfc_load.specs.Accepted.{IsAccepted}
+use Rattle.sfc_load.specs.Built.{source_check, plant_of}
+use Rattle.sfc_plant.specs.Plants.{PlantData}
 use Rattle.sfc_list.specs.Listing.{listing}
 use Rattle.sfc_list.specs.SpelledPlants.{CanSpellPlant}
 use Rattle.sfc_list.specs.Written.{written}
@@ -31,13 +31,13 @@ from_tokens ts tree stand derives passes short =
     let plant : PlantData = plant_of tree in
     let kept : KeepsSource ours tree = keeps ours ts tree derives in
     let spells : CanSpellPlant plant = plant_spelled ours tree (declares CanStand ours ts tree stand derives) kept passes in
-    reads.tree (text_scans (listing plant) (source_tokens (written plant)) short (listing_spelled plant spells []))
+    reads.tree (text_lexes (listing plant) (source_tokens (written plant)) short (listing_spelled plant spells []))
     (source_derives ours (written plant) (written_keeps ours tree passes kept))
 
 listing_reads : (text : List ℕ) (tree : SourceTree) → TextReads text (Ok tree) → source_check tree ≡ None
     → length (listing (plant_of tree)) ≤ longest → TextReads (listing (plant_of tree)) (Ok (written (plant_of tree)))
-listing_reads text tree (reads.tree {ts = ts} scans derives) passes short =
-    from_tokens ts tree (tokens_stand text ts scans) derives passes short
+listing_reads text tree (reads.tree {ts = ts} lexes derives) passes short =
+    from_tokens ts tree (tokens_stand text ts lexes) derives passes short
 
 pub loads_back : (text : List ℕ) (plant : PlantData) → IsAccepted text plant → length (listing plant) ≤ longest → IsAccepted (listing plant) plant
 loads_back text plant is short =

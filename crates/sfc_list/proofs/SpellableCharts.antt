@@ -3,31 +3,32 @@ use Rattle.std.proofs.Common.{◌≡◌, ℕ, ◌<◌, ◌≤◌, ◌^◌, ℤ, 
 use Rattle.std.proofs.lemmas.Int.{ints}
 use Rattle.std.specs.Prelude.{⊤}
 use Rattle.std.proofs.lemmas.List.Elements.{All-nil, All-cons, All-head, All-tail, All-map, All-weaker}
-use Rattle.sfc_tokens.specs.Durations.{greatest}
-use Rattle.sfc_tokens.specs.Names.{IsName}
+use Rattle.sfc_base.specs.Durations.{greatest}
+use Rattle.sfc_base.specs.Names.{IsName}
 use Rattle.sfc_tokens.specs.Spelling.{CanStand}
 use Rattle.sfc_tokens.specs.declared.token.TokenKind.TheVariants as token
-use Rattle.sfc_tokens.specs.declared.var_type.VarType.TheVariants as types
+use Rattle.sfc_base.specs.declared.var_type.VarType.TheVariants as types
 use Rattle.sfc_text.specs.declared.tree.Association as text_association
 use Rattle.sfc_text.specs.declared.tree.Step as text_step
 use Rattle.sfc_text.specs.Declares.{OfOptional, OfName, OfTransition, OfElement}
 use Rattle.sfc_text.specs.Lists.{is_empty}
 use Rattle.sfc_text.specs.Trees.{TransitionTree, ActionTree, ElementTree, AStep, ATransition, AnAction}
-use Rattle.sfc_expr.specs.declared.value.Value.TheVariants as value
-use Rattle.sfc_expr.specs.declared.variable.StepId.{StepId}
+use Rattle.sfc_base.specs.declared.value.Value.TheVariants as value
+use Rattle.sfc_base.specs.declared.references.StepId.{StepId}
 use Rattle.sfc_expr.specs.Trees.{Literal, Nothing}
-use Rattle.sfc_expr.specs.Checking.{checked, checked_body}
+use Rattle.sfc_check.specs.Checking.{checked, checked_body}
 use Rattle.sfc_variables.specs.Checks.{each}
-use Rattle.sfc_tables.specs.declared.association.Target.{Target}
-use Rattle.sfc_tables.specs.declared.association.Target.TheVariants as target
-use Rattle.sfc_tables.specs.declared.association.Time.{Time}
-use Rattle.sfc_tables.specs.declared.association.Time.TheVariants as time
-use Rattle.sfc_tables.specs.declared.association.Qualifier.{Qualifier}
-use Rattle.sfc_tables.specs.declared.association.Qualifier.TheVariants as qualifier
-use Rattle.sfc_tables.specs.Chart.{IsVariable, IsAssociationTime, IsQualifier, IsTarget}
+use Rattle.sfc_plant.specs.declared.association.Target.{Target}
+use Rattle.sfc_plant.specs.declared.association.Target.TheVariants as target
+use Rattle.sfc_plant.specs.declared.association.Time.{Time}
+use Rattle.sfc_plant.specs.declared.association.Time.TheVariants as time
+use Rattle.sfc_plant.specs.declared.association.Qualifier.{Qualifier}
+use Rattle.sfc_plant.specs.declared.association.Qualifier.TheVariants as qualifier
+use Rattle.sfc_plant.specs.Chart.{IsVariable, IsAssociationTime, IsQualifier, IsTarget}
 use Rattle.sfc_program.specs.Elements.{steps_of, transitions_of, actions_of}
 use Rattle.sfc_program.specs.Loading.{side_check, association_check, step_check, transition_check, action_check, chart_check}
-use Rattle.sfc_program.specs.Names.{Space, names_in}
+use Rattle.sfc_plant.specs.Spaces.{Space}
+use Rattle.sfc_program.specs.Names.{names_in}
 use Rattle.sfc_program.specs.Built.{association_of, step_of, step_ids, transition_of, action_of, chart_of}
 use Rattle.sfc_program.proofs.Soundness.{then_first, then_second, counts, association_sound, side_sound, HasSides}
 use Rattle.sfc_list.specs.Charts.{target_text}

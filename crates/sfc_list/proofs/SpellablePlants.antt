@@ -4,11 +4,12 @@ use Rattle.std.proofs.lemmas.Int.{ints}
 use Rattle.std.proofs.lemmas.List.{length-map}
 use Rattle.std.proofs.lemmas.List.Elements.{All-nil, All-cons, All-head, All-tail, All-append, All-map, All-weaker}
 use Rattle.std.proofs.lemmas.Simd.{map-map}
-use Rattle.sfc_tokens.specs.declared.location.Location.{Location}
+use Rattle.sfc_base.specs.declared.limits.TheConstants.{INSTANCES, TASKS}
+use Rattle.sfc_base.specs.declared.location.Location.{Location}
 use Rattle.sfc_tokens.specs.declared.token.TokenKind.TheVariants as token
-use Rattle.sfc_tokens.specs.declared.var_type.VarType.{VarType}
-use Rattle.sfc_tokens.specs.declared.var_type.VarType.TheVariants as types
-use Rattle.sfc_tokens.specs.Names.{IsName}
+use Rattle.sfc_base.specs.declared.var_type.VarType.{VarType}
+use Rattle.sfc_base.specs.declared.var_type.VarType.TheVariants as types
+use Rattle.sfc_base.specs.Names.{IsName}
 use Rattle.sfc_tokens.specs.Spelling.{CanStand}
 use Rattle.sfc_text.specs.declared.tree.Declaration.{Declaration}
 use Rattle.sfc_text.specs.declared.tree.External.{External}
@@ -22,33 +23,34 @@ use Rattle.sfc_text.specs.Limits.{Limits}
 use Rattle.sfc_text.specs.SpelledCharts.{KeepsElement}
 use Rattle.sfc_text.specs.SpelledSources.{KeepsProgram, KeepsSource}
 use Rattle.sfc_text.specs.Trees.{ElementTree, AStep, ATransition, AnAction, ProgramTree, SourceTree}
-use Rattle.sfc_expr.specs.declared.variable.GlobalId.{GlobalId}
-use Rattle.sfc_expr.specs.declared.variable.Variable.TheVariants.{Global}
-use Rattle.sfc_expr.specs.Checking.{checked_literal}
+use Rattle.sfc_base.specs.declared.references.GlobalId.{GlobalId}
+use Rattle.sfc_base.specs.declared.references.Variable.TheVariants.{Global}
+use Rattle.sfc_check.specs.Checking.{checked_literal}
 use Rattle.sfc_expr.specs.Types.{IsOf}
-use Rattle.sfc_expr.specs.Values.{default_value}
-use Rattle.sfc_expr.proofs.CheckedTypes.{literal_of}
+use Rattle.sfc_base.specs.Values.{default_value}
+use Rattle.sfc_check.proofs.CheckedTypes.{literal_of}
 use Rattle.sfc_variables.specs.declared.load_error.LoadError.TheVariants as fault
 use Rattle.sfc_variables.specs.declared.load_error.Limit.TheVariants as limit
-use Rattle.sfc_variables.specs.declared.variable.Variable.{Variable}
+use Rattle.sfc_plant.specs.declared.variable.Variable.{Variable}
 use Rattle.sfc_variables.specs.Checks.{when}
 use Rattle.sfc_variables.specs.Declarations.{Declared, declared_as, declared_by, declared_in, declared_name, declared_check, initial_check, initial_value, variable_of, globals_check, globals_of}
-use Rattle.sfc_variables.specs.Finding.{names_of, variable_place, typed_at}
+use Rattle.sfc_plant.specs.VariableNames.{names_of, variable_place, typed_at}
 use Rattle.sfc_variables.specs.Own.{Own, ALocal, AnExternal, own_in, named_by, own_name, own_names, local_in, external_check, kind_check, variables_check}
-use Rattle.sfc_variables.specs.Places.{fits_location}
-use Rattle.sfc_program.specs.declared.program_type.ProgramType.{ProgramType}
+use Rattle.sfc_variables.specs.Locations.{fits_location}
+use Rattle.sfc_plant.specs.declared.program_type.ProgramType.{ProgramType}
 use Rattle.sfc_program.specs.Elements.{step_names, action_names}
 use Rattle.sfc_program.specs.Loading.{limits_check, distinct_check, element_names, initial_check as has_initial_check, space_of, program_check}
-use Rattle.sfc_program.specs.Names.{Space, space_in}
+use Rattle.sfc_plant.specs.Spaces.{Space, space_in}
 use Rattle.sfc_program.specs.Built.{program_of}
-use Rattle.sfc_program.proofs.Soundness.{then_first, then_second, in_turn_passes, place_below}
-use Rattle.sfc_chart.specs.declared.task.Task.{Task}
-use Rattle.sfc_chart.specs.Plants.{PlantData}
-use Rattle.sfc_chart.specs.Loading.{task_name, task_check, tasks_check, program_name, programs_check, instance_name, instance_check, instances_check, task_names, program_names}
-use Rattle.sfc_chart.specs.Built.{task_of, instance_of, source_check, plant_of}
-use Rattle.sfc_chart.specs.Sound.{IsSingle, IsTask, IsInstance}
-use Rattle.sfc_chart.proofs.Soundness.{task_sound, instance_sound}
-use Rattle.sfc_list.specs.Names.{name_at}
+use Rattle.sfc_program.proofs.Soundness.{then_first, then_second, in_turn_passes}
+use Rattle.sfc_base.proofs.NamePlaces.{place_below}
+use Rattle.sfc_plant.specs.declared.task.Task.{Task}
+use Rattle.sfc_plant.specs.Plants.{PlantData}
+use Rattle.sfc_load.specs.Loading.{task_name, task_check, tasks_check, program_name, programs_check, instance_name, instance_check, instances_check, task_names, program_names}
+use Rattle.sfc_load.specs.Built.{task_of, instance_of, source_check, plant_of}
+use Rattle.sfc_plant.specs.Sound.{IsSingle, IsTask, IsInstance}
+use Rattle.sfc_load.proofs.Soundness.{task_sound, instance_sound}
+use Rattle.sfc_plant.specs.Names.{name_at}
 use Rattle.sfc_list.specs.SpelledPlants.{CanSpellLocation, CanSpellVariable, CanSpellExternal, CanSpellChart, CanSpellProgram, CanSpellTask, CanSpellInstance, CanSpellPlant}
 use Rattle.sfc_list.proofs.SpellableTerms.{AreDeclared, name_there}
 use Rattle.sfc_list.proofs.SpellableCharts.{between, Sided, chart_spelled}
@@ -255,7 +257,7 @@ instance_spelled tasks types task_list program_list i t p task_names_are program
     record {
       name = is;
       task = subst (λ names. IsName (name_at names made.task.0)) (sym t) (name_there task_list made.task.0 task_names_are h.task);
-      program = subst (λ names. IsName (name_at names made.program)) (sym p) (name_there program_list made.program program_names_are h.program);
+      program = subst (λ names. IsName (name_at names made.program.0)) (sym p) (name_there program_list made.program.0 program_names_are h.program);
     }
 
 instances_spelled : (tasks : List Task) (types : List ProgramType) (task_list program_list : List (List ℕ)) → map (λ t. t.name) tasks ≡ task_list
@@ -288,11 +290,11 @@ plant_spelled limits s stands keeps e =
     let programs_are : All IsName program_list = All-map IsName program_name s.programs
     (All-weaker (OfProgram CanStand) (λ p. IsName p.name) (λ p is. is.name) s.programs stands.programs) in
     let sound = in_turn_passes task_name (task_check globals) (λ t. IsTask (length globals) (task_of globals t)) (task_sound globals) [] c.tasks
-    (then_second (when (nat_lt 16 (length c.tasks)) (fault.Limit limit.Tasks)) _ (then_first (tasks_check globals c.tasks) _ after_globals)) in
+    (then_second (when (nat_lt TASKS (length c.tasks)) (fault.Limit limit.Tasks)) _ (then_first (tasks_check globals c.tasks) _ after_globals)) in
     let checks = kinds_pass program_name (program_check globals) [] s.programs (then_first (programs_check globals s.programs) _ after_tasks) in
     let found = in_turn_passes instance_name (instance_check task_list program_list)
     (λ i. IsInstance (length task_list) (length program_list) (instance_of task_list program_list i)) (instance_sound task_list program_list) [] c.instances
-    (then_second (when (nat_lt 64 (length c.instances)) (fault.Limit limit.Instances)) _ (then_first (instances_check task_list program_list c.instances) _ after_types)) in
+    (then_second (when (nat_lt INSTANCES (length c.instances)) (fault.Limit limit.Instances)) _ (then_first (instances_check task_list program_list c.instances) _ after_types)) in
     let plant : PlantData = plant_of s in
     record {
       configuration = stands.configuration.name;

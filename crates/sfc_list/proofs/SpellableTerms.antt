@@ -3,30 +3,32 @@ use Rattle.std.proofs.Common.{◌≡◌, ◌<◌, ◌&&◌, ℕ, List, [], lengt
 use Rattle.std.specs.Option.{option_map}
 use Rattle.std.specs.Prelude.{codes}
 use Rattle.std.proofs.lemmas.List.{length-map}
-use Rattle.sfc_tokens.specs.Case.{same_word}
-use Rattle.sfc_tokens.specs.Names.{IsName}
-use Rattle.sfc_tokens.specs.declared.var_type.VarType.{VarType}
-use Rattle.sfc_tokens.specs.declared.var_type.VarType.TheVariants as types
+use Rattle.sfc_base.specs.Case.{same_word}
+use Rattle.sfc_base.specs.Names.{IsName}
+use Rattle.sfc_base.specs.declared.var_type.VarType.{VarType}
+use Rattle.sfc_base.specs.declared.var_type.VarType.TheVariants as types
 use Rattle.sfc_text.specs.Declares.{OfOptional}
 use Rattle.sfc_text.specs.Trees as text
-use Rattle.sfc_expr.specs.declared.referent.Referent.{Referent}
-use Rattle.sfc_expr.specs.declared.referent.Referent.TheVariants as referent
-use Rattle.sfc_expr.specs.declared.variable.Variable.{Variable}
-use Rattle.sfc_expr.specs.declared.variable.Variable.TheVariants.{Global, Local}
-use Rattle.sfc_expr.specs.declared.variable.StepId.{StepId}
+use Rattle.sfc_check.specs.declared.referent.Referent.{Referent}
+use Rattle.sfc_check.specs.declared.referent.Referent.TheVariants as referent
+use Rattle.sfc_base.specs.declared.references.Variable.{Variable}
+use Rattle.sfc_base.specs.declared.references.Variable.TheVariants.{Global, Local}
+use Rattle.sfc_base.specs.declared.references.StepId.{StepId}
 use Rattle.sfc_expr.specs.Types.{IsOf, integer_type}
 use Rattle.sfc_expr.specs.Trees.{Body, Branches}
-use Rattle.sfc_expr.specs.NameLists.{place_of}
-use Rattle.sfc_expr.specs.Scopes.{Names, found, of_variable, of_step, referent_of, type_of_referent, reading_of}
-use Rattle.sfc_expr.specs.Families.{operator_of, family_of}
-use Rattle.sfc_expr.specs.Naturals.{natural}
-use Rattle.sfc_expr.specs.Checking.{or_wrong, or_unknown, without_part, checked_literal, checked_name, operand_type, checked, checked_target, checked_body, checked_branches}
-use Rattle.sfc_expr.proofs.CheckedTypes.{on_checked, wanted, literal_of}
-use Rattle.sfc_variables.specs.Finding.{names_of}
-use Rattle.sfc_tables.specs.Chart.{IsVariable}
-use Rattle.sfc_program.specs.Names.{Space, is_name_of, names_in}
-use Rattle.sfc_program.proofs.Soundness.{counts, place_below, named_sound}
-use Rattle.sfc_list.specs.Names.{name_at, variable_name, step_name}
+use Rattle.sfc_base.specs.NameLists.{place_of}
+use Rattle.sfc_check.specs.Scopes.{Names, found, of_variable, of_step, referent_of, type_of_referent, reading_of}
+use Rattle.sfc_check.specs.Families.{operator_of, family_of}
+use Rattle.sfc_check.specs.Naturals.{natural}
+use Rattle.sfc_check.specs.Checking.{or_wrong, or_unknown, without_part, checked_literal, checked_name, operand_type, checked, checked_target, checked_body, checked_branches}
+use Rattle.sfc_check.proofs.CheckedTypes.{on_checked, wanted, literal_of}
+use Rattle.sfc_plant.specs.VariableNames.{names_of}
+use Rattle.sfc_plant.specs.Chart.{IsVariable}
+use Rattle.sfc_plant.specs.Spaces.{Space}
+use Rattle.sfc_program.specs.Names.{is_name_of, names_in}
+use Rattle.sfc_program.proofs.Soundness.{counts, named_sound}
+use Rattle.sfc_base.proofs.NamePlaces.{place_below}
+use Rattle.sfc_plant.specs.Names.{name_at, variable_name, step_name}
 use Rattle.sfc_list.specs.SpelledTexts.{AreNames, AreBodyNames, AreBranchNames}
 use Rattle.sfc_list.proofs.WrittenShapes.{then_any}
 

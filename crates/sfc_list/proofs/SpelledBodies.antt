@@ -1,18 +1,18 @@
 -- The text of statements spells the tokens of the statements that the listing spells.
 use Rattle.std.proofs.Common.{◌≡◌, ℕ, zero, suc, ◌+◌, List, [], ◌∷◌, ◌++◌, refl, sym, subst, ◌∙◌, append_assoc, codes}
-use Rattle.sfc_tokens.specs.declared.delimiter.Delimiter.TheVariants as sign
-use Rattle.sfc_tokens.specs.declared.keyword.Keyword.{Keyword}
-use Rattle.sfc_tokens.specs.declared.keyword.Keyword.TheVariants as keyword
-use Rattle.sfc_tokens.specs.declared.run.Alphabet.TheVariants as alphabet
+use Rattle.sfc_base.specs.declared.delimiter.Delimiter.TheVariants as sign
+use Rattle.sfc_base.specs.declared.keyword.Keyword.{Keyword}
+use Rattle.sfc_base.specs.declared.keyword.Keyword.TheVariants as keyword
+use Rattle.sfc_base.specs.declared.run.Alphabet.TheVariants as alphabet
 use Rattle.sfc_tokens.specs.declared.token.TokenKind.{TokenKind}
 use Rattle.sfc_tokens.specs.declared.token.TokenKind.TheVariants as token
-use Rattle.sfc_tokens.specs.Case.{same_word}
-use Rattle.sfc_tokens.specs.Classes.{class_of}
-use Rattle.sfc_tokens.specs.Names.{is_spaced, IsName}
-use Rattle.sfc_tokens.specs.Runs.{Ends}
+use Rattle.sfc_base.specs.Case.{same_word}
+use Rattle.sfc_base.specs.Classes.{class_of}
+use Rattle.sfc_base.specs.Names.{is_spaced, IsName}
+use Rattle.sfc_base.specs.Runs.{Ends}
 use Rattle.sfc_tokens.specs.Spelling as spelling
 use Rattle.sfc_tokens.specs.Spelling.{Spells}
-use Rattle.sfc_tokens.specs.Words.{keyword_of}
+use Rattle.sfc_base.specs.Words.{keyword_of}
 use Rattle.sfc_tokens.proofs.Signs.{sign_spells}
 use Rattle.sfc_tokens.proofs.Spaced.{reserved_spaced}
 use Rattle.sfc_tokens.proofs.Spelled.{name_spells, reserved_spells}
@@ -20,10 +20,10 @@ use Rattle.sfc_tokens.proofs.Spellings.{joined}
 use Rattle.sfc_text.specs.Spelled.{tree_tokens}
 use Rattle.sfc_text.specs.SpelledStatements.{body_tokens, branches_tokens}
 use Rattle.sfc_expr.specs.Trees.{Body, Nothing, Assign, If, Branches, NoBranch, When, Otherwise}
-use Rattle.sfc_program.specs.Names.{Space}
+use Rattle.sfc_plant.specs.Spaces.{Space}
 use Rattle.sfc_list.specs.Layout.{indent, line}
 use Rattle.sfc_list.specs.Expressions.{expression_text}
-use Rattle.sfc_list.specs.Names.{variable_name}
+use Rattle.sfc_plant.specs.Names.{variable_name}
 use Rattle.sfc_list.specs.SpelledTexts.{AreBodyNames, AreBranchNames}
 use Rattle.sfc_list.specs.Statements.{assignment_text, branch_head, body_text, branches_text}
 use Rattle.sfc_list.specs.WrittenTerms.{expression_tree, body_tree, branches_tree}

@@ -2,20 +2,20 @@
 use Rattle.std.proofs.Common.{◌≡◌, ℕ, ℤ, pos, unsigned_abs, ◌≤◌, ◌<◌, ◌^◌, Bool, true, false, if◌then◌else◌, List, [], ◌∷◌, ◌++◌, map, flat_map, Option, Some, None, refl, sym, ap, subst, ◌∙◌, append_assoc, codes}
 use Rattle.std.specs.Fmt.{decimal}
 use Rattle.std.specs.Ordering.{int_eq}
-use Rattle.sfc_tokens.specs.declared.delimiter.Delimiter.TheVariants as sign
-use Rattle.sfc_tokens.specs.declared.keyword.Keyword.TheVariants as keyword
-use Rattle.sfc_tokens.specs.declared.run.Alphabet.TheVariants as alphabet
+use Rattle.sfc_base.specs.declared.delimiter.Delimiter.TheVariants as sign
+use Rattle.sfc_base.specs.declared.keyword.Keyword.TheVariants as keyword
+use Rattle.sfc_base.specs.declared.run.Alphabet.TheVariants as alphabet
 use Rattle.sfc_tokens.specs.declared.token.TokenKind.{TokenKind}
 use Rattle.sfc_tokens.specs.declared.token.TokenKind.TheVariants as token
-use Rattle.sfc_tokens.specs.Case.{same_word}
-use Rattle.sfc_tokens.specs.Classes.{class_of}
-use Rattle.sfc_tokens.specs.Durations.{greatest}
-use Rattle.sfc_tokens.specs.Names.{is_spaced, IsName}
-use Rattle.sfc_tokens.specs.Runs.{Ends}
+use Rattle.sfc_base.specs.Case.{same_word}
+use Rattle.sfc_base.specs.Classes.{class_of}
+use Rattle.sfc_base.specs.Durations.{greatest}
+use Rattle.sfc_base.specs.Names.{is_spaced, IsName}
+use Rattle.sfc_base.specs.Runs.{Ends}
 use Rattle.sfc_tokens.specs.Spelling as spelling
 use Rattle.sfc_tokens.specs.Spelling.{Spells}
-use Rattle.sfc_tokens.specs.TimeText.{time_text}
-use Rattle.sfc_tokens.specs.Words.{keyword_of}
+use Rattle.sfc_base.specs.TimeText.{time_text}
+use Rattle.sfc_base.specs.Words.{keyword_of}
 use Rattle.sfc_tokens.proofs.DurationWords.{duration_before}
 use Rattle.sfc_tokens.proofs.Signs.{sign_spells}
 use Rattle.sfc_tokens.proofs.Spaced.{name_spaced, reserved_spaced}
@@ -24,16 +24,16 @@ use Rattle.sfc_tokens.proofs.Spellings.{alone, joined}
 use Rattle.sfc_tokens.proofs.TimeLaw.{time_is}
 use Rattle.sfc_text.specs.Declares.{OfOptional}
 use Rattle.sfc_text.specs.SpelledSources.{single_tokens, interval_tokens, task_tokens, instance_tokens, globals_tokens, configuration_tokens, program_tokens, source_tokens}
-use Rattle.sfc_expr.specs.declared.variable.GlobalId.{GlobalId}
-use Rattle.sfc_variables.specs.declared.variable.Variable.{Variable}
-use Rattle.sfc_variables.specs.Finding.{names_of}
-use Rattle.sfc_program.specs.declared.program_type.ProgramType.{ProgramType}
-use Rattle.sfc_chart.specs.declared.task.Task.{Task}
-use Rattle.sfc_chart.specs.declared.instance.Instance.{Instance}
-use Rattle.sfc_chart.specs.Plants.{PlantData}
+use Rattle.sfc_base.specs.declared.references.GlobalId.{GlobalId}
+use Rattle.sfc_plant.specs.declared.variable.Variable.{Variable}
+use Rattle.sfc_plant.specs.VariableNames.{names_of}
+use Rattle.sfc_plant.specs.declared.program_type.ProgramType.{ProgramType}
+use Rattle.sfc_plant.specs.declared.task.Task.{Task}
+use Rattle.sfc_plant.specs.declared.instance.Instance.{Instance}
+use Rattle.sfc_plant.specs.Plants.{PlantData}
 use Rattle.sfc_list.specs.Layout.{line, block}
-use Rattle.sfc_list.specs.Listing.{variable_text, program_text, single_text, interval_text, task_text, task_name, type_name, instance_text, configuration_head, resource_head, configuration_text, listing}
-use Rattle.sfc_list.specs.Names.{name_at}
+use Rattle.sfc_list.specs.Listing.{variable_text, program_text, single_text, interval_text, task_text, instance_text, configuration_head, resource_head, configuration_text, listing}
+use Rattle.sfc_plant.specs.Names.{name_at, task_name, type_name}
 use Rattle.sfc_list.specs.SpelledPlants.{CanSpellProgram, CanSpellTask, CanSpellInstance, CanSpellPlant}
 use Rattle.sfc_list.specs.Written.{program_tree, single_tree, task_tree, instance_tree, configuration_tree, written}
 use Rattle.sfc_list.specs.WrittenVariables.{declaration_tree}
@@ -170,7 +170,7 @@ instanced name task type is task_is type_is rest =
     (semicolon rest)
 
 instance_spelled : (tasks : List Task) (types : List ProgramType) (i : Instance) → CanSpellInstance tasks types i → SpellsAlways (instance_text tasks types i) (instance_tokens (instance_tree tasks types i))
-instance_spelled tasks types i is = instanced i.name (task_name tasks i.task.0) (type_name types i.program) is.name is.task is.program
+instance_spelled tasks types i is = instanced i.name (task_name tasks i.task.0) (type_name types i.program.0) is.name is.task is.program
 
 -- ---- the configuration
 

@@ -1,33 +1,33 @@
 -- The text of an expression spells the tokens of the tree that the listing spells.
 use Rattle.std.proofs.Common.{◌≡◌, ℕ, pos, negsuc, suc, ◌+◌, nat_lt, Bool, true, false, ◌&&◌, if◌then◌else◌, List, [], ◌∷◌, ◌++◌, Some, refl, sym, subst, ◌∙◌, append_assoc, codes}
 use Rattle.std.specs.List.{list_all}
-use Rattle.sfc_tokens.specs.declared.class.Class.{Class}
-use Rattle.sfc_tokens.specs.declared.class.Class.TheVariants as class
-use Rattle.sfc_tokens.specs.declared.delimiter.Delimiter.TheVariants as sign
-use Rattle.sfc_tokens.specs.declared.keyword.Keyword.TheVariants as keyword
-use Rattle.sfc_tokens.specs.declared.run.Alphabet.TheVariants as alphabet
+use Rattle.sfc_base.specs.declared.class.Class.{Class}
+use Rattle.sfc_base.specs.declared.class.Class.TheVariants as class
+use Rattle.sfc_base.specs.declared.delimiter.Delimiter.TheVariants as sign
+use Rattle.sfc_base.specs.declared.keyword.Keyword.TheVariants as keyword
+use Rattle.sfc_base.specs.declared.run.Alphabet.TheVariants as alphabet
 use Rattle.sfc_tokens.specs.declared.token.TokenKind.{TokenKind}
 use Rattle.sfc_tokens.specs.declared.token.TokenKind.TheVariants as token
-use Rattle.sfc_tokens.specs.Case.{same_word}
-use Rattle.sfc_tokens.specs.Classes.{class_of, first_class}
+use Rattle.sfc_base.specs.Case.{same_word}
+use Rattle.sfc_base.specs.Classes.{class_of, first_class}
 use Rattle.sfc_tokens.specs.Lexemes.{look_ahead, Piece}
-use Rattle.sfc_tokens.specs.Names.{starts_word, is_spaced, is_word, IsName}
-use Rattle.sfc_tokens.specs.Runs.{has, Ends}
+use Rattle.sfc_base.specs.Names.{starts_word, is_spaced, is_word, IsName}
+use Rattle.sfc_base.specs.Runs.{has, Ends}
 use Rattle.sfc_tokens.specs.Spelling as spelling
 use Rattle.sfc_tokens.specs.Spelling.{Spells}
-use Rattle.sfc_tokens.specs.Words.{keyword_of}
+use Rattle.sfc_base.specs.Words.{keyword_of}
 use Rattle.sfc_tokens.proofs.Signs.{sign_spells}
 use Rattle.sfc_tokens.proofs.Spelled.{name_spells, reserved_spells}
 use Rattle.sfc_tokens.proofs.Spellings.{alone, joined}
 use Rattle.sfc_text.specs.Spelled.{operator_token, tighter, is_looser, enclosed, behind_minus, tree_tokens}
 use Rattle.sfc_expr.specs.declared.operator.Operator.{Operator}
 use Rattle.sfc_expr.specs.declared.operator.Operator.TheVariants as operator
-use Rattle.sfc_expr.specs.declared.value.Value.{Value}
-use Rattle.sfc_expr.specs.declared.value.Value.TheVariants as value
+use Rattle.sfc_base.specs.declared.value.Value.{Value}
+use Rattle.sfc_base.specs.declared.value.Value.TheVariants as value
 use Rattle.sfc_expr.specs.Trees.{Expression, Literal, Read, StepActive, StepTime, ActionQ, Not, Minus, Binary}
-use Rattle.sfc_program.specs.Names.{Space}
+use Rattle.sfc_plant.specs.Spaces.{Space}
 use Rattle.sfc_list.specs.Expressions.{operator_text, level, level_of, prefix_level, operand, expression_text}
-use Rattle.sfc_list.specs.Names.{variable_name, step_name}
+use Rattle.sfc_plant.specs.Names.{variable_name, step_name}
 use Rattle.sfc_list.specs.SpelledTexts.{AreNames}
 use Rattle.sfc_list.specs.Values.{literal_text}
 use Rattle.sfc_list.specs.WrittenTerms.{operator_tree, expression_tree}

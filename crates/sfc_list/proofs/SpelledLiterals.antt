@@ -1,30 +1,30 @@
 -- The text of a value spells the tokens of its literal.
 use Rattle.std.proofs.Common.{◌≡◌, ℕ, ℤ, pos, negsuc, unsigned_abs, int_le, leb, max, suc, ◌<◌, ◌≤◌, ◌^◌, ◌-◌, Bool, true, false, ◌&&◌, ◌==◌, List, [], ◌∷◌, IsTrue, refl, subst, arith, codes}
 use Rattle.std.proofs.lemmas.Bool.{eqb-true, leb-true}
-use Rattle.sfc_tokens.specs.declared.var_type.VarType.TheVariants as types
-use Rattle.sfc_tokens.specs.declared.class.Class.{Class}
-use Rattle.sfc_tokens.specs.declared.class.Class.TheVariants as class
-use Rattle.sfc_tokens.specs.declared.run.Alphabet.TheVariants as alphabet
-use Rattle.sfc_tokens.specs.declared.keyword.Keyword.TheVariants as keyword
+use Rattle.sfc_base.specs.declared.var_type.VarType.TheVariants as types
+use Rattle.sfc_base.specs.declared.class.Class.{Class}
+use Rattle.sfc_base.specs.declared.class.Class.TheVariants as class
+use Rattle.sfc_base.specs.declared.run.Alphabet.TheVariants as alphabet
+use Rattle.sfc_base.specs.declared.keyword.Keyword.TheVariants as keyword
 use Rattle.sfc_tokens.specs.declared.token.TokenKind.TheVariants as token
-use Rattle.sfc_tokens.specs.Case.{same_word}
-use Rattle.sfc_tokens.specs.Classes.{class_of}
-use Rattle.sfc_tokens.specs.Durations.{greatest}
+use Rattle.sfc_base.specs.Case.{same_word}
+use Rattle.sfc_base.specs.Classes.{class_of}
+use Rattle.sfc_base.specs.Durations.{greatest}
 use Rattle.sfc_tokens.specs.Lexemes.{is_sharp_first}
-use Rattle.sfc_tokens.specs.Names.{is_spaced}
-use Rattle.sfc_tokens.specs.Runs.{is_in, has, Ends}
+use Rattle.sfc_base.specs.Names.{is_spaced}
+use Rattle.sfc_base.specs.Runs.{is_in, has, Ends}
 use Rattle.sfc_tokens.specs.Spelling.{Spells}
-use Rattle.sfc_tokens.specs.TimeText.{time_text}
-use Rattle.sfc_tokens.specs.Words.{keyword_of}
+use Rattle.sfc_base.specs.TimeText.{time_text}
+use Rattle.sfc_base.specs.Words.{keyword_of}
 use Rattle.sfc_tokens.proofs.DurationWords.{duration_before}
 use Rattle.sfc_tokens.proofs.Spelled.{int_spells, dint_spells, reserved_spells}
 use Rattle.sfc_tokens.proofs.Spellings.{alone}
 use Rattle.sfc_tokens.proofs.TimeLaw.{time_is}
 use Rattle.sfc_text.specs.Spelled.{literal_tokens}
-use Rattle.sfc_expr.specs.declared.value.Value.{Value}
-use Rattle.sfc_expr.specs.declared.value.Value.TheVariants as value
+use Rattle.sfc_base.specs.declared.value.Value.{Value}
+use Rattle.sfc_base.specs.declared.value.Value.TheVariants as value
 use Rattle.sfc_expr.specs.Types.{lies_in_range}
-use Rattle.sfc_expr.specs.Values.{is_in_range}
+use Rattle.sfc_base.specs.Values.{is_in_range}
 use Rattle.sfc_list.specs.Values.{literal_text}
 use Rattle.sfc_list.specs.WrittenTerms.{literal_tree}
 

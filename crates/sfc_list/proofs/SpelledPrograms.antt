@@ -1,15 +1,15 @@
 -- The text of a program type spells the tokens of the one that the listing spells.
 use Rattle.std.proofs.Common.{ℕ, List, [], ◌∷◌, ◌++◌, map, flat_map, refl, sym, subst, codes}
 use Rattle.std.proofs.lemmas.Grind.{flat_map-append}
-use Rattle.sfc_tokens.specs.declared.keyword.Keyword.{Keyword}
-use Rattle.sfc_tokens.specs.declared.keyword.Keyword.TheVariants as keyword
+use Rattle.sfc_base.specs.declared.keyword.Keyword.{Keyword}
+use Rattle.sfc_base.specs.declared.keyword.Keyword.TheVariants as keyword
 use Rattle.sfc_tokens.specs.declared.token.TokenKind.{TokenKind}
 use Rattle.sfc_tokens.specs.declared.token.TokenKind.TheVariants as token
-use Rattle.sfc_tokens.specs.Case.{same_word}
-use Rattle.sfc_tokens.specs.Classes.{class_of}
-use Rattle.sfc_tokens.specs.Names.{is_spaced, IsName}
+use Rattle.sfc_base.specs.Case.{same_word}
+use Rattle.sfc_base.specs.Classes.{class_of}
+use Rattle.sfc_base.specs.Names.{is_spaced, IsName}
 use Rattle.sfc_tokens.specs.Spelling.{Spells}
-use Rattle.sfc_tokens.specs.Words.{keyword_of}
+use Rattle.sfc_base.specs.Words.{keyword_of}
 use Rattle.sfc_tokens.proofs.Spaced.{reserved_spaced}
 use Rattle.sfc_tokens.proofs.Spelled.{reserved_spells}
 use Rattle.sfc_tokens.proofs.Spellings.{alone, joined}
@@ -18,10 +18,10 @@ use Rattle.sfc_text.specs.declared.tree.VariableBlock.TheVariants as block_of
 use Rattle.sfc_text.specs.SpelledCharts.{element_tokens}
 use Rattle.sfc_text.specs.SpelledSources.{variables_tokens, program_tokens}
 use Rattle.sfc_text.specs.Trees.{ElementTree, AStep, ATransition, AnAction}
-use Rattle.sfc_tables.specs.declared.chart.Chart.{Chart}
-use Rattle.sfc_variables.specs.declared.variable.Variable.{Variable}
-use Rattle.sfc_program.specs.declared.program_type.ProgramType.{ProgramType}
-use Rattle.sfc_program.specs.Names.{Space, space_in}
+use Rattle.sfc_plant.specs.declared.chart.Chart.{Chart}
+use Rattle.sfc_plant.specs.declared.variable.Variable.{Variable}
+use Rattle.sfc_plant.specs.declared.program_type.ProgramType.{ProgramType}
+use Rattle.sfc_plant.specs.Spaces.{Space, space_in}
 use Rattle.sfc_list.specs.Layout.{line, block}
 use Rattle.sfc_list.specs.Charts.{step_text, transition_text, action_text}
 use Rattle.sfc_list.specs.Listing.{variable_text, external_text, program_head, chart_text, program_text}

@@ -1,39 +1,39 @@
 -- The text of a step spells the tokens of the step that the listing spells.
 use Rattle.std.proofs.Common.{ℕ, Bool, true, false, List, [], ◌∷◌, ◌++◌, map, flat_map, refl, codes}
 use Rattle.std.proofs.lemmas.List.Elements.{All-map}
-use Rattle.sfc_tokens.specs.declared.delimiter.Delimiter.TheVariants as sign
-use Rattle.sfc_tokens.specs.declared.keyword.Keyword.{Keyword}
-use Rattle.sfc_tokens.specs.declared.keyword.Keyword.TheVariants as keyword
-use Rattle.sfc_tokens.specs.declared.run.Alphabet.TheVariants as alphabet
+use Rattle.sfc_base.specs.declared.delimiter.Delimiter.TheVariants as sign
+use Rattle.sfc_base.specs.declared.keyword.Keyword.{Keyword}
+use Rattle.sfc_base.specs.declared.keyword.Keyword.TheVariants as keyword
+use Rattle.sfc_base.specs.declared.run.Alphabet.TheVariants as alphabet
 use Rattle.sfc_tokens.specs.declared.token.TokenKind.{TokenKind}
 use Rattle.sfc_tokens.specs.declared.token.TokenKind.TheVariants as token
-use Rattle.sfc_tokens.specs.Case.{same_word}
-use Rattle.sfc_tokens.specs.Classes.{class_of}
-use Rattle.sfc_tokens.specs.Names.{is_spaced, IsName}
-use Rattle.sfc_tokens.specs.Runs.{Ends}
+use Rattle.sfc_base.specs.Case.{same_word}
+use Rattle.sfc_base.specs.Classes.{class_of}
+use Rattle.sfc_base.specs.Names.{is_spaced, IsName}
+use Rattle.sfc_base.specs.Runs.{Ends}
 use Rattle.sfc_tokens.specs.Spelling.{Spells}
-use Rattle.sfc_tokens.specs.TimeText.{time_text}
-use Rattle.sfc_tokens.specs.Words.{keyword_of}
+use Rattle.sfc_base.specs.TimeText.{time_text}
+use Rattle.sfc_base.specs.Words.{keyword_of}
 use Rattle.sfc_tokens.proofs.DurationWords.{duration_before}
 use Rattle.sfc_tokens.proofs.Signs.{sign_spells}
 use Rattle.sfc_tokens.proofs.Spaced.{reserved_spaced}
 use Rattle.sfc_tokens.proofs.Spelled.{reserved_spells}
 use Rattle.sfc_tokens.proofs.Spellings.{alone, joined}
 use Rattle.sfc_tokens.proofs.TimeLaw.{time_is}
-use Rattle.sfc_text.specs.declared.tree.TimedQualifier.{TimedQualifier}
-use Rattle.sfc_text.specs.declared.tree.TimedQualifier.TheVariants as timed
+use Rattle.sfc_base.specs.declared.qualifier.TimedQualifier.{TimedQualifier}
+use Rattle.sfc_base.specs.declared.qualifier.TimedQualifier.TheVariants as timed
 use Rattle.sfc_text.specs.SpelledCharts as spelled
 use Rattle.sfc_text.specs.SpelledCharts.{timed_letters, time_tokens, qualifier_tokens, association_tokens, step_tokens}
-use Rattle.sfc_tables.specs.declared.association.Association.{Association}
-use Rattle.sfc_tables.specs.declared.association.Time.{Time}
-use Rattle.sfc_tables.specs.declared.association.Time.TheVariants as time
-use Rattle.sfc_tables.specs.declared.association.Qualifier.{Qualifier}
-use Rattle.sfc_tables.specs.declared.association.Qualifier.TheVariants as qualifier
-use Rattle.sfc_tables.specs.declared.chart.Step.{Step}
-use Rattle.sfc_program.specs.Names.{Space}
+use Rattle.sfc_plant.specs.declared.association.Association.{Association}
+use Rattle.sfc_plant.specs.declared.association.Time.{Time}
+use Rattle.sfc_plant.specs.declared.association.Time.TheVariants as time
+use Rattle.sfc_plant.specs.declared.association.Qualifier.{Qualifier}
+use Rattle.sfc_plant.specs.declared.association.Qualifier.TheVariants as qualifier
+use Rattle.sfc_plant.specs.declared.chart.Step.{Step}
+use Rattle.sfc_plant.specs.Spaces.{Space}
 use Rattle.sfc_list.specs.Layout.{line}
 use Rattle.sfc_list.specs.Charts.{target_text, timed_text, association_time, qualifier_text, indicators_text, association_text, step_word, step_head, step_text}
-use Rattle.sfc_list.specs.Names.{variable_name}
+use Rattle.sfc_plant.specs.Names.{variable_name}
 use Rattle.sfc_list.specs.SpelledPlants.{CanSpellTime, CanSpellQualifier, CanSpellAssociation, CanSpellStep}
 use Rattle.sfc_list.specs.WrittenCharts.{time_tree, qualifier_tree, association_tree, step_tree}
 use Rattle.sfc_list.proofs.SpelledExpressions.{Opens}

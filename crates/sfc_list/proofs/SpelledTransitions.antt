@@ -2,18 +2,18 @@
 use Rattle.std.proofs.Common.{◌≡◌, ℕ, ◌<◌, ◌^◌, List, [], ◌∷◌, ◌++◌, map, length, All, Option, Some, None, refl, sym, ap, subst, ◌∙◌, append_assoc, arith, codes}
 use Rattle.std.specs.Fmt.{decimal}
 use Rattle.std.proofs.lemmas.List.Elements.{All-head, All-tail, All-map}
-use Rattle.sfc_tokens.specs.declared.delimiter.Delimiter.TheVariants as sign
-use Rattle.sfc_tokens.specs.declared.keyword.Keyword.TheVariants as keyword
-use Rattle.sfc_tokens.specs.declared.run.Alphabet.TheVariants as alphabet
+use Rattle.sfc_base.specs.declared.delimiter.Delimiter.TheVariants as sign
+use Rattle.sfc_base.specs.declared.keyword.Keyword.TheVariants as keyword
+use Rattle.sfc_base.specs.declared.run.Alphabet.TheVariants as alphabet
 use Rattle.sfc_tokens.specs.declared.token.TokenKind.{TokenKind}
 use Rattle.sfc_tokens.specs.declared.token.TokenKind.TheVariants as token
-use Rattle.sfc_tokens.specs.Case.{same_word}
-use Rattle.sfc_tokens.specs.Classes.{class_of}
-use Rattle.sfc_tokens.specs.Names.{is_spaced, IsName}
-use Rattle.sfc_tokens.specs.Runs.{Ends}
+use Rattle.sfc_base.specs.Case.{same_word}
+use Rattle.sfc_base.specs.Classes.{class_of}
+use Rattle.sfc_base.specs.Names.{is_spaced, IsName}
+use Rattle.sfc_base.specs.Runs.{Ends}
 use Rattle.sfc_tokens.specs.Spelling as spelling
 use Rattle.sfc_tokens.specs.Spelling.{Spells}
-use Rattle.sfc_tokens.specs.Words.{keyword_of}
+use Rattle.sfc_base.specs.Words.{keyword_of}
 use Rattle.sfc_tokens.proofs.Signs.{sign_spells}
 use Rattle.sfc_tokens.proofs.Spaced.{name_spaced, reserved_spaced}
 use Rattle.sfc_tokens.proofs.Spelled.{integer_spells, reserved_spells}
@@ -23,13 +23,13 @@ use Rattle.sfc_text.specs.Spelled.{tree_tokens}
 use Rattle.sfc_text.specs.SpelledCharts as spelled
 use Rattle.sfc_text.specs.SpelledCharts.{further_tokens, side_tokens, priority_tokens, transition_tokens, action_tokens}
 use Rattle.sfc_text.specs.SpelledStatements.{body_tokens}
-use Rattle.sfc_tables.specs.declared.action.Action.{Action}
-use Rattle.sfc_tables.specs.declared.chart.Transition.{Transition}
-use Rattle.sfc_program.specs.Names.{Space}
+use Rattle.sfc_plant.specs.declared.action.Action.{Action}
+use Rattle.sfc_plant.specs.declared.chart.Transition.{Transition}
+use Rattle.sfc_plant.specs.Spaces.{Space}
 use Rattle.sfc_list.specs.Layout.{line, after_commas}
 use Rattle.sfc_list.specs.Charts.{side_text, priority_text, transition_name, transition_head, condition_text, transition_text, action_head, action_text}
 use Rattle.sfc_list.specs.Expressions.{expression_text}
-use Rattle.sfc_list.specs.Names.{step_name}
+use Rattle.sfc_plant.specs.Names.{step_name}
 use Rattle.sfc_list.specs.Statements.{body_text}
 use Rattle.sfc_list.specs.SpelledPlants.{CanSpellTransition, CanSpellAction}
 use Rattle.sfc_list.specs.WrittenCharts.{transition_tree, action_tree}

@@ -1,23 +1,23 @@
 -- The texts of variables, and of blocks of them, spell the tokens of those that the listing spells.
 use Rattle.std.proofs.Common.{◌≡◌, ℕ, zero, suc, arith, ◌<◌, List, [], ◌∷◌, ◌++◌, map, flat_map, length, All, Option, Some, None, slice_get, refl, sym, ap, subst, ◌∙◌, append_assoc, codes}
 use Rattle.std.proofs.lemmas.List.{append-nil}
-use Rattle.sfc_tokens.specs.declared.delimiter.Delimiter.TheVariants as sign
-use Rattle.sfc_tokens.specs.declared.keyword.Keyword.{Keyword}
-use Rattle.sfc_tokens.specs.declared.keyword.Keyword.TheVariants as keyword
-use Rattle.sfc_tokens.specs.declared.location.Location.{Location}
-use Rattle.sfc_tokens.specs.declared.run.Alphabet.TheVariants as alphabet
+use Rattle.sfc_base.specs.declared.delimiter.Delimiter.TheVariants as sign
+use Rattle.sfc_base.specs.declared.keyword.Keyword.{Keyword}
+use Rattle.sfc_base.specs.declared.keyword.Keyword.TheVariants as keyword
+use Rattle.sfc_base.specs.declared.location.Location.{Location}
+use Rattle.sfc_base.specs.declared.run.Alphabet.TheVariants as alphabet
 use Rattle.sfc_tokens.specs.declared.token.TokenKind.{TokenKind}
 use Rattle.sfc_tokens.specs.declared.token.TokenKind.TheVariants as token
-use Rattle.sfc_tokens.specs.declared.var_type.VarType.{VarType}
-use Rattle.sfc_tokens.specs.declared.var_type.VarType.TheVariants as types
-use Rattle.sfc_tokens.specs.Case.{same_word}
-use Rattle.sfc_tokens.specs.Classes.{class_of}
-use Rattle.sfc_tokens.specs.LocationText.{location_text}
-use Rattle.sfc_tokens.specs.Names.{is_spaced, IsName}
-use Rattle.sfc_tokens.specs.Runs.{Ends}
+use Rattle.sfc_base.specs.declared.var_type.VarType.{VarType}
+use Rattle.sfc_base.specs.declared.var_type.VarType.TheVariants as types
+use Rattle.sfc_base.specs.Case.{same_word}
+use Rattle.sfc_base.specs.Classes.{class_of}
+use Rattle.sfc_base.specs.LocationText.{location_text}
+use Rattle.sfc_base.specs.Names.{is_spaced, IsName}
+use Rattle.sfc_base.specs.Runs.{Ends}
 use Rattle.sfc_tokens.specs.Spelling as spelling
 use Rattle.sfc_tokens.specs.Spelling.{Spells}
-use Rattle.sfc_tokens.specs.Words.{keyword_of}
+use Rattle.sfc_base.specs.Words.{keyword_of}
 use Rattle.sfc_tokens.proofs.Spaced.{reserved_spaced}
 use Rattle.sfc_tokens.proofs.Spelled.{reserved_spells}
 use Rattle.sfc_tokens.proofs.SpelledLocations.{location_spells}
@@ -26,15 +26,15 @@ use Rattle.sfc_text.specs.declared.tree.VariableBlock.{VariableBlock}
 use Rattle.sfc_text.specs.declared.tree.VariableBlock.TheVariants as block_of
 use Rattle.sfc_text.specs.Declares.{OfOptional}
 use Rattle.sfc_text.specs.Spelled.{literal_tokens}
-use Rattle.sfc_text.specs.SpelledSources.{place_tokens, type_word, declaration_tokens, external_tokens, variables_tokens, globals_tokens}
-use Rattle.sfc_expr.specs.declared.variable.GlobalId.{GlobalId}
-use Rattle.sfc_variables.specs.declared.variable.Variable.{Variable}
-use Rattle.sfc_variables.specs.Finding.{names_of}
-use Rattle.sfc_program.specs.declared.program_type.ProgramType.{ProgramType}
-use Rattle.sfc_program.specs.Names.{space_in}
+use Rattle.sfc_text.specs.SpelledSources.{at_tokens, type_word, declaration_tokens, external_tokens, variables_tokens, globals_tokens}
+use Rattle.sfc_base.specs.declared.references.GlobalId.{GlobalId}
+use Rattle.sfc_plant.specs.declared.variable.Variable.{Variable}
+use Rattle.sfc_plant.specs.VariableNames.{names_of}
+use Rattle.sfc_plant.specs.declared.program_type.ProgramType.{ProgramType}
+use Rattle.sfc_plant.specs.Spaces.{space_in}
 use Rattle.sfc_list.specs.Layout.{line, block}
-use Rattle.sfc_list.specs.Listing.{place_text, variable_text, external_type, external_text}
-use Rattle.sfc_list.specs.Names.{name_at}
+use Rattle.sfc_list.specs.Listing.{at_text, variable_text, external_type, external_text}
+use Rattle.sfc_plant.specs.Names.{name_at}
 use Rattle.sfc_list.specs.Values.{type_text, literal_text}
 use Rattle.sfc_list.specs.SpelledPlants.{CanSpellLocation, CanSpellVariable, CanSpellExternal}
 use Rattle.sfc_list.specs.WrittenTerms.{literal_tree}
@@ -56,16 +56,16 @@ at_word : SpellsAlways (codes " AT ") (token.Keyword keyword.At ∷ [])
 unfolding class_of is_spaced keyword_of same_word
 at_word rest = spelling.space refl (reserved_spaced (codes "AT") rest 32 keyword.At refl refl refl)
 
-place_spelled : (place : Option Location) (rest : List ℕ) → OfOptional CanSpellLocation place → Ends alphabet.Location rest → Spells (place_text place) (place_tokens place) rest
-place_spelled None rest is ends = spelling.nothing
-place_spelled (Some l) rest is ends =
+at_spelled : (location : Option Location) (rest : List ℕ) → OfOptional CanSpellLocation location → Ends alphabet.Location rest → Spells (at_text location) (at_tokens location) rest
+at_spelled None rest is ends = spelling.nothing
+at_spelled (Some l) rest is ends =
     joined (codes " AT ") (location_text l) rest (token.Keyword keyword.At ∷ []) (token.Location l ∷ []) (at_word (location_text l ++ rest))
     (alone (location_text l) rest (token.Location l) (location_spells l rest is.count is.numbers ends))
 
-place_ends : (place : Option Location) (rest : List ℕ) → Ends alphabet.Location rest → Ends alphabet.Location (place_text place ++ rest)
+at_ends : (location : Option Location) (rest : List ℕ) → Ends alphabet.Location rest → Ends alphabet.Location (at_text location ++ rest)
 unfolding class_of
-place_ends None rest ends = ends
-place_ends (Some l) rest ends = refl
+at_ends None rest ends = ends
+at_ends (Some l) rest ends = refl
 
 -- ---- declarations
 
@@ -92,16 +92,16 @@ declared front t v rest ts k vs p q h =
     (joined front (codes " : " ++ t ++ codes " := " ++ v) (59 ∷ rest) ts us (p (codes ": " ++ t ++ codes " := " ++ v ++ (59 ∷ rest))) (typed t v (59 ∷ rest) k vs q h)))
     (semicolon rest)
 
-placed : (name : List ℕ) (place : Option Location) (rest : List ℕ) → IsName name → OfOptional CanSpellLocation place
-    → Spells (name ++ place_text place) ((token.Name name ∷ []) ++ place_tokens place) (32 ∷ rest)
-placed name place rest is at =
-    joined name (place_text place) (32 ∷ rest) (token.Name name ∷ []) (place_tokens place)
-    (named name (place_text place ++ (32 ∷ rest)) is (place_ends place (32 ∷ rest) (before_space rest))) (place_spelled place (32 ∷ rest) at (before_space rest))
+located : (name : List ℕ) (location : Option Location) (rest : List ℕ) → IsName name → OfOptional CanSpellLocation location
+    → Spells (name ++ at_text location) ((token.Name name ∷ []) ++ at_tokens location) (32 ∷ rest)
+located name location rest is at =
+    joined name (at_text location) (32 ∷ rest) (token.Name name ∷ []) (at_tokens location)
+    (named name (at_text location ++ (32 ∷ rest)) is (at_ends location (32 ∷ rest) (before_space rest))) (at_spelled location (32 ∷ rest) at (before_space rest))
 
 pub variable_spelled : (v : Variable) → CanSpellVariable v → SpellsAlways (variable_text v) (declaration_tokens (declaration_tree v))
 variable_spelled v is rest =
-    declared (v.name ++ place_text v.location) (type_text v.var_type) (literal_text v.initial) rest ((token.Name v.name ∷ []) ++ place_tokens v.location)
-    (type_word v.var_type) (literal_tokens (literal_tree v.initial)) (λ others. placed v.name v.location others is.name is.location)
+    declared (v.name ++ at_text v.location) (type_text v.var_type) (literal_text v.initial) rest ((token.Name v.name ∷ []) ++ at_tokens v.location)
+    (type_word v.var_type) (literal_tokens (literal_tree v.initial)) (λ others. located v.name v.location others is.name is.location)
     (λ others. type_spelled v.var_type (32 ∷ others) (before_space others)) (literal_spells v.initial (59 ∷ rest) is.initial (before_semicolon rest))
 
 -- ---- externals

@@ -2,8 +2,8 @@
 use Rattle.std.proofs.Common.{◌≡◌, ℕ, ◌≤◌, List, [], ◌++◌, Option, Bool, true, false, ◌∷◌, Bor, ◌+◌, ◌<◌, length, take, get_or, flat_map, refl, sym, ap, subst, ◌∙◌}
 use Rattle.std.proofs.lemmas.List.{append-nil, take_more, take_all}
 use Rattle.std.specs.Io.KnownBytes.{Appends}
-use Rattle.sfc_tokens.specs.Writing.{AppendsFront}
-use Rattle.sfc_tokens.proofs.Written.{Appends-none, Appends-more, front_first, front_second}
+use Rattle.sfc_base.specs.Writing.{AppendsFront}
+use Rattle.sfc_base.proofs.Written.{Appends-none, Appends-more, front_first, front_second}
 use Rattle.sfc_list.specs.declared.sink.Sink.{Sink}
 use Rattle.sfc_list.specs.Private.Sinking.{Written, Puts, joined}
 use Rattle.sfc_list.proofs.Texts.{grown}

@@ -3,11 +3,11 @@ use Rattle.std.proofs.Common.{◌≡◌, ℕ, ◌+◌, ◌<◌, List, [], ◌∷
 use Rattle.std.proofs.lemmas.List.{append-nil}
 use Rattle.std.proofs.lemmas.Grind.{common_steps}
 use Rattle.std.specs.Fmt.{decimal}
-use Rattle.sfc_expr.specs.declared.variable.StepId.{StepId}
-use Rattle.sfc_expr.specs.declared.variable.Variable.{Variable}
-use Rattle.sfc_program.specs.Names.{Space}
+use Rattle.sfc_base.specs.declared.references.StepId.{StepId}
+use Rattle.sfc_base.specs.declared.references.Variable.{Variable}
+use Rattle.sfc_plant.specs.Spaces.{Space}
 use Rattle.sfc_list.specs.Layout.{after_commas, with_commas}
-use Rattle.sfc_list.specs.Names.{variable_name, step_name}
+use Rattle.sfc_plant.specs.Names.{variable_name, step_name}
 use Rattle.sfc_list.specs.Charts.{indicators_text, side_text, priority_text}
 use Rattle.sfc_list.specs.Private.Parts.{indicator_text, steps_text}
 

@@ -2,39 +2,40 @@
 use Rattle.std.proofs.Common.{◌≡◌, ℕ, Bool, true, false, List, [], ◌∷◌, ◌++◌, map, All, Option, None, Some, is_none, unwrap_or, refl, sym, ap, ◌∙◌}
 use Rattle.std.specs.List.{position}
 use Rattle.std.proofs.lemmas.List.Elements.{All-nil, All-cons, All-head, All-tail, All-map, All-weaker}
-use Rattle.sfc_tokens.specs.Case.{same_word}
-use Rattle.sfc_tokens.specs.declared.var_type.VarType.{VarType}
-use Rattle.sfc_tokens.specs.declared.var_type.VarType.TheVariants as types
+use Rattle.sfc_base.specs.Case.{same_word}
+use Rattle.sfc_base.specs.declared.var_type.VarType.{VarType}
+use Rattle.sfc_base.specs.declared.var_type.VarType.TheVariants as types
 use Rattle.sfc_text.specs.declared.tree.Association as text_association
 use Rattle.sfc_text.specs.declared.tree.AssociationTime.TheVariants as written_time
 use Rattle.sfc_text.specs.declared.tree.Qualifier as text_qualifier
 use Rattle.sfc_text.specs.declared.tree.Qualifier.TheVariants as written
 use Rattle.sfc_text.specs.declared.tree.Step as text_step
 use Rattle.sfc_text.specs.Trees.{TransitionTree, ActionTree}
-use Rattle.sfc_expr.specs.declared.value.Value.TheVariants as value
-use Rattle.sfc_expr.specs.declared.variable.Variable as expr
-use Rattle.sfc_expr.specs.declared.variable.StepId.{StepId}
+use Rattle.sfc_base.specs.declared.value.Value.TheVariants as value
+use Rattle.sfc_base.specs.declared.references.Variable as expr
+use Rattle.sfc_base.specs.declared.references.StepId.{StepId}
 use Rattle.sfc_expr.specs.Trees.{Expression, Literal, Nothing}
-use Rattle.sfc_expr.specs.Checking.{checked, checked_body}
-use Rattle.sfc_expr.specs.NameLists.{place_of}
+use Rattle.sfc_check.specs.Checking.{checked, checked_body}
+use Rattle.sfc_base.specs.NameLists.{place_of}
 use Rattle.sfc_variables.specs.declared.load_error.LoadError.{LoadError}
 use Rattle.sfc_variables.specs.declared.load_error.LoadError.TheVariants as fault
 use Rattle.sfc_variables.specs.Checks.{when, each, in_turn, typed, checked_or}
-use Rattle.sfc_variables.specs.Finding.{variable_named}
-use Rattle.sfc_tables.specs.declared.association.Association.{Association}
-use Rattle.sfc_tables.specs.declared.association.Target.{Target}
-use Rattle.sfc_tables.specs.declared.association.Time.TheVariants as time
-use Rattle.sfc_tables.specs.declared.association.Qualifier.{Qualifier}
-use Rattle.sfc_tables.specs.declared.association.Qualifier.TheVariants as qualifier
-use Rattle.sfc_tables.specs.declared.action.Action.{Action}
-use Rattle.sfc_tables.specs.declared.chart.Step.{Step}
-use Rattle.sfc_tables.specs.declared.chart.Transition.{Transition}
-use Rattle.sfc_program.specs.Names.{Space, names_in}
+use Rattle.sfc_plant.specs.VariableNames.{variable_named}
+use Rattle.sfc_plant.specs.declared.association.Association.{Association}
+use Rattle.sfc_plant.specs.declared.association.Target.{Target}
+use Rattle.sfc_plant.specs.declared.association.Time.TheVariants as time
+use Rattle.sfc_plant.specs.declared.association.Qualifier.{Qualifier}
+use Rattle.sfc_plant.specs.declared.association.Qualifier.TheVariants as qualifier
+use Rattle.sfc_plant.specs.declared.action.Action.{Action}
+use Rattle.sfc_plant.specs.declared.chart.Step.{Step}
+use Rattle.sfc_plant.specs.declared.chart.Transition.{Transition}
+use Rattle.sfc_plant.specs.Spaces.{Space}
+use Rattle.sfc_program.specs.Names.{names_in}
 use Rattle.sfc_program.specs.Loading.{name_check, distinct_check, variable_check, unless_found, target_check, qualifier_check, indicator_check, association_check, step_check, side_step_check, side_check, transition_check, action_check}
 use Rattle.sfc_program.specs.Built.{found, variable_in, target_by, target_of, qualifier_of, association_of, step_of, step_id, step_ids, transition_of, action_of}
 use Rattle.sfc_program.specs.Scoping.AnyCase.{ignoring_case}
 use Rattle.sfc_program.proofs.Soundness.{then_first, then_second, when_none}
-use Rattle.sfc_list.specs.Names.{name_at, variable_name, step_name}
+use Rattle.sfc_plant.specs.Names.{name_at, variable_name, step_name}
 use Rattle.sfc_list.specs.Charts.{target_text}
 use Rattle.sfc_list.specs.WrittenCharts.{qualifier_tree, association_tree, step_tree, transition_tree, action_tree}
 use Rattle.sfc_list.proofs.WrittenExpressions.{IsBack, variable_again, expression_back}

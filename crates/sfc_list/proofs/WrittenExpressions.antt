@@ -2,35 +2,35 @@
 use Rattle.std.proofs.Common.{◌≡◌, ◌&&◌, ℕ, List, Bool, true, false, cond, Option, Some, None, IfSome, ℤ, pos, Ok, Err, IfOk, refl, ap, subst, ◌∙◌}
 use Rattle.std.specs.Ordering.{int_eq}
 use Rattle.std.specs.Prelude.{codes}
-use Rattle.sfc_tokens.specs.Case.{same_word}
-use Rattle.sfc_tokens.specs.declared.var_type.VarType.{VarType}
-use Rattle.sfc_tokens.specs.declared.var_type.VarType.TheVariants as types
+use Rattle.sfc_base.specs.Case.{same_word}
+use Rattle.sfc_base.specs.declared.var_type.VarType.{VarType}
+use Rattle.sfc_base.specs.declared.var_type.VarType.TheVariants as types
 use Rattle.sfc_text.specs.declared.tree.Literal as text_literal
 use Rattle.sfc_text.specs.declared.tree.Literal.TheVariants as literal
 use Rattle.sfc_text.specs.declared.expression.Variable as text_variable
 use Rattle.sfc_text.specs.Trees as text
-use Rattle.sfc_expr.specs.declared.value.Value.{Value}
-use Rattle.sfc_expr.specs.declared.value.Value.TheVariants as value
+use Rattle.sfc_base.specs.declared.value.Value.{Value}
+use Rattle.sfc_base.specs.declared.value.Value.TheVariants as value
 use Rattle.sfc_expr.specs.declared.fault.Fault.TheVariants as faults
 use Rattle.sfc_expr.specs.declared.operator.Operator.{Operator}
 use Rattle.sfc_expr.specs.declared.operator.Operator.TheVariants as op
-use Rattle.sfc_expr.specs.declared.operator.Family.{Family}
-use Rattle.sfc_expr.specs.declared.operator.Family.TheVariants as family
-use Rattle.sfc_expr.specs.declared.referent.Referent.{Referent}
-use Rattle.sfc_expr.specs.declared.referent.Referent.TheVariants as referent
-use Rattle.sfc_expr.specs.declared.variable.Variable.{Variable}
-use Rattle.sfc_expr.specs.declared.variable.StepId.{StepId}
-use Rattle.sfc_expr.specs.Values.{is_in_range, of_number}
+use Rattle.sfc_check.specs.declared.family.Family.{Family}
+use Rattle.sfc_check.specs.declared.family.Family.TheVariants as family
+use Rattle.sfc_check.specs.declared.referent.Referent.{Referent}
+use Rattle.sfc_check.specs.declared.referent.Referent.TheVariants as referent
+use Rattle.sfc_base.specs.declared.references.Variable.{Variable}
+use Rattle.sfc_base.specs.declared.references.StepId.{StepId}
+use Rattle.sfc_base.specs.Values.{is_in_range, of_number}
 use Rattle.sfc_expr.specs.Types.{integer_type}
 use Rattle.sfc_expr.specs.Trees.{Expression, Literal, Not, Minus, Binary}
-use Rattle.sfc_expr.specs.Scopes.{Names, IgnoresCase, found, of_variable, of_step, referent_of, type_of_referent, reading_of}
-use Rattle.sfc_expr.specs.TypeFaults.{Checked, LiteralRange, ◌>>=◌}
-use Rattle.sfc_expr.specs.Families.{operator_of, family_of}
-use Rattle.sfc_expr.specs.Naturals.{natural, natural_by, name_type, literal_type}
-use Rattle.sfc_expr.specs.Checking.{or_wrong, or_range, fitting, checked_integer, if_wanted, checked_literal, checked_name, compared, ordered, operand_type, checked}
-use Rattle.sfc_expr.proofs.CheckedTypes.{on_checked, wanted}
-use Rattle.sfc_program.specs.Names.{Space}
-use Rattle.sfc_list.specs.Names.{variable_name, step_name}
+use Rattle.sfc_check.specs.Scopes.{Names, IgnoresCase, found, of_variable, of_step, referent_of, type_of_referent, reading_of}
+use Rattle.sfc_check.specs.TypeFaults.{Checked, LiteralRange, ◌>>=◌}
+use Rattle.sfc_check.specs.Families.{operator_of, family_of}
+use Rattle.sfc_check.specs.Naturals.{natural, natural_by, name_type, literal_type}
+use Rattle.sfc_check.specs.Checking.{or_wrong, or_range, fitting, checked_integer, if_wanted, checked_literal, checked_name, compared, ordered, operand_type, checked}
+use Rattle.sfc_check.proofs.CheckedTypes.{on_checked, wanted}
+use Rattle.sfc_plant.specs.Spaces.{Space}
+use Rattle.sfc_plant.specs.Names.{variable_name, step_name}
 use Rattle.sfc_list.specs.WrittenTerms.{literal_tree, operator_tree, plain_name, name_with, expression_tree}
 
 -- ---- types

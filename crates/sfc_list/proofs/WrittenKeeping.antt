@@ -3,7 +3,7 @@ use Rattle.std.proofs.Common.{◌≡◌, ℕ, suc, ◌≤◌, false, nat_lt, Lis
 use Rattle.std.specs.Prelude.{max}
 use Rattle.std.proofs.lemmas.List.Elements.{All-nil, All-cons, All-head, All-tail, All-append, All-map, All-weaker}
 use Rattle.std.proofs.lemmas.Simd.{map-map}
-use Rattle.sfc_tokens.specs.declared.location.Location.{Location}
+use Rattle.sfc_base.specs.declared.location.Location.{Location}
 use Rattle.sfc_text.specs.declared.tree.VariableBlock.{VariableBlock}
 use Rattle.sfc_text.specs.declared.tree.VariableBlock.TheVariants as block
 use Rattle.sfc_text.specs.Limits.{Limits}
@@ -14,17 +14,17 @@ use Rattle.sfc_text.specs.Spelled.{tighter, level, is_looser, deeper, nesting}
 use Rattle.sfc_text.specs.SpelledStatements.{IsBody, AreBranches, AreOthers, block_nesting, most_operators}
 use Rattle.sfc_text.specs.SpelledCharts.{KeepsElement}
 use Rattle.sfc_text.specs.SpelledSources.{AreDeclared, IsDeclaration, IsExternal, AreVariables, KeepsProgram, KeepsSource}
-use Rattle.sfc_expr.specs.declared.variable.GlobalId.{GlobalId}
-use Rattle.sfc_variables.specs.declared.variable.Variable.{Variable}
-use Rattle.sfc_program.specs.declared.program_type.ProgramType.{ProgramType}
+use Rattle.sfc_base.specs.declared.references.GlobalId.{GlobalId}
+use Rattle.sfc_plant.specs.declared.variable.Variable.{Variable}
+use Rattle.sfc_plant.specs.declared.program_type.ProgramType.{ProgramType}
 use Rattle.sfc_program.specs.Elements.{transitions_of, actions_of}
-use Rattle.sfc_program.specs.Names.{Space, space_in}
+use Rattle.sfc_plant.specs.Spaces.{Space, space_in}
 use Rattle.sfc_program.specs.Loading.{space_of}
 use Rattle.sfc_program.specs.Built.{step_id, step_ids, transition_of, program_of}
-use Rattle.sfc_chart.specs.Loading.{task_names, program_names}
-use Rattle.sfc_chart.specs.Built.{instance_of, source_check, plant_of}
-use Rattle.sfc_chart.specs.Plants.{PlantData}
-use Rattle.sfc_list.specs.Names.{step_name}
+use Rattle.sfc_load.specs.Loading.{task_names, program_names}
+use Rattle.sfc_load.specs.Built.{instance_of, source_check, plant_of}
+use Rattle.sfc_plant.specs.Plants.{PlantData}
+use Rattle.sfc_plant.specs.Names.{step_name}
 use Rattle.sfc_list.specs.WrittenVariables.{declaration_tree, external_tree, block_tree, variable_trees}
 use Rattle.sfc_list.specs.WrittenCharts.{transition_tree}
 use Rattle.sfc_list.specs.Written.{program_tree, instance_tree, written}

@@ -2,22 +2,23 @@
 use Rattle.std.proofs.Common.{◌≡◌, ℕ, false, List, [], ◌∷◌, map, All, Option, Some, None, ap, ◌∙◌}
 use Rattle.std.proofs.lemmas.List.Elements.{All-nil, All-cons, All-head, All-tail, All-weaker}
 use Rattle.std.proofs.lemmas.Simd.{map-map}
-use Rattle.sfc_tokens.specs.declared.var_type.VarType.TheVariants as types
+use Rattle.sfc_base.specs.declared.var_type.VarType.TheVariants as types
 use Rattle.sfc_text.specs.Trees.{Tree, Block, TransitionTree, ActionTree, ElementTree, ProgramTree, SourceTree}
-use Rattle.sfc_expr.specs.declared.value.Value.TheVariants as value
+use Rattle.sfc_base.specs.declared.value.Value.TheVariants as value
 use Rattle.sfc_expr.specs.Trees.{Literal, Nothing}
-use Rattle.sfc_expr.specs.Checking.{checked, checked_body}
-use Rattle.sfc_variables.specs.declared.variable.Variable.{Variable}
+use Rattle.sfc_check.specs.Checking.{checked, checked_body}
+use Rattle.sfc_plant.specs.declared.variable.Variable.{Variable}
 use Rattle.sfc_variables.specs.Checks.{each}
 use Rattle.sfc_variables.specs.Declarations.{globals_check, globals_of}
 use Rattle.sfc_variables.specs.Own.{variables_check, own_names}
 use Rattle.sfc_program.specs.Elements.{steps_of, transitions_of, actions_of}
-use Rattle.sfc_program.specs.Names.{Space, names_in}
+use Rattle.sfc_plant.specs.Spaces.{Space}
+use Rattle.sfc_program.specs.Names.{names_in}
 use Rattle.sfc_program.specs.Loading.{limits_check, distinct_check, element_names, initial_check, side_check, step_check, transition_check, action_check, space_of, chart_check, program_check}
 use Rattle.sfc_program.specs.Built.{transition_of, action_of, chart_of, program_of}
 use Rattle.sfc_program.proofs.Soundness.{then_first, then_second}
-use Rattle.sfc_chart.specs.Loading.{tasks_check, program_name, programs_check}
-use Rattle.sfc_chart.specs.Built.{source_check}
+use Rattle.sfc_load.specs.Loading.{tasks_check, program_name, programs_check}
+use Rattle.sfc_load.specs.Built.{source_check}
 use Rattle.sfc_list.specs.WrittenCharts.{transition_tree, action_tree}
 use Rattle.sfc_list.specs.Written.{program_tree}
 use Rattle.sfc_list.proofs.WrittenShapes.{shape, block_shape, HasShape, shape_kept, AreStatements, HasBodyShape, body_shape_kept}

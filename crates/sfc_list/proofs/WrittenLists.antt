@@ -3,9 +3,9 @@ use Rattle.std.proofs.Common.{◌≡◌, ℕ, Bool, true, false, ◌||◌, List,
 use Rattle.std.specs.List.{list_any}
 use Rattle.std.proofs.lemmas.List.Elements.{All-nil, All-cons, All-head, All-tail}
 use Rattle.std.proofs.lemmas.List.Folds.{list_any-append}
-use Rattle.sfc_tokens.specs.Case.{same_word}
-use Rattle.sfc_tokens.proofs.SameWords.{same_word_equiv}
-use Rattle.sfc_expr.specs.NameLists.{has}
+use Rattle.sfc_base.specs.Case.{same_word}
+use Rattle.sfc_base.proofs.SameWords.{same_word_equiv}
+use Rattle.sfc_base.specs.NameLists.{has}
 use Rattle.sfc_variables.specs.declared.load_error.LoadError.TheVariants as fault
 use Rattle.sfc_variables.specs.Checks.{Check, ◌then◌, when, each, in_turn}
 use Rattle.sfc_variables.proofs.Checks.{passes}

@@ -2,17 +2,18 @@
 use Rattle.std.proofs.Common.{◌≡◌, ℕ, List, [], Bool, true, Option, Some, None, slice_get, unwrap_or, position, refl, sym, ap, ◌∙◌}
 use Rattle.std.specs.Option.{option_map}
 use Rattle.std.proofs.lemmas.List.Quantifiers.{position-Some}
-use Rattle.sfc_tokens.specs.Case.{same_word}
-use Rattle.sfc_tokens.specs.declared.var_type.VarType.{VarType}
-use Rattle.sfc_tokens.proofs.SameWords.{same_word_equiv}
-use Rattle.sfc_expr.specs.NameLists.{place_of}
-use Rattle.sfc_expr.specs.declared.variable.StepId.{StepId}
-use Rattle.sfc_expr.specs.declared.variable.Variable as expr
-use Rattle.sfc_expr.specs.declared.variable.Variable.TheVariants.{Global, Local}
-use Rattle.sfc_variables.specs.declared.variable.Variable.{Variable}
-use Rattle.sfc_variables.specs.Finding.{names_of, with_type, typed_at, or_else, variable_place, global_named, local_named, variable_named}
-use Rattle.sfc_program.specs.Names.{Space, is_name_of, names_in}
-use Rattle.sfc_list.specs.Names.{name_at, variable_name}
+use Rattle.sfc_base.specs.Case.{same_word}
+use Rattle.sfc_base.specs.declared.var_type.VarType.{VarType}
+use Rattle.sfc_base.proofs.SameWords.{same_word_equiv}
+use Rattle.sfc_base.specs.NameLists.{place_of}
+use Rattle.sfc_base.specs.declared.references.StepId.{StepId}
+use Rattle.sfc_base.specs.declared.references.Variable as expr
+use Rattle.sfc_base.specs.declared.references.Variable.TheVariants.{Global, Local}
+use Rattle.sfc_plant.specs.declared.variable.Variable.{Variable}
+use Rattle.sfc_plant.specs.VariableNames.{names_of, with_type, typed_at, or_else, variable_place, global_named, local_named, variable_named}
+use Rattle.sfc_plant.specs.Spaces.{Space}
+use Rattle.sfc_program.specs.Names.{is_name_of, names_in}
+use Rattle.sfc_plant.specs.Names.{name_at, variable_name}
 use Rattle.sfc_list.proofs.WrittenExpressions.{Spells}
 
 -- ---- words that are one but for case

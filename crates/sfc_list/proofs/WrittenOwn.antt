@@ -3,26 +3,26 @@ use Rattle.std.proofs.Common.{◌≡◌, ℕ, Bool, true, false, not, ◌||◌, 
 use Rattle.std.proofs.lemmas.List.{append-nil, map-append}
 use Rattle.std.proofs.lemmas.Grind.{flat_map-append}
 use Rattle.std.proofs.lemmas.List.Elements.{All-nil, All-cons, All-head, All-tail, All-map, All-append, All-weaker, filter_map-append}
-use Rattle.sfc_tokens.specs.Case.{same_word}
-use Rattle.sfc_tokens.proofs.SameWords.{same_word_equiv}
-use Rattle.sfc_tokens.specs.declared.var_type.VarType.{VarType}
-use Rattle.sfc_tokens.specs.declared.var_type.VarType.TheVariants as types
+use Rattle.sfc_base.specs.Case.{same_word}
+use Rattle.sfc_base.proofs.SameWords.{same_word_equiv}
+use Rattle.sfc_base.specs.declared.var_type.VarType.{VarType}
+use Rattle.sfc_base.specs.declared.var_type.VarType.TheVariants as types
 use Rattle.sfc_text.specs.declared.tree.VariableBlock.{VariableBlock}
 use Rattle.sfc_text.specs.declared.tree.VariableBlock.TheVariants as block
-use Rattle.sfc_expr.specs.declared.variable.GlobalId.{GlobalId}
-use Rattle.sfc_expr.specs.declared.variable.Variable.TheVariants.{Global}
-use Rattle.sfc_expr.specs.Checking.{is_same_type}
-use Rattle.sfc_expr.specs.NameLists.{has}
+use Rattle.sfc_base.specs.declared.references.GlobalId.{GlobalId}
+use Rattle.sfc_base.specs.declared.references.Variable.TheVariants.{Global}
+use Rattle.sfc_base.specs.Values.{is_same_type}
+use Rattle.sfc_base.specs.NameLists.{has}
 use Rattle.sfc_variables.specs.declared.load_error.LoadError.TheVariants as fault
-use Rattle.sfc_variables.specs.declared.variable.Variable.{Variable}
+use Rattle.sfc_plant.specs.declared.variable.Variable.{Variable}
 use Rattle.sfc_variables.specs.Checks.{Check, ◌then◌, when, in_turn}
 use Rattle.sfc_variables.specs.Declarations.{Declared, declared_check, declared_name, variable_of}
-use Rattle.sfc_variables.specs.Finding.{names_of, variable_place, typed_at}
+use Rattle.sfc_plant.specs.VariableNames.{names_of, variable_place, typed_at}
 use Rattle.sfc_variables.specs.Own.{Own, ALocal, AnExternal, own_by, own_in, own_name, own_names, external_check, kind_check, own_check, variables_check, local_in, external_in, locals_of, externals_of, global_id}
 use Rattle.sfc_program.specs.Loading.{name_check, distinct_check}
 use Rattle.sfc_program.proofs.Soundness.{then_first, then_second, when_none}
 use Rattle.std.proofs.lemmas.Simd.{map-map}
-use Rattle.sfc_list.specs.Names.{name_at}
+use Rattle.sfc_plant.specs.Names.{name_at}
 use Rattle.sfc_list.specs.WrittenVariables.{declaration_tree, type_of_global, external_tree, block_tree, variable_trees}
 use Rattle.sfc_list.proofs.WrittenNames.{turned, spelled_at, place_again}
 use Rattle.sfc_list.proofs.WrittenLists.{both_pass, kept_again, AreSame, AreAlike, same_refl, same_more, same_alike, has_both, distinct_same, names_pass, kinds_pass, named_pass}

@@ -4,32 +4,34 @@ use Rattle.std.specs.Option.{option_map}
 use Rattle.std.proofs.lemmas.List.{length-map}
 use Rattle.std.proofs.lemmas.List.Elements.{All-map, All-weaker}
 use Rattle.std.proofs.lemmas.Simd.{map-map}
-use Rattle.sfc_tokens.specs.declared.var_type.VarType.TheVariants as types
+use Rattle.sfc_base.specs.declared.limits.TheConstants.{INSTANCES, TASKS}
+use Rattle.sfc_base.specs.declared.var_type.VarType.TheVariants as types
 use Rattle.sfc_text.specs.declared.tree.Instance as text_instance
 use Rattle.sfc_text.specs.declared.tree.Task as text_task
 use Rattle.sfc_text.specs.Trees.{ProgramTree, SourceTree}
-use Rattle.sfc_expr.specs.declared.variable.GlobalId.{GlobalId}
-use Rattle.sfc_expr.specs.declared.variable.Variable.TheVariants.{Global}
-use Rattle.sfc_expr.specs.NameLists.{place_of}
+use Rattle.sfc_base.specs.declared.references.GlobalId.{GlobalId}
+use Rattle.sfc_base.specs.declared.references.Variable.TheVariants.{Global}
+use Rattle.sfc_base.specs.NameLists.{place_of}
 use Rattle.sfc_variables.specs.declared.load_error.LoadError.TheVariants as fault
 use Rattle.sfc_variables.specs.declared.load_error.Limit.TheVariants as limit
-use Rattle.sfc_variables.specs.declared.variable.Variable.{Variable}
+use Rattle.sfc_plant.specs.declared.variable.Variable.{Variable}
 use Rattle.sfc_variables.specs.Checks.{Check, ◌then◌, when}
 use Rattle.sfc_variables.specs.Declarations.{globals_check, globals_of}
-use Rattle.sfc_variables.specs.Finding.{names_of, typed_at, variable_place}
+use Rattle.sfc_plant.specs.VariableNames.{names_of, typed_at, variable_place}
 use Rattle.sfc_variables.specs.Own.{global_id}
-use Rattle.sfc_program.specs.declared.program_type.ProgramType.{ProgramType}
+use Rattle.sfc_plant.specs.declared.program_type.ProgramType.{ProgramType}
 use Rattle.sfc_program.specs.Built.{program_of}
 use Rattle.sfc_program.specs.Loading.{variable_check, distinct_check, program_check}
 use Rattle.sfc_program.proofs.Soundness.{then_first, then_second, when_none}
-use Rattle.sfc_chart.specs.declared.task.Task.{Task}
-use Rattle.sfc_chart.specs.declared.ids.TaskId.{TaskId}
-use Rattle.sfc_chart.specs.declared.instance.Instance.{Instance}
-use Rattle.sfc_chart.specs.Plants.{PlantData}
-use Rattle.sfc_chart.specs.Image.{image_variables}
-use Rattle.sfc_chart.specs.Loading.{single_check, interval_check, task_name, tasks_check, program_name, programs_check, instance_name, task_number, instances_check, image_check, task_names, program_names}
-use Rattle.sfc_chart.specs.Built.{task_of, instance_of, source_check, plant_of}
-use Rattle.sfc_list.specs.Names.{name_at}
+use Rattle.sfc_plant.specs.declared.task.Task.{Task}
+use Rattle.sfc_base.specs.declared.ids.TaskId.{TaskId}
+use Rattle.sfc_base.specs.declared.ids.TypeId.{TypeId}
+use Rattle.sfc_plant.specs.declared.instance.Instance.{Instance}
+use Rattle.sfc_plant.specs.Plants.{PlantData}
+use Rattle.sfc_plant.specs.Image.{image_variables}
+use Rattle.sfc_load.specs.Loading.{single_check, interval_check, task_name, tasks_check, program_name, programs_check, instance_name, task_number, instances_check, image_check, task_names, program_names}
+use Rattle.sfc_load.specs.Built.{task_of, instance_of, source_check, plant_of}
+use Rattle.sfc_plant.specs.Names.{name_at}
 use Rattle.sfc_list.specs.WrittenVariables.{declaration_tree}
 use Rattle.sfc_list.specs.Written.{program_tree, single_tree, task_tree, instance_tree, written}
 use Rattle.sfc_list.proofs.WrittenNames.{place_again}
@@ -90,7 +92,7 @@ module _ (globals : List Variable) where
   tasks_all tasks e =
       All-map IsTaskBack (task_of globals) tasks
       (All-weaker (λ t. task_kind t ≡ None) (λ t. IsTaskBack (task_of globals t)) task_back tasks
-      (kinds_pass task_name task_kind [] tasks (then_second (when (nat_lt 16 (length tasks)) (fault.Limit limit.Tasks)) _ e)))
+      (kinds_pass task_name task_kind [] tasks (then_second (when (nat_lt TASKS (length tasks)) (fault.Limit limit.Tasks)) _ e)))
 
   -- the names of what is spelled of tasks
   tasks_named : (tasks : List text_task.Task) → task_names (map (task_tree globals) (map (task_of globals) tasks)) ≡ task_names tasks
@@ -101,11 +103,11 @@ module _ (globals : List Variable) where
   unfolding tasks_check
   tasks_pass tasks e =
       let made : List Task = map (task_of globals) tasks in
-      let few = when (nat_lt 16 (length tasks)) (fault.Limit limit.Tasks) in
+      let few = when (nat_lt TASKS (length tasks)) (fault.Limit limit.Tasks) in
       let n : length (map (task_tree globals) made) ≡ length tasks = length-map made (task_tree globals)
       ∙ length-map tasks (task_of globals) in
-      both_pass (when (nat_lt 16 (length (map (task_tree globals) made))) (fault.Limit limit.Tasks)) _
-      (ap (λ k. when (nat_lt 16 k) (fault.Limit limit.Tasks)) n ∙ then_first few _ e)
+      both_pass (when (nat_lt TASKS (length (map (task_tree globals) made))) (fault.Limit limit.Tasks)) _
+      (ap (λ k. when (nat_lt TASKS k) (fault.Limit limit.Tasks)) n ∙ then_first few _ e)
       (named_pass task_name task_kind [] (map (task_tree globals) made)
       (ap (distinct_check []) (tasks_named tasks) ∙ names_pass task_name task_kind [] tasks (then_second few _ e))
       (All-map (λ t. task_kind t ≡ None) (task_tree globals) made
@@ -156,7 +158,7 @@ module _ (globals : List Variable) where
 -- by the names of the tasks and of the program types
 abbrev instance_again : List (List ℕ) → List (List ℕ) → Instance → text_instance.Instance
 instance_again tasks programs i =
-    record { name = i.name; task = Some (name_at tasks i.task.0); program = name_at programs i.program }
+    record { name = i.name; task = Some (name_at tasks i.task.0); program = name_at programs i.program.0 }
 
 module _ (tasks programs : List (List ℕ)) where
   -- what is checked of an instance beside its name
@@ -184,7 +186,7 @@ module _ (tasks programs : List (List ℕ)) where
         built = λ k. record {
           name = i.name;
           task = let id : TaskId = record { 0 = unwrap_or (t k) 0 } in id;
-          program = unwrap_or (p k) 0;
+          program = let id : TypeId = record { 0 = unwrap_or (p k) 0 } in id;
         };
       }
 
@@ -195,20 +197,20 @@ module _ (tasks programs : List (List ℕ)) where
       All-map IsInstanceBack (instance_of tasks programs) instances
       (All-weaker (λ i. instance_kind i ≡ None) (λ i. IsInstanceBack (instance_of tasks programs i)) instance_back instances
       (kinds_pass instance_name instance_kind [] instances
-      (then_second (when (nat_lt 64 (length instances)) (fault.Limit limit.Instances)) _ e)))
+      (then_second (when (nat_lt INSTANCES (length instances)) (fault.Limit limit.Instances)) _ e)))
 
   instances_pass : (instances : List text_instance.Instance) → instances_check tasks programs instances ≡ None
       → instances_check tasks programs (map (instance_again tasks programs) (map (instance_of tasks programs) instances)) ≡ None
   unfolding instances_check
   instances_pass instances e =
       let made : List Instance = map (instance_of tasks programs) instances in
-      let few = when (nat_lt 64 (length instances)) (fault.Limit limit.Instances) in
+      let few = when (nat_lt INSTANCES (length instances)) (fault.Limit limit.Instances) in
       let n : length (map (instance_again tasks programs) made) ≡ length instances =
       length-map made (instance_again tasks programs) ∙ length-map instances (instance_of tasks programs) in
       let named : map instance_name (map (instance_again tasks programs) made) ≡ map instance_name instances =
       map-map instance_name (instance_again tasks programs) made ∙ map-map (λ i. i.name) (instance_of tasks programs) instances in
-      both_pass (when (nat_lt 64 (length (map (instance_again tasks programs) made))) (fault.Limit limit.Instances)) _
-      (ap (λ k. when (nat_lt 64 k) (fault.Limit limit.Instances)) n ∙ then_first few _ e)
+      both_pass (when (nat_lt INSTANCES (length (map (instance_again tasks programs) made))) (fault.Limit limit.Instances)) _
+      (ap (λ k. when (nat_lt INSTANCES k) (fault.Limit limit.Instances)) n ∙ then_first few _ e)
       (named_pass instance_name instance_kind [] (map (instance_again tasks programs) made)
       (ap (distinct_check []) named ∙ names_pass instance_name instance_kind [] instances (then_second few _ e))
       (All-map (λ i. instance_kind i ≡ None) (instance_again tasks programs) made

@@ -4,20 +4,21 @@ use Rattle.std.specs.List.{list_any, cons_option}
 use Rattle.std.proofs.lemmas.List.{append-nil, length-map}
 use Rattle.std.proofs.lemmas.List.Elements.{All-map, All-weaker, filter_map-append}
 use Rattle.std.proofs.lemmas.Simd.{map-map}
+use Rattle.sfc_base.specs.declared.limits.TheConstants.{ASSOCIATIONS, STEPS, TRANSITIONS}
 use Rattle.sfc_text.specs.declared.tree.Step as text_step
 use Rattle.sfc_text.specs.Trees.{ElementTree, AStep, ATransition, AnAction, ProgramTree}
 use Rattle.sfc_variables.specs.declared.load_error.LoadError.TheVariants as fault
 use Rattle.sfc_variables.specs.declared.load_error.Limit.TheVariants as limit
-use Rattle.sfc_variables.specs.declared.variable.Variable.{Variable}
+use Rattle.sfc_plant.specs.declared.variable.Variable.{Variable}
 use Rattle.sfc_variables.specs.Checks.{◌then◌, when, each}
 use Rattle.sfc_variables.specs.Own.{variables_check, own_names}
-use Rattle.sfc_tables.specs.declared.action.Action.{Action}
-use Rattle.sfc_tables.specs.declared.chart.Step.{Step}
-use Rattle.sfc_tables.specs.declared.chart.Transition.{Transition}
-use Rattle.sfc_tables.specs.declared.chart.Chart.{Chart}
-use Rattle.sfc_program.specs.declared.program_type.ProgramType.{ProgramType}
+use Rattle.sfc_plant.specs.declared.action.Action.{Action}
+use Rattle.sfc_plant.specs.declared.chart.Step.{Step}
+use Rattle.sfc_plant.specs.declared.chart.Transition.{Transition}
+use Rattle.sfc_plant.specs.declared.chart.Chart.{Chart}
+use Rattle.sfc_plant.specs.declared.program_type.ProgramType.{ProgramType}
 use Rattle.sfc_program.specs.Elements.{step_in, transition_in, action_in, steps_of, transitions_of, actions_of, step_names, action_names, transition_names, association_count}
-use Rattle.sfc_program.specs.Names.{Space, space_in}
+use Rattle.sfc_plant.specs.Spaces.{Space, space_in}
 use Rattle.sfc_program.specs.Loading.{limits_check, distinct_check, element_names, initial_check, step_check, transition_check, action_check, space_of, chart_check, program_check}
 use Rattle.sfc_program.specs.Built.{association_of, step_of, transition_of, action_of, chart_of, program_of}
 use Rattle.sfc_program.proofs.Soundness.{then_first, then_second}
@@ -155,9 +156,9 @@ module _ (space : Space) (elements : List ElementTree) where
       ∙ length-map (transitions_of elements) (transition_of space) in
       let associations : association_count (steps_of again) ≡ association_count (steps_of elements) =
       ap association_count (steps_in space chart) ∙ counted space (steps_of elements) in
-      λ i. when (nat_lt 1024 (steps i)) (fault.Limit limit.Steps)
-      then when (nat_lt 2048 (transitions i)) (fault.Limit limit.Transitions)
-      then when (nat_lt 4096 (associations i)) (fault.Limit limit.Associations)
+      λ i. when (nat_lt STEPS (steps i)) (fault.Limit limit.Steps)
+      then when (nat_lt TRANSITIONS (transitions i)) (fault.Limit limit.Transitions)
+      then when (nat_lt ASSOCIATIONS (associations i)) (fault.Limit limit.Associations)
 
   initial_again : initial_check again ≡ initial_check elements
   initial_again =

@@ -2,25 +2,25 @@
 -- way. So it has as many operators, and lies as deep.
 use Rattle.std.proofs.Common.{◌≡◌, ℕ, ◌+◌, List, [], false, Option, Some, None, Ok, Err, IfOk, refl, ap}
 use Rattle.std.specs.Prelude.{⊤}
-use Rattle.sfc_tokens.specs.declared.var_type.VarType.{VarType}
-use Rattle.sfc_tokens.specs.declared.var_type.VarType.TheVariants as types
+use Rattle.sfc_base.specs.declared.var_type.VarType.{VarType}
+use Rattle.sfc_base.specs.declared.var_type.VarType.TheVariants as types
 use Rattle.sfc_text.specs.declared.tree.Literal.TheVariants as literal
 use Rattle.sfc_text.specs.declared.expression.Operator as text_operator
 use Rattle.sfc_text.specs.declared.expression.Operator.TheVariants as written
 use Rattle.sfc_text.specs.declared.expression.Variable as text_variable
 use Rattle.sfc_text.specs.Trees as text
-use Rattle.sfc_expr.specs.declared.operator.Family.{Family}
-use Rattle.sfc_expr.specs.declared.referent.Referent.{Referent}
-use Rattle.sfc_expr.specs.declared.referent.Referent.TheVariants as referent
+use Rattle.sfc_check.specs.declared.family.Family.{Family}
+use Rattle.sfc_check.specs.declared.referent.Referent.{Referent}
+use Rattle.sfc_check.specs.declared.referent.Referent.TheVariants as referent
 use Rattle.sfc_expr.specs.Types.{integer_type}
 use Rattle.sfc_expr.specs.Trees.{Expression, Body, Branches}
-use Rattle.sfc_expr.specs.Scopes.{Names, referent_of, type_of_referent, reading_of}
-use Rattle.sfc_expr.specs.TypeFaults.{Checked, ◌>>=◌}
-use Rattle.sfc_expr.specs.Families.{operator_of, family_of}
-use Rattle.sfc_expr.specs.Naturals.{natural}
-use Rattle.sfc_expr.specs.Checking.{or_wrong, checked_literal, checked_name, operand_type, checked, checked_target, checked_body, checked_branches}
-use Rattle.sfc_expr.proofs.CheckedTypes.{on_checked, wanted}
-use Rattle.sfc_program.specs.Names.{Space}
+use Rattle.sfc_check.specs.Scopes.{Names, referent_of, type_of_referent, reading_of}
+use Rattle.sfc_check.specs.TypeFaults.{Checked, ◌>>=◌}
+use Rattle.sfc_check.specs.Families.{operator_of, family_of}
+use Rattle.sfc_check.specs.Naturals.{natural}
+use Rattle.sfc_check.specs.Checking.{or_wrong, checked_literal, checked_name, operand_type, checked, checked_target, checked_body, checked_branches}
+use Rattle.sfc_check.proofs.CheckedTypes.{on_checked, wanted}
+use Rattle.sfc_plant.specs.Spaces.{Space}
 use Rattle.sfc_list.specs.WrittenTerms.{operator_tree, expression_tree, body_tree, branches_tree}
 
 -- ---- expressions

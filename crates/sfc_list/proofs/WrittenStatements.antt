@@ -1,15 +1,15 @@
 -- What a listing spells of statements is checked as those statements again.
 use Rattle.std.proofs.Common.{◌≡◌, ℕ, List, Option, Some, None, Ok, IfOk, refl, ap}
-use Rattle.sfc_tokens.specs.declared.var_type.VarType.{VarType}
-use Rattle.sfc_tokens.specs.declared.var_type.VarType.TheVariants as types
+use Rattle.sfc_base.specs.declared.var_type.VarType.{VarType}
+use Rattle.sfc_base.specs.declared.var_type.VarType.TheVariants as types
 use Rattle.sfc_text.specs.Trees as text
-use Rattle.sfc_expr.specs.declared.variable.Variable.{Variable}
+use Rattle.sfc_base.specs.declared.references.Variable.{Variable}
 use Rattle.sfc_expr.specs.Trees.{Body, Assign, If, Branches, When, Otherwise, Expression}
-use Rattle.sfc_expr.specs.Scopes.{Names, IgnoresCase}
-use Rattle.sfc_expr.specs.Checking.{or_unknown, without_part, checked, checked_target, checked_body, checked_branches}
-use Rattle.sfc_expr.proofs.CheckedTypes.{on_checked}
-use Rattle.sfc_program.specs.Names.{Space}
-use Rattle.sfc_list.specs.Names.{variable_name}
+use Rattle.sfc_check.specs.Scopes.{Names, IgnoresCase}
+use Rattle.sfc_check.specs.Checking.{or_unknown, without_part, checked, checked_target, checked_body, checked_branches}
+use Rattle.sfc_check.proofs.CheckedTypes.{on_checked}
+use Rattle.sfc_plant.specs.Spaces.{Space}
+use Rattle.sfc_plant.specs.Names.{variable_name}
 use Rattle.sfc_list.specs.WrittenTerms.{plain_name, body_tree, branches_tree}
 use Rattle.sfc_list.proofs.WrittenExpressions.{Spells, IsBack, variable_again, expression_back}
 

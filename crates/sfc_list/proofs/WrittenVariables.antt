@@ -1,19 +1,19 @@
 -- What a listing spells of variables declares those variables again.
 use Rattle.std.proofs.Common.{◌≡◌, not, List, [], ◌∷◌, map, All, Option, None, Some, Ok, Err, IfOk, refl, ap, ◌∙◌}
 use Rattle.std.proofs.lemmas.List.Elements.{All-map, All-weaker}
-use Rattle.sfc_tokens.specs.declared.var_type.VarType.{VarType}
-use Rattle.sfc_tokens.specs.declared.var_type.VarType.TheVariants as types
+use Rattle.sfc_base.specs.declared.var_type.VarType.{VarType}
+use Rattle.sfc_base.specs.declared.var_type.VarType.TheVariants as types
 use Rattle.sfc_text.specs.declared.tree.Declaration.{Declaration}
 use Rattle.sfc_text.specs.declared.tree.Literal.{Literal}
-use Rattle.sfc_expr.specs.declared.value.Value.{Value}
-use Rattle.sfc_expr.specs.Values.{default_value}
-use Rattle.sfc_expr.specs.TypeFaults.{Checked}
-use Rattle.sfc_expr.specs.Checking.{checked_literal}
-use Rattle.sfc_expr.specs.NameLists.{has}
+use Rattle.sfc_base.specs.declared.value.Value.{Value}
+use Rattle.sfc_base.specs.Values.{default_value}
+use Rattle.sfc_check.specs.TypeFaults.{Checked}
+use Rattle.sfc_check.specs.Checking.{checked_literal}
+use Rattle.sfc_base.specs.NameLists.{has}
 use Rattle.sfc_variables.specs.declared.load_error.LoadError.TheVariants as fault
-use Rattle.sfc_variables.specs.declared.variable.Variable.{Variable}
+use Rattle.sfc_plant.specs.declared.variable.Variable.{Variable}
 use Rattle.sfc_variables.specs.Checks.{◌then◌, when, in_turn, typed, checked_or}
-use Rattle.sfc_variables.specs.Places.{fits_location}
+use Rattle.sfc_variables.specs.Locations.{fits_location}
 use Rattle.sfc_variables.specs.Declarations.{Declared, declared_in, declared_check, declared_name, initial_check, initial_value, variable_of, globals_check, globals_of}
 use Rattle.sfc_program.specs.Loading.{distinct_check}
 use Rattle.sfc_program.proofs.Soundness.{then_first, then_second}
@@ -51,11 +51,11 @@ pub record IsDeclaredAgain (v : Variable) : Type 0 where
 
 pub variable_back : (d : Declared) → declared_check d ≡ None → IsDeclaredAgain (variable_of d)
 variable_back d e =
-    let place = when (not (fits_location d.var_type d.location)) fault.WrongType in
-    let b = initial_back d.var_type d.initial (then_second place (initial_check d.var_type d.initial) e) in
+    let lies = when (not (fits_location d.var_type d.location)) fault.WrongType in
+    let b = initial_back d.var_type d.initial (then_second lies (initial_check d.var_type d.initial) e) in
     record {
-      checks = both_pass place (initial_check d.var_type (Some (literal_tree (initial_value d.var_type d.initial))))
-          (then_first place (initial_check d.var_type d.initial) e) (ap typed b.checks);
+      checks = both_pass lies (initial_check d.var_type (Some (literal_tree (initial_value d.var_type d.initial))))
+          (then_first lies (initial_check d.var_type d.initial) e) (ap typed b.checks);
       built = ap (λ (x : Value). let v : Variable =
           record { name = d.name; var_type = d.var_type; location = d.location; initial = x } in v)
           (ap (checked_or (default_value d.var_type)) b.checks);

@@ -4,9 +4,9 @@ use Rattle.std.specs.Prelude.{◌++◌, ℕ, ◌+◌, nat_lt, List, codes, if◌
 use Rattle.sfc_expr.specs.declared.operator.Operator.{Operator}
 use Rattle.sfc_expr.specs.declared.operator.Operator.TheVariants as operator
 use Rattle.sfc_expr.specs.Trees.{Expression, Literal, Read, StepActive, StepTime, ActionQ, Not, Minus, Binary}
-use Rattle.sfc_program.specs.Names.{Space}
+use Rattle.sfc_plant.specs.Spaces.{Space}
 use Rattle.sfc_list.specs.Values.{literal_text}
-use Rattle.sfc_list.specs.Names.{variable_name, step_name}
+use Rattle.sfc_plant.specs.Names.{variable_name, step_name}
 
 abbrev pub operator_text : Operator → List ℕ
 operator_text operator.Or = codes "OR"

@@ -4,8 +4,6 @@
 pub mod Layout
 -- the text of types, values and locations
 pub mod Values
--- the names of what stands in a program type as a number
-pub mod Names
 -- the text of expressions
 pub mod Expressions
 -- the text of statements

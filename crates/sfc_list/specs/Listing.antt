@@ -1,36 +1,36 @@
 -- The text of a plant (Annex B): its program types in order, and then the configuration, top down in blocks. It has all
 -- that the plant says, references in the spelling of their declarations.
-use Rattle.std.specs.Prelude.{◌++◌, ℕ, ℤ, List, [], map, flat_map, Option, Some, None, slice_get, if◌then◌else◌, codes, pos}
+use Rattle.std.specs.Prelude.{◌++◌, ℕ, ℤ, List, [], flat_map, Option, Some, None, slice_get, if◌then◌else◌, codes, pos}
 use Rattle.std.specs.Ordering.{int_eq}
 use Rattle.std.specs.Fmt.{decimal}
-use Rattle.sfc_tokens.specs.declared.location.Location.{Location}
-use Rattle.sfc_tokens.specs.LocationText.{location_text}
-use Rattle.sfc_tokens.specs.TimeText.{time_text}
-use Rattle.sfc_expr.specs.declared.variable.GlobalId.{GlobalId}
-use Rattle.sfc_expr.specs.declared.variable.Variable.TheVariants.{Global}
-use Rattle.sfc_variables.specs.declared.variable.Variable.{Variable}
-use Rattle.sfc_variables.specs.Finding.{names_of}
-use Rattle.sfc_tables.specs.declared.chart.Chart.{Chart}
-use Rattle.sfc_program.specs.declared.program_type.ProgramType.{ProgramType}
-use Rattle.sfc_program.specs.Names.{Space, space_in}
-use Rattle.sfc_chart.specs.declared.task.Task.{Task}
-use Rattle.sfc_chart.specs.declared.instance.Instance.{Instance}
-use Rattle.sfc_chart.specs.Plants.{PlantData}
+use Rattle.sfc_base.specs.declared.location.Location.{Location}
+use Rattle.sfc_base.specs.LocationText.{location_text}
+use Rattle.sfc_base.specs.TimeText.{time_text}
+use Rattle.sfc_base.specs.declared.references.GlobalId.{GlobalId}
+use Rattle.sfc_base.specs.declared.references.Variable.TheVariants.{Global}
+use Rattle.sfc_plant.specs.declared.variable.Variable.{Variable}
+use Rattle.sfc_plant.specs.VariableNames.{names_of}
+use Rattle.sfc_plant.specs.declared.chart.Chart.{Chart}
+use Rattle.sfc_plant.specs.declared.program_type.ProgramType.{ProgramType}
+use Rattle.sfc_plant.specs.Spaces.{Space, space_in}
+use Rattle.sfc_plant.specs.declared.task.Task.{Task}
+use Rattle.sfc_plant.specs.declared.instance.Instance.{Instance}
+use Rattle.sfc_plant.specs.Plants.{PlantData}
 use Rattle.sfc_list.specs.Layout.{line, block}
 use Rattle.sfc_list.specs.Values.{type_text, literal_text}
-use Rattle.sfc_list.specs.Names.{name_at, variable_name}
+use Rattle.sfc_plant.specs.Names.{name_at, variable_name, task_name, type_name}
 use Rattle.sfc_list.specs.Charts.{step_text, transition_text, action_text}
 
 -- ---- variables (2.4.3)
 
-abbrev pub place_text : Option Location → List ℕ
-place_text None = []
-place_text (Some l) = codes " AT " ++ location_text l
+abbrev pub at_text : Option Location → List ℕ
+at_text None = []
+at_text (Some l) = codes " AT " ++ location_text l
 
 -- each with the value that it begins with
 abbrev pub variable_text : Variable → List ℕ
 variable_text v =
-    v.name ++ place_text v.location ++ codes " : " ++ type_text v.var_type ++ codes " := " ++ literal_text v.initial
+    v.name ++ at_text v.location ++ codes " : " ++ type_text v.var_type ++ codes " := " ++ literal_text v.initial
     ++ codes ";"
 
 -- the type of the global that an external is
@@ -77,15 +77,9 @@ task_text globals t =
     codes "TASK " ++ t.name ++ codes "(" ++ single_text globals t.single ++ interval_text t.interval
     ++ codes "PRIORITY := " ++ decimal t.priority ++ codes ");"
 
-abbrev pub task_name : List Task → ℕ → List ℕ
-task_name tasks place = name_at (map (λ t. t.name) tasks) place
-
-abbrev pub type_name : List ProgramType → ℕ → List ℕ
-type_name types place = name_at (map (λ p. p.name) types) place
-
 abbrev pub instance_text : List Task → List ProgramType → Instance → List ℕ
 instance_text tasks types i =
-    codes "PROGRAM " ++ i.name ++ codes " WITH " ++ task_name tasks i.task.0 ++ codes " : " ++ type_name types i.program
+    codes "PROGRAM " ++ i.name ++ codes " WITH " ++ task_name tasks i.task.0 ++ codes " : " ++ type_name types i.program.0
     ++ codes ";"
 
 abbrev pub configuration_head : PlantData → List ℕ

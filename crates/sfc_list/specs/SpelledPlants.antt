@@ -1,34 +1,34 @@
 -- Where the text of a plant spells its tokens: each name in it is one, and each number is in the range of its kind.
 use Rattle.std.specs.Prelude.{◌<◌, ◌≤◌, ◌^◌, List, [], All, IsTrue, ⊤, length, unsigned_abs}
-use Rattle.sfc_tokens.specs.declared.location.Location.{Location}
-use Rattle.sfc_tokens.specs.Locations.{AreNumbers}
-use Rattle.sfc_tokens.specs.Names.{IsName}
-use Rattle.sfc_tokens.specs.Durations.{greatest}
+use Rattle.sfc_base.specs.declared.location.Location.{Location}
+use Rattle.sfc_base.specs.Locations.{AreNumbers}
+use Rattle.sfc_base.specs.Names.{IsName}
+use Rattle.sfc_base.specs.Durations.{greatest}
 use Rattle.sfc_text.specs.Declares.{OfOptional}
-use Rattle.sfc_expr.specs.declared.variable.GlobalId.{GlobalId}
-use Rattle.sfc_expr.specs.declared.variable.StepId.{StepId}
-use Rattle.sfc_expr.specs.declared.variable.Variable.TheVariants.{Global}
-use Rattle.sfc_expr.specs.declared.variable.Variable as expression
+use Rattle.sfc_base.specs.declared.references.GlobalId.{GlobalId}
+use Rattle.sfc_base.specs.declared.references.StepId.{StepId}
+use Rattle.sfc_base.specs.declared.references.Variable.TheVariants.{Global}
+use Rattle.sfc_base.specs.declared.references.Variable as expression
 use Rattle.sfc_expr.specs.Types.{lies_in_range}
-use Rattle.sfc_variables.specs.declared.variable.Variable.{Variable}
-use Rattle.sfc_variables.specs.Finding.{names_of}
-use Rattle.sfc_tables.specs.declared.association.Association.{Association}
-use Rattle.sfc_tables.specs.declared.association.Time.{Time}
-use Rattle.sfc_tables.specs.declared.association.Time.TheVariants as time
-use Rattle.sfc_tables.specs.declared.association.Qualifier.{Qualifier}
-use Rattle.sfc_tables.specs.declared.association.Qualifier.TheVariants as qualifier
-use Rattle.sfc_tables.specs.declared.action.Action.{Action}
-use Rattle.sfc_tables.specs.declared.chart.Step.{Step}
-use Rattle.sfc_tables.specs.declared.chart.Transition.{Transition}
-use Rattle.sfc_tables.specs.declared.chart.Chart.{Chart}
-use Rattle.sfc_program.specs.declared.program_type.ProgramType.{ProgramType}
-use Rattle.sfc_program.specs.Names.{Space, space_in}
-use Rattle.sfc_chart.specs.declared.task.Task.{Task}
-use Rattle.sfc_chart.specs.declared.instance.Instance.{Instance}
-use Rattle.sfc_chart.specs.Plants.{PlantData}
-use Rattle.sfc_list.specs.Names.{name_at, variable_name, step_name}
+use Rattle.sfc_plant.specs.declared.variable.Variable.{Variable}
+use Rattle.sfc_plant.specs.VariableNames.{names_of}
+use Rattle.sfc_plant.specs.declared.association.Association.{Association}
+use Rattle.sfc_plant.specs.declared.association.Time.{Time}
+use Rattle.sfc_plant.specs.declared.association.Time.TheVariants as time
+use Rattle.sfc_plant.specs.declared.association.Qualifier.{Qualifier}
+use Rattle.sfc_plant.specs.declared.association.Qualifier.TheVariants as qualifier
+use Rattle.sfc_plant.specs.declared.action.Action.{Action}
+use Rattle.sfc_plant.specs.declared.chart.Step.{Step}
+use Rattle.sfc_plant.specs.declared.chart.Transition.{Transition}
+use Rattle.sfc_plant.specs.declared.chart.Chart.{Chart}
+use Rattle.sfc_plant.specs.declared.program_type.ProgramType.{ProgramType}
+use Rattle.sfc_plant.specs.Spaces.{Space, space_in}
+use Rattle.sfc_plant.specs.declared.task.Task.{Task}
+use Rattle.sfc_plant.specs.declared.instance.Instance.{Instance}
+use Rattle.sfc_plant.specs.Plants.{PlantData}
+use Rattle.sfc_plant.specs.Names.{name_at, variable_name, step_name}
 use Rattle.sfc_list.specs.Charts.{target_text}
-use Rattle.sfc_list.specs.Listing.{task_name, type_name}
+use Rattle.sfc_plant.specs.Names.{task_name, type_name}
 use Rattle.sfc_list.specs.SpelledTexts.{AreNames, AreBodyNames}
 
 -- ---- steps and their action blocks (2.6.2, 2.6.4)
@@ -109,7 +109,7 @@ pub record CanSpellTask (globals : List Variable) (t : Task) : Type 0 where
 pub record CanSpellInstance (tasks : List Task) (types : List ProgramType) (i : Instance) : Type 0 where
   pub name : IsName i.name
   pub task : IsName (task_name tasks i.task.0)
-  pub program : IsName (type_name types i.program)
+  pub program : IsName (type_name types i.program.0)
 
 pub record CanSpellPlant (plant : PlantData) : Type 0 where
   pub configuration : IsName plant.configuration

@@ -1,11 +1,11 @@
 -- Where the texts of expressions (3.3.1) and statements (3.3.2) spell their tokens.
 use Rattle.std.specs.Prelude.{ℕ, List, IsTrue, ⊤}
-use Rattle.sfc_tokens.specs.Names.{IsName}
+use Rattle.sfc_base.specs.Names.{IsName}
 use Rattle.sfc_expr.specs.Types.{lies_in_range}
 use Rattle.sfc_expr.specs.Trees.{Expression, Literal, Read, StepActive, StepTime, ActionQ, Not, Minus, Binary}
 use Rattle.sfc_expr.specs.Trees.{Body, Nothing, Assign, If, Branches, NoBranch, When, Otherwise}
-use Rattle.sfc_program.specs.Names.{Space}
-use Rattle.sfc_list.specs.Names.{variable_name, step_name}
+use Rattle.sfc_plant.specs.Spaces.{Space}
+use Rattle.sfc_plant.specs.Names.{variable_name, step_name}
 
 -- whether each name in the text of the expression is one, and each value is in the range of its type
 abbrev pub AreNames : Space → List ℕ → Expression → Type 0

@@ -1,10 +1,10 @@
 -- The text of statements (3.3.2), each on lines of its own.
 use Rattle.std.specs.Prelude.{ℕ, ◌+◌, List, [], ◌++◌, codes}
-use Rattle.sfc_expr.specs.declared.variable.Variable.{Variable}
+use Rattle.sfc_base.specs.declared.references.Variable.{Variable}
 use Rattle.sfc_expr.specs.Trees.{Expression, Body, Nothing, Assign, If, Branches, NoBranch, When, Otherwise}
-use Rattle.sfc_program.specs.Names.{Space}
+use Rattle.sfc_plant.specs.Spaces.{Space}
 use Rattle.sfc_list.specs.Layout.{line}
-use Rattle.sfc_list.specs.Names.{variable_name}
+use Rattle.sfc_plant.specs.Names.{variable_name}
 use Rattle.sfc_list.specs.Expressions.{expression_text}
 
 abbrev pub assignment_text : Space → List ℕ → Variable → Expression → List ℕ

@@ -1,11 +1,11 @@
 -- The text of types, and of values as literals with their types (2.2).
 use Rattle.std.specs.Prelude.{◌++◌, ℕ, List, true, false, codes}
 use Rattle.std.specs.Fmt.{signed_decimal}
-use Rattle.sfc_tokens.specs.declared.var_type.VarType.{VarType}
-use Rattle.sfc_tokens.specs.declared.var_type.VarType.TheVariants as types
-use Rattle.sfc_tokens.specs.TimeText.{time_text}
-use Rattle.sfc_expr.specs.declared.value.Value.{Value}
-use Rattle.sfc_expr.specs.declared.value.Value.TheVariants as value
+use Rattle.sfc_base.specs.declared.var_type.VarType.{VarType}
+use Rattle.sfc_base.specs.declared.var_type.VarType.TheVariants as types
+use Rattle.sfc_base.specs.TimeText.{time_text}
+use Rattle.sfc_base.specs.declared.value.Value.{Value}
+use Rattle.sfc_base.specs.declared.value.Value.TheVariants as value
 
 abbrev pub type_text : VarType → List ℕ
 type_text types.Bool = codes "BOOL"

@@ -5,16 +5,16 @@ use Rattle.sfc_text.specs.declared.tree.Configuration.{Configuration}
 use Rattle.sfc_text.specs.declared.tree.Instance as text_instance
 use Rattle.sfc_text.specs.declared.tree.Task as text_task
 use Rattle.sfc_text.specs.Trees.{ProgramTree, SourceTree}
-use Rattle.sfc_expr.specs.declared.variable.GlobalId.{GlobalId}
-use Rattle.sfc_variables.specs.declared.variable.Variable.{Variable}
-use Rattle.sfc_variables.specs.Finding.{names_of}
-use Rattle.sfc_program.specs.declared.program_type.ProgramType.{ProgramType}
-use Rattle.sfc_program.specs.Names.{space_in}
-use Rattle.sfc_chart.specs.declared.task.Task.{Task}
-use Rattle.sfc_chart.specs.declared.instance.Instance.{Instance}
-use Rattle.sfc_chart.specs.Plants.{PlantData}
-use Rattle.sfc_list.specs.Names.{name_at}
-use Rattle.sfc_list.specs.Listing.{task_name, type_name}
+use Rattle.sfc_base.specs.declared.references.GlobalId.{GlobalId}
+use Rattle.sfc_plant.specs.declared.variable.Variable.{Variable}
+use Rattle.sfc_plant.specs.VariableNames.{names_of}
+use Rattle.sfc_plant.specs.declared.program_type.ProgramType.{ProgramType}
+use Rattle.sfc_plant.specs.Spaces.{space_in}
+use Rattle.sfc_plant.specs.declared.task.Task.{Task}
+use Rattle.sfc_plant.specs.declared.instance.Instance.{Instance}
+use Rattle.sfc_plant.specs.Plants.{PlantData}
+use Rattle.sfc_plant.specs.Names.{name_at}
+use Rattle.sfc_plant.specs.Names.{task_name, type_name}
 use Rattle.sfc_list.specs.WrittenVariables.{declaration_tree, variable_trees}
 use Rattle.sfc_list.specs.WrittenCharts.{element_trees}
 
@@ -36,7 +36,7 @@ task_tree globals t =
 
 abbrev pub instance_tree : List Task → List ProgramType → Instance → text_instance.Instance
 instance_tree tasks types i =
-    record { name = i.name; task = Some (task_name tasks i.task.0); program = type_name types i.program }
+    record { name = i.name; task = Some (task_name tasks i.task.0); program = type_name types i.program.0 }
 
 -- the configuration with its one resource (2.7.1)
 abbrev pub configuration_tree : PlantData → Configuration

@@ -7,17 +7,17 @@ use Rattle.sfc_text.specs.declared.tree.Qualifier as text_qualifier
 use Rattle.sfc_text.specs.declared.tree.Qualifier.TheVariants as written
 use Rattle.sfc_text.specs.declared.tree.Step as text_step
 use Rattle.sfc_text.specs.Trees.{ElementTree, AStep, ATransition, AnAction, TransitionTree, ActionTree}
-use Rattle.sfc_tables.specs.declared.association.Association.{Association}
-use Rattle.sfc_tables.specs.declared.association.Time.{Time}
-use Rattle.sfc_tables.specs.declared.association.Time.TheVariants as time
-use Rattle.sfc_tables.specs.declared.association.Qualifier.{Qualifier}
-use Rattle.sfc_tables.specs.declared.association.Qualifier.TheVariants as qualifier
-use Rattle.sfc_tables.specs.declared.action.Action.{Action}
-use Rattle.sfc_tables.specs.declared.chart.Step.{Step}
-use Rattle.sfc_tables.specs.declared.chart.Transition.{Transition}
-use Rattle.sfc_tables.specs.declared.chart.Chart.{Chart}
-use Rattle.sfc_program.specs.Names.{Space}
-use Rattle.sfc_list.specs.Names.{variable_name, step_name}
+use Rattle.sfc_plant.specs.declared.association.Association.{Association}
+use Rattle.sfc_plant.specs.declared.association.Time.{Time}
+use Rattle.sfc_plant.specs.declared.association.Time.TheVariants as time
+use Rattle.sfc_plant.specs.declared.association.Qualifier.{Qualifier}
+use Rattle.sfc_plant.specs.declared.association.Qualifier.TheVariants as qualifier
+use Rattle.sfc_plant.specs.declared.action.Action.{Action}
+use Rattle.sfc_plant.specs.declared.chart.Step.{Step}
+use Rattle.sfc_plant.specs.declared.chart.Transition.{Transition}
+use Rattle.sfc_plant.specs.declared.chart.Chart.{Chart}
+use Rattle.sfc_plant.specs.Spaces.{Space}
+use Rattle.sfc_plant.specs.Names.{variable_name, step_name}
 use Rattle.sfc_list.specs.Charts.{target_text}
 use Rattle.sfc_list.specs.WrittenTerms.{expression_tree, body_tree}
 

@@ -6,14 +6,14 @@ use Rattle.sfc_text.specs.declared.expression.Operator as text_operator
 use Rattle.sfc_text.specs.declared.expression.Operator.TheVariants as written
 use Rattle.sfc_text.specs.declared.expression.Variable as text_variable
 use Rattle.sfc_text.specs.Trees as text
-use Rattle.sfc_expr.specs.declared.value.Value.{Value}
-use Rattle.sfc_expr.specs.declared.value.Value.TheVariants as value
+use Rattle.sfc_base.specs.declared.value.Value.{Value}
+use Rattle.sfc_base.specs.declared.value.Value.TheVariants as value
 use Rattle.sfc_expr.specs.declared.operator.Operator.{Operator}
 use Rattle.sfc_expr.specs.declared.operator.Operator.TheVariants as operator
 use Rattle.sfc_expr.specs.Trees.{Expression, Literal, Read, StepActive, StepTime, ActionQ, Not, Minus, Binary}
 use Rattle.sfc_expr.specs.Trees.{Body, Nothing, Assign, If, Branches, NoBranch, When, Otherwise}
-use Rattle.sfc_program.specs.Names.{Space}
-use Rattle.sfc_list.specs.Names.{variable_name, step_name}
+use Rattle.sfc_plant.specs.Spaces.{Space}
+use Rattle.sfc_plant.specs.Names.{variable_name, step_name}
 
 -- a value is written as a literal with its type
 abbrev pub literal_tree : Value → text_literal.Literal

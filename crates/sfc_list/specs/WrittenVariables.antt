@@ -1,15 +1,15 @@
 -- The trees that a listing spells of variables (2.4.3).
 use Rattle.std.specs.Prelude.{List, [], ◌∷◌, ◌++◌, map, Option, Some, None, slice_get}
-use Rattle.sfc_tokens.specs.declared.var_type.VarType.{VarType}
-use Rattle.sfc_tokens.specs.declared.var_type.VarType.TheVariants as types
+use Rattle.sfc_base.specs.declared.var_type.VarType.{VarType}
+use Rattle.sfc_base.specs.declared.var_type.VarType.TheVariants as types
 use Rattle.sfc_text.specs.declared.tree.Declaration.{Declaration}
 use Rattle.sfc_text.specs.declared.tree.External.{External}
 use Rattle.sfc_text.specs.declared.tree.VariableBlock.{VariableBlock}
 use Rattle.sfc_text.specs.declared.tree.VariableBlock.TheVariants as block
-use Rattle.sfc_expr.specs.declared.variable.GlobalId.{GlobalId}
-use Rattle.sfc_variables.specs.declared.variable.Variable.{Variable}
-use Rattle.sfc_variables.specs.Finding.{names_of}
-use Rattle.sfc_list.specs.Names.{name_at}
+use Rattle.sfc_base.specs.declared.references.GlobalId.{GlobalId}
+use Rattle.sfc_plant.specs.declared.variable.Variable.{Variable}
+use Rattle.sfc_plant.specs.VariableNames.{names_of}
+use Rattle.sfc_plant.specs.Names.{name_at}
 use Rattle.sfc_list.specs.WrittenTerms.{literal_tree}
 
 -- each by itself, with the value that it begins with

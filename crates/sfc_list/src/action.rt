@@ -4,10 +4,10 @@ ghost use Rattle.sfc_list.specs.Layout.{line};
 ghost use Rattle.sfc_list.specs.Charts as text;
 ghost use Rattle.sfc_list.specs.Private.Sinking.{Puts};
 
-use crate::names::Names;
 use crate::sink::Sink;
-use crate::statement::{Place, put_statements};
-use sfc_tables::action::Action;
+use crate::statement::{BodyContext, put_statements};
+use sfc_plant::action::Action;
+use sfc_plant::names::Names;
 use std::io::Write;
 
 // Writes how an action begins.
@@ -33,7 +33,7 @@ fn put_action_line<W: Write>(action: &Action, out: &mut Sink<'_, W>)
 pub fn put_action<W: Write>(names: &Names, action: &Action, out: &mut Sink<'_, W>)
     ensures { Puts W.contents out.old out.new (text.action_text names.now action.now) }
 {
-    let at = Place {
+    let at = BodyContext {
         names,
         own: action.name.spelling(),
         level: 2,

@@ -6,15 +6,15 @@ ghost use Rattle.sfc_list.specs.Listing as text;
 ghost use Rattle.sfc_list.specs.Private.Parts.{task_line, instance_line};
 ghost use Rattle.sfc_list.specs.Private.Sinking.{Puts};
 
-use crate::names::variable_at;
 use crate::sink::Sink;
 use crate::variables::put_variables;
-use sfc_chart::instance::Instance;
-use sfc_chart::plant::Plant;
-use sfc_chart::task::Task;
-use sfc_expr::variable::GlobalId;
-use sfc_program::program_type::ProgramType;
-use sfc_variables::variable::Variable;
+use sfc_base::references::GlobalId;
+use sfc_plant::instance::Instance;
+use sfc_plant::names::{task_name, type_name, variable_at};
+use sfc_plant::plant::Plant;
+use sfc_plant::program_type::ProgramType;
+use sfc_plant::task::Task;
+use sfc_plant::variable::Variable;
 use std::io::Write;
 
 // Writes the SINGLE input of a task, if it has one.
@@ -76,28 +76,6 @@ fn put_tasks<W: Write>(globals: &[Variable], tasks: &[Task], out: &mut Sink<'_, 
     }
 }
 
-// The name of the task with this number; nothing where there is none.
-#[tactic(auto, using(crate::proofs::NamesAt::task_there, crate::proofs::NamesAt::no_task_there))]
-fn task_name(tasks: &[Task], place: usize) -> &[u8]
-    ensures { result.now ≡ text.task_name tasks.now place }
-{
-    match tasks.get(place) {
-        Some(task) => task.name.spelling(),
-        None => b"",
-    }
-}
-
-// The name of the program type with this number; nothing where there is none.
-#[tactic(auto, using(crate::proofs::NamesAt::type_there, crate::proofs::NamesAt::no_type_there))]
-fn type_name(types: &[ProgramType], place: usize) -> &[u8]
-    ensures { result.now ≡ text.type_name types.now place }
-{
-    match types.get(place) {
-        Some(program) => program.name.spelling(),
-        None => b"",
-    }
-}
-
 // Writes a program instance.
 #[tactic(auto, using(crate::proofs::Sunk::puts_then))]
 fn put_instance<W: Write>(
@@ -113,7 +91,7 @@ fn put_instance<W: Write>(
     out.put(b" WITH ");
     out.put(task_name(tasks, instance.task.0 as usize));
     out.put(b" : ");
-    out.put(type_name(types, instance.program));
+    out.put(type_name(types, instance.program.0));
     out.put(b";");
 }
 

@@ -5,11 +5,11 @@ ghost use Rattle.sfc_expr.specs.Trees.{expression_of};
 ghost use Rattle.sfc_list.specs.Expressions as text;
 ghost use Rattle.sfc_list.specs.Private.Sinking.{Puts};
 
-use crate::names::Names;
 use crate::sink::Sink;
 use crate::value::put_literal;
 use sfc_expr::expr::Expr;
 use sfc_expr::operator::Operator;
+use sfc_plant::names::Names;
 use std::io::Write;
 
 /// The level of NOT and minus, above all binary operators.

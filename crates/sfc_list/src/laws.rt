@@ -1,27 +1,30 @@
 //! What holds of listings themselves. Each law is a function with an empty body, whose contract is the law.
 
-ghost use Rattle.std.specs.Prelude.{◌≡◌, ◌≤◌, ℕ, List, [], length, None, IsTrue};
-ghost use Rattle.sfc_tokens.specs.declared.run.Alphabet.TheVariants.{Location};
-ghost use Rattle.sfc_tokens.specs.Runs.{Ends};
+ghost use Rattle.std.specs.Prelude.{◌≡◌, ◌≤◌, ℕ, List, [], length, Option, None, unwrap_or, Ok, IfOk, IsTrue};
+ghost use Rattle.sfc_base.specs.declared.run.Alphabet.TheVariants.{Location};
+ghost use Rattle.sfc_base.specs.Runs.{Ends};
 ghost use Rattle.sfc_tokens.specs.Spelling.{Spells};
 ghost use Rattle.sfc_tokens.specs.Texts.{longest};
 ghost use Rattle.sfc_text.specs.Spelled.{literal_tokens, tree_tokens};
 ghost use Rattle.sfc_text.specs.SpelledCharts.{step_tokens, transition_tokens, action_tokens};
 ghost use Rattle.sfc_text.specs.SpelledSources.{program_tokens, configuration_tokens, source_tokens};
 ghost use Rattle.sfc_text.specs.SpelledStatements.{body_tokens};
-ghost use Rattle.sfc_text.specs.Trees.{SourceTree};
-ghost use Rattle.sfc_expr.specs.declared.value.Value.{Value};
+ghost use Rattle.sfc_text.specs.Trees.{SourceTree, Tree};
+ghost use Rattle.sfc_base.specs.declared.value.Value.{Value};
+ghost use Rattle.sfc_base.specs.declared.var_type.VarType.{VarType};
+ghost use Rattle.sfc_check.specs.Checking.{checked};
 ghost use Rattle.sfc_expr.specs.Trees.{Expression, Body};
 ghost use Rattle.sfc_expr.specs.Types.{lies_in_range};
-ghost use Rattle.sfc_variables.specs.declared.variable.Variable.{Variable};
-ghost use Rattle.sfc_tables.specs.declared.action.Action.{Action};
-ghost use Rattle.sfc_tables.specs.declared.chart.Step.{Step};
-ghost use Rattle.sfc_tables.specs.declared.chart.Transition.{Transition};
-ghost use Rattle.sfc_program.specs.declared.program_type.ProgramType.{ProgramType};
-ghost use Rattle.sfc_program.specs.Names.{Space};
-ghost use Rattle.sfc_chart.specs.Accepted.{IsAccepted};
-ghost use Rattle.sfc_chart.specs.Built.{source_check, plant_of};
-ghost use Rattle.sfc_chart.specs.Plants.{PlantData};
+ghost use Rattle.sfc_plant.specs.declared.variable.Variable.{Variable};
+ghost use Rattle.sfc_plant.specs.declared.action.Action.{Action};
+ghost use Rattle.sfc_plant.specs.declared.chart.Step.{Step};
+ghost use Rattle.sfc_plant.specs.declared.chart.Transition.{Transition};
+ghost use Rattle.sfc_plant.specs.declared.program_type.ProgramType.{ProgramType};
+ghost use Rattle.sfc_plant.specs.Spaces.{Space};
+ghost use Rattle.sfc_program.specs.Names.{names_in};
+ghost use Rattle.sfc_load.specs.Accepted.{IsAccepted};
+ghost use Rattle.sfc_load.specs.Built.{source_check, plant_of};
+ghost use Rattle.sfc_plant.specs.Plants.{PlantData};
 ghost use Rattle.sfc_list.specs.Charts.{step_text, transition_text, action_text};
 ghost use Rattle.sfc_list.specs.Expressions.{expression_text};
 ghost use Rattle.sfc_list.specs.Listing.{program_text, configuration_text, listing};
@@ -39,8 +42,16 @@ pub fn spelled_plant_loads()
     ensures equal { (tree : SourceTree) → source_check tree ≡ None → plant_of (written (plant_of tree)) ≡ plant_of tree }
 {}
 
-/// The listing of a plant that a text loads as loads as that plant, where it has no more bytes than a text may have (1,048,576): it scans
-/// to tokens that derive a tree in which no check fails, and the plant is that tree's.
+/// The tree that a listing spells of an expression that was checked in the body of an action, or in a condition, is
+/// checked there as that expression.
+pub fn spelled_expression_checks()
+    ensures { (space : Space) (own : Option (List ℕ)) (e : Tree) (t : VarType)
+        → IfOk (checked (names_in space own) e t)
+        (λ x. checked (names_in space own) (expression_tree space (unwrap_or own []) x) t ≡ Ok x) }
+{}
+
+/// The listing of a plant that a text loads as loads as that plant, where it has no more bytes than a text may have
+/// (1,048,576): it lexes to tokens that derive a tree in which no check fails, and the plant is that tree's.
 pub fn read_back()
     ensures { (text : List ℕ) (plant : PlantData) → IsAccepted text plant → length (listing plant) ≤ longest
         → IsAccepted (listing plant) plant }

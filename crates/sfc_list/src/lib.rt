@@ -1,10 +1,9 @@
 //! The text of a loaded plant (IEC 61131-3:2003, Annex B).
 //!
-//! - `list`: a plant to its text, and into a writer.
+//! - `list`: a plant to its text, and into a writer; `list_expr`: an expression of an instance into a writer.
 //! - `program`, `configuration`: the two kinds of blocks that a text has.
 //! - `variables`, `step`, `transition`, `action`: what stands in them; `statement`, `expression`: what stands in bodies
 //!   and conditions; `value`: types, literals and locations.
-//! - `names`: the names of what stands in a program type as a number.
 //! - `laws`: what holds of listings themselves.
 //! - `layout`: lines and indentation; `sink`: writing that stops at the first fault.
 #![tactic(auto)]
@@ -15,7 +14,7 @@ mod expression;
 pub mod laws;
 mod layout;
 pub mod list;
-pub mod names;
+pub mod list_expr;
 mod program;
 mod sink;
 mod statement;

@@ -1,17 +1,17 @@
 //! A plant to its text.
 
 ghost use Rattle.std.specs.Prelude.{◌≡◌, IfOk, flat_map};
-ghost use Rattle.sfc_tokens.specs.Writing.{Writes};
+ghost use Rattle.sfc_base.specs.Writing.{Writes};
 ghost use Rattle.sfc_list.specs.Listing as text;
 ghost use Rattle.sfc_list.specs.Private.Sinking.{Puts};
 
 use crate::configuration::put_configuration;
 use crate::program::put_program;
 use crate::sink::Sink;
-use sfc_chart::plant::Plant;
-use sfc_program::program_type::ProgramType;
-use sfc_tokens::write_fault::WriteFault;
-use sfc_variables::variable::Variable;
+use sfc_base::write_fault::WriteFault;
+use sfc_plant::plant::Plant;
+use sfc_plant::program_type::ProgramType;
+use sfc_plant::variable::Variable;
 use std::alloc::{AllocError, Global};
 use std::io::Write;
 

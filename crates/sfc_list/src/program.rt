@@ -1,23 +1,23 @@
 //! The text of program types (2.5.3).
 
 ghost use Rattle.std.specs.Prelude.{flat_map, codes};
-ghost use Rattle.sfc_program.specs.Names.{space_in};
+ghost use Rattle.sfc_plant.specs.Spaces.{space_in};
 ghost use Rattle.sfc_list.specs.Layout.{line, block};
 ghost use Rattle.sfc_list.specs.Charts.{step_text, transition_text, action_text};
 ghost use Rattle.sfc_list.specs.Listing as text;
 ghost use Rattle.sfc_list.specs.Private.Sinking.{Puts};
 
 use crate::action::put_action;
-use crate::names::Names;
 use crate::sink::Sink;
 use crate::step::put_step;
 use crate::transition::put_transition;
 use crate::variables::{put_externals, put_variables};
-use sfc_expr::variable::GlobalId;
-use sfc_program::program_type::ProgramType;
-use sfc_tables::action::Action;
-use sfc_tables::chart::{Chart, Step, Transition};
-use sfc_variables::variable::Variable;
+use sfc_base::references::GlobalId;
+use sfc_plant::action::Action;
+use sfc_plant::chart::{Chart, Step, Transition};
+use sfc_plant::names::Names;
+use sfc_plant::program_type::ProgramType;
+use sfc_plant::variable::Variable;
 use std::io::Write;
 
 // Writes how a program type begins.

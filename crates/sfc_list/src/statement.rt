@@ -8,16 +8,16 @@ ghost use Rattle.sfc_list.specs.Private.Sinking.{Puts};
 
 use crate::expression::put_expression;
 use crate::layout::{put_indent, put_line};
-use crate::names::Names;
 use crate::sink::Sink;
+use sfc_base::references::Variable;
 use sfc_expr::expr::Expr;
 use sfc_expr::statement::{Branch, Statement};
-use sfc_expr::variable::Variable;
+use sfc_plant::names::Names;
 use std::io::Write;
 
-/// A place in the text: the program type, the action in whose body it lies, and the level of its lines.
+/// The context of a body: the program type, the action in whose body it lies, and the level of its lines.
 #[derive(Drop)]
-pub struct Place<'a> {
+pub struct BodyContext<'a> {
     pub names: &'a Names<'a>,
     pub own: &'a [u8],
     pub level: usize,
@@ -25,7 +25,7 @@ pub struct Place<'a> {
 
 // Writes an assignment.
 #[tactic(auto, using(crate::proofs::Sunk::puts_then))]
-fn put_assignment<W: Write>(at: &Place, target: Variable, value: &Expr, out: &mut Sink<'_, W>)
+fn put_assignment<W: Write>(at: &BodyContext, target: Variable, value: &Expr, out: &mut Sink<'_, W>)
     ensures { Puts W.contents out.old out.new
         (text.assignment_text at.now.names.now at.now.own.now target (expression_of value.now)) }
 {
@@ -37,7 +37,7 @@ fn put_assignment<W: Write>(at: &Place, target: Variable, value: &Expr, out: &mu
 
 // Writes a condition behind the word of its branch.
 #[tactic(auto, using(crate::proofs::Sunk::puts_then))]
-fn put_branch_head<W: Write>(at: &Place, word: &[u8], condition: &Expr, out: &mut Sink<'_, W>)
+fn put_branch_head<W: Write>(at: &BodyContext, word: &[u8], condition: &Expr, out: &mut Sink<'_, W>)
     ensures { Puts W.contents out.old out.new
         (text.branch_head at.now.names.now at.now.own.now word.now (expression_of condition.now)) }
 {
@@ -49,7 +49,7 @@ fn put_branch_head<W: Write>(at: &Place, word: &[u8], condition: &Expr, out: &mu
 // Writes a branch behind this word.
 #[cycle(statement)]
 #[tactic(auto, using(crate::proofs::Bodies::when_text, crate::proofs::Bodies::otherwise_text, crate::proofs::Sunk::puts_then))]
-fn put_branch<W: Write>(at: &Place, word: &[u8], branch: &Branch, out: &mut Sink<'_, W>)
+fn put_branch<W: Write>(at: &BodyContext, word: &[u8], branch: &Branch, out: &mut Sink<'_, W>)
     ensures { let b : _ = tried_before branch.now NoBranch in
         Puts W.contents out.old out.new (text.branches_text at.now.names.now at.now.own.now at.now.level word.now b) }
 {
@@ -69,7 +69,7 @@ fn put_branch<W: Write>(at: &Place, word: &[u8], branch: &Branch, out: &mut Sink
 
 // Writes the statements of a branch, a level deeper. No memory holds a tree deeper than a level can count.
 #[cycle(statement)]
-fn put_inside<W: Write>(at: &Place, body: &[Statement], out: &mut Sink<'_, W>)
+fn put_inside<W: Write>(at: &BodyContext, body: &[Statement], out: &mut Sink<'_, W>)
     ensures { Puts W.contents out.old out.new
         (text.body_text at.now.names.now at.now.own.now (at.now.level + 1) (body_of body.now)) }
 {
@@ -77,7 +77,7 @@ fn put_inside<W: Write>(at: &Place, body: &[Statement], out: &mut Sink<'_, W>)
         out.stop();
         return;
     };
-    let inside = Place {
+    let inside = BodyContext {
         names: at.names,
         own: at.own,
         level,
@@ -87,7 +87,7 @@ fn put_inside<W: Write>(at: &Place, body: &[Statement], out: &mut Sink<'_, W>)
 
 // Writes the branches of an IF.
 #[cycle(statement)]
-fn put_branches<W: Write>(at: &Place, branches: &[Branch], out: &mut Sink<'_, W>)
+fn put_branches<W: Write>(at: &BodyContext, branches: &[Branch], out: &mut Sink<'_, W>)
     ensures { Puts W.contents out.old out.new
         (text.branches_text at.now.names.now at.now.own.now at.now.level (codes "IF ") (branches_of branches.now)) }
 {
@@ -101,7 +101,7 @@ fn put_branches<W: Write>(at: &Place, branches: &[Branch], out: &mut Sink<'_, W>
 // Writes one statement.
 #[cycle(statement)]
 #[tactic(auto, using(crate::proofs::Bodies::if_text, crate::proofs::Bodies::assign_text, crate::proofs::Sunk::puts_then))]
-fn put_statement<W: Write>(at: &Place, statement: &Statement, out: &mut Sink<'_, W>)
+fn put_statement<W: Write>(at: &BodyContext, statement: &Statement, out: &mut Sink<'_, W>)
     ensures { Puts W.contents out.old out.new
         (statement_text at.now.names.now at.now.own.now at.now.level statement.now) }
 {
@@ -121,7 +121,7 @@ fn put_statement<W: Write>(at: &Place, statement: &Statement, out: &mut Sink<'_,
 /// Writes statements, each on lines of its own.
 #[cycle(statement)]
 #[tactic(auto, using(crate::proofs::Bodies::body_lines, crate::proofs::Sunk::puts_nothing))]
-pub fn put_statements<W: Write>(at: &Place, statements: &[Statement], out: &mut Sink<'_, W>)
+pub fn put_statements<W: Write>(at: &BodyContext, statements: &[Statement], out: &mut Sink<'_, W>)
     ensures { Puts W.contents out.old out.new
         (text.body_text at.now.names.now at.now.own.now at.now.level (body_of statements.now)) }
 {

@@ -6,12 +6,12 @@ ghost use Rattle.sfc_list.specs.Charts as text;
 ghost use Rattle.sfc_list.specs.Private.Parts.{indicator_text, association_line};
 ghost use Rattle.sfc_list.specs.Private.Sinking.{Puts};
 
-use crate::names::Names;
 use crate::sink::Sink;
-use sfc_expr::variable::Variable;
-use sfc_tables::association::{Association, Qualifier, Target, Time};
-use sfc_tables::chart::Step;
-use sfc_text::tree::TimedQualifier;
+use sfc_base::qualifier::TimedQualifier;
+use sfc_base::references::Variable;
+use sfc_plant::association::{Association, Qualifier, Target, Time};
+use sfc_plant::chart::Step;
+use sfc_plant::names::Names;
 use std::io::Write;
 
 // The name of an action.

@@ -3,16 +3,16 @@
 ghost use Rattle.std.specs.Prelude.{flat_map, map};
 ghost use Rattle.sfc_list.specs.Charts as text;
 ghost use Rattle.sfc_list.specs.Layout.{line};
-ghost use Rattle.sfc_list.specs.Names.{step_name};
+ghost use Rattle.sfc_plant.specs.Names.{step_name};
 ghost use Rattle.sfc_list.specs.Private.Parts.{further_step, steps_text};
 ghost use Rattle.sfc_list.specs.Private.Sinking.{Puts};
 
 use crate::expression::put_expression;
-use crate::names::Names;
 use crate::sink::Sink;
-use sfc_expr::variable::StepId;
-use sfc_tables::chart::Transition;
-use sfc_tokens::name::Name;
+use sfc_base::name::Name;
+use sfc_base::references::StepId;
+use sfc_plant::chart::Transition;
+use sfc_plant::names::Names;
 use std::io::Write;
 
 // Writes the name of a transition, if it has one.

@@ -2,14 +2,14 @@
 
 ghost use Rattle.std.specs.Prelude.{◌≡◌, flat_map};
 ghost use Rattle.std.specs.Fmt.{signed_decimal};
-ghost use Rattle.sfc_tokens.specs.LocationText as place;
+ghost use Rattle.sfc_base.specs.LocationText as locations;
 ghost use Rattle.sfc_list.specs.Values as text;
 ghost use Rattle.sfc_list.specs.Private.Sinking.{Puts};
 
 use crate::sink::Sink;
-use sfc_expr::value::Value;
-use sfc_tokens::location::{Area, Location, Size};
-use sfc_tokens::var_type::VarType;
+use sfc_base::location::{Area, Location, Size};
+use sfc_base::value::Value;
+use sfc_base::var_type::VarType;
 use std::io::Write;
 
 /// The word of a type.
@@ -57,7 +57,7 @@ pub fn put_literal<W: Write>(value: Value, out: &mut Sink<'_, W>)
 
 // The letter of an area.
 fn area_letter(area: Area) -> &'static [u8]
-    ensures { result.now ≡ place.area_text area }
+    ensures { result.now ≡ locations.area_text area }
 {
     match area {
         Area::Input => b"I",
@@ -68,7 +68,7 @@ fn area_letter(area: Area) -> &'static [u8]
 
 // The letter of a size.
 fn size_letter(size: Size) -> &'static [u8]
-    ensures { result.now ≡ place.size_text size }
+    ensures { result.now ≡ locations.size_text size }
 {
     match size {
         Size::Bit => b"X",
@@ -82,7 +82,7 @@ fn size_letter(size: Size) -> &'static [u8]
 // Writes the number behind a point.
 #[tactic(auto, using(crate::proofs::Sunk::puts_then))]
 fn put_behind_point<W: Write>(number: u32, out: &mut Sink<'_, W>)
-    ensures { Puts W.contents out.old out.new (place.behind_point number) }
+    ensures { Puts W.contents out.old out.new (locations.behind_point number) }
 {
     out.put(b".");
     out.put_number(u64::from(number));
@@ -91,7 +91,7 @@ fn put_behind_point<W: Write>(number: u32, out: &mut Sink<'_, W>)
 // Writes the numbers, each behind a point.
 #[tactic(auto, using(crate::proofs::Sunk::puts_nothing))]
 fn put_behind_points<W: Write>(numbers: &[u32], out: &mut Sink<'_, W>)
-    ensures { Puts W.contents out.old out.new (flat_map place.behind_point numbers.now) }
+    ensures { Puts W.contents out.old out.new (flat_map locations.behind_point numbers.now) }
 {
     for number in numbers {
         put_behind_point(*number, out);
@@ -101,7 +101,7 @@ fn put_behind_points<W: Write>(numbers: &[u32], out: &mut Sink<'_, W>)
 // Writes the numbers, parted by points.
 #[tactic(auto, using(crate::proofs::Sunk::puts_then, crate::proofs::Sunk::puts_nothing))]
 fn put_numbers<W: Write>(numbers: &[u32], out: &mut Sink<'_, W>)
-    ensures { Puts W.contents out.old out.new (place.numbers_text numbers.now) }
+    ensures { Puts W.contents out.old out.new (locations.numbers_text numbers.now) }
 {
     if let Some((number, others)) = numbers.split_first() {
         out.put_number(u64::from(*number));
@@ -112,7 +112,7 @@ fn put_numbers<W: Write>(numbers: &[u32], out: &mut Sink<'_, W>)
 /// Writes a location with the letter of its size.
 #[tactic(auto, using(crate::proofs::Sunk::puts_then))]
 pub fn put_location<W: Write>(location: &Location, out: &mut Sink<'_, W>)
-    ensures { Puts W.contents out.old out.new (place.location_text location.now) }
+    ensures { Puts W.contents out.old out.new (locations.location_text location.now) }
 {
     out.put(b"%");
     out.put(area_letter(location.area()));

@@ -1,24 +1,24 @@
 //! The text of variables and externals (2.4.3).
 
-ghost use Rattle.std.specs.Prelude.{flat_map};
+ghost use Rattle.std.specs.Prelude.{◌≡◌, flat_map, slice_get};
 ghost use Rattle.sfc_list.specs.Layout.{line};
 ghost use Rattle.sfc_list.specs.Listing as text;
 ghost use Rattle.sfc_list.specs.Private.Parts.{variable_line, external_line};
 ghost use Rattle.sfc_list.specs.Private.Sinking.{Puts};
 
 use crate::layout::put_indent;
-use crate::names::Names;
 use crate::sink::Sink;
 use crate::value::{put_literal, put_location, type_word};
-use sfc_expr::variable::{GlobalId, Variable as Named};
-use sfc_tokens::location::Location;
-use sfc_variables::variable::Variable;
+use sfc_base::location::Location;
+use sfc_base::references::{GlobalId, Variable as Named};
+use sfc_plant::names::Names;
+use sfc_plant::variable::Variable;
 use std::io::Write;
 
 // Writes where a variable lies, if it lies somewhere.
 #[tactic(auto, using(crate::proofs::Sunk::puts_then, crate::proofs::Sunk::puts_nothing))]
-fn put_place<W: Write>(location: &Option<Location>, out: &mut Sink<'_, W>)
-    ensures { Puts W.contents out.old out.new (text.place_text location.now) }
+fn put_at<W: Write>(location: &Option<Location>, out: &mut Sink<'_, W>)
+    ensures { Puts W.contents out.old out.new (text.at_text location.now) }
 {
     if let Some(location) = location {
         out.put(b" AT ");
@@ -32,7 +32,7 @@ fn put_variable<W: Write>(variable: &Variable, out: &mut Sink<'_, W>)
     ensures { Puts W.contents out.old out.new (text.variable_text variable.now) }
 {
     out.put(variable.name.spelling());
-    put_place(&variable.location, out);
+    put_at(&variable.location, out);
     out.put(b" : ");
     out.put(type_word(variable.var_type));
     out.put(b" := ");
@@ -59,6 +59,16 @@ pub fn put_variables<W: Write>(level: usize, variables: &[Variable], out: &mut S
     }
 }
 
+// The type of an external, which is that of its global variable.
+fn external_type(names: &Names, external: GlobalId) -> &'static [u8]
+    ensures { result.now ≡ text.external_type (slice_get names.now.globals external.0) }
+{
+    match names.globals().get(external.0) {
+        Some(global) => type_word(global.var_type),
+        None => b"",
+    }
+}
+
 // Writes an external.
 #[tactic(auto, using(crate::proofs::Sunk::puts_then))]
 fn put_external<W: Write>(names: &Names, external: GlobalId, out: &mut Sink<'_, W>)
@@ -66,7 +76,7 @@ fn put_external<W: Write>(names: &Names, external: GlobalId, out: &mut Sink<'_, 
 {
     out.put(names.variable(Named::Global(external)));
     out.put(b" : ");
-    out.put(names.external_type(external));
+    out.put(external_type(names, external));
     out.put(b";");
 }
 

@@ -9,15 +9,15 @@ use Rattle.sfc_text.specs.Trees.{SourceTree}
 use Rattle.sfc_variables.specs.declared.load_error.LoadError.{LoadError}
 use Rattle.sfc_variables.specs.declared.load_error.LoadError.TheVariants as load
 use Rattle.sfc_variables.specs.Checks.{Fails}
-use Rattle.sfc_chart.specs.Built.{source_check}
+use Rattle.sfc_load.specs.Built.{source_check}
 use Rattle.sfc_monitor.specs.declared.monitor_error.MonitorError.{MonitorError}
 use Rattle.sfc_monitor.specs.declared.monitor_error.MonitorError.TheVariants.{Chart, Script, Read, Write, Memory}
 use Rattle.sfc_monitor.specs.MonitorErrors.{of_read, of_kind, of_load}
 use Rattle.sfc_monitor.specs.Reading.{Device, IsUntouched, TakesAtMost, LosesAtMost}
-use Rattle.sfc_chart.specs.Plants.{PlantData}
-use Rattle.sfc_chart.specs.Accepted.{IsAccepted}
+use Rattle.sfc_plant.specs.Plants.{PlantData}
+use Rattle.sfc_load.specs.Accepted.{IsAccepted}
 use Rattle.sfc_monitor.specs.Acceptance.{Accepts, Answers, most}
-use Rattle.sfc_monitor.specs.Working.Telling.{Checks, Told}
+use Rattle.sfc_monitor.specs.Working.Telling.{Checks, IsWritten}
 use Rattle.sfc_monitor.specs.Working.Faults.{IsInputFault}
 
 pub read_refused : (text : List ℕ) (error : ReadError) → FindsError error.kind (λ outcome. TextReads text outcome)
@@ -53,14 +53,14 @@ module _ (output : PlantData → List ℕ) where
   refused chart w text Memory taken lost unwritten h = (lost, unwritten)
 
   -- the chart was taken, and is told of
-  pub told : (chart w : Device) (text : List ℕ) (plant : PlantData) (r : Result (Unit {0}) MonitorError) → TakesAtMost most chart text
-      → IsAccepted text plant → Told w (output plant) r → Answers output chart w r
-  told chart w text plant (Ok done) taken accepted h = (text, taken, (plant, accepted, h))
-  told chart w text plant (Err Write) taken accepted h = (text, taken, (plant, accepted, h))
-  told chart w text plant (Err (Chart e)) taken accepted h = absurd h
-  told chart w text plant (Err (Script n)) taken accepted h = absurd h
-  told chart w text plant (Err Read) taken accepted h = absurd h
-  told chart w text plant (Err Memory) taken accepted h = absurd h
+  pub written : (chart w : Device) (text : List ℕ) (plant : PlantData) (r : Result (Unit {0}) MonitorError) → TakesAtMost most chart text
+      → IsAccepted text plant → IsWritten w (output plant) r → Answers output chart w r
+  written chart w text plant (Ok done) taken accepted h = (text, taken, (plant, accepted, h))
+  written chart w text plant (Err Write) taken accepted h = (text, taken, (plant, accepted, h))
+  written chart w text plant (Err (Chart e)) taken accepted h = absurd h
+  written chart w text plant (Err (Script n)) taken accepted h = absurd h
+  written chart w text plant (Err Read) taken accepted h = absurd h
+  written chart w text plant (Err Memory) taken accepted h = absurd h
 
 -- a text that isn't accepted is refused alike
 pub alike : (text : List ℕ) (error : MonitorError) → Accepts text (Err error) → Checks text {X = Unit {0}} (Err error)

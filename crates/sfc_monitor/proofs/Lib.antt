@@ -8,3 +8,11 @@ pub mod Taken
 pub mod Checked
 -- where replay ends
 pub mod Replayed
+-- what variables begin with
+pub mod TypedVariables
+-- the types of names in an instance
+pub mod TypedNames
+-- the actions of a chart
+pub mod TypedCharts
+-- loaded plants
+pub mod TypedPlants

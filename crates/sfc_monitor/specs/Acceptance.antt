@@ -3,10 +3,10 @@ use Rattle.std.specs.Prelude.{◌≡◌, ℕ, List, codes, Some, Result, Ok, Err
 use Rattle.std.specs.Io.KnownBytes.{Appends}
 use Rattle.sfc_text.specs.Reads.{TextReads}
 use Rattle.sfc_text.specs.Trees.{SourceTree}
-use Rattle.sfc_tokens.specs.Writing.{AppendsFront}
-use Rattle.sfc_chart.specs.Accepted.{IsAccepted}
-use Rattle.sfc_chart.specs.Built.{source_check}
-use Rattle.sfc_chart.specs.Plants.{PlantData}
+use Rattle.sfc_base.specs.Writing.{AppendsFront}
+use Rattle.sfc_load.specs.Accepted.{IsAccepted}
+use Rattle.sfc_load.specs.Built.{source_check}
+use Rattle.sfc_plant.specs.Plants.{PlantData}
 use Rattle.sfc_monitor.specs.declared.monitor_error.ChartError.{ChartError}
 use Rattle.sfc_monitor.specs.declared.monitor_error.ChartError.TheVariants as chart
 use Rattle.sfc_monitor.specs.declared.monitor_error.MonitorError.{MonitorError}

@@ -1,6 +1,6 @@
 -- The rules, in reading order.
 
--- the lines of commands, of their answers and of the image
+-- what is written of a session, and the text of a resource
 pub mod Output
 -- what is taken from a reader
 pub mod Reading

@@ -1,24 +1,24 @@
 -- What a chart and a script write: a stated function of the bytes that were read.
 use Rattle.std.specs.Prelude.{◌≡◌, ◌⊎◌, ℕ, List, [], Result, Ok, Err}
 use Rattle.std.specs.Io.KnownBytes.{Appends}
-use Rattle.sfc_tokens.specs.Writing.{AppendsFront}
-use Rattle.sfc_chart.specs.Plants.{PlantData}
-use Rattle.sfc_events.specs.History.{Entry}
+use Rattle.sfc_base.specs.Writing.{AppendsFront}
+use Rattle.sfc_plant.specs.Plants.{PlantData}
+use Rattle.sfc_events.specs.History.{TimedEvent}
 use Rattle.sfc_script.specs.Scripts.{commands_of_script}
 use Rattle.sfc_monitor.specs.declared.monitor_error.MonitorError.{MonitorError}
 use Rattle.sfc_monitor.specs.declared.monitor_error.MonitorError.TheVariants.{Chart, Script, Read, Write, Memory}
-use Rattle.sfc_chart.specs.Accepted.{IsAccepted}
+use Rattle.sfc_load.specs.Accepted.{IsAccepted}
 use Rattle.sfc_monitor.specs.Acceptance.{IsRefusedFor, OfChart, most}
-use Rattle.sfc_monitor.specs.Output.{lines_of_play}
+use Rattle.sfc_monitor.specs.Output.{lines_of_play, resource_of, text_of}
 use Rattle.sfc_monitor.specs.Reading.{Device, IsUntouched, TakesAtMost, LosesAtMost}
 
 -- The lines of the script's commands on the chart's plant, and of the image after them.
 pub record IsOutput (text script output : List ℕ) : Type 0 where
   pub plant : PlantData
   pub loaded : IsAccepted text plant
-  pub commands : List Entry
+  pub commands : List TimedEvent
   pub parsed : commands_of_script plant script ≡ Ok commands
-  pub lines : output ≡ lines_of_play plant [] commands
+  pub lines : output ≡ lines_of_play (resource_of plant) (text_of plant) [] commands
 
 -- the chart is a plant over which the script has this faulty line
 pub record IsScriptRefused (text script : List ℕ) (line : ℕ) : Type 0 where

@@ -3,8 +3,8 @@
 ghost use Rattle.sfc_monitor.specs.Acceptance.{Accepts};
 
 use crate::monitor_error::MonitorError;
-use sfc_chart::load::load;
-use sfc_chart::plant::Plant;
+use sfc_load::load::load;
+use sfc_plant::plant::Plant;
 use sfc_text::read::read;
 use std::alloc::Global;
 

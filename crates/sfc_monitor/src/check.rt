@@ -2,14 +2,14 @@
 
 ghost use Rattle.sfc_list.specs.Listing.{listing};
 ghost use Rattle.sfc_monitor.specs.Acceptance.{Answers, acceptance};
-ghost use Rattle.sfc_monitor.specs.Working.Telling.{Checks, Told};
+ghost use Rattle.sfc_monitor.specs.Working.Telling.{Checks, IsWritten};
 
 use crate::chart::plant_of_text;
 use crate::input::read_to_end;
 use crate::monitor_error::MonitorError;
-use sfc_chart::plant::Plant;
+use sfc_base::write_fault::put_all;
 use sfc_list::list::list_to;
-use sfc_tokens::write_fault::put_all;
+use sfc_plant::plant::Plant;
 use std::alloc::Global;
 use std::io::{Read, Write};
 
@@ -41,7 +41,7 @@ pub fn check_chart<C: Read, W: Write>(
 
 // Writes the text of a plant.
 fn put_listing<W: Write>(plant: &Plant, w: &mut W) -> Result<(), MonitorError>
-    ensures { Told (W.contents w.old, W.contents w.new) (listing plant.now) result }
+    ensures { IsWritten (W.contents w.old, W.contents w.new) (listing plant.now) result }
 {
     list_to(plant, w)?;
     Ok(())

@@ -4,9 +4,9 @@ ghost use Rattle.std.specs.Prelude.{◌≡◌};
 ghost use Rattle.sfc_monitor.specs.declared.monitor_error.MonitorError.TheVariants.{Memory, Write as WriteVariant};
 ghost use Rattle.sfc_monitor.specs.MonitorErrors.{of_script, of_read, of_load, status_of};
 
+use sfc_base::write_fault::WriteFault;
 use sfc_script::script::ScriptError;
 use sfc_tokens::read_error::{ReadError, ReadErrorKind};
-use sfc_tokens::write_fault::WriteFault;
 use sfc_variables::load_error::LoadError;
 use std::alloc::AllocError;
 use std::error::Error;

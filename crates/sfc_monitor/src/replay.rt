@@ -6,6 +6,7 @@ use crate::chart::plant_of_text;
 use crate::input::read_to_end;
 use crate::monitor_error::MonitorError;
 use crate::play::play;
+use crate::text::Text;
 use sfc_core::resource::Resource;
 use sfc_script::script::read_script;
 use std::alloc::Global;
@@ -32,6 +33,6 @@ pub fn replay<C: Read, S: Read, W: Write>(
     let plant = plant_of_text(alloc, &text)?;
     let mut resource = Resource::open(alloc, plant)?;
     let commands = read_to_end(alloc, script)?;
-    let entries = read_script(alloc, resource.plant(), &commands)?;
-    play(alloc, &mut resource, &entries, w)
+    let timed_events = read_script(alloc, resource.plant(), &commands)?;
+    play(alloc, &Text, &mut resource, &timed_events, w)
 }

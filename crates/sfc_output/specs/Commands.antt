@@ -4,10 +4,10 @@ use Rattle.std.specs.Prelude.{Option, Some, None, Result, Ok, Err}
 use Rattle.std.specs.Int.{bit_at}
 use Rattle.std.specs.List.{range_with_len}
 use Rattle.std.specs.Fmt.{decimal}
-use Rattle.sfc_tokens.specs.TimeText.{time_text}
-use Rattle.sfc_expr.specs.declared.value.Value.{Value}
-use Rattle.sfc_chart.specs.declared.ids.VarId.{VarId}
-use Rattle.sfc_chart.specs.Plants.{PlantData}
+use Rattle.sfc_base.specs.TimeText.{time_text}
+use Rattle.sfc_base.specs.declared.value.Value.{Value}
+use Rattle.sfc_base.specs.declared.ids.VarId.{VarId}
+use Rattle.sfc_plant.specs.Plants.{PlantData}
 use Rattle.sfc_events.specs.declared.event.Event.{Event}
 use Rattle.sfc_events.specs.declared.event.Event.TheVariants.{Scan, ForcedScan, Input, Force, Release, Reset}
 use Rattle.sfc_events.specs.declared.event.Outcome.{Outcome}
@@ -15,9 +15,9 @@ use Rattle.sfc_events.specs.declared.event.Outcome.TheVariants.{Done, Scanned}
 use Rattle.sfc_events.specs.declared.refusal.Refusal.{Refusal}
 use Rattle.sfc_events.specs.declared.refusal.Refusal.TheVariants.{NotDue, Yield}
 use Rattle.sfc_events.specs.Refusals.{refusal_text}
-use Rattle.sfc_instance.specs.declared.ended.Ended.{Ended}
-use Rattle.sfc_instance.specs.declared.ended.Ended.TheVariants.{Ran, Faulted, Skipped}
-use Rattle.sfc_instance.specs.Life.{Standing}
+use Rattle.sfc_instance.specs.declared.scan_end.ScanEnd.{ScanEnd}
+use Rattle.sfc_instance.specs.declared.scan_end.ScanEnd.TheVariants.{Ran, Faulted, Skipped}
+use Rattle.sfc_instance.specs.Life.{InstanceState}
 use Rattle.sfc_output.specs.Names.{task_name, program_name, image_name}
 use Rattle.sfc_output.specs.Programs.{program_line}
 use Rattle.sfc_output.specs.Values.{line_end, value_text}
@@ -62,24 +62,25 @@ abbrev pub is_set : ℕ → ℕ → Bool
 is_set bits k = bit_at bits k == 1
 
 -- how the scan of instance k ended, if the answer tells of it
-abbrev pub ended_in : Outcome → ℕ → Option Ended
-ended_in Done k = None
-ended_in (Scanned ran faulted skipped overruns) k =
+abbrev pub scan_end_in : Outcome → ℕ → Option ScanEnd
+scan_end_in Done k = None
+scan_end_in (Scanned ran faulted skipped overruns) k =
     if is_set ran k then Some Ran else
     if is_set faulted k then Some Faulted else
     if is_set skipped k then Some Skipped else None
 
-abbrev pub told_line : PlantData → (ℕ → Standing) → ℕ → Option Ended → List ℕ
-told_line plant standing k None = []
-told_line plant standing k (Some ended) = program_line plant (record { 0 = k }) (standing k) ended
+abbrev pub written_line : PlantData → (ℕ → InstanceState) → ℕ → Option ScanEnd → List ℕ
+written_line plant instance_state k None = []
+written_line plant instance_state k (Some scan_end) = program_line plant (record { 0 = k }) (instance_state k) scan_end
 
--- A line for each instance that an answer tells of, in text order; `standing` is how each instance stands after the scan.
-abbrev pub program_lines : PlantData → (ℕ → Standing) → Outcome → List ℕ
-program_lines plant standing outcome =
-    flat_map (λ k. told_line plant standing k (ended_in outcome k)) (range_with_len 0 (length plant.instances))
+-- A line for each instance that an answer tells of, in text order; `instance_state` is how each instance stands after
+-- the scan.
+abbrev pub program_lines : PlantData → (ℕ → InstanceState) → Outcome → List ℕ
+program_lines plant instance_state outcome =
+    flat_map (λ k. written_line plant instance_state k (scan_end_in outcome k)) (range_with_len 0 (length plant.instances))
 
--- The lines of a command that was answered so; `standing` is how each instance stands after it.
-abbrev pub answer_lines : PlantData → (ℕ → Standing) → Event → ℤ → Result Outcome Refusal → List ℕ
-answer_lines plant standing event t (Ok outcome) =
-    command_line plant event t outcome ++ program_lines plant standing outcome
-answer_lines plant standing event t (Err refusal) = refusal_line plant refusal
+-- The lines of a command that was answered so; `instance_state` is how each instance stands after it.
+abbrev pub answer_lines : PlantData → (ℕ → InstanceState) → Event → ℤ → Result Outcome Refusal → List ℕ
+answer_lines plant instance_state event t (Ok outcome) =
+    command_line plant event t outcome ++ program_lines plant instance_state outcome
+answer_lines plant instance_state event t (Err refusal) = refusal_line plant refusal

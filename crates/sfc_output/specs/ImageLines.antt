@@ -1,8 +1,8 @@
 -- The lines of the image (our choice of format).
 use Rattle.std.specs.Prelude.{ℕ, List, [], ◌++◌, codes, Option, Some, None}
-use Rattle.sfc_expr.specs.declared.value.Value.{Value}
-use Rattle.sfc_chart.specs.declared.ids.VarId.{VarId}
-use Rattle.sfc_chart.specs.Plants.{PlantData}
+use Rattle.sfc_base.specs.declared.value.Value.{Value}
+use Rattle.sfc_base.specs.declared.ids.VarId.{VarId}
+use Rattle.sfc_plant.specs.Plants.{PlantData}
 use Rattle.sfc_output.specs.Names.{image_name}
 use Rattle.sfc_output.specs.Values.{line_end, value_text}
 

@@ -1,38 +1,39 @@
 -- Names as they were declared (2.1.2), in commands, in programs and in the image.
-use Rattle.std.specs.Prelude.{ℕ, List, [], ◌++◌, map, codes, Option, Some, None, slice_get}
-use Rattle.sfc_tables.specs.declared.association.Target.{Target}
-use Rattle.sfc_tables.specs.declared.association.Target.TheVariants.{Boolean, Declared}
+use Rattle.std.specs.Prelude.{ℕ, List, [], ◌++◌, codes, Option, Some, None, slice_get}
+use Rattle.sfc_plant.specs.declared.association.Target.{Target}
+use Rattle.sfc_plant.specs.declared.association.Target.TheVariants.{Boolean, Declared}
 use Rattle.sfc_tables.specs.Tables.{Tabled}
-use Rattle.sfc_variables.specs.Finding.{names_of}
-use Rattle.sfc_program.specs.declared.program_type.ProgramType.{ProgramType}
-use Rattle.sfc_program.specs.Names.{Space, space_in}
-use Rattle.sfc_chart.specs.declared.ids.ProgId.{ProgId}
-use Rattle.sfc_chart.specs.declared.ids.TaskId.{TaskId}
-use Rattle.sfc_chart.specs.declared.ids.VarId.{VarId}
-use Rattle.sfc_chart.specs.declared.image_variable.ImageVariable.{ImageVariable}
-use Rattle.sfc_chart.specs.declared.image_variable.ImageVariable.TheVariants.{Global, Local}
-use Rattle.sfc_chart.specs.declared.instance.Instance.{Instance}
-use Rattle.sfc_chart.specs.Finding.{instance_locals}
-use Rattle.sfc_chart.specs.Image.{image_places}
-use Rattle.sfc_chart.specs.Plants.{PlantData}
-use Rattle.sfc_list.specs.Names.{name_at, variable_name, action_name}
+use Rattle.sfc_plant.specs.VariableNames.{names_of}
+use Rattle.sfc_plant.specs.declared.program_type.ProgramType.{ProgramType}
+use Rattle.sfc_plant.specs.Spaces.{Space, space_in}
+use Rattle.sfc_base.specs.declared.ids.ProgId.{ProgId}
+use Rattle.sfc_base.specs.declared.ids.TaskId.{TaskId}
+use Rattle.sfc_base.specs.declared.ids.VarId.{VarId}
+use Rattle.sfc_plant.specs.declared.image_variable.ImageVariable.{ImageVariable}
+use Rattle.sfc_plant.specs.declared.image_variable.ImageVariable.TheVariants.{Global, Local}
+use Rattle.sfc_plant.specs.declared.instance.Instance.{Instance}
+use Rattle.sfc_plant.specs.Finding.{instance_locals}
+use Rattle.sfc_plant.specs.Image.{image_numbering}
+use Rattle.sfc_plant.specs.Plants.{PlantData}
+use Rattle.sfc_plant.specs.Names as names
+use Rattle.sfc_plant.specs.Names.{name_at, variable_name, action_name}
 
 abbrev pub task_name : PlantData → TaskId → List ℕ
-task_name plant task = name_at (map (λ t. t.name) plant.tasks) task.0
+task_name plant task = names.task_name plant.tasks task.0
 
 abbrev pub program_name : PlantData → ProgId → List ℕ
-program_name plant p = name_at (map (λ i. i.name) plant.instances) p.0
+program_name plant p = names.instance_name plant.instances p.0
 
 -- a global variable by its name, and a local one as INST.NAME
-abbrev pub place_name : PlantData → Option ImageVariable → List ℕ
-place_name plant None = []
-place_name plant (Some (Global id)) = name_at (names_of plant.globals) id.0
-place_name plant (Some (Local p id)) =
+abbrev pub image_variable_name : PlantData → Option ImageVariable → List ℕ
+image_variable_name plant None = []
+image_variable_name plant (Some (Global id)) = name_at (names_of plant.globals) id.0
+image_variable_name plant (Some (Local p id)) =
     program_name plant p ++ codes "." ++ name_at (names_of (instance_locals plant p)) id.0
 
 -- the name of a variable of the image
 abbrev pub image_name : PlantData → VarId → List ℕ
-image_name plant id = place_name plant (slice_get (image_places plant) id.0)
+image_name plant id = image_variable_name plant (slice_get (image_numbering plant) id.0)
 
 -- ---- in a program instance
 
@@ -46,7 +47,7 @@ space_among plant (Some p) = space_in plant.globals p
 
 abbrev pub space_at : PlantData → Option Instance → Space
 space_at plant None = no_space
-space_at plant (Some instance) = space_among plant (slice_get plant.types instance.program)
+space_at plant (Some instance) = space_among plant (slice_get plant.types instance.program.0)
 
 -- the names in the program type of an instance
 abbrev pub space_of : PlantData → ProgId → Space

@@ -1,9 +1,9 @@
 -- The text of values (our choice of format).
 use Rattle.std.specs.Prelude.{ℕ, suc, true, false, List, [], ◌∷◌, ℤ, pos, negsuc, codes}
 use Rattle.std.specs.Fmt.{decimal}
-use Rattle.sfc_tokens.specs.TimeText.{time_text}
-use Rattle.sfc_expr.specs.declared.value.Value.{Value}
-use Rattle.sfc_expr.specs.declared.value.Value.TheVariants as value
+use Rattle.sfc_base.specs.TimeText.{time_text}
+use Rattle.sfc_base.specs.declared.value.Value.{Value}
+use Rattle.sfc_base.specs.declared.value.Value.TheVariants as value
 
 -- the end of a line
 abbrev pub line_end : List ℕ

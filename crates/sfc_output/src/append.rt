@@ -2,12 +2,12 @@
 
 ghost use Rattle.std.specs.Prelude.{◌≡◌, ◌++◌, OnOk};
 ghost use Rattle.std.specs.Fmt.{decimal};
-ghost use Rattle.sfc_tokens.specs.TimeText.{time_text};
+ghost use Rattle.sfc_base.specs.TimeText.{time_text};
 ghost use Rattle.sfc_output.specs.Values.{signed_text, value_text as text_of_value};
 
-use sfc_expr::value::Value;
-use sfc_tokens::time_text::put_time;
-use std::alloc::{AllocError, Global};
+use sfc_base::time_text::{put_decimal, put_time};
+use sfc_base::value::Value;
+use std::alloc::AllocError;
 
 /// Puts the bytes at the end. The one error is that memory was refused; then a front of it may stand there.
 pub fn append(out: &mut Vec<u8>, bytes: &[u8]) -> Result<(), AllocError>
@@ -18,11 +18,13 @@ pub fn append(out: &mut Vec<u8>, bytes: &[u8]) -> Result<(), AllocError>
 }
 
 /// Puts a number in decimal digits at the end. The one error is that memory was refused; then a front of it may stand there.
-pub fn append_number(alloc: Global, out: &mut Vec<u8>, number: u64) -> Result<(), AllocError>
+pub fn append_number(out: &mut Vec<u8>, number: u64) -> Result<(), AllocError>
     ensures { OnOk result (out.new.items ≡ out.old.items ++ decimal number) }
 {
-    let digits = number.to_string(alloc)?;
-    append(out, digits.as_bytes())
+    match put_decimal(number, out) {
+        Ok(()) => Ok(()),
+        Err(_) => Err(AllocError),
+    }
 }
 
 /// Puts the TIME text of so many microseconds at the end. The one error is that memory was refused; then a front of it may
@@ -36,25 +38,25 @@ pub fn append_time(out: &mut Vec<u8>, micros: i64) -> Result<(), AllocError>
     }
 }
 
-fn append_signed(alloc: Global, out: &mut Vec<u8>, number: i64) -> Result<(), AllocError>
+fn append_signed(out: &mut Vec<u8>, number: i64) -> Result<(), AllocError>
     ensures { OnOk result (out.new.items ≡ out.old.items ++ signed_text number) }
 {
     if number < 0 {
         append(out, b"-")?;
     }
-    append_number(alloc, out, number.unsigned_abs())
+    append_number(out, number.unsigned_abs())
 }
 
 /// Puts a value at the end: TRUE, FALSE, decimal digits, or the TIME text. The one error is that memory was refused; then a
 /// front of it may stand there.
-pub fn append_value(alloc: Global, out: &mut Vec<u8>, value: Value) -> Result<(), AllocError>
+pub fn append_value(out: &mut Vec<u8>, value: Value) -> Result<(), AllocError>
     ensures { OnOk result (out.new.items ≡ out.old.items ++ text_of_value value) }
 {
     match value {
         Value::Bool(true) => append(out, b"TRUE"),
         Value::Bool(false) => append(out, b"FALSE"),
-        Value::Int(number) => append_signed(alloc, out, i64::from(number)),
-        Value::Dint(number) => append_signed(alloc, out, i64::from(number)),
+        Value::Int(number) => append_signed(out, i64::from(number)),
+        Value::Dint(number) => append_signed(out, i64::from(number)),
         Value::Time(micros) => append_time(out, micros),
     }
 }

@@ -5,17 +5,16 @@ ghost use Rattle.sfc_output.specs.Commands as output;
 
 use crate::append::{append, append_number, append_time, append_value};
 use crate::naming::{append_image_name, program_name, task_name};
-use sfc_chart::ids::VarId;
-use sfc_chart::plant::Plant;
+use sfc_base::ids::VarId;
+use sfc_base::value::Value;
 use sfc_events::event::{Event, Outcome};
 use sfc_events::refusal::Refusal;
-use sfc_expr::value::Value;
-use sfc_instance::ended::Ended;
+use sfc_instance::scan_end::ScanEnd;
+use sfc_plant::plant::Plant;
 use std::alloc::{AllocError, Global};
 
 // A variable and a value, behind a word.
 fn append_valued(
-    alloc: Global,
     out: &mut Vec<u8>,
     plant: &Plant,
     id: VarId,
@@ -25,16 +24,11 @@ fn append_valued(
 {
     append_image_name(out, plant, id)?;
     append(out, b" ")?;
-    append_value(alloc, out, value)
+    append_value(out, value)
 }
 
 // The words of a command.
-fn append_words(
-    alloc: Global,
-    out: &mut Vec<u8>,
-    plant: &Plant,
-    event: Event,
-) -> Result<(), AllocError>
+fn append_words(out: &mut Vec<u8>, plant: &Plant, event: Event) -> Result<(), AllocError>
     ensures { OnOk result (out.new.items ≡ out.old.items ++ output.command_text plant.now event) }
 {
     match event {
@@ -44,11 +38,11 @@ fn append_words(
         }
         Event::Input(id, value) => {
             append(out, b" INPUT ")?;
-            append_valued(alloc, out, plant, id, value)
+            append_valued(out, plant, id, value)
         }
         Event::Force(id, value) => {
             append(out, b" FORCE ")?;
-            append_valued(alloc, out, plant, id, value)
+            append_valued(out, plant, id, value)
         }
         Event::Release(id) => {
             append(out, b" RELEASE ")?;
@@ -62,14 +56,14 @@ fn append_words(
 }
 
 // What the answer adds.
-fn append_outcome(alloc: Global, out: &mut Vec<u8>, outcome: Outcome) -> Result<(), AllocError>
+fn append_outcome(out: &mut Vec<u8>, outcome: Outcome) -> Result<(), AllocError>
     ensures { OnOk result (out.new.items ≡ out.old.items ++ output.outcome_text outcome) }
 {
     match outcome {
         Outcome::Done => Ok(()),
         Outcome::Scanned { overruns, .. } => {
             append(out, b" overruns ")?;
-            append_number(alloc, out, overruns)
+            append_number(out, overruns)
         }
     }
 }
@@ -78,18 +72,17 @@ fn append_outcome(alloc: Global, out: &mut Vec<u8>, outcome: Outcome) -> Result<
 /// one error is that memory was refused; then a front of it may stand there.
 #[tactic(auto, unfolding(crate::specs::Commands::command_line))]
 pub fn append_command(
-    alloc: Global,
     out: &mut Vec<u8>,
     plant: &Plant,
-    entry: (Event, i64),
+    timed_event: (Event, i64),
     outcome: Outcome,
 ) -> Result<(), AllocError>
-    ensures { OnOk result (out.new.items ≡ out.old.items ++ output.command_line plant.now entry.0 entry.1 outcome) }
+    ensures { OnOk result (out.new.items ≡ out.old.items ++ output.command_line plant.now timed_event.0 timed_event.1 outcome) }
 {
-    let (event, t) = entry;
+    let (event, t) = timed_event;
     append_time(out, t)?;
-    append_words(alloc, out, plant, event)?;
-    append_outcome(alloc, out, outcome)?;
+    append_words(out, plant, event)?;
+    append_outcome(out, outcome)?;
     append(out, b"\n")
 }
 
@@ -129,9 +122,9 @@ pub fn append_refusal(
 }
 
 /// How the answer to a scan tells that the scan of instance k ended; `None` where it doesn't tell of it.
-pub fn ended_in(outcome: Outcome, k: u32) -> Option<Ended>
+pub fn scan_end_in(outcome: Outcome, k: u32) -> Option<ScanEnd>
     requires { k < 64 }
-    ensures { result ≡ output.ended_in outcome k }
+    ensures { result ≡ output.scan_end_in outcome k }
 {
     let Outcome::Scanned {
         ran,
@@ -143,11 +136,11 @@ pub fn ended_in(outcome: Outcome, k: u32) -> Option<Ended>
         return None;
     };
     if is_set(ran, k) {
-        Some(Ended::Ran)
+        Some(ScanEnd::Ran)
     } else if is_set(faulted, k) {
-        Some(Ended::Faulted)
+        Some(ScanEnd::Faulted)
     } else if is_set(skipped, k) {
-        Some(Ended::Skipped)
+        Some(ScanEnd::Skipped)
     } else {
         None
     }

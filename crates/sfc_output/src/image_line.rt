@@ -5,10 +5,10 @@ ghost use Rattle.sfc_output.specs.ImageLines as output;
 
 use crate::append::{append, append_value};
 use crate::naming::append_image_name;
-use sfc_chart::ids::VarId;
-use sfc_chart::plant::Plant;
-use sfc_expr::value::Value;
-use std::alloc::{AllocError, Global};
+use sfc_base::ids::VarId;
+use sfc_base::value::Value;
+use sfc_plant::plant::Plant;
+use std::alloc::AllocError;
 
 // Whether a variable is forced.
 fn append_forced(out: &mut Vec<u8>, forced: Option<Value>) -> Result<(), AllocError>
@@ -24,7 +24,6 @@ fn append_forced(out: &mut Vec<u8>, forced: Option<Value>) -> Result<(), AllocEr
 /// is that memory was refused; then a front of it may stand there.
 #[tactic(auto, unfolding(crate::specs::ImageLines::image_line))]
 pub fn append_variable(
-    alloc: Global,
     out: &mut Vec<u8>,
     plant: &Plant,
     id: VarId,
@@ -36,7 +35,7 @@ pub fn append_variable(
     append(out, b"image ")?;
     append_image_name(out, plant, id)?;
     append(out, b" ")?;
-    append_value(alloc, out, value)?;
+    append_value(out, value)?;
     append_forced(out, forced)?;
     append(out, b"\n")
 }

@@ -1,165 +1,188 @@
 //! The line of a program after a scan.
 
 ghost use Rattle.std.specs.Prelude.{◌≡◌, ◌<◌, ◌≤◌, ◌++◌, ℕ, List, length, OnOk, IfOk};
-ghost use Rattle.sfc_tables.specs.Tables.{Tabled};
-ghost use Rattle.sfc_instance.specs.Life.{Standing};
-ghost use Rattle.sfc_instance.specs.Setting.{IsSettingOf};
-ghost use Rattle.sfc_instance.specs.Agreement.{IsFor, ProgramAgrees, step_places, transition_places, action_places};
+ghost use Rattle.sfc_image.specs.Changes.{Change};
+ghost use Rattle.sfc_instance.specs.Life.{InstanceState};
+ghost use Rattle.sfc_instance.specs.Views.{plant_in, instance_in, tables_in, Shows};
 ghost use Rattle.sfc_instance.specs.Answers.{is_step_active, is_transition_cleared, is_action_executed};
 ghost use Rattle.sfc_output.specs.Lists.{listed, wanted};
 ghost use Rattle.sfc_output.specs.Names.{numbered_action};
 ghost use Rattle.sfc_output.specs.Programs as output;
-ghost use Rattle.sfc_output.specs.Private.ListParts.{continued};
+ghost use Rattle.sfc_output.specs.Private.ListParts.{continued, separator};
 
 use crate::append::{append, append_number, append_time};
 use crate::list::{append_end, append_separator};
 use crate::naming::{names_of, program_name, target_name};
 use sfc_action::fault::ControlFault;
-use sfc_chart::plant::Plant;
+use sfc_base::ids::{ActionNumber, TransitionId};
+use sfc_base::references::StepId;
 use sfc_expr::fault::Fault;
-use sfc_expr::variable::StepId;
-use sfc_instance::ended::Ended;
-use sfc_instance::program::Program;
+use sfc_instance::program_view::ProgramView;
+use sfc_instance::scan_end::ScanEnd;
 use sfc_instance::scan_fault::ScanFault;
-use sfc_instance::setting::Setting;
-use sfc_list::names::Names;
-use sfc_tables::ids::{ActionNumber, TransitionId};
-use sfc_tables::tables::Tables;
-use std::alloc::{AllocError, Global};
+use sfc_plant::names::Names;
+use std::alloc::AllocError;
 
-/// A program instance that is shown: its plant, what it runs in, and how its latest scan left it.
-#[derive(Clone, Copy)]
-pub struct Shown<'a> {
-    pub plant: &'a Plant,
-    pub setting: Setting<'a>,
-    pub program: &'a Program,
-}
-
-// The same with the names in its program type.
-#[derive(Clone, Copy)]
-struct Named<'a> {
-    names: &'a Names<'a>,
-    tables: &'a Tables,
-    program: &'a Program,
+// Puts an active step with its time at the end. It stands apart from the loop that looks for active ones, which is short so.
+#[inline(never)]
+fn append_active(
+    out: &mut Vec<u8>,
+    view: &ProgramView<'_>,
+    names: &Names<'_>,
+    step: StepId,
+    is_first: bool,
+) -> Result<(), AllocError>
+    requires { step.0 < length (tables_in view.now).initial }
+    ensures { (changes : List Change) (instance_state : InstanceState) → Shows view.now changes instance_state →
+        OnOk result (out.new.items ≡
+        out.old.items ++ separator is_first ++ output.step_text names.now (tables_in view.now) instance_state step.0) }
+{
+    append_separator(out, is_first)?;
+    append(out, names.step(step))?;
+    append(out, b"=")?;
+    append_time(out, view.elapsed(step))
 }
 
 // Puts a step with its time at the end, if it is active; it answers whether the list is still empty.
 fn append_step(
     out: &mut Vec<u8>,
-    named: Named<'_>,
+    view: &ProgramView<'_>,
+    names: &Names<'_>,
     step: StepId,
     is_first: bool,
 ) -> Result<bool, AllocError>
-    requires { step.0 < step_places named.program.now }
-    ensures { (tables : Tabled) (standing : Standing) (texts : List (List ℕ)) → ProgramAgrees tables named.entry.program.now standing →
+    requires { step.0 < length (tables_in view.now).initial }
+    ensures { (changes : List Change) (instance_state : InstanceState) (texts : List (List ℕ)) → Shows view.now changes instance_state →
         IfOk result (λ first. out.new.items ++ continued first texts ≡ out.old.items ++ continued is_first
-        (wanted (is_step_active tables standing step.0) (output.step_text named.entry.names.now tables standing step.0) ++ texts)) }
+        (wanted (is_step_active (tables_in view.now) instance_state step.0)
+        (output.step_text names.now (tables_in view.now) instance_state step.0) ++ texts)) }
 {
-    if !named.program.active(step) {
+    if !view.active(step) {
         return Ok(is_first);
     }
-    append_separator(out, is_first)?;
-    append(out, named.names.step(step))?;
-    append(out, b"=")?;
-    append_time(out, named.program.elapsed(step))?;
+    append_active(out, view, names, step, is_first)?;
     Ok(false)
 }
 
 // The active steps with their times.
-fn append_steps(out: &mut Vec<u8>, named: Named<'_>) -> Result<(), AllocError>
-    requires { IsFor named.tables.now named.program.now }
-    ensures { (standing : Standing) → ProgramAgrees named.entry.tables.now named.entry.program.now standing →
-        OnOk result (out.new.items ≡ out.old.items ++ listed (output.step_texts named.entry.names.now named.entry.tables.now standing)) }
+fn append_steps(
+    out: &mut Vec<u8>,
+    view: &ProgramView<'_>,
+    names: &Names<'_>,
+) -> Result<(), AllocError>
+    ensures { (changes : List Change) (instance_state : InstanceState) → Shows view.now changes instance_state →
+        OnOk result (out.new.items ≡ out.old.items ++ listed (output.step_texts names.now (tables_in view.now) instance_state)) }
 {
     let mut is_first = true;
-    for s in 0..named.tables.steps() {
-        is_first = append_step(out, named, StepId(s as u16), is_first)?;
+    for s in 0..view.tables().steps() {
+        is_first = append_step(out, view, names, StepId(s as u16), is_first)?;
     }
     append_end(out, is_first)
 }
 
 // Puts the number of a transition at the end, if it was cleared; it answers whether the list is still empty.
 fn append_transition(
-    alloc: Global,
     out: &mut Vec<u8>,
-    program: &Program,
+    view: &ProgramView<'_>,
     transition: TransitionId,
     is_first: bool,
 ) -> Result<bool, AllocError>
-    requires { transition.0 < transition_places program.now }
-    ensures { (tables : Tabled) (standing : Standing) (texts : List (List ℕ)) → ProgramAgrees tables program.now standing →
+    requires { transition.0 < length (tables_in view.now).sides }
+    ensures { (changes : List Change) (instance_state : InstanceState) (texts : List (List ℕ)) → Shows view.now changes instance_state →
         IfOk result (λ first. out.new.items ++ continued first texts ≡ out.old.items ++ continued is_first
-        (wanted (is_transition_cleared tables standing transition.0) (output.transition_text transition.0) ++ texts)) }
+        (wanted (is_transition_cleared (tables_in view.now) instance_state transition.0) (output.transition_text transition.0) ++ texts)) }
 {
-    if !program.cleared(transition) {
+    if !view.cleared(transition) {
         return Ok(is_first);
     }
     append_separator(out, is_first)?;
-    append_number(alloc, out, u64::from(transition.0) + 1)?;
+    append_number(out, u64::from(transition.0) + 1)?;
     Ok(false)
 }
 
 // The numbers of the cleared transitions.
-fn append_cleared(alloc: Global, out: &mut Vec<u8>, named: Named<'_>) -> Result<(), AllocError>
-    requires { IsFor named.tables.now named.program.now }
-    ensures { (standing : Standing) → ProgramAgrees named.entry.tables.now named.entry.program.now standing →
-        OnOk result (out.new.items ≡ out.old.items ++ listed (output.cleared_texts named.entry.tables.now standing)) }
+fn append_cleared(out: &mut Vec<u8>, view: &ProgramView<'_>) -> Result<(), AllocError>
+    ensures { (changes : List Change) (instance_state : InstanceState) → Shows view.now changes instance_state →
+        OnOk result (out.new.items ≡ out.old.items ++ listed (output.cleared_texts (tables_in view.now) instance_state)) }
 {
     let mut is_first = true;
-    for tr in 0..named.tables.transitions() {
-        is_first = append_transition(alloc, out, named.program, TransitionId(tr as u16), is_first)?;
+    for tr in 0..view.tables().transitions() {
+        is_first = append_transition(out, view, TransitionId(tr as u16), is_first)?;
     }
     append_end(out, is_first)
+}
+
+// Puts the name of an action at the end. It stands apart from the loop, as above.
+#[inline(never)]
+fn append_target(
+    out: &mut Vec<u8>,
+    view: &ProgramView<'_>,
+    names: &Names<'_>,
+    action: ActionNumber,
+    is_first: bool,
+) -> Result<(), AllocError>
+    requires { action.0 < length (tables_in view.now).actions }
+    ensures { OnOk result (out.new.items ≡
+        out.old.items ++ separator is_first ++ numbered_action names.now (tables_in view.now) action.0) }
+{
+    append_separator(out, is_first)?;
+    append(out, target_name(names, view.tables().target(action)))
 }
 
 // Puts the name of an action at the end, if it was executed; it answers whether the list is still empty.
 fn append_action(
     out: &mut Vec<u8>,
-    named: Named<'_>,
+    view: &ProgramView<'_>,
+    names: &Names<'_>,
     action: ActionNumber,
     is_first: bool,
 ) -> Result<bool, AllocError>
-    requires sizes { IsFor named.tables.now named.program.now }
-    requires action { action.0 < length named.tables.now.actions }
-    ensures { (standing : Standing) (texts : List (List ℕ)) → ProgramAgrees named.entry.tables.now named.entry.program.now standing →
+    requires { action.0 < length (tables_in view.now).actions }
+    ensures { (changes : List Change) (instance_state : InstanceState) (texts : List (List ℕ)) → Shows view.now changes instance_state →
         IfOk result (λ first. out.new.items ++ continued first texts ≡ out.old.items ++ continued is_first
-        (wanted (is_action_executed named.entry.tables.now standing action.0) (numbered_action named.entry.names.now named.entry.tables.now action.0) ++ texts)) }
+        (wanted (is_action_executed (tables_in view.now) instance_state action.0)
+        (numbered_action names.now (tables_in view.now) action.0) ++ texts)) }
 {
-    if !named.program.executed(action) {
+    if !view.executed(action) {
         return Ok(is_first);
     }
-    append_separator(out, is_first)?;
-    append(out, target_name(named.names, named.tables.target(action)))?;
+    append_target(out, view, names, action, is_first)?;
     Ok(false)
 }
 
 // The names of the executed actions.
-fn append_executed(out: &mut Vec<u8>, named: Named<'_>) -> Result<(), AllocError>
-    requires { IsFor named.tables.now named.program.now }
-    ensures { (standing : Standing) → ProgramAgrees named.entry.tables.now named.entry.program.now standing →
-        OnOk result (out.new.items ≡ out.old.items ++ listed (output.executed_texts named.entry.names.now named.entry.tables.now standing)) }
+fn append_executed(
+    out: &mut Vec<u8>,
+    view: &ProgramView<'_>,
+    names: &Names<'_>,
+) -> Result<(), AllocError>
+    ensures { (changes : List Change) (instance_state : InstanceState) → Shows view.now changes instance_state →
+        OnOk result (out.new.items ≡ out.old.items ++ listed (output.executed_texts names.now (tables_in view.now) instance_state)) }
 {
     let mut is_first = true;
-    for action in 0..named.tables.actions() {
-        is_first = append_action(out, named, ActionNumber(action), is_first)?;
+    for action in 0..view.tables().actions() {
+        is_first = append_action(out, view, names, ActionNumber(action), is_first)?;
     }
     append_end(out, is_first)
 }
 
 // What a scan did.
-fn append_scan(alloc: Global, out: &mut Vec<u8>, named: Named<'_>) -> Result<(), AllocError>
-    requires { IsFor named.tables.now named.program.now }
-    ensures { (standing : Standing) → ProgramAgrees named.entry.tables.now named.entry.program.now standing →
-        OnOk result (out.new.items ≡ out.old.items ++ output.scan_text named.entry.names.now named.entry.tables.now standing) }
+fn append_scan(
+    out: &mut Vec<u8>,
+    view: &ProgramView<'_>,
+    names: &Names<'_>,
+) -> Result<(), AllocError>
+    ensures { (changes : List Change) (instance_state : InstanceState) → Shows view.now changes instance_state →
+        OnOk result (out.new.items ≡ out.old.items ++ output.scan_text names.now (tables_in view.now) instance_state) }
 {
     append(out, b" ")?;
-    append_number(alloc, out, named.program.scans())?;
+    append_number(out, view.scans())?;
     append(out, b" steps ")?;
-    append_steps(out, named)?;
+    append_steps(out, view, names)?;
     append(out, b" cleared ")?;
-    append_cleared(alloc, out, named)?;
+    append_cleared(out, view)?;
     append(out, b" run ")?;
-    append_executed(out, named)
+    append_executed(out, view, names)
 }
 
 /// The name of a fault.
@@ -185,52 +208,42 @@ fn fault_text(fault: Option<ScanFault>) -> &'static [u8]
     }
 }
 
-// What is told of a scan that ended so.
-fn append_ended(
-    alloc: Global,
+// What is written of a scan that ended so.
+fn append_scan_end(
     out: &mut Vec<u8>,
-    named: Named<'_>,
-    ended: Ended,
+    view: &ProgramView<'_>,
+    names: &Names<'_>,
+    scan_end: ScanEnd,
 ) -> Result<(), AllocError>
-    requires { IsFor named.tables.now named.program.now }
-    ensures { (standing : Standing) → ProgramAgrees named.entry.tables.now named.entry.program.now standing →
-        OnOk result (out.new.items ≡ out.old.items ++ output.end_text named.entry.names.now named.entry.tables.now standing ended) }
+    ensures { (changes : List Change) (instance_state : InstanceState) → Shows view.now changes instance_state →
+        OnOk result (out.new.items ≡ out.old.items ++ output.end_text names.now (tables_in view.now) instance_state scan_end) }
 {
-    match ended {
-        Ended::Ran => append_scan(alloc, out, named),
-        Ended::Faulted => {
+    match scan_end {
+        ScanEnd::Ran => append_scan(out, view, names),
+        ScanEnd::Faulted => {
             append(out, b" fault ")?;
-            append(out, fault_text(named.program.fault()))
+            append(out, fault_text(view.fault()))
         }
-        Ended::Skipped => {
+        ScanEnd::Skipped => {
             append(out, b" skipped ")?;
-            append(out, fault_text(named.program.fault()))
+            append(out, fault_text(view.fault()))
         }
     }
 }
 
-/// Puts the line of a program instance of the plant at the end, whose scan ended so: what it did, or the fault that ended
-/// it or an earlier one. The one error is that memory was refused; then a front of it may stand there.
+/// Puts the line of the program instance at the end, whose scan ended so: what it did, or the fault that ended it or an
+/// earlier one. The one error is that memory was refused; then a front of it may stand there.
 pub fn append_program(
-    alloc: Global,
     out: &mut Vec<u8>,
-    shown: Shown<'_>,
-    ended: Ended,
+    view: &ProgramView<'_>,
+    scan_end: ScanEnd,
 ) -> Result<(), AllocError>
-    requires instance { shown.setting.instance.0 < length shown.plant.now.instances }
-    requires setting { IsSettingOf shown.plant.now shown.setting }
-    requires sizes { IsFor shown.setting.tables.now shown.program.now }
-    ensures { (standing : Standing) → ProgramAgrees shown.entry.setting.tables.now shown.entry.program.now standing →
-        OnOk result (out.new.items ≡ out.old.items ++ output.program_line shown.entry.plant.now shown.entry.setting.instance standing ended) }
+    ensures { (changes : List Change) (instance_state : InstanceState) → Shows view.now changes instance_state →
+        OnOk result (out.new.items ≡ out.old.items ++ output.program_line (plant_in view.now) (instance_in view.now) instance_state scan_end) }
 {
     append(out, b"  ")?;
-    append(out, program_name(shown.plant, shown.setting.instance))?;
-    let names = names_of(shown.plant, shown.setting.instance);
-    let named = Named {
-        names: &names,
-        tables: shown.setting.tables,
-        program: shown.program,
-    };
-    append_ended(alloc, out, named, ended)?;
+    append(out, program_name(view.plant(), view.instance()))?;
+    let names = names_of(view.plant(), view.instance());
+    append_scan_end(out, view, &names, scan_end)?;
     append(out, b"\n")
 }

@@ -4,13 +4,12 @@ use Rattle.std.specs.List.{list_any}
 use Rattle.std.proofs.lemmas.List.{length-map}
 use Rattle.std.proofs.lemmas.List.Elements.{All-nil, All-cons, All-head, All-tail, All-map}
 use Rattle.std.proofs.lemmas.List.Folds.{Any-from_list_any}
-use Rattle.std.proofs.lemmas.List.Quantifiers.{position-Some}
 use Rattle.std.proofs.lemmas.List.Sums.{sum_by-cons}
 use Rattle.std.proofs.lemmas.Option.{slice_get_within}
 use Rattle.std.proofs.lemmas.Grind.{common_steps}
-use Rattle.sfc_tokens.specs.Case.{same_word}
-use Rattle.sfc_tokens.specs.declared.var_type.VarType.{VarType}
-use Rattle.sfc_tokens.specs.declared.var_type.VarType.TheVariants as types
+use Rattle.sfc_base.specs.declared.limits.TheConstants.{ASSOCIATIONS, STEPS, TRANSITIONS}
+use Rattle.sfc_base.specs.declared.var_type.VarType.{VarType}
+use Rattle.sfc_base.specs.declared.var_type.VarType.TheVariants as types
 use Rattle.sfc_text.specs.Lists.{is_empty}
 use Rattle.sfc_text.specs.Trees.{ElementTree, TransitionTree, ActionTree, ProgramTree, element_of}
 use Rattle.sfc_text.specs.Trees as trees
@@ -24,28 +23,29 @@ use Rattle.sfc_text.specs.declared.tree.AssociationTime.TheVariants as written_t
 use Rattle.sfc_text.specs.declared.tree.Qualifier as text_qualifier
 use Rattle.sfc_text.specs.declared.tree.Qualifier.TheVariants as written
 use Rattle.sfc_text.specs.declared.tree.Literal.TheVariants as literal
-use Rattle.sfc_expr.specs.declared.variable.Variable as expr
-use Rattle.sfc_expr.specs.declared.variable.Variable.TheVariants.{Global, Local}
-use Rattle.sfc_expr.specs.declared.variable.StepId.{StepId}
-use Rattle.sfc_expr.specs.declared.value.Value.{Value}
-use Rattle.sfc_expr.specs.declared.value.Value.TheVariants as value
+use Rattle.sfc_base.specs.declared.references.Variable as expr
+use Rattle.sfc_base.specs.declared.references.Variable.TheVariants.{Global, Local}
+use Rattle.sfc_base.specs.declared.references.StepId.{StepId}
+use Rattle.sfc_base.specs.declared.value.Value.{Value}
+use Rattle.sfc_base.specs.declared.value.Value.TheVariants as value
 use Rattle.sfc_expr.specs.declared.fault.Fault.TheVariants as faults
-use Rattle.sfc_expr.specs.Values.{is_in_range}
-use Rattle.sfc_expr.specs.Checking.{checked_literal, or_range}
-use Rattle.sfc_expr.specs.NameLists.{place_of}
+use Rattle.sfc_base.specs.Values.{is_in_range}
+use Rattle.sfc_check.specs.Checking.{checked_literal, or_range}
+use Rattle.sfc_base.proofs.NamePlaces.{place_below}
+use Rattle.sfc_base.specs.NameLists.{place_of}
 use Rattle.sfc_variables.specs.declared.load_error.LoadError.{LoadError}
 use Rattle.sfc_variables.specs.declared.load_error.LoadError.TheVariants as fault
 use Rattle.sfc_variables.specs.declared.load_error.Limit.TheVariants as limit
-use Rattle.sfc_variables.specs.declared.variable.Variable.{Variable}
+use Rattle.sfc_plant.specs.declared.variable.Variable.{Variable}
 use Rattle.sfc_variables.specs.Checks.{Check, ◌then◌, when, each, in_turn, typed}
-use Rattle.sfc_variables.specs.Finding.{variable_place, with_type, typed_at, or_else, global_named, local_named, variable_named}
+use Rattle.sfc_plant.specs.VariableNames.{variable_place, with_type, typed_at, or_else, global_named, local_named, variable_named}
 use Rattle.sfc_variables.specs.Own.{variables_check, own_names}
-use Rattle.sfc_tables.specs.declared.chart.Step.{Step}
-use Rattle.sfc_tables.specs.Chart.{IsVariable, IsTime, IsAssociationTime, IsQualifier, IsTarget, IsAssociation, IsTransition, IsChart}
-use Rattle.sfc_tables.specs.Chart as tables
-use Rattle.sfc_program.specs.declared.program_type.ProgramType.{ProgramType}
+use Rattle.sfc_plant.specs.declared.chart.Step.{Step}
+use Rattle.sfc_plant.specs.Chart.{IsVariable, IsTime, IsAssociationTime, IsQualifier, IsTarget, IsAssociation, IsTransition, IsChart}
+use Rattle.sfc_plant.specs.Chart as tables
+use Rattle.sfc_plant.specs.declared.program_type.ProgramType.{ProgramType}
 use Rattle.sfc_program.specs.Elements.{steps_of, transitions_of, actions_of, association_count}
-use Rattle.sfc_program.specs.Names.{Space}
+use Rattle.sfc_plant.specs.Spaces.{Space}
 use Rattle.sfc_program.specs.Loading.{limits_check, distinct_check, element_names, initial_check, variable_check, unless_found, target_check, time_check, qualifier_check, indicator_check, association_check, step_check, side_step_check, side_check, transition_check, space_of, chart_check, program_check}
 use Rattle.sfc_program.specs.Built.{found, variable_in, target_by, target_of, time_of, qualifier_of, association_of, step_of, step_id, step_ids, transition_of, action_of, chart_of, program_of}
 
@@ -86,11 +86,8 @@ in_turn_passes name check P says before (x ∷ xs) e =
 -- ---- names that are found
 
 -- how many variables there are
-abbrev pub counts : Space → tables.Space
+abbrev pub counts : Space → tables.Counts
 counts space = record { globals = length space.globals; locals = length space.locals }
-
-pub place_below : (name : List ℕ) (names : List (List ℕ)) (i : ℕ) → place_of name names ≡ Some i → i < length names
-place_below name names i e = (position-Some (same_word name) names i [] e).0
 
 pub found_below : (n : ℕ) (place : Option ℕ) → ((i : ℕ) → place ≡ Some i → i < n) → is_none place ≡ false → unwrap_or place 0 < n
 found_below n None says e = cc
@@ -284,21 +281,21 @@ association_count_kept space (s ∷ steps) =
     ∙ sym (sum_by-cons (λ step. length step.associations) s steps)
 
 record IsLimited (elements : List ElementTree) : Type 0 where
-  steps : length (steps_of elements) ≤ 1024
-  transitions : length (transitions_of elements) ≤ 2048
-  associations : association_count (steps_of elements) ≤ 4096
+  steps : length (steps_of elements) ≤ STEPS
+  transitions : length (transitions_of elements) ≤ TRANSITIONS
+  associations : association_count (steps_of elements) ≤ ASSOCIATIONS
 
 limits_sound : (elements : List ElementTree) → limits_check elements ≡ None → IsLimited elements
 limits_sound elements e =
     let m : ℕ = length (steps_of elements) in
     let n : ℕ = length (transitions_of elements) in
     let k : ℕ = association_count (steps_of elements) in
-    let after = then_second (when (nat_lt 1024 m) (fault.Limit limit.Steps)) _ e in
+    let after = then_second (when (nat_lt STEPS m) (fault.Limit limit.Steps)) _ e in
     record {
-      steps = not_above 1024 m (when_none (nat_lt 1024 m) (fault.Limit limit.Steps) (then_first _ _ e));
-      transitions = not_above 2048 n (when_none (nat_lt 2048 n) (fault.Limit limit.Transitions) (then_first _ _ after));
-      associations = not_above 4096 k (when_none (nat_lt 4096 k) (fault.Limit limit.Associations)
-          (then_second (when (nat_lt 2048 n) (fault.Limit limit.Transitions)) _ after));
+      steps = not_above STEPS m (when_none (nat_lt STEPS m) (fault.Limit limit.Steps) (then_first _ _ e));
+      transitions = not_above TRANSITIONS n (when_none (nat_lt TRANSITIONS n) (fault.Limit limit.Transitions) (then_first _ _ after));
+      associations = not_above ASSOCIATIONS k (when_none (nat_lt ASSOCIATIONS k) (fault.Limit limit.Associations)
+          (then_second (when (nat_lt TRANSITIONS n) (fault.Limit limit.Transitions)) _ after));
     }
 
 -- A chart whose checks pass, where these are its steps and its actions.

@@ -3,11 +3,11 @@ use Rattle.std.proofs.Common.{◌≡◌, ℕ, ◌<◌, nat_lt, Bool, true, false
 use Rattle.std.specs.List.{position_or_len}
 use Rattle.std.proofs.lemmas.List.{length-map}
 use Rattle.std.proofs.lemmas.List.Quantifiers.{position-Some}
-use Rattle.sfc_tokens.specs.Case.{same_word}
-use Rattle.sfc_expr.specs.NameLists.{place_of}
-use Rattle.sfc_tables.specs.declared.chart.Step.{Step}
-use Rattle.sfc_tables.specs.declared.chart.Chart.{Chart}
-use Rattle.sfc_program.specs.Finding.{step_place}
+use Rattle.sfc_base.specs.Case.{same_word}
+use Rattle.sfc_base.specs.NameLists.{place_of}
+use Rattle.sfc_plant.specs.declared.chart.Step.{Step}
+use Rattle.sfc_plant.specs.declared.chart.Chart.{Chart}
+use Rattle.sfc_plant.specs.ElementNames.{step_place}
 
 len_mapped : (p : List ℕ → Bool) (steps : List Step) → position_or_len (λ s. p s.name) steps ≡ position_or_len p (map (λ s. s.name) steps)
 len_mapped p [] = refl

@@ -1,9 +1,9 @@
 -- What checking types gives, as a check.
 use Rattle.std.proofs.Common.{◌≡◌, None, Ok, ap}
-use Rattle.sfc_expr.specs.declared.type_error.TypeError.{TypeError}
-use Rattle.sfc_expr.specs.declared.type_error.TypeError.TheVariants as error
-use Rattle.sfc_expr.specs.TypeFaults as types
-use Rattle.sfc_expr.specs.TypeFaults.{Checked, IsFault}
+use Rattle.sfc_check.specs.declared.type_error.TypeError.{TypeError}
+use Rattle.sfc_check.specs.declared.type_error.TypeError.TheVariants as error
+use Rattle.sfc_check.specs.TypeFaults as types
+use Rattle.sfc_check.specs.TypeFaults.{Checked, IsFault}
 use Rattle.sfc_variables.specs.Checks.{Fails, typed, checked_or}
 use Rattle.sfc_variables.specs.LoadErrors.{of_type_error}
 

@@ -1,7 +1,7 @@
 -- The program type that a text without fault is: each name that was looked up stands as what it is.
 use Rattle.std.specs.Prelude.{ℕ, false, List, map, Option, Some, None, unwrap_or}
-use Rattle.sfc_tokens.specs.declared.var_type.VarType.{VarType}
-use Rattle.sfc_tokens.specs.declared.var_type.VarType.TheVariants as types
+use Rattle.sfc_base.specs.declared.var_type.VarType.{VarType}
+use Rattle.sfc_base.specs.declared.var_type.VarType.TheVariants as types
 use Rattle.sfc_text.specs.declared.tree.Association as text_association
 use Rattle.sfc_text.specs.declared.tree.AssociationTime as text_time
 use Rattle.sfc_text.specs.declared.tree.AssociationTime.TheVariants as written_time
@@ -9,31 +9,32 @@ use Rattle.sfc_text.specs.declared.tree.Qualifier as text_qualifier
 use Rattle.sfc_text.specs.declared.tree.Qualifier.TheVariants as written
 use Rattle.sfc_text.specs.declared.tree.Step as text_step
 use Rattle.sfc_text.specs.Trees.{ElementTree, TransitionTree, ActionTree, ProgramTree}
-use Rattle.sfc_expr.specs.declared.value.Value.TheVariants as value
-use Rattle.sfc_expr.specs.declared.variable.Variable as expr
-use Rattle.sfc_expr.specs.declared.variable.Variable.TheVariants.{Global}
-use Rattle.sfc_expr.specs.declared.variable.StepId.{StepId}
+use Rattle.sfc_base.specs.declared.value.Value.TheVariants as value
+use Rattle.sfc_base.specs.declared.references.Variable as expr
+use Rattle.sfc_base.specs.declared.references.Variable.TheVariants.{Global}
+use Rattle.sfc_base.specs.declared.references.StepId.{StepId}
 use Rattle.sfc_expr.specs.Trees.{Literal, Nothing}
-use Rattle.sfc_expr.specs.Checking.{checked, checked_body}
-use Rattle.sfc_expr.specs.NameLists.{place_of}
-use Rattle.sfc_variables.specs.declared.variable.Variable.{Variable}
+use Rattle.sfc_check.specs.Checking.{checked, checked_body}
+use Rattle.sfc_base.specs.NameLists.{place_of}
+use Rattle.sfc_plant.specs.declared.variable.Variable.{Variable}
 use Rattle.sfc_variables.specs.Checks.{checked_or}
-use Rattle.sfc_variables.specs.Finding.{variable_named}
+use Rattle.sfc_plant.specs.VariableNames.{variable_named}
 use Rattle.sfc_variables.specs.Own.{locals_of, externals_of}
-use Rattle.sfc_tables.specs.declared.association.Association.{Association}
-use Rattle.sfc_tables.specs.declared.association.Target.{Target}
-use Rattle.sfc_tables.specs.declared.association.Target.TheVariants as target
-use Rattle.sfc_tables.specs.declared.association.Time.{Time}
-use Rattle.sfc_tables.specs.declared.association.Time.TheVariants as time
-use Rattle.sfc_tables.specs.declared.association.Qualifier.{Qualifier}
-use Rattle.sfc_tables.specs.declared.association.Qualifier.TheVariants as qualifier
-use Rattle.sfc_tables.specs.declared.action.Action.{Action}
-use Rattle.sfc_tables.specs.declared.chart.Step.{Step}
-use Rattle.sfc_tables.specs.declared.chart.Transition.{Transition}
-use Rattle.sfc_tables.specs.declared.chart.Chart.{Chart}
-use Rattle.sfc_program.specs.declared.program_type.ProgramType.{ProgramType}
+use Rattle.sfc_plant.specs.declared.association.Association.{Association}
+use Rattle.sfc_plant.specs.declared.association.Target.{Target}
+use Rattle.sfc_plant.specs.declared.association.Target.TheVariants as target
+use Rattle.sfc_plant.specs.declared.association.Time.{Time}
+use Rattle.sfc_plant.specs.declared.association.Time.TheVariants as time
+use Rattle.sfc_plant.specs.declared.association.Qualifier.{Qualifier}
+use Rattle.sfc_plant.specs.declared.association.Qualifier.TheVariants as qualifier
+use Rattle.sfc_plant.specs.declared.action.Action.{Action}
+use Rattle.sfc_plant.specs.declared.chart.Step.{Step}
+use Rattle.sfc_plant.specs.declared.chart.Transition.{Transition}
+use Rattle.sfc_plant.specs.declared.chart.Chart.{Chart}
+use Rattle.sfc_plant.specs.declared.program_type.ProgramType.{ProgramType}
 use Rattle.sfc_program.specs.Elements.{steps_of, transitions_of, actions_of}
-use Rattle.sfc_program.specs.Names.{Space, names_in}
+use Rattle.sfc_plant.specs.Spaces.{Space}
+use Rattle.sfc_program.specs.Names.{names_in}
 use Rattle.sfc_program.specs.Loading.{space_of}
 
 -- ---- associations

@@ -8,7 +8,5 @@ pub mod Names
 pub mod Loading
 -- the program type that a text without fault is
 pub mod Built
--- the places of steps, actions and transitions by name
-pub mod Finding
 -- What private clauses cite.
 pub mod Scoping

@@ -2,8 +2,9 @@
 -- which they are made (our choice of order).
 use Rattle.std.specs.Prelude.{ℕ, nat_lt, not, is_none, List, [], ◌++◌, length, Option, Some, None}
 use Rattle.std.specs.List.{list_any}
-use Rattle.sfc_tokens.specs.declared.var_type.VarType.{VarType}
-use Rattle.sfc_tokens.specs.declared.var_type.VarType.TheVariants as types
+use Rattle.sfc_base.specs.declared.limits.TheConstants.{ASSOCIATIONS, STEPS, TRANSITIONS}
+use Rattle.sfc_base.specs.declared.var_type.VarType.{VarType}
+use Rattle.sfc_base.specs.declared.var_type.VarType.TheVariants as types
 use Rattle.sfc_text.specs.declared.tree.Literal.TheVariants as literal
 use Rattle.sfc_text.specs.declared.tree.Association.{Association}
 use Rattle.sfc_text.specs.declared.tree.AssociationTime.{AssociationTime}
@@ -12,27 +13,29 @@ use Rattle.sfc_text.specs.declared.tree.Qualifier.{Qualifier}
 use Rattle.sfc_text.specs.declared.tree.Qualifier.TheVariants as qualifier
 use Rattle.sfc_text.specs.declared.tree.Step.{Step}
 use Rattle.sfc_text.specs.Trees.{ElementTree, TransitionTree, ActionTree, ProgramTree}
-use Rattle.sfc_expr.specs.declared.variable.Variable as expr
-use Rattle.sfc_expr.specs.Checking.{checked, checked_body, checked_literal, is_same_type}
-use Rattle.sfc_expr.specs.NameLists.{has, place_of}
+use Rattle.sfc_base.specs.declared.references.Variable as expr
+use Rattle.sfc_base.specs.Values.{is_same_type}
+use Rattle.sfc_check.specs.Checking.{checked, checked_body, checked_literal}
+use Rattle.sfc_base.specs.NameLists.{has, place_of}
 use Rattle.sfc_variables.specs.declared.load_error.LoadError.{LoadError}
 use Rattle.sfc_variables.specs.declared.load_error.LoadError.TheVariants as fault
 use Rattle.sfc_variables.specs.declared.load_error.Limit.TheVariants as limit
-use Rattle.sfc_variables.specs.declared.variable.Variable.{Variable}
+use Rattle.sfc_plant.specs.declared.variable.Variable.{Variable}
 use Rattle.sfc_variables.specs.Checks.{Check, ◌then◌, when, each, in_turn, typed}
-use Rattle.sfc_variables.specs.Finding.{variable_named}
+use Rattle.sfc_plant.specs.VariableNames.{variable_named}
 use Rattle.sfc_variables.specs.Own.{variables_check, locals_of, own_names}
 use Rattle.sfc_program.specs.Elements.{steps_of, transitions_of, actions_of, step_names, action_names, transition_names, association_count}
-use Rattle.sfc_program.specs.Names.{Space, names_in}
+use Rattle.sfc_plant.specs.Spaces.{Space}
+use Rattle.sfc_program.specs.Names.{names_in}
 
 -- ---- numbers and names
 
 -- at most 1,024 steps, 2,048 transitions and 4,096 associations
 abbrev pub limits_check : List ElementTree → Check
 limits_check elements =
-    when (nat_lt 1024 (length (steps_of elements))) (fault.Limit limit.Steps)
-    then when (nat_lt 2048 (length (transitions_of elements))) (fault.Limit limit.Transitions)
-    then when (nat_lt 4096 (association_count (steps_of elements))) (fault.Limit limit.Associations)
+    when (nat_lt STEPS (length (steps_of elements))) (fault.Limit limit.Steps)
+    then when (nat_lt TRANSITIONS (length (transitions_of elements))) (fault.Limit limit.Transitions)
+    then when (nat_lt ASSOCIATIONS (association_count (steps_of elements))) (fault.Limit limit.Associations)
 
 abbrev pub name_check : List (List ℕ) → List ℕ → Check
 name_check before name = when (has before name) fault.Duplicate

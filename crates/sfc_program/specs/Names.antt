@@ -1,28 +1,11 @@
 -- What names stand for in a program type: variables, steps and actions (2.4.3, 2.6.2, 2.6.4.1).
-use Rattle.std.specs.Prelude.{ℕ, Bool, false, List, map, Option, Some, None}
+use Rattle.std.specs.Prelude.{ℕ, Bool, false, List, Option, Some, None}
 use Rattle.std.specs.Option.{option_map}
-use Rattle.sfc_tokens.specs.Case.{same_word}
-use Rattle.sfc_expr.specs.NameLists.{place_of}
-use Rattle.sfc_expr.specs.Scopes.{Names}
-use Rattle.sfc_variables.specs.declared.variable.Variable.{Variable}
-use Rattle.sfc_variables.specs.Finding.{variable_named}
-use Rattle.sfc_program.specs.declared.program_type.ProgramType.{ProgramType}
-
--- the variables, and the names of steps and of declared actions, each in text order
-pub record Space : Type 0 where
-  pub globals : List Variable
-  pub locals : List Variable
-  pub steps : List (List ℕ)
-  pub actions : List (List ℕ)
-
--- those of a program type that was loaded, among these globals
-abbrev pub space_in : List Variable → ProgramType → Space
-space_in globals p = record {
-  globals = globals;
-  locals = p.locals;
-  steps = map (λ s. s.name) p.chart.steps;
-  actions = map (λ a. a.name) p.chart.actions;
-}
+use Rattle.sfc_base.specs.Case.{same_word}
+use Rattle.sfc_base.specs.NameLists.{place_of}
+use Rattle.sfc_check.specs.Scopes.{Names}
+use Rattle.sfc_plant.specs.VariableNames.{variable_named}
+use Rattle.sfc_plant.specs.Spaces.{Space}
 
 -- the action in whose body a name stands, if it stands in one
 abbrev pub is_name_of : Option (List ℕ) → List ℕ → Bool

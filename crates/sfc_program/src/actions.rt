@@ -3,7 +3,7 @@
 ghost use Rattle.std.specs.Prelude.{◌≡◌, ◌++◌, ◌∷◌, [], map, Some, OnOk};
 ghost use Rattle.sfc_text.specs.Trees as trees;
 ghost use Rattle.sfc_text.specs.Trees.{element_of, block_of};
-ghost use Rattle.sfc_expr.specs.Checking.{checked_body};
+ghost use Rattle.sfc_check.specs.Checking.{checked_body};
 ghost use Rattle.sfc_expr.specs.Trees.{Nothing};
 ghost use Rattle.sfc_variables.specs.Checks.{Loads, each, typed, checked_or};
 ghost use Rattle.sfc_program.specs.Elements.{actions_of};
@@ -12,9 +12,9 @@ ghost use Rattle.sfc_program.specs.Loading.{action_check};
 ghost use Rattle.sfc_program.specs.Built.{action_of};
 
 use crate::scope::{ActionScope, ProgramScope};
-use sfc_expr::check_body::check_body;
-use sfc_tables::action::Action;
-use sfc_tables::typed::Statements;
+use sfc_check::check_body::check_body;
+use sfc_plant::action::Action;
+use sfc_plant::typed::Statements;
 use sfc_text::tree::{self, Element};
 use sfc_variables::load_error::LoadError;
 use std::alloc::Global;

@@ -3,22 +3,22 @@
 ghost use Rattle.std.specs.Prelude.{◌≡◌, ◌++◌, ◌∷◌, [], map, OnOk};
 ghost use Rattle.sfc_text.specs.Trees.{element_of};
 ghost use Rattle.sfc_variables.specs.Checks.{Loads, each};
-ghost use Rattle.sfc_variables.specs.Finding.{variable_named};
+ghost use Rattle.sfc_plant.specs.VariableNames.{variable_named};
 ghost use Rattle.sfc_program.specs.Elements.{steps_of};
 ghost use Rattle.sfc_program.specs.Loading.{variable_check, target_check, time_check, qualifier_check, indicator_check, association_check, step_check};
 ghost use Rattle.sfc_program.specs.Built.{variable_in, target_of, time_of, qualifier_of, association_of, step_of};
 
 use crate::scope::ProgramScope;
-use sfc_expr::literal::check_literal;
-use sfc_expr::scope::Scope;
-use sfc_expr::variable::Variable;
-use sfc_tables::action::ActionId;
-use sfc_tables::association::{Association, Qualifier, Target, Time};
-use sfc_tables::chart::Step;
+use sfc_base::ids::ActionId;
+use sfc_base::items::Items;
+use sfc_base::name::Name;
+use sfc_base::references::Variable;
+use sfc_base::var_type::VarType;
+use sfc_check::literal::check_literal;
+use sfc_check::scope::Scope;
+use sfc_plant::association::{Association, Qualifier, Target, Time};
+use sfc_plant::chart::Step;
 use sfc_text::tree::{self, AssociationTime, Element, Literal};
-use sfc_tokens::items::Items;
-use sfc_tokens::name::Name;
-use sfc_tokens::var_type::VarType;
 use sfc_variables::load_error::LoadError;
 use std::alloc::Global;
 

@@ -3,14 +3,14 @@
 ghost use Rattle.std.specs.Prelude.{◌≡◌, ◌++◌, ◌∷◌, [], false, map, OnOk, IfOk};
 ghost use Rattle.std.specs.List.{list_any};
 ghost use Rattle.sfc_text.specs.Trees.{element_of};
-ghost use Rattle.sfc_expr.specs.NameLists.{has};
+ghost use Rattle.sfc_base.specs.NameLists.{has};
 ghost use Rattle.sfc_variables.specs.Checks.{Loads};
 ghost use Rattle.sfc_program.specs.Elements.{steps_of, step_names, action_names, transition_names};
 ghost use Rattle.sfc_program.specs.Loading.{name_check, distinct_check, element_names, initial_check};
 
-use sfc_expr::name_table::NameTable;
+use sfc_base::name::Name;
+use sfc_plant::name_table::NameTable;
 use sfc_text::tree::Element;
-use sfc_tokens::name::Name;
 use sfc_variables::load_error::LoadError;
 use std::alloc::Global;
 

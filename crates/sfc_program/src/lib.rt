@@ -1,7 +1,7 @@
-//! Program types: names are looked up, types are checked, numbers stand for what was named (IEC 61131-3:2003, 2.5.3,
-//! 2.6).
+//! Program types of a text: names are looked up, types are checked, numbers stand for what was named
+//! (IEC 61131-3:2003, 2.5.3, 2.6).
 //!
-//! - `program_type`: what a program type is loaded as; `load`: its trees to it.
+//! - `load`: the trees of a program type to it.
 //! - `limits`: how much there may be; `element_names`: the names of steps, actions and transitions.
 //! - `scope`: what a name stands for while it is loaded; `type_scope`: and once it was.
 //! - `associations`: steps with their associations; `transitions`: transitions with their steps and
@@ -13,7 +13,6 @@ mod associations;
 mod element_names;
 mod limits;
 pub mod load;
-pub mod program_type;
 mod scope;
 mod transitions;
 pub mod type_scope;

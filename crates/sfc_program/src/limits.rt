@@ -6,17 +6,9 @@ ghost use Rattle.sfc_variables.specs.Checks.{Loads};
 ghost use Rattle.sfc_program.specs.Elements.{steps_of, transitions_of, association_count};
 ghost use Rattle.sfc_program.specs.Loading.{limits_check};
 
+use sfc_base::limits::{ASSOCIATIONS, STEPS, TRANSITIONS};
 use sfc_text::tree::Element;
 use sfc_variables::load_error::{Limit, LoadError};
-
-/// The most steps of a program type.
-const STEPS: usize = 1024;
-
-/// The most transitions of a program type.
-const TRANSITIONS: usize = 2048;
-
-/// The most associations of a program type.
-const ASSOCIATIONS: usize = 4096;
 
 // Whether there are more steps than this.
 fn exceeds_steps(elements: &[Element], most: usize) -> bool
@@ -76,7 +68,7 @@ fn exceeds_associations(elements: &[Element], most: usize) -> bool
 /// Refuses more than 1,024 steps, 2,048 transitions or 4,096 associations.
 pub fn check_limits(elements: &[Element]) -> Result<(), LoadError>
     ensures loads { Loads (λ u. u) result (limits_check (map element_of elements.now)) tt }
-    ensures few { OnOk result (length (steps_of (map element_of elements.now)) ≤ 1024) }
+    ensures few { OnOk result (length (steps_of (map element_of elements.now)) ≤ STEPS) }
 {
     if exceeds_steps(elements, STEPS) {
         return Err(LoadError::Limit(Limit::Steps));

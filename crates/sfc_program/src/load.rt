@@ -12,16 +12,17 @@ use crate::actions::load_actions;
 use crate::associations::load_steps;
 use crate::element_names::{ElementNames, check_initial, load_element_names};
 use crate::limits::check_limits;
-use crate::program_type::ProgramType;
 use crate::scope::ProgramScope;
 use crate::transitions::load_transitions;
-use sfc_expr::name_table::NameTable;
-use sfc_tables::chart::Chart;
+use sfc_base::items::Items;
+use sfc_base::limits::STEPS;
+use sfc_plant::chart::Chart;
+use sfc_plant::name_table::NameTable;
+use sfc_plant::program_type::ProgramType;
+use sfc_plant::variable_table::VariableTable;
 use sfc_text::tree::{Element, Program};
-use sfc_tokens::items::Items;
 use sfc_variables::load_error::LoadError;
 use sfc_variables::own::{OwnVariables, load_own};
-use sfc_variables::variable_table::VariableTable;
 use std::alloc::Global;
 
 // The chart of the elements, whose names are known: associations, then transitions, then bodies.
@@ -47,7 +48,7 @@ fn load_named(
     locals: &VariableTable,
     names: &ElementNames,
 ) -> Result<Chart, LoadError>
-    requires { length names.now.steps ≤ 1024 }
+    requires { length names.now.steps ≤ STEPS }
     ensures { let trees : _ = map element_of elements.now in
         let space : _ = record {
           globals = globals.now;
@@ -71,7 +72,7 @@ fn load_elements(
     locals: &VariableTable,
     space: &mut NameTable,
 ) -> Result<Chart, LoadError>
-    requires { length (steps_of (map element_of elements.now)) ≤ 1024 }
+    requires { length (steps_of (map element_of elements.now)) ≤ STEPS }
     ensures { let trees : _ = map element_of elements.now in
         let names : _ = record {
           globals = globals.now;

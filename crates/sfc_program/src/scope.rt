@@ -1,11 +1,12 @@
 //! What names stand for in a program type (2.4.3, 2.6.2, 2.6.4.1).
 
-use sfc_expr::name_table::NameTable;
-use sfc_expr::scope::Scope;
-use sfc_expr::variable::{GlobalId, LocalId, StepId, Variable};
-use sfc_tokens::case::is_same_word;
-use sfc_tokens::var_type::VarType;
-use sfc_variables::variable_table::VariableTable;
+use sfc_base::case::is_same_word;
+use sfc_base::limits::STEPS;
+use sfc_base::references::{GlobalId, LocalId, StepId, Variable};
+use sfc_base::var_type::VarType;
+use sfc_check::scope::Scope;
+use sfc_plant::name_table::NameTable;
+use sfc_plant::variable_table::VariableTable;
 use std::marker::Model;
 
 /// A program type with these variables, steps and actions, as the conditions of its transitions see it. There are at
@@ -19,8 +20,9 @@ pub struct ProgramScope<'a> {
 }
 
 impl<'a> Model for ProgramScope<'a> {
+    ghost use Rattle.sfc_base.specs.declared.limits.TheConstants.{STEPS};
     ghost use Rattle.std.specs.Prelude.{◌≤◌, length};
-    ghost use Rattle.sfc_program.specs.Names.{Space};
+    ghost use Rattle.sfc_plant.specs.Spaces.{Space};
 
     ghost Value = { Space };
 
@@ -31,7 +33,7 @@ impl<'a> Model for ProgramScope<'a> {
       actions = scope.actions.now;
     } };
 
-    ghost invariant = { λ scope. length scope.steps.now ≤ 1024 };
+    ghost invariant = { λ scope. length scope.steps.now ≤ STEPS };
 }
 
 /// A program type, as the body of one of its actions sees it.
@@ -42,8 +44,8 @@ pub struct ActionScope<'a> {
 }
 
 ghost use Rattle.std.specs.Prelude.{◌≡◌, ◌≤◌, length, Some, None};
-ghost use Rattle.sfc_expr.specs.NameLists.{place_of};
-ghost use Rattle.sfc_variables.specs.Finding.{variable_named};
+ghost use Rattle.sfc_base.specs.NameLists.{place_of};
+ghost use Rattle.sfc_plant.specs.VariableNames.{variable_named};
 ghost use Rattle.sfc_program.specs.Names.{names_in};
 ghost use Rattle.sfc_program.specs.Scoping.AnyCase.{ignoring_case};
 
@@ -72,7 +74,7 @@ impl<'a> ProgramScope<'a> {
         steps: &'a NameTable,
         actions: &'a NameTable,
     ) -> ProgramScope<'a>
-        requires { length steps.now ≤ 1024 }
+        requires { length steps.now ≤ STEPS }
         ensures { result ≡ record {
           globals = globals.now;
           locals = locals.now;

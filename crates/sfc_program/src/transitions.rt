@@ -1,11 +1,11 @@
 //! Transitions (2.6.3).
 
 ghost use Rattle.std.specs.Prelude.{◌≡◌, ◌++◌, ◌∷◌, [], false, map, None, OnOk, IfOk};
-ghost use Rattle.sfc_tokens.specs.declared.var_type.VarType.TheVariants as types;
+ghost use Rattle.sfc_base.specs.declared.var_type.VarType.TheVariants as types;
 ghost use Rattle.sfc_text.specs.Trees as trees;
 ghost use Rattle.sfc_text.specs.Trees.{element_of, tree_of};
-ghost use Rattle.sfc_expr.specs.declared.value.Value.TheVariants as value;
-ghost use Rattle.sfc_expr.specs.Checking.{checked};
+ghost use Rattle.sfc_base.specs.declared.value.Value.TheVariants as value;
+ghost use Rattle.sfc_check.specs.Checking.{checked};
 ghost use Rattle.sfc_expr.specs.Trees.{Literal};
 ghost use Rattle.sfc_variables.specs.Checks.{Loads, each, typed, checked_or};
 ghost use Rattle.sfc_program.specs.Elements.{transitions_of};
@@ -14,17 +14,17 @@ ghost use Rattle.sfc_program.specs.Loading.{side_check, side_step_check, transit
 ghost use Rattle.sfc_program.specs.Built.{step_id, step_ids, transition_of};
 
 use crate::scope::ProgramScope;
-use sfc_expr::check::check;
-use sfc_expr::name_table::NameTable;
-use sfc_expr::scope::Scope;
-use sfc_expr::variable::StepId;
-use sfc_tables::chart::Transition;
-use sfc_tables::typed::Condition;
+use sfc_base::items::Items;
+use sfc_base::name::Name;
+use sfc_base::references::StepId;
+use sfc_base::var_type::VarType;
+use sfc_check::check::check;
+use sfc_check::scope::Scope;
+use sfc_plant::chart::Transition;
+use sfc_plant::name_table::NameTable;
+use sfc_plant::typed::Condition;
 use sfc_text::expression::Expression;
 use sfc_text::tree::{self, Element};
-use sfc_tokens::items::Items;
-use sfc_tokens::name::Name;
-use sfc_tokens::var_type::VarType;
 use sfc_variables::load_error::LoadError;
 use std::alloc::{AllocError, Global};
 

@@ -2,8 +2,8 @@
 use Rattle.std.proofs.Common.{◌≡◌, ℕ, ℤ, suc, ◌<◌, ◌==◌, true, false, ◌&&◌, if◌then◌else◌, List, [], ◌∷◌, ◌++◌, length, Option, Some, None, refl, sym, ap, subst, ◌∙◌, arith, length-append}
 use Rattle.std.specs.Option.{option_map}
 use Rattle.std.proofs.lemmas.Bool.Decides.{nat_tests}
-use Rattle.sfc_tokens.specs.Scanning.DurationWords.{duration_value}
-use Rattle.sfc_chart.specs.Plants.{PlantData}
+use Rattle.sfc_tokens.specs.Lexing.DurationWords.{duration_value}
+use Rattle.sfc_plant.specs.Plants.{PlantData}
 use Rattle.sfc_events.specs.declared.event.Event.{Event}
 use Rattle.sfc_script.specs.declared.repeated.Repeated.{Repeated}
 use Rattle.sfc_script.specs.declared.command.Line.TheVariants.{Skipped, Command, Faulty}
@@ -11,7 +11,7 @@ use Rattle.sfc_script.specs.Lines.{in_line, begins_with_lf, lines_of, is_blank, 
 use Rattle.sfc_script.specs.Commands.{timed, read_event, line_behind, line_of}
 use Rattle.sfc_script.specs.Scripts.{and_then, commands_of_lines}
 use Rattle.sfc_script.specs.Private.Splitting.{begins_with_blank}
-use Rattle.sfc_script.specs.Private.Repeating.{event_first, Repeats, Keeps, Begins}
+use Rattle.sfc_script.specs.Private.Repeating.{event_first, Repeats, IsLast, Begins}
 use Rattle.sfc_script.proofs.Splits.{split_more, split_stop}
 use Rattle.sfc_script.proofs.PlainInstants.{IsPlain, ArePlain, IsInstant}
 
@@ -114,23 +114,23 @@ faulty_first plant bytes t behind rest i e =
 -- ---- what is said again
 
 -- what is kept is not nothing
-kept_some : (plant : PlantData) (event : Event) → Repeats plant [] event → ⊥
-kept_some plant event kept = let none : ◌≡◌ {A = Option (Event × List (List ℕ))} None (Some (event, [])) = kept [] in cc
+last_some : (plant : PlantData) (event : Event) → Repeats plant [] event → ⊥
+last_some plant event repeats = let none : ◌≡◌ {A = Option (Event × List (List ℕ))} None (Some (event, [])) = repeats [] in cc
 
 -- where the bytes begin with what is kept, the event is the kept one
-pub event_again : (plant : PlantData) (last : Option Repeated) (r : Repeated) (behind rest : List ℕ) → last ≡ Some r → Keeps plant last → behind ≡ r.tail.now ++ rest → event_first plant (lines_of behind) ≡ Some (r.event, lines_of rest)
-event_again plant None r behind rest e keeps split = absurd cc
-event_again plant (Some x) r behind rest e keeps split =
+pub event_again : (plant : PlantData) (last : Option Repeated) (r : Repeated) (behind rest : List ℕ) → last ≡ Some r → IsLast plant last → behind ≡ r.tail.now ++ rest → event_first plant (lines_of behind) ≡ Some (r.event, lines_of rest)
+event_again plant None r behind rest e is_last split = absurd cc
+event_again plant (Some x) r behind rest e is_last split =
     let same : x ≡ r = cc in
-    ap (λ (b : List ℕ). event_first plant (lines_of b)) split ∙ subst (λ (y : Repeated). Repeats plant y.tail.now y.event) same keeps rest
+    ap (λ (b : List ℕ). event_first plant (lines_of b)) split ∙ subst (λ (y : Repeated). Repeats plant y.tail.now y.event) same is_last rest
 
 -- and what follows is shorter
-pub rest_shorter : (plant : PlantData) (last : Option Repeated) (r : Repeated) (behind rest : List ℕ) → last ≡ Some r → Keeps plant last → behind ≡ r.tail.now ++ rest → length rest < length behind
-rest_shorter plant None r behind rest e keeps split = absurd cc
-rest_shorter plant (Some x) r behind rest e keeps split =
+pub rest_shorter : (plant : PlantData) (last : Option Repeated) (r : Repeated) (behind rest : List ℕ) → last ≡ Some r → IsLast plant last → behind ≡ r.tail.now ++ rest → length rest < length behind
+rest_shorter plant None r behind rest e is_last split = absurd cc
+rest_shorter plant (Some x) r behind rest e is_last split =
     let same : x ≡ r = cc in
-    by r.tail.now (subst (λ (y : Repeated). Repeats plant y.tail.now y.event) same keeps) split
+    by r.tail.now (subst (λ (y : Repeated). Repeats plant y.tail.now y.event) same is_last) split
   where
     by : (tail : List ℕ) → Repeats plant tail r.event → behind ≡ tail ++ rest → length rest < length behind
-    by [] kept is = absurd (kept_some plant r.event kept)
-    by (b ∷ tail) kept is = rw is (omega (arith, length-append tail rest))
+    by [] repeats is = absurd (last_some plant r.event repeats)
+    by (b ∷ tail) repeats is = rw is (omega (arith, length-append tail rest))

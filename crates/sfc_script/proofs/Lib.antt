@@ -4,4 +4,3 @@ pub mod FirstLines
 pub mod PlainInstants
 pub mod Said
 pub mod Splits
-pub mod Types

@@ -6,17 +6,16 @@ use Rattle.std.proofs.Math.Nat.{mul-le-mul_left}
 use Rattle.std.proofs.lemmas.Bool.{eqb-true}
 use Rattle.std.proofs.lemmas.Bool.Decides.{nat_tests}
 use Rattle.sfc_tokens.specs.declared.literal.LiteralKind.TheVariants as kind
-use Rattle.sfc_tokens.specs.declared.unit.Unit.TheVariants.{Second, Millisecond}
-use Rattle.sfc_tokens.specs.Classes.{between, class_of}
-use Rattle.sfc_tokens.specs.Case.{same_word}
-use Rattle.sfc_tokens.specs.Numbers as numbers
-use Rattle.sfc_tokens.specs.Numbers.{digit_of, Digits, IsInteger}
-use Rattle.sfc_tokens.specs.Durations as durations
-use Rattle.sfc_tokens.specs.Durations.{units, micros_of, IsUnit, Interval, greatest}
+use Rattle.sfc_base.specs.declared.unit.Unit.TheVariants.{Second, Millisecond}
+use Rattle.sfc_base.specs.Classes.{between, class_of}
+use Rattle.sfc_base.specs.Case.{same_word}
+use Rattle.sfc_base.specs.Numbers as numbers
+use Rattle.sfc_base.specs.Numbers.{digit_of, Digits, IsInteger}
+use Rattle.sfc_base.specs.Durations as durations
+use Rattle.sfc_base.specs.Durations.{units, IsUnit, Interval, greatest}
 use Rattle.sfc_tokens.specs.Literals.{kind_of_prefix}
 use Rattle.sfc_tokens.specs.Lexemes as lexemes
-use Rattle.sfc_tokens.specs.Lexemes.{IsDuration}
-use Rattle.sfc_tokens.specs.Scanning.DurationWords.{duration_value}
+use Rattle.sfc_tokens.specs.Lexing.DurationWords.{duration_value}
 use Rattle.sfc_tokens.proofs.DurationWords.{word_again}
 use Rattle.sfc_script.specs.Lines.{is_blank}
 use Rattle.sfc_script.specs.Private.Splitting.{begins_with_blank}

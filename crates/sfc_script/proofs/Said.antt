@@ -1,8 +1,8 @@
 -- Commands that were read before the others.
 use Rattle.std.proofs.Common.{ℕ, List, ◌++◌, Result, Ok, Err}
-use Rattle.sfc_events.specs.History.{Entry}
+use Rattle.sfc_events.specs.History.{TimedEvent}
 
 -- the commands of a script behind others
-abbrev pub behind : List Entry → Result (List Entry) ℕ → Result (List Entry) ℕ
-behind entries (Ok more) = Ok (entries ++ more)
-behind entries (Err n) = Err n
+abbrev pub behind : List TimedEvent → Result (List TimedEvent) ℕ → Result (List TimedEvent) ℕ
+behind timed_events (Ok more) = Ok (timed_events ++ more)
+behind timed_events (Err n) = Err n

@@ -1,11 +1,11 @@
 -- The commands of a script: a keyword, and what stands behind it on its line.
 use Rattle.std.specs.Prelude.{ℕ, ◌==◌, Bool, false, if◌then◌else◌, List, [], ◌∷◌, codes, ℤ}
 use Rattle.std.specs.Prelude.{Option, Some, None, option_map, option_and_then}
-use Rattle.sfc_tokens.specs.Case.{same_word}
-use Rattle.sfc_tokens.specs.Scanning.DurationWords.{duration_value}
-use Rattle.sfc_expr.specs.declared.value.Value.{Value}
-use Rattle.sfc_chart.specs.declared.ids.VarId.{VarId}
-use Rattle.sfc_chart.specs.Plants.{PlantData}
+use Rattle.sfc_base.specs.Case.{same_word}
+use Rattle.sfc_tokens.specs.Lexing.DurationWords.{duration_value}
+use Rattle.sfc_base.specs.declared.value.Value.{Value}
+use Rattle.sfc_base.specs.declared.ids.VarId.{VarId}
+use Rattle.sfc_plant.specs.Plants.{PlantData}
 use Rattle.sfc_events.specs.declared.event.Event.{Event}
 use Rattle.sfc_events.specs.declared.event.Event.TheVariants.{Scan, Input, Force, Release, Reset}
 use Rattle.sfc_script.specs.declared.command.Line.{Line}

@@ -1,13 +1,13 @@
 -- What a word in a name's place stands for: any word is a name, in any case.
 use Rattle.std.specs.Prelude.{ℕ, ◌+◌, ◌==◌, List, take, drop, position, slice_get}
 use Rattle.std.specs.Prelude.{Option, Some, None, option_map, option_and_then, unwrap_or}
-use Rattle.sfc_tokens.specs.declared.var_type.VarType.{VarType}
-use Rattle.sfc_chart.specs.declared.ids.VarId.{VarId}
-use Rattle.sfc_chart.specs.declared.ids.TaskId.{TaskId}
-use Rattle.sfc_chart.specs.declared.ids.ProgId.{ProgId}
-use Rattle.sfc_chart.specs.Plants.{PlantData}
-use Rattle.sfc_chart.specs.Image.{image_variables}
-use Rattle.sfc_chart.specs.Finding.{variable_named, task_named, instance_named, local_named}
+use Rattle.sfc_base.specs.declared.var_type.VarType.{VarType}
+use Rattle.sfc_base.specs.declared.ids.VarId.{VarId}
+use Rattle.sfc_base.specs.declared.ids.TaskId.{TaskId}
+use Rattle.sfc_base.specs.declared.ids.ProgId.{ProgId}
+use Rattle.sfc_plant.specs.Plants.{PlantData}
+use Rattle.sfc_plant.specs.Image.{image_variables}
+use Rattle.sfc_plant.specs.Finding.{variable_named, task_named, instance_named, local_named}
 
 -- the task with this name; else a number that no plant has
 abbrev pub task_of : PlantData → List ℕ → TaskId

@@ -6,11 +6,11 @@ ghost use Rattle.sfc_script.specs.Commands as commands;
 use crate::names::{program_of, task_of, type_of, variable_of};
 use crate::split::{first_word, only_word, two_words};
 use crate::value::value_of_word;
-use sfc_chart::ids::VarId;
-use sfc_chart::plant::Plant;
+use sfc_base::case::is_same_word;
+use sfc_base::ids::VarId;
+use sfc_base::value::Value;
 use sfc_events::event::Event;
-use sfc_expr::value::Value;
-use sfc_tokens::case::is_same_word;
+use sfc_plant::plant::Plant;
 use sfc_tokens::duration::duration;
 
 /// What a line of a script is.

@@ -1,13 +1,11 @@
 //! Names of tasks, of program instances and of variables.
 
-ghost use Rattle.std.specs.Prelude.{◌≡◌, ◌<◌, length, option_map, slice_get, IfSome};
-ghost use Rattle.sfc_chart.specs.Finding.{instance_locals};
+ghost use Rattle.std.specs.Prelude.{◌≡◌, ◌<◌, length, IfSome};
 ghost use Rattle.sfc_script.specs.Names as names;
 
-use sfc_chart::ids::{ProgId, TaskId, VarId};
-use sfc_chart::image_variable::ImageVariable;
-use sfc_chart::plant::Plant;
-use sfc_tokens::var_type::VarType;
+use sfc_base::ids::{ProgId, TaskId, VarId};
+use sfc_base::var_type::VarType;
+use sfc_plant::plant::Plant;
 
 /// The task with this name; else a number that no plant has.
 pub fn task_of(plant: &Plant, word: &[u8]) -> TaskId
@@ -50,30 +48,10 @@ pub fn variable_of(plant: &Plant, word: &[u8]) -> VarId
     find_variable(plant, word).unwrap_or(VarId(65535))
 }
 
-// The type of a global variable.
-fn global_type(plant: &Plant, place: usize) -> Option<VarType>
-    ensures { result ≡ option_map (λ v. v.var_type) (slice_get plant.now.globals place) }
-{
-    let variable = plant.globals().get(place)?;
-    Some(variable.var_type)
-}
-
-// The type of a local variable of a program instance.
-fn local_type(plant: &Plant, instance: ProgId, place: usize) -> Option<VarType>
-    ensures { result ≡ option_map (λ v. v.var_type) (slice_get (instance_locals plant.now instance) place) }
-{
-    let instance = plant.instances().get(instance.0 as usize)?;
-    let program = plant.types().get(instance.program)?;
-    let variable = program.locals.as_slice().get(place)?;
-    Some(variable.var_type)
-}
-
 /// The type of a variable, if there is one with this number.
 pub fn type_of(plant: &Plant, id: VarId) -> Option<VarType>
     ensures { result ≡ names.type_of plant.now id }
 {
-    match plant.image_variable(id)? {
-        ImageVariable::Global(global) => global_type(plant, global.0),
-        ImageVariable::Local(instance, local) => local_type(plant, instance, local.0),
-    }
+    let variable = plant.variable(id)?;
+    Some(variable.var_type)
 }

@@ -2,12 +2,12 @@
 
 ghost use Rattle.std.specs.Prelude.{◌≡◌, ◌<◌, length, MatchOption, IfSome, Some, None};
 ghost use Rattle.sfc_script.specs.Lines.{lines_of};
-ghost use Rattle.sfc_script.specs.Private.Repeating.{event_first, Keeps};
+ghost use Rattle.sfc_script.specs.Private.Repeating.{event_first, IsLast};
 
 use crate::command::read_event;
 use crate::split::next_line;
-use sfc_chart::plant::Plant;
 use sfc_events::event::Event;
+use sfc_plant::plant::Plant;
 
 /// A command that was read.
 #[derive(Clone, Copy)]
@@ -25,11 +25,11 @@ pub fn event_behind<'a>(
     last: &mut Option<Repeated<'a>>,
     behind: &'a [u8],
 ) -> Option<(Event, &'a [u8])>
-    requires { Keeps plant.now last.old }
+    requires { IsLast plant.now last.old }
     ensures event { MatchOption result (event_first plant.now (lines_of behind.now) ≡ None)
         (λ r. event_first plant.now (lines_of behind.now) ≡ Some (r.0, lines_of r.1.now)) }
     ensures shorter { IfSome result (λ r. length r.1.now < length behind.now) }
-    ensures kept { Keeps plant.now last.new }
+    ensures is_last { IsLast plant.now last.new }
 {
     if let Some(repeated) = last {
         if let Some(rest) = behind.strip_prefix(repeated.tail) {

@@ -5,14 +5,14 @@ ghost use Rattle.sfc_script.specs.declared.script.ScriptError.TheVariants.{Memor
 ghost use Rattle.sfc_script.specs.Lines.{lines_of};
 ghost use Rattle.sfc_script.specs.Scripts.{commands_of_lines, commands_of_script};
 ghost use Rattle.sfc_script.specs.Answers.{ReadsScript};
-ghost use Rattle.sfc_script.specs.Private.Repeating.{Keeps, Begins};
+ghost use Rattle.sfc_script.specs.Private.Repeating.{IsLast, Begins};
 
 use crate::command::{Line, read_line};
 use crate::instant::instant;
 use crate::repeated::{Repeated, event_behind};
 use crate::split::next_line;
-use sfc_chart::plant::Plant;
 use sfc_events::event::Event;
+use sfc_plant::plant::Plant;
 use std::alloc::{AllocError, AllocFailed, Global};
 
 /// The most bytes of a script.
@@ -53,10 +53,10 @@ fn first_line<'a>(
     last: &mut Option<Repeated<'a>>,
     bytes: &'a [u8],
 ) -> Option<(Line, &'a [u8])>
-    requires { Keeps plant.now last.old }
+    requires { IsLast plant.now last.old }
     ensures line { MatchOption result (bytes.now ≡ [])
         (λ r. (Begins plant.now bytes.now r.0 r.1.now) × (length r.1.now < length bytes.now)) }
-    ensures kept { Keeps plant.now last.new }
+    ensures is_last { IsLast plant.now last.new }
 {
     if let Some((t, behind)) = instant(bytes) {
         return match event_behind(plant, last, behind) {
@@ -72,20 +72,20 @@ fn first_line<'a>(
 fn read_lines(alloc: Global, plant: &Plant, bytes: &[u8]) -> Result<Vec<(Event, i64)>, ScriptError>
     ensures { ReadsScript result (commands_of_lines plant.now 1 (lines_of bytes.now)) }
 {
-    let mut entries = Vec::with_capacity(alloc, bytes.len() / COMMAND)?;
+    let mut timed_events = Vec::with_capacity(alloc, bytes.len() / COMMAND)?;
     let mut number = 1;
     let mut rest = bytes;
     let mut last = None;
     'lines: while let Some((line, after)) = first_line(plant, &mut last, rest) {
         match line {
             Line::Skipped => {}
-            Line::Command(event, t) => entries.push((event, t))?,
+            Line::Command(event, t) => timed_events.push((event, t))?,
             Line::Faulty => return Err(ScriptError::Faulty(number)),
         }
         number += 1;
         rest = after;
     }
-    Ok(entries)
+    Ok(timed_events)
 }
 
 /// The events that a script says, with their instants in microseconds, over the names of a plant. A name that isn't

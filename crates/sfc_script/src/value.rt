@@ -4,10 +4,10 @@ ghost use Rattle.std.specs.Prelude.{◌≡◌};
 ghost use Rattle.sfc_script.specs.Values as values;
 
 use crate::number::dint;
-use sfc_expr::value::Value;
-use sfc_tokens::case::is_same_word;
+use sfc_base::case::is_same_word;
+use sfc_base::value::Value;
+use sfc_base::var_type::VarType;
 use sfc_tokens::duration::duration;
-use sfc_tokens::var_type::VarType;
 
 // The value that a number is for a variable of this type: a DINT where it doesn't fit.
 fn value_of_number(var_type: Option<VarType>, number: i32) -> Value

@@ -7,14 +7,14 @@ use Rattle.std.specs.List.{list_any, position_or_len, range_with_len, cons_optio
 use Rattle.std.proofs.lemmas.Bool.Decides.{nat_tests}
 use Rattle.std.proofs.lemmas.List.{append_assoc, length-append, length-map}
 use Rattle.std.proofs.lemmas.List.Elements.{All-nil, All-cons, filter_map-append}
-use Rattle.sfc_expr.specs.declared.variable.Variable.{Variable}
-use Rattle.sfc_tables.specs.declared.action.ActionId.{ActionId}
-use Rattle.sfc_tables.specs.declared.association.Association.{Association}
-use Rattle.sfc_tables.specs.declared.association.Target.{Target}
-use Rattle.sfc_tables.specs.declared.association.Target.TheVariants as target
-use Rattle.sfc_tables.specs.declared.chart.Step.{Step}
-use Rattle.sfc_tables.specs.declared.chart.Chart.{Chart}
-use Rattle.sfc_tables.specs.Chart.{Space, IsTarget, IsAssociation}
+use Rattle.sfc_base.specs.declared.references.Variable.{Variable}
+use Rattle.sfc_base.specs.declared.ids.ActionId.{ActionId}
+use Rattle.sfc_plant.specs.declared.association.Association.{Association}
+use Rattle.sfc_plant.specs.declared.association.Target.{Target}
+use Rattle.sfc_plant.specs.declared.association.Target.TheVariants as target
+use Rattle.sfc_plant.specs.declared.chart.Step.{Step}
+use Rattle.sfc_plant.specs.declared.chart.Chart.{Chart}
+use Rattle.sfc_plant.specs.Chart.{Counts, IsTarget, IsAssociation}
 use Rattle.sfc_tables.specs.Actions.{same_variable, same_target, distinct, boolean_of, booleans_of}
 use Rattle.sfc_tables.specs.Actions.{associations_in, declared_actions, actions_of, number_of, boolean_actions}
 use Rattle.sfc_tables.specs.Private.Listing.{listed}
@@ -123,17 +123,17 @@ past_place vs n id lt =
 abbrev Found : Chart → Association → Type 0
 Found chart association = (number_of (actions_of chart) association.target).0 < length (actions_of chart)
 
-found : (space : Space) (chart : Chart) (t : Target) → IsTarget space (length chart.actions) t
+found : (counts : Counts) (chart : Chart) (t : Target) → IsTarget counts (length chart.actions) t
     → ((v : Variable) → boolean_of t ≡ Some v → is_known (booleans_of (associations_in chart.steps)) v ≡ true)
     → (number_of (actions_of chart) t).0 < length (actions_of chart)
-found space chart (target.Boolean v) sound known =
+found counts chart (target.Boolean v) sound known =
     boolean_place (boolean_actions chart) (length chart.actions) v
     (known_distinct (booleans_of (associations_in chart.steps)) v (known v refl))
-found space chart (target.Declared id) sound known = past_place (boolean_actions chart) (length chart.actions) id sound
+found counts chart (target.Declared id) sound known = past_place (boolean_actions chart) (length chart.actions) id sound
 
-pub all_found : (space : Space) (chart : Chart)
-    → All (λ (step : Step). All (IsAssociation space (length chart.actions)) step.associations) chart.steps
+pub all_found : (counts : Counts) (chart : Chart)
+    → All (λ (step : Step). All (IsAssociation counts (length chart.actions)) step.associations) chart.steps
     → All (λ (step : Step). All (Found chart) step.associations) chart.steps
-all_found space chart sound k d lt j e less =
-    found space chart (get_or (get_or chart.steps k d).associations j e).target (sound k d lt j e less).target
+all_found counts chart sound k d lt j e less =
+    found counts chart (get_or (get_or chart.steps k d).associations j e).target (sound k d lt j e less).target
     (known_steps [] chart.steps k d lt j e less)

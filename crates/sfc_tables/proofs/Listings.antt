@@ -10,11 +10,11 @@ use Rattle.std.proofs.lemmas.List.FromFn.{length-map-range_with_len}
 use Rattle.std.proofs.lemmas.List.Sums.{fold-append}
 use Rattle.std.proofs.lemmas.Option.{slice_get_within, get_or_from_slice_get}
 use Rattle.indexmap.specs.IndexSet.{insert_key}
-use Rattle.sfc_expr.specs.declared.variable.Variable.{Variable}
-use Rattle.sfc_tables.specs.declared.action.ActionId.{ActionId}
-use Rattle.sfc_tables.specs.declared.association.Association.{Association}
-use Rattle.sfc_tables.specs.declared.association.Target.TheVariants as target
-use Rattle.sfc_tables.specs.declared.chart.Step.{Step}
+use Rattle.sfc_base.specs.declared.references.Variable.{Variable}
+use Rattle.sfc_base.specs.declared.ids.ActionId.{ActionId}
+use Rattle.sfc_plant.specs.declared.association.Association.{Association}
+use Rattle.sfc_plant.specs.declared.association.Target.TheVariants as target
+use Rattle.sfc_plant.specs.declared.chart.Step.{Step}
 use Rattle.sfc_tables.specs.Actions.{same_variable, distinct, boolean_of, booleans_of, associations_in, declared_actions}
 use Rattle.sfc_tables.specs.Private.Listing.{with_booleans, listed}
 use Rattle.sfc_tables.specs.Private.SameVariables.{same_along}

@@ -5,10 +5,10 @@ use Rattle.std.specs.List.Sorted.{IsNonDecreasing, IsNonDecreasingBy}
 use Rattle.std.proofs.lemmas.List.{append_assoc, length-append, length-map, get_or-map, drop_more}
 use Rattle.std.proofs.lemmas.List.Sums.{sum_by-cons}
 use Rattle.std.proofs.lemmas.List.Elements.{All-nil, All-cons}
-use Rattle.sfc_expr.specs.declared.variable.StepId.{StepId}
-use Rattle.sfc_tables.specs.declared.association.Association.{Association}
-use Rattle.sfc_tables.specs.declared.association.Target.{Target}
-use Rattle.sfc_tables.specs.declared.chart.Step.{Step}
+use Rattle.sfc_base.specs.declared.references.StepId.{StepId}
+use Rattle.sfc_plant.specs.declared.association.Association.{Association}
+use Rattle.sfc_plant.specs.declared.association.Target.{Target}
+use Rattle.sfc_plant.specs.declared.chart.Step.{Step}
 use Rattle.sfc_tables.specs.declared.step_action.StepAction.{StepAction}
 use Rattle.sfc_tables.specs.Actions.{number_of}
 use Rattle.sfc_tables.specs.Tables.{in_text, numbered}

@@ -4,8 +4,8 @@ use Rattle.std.specs.Prelude.{map, All, slice_range}
 use Rattle.std.proofs.lemmas.List.{drop-append-le, take-append-le, length-drop, length-append, map-append}
 use Rattle.std.proofs.lemmas.List.{append_assoc, drop_at, take_at, take_all, drop_more}
 use Rattle.std.proofs.lemmas.List.Elements.{All-head, All-tail, All-push}
-use Rattle.sfc_expr.specs.declared.variable.StepId.{StepId}
-use Rattle.sfc_tables.specs.declared.chart.Transition.{Transition}
+use Rattle.sfc_base.specs.declared.references.StepId.{StepId}
+use Rattle.sfc_plant.specs.declared.chart.Transition.{Transition}
 use Rattle.sfc_tables.specs.declared.links.Range.{Range}
 use Rattle.sfc_tables.specs.Tables.{sides_of}
 use Rattle.sfc_tables.specs.Private.Parts.{sides_in, IsRange}

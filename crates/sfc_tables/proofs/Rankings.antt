@@ -14,7 +14,7 @@ use Rattle.std.proofs.lemmas.Cmp.{then_total, on_total, nat_cmp_total}
 use Rattle.std.proofs.lemmas.List.MinMax.{ranks_by}
 use Rattle.std.proofs.lemmas.List.Sorted.{sorted_far, All-permutation, IsPermutation-map}
 use Rattle.std.proofs.lemmas.Map.Keys.{IsDistinct-IsPermutation, apart_from_distinct}
-use Rattle.sfc_tables.specs.declared.ids.TransitionId.{TransitionId}
+use Rattle.sfc_base.specs.declared.ids.TransitionId.{TransitionId}
 use Rattle.sfc_tables.specs.Ranks.{key, RanksBefore, transitions_to, IsRankOrder}
 
 abbrev pub pairs : ℕ → List (Option ℕ) → List (ℕ × ℕ)

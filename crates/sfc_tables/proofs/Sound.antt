@@ -4,14 +4,14 @@ use Rattle.std.specs.Prelude.{map, All}
 use Rattle.std.specs.List.Sorted.{IsPermutation}
 use Rattle.std.proofs.lemmas.List.{length-map}
 use Rattle.std.proofs.lemmas.List.Elements.{All-nil, All-cons, All-head, All-tail, All-append, All-map}
-use Rattle.sfc_expr.specs.declared.variable.StepId.{StepId}
-use Rattle.sfc_tables.specs.declared.association.Association.{Association}
-use Rattle.sfc_tables.specs.declared.association.Target.{Target}
-use Rattle.sfc_tables.specs.declared.chart.Step.{Step}
-use Rattle.sfc_tables.specs.declared.chart.Chart.{Chart}
+use Rattle.sfc_base.specs.declared.references.StepId.{StepId}
+use Rattle.sfc_plant.specs.declared.association.Association.{Association}
+use Rattle.sfc_plant.specs.declared.association.Target.{Target}
+use Rattle.sfc_plant.specs.declared.chart.Step.{Step}
+use Rattle.sfc_plant.specs.declared.chart.Chart.{Chart}
 use Rattle.sfc_tables.specs.declared.step_action.StepAction.{StepAction}
 use Rattle.sfc_tables.specs.Actions.{actions_of, number_of}
-use Rattle.sfc_tables.specs.Chart.{Space, IsChart}
+use Rattle.sfc_plant.specs.Chart.{Counts, IsChart}
 use Rattle.sfc_tables.specs.Ranks.{priorities_of, transitions_to}
 use Rattle.sfc_tables.specs.Tables.{Sides, Tabled, sides_of, in_text, numbered}
 use Rattle.sfc_tables.specs.Tables.{associations_of, tables_of, IsTablesOf, AreSides, IsStepAction, AreTables}
@@ -53,7 +53,7 @@ module _ (n : ℕ) (actions : List Target) where
       (All-map (IsPlaced n actions) pair step.associations (λ k d lt. record { step = omega arith; action = here k d lt }))
       (text_placed (suc s) steps (omega arith) (All-tail (λ (step : Step). All Listed step.associations) step steps all))
 
-module _ (space : Space) (chart : Chart) (sound : IsChart space chart)
+module _ (counts : Counts) (chart : Chart) (sound : IsChart counts chart)
     (tables : Tabled) (made : IsTablesOf chart tables) where
   steps_long : length tables.initial ≡ length chart.steps
   steps_long = ap length made.initial ∙ length-map chart.steps (λ step. step.is_initial)
@@ -73,7 +73,7 @@ module _ (space : Space) (chart : Chart) (sound : IsChart space chart)
   associations_sound : All (IsStepAction (length chart.steps) (length (actions_of chart))) (associations_of chart)
   associations_sound =
       numbered_placed (length chart.steps) (actions_of chart) 0 (in_text 0 chart.steps)
-      (text_placed (length chart.steps) (actions_of chart) 0 chart.steps (omega arith) (all_found space chart sound.associations))
+      (text_placed (length chart.steps) (actions_of chart) 0 chart.steps (omega arith) (all_found counts chart sound.associations))
 
   pub tables_sound : AreTables tables
   tables_sound = record {

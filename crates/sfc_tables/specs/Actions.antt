@@ -1,15 +1,15 @@
 -- The actions of a chart and their numbers (2.6.4.1, 2.6.4.3).
 use Rattle.std.specs.Prelude.{ℕ, ◌==◌, Bool, false, not, List, [], ◌∷◌, ◌++◌, length, map, filter, Option, Some, None}
 use Rattle.std.specs.List.{flat_map, filter_map, position_or_len, range_with_len}
-use Rattle.sfc_expr.specs.declared.variable.Variable.{Variable}
-use Rattle.sfc_expr.specs.declared.variable.Variable.TheVariants as variable
-use Rattle.sfc_tables.specs.declared.association.Association.{Association}
-use Rattle.sfc_tables.specs.declared.association.Target.{Target}
-use Rattle.sfc_tables.specs.declared.association.Target.TheVariants as target
-use Rattle.sfc_tables.specs.declared.action.ActionId.{ActionId}
-use Rattle.sfc_tables.specs.declared.ids.ActionNumber.{ActionNumber}
-use Rattle.sfc_tables.specs.declared.chart.Step.{Step}
-use Rattle.sfc_tables.specs.declared.chart.Chart.{Chart}
+use Rattle.sfc_base.specs.declared.references.Variable.{Variable}
+use Rattle.sfc_base.specs.declared.references.Variable.TheVariants as variable
+use Rattle.sfc_plant.specs.declared.association.Association.{Association}
+use Rattle.sfc_plant.specs.declared.association.Target.{Target}
+use Rattle.sfc_plant.specs.declared.association.Target.TheVariants as target
+use Rattle.sfc_base.specs.declared.ids.ActionId.{ActionId}
+use Rattle.sfc_base.specs.declared.ids.ActionNumber.{ActionNumber}
+use Rattle.sfc_plant.specs.declared.chart.Step.{Step}
+use Rattle.sfc_plant.specs.declared.chart.Chart.{Chart}
 
 abbrev pub same_variable : Variable → Variable → Bool
 same_variable (variable.Global a) (variable.Global b) = a.0 == b.0

@@ -1,8 +1,8 @@
 -- The transitions that a step is the first to precede (2.6.3, 2.6.5).
 use Rattle.std.specs.Prelude.{ℕ, ◌==◌, List, [], ◌∷◌, length, map, filter, slice_index_or}
 use Rattle.std.specs.List.{range_with_len}
-use Rattle.sfc_expr.specs.declared.variable.StepId.{StepId}
-use Rattle.sfc_tables.specs.declared.ids.TransitionId.{TransitionId}
+use Rattle.sfc_base.specs.declared.references.StepId.{StepId}
+use Rattle.sfc_base.specs.declared.ids.TransitionId.{TransitionId}
 use Rattle.sfc_tables.specs.Tables.{Sides, Tabled, sides_at}
 
 -- the first of these steps

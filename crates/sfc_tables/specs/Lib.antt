@@ -1,7 +1,5 @@
 -- The rules, in reading order.
 
--- what holds of each chart that a plant can hold
-pub mod Chart
 -- the order in which transitions are considered
 pub mod Ranks
 -- the actions of a chart and their numbers
@@ -11,5 +9,4 @@ pub mod Tables
 -- the transitions that a step is the first to precede
 pub mod Departures
 -- What private clauses cite.
-pub mod Codes
 pub mod Private

@@ -1,13 +1,14 @@
 -- The tables of a chart (2.6.2 to 2.6.4).
 use Rattle.std.specs.Prelude.{ℕ, suc, ◌≡◌, ◌<◌, ◌≤◌, Bool, List, [], ◌∷◌, ◌++◌, length, map, All, slice_index_or}
 use Rattle.std.specs.List.Sorted.{IsPermutation}
-use Rattle.sfc_expr.specs.declared.variable.StepId.{StepId}
-use Rattle.sfc_tables.specs.declared.association.Association.{Association}
-use Rattle.sfc_tables.specs.declared.association.Target.{Target}
-use Rattle.sfc_tables.specs.declared.chart.Chart.{Chart}
-use Rattle.sfc_tables.specs.declared.chart.Step.{Step}
-use Rattle.sfc_tables.specs.declared.chart.Transition.{Transition}
-use Rattle.sfc_tables.specs.declared.ids.TransitionId.{TransitionId}
+use Rattle.sfc_base.specs.declared.limits.TheConstants.{ASSOCIATIONS, STEPS, TRANSITIONS}
+use Rattle.sfc_base.specs.declared.references.StepId.{StepId}
+use Rattle.sfc_plant.specs.declared.association.Association.{Association}
+use Rattle.sfc_plant.specs.declared.association.Target.{Target}
+use Rattle.sfc_plant.specs.declared.chart.Chart.{Chart}
+use Rattle.sfc_plant.specs.declared.chart.Step.{Step}
+use Rattle.sfc_plant.specs.declared.chart.Transition.{Transition}
+use Rattle.sfc_base.specs.declared.ids.TransitionId.{TransitionId}
 use Rattle.sfc_tables.specs.declared.step_action.StepAction.{StepAction}
 use Rattle.sfc_tables.specs.Actions.{actions_of, number_of}
 use Rattle.sfc_tables.specs.Ranks.{priorities_of, IsRankOrder, rank_order, transitions_to}
@@ -91,6 +92,6 @@ pub record AreTables (tables : Tabled) : Type 0 where
   pub ranked : IsPermutation (transitions_to (length tables.sides)) tables.ranked
   pub associations : All (IsStepAction (length tables.initial) (length tables.actions)) tables.associations
   pub numbers : (k : ℕ) (d : StepAction) → k < length tables.associations → (slice_index_or tables.associations k d).number.0 ≡ k
-  pub step_limit : length tables.initial ≤ 1024
-  pub transition_limit : length tables.sides ≤ 2048
-  pub association_limit : length tables.associations ≤ 4096
+  pub step_limit : length tables.initial ≤ STEPS
+  pub transition_limit : length tables.sides ≤ TRANSITIONS
+  pub association_limit : length tables.associations ≤ ASSOCIATIONS

@@ -2,6 +2,7 @@
 
 use crate::action_list::ActionList;
 use crate::step_action::StepAction;
+use sfc_base::limits::{ASSOCIATIONS, STEPS};
 use std::marker::Model;
 
 /// The associations of a chart in text order, and in the order of their actions. Clauses see what it shows.
@@ -44,11 +45,11 @@ ghost use Rattle.std.specs.Prelude.{◌≡◌, ◌<◌, ◌≤◌, ◌+◌, ◌+
 ghost use Rattle.sfc_tables.specs.Private.Listing.{IsListedIn};
 ghost use Rattle.sfc_tables.specs.Tables.{at_step, in_text, numbered};
 
-use crate::association::Association;
-use crate::chart::{Chart, Step};
 use crate::groups;
-use crate::ids::{ActionNumber, AssociationNumber};
-use sfc_expr::variable::StepId;
+use sfc_base::ids::{ActionNumber, AssociationNumber};
+use sfc_base::references::StepId;
+use sfc_plant::association::Association;
+use sfc_plant::chart::{Chart, Step};
 use std::alloc::{AllocError, Global};
 
 // Appends the associations of a step.
@@ -58,7 +59,7 @@ fn add_step(
     block: &[Association],
     actions: &ActionList,
 ) -> Result<(), AllocError>
-    requires room { length associations.old.items + length block.now ≤ 4096 }
+    requires few { length associations.old.items + length block.now ≤ ASSOCIATIONS }
     requires targets { All (IsListedIn actions.now) block.now }
     ensures { OnOk result (associations.new.items
         ≡ associations.old.items ++ numbered actions.now (length associations.old.items) (at_step step block.now)) }
@@ -80,8 +81,8 @@ fn list_associations(
     steps: &[Step],
     actions: &ActionList,
 ) -> Result<Vec<StepAction>, AllocError>
-    requires few_steps { length steps.now ≤ 1024 }
-    requires few { sum_by (λ step. length step.associations) steps.now ≤ 4096 }
+    requires few_steps { length steps.now ≤ STEPS }
+    requires few { sum_by (λ step. length step.associations) steps.now ≤ ASSOCIATIONS }
     requires targets { All (λ step. All (IsListedIn actions.now) step.associations) steps.now }
     ensures { IfOk result (λ associations. associations.items ≡ numbered actions.now 0 (in_text 0 steps.now)) }
 {
@@ -100,12 +101,12 @@ fn list_associations(
 impl ActionBlocks {
     ghost use Rattle.std.specs.Prelude.{◌≡◌, ◌<◌, ◌≤◌, ◌==◌, ◌-◌, filter, length, IfOk};
     ghost use Rattle.sfc_tables.specs.Actions.{actions_of};
-    ghost use Rattle.sfc_tables.specs.Chart.{Space, IsChart};
+    ghost use Rattle.sfc_plant.specs.Chart.{Counts, IsChart};
     ghost use Rattle.sfc_tables.specs.Tables.{associations_of};
 
     /// The associations of this chart. The one error is that memory was refused.
     pub fn build(alloc: Global, chart: &Chart) -> Result<ActionBlocks, AllocError>
-        requires chart { (space : Space) × IsChart space chart.now }
+        requires chart { (counts : Counts) × IsChart counts chart.now }
         ensures { IfOk result (λ blocks. blocks ≡ record {
           steps = length chart.now.steps;
           actions = actions_of chart.now;

@@ -1,6 +1,6 @@
 //! Keys by which Boolean actions are found.
 
-use sfc_expr::variable::Variable;
+use sfc_base::references::Variable;
 use std::hash::{Hash, Hasher};
 use std::marker::Model;
 
@@ -18,7 +18,7 @@ impl Drop for ActionKey {
 }
 
 impl Model for ActionKey {
-    ghost use Rattle.sfc_expr.specs.declared.variable.Variable.{Variable};
+    ghost use Rattle.sfc_base.specs.declared.references.Variable.{Variable};
 
     ghost Value = { Variable };
 

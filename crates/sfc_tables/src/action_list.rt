@@ -1,8 +1,9 @@
 //! The actions of a chart in the order of their numbers.
 
 use crate::action_key::ActionKey;
-use crate::association::Target;
 use indexmap::IndexSet;
+use sfc_base::limits::ASSOCIATIONS;
+use sfc_plant::association::Target;
 use std::marker::Model;
 
 /// The actions of a chart: the Boolean ones in the order of their first association, and then the declared ones in the
@@ -27,7 +28,7 @@ impl Drop for ActionList {
 
 impl Model for ActionList {
     ghost use Rattle.std.specs.Prelude.{List};
-    ghost use Rattle.sfc_tables.specs.declared.association.Target.{Target};
+    ghost use Rattle.sfc_plant.specs.declared.association.Target.{Target};
     ghost use Rattle.sfc_tables.specs.Private.Listing.{IsListed};
 
     ghost Value = { List Target };
@@ -41,11 +42,10 @@ ghost use Rattle.std.specs.Prelude.{◌≡◌, ◌<◌, ◌≤◌, ◌+◌, ◌^
 ghost use Rattle.sfc_tables.specs.Actions.{booleans_of, associations_in, declared_actions, number_of};
 ghost use Rattle.sfc_tables.specs.Private.Listing.{with_booleans};
 
-use crate::action::ActionId;
-use crate::association::Association;
-use crate::chart::{Chart, Step};
-use crate::ids::ActionNumber;
-use sfc_expr::variable::Variable;
+use sfc_base::ids::{ActionId, ActionNumber};
+use sfc_base::references::Variable;
+use sfc_plant::association::Association;
+use sfc_plant::chart::{Chart, Step};
 use std::alloc::{AllocError, Global};
 
 // Notes a variable that is an action.
@@ -113,7 +113,7 @@ impl ActionList {
 
     /// The actions of this chart. The one error is that memory was refused.
     pub fn build(alloc: Global, chart: &Chart) -> Result<ActionList, AllocError>
-        requires associations { sum_by (λ step. length step.associations) chart.now.steps ≤ 4096 }
+        requires associations { sum_by (λ step. length step.associations) chart.now.steps ≤ ASSOCIATIONS }
         ensures { IfOk result (λ list. list ≡ actions_of chart.now) }
     {
         let booleans = boolean_actions(alloc, chart.steps.as_slice())?;

@@ -24,12 +24,12 @@ impl Model for Departures {
 }
 
 ghost use Rattle.std.specs.Prelude.{◌≡◌, ◌<◌, ◌++◌, ◌∷◌, [], cond, All, length, IfOk, OnOk};
-ghost use Rattle.sfc_tables.specs.declared.ids.TransitionId.{TransitionId};
+ghost use Rattle.sfc_base.specs.declared.ids.TransitionId.{TransitionId};
 ghost use Rattle.sfc_tables.specs.Departures.{first_steps, places_of};
 
-use crate::ids::TransitionId;
 use crate::links::Links;
-use sfc_expr::variable::StepId;
+use sfc_base::ids::TransitionId;
+use sfc_base::references::StepId;
 use std::alloc::{AllocError, Global};
 
 // Of each of these transitions the first step before it.
@@ -76,7 +76,7 @@ fn list_places(alloc: Global, firsts: &[usize], step: usize) -> Result<Vec<usize
 impl Departures {
     ghost use Rattle.std.specs.Prelude.{◌≡◌, ◌<◌, All, map, length, slice_index_or, IfOk, []};
     ghost use Rattle.std.specs.List.{range_with_len};
-    ghost use Rattle.sfc_tables.specs.declared.ids.TransitionId.{TransitionId};
+    ghost use Rattle.sfc_base.specs.declared.ids.TransitionId.{TransitionId};
     ghost use Rattle.sfc_tables.specs.Departures.{first_steps, places_of};
 
     /// The places of each of so many steps among these transitions. The one error is that memory was refused.

@@ -1,7 +1,7 @@
 //! What holds of the definitions themselves. Each law is a function with an empty body, whose contract is the law.
 
 ghost use Rattle.std.specs.Prelude.{◌≡◌, ◌↔◌, ℕ, List, Option, true};
-ghost use Rattle.sfc_tables.specs.declared.ids.TransitionId.{TransitionId};
+ghost use Rattle.sfc_base.specs.declared.ids.TransitionId.{TransitionId};
 ghost use Rattle.sfc_tables.specs.Ranks.{IsRankOrder, RanksBefore, rank_order, ranks_before};
 
 /// There is one rank order of the transitions of a chart, and `rank_order` is it (2.6.5).

@@ -2,9 +2,9 @@
 
 ghost use Rattle.std.specs.Prelude.{◌≡◌, ◌+◌, ◌++◌, length, IfOk, OnOk};
 
-use crate::chart::Transition;
-use crate::ids::TransitionId;
-use sfc_expr::variable::StepId;
+use sfc_base::ids::TransitionId;
+use sfc_base::references::StepId;
+use sfc_plant::chart::Transition;
 use std::alloc::{AllocError, Global};
 use std::marker::Model;
 

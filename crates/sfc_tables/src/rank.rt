@@ -3,8 +3,9 @@
 ghost use Rattle.std.specs.Prelude.{◌≡◌, ◌≤◌, length, IfOk};
 ghost use Rattle.sfc_tables.specs.Ranks.{key as rank_key, IsRankOrder, priorities_of};
 
-use crate::chart::Transition;
-use crate::ids::TransitionId;
+use sfc_base::ids::TransitionId;
+use sfc_base::limits::TRANSITIONS;
+use sfc_plant::chart::Transition;
 use std::alloc::{AllocError, Global};
 
 // No priority comes after every priority.
@@ -22,7 +23,7 @@ pub fn rank_order(
     alloc: Global,
     transitions: &[Transition],
 ) -> Result<Vec<TransitionId>, AllocError>
-    requires { length transitions.now ≤ 2048 }
+    requires { length transitions.now ≤ TRANSITIONS }
     ensures { IfOk result (λ ranked. IsRankOrder (priorities_of transitions.now) ranked.items) }
 {
     let mut keyed: Vec<(u64, u16)> = Vec::new(alloc);

@@ -1,8 +1,8 @@
 //! An association of a step with an action, by numbers.
 
-use crate::association::Qualifier;
-use crate::ids::{ActionNumber, AssociationNumber};
-use sfc_expr::variable::StepId;
+use sfc_base::ids::{ActionNumber, AssociationNumber};
+use sfc_base::references::StepId;
+use sfc_plant::association::Qualifier;
 
 /// That a step is associated with an action by a qualifier (2.6.4.3).
 #[derive(Clone, Copy, Debug, PartialEq, Eq)]

@@ -2,8 +2,9 @@
 
 use crate::action_blocks::ActionBlocks;
 use crate::departures::Departures;
-use crate::ids::TransitionId;
 use crate::links::Links;
+use sfc_base::ids::TransitionId;
+use sfc_base::limits::{ASSOCIATIONS, TRANSITIONS};
 use std::marker::Model;
 
 /// What a scan goes through, made of a chart once: nothing that it shows takes memory. Clauses see what it shows.
@@ -44,16 +45,16 @@ impl Model for Tables {
 ghost use Rattle.std.specs.Prelude.{◌≡◌, ◌<◌, ◌≤◌, ◌==◌, ◌-◌, map, filter, length, slice_get, Some, IfOk};
 ghost use Rattle.sfc_flags.specs.Flags.{flag};
 ghost use Rattle.sfc_tables.specs.Actions.{number_of};
-ghost use Rattle.sfc_tables.specs.Chart.{Space, IsChart};
+ghost use Rattle.sfc_plant.specs.Chart.{Counts, IsChart};
 ghost use Rattle.sfc_tables.specs.Departures.{departures};
 ghost use Rattle.sfc_tables.specs.Tables.{sides_at, tables_of, IsTablesOf, AreTables};
 
-use crate::association::Target;
-use crate::chart::{Chart, Step};
-use crate::ids::ActionNumber;
 use crate::rank;
 use crate::step_action::StepAction;
-use sfc_expr::variable::StepId;
+use sfc_base::ids::ActionNumber;
+use sfc_base::references::StepId;
+use sfc_plant::association::Target;
+use sfc_plant::chart::{Chart, Step};
 use std::alloc::{AllocError, Global};
 
 // Which steps are initial.
@@ -66,7 +67,7 @@ fn initial_steps(alloc: Global, steps: &[Step]) -> Result<Vec<bool>, AllocError>
 impl Tables {
     /// The tables of this chart. The one error is that memory was refused.
     pub fn build(alloc: Global, chart: &Chart) -> Result<Tables, AllocError>
-        requires chart { (space : Space) × IsChart space chart.now }
+        requires chart { (counts : Counts) × IsChart counts chart.now }
         ensures relation { IfOk result (λ tables. IsTablesOf chart.now tables) }
         ensures tables { IfOk result (λ tables. tables ≡ tables_of chart.now) }
     {
@@ -95,7 +96,7 @@ impl Tables {
     /// The number of transitions, at most 2,048.
     pub fn transitions(&self) -> usize
         ensures count { result ≡ length self.now.sides }
-        ensures limit { result ≤ 2048 }
+        ensures limit { result ≤ TRANSITIONS }
     {
         self.links.len()
     }
@@ -103,7 +104,7 @@ impl Tables {
     /// The number of associations, at most 4,096.
     pub fn associations(&self) -> usize
         ensures count { result ≡ length self.now.associations }
-        ensures limit { result ≤ 4096 }
+        ensures limit { result ≤ ASSOCIATIONS }
     {
         self.blocks.associations().len()
     }

@@ -3,7 +3,7 @@ use Rattle.std.proofs.Common.{◌≡◌, ℕ, zero, suc, ◌+◌, ◌==◌, arit
 use Rattle.std.proofs.lemmas.Int.{ints}
 use Rattle.std.proofs.lemmas.List.Elements.{All-nil, All-head, All-tail, All-append, All-weaker, All-contains, Contains-append_left, Contains-append_right, Contains-append_cases}
 use Rattle.std.proofs.lemmas.List.Sums.{sum_by-cons}
-use Rattle.sfc_chart.specs.declared.ids.TaskId.{TaskId}
+use Rattle.sfc_base.specs.declared.ids.TaskId.{TaskId}
 use Rattle.sfc_tasks.specs.Multiples.{multiples_between}
 use Rattle.sfc_tasks.specs.Calls.{Call, Elapsed, Rose, Served, single_of, last_instant}
 use Rattle.sfc_tasks.specs.Releases.{released}

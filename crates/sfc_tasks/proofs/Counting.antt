@@ -56,7 +56,7 @@ late_by_scan interval k (stretch ∷ ended) unserved =
     let here : IsUnserved k stretch = All-head (IsUnserved k) stretch ended unserved in
     let older : late_releases interval k before ≡ beyond_firsts interval k ended =
     late_by_scan interval k ended (All-tail (IsUnserved k) stretch ended unserved) in
-    let kept : late_releases interval k (stretch ++ before) ≡ late_releases interval k before = late_kept interval k before stretch here in
+    let agrees : late_releases interval k (stretch ++ before) ≡ late_releases interval k before = late_kept interval k before stretch here in
     let now : beyond_first (waiting interval k (stretch ++ before)) ≡ beyond_first us =
     ap beyond_first (waits_since_scan interval k stretch ended here) in
     let step : late_releases interval k (scan_of k ∷ stretch ++ before)
@@ -64,7 +64,7 @@ late_by_scan interval k (stretch ∷ ended) unserved =
     late_at_scan interval k (stretch ++ before) in
     let total : sum_by beyond_first (us ∷ releases_by_scan interval k ended) ≡ beyond_first us + beyond_firsts interval k ended =
     sum_by-cons beyond_first us (releases_by_scan interval k ended) in
-    omega (arith, older, kept, now, step, total)
+    omega (arith, older, agrees, now, step, total)
 
 pub late_is : (interval : ℤ) (k : ℕ) (calls since : List Call) (ended : List (List Call)) → AreStretches k calls since ended
     → late_releases interval k calls ≡ beyond_firsts interval k ended
@@ -89,10 +89,10 @@ releases_append interval k before [] vs = sym (append-nil (releases_in interval 
 releases_append interval k before (u ∷ us) vs =
     let old : List ℤ = releases_in interval k before vs in
     let new : List ℤ = releases_in interval k (vs ++ before) us in
-    let place : (us ++ vs) ++ before ≡ us ++ (vs ++ before) = append_assoc us vs before in
+    let joined : (us ++ vs) ++ before ≡ us ++ (vs ++ before) = append_assoc us vs before in
     let last : List ℤ = released interval k (last_instant (us ++ (vs ++ before))) u in
     let same : released interval k (last_instant ((us ++ vs) ++ before)) u ≡ last =
-    ap (λ (x : List Call). released interval k (last_instant x) u) place in
+    ap (λ (x : List Call). released interval k (last_instant x) u) joined in
     let rest : releases_in interval k before (us ++ vs) ≡ old ++ new = releases_append interval k before us vs in
     let front : releases_in interval k before (us ++ vs) ++ released interval k (last_instant ((us ++ vs) ++ before)) u
     ≡ (old ++ new) ++ last =

@@ -1,6 +1,6 @@
 pub mod Pasts
 pub mod Firsts
-pub mod Kept
+pub mod Gained
 pub mod MultipleLemmas
 pub mod Picking
 pub mod Rising

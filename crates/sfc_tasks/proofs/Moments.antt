@@ -1,6 +1,6 @@
 -- The stretches of small histories, and the releases of task 0 in them, worked out by hand. Instants in plain numbers.
 use Rattle.std.proofs.Common.{◌≡◌, refl, ℕ, true, false, List, [], ◌∷◌, pos}
-use Rattle.sfc_chart.specs.declared.ids.TaskId.{TaskId}
+use Rattle.sfc_base.specs.declared.ids.TaskId.{TaskId}
 use Rattle.sfc_tasks.specs.Calls.{Call, Elapsed, Rose, Served}
 use Rattle.sfc_tasks.specs.Releases.{waiting, overruns}
 use Rattle.sfc_tasks.specs.Stretches.{with_scans, releases_in, releases_by_scan, beyond_firsts, serving_scans, multiples_in}

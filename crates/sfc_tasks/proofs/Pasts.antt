@@ -5,8 +5,8 @@ use Rattle.std.proofs.Common.{refl, sym, ◌∙◌, ap, ℤ, Option, Some, None}
 use Rattle.std.specs.Prelude.{map, find, option_map}
 use Rattle.std.specs.List.{list_all, range_with_len}
 use Rattle.std.proofs.lemmas.List.{length-append}
-use Rattle.sfc_expr.proofs.ByPlace.{at_place, mapped}
-use Rattle.sfc_chart.specs.declared.task.Task.{Task}
+use Rattle.sfc_base.proofs.ByPlace.{at_place, mapped}
+use Rattle.sfc_plant.specs.declared.task.Task.{Task}
 use Rattle.sfc_tasks.specs.declared.table.TaskTable.{TaskTable}
 use Rattle.sfc_tasks.specs.Calls.{Call, Elapsed, Rose, Served, serves, last_instant}
 use Rattle.sfc_tasks.specs.Releases.{interval_of, released, waiting, first_of, beyond_first, late_releases, capped, overruns, waits_since}

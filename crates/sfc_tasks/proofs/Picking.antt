@@ -5,13 +5,13 @@ use Rattle.std.specs.List.{list_all, range_with_len}
 use Rattle.std.proofs.lemmas.Bool.Decides.{Decides-and, Decides-or, Decides-like, Decides-ltb, Decides-eqb, Decides-int_eq, eqb_tells}
 use Rattle.std.proofs.lemmas.Int.{ints, by_lt_z}
 use Rattle.std.proofs.lemmas.List.FromFn.{get_or-map-range_with_len}
-use Rattle.sfc_chart.specs.declared.ids.TaskId.{TaskId}
-use Rattle.sfc_chart.specs.declared.task.Task.{Task}
-use Rattle.sfc_tasks.specs.declared.place.Place.{Place}
+use Rattle.sfc_base.specs.declared.ids.TaskId.{TaskId}
+use Rattle.sfc_plant.specs.declared.task.Task.{Task}
+use Rattle.sfc_tasks.specs.declared.task_slot.TaskSlot.{TaskSlot}
 use Rattle.sfc_tasks.specs.Calls.{Call}
 use Rattle.sfc_tasks.specs.Releases.{waits_since}
 use Rattle.sfc_tasks.specs.Pick.{Rank, RanksBefore, ranks_before, priority_in, rank_of, is_before_task, is_before_all, goes_first_since, goes_first, picked, IsPicked, NoneWaits}
-use Rattle.sfc_tasks.specs.Private.Keeping.{place_at, empty_place, rank_at, IsFirst, FirstOf}
+use Rattle.sfc_tasks.specs.Private.Keeping.{slot_at, empty_slot, rank_at, IsFirst, FirstOf}
 use Rattle.sfc_tasks.proofs.Firsts.{stays_with, begins, overtakes, stays, one_before}
 
 -- ---- the order as a test
@@ -179,38 +179,38 @@ module _ (tasks : List Task) (calls : List Call) where
 
 -- ---- one goes first, if one waits
 
-some_best : (places : List Place) (i : ℕ) (best : Option ℕ) → FirstOf places i best → (s : ℤ)
-    → (place_at places i).since ≡ Some s → (o : Option ℕ) × FirstOf places (i + 1) o
-some_best places i None h s e = (Some i, begins places i s h e)
-some_best places i (Some k) h s e =
-    elim (below_or_same_or_above (place_at places i).priority (place_at places k).priority)
-    as (λ _. (o : Option ℕ) × FirstOf places (i + 1) o) [
+some_best : (slots : List TaskSlot) (i : ℕ) (best : Option ℕ) → FirstOf slots i best → (s : ℤ)
+    → (slot_at slots i).since ≡ Some s → (o : Option ℕ) × FirstOf slots (i + 1) o
+some_best slots i None h s e = (Some i, begins slots i s h e)
+some_best slots i (Some k) h s e =
+    elim (below_or_same_or_above (slot_at slots i).priority (slot_at slots k).priority)
+    as (λ _. (o : Option ℕ) × FirstOf slots (i + 1) o) [
       | inl lt ↦
-          (Some i, overtakes places i k s h.since h e h.waits (omega (arith, lt), λ same. absurd (omega (arith, lt, same))))
+          (Some i, overtakes slots i k s h.since h e h.waits (omega (arith, lt), λ same. absurd (omega (arith, lt, same))))
       | inr (inr gt) ↦
-          (Some k, stays places i k s h.since h e h.waits (omega (arith, gt), λ same. absurd (omega (arith, gt, same))))
+          (Some k, stays slots i k s h.since h e h.waits (omega (arith, gt), λ same. absurd (omega (arith, gt, same))))
       | inr (inl same) ↦
           by_lt_z s h.since
-          (λ lt. (Some i, overtakes places i k s h.since h e h.waits (omega (arith, same), λ _. lt)))
-          (λ le. (Some k, stays places i k s h.since h e h.waits (omega (arith, same), λ _. le)))
+          (λ lt. (Some i, overtakes slots i k s h.since h e h.waits (omega (arith, same), λ _. lt)))
+          (λ le. (Some k, stays slots i k s h.since h e h.waits (omega (arith, same), λ _. le)))
     ]
 
-next_best : (places : List Place) (i : ℕ) (best : Option ℕ) → FirstOf places i best → (o : Option ℤ)
-    → (place_at places i).since ≡ o → (b : Option ℕ) × FirstOf places (i + 1) b
-next_best places i best h None e = (best, stays_with places i best h e)
-next_best places i best h (Some s) e = some_best places i best h s e
+next_best : (slots : List TaskSlot) (i : ℕ) (best : Option ℕ) → FirstOf slots i best → (o : Option ℤ)
+    → (slot_at slots i).since ≡ o → (b : Option ℕ) × FirstOf slots (i + 1) b
+next_best slots i best h None e = (best, stays_with slots i best h e)
+next_best slots i best h (Some s) e = some_best slots i best h s e
 
--- of the first n of any places, one goes first, or none waits
-best_of : (places : List Place) (n : ℕ) → (best : Option ℕ) × FirstOf places n best
-best_of places zero = (None, λ j lt. absurd (omega (arith, lt)))
-best_of places (suc n) =
-    let h = best_of places n in
+-- of the first n of any slots, one goes first, or none waits
+best_of : (slots : List TaskSlot) (n : ℕ) → (best : Option ℕ) × FirstOf slots n best
+best_of slots zero = (None, λ j lt. absurd (omega (arith, lt)))
+best_of slots (suc n) =
+    let h = best_of slots n in
     let one : n + 1 ≡ suc n = omega arith in
-    subst (λ (m : ℕ). (best : Option ℕ) × FirstOf places m best) one
-    (next_best places n h.0 h.1 (place_at places n).since refl)
+    subst (λ (m : ℕ). (best : Option ℕ) × FirstOf slots m best) one
+    (next_best slots n h.0 h.1 (slot_at slots n).since refl)
 
--- a place with what the calls give task k
-made_of : List Task → List Call → ℕ → Place
+-- a slot with what the calls give task k
+made_of : List Task → List Call → ℕ → TaskSlot
 made_of tasks calls k = record {
   interval = pos 0;
   priority = priority_in (slice_get tasks k);
@@ -220,21 +220,21 @@ made_of tasks calls k = record {
 }
 
 module _ (tasks : List Task) (calls : List Call) where
-  made : List Place
+  made : List TaskSlot
   made = map (made_of tasks calls) (range_with_len 0 (length tasks))
 
-  made_at : (k : ℕ) → k < length tasks → place_at made k ≡ made_of tasks calls k
+  made_at : (k : ℕ) → k < length tasks → slot_at made k ≡ made_of tasks calls k
   unfolding made
   made_at k lt =
-      get_or-map-range_with_len (made_of tasks calls) 0 (length tasks) k k (empty_place (pos 0) 0) lt (omega arith)
+      get_or-map-range_with_len (made_of tasks calls) 0 (length tasks) k k (empty_slot (pos 0) 0) lt (omega arith)
 
-  made_since : (k : ℕ) → k < length tasks → (place_at made k).since ≡ waits_since tasks calls k
+  made_since : (k : ℕ) → k < length tasks → (slot_at made k).since ≡ waits_since tasks calls k
   unfolding made_of
-  made_since k lt = ap (λ (p : Place). p.since) (made_at k lt)
+  made_since k lt = ap (λ (p : TaskSlot). p.since) (made_at k lt)
 
-  made_priority : (k : ℕ) → k < length tasks → (place_at made k).priority ≡ priority_in (slice_get tasks k)
+  made_priority : (k : ℕ) → k < length tasks → (slot_at made k).priority ≡ priority_in (slice_get tasks k)
   unfolding made_of
-  made_priority k lt = ap (λ (p : Place). p.priority) (made_at k lt)
+  made_priority k lt = ap (λ (p : TaskSlot). p.priority) (made_at k lt)
 
   first_made : (k : ℕ) → IsFirst made (length tasks) k → IsPicked tasks calls k
   first_made k h = record {

@@ -4,7 +4,7 @@ use Rattle.std.proofs.Math.Nat.{mul-le-mul_left}
 use Rattle.std.proofs.lemmas.Int.{ints}
 use Rattle.sfc_tasks.specs.Multiples.{multiple, multiples_to, multiples_from, multiples_between}
 use Rattle.sfc_tasks.specs.Meaning.{IsMultipleBetween}
-use Rattle.sfc_tasks.proofs.Kept.{length-multiples_from}
+use Rattle.sfc_tasks.proofs.Gained.{length-multiples_from}
 use Rattle.sfc_tasks.proofs.MultipleLemmas.{counted, released_between, some_interval}
 
 multiple_at : (interval : ℤ) (m n k : ℕ) (d : ℤ) → k < n → slice_index_or (multiples_from interval m n) k d ≡ multiple interval (m + k)

@@ -1,6 +1,6 @@
 -- What a table of tasks is told. A history lists the calls, the newest first.
 use Rattle.std.specs.Prelude.{ℕ, ◌==◌, Bool, false, List, [], ◌∷◌, ℤ, negsuc, slice_index_or}
-use Rattle.sfc_chart.specs.declared.ids.TaskId.{TaskId}
+use Rattle.sfc_base.specs.declared.ids.TaskId.{TaskId}
 
 pub data Call : Type 0 where
   -- time went on to this instant, and of each task, by number, what its SINGLE read since the instant before

@@ -1,11 +1,11 @@
 -- What later answers need of the calls that a table of tasks was told.
 use Rattle.std.specs.Prelude.{ℕ, List, map, length, ℤ, Option}
 use Rattle.std.specs.List.{range_with_len}
-use Rattle.sfc_chart.specs.declared.task.Task.{Task}
+use Rattle.sfc_plant.specs.declared.task.Task.{Task}
 use Rattle.sfc_tasks.specs.declared.table.TaskTable.{TaskTable}
 use Rattle.sfc_tasks.specs.Calls.{Call, last_instant}
 use Rattle.sfc_tasks.specs.Releases.{interval_of, waiting, first_of, beyond_first, capped, overruns}
-use Rattle.sfc_tasks.specs.Private.Keeping.{place_at}
+use Rattle.sfc_tasks.specs.Private.Keeping.{slot_at}
 
 -- of a task: the first release that waits, if one does, how many there are beyond it, and the overruns; counts of 64 bits stay
 -- at their greatest value
@@ -34,7 +34,7 @@ tasks_past tasks calls =
 
 abbrev pub task_in : TaskTable → ℕ → TaskPast
 task_in table k =
-    let place = place_at table.places k in record { since = place.since; more = place.more; overruns = place.overruns }
+    let slot = slot_at table.slots k in record { since = slot.since; more = slot.more; overruns = slot.overruns }
 
 unfoldable pub past_in : List Task → TaskTable → TasksPast
 past_in tasks table = record { last = table.last; each = map (task_in table) (range_with_len 0 (length tasks)) }

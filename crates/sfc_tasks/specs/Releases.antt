@@ -1,7 +1,7 @@
 -- When a task is to be scanned, and how often it was late (2.7.2).
 use Rattle.std.specs.Prelude.{ℕ, ◌+◌, ◌-◌, ◌^◌, ◌==◌, min, cond, List, [], ◌∷◌, ◌++◌, length, ℤ, pos}
 use Rattle.std.specs.Prelude.{Option, Some, None, slice_get}
-use Rattle.sfc_chart.specs.declared.task.Task.{Task}
+use Rattle.sfc_plant.specs.declared.task.Task.{Task}
 use Rattle.sfc_tasks.specs.Multiples.{multiples_between}
 use Rattle.sfc_tasks.specs.Calls.{Call, Elapsed, Rose, Served, single_of, serves, last_instant}
 

@@ -2,8 +2,8 @@
 
 ghost use Rattle.std.specs.Prelude.{◌≡◌, ◌<◌, ◌↔◌, ◌<ℤ◌, ◌≤ℤ◌, ◌+◌, ◌^◌, ℤ, ℕ, pos, List, [], ◌++◌, All, AllPairs, Contains, Some, None};
 ghost use Rattle.std.specs.Prelude.{length, count_by};
-ghost use Rattle.sfc_chart.specs.declared.ids.TaskId.{TaskId};
-ghost use Rattle.sfc_chart.specs.declared.task.Task.{Task};
+ghost use Rattle.sfc_base.specs.declared.ids.TaskId.{TaskId};
+ghost use Rattle.sfc_plant.specs.declared.task.Task.{Task};
 ghost use Rattle.sfc_tasks.specs.declared.table.TaskTable.{TaskTable};
 ghost use Rattle.sfc_tasks.specs.Agreement.{TasksAgree};
 ghost use Rattle.sfc_tasks.specs.Releases.{interval_of, waits_since};

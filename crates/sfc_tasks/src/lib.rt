@@ -3,13 +3,13 @@
 //!
 //! - `laws`: what the definitions mean.
 //! - `multiples`: multiples of an interval, in running form.
-//! - `place`: what is kept for a task.
+//! - `task_slot`: what is kept for a task.
 //! - `ranking`: the order among tasks that wait.
 //! - `table`: the tasks of a resource.
 #![tactic(auto)]
 
 pub mod laws;
 mod multiples;
-mod place;
 mod ranking;
 pub mod table;
+mod task_slot;

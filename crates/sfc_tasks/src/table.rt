@@ -1,83 +1,82 @@
 //! The tasks of a resource, in running form.
 
+ghost use Rattle.sfc_base.specs.declared.limits.TheConstants.{TASKS};
 ghost use Rattle.std.specs.Prelude.{◌≡◌, ◌<◌, ◌≤◌, ◌≤ℤ◌, ◌^◌, pos, ℕ, length, slice_get};
-ghost use Rattle.sfc_expr.specs.Ticks.{Within};
+ghost use Rattle.sfc_base.specs.Ticks.{Within};
 ghost use Rattle.sfc_tasks.specs.Calls.{single_of};
 ghost use Rattle.sfc_tasks.specs.Releases.{interval_of};
 ghost use Rattle.sfc_tasks.specs.Pick.{priority_in};
-ghost use Rattle.sfc_tasks.specs.Private.Keeping.{Gains, elapsed_releases, empty_place, place_at};
+ghost use Rattle.sfc_tasks.specs.Private.Keeping.{Gains, elapsed_releases, empty_slot, slot_at};
 
 use crate::multiples::next_multiple;
-use crate::place::{Place, after_rise, after_scan, after_time, no_place, place_of};
 use crate::ranking::first_of;
-use sfc_chart::ids::TaskId;
-use sfc_chart::plant::Plant;
-use sfc_chart::task::Task;
-use sfc_expr::ticks::Ticks;
-
-/// The most tasks.
-const TASKS: usize = 16;
+use crate::task_slot::{TaskSlot, after_rise, after_scan, after_time, no_slot, slot_of};
+use sfc_base::ids::TaskId;
+use sfc_base::limits::TASKS;
+use sfc_base::ticks::Ticks;
+use sfc_plant::plant::Plant;
+use sfc_plant::task::Task;
 
 /// Of each task whether it waits for a scan and since when, and its overruns.
 #[derive(Drop)]
 pub struct TaskTable {
     count: usize,
     last: i64,
-    places: [Place; TASKS],
-    ghost few: { count ≤ 16 },
+    slots: [TaskSlot; TASKS],
+    ghost few: { count ≤ TASKS },
 }
 
 // Time went on from `last` to t for each of these tasks.
-fn elapse_all(places: &mut [Place], singles: &[bool], last: i64, t: i64, ticks: &mut Ticks)
-    requires len { length singles.now ≤ length places.old }
+fn elapse_all(slots: &mut [TaskSlot], singles: &[bool], last: i64, t: i64, ticks: &mut Ticks)
+    requires len { length singles.now ≤ length slots.old }
     requires low { pos 0 ≤ℤ t }
     requires high { t ≤ℤ pos (2 ^ 62) }
-    ensures len { length places.new ≡ length places.old }
+    ensures len { length slots.new ≡ length slots.old }
     ensures each { (k : ℕ) → k < length singles.now → Gains
-        (elapsed_releases (place_at places.old k).interval last t (single_of singles.now k))
-        (place_at places.old k) (place_at places.new k) }
+        (elapsed_releases (slot_at slots.old k).interval last t (single_of singles.now k))
+        (slot_at slots.old k) (slot_at slots.new k) }
     ensures ticks { Within (length singles.now) ticks.old ticks.new }
 {
     for k in 0..singles.len() {
         ticks.tick();
-        places[k] = after_time(places[k], last, t, singles[k]);
+        slots[k] = after_time(slots[k], last, t, singles[k]);
     }
 }
 
-// A place for each of these tasks.
-fn place_all(places: &mut [Place], tasks: &[Task])
-    requires { length tasks.now ≤ length places.old }
+// A slot for each of these tasks.
+fn fill_slots(slots: &mut [TaskSlot], tasks: &[Task])
+    requires { length tasks.now ≤ length slots.old }
     ensures { (k : ℕ) → k < length tasks.now →
-        place_at places.new k ≡ empty_place (interval_of tasks.now k) (priority_in (slice_get tasks.now k)) }
+        slot_at slots.new k ≡ empty_slot (interval_of tasks.now k) (priority_in (slice_get tasks.now k)) }
 {
     for k in 0..tasks.len() {
-        places[k] = place_of(&tasks[k]);
+        slots[k] = slot_of(&tasks[k]);
     }
 }
 
-#[tactic(auto, unfolding(crate::specs::Agreement::TasksAgree), using(crate::proofs::Tables::elapse_kept, crate::proofs::Tables::rise_kept))]
+#[tactic(auto, unfolding(crate::specs::Agreement::TasksAgree), using(crate::proofs::Tables::elapse_agrees, crate::proofs::Tables::rise_agrees))]
 impl TaskTable {
     ghost use Rattle.std.specs.Prelude.{◌≡◌, ◌<◌, ◌≤ℤ◌, ◌^◌, ◌∷◌, [], List, ℕ, pos, length, is_some};
-    ghost use Rattle.sfc_expr.specs.Ticks.{Within};
-    ghost use Rattle.sfc_chart.specs.declared.task.Task.{Task};
+    ghost use Rattle.sfc_base.specs.Ticks.{Within};
+    ghost use Rattle.sfc_plant.specs.declared.task.Task.{Task};
     ghost use Rattle.sfc_tasks.specs.Multiples.{next_release};
     ghost use Rattle.sfc_tasks.specs.Calls.{Call, Elapsed, Rose, Served, single_of};
     ghost use Rattle.sfc_tasks.specs.Releases.{interval_of, waits_since, overruns};
     ghost use Rattle.sfc_tasks.specs.Pick.{picked};
-    ghost use Rattle.sfc_tasks.specs.Agreement.{TasksAgree, task_places};
+    ghost use Rattle.sfc_tasks.specs.Agreement.{TasksAgree, task_total};
 
     /// The tasks of the plant, none of which was told anything. It takes no memory.
     pub fn new(plant: &Plant) -> TaskTable
-        ensures size { task_places result ≡ length plant.now.tasks }
+        ensures size { task_total result ≡ length plant.now.tasks }
         ensures agrees { TasksAgree plant.now.tasks result [] }
     {
         let tasks = plant.tasks();
-        let mut places = [no_place(); TASKS];
-        place_all(&mut places, tasks);
+        let mut slots = [no_slot(); TASKS];
+        fill_slots(&mut slots, tasks);
         TaskTable {
             count: tasks.len(),
             last: -1,
-            places,
+            slots,
         }
     }
 
@@ -85,30 +84,30 @@ impl TaskTable {
     /// and not after t is a release of the task, but where its SINGLE reads TRUE (2.7.2). `singles` has what the SINGLE of
     /// each task read since the instant before, and FALSE for a task without one.
     pub fn elapse(&mut self, t: i64, singles: &[bool], ticks: &mut Ticks)
-        requires singles { length singles.now ≡ task_places self.old }
+        requires singles { length singles.now ≡ task_total self.old }
         requires low { pos 0 ≤ℤ t }
         requires high { t ≤ℤ pos (2 ^ 62) }
-        ensures size { task_places self.new ≡ task_places self.old }
-        ensures kept { (tasks : List Task) (calls : List Call) → TasksAgree tasks self.old calls →
+        ensures size { task_total self.new ≡ task_total self.old }
+        ensures agrees { (tasks : List Task) (calls : List Call) → TasksAgree tasks self.old calls →
             TasksAgree tasks self.new (Elapsed t singles.now ∷ calls) }
-        ensures ticks { Within (task_places self.old) ticks.old ticks.new }
+        ensures ticks { Within (task_total self.old) ticks.old ticks.new }
     {
-        elapse_all(&mut self.places, singles, self.last, t, ticks);
+        elapse_all(&mut self.slots, singles, self.last, t, ticks);
         self.last = t;
     }
 
     /// What the task's SINGLE reads rose at t, in microseconds: a release of the task, also at the instant of a multiple (2.7.2;
     /// our choice).
     pub fn edge(&mut self, task: TaskId, t: i64, ticks: &mut Ticks)
-        requires { task.0 < task_places self.old }
-        ensures size { task_places self.new ≡ task_places self.old }
-        ensures kept { (tasks : List Task) (calls : List Call) → TasksAgree tasks self.old calls →
+        requires { task.0 < task_total self.old }
+        ensures size { task_total self.new ≡ task_total self.old }
+        ensures agrees { (tasks : List Task) (calls : List Call) → TasksAgree tasks self.old calls →
             TasksAgree tasks self.new (Rose task t ∷ calls) }
         ensures ticks { Within 1 ticks.old ticks.new }
     {
         ticks.tick();
         let k = task.0 as usize;
-        self.places[k] = after_rise(self.places[k], t);
+        self.slots[k] = after_rise(self.slots[k], t);
     }
 
     /// Of the tasks that wait, the one that goes first: that with the lowest priority number, then the one that waits longest,
@@ -116,9 +115,9 @@ impl TaskTable {
     pub fn pick(&self, ticks: &mut Ticks) -> Option<TaskId>
         ensures value { (tasks : List Task) (calls : List Call) → TasksAgree tasks self.now calls →
             result ≡ picked tasks calls }
-        ensures ticks { Within (task_places self.now) ticks.old ticks.new }
+        ensures ticks { Within (task_total self.now) ticks.old ticks.new }
     {
-        match first_of(&self.places, self.count, ticks) {
+        match first_of(&self.slots, self.count, ticks) {
             Some(k) => Some(TaskId(k as u8)),
             None => None,
         }
@@ -127,8 +126,8 @@ impl TaskTable {
     /// The next release of the task by its interval, after t: the least multiple above t. `None` where that is after
     /// 2^62, where the task has no interval, and while its SINGLE reads TRUE (2.7.2). In microseconds.
     pub fn next(&self, task: TaskId, t: i64, singles: &[bool], ticks: &mut Ticks) -> Option<i64>
-        requires task { task.0 < task_places self.now }
-        requires singles { length singles.now ≡ task_places self.now }
+        requires task { task.0 < task_total self.now }
+        requires singles { length singles.now ≡ task_total self.now }
         ensures next { (tasks : List Task) (calls : List Call) → TasksAgree tasks self.now calls →
             result ≡ next_release (interval_of tasks task.0) (single_of singles.now task.0) t }
         ensures ticks { Within 1 ticks.old ticks.new }
@@ -138,49 +137,70 @@ impl TaskTable {
         if singles[k] {
             return None;
         }
-        next_multiple(self.places[k].interval, t)
+        next_multiple(self.slots[k].interval, t)
     }
 
     /// A scan of the task, which serves all its releases that wait; each one beyond the first is an overrun (our
     /// choice).
     pub fn serve(&mut self, task: TaskId, ticks: &mut Ticks)
-        requires { task.0 < task_places self.old }
-        ensures size { task_places self.new ≡ task_places self.old }
-        ensures kept { (tasks : List Task) (calls : List Call) → TasksAgree tasks self.old calls →
+        requires { task.0 < task_total self.old }
+        ensures size { task_total self.new ≡ task_total self.old }
+        ensures agrees { (tasks : List Task) (calls : List Call) → TasksAgree tasks self.old calls →
             TasksAgree tasks self.new (Served task ∷ calls) }
         ensures ticks { Within 1 ticks.old ticks.new }
     {
         ticks.tick();
         let k = task.0 as usize;
-        self.places[k] = after_scan(self.places[k]);
+        self.slots[k] = after_scan(self.slots[k]);
     }
 
     /// Whether a release of the task waits.
-    pub fn waits(&self, task: TaskId) -> bool
-        requires { task.0 < task_places self.now }
-        ensures { (tasks : List Task) (calls : List Call) → TasksAgree tasks self.now calls →
+    pub fn waits(&self, task: TaskId, ticks: &mut Ticks) -> bool
+        requires { task.0 < task_total self.now }
+        ensures value { (tasks : List Task) (calls : List Call) → TasksAgree tasks self.now calls →
             result ≡ is_some (waits_since tasks calls task.0) }
+        ensures ticks { Within 1 ticks.old ticks.new }
     {
-        self.places[task.0 as usize].since.is_some()
+        ticks.tick();
+        self.slots[task.0 as usize].since.is_some()
     }
 
     /// The overruns of the task, up to 2^64 - 1, where the count stays.
-    pub fn overruns(&self, task: TaskId) -> u64
-        requires { task.0 < task_places self.now }
-        ensures { (tasks : List Task) (calls : List Call) → TasksAgree tasks self.now calls →
+    pub fn overruns(&self, task: TaskId, ticks: &mut Ticks) -> u64
+        requires { task.0 < task_total self.now }
+        ensures value { (tasks : List Task) (calls : List Call) → TasksAgree tasks self.now calls →
             result ≡ overruns (interval_of tasks task.0) task.0 calls }
+        ensures ticks { Within 1 ticks.old ticks.new }
     {
-        self.places[task.0 as usize].overruns
+        ticks.tick();
+        self.slots[task.0 as usize].overruns
+    }
+
+    /// The same table once more. It takes no memory.
+    pub fn copy(&self, ticks: &mut Ticks) -> TaskTable
+        ensures size { task_total result ≡ task_total self.now }
+        ensures agrees { (tasks : List Task) (calls : List Call) → TasksAgree tasks self.now calls →
+            TasksAgree tasks result calls }
+        ensures ticks { Within (task_total self.now) ticks.old ticks.new }
+    {
+        ticks.tick_all(self.count);
+        TaskTable {
+            count: self.count,
+            last: self.last,
+            slots: self.slots,
+        }
     }
 
     /// Takes over what the other was told. It takes no memory.
-    pub fn copy_from(&mut self, other: &TaskTable)
-        ensures size { task_places self.new ≡ task_places other.now }
-        ensures kept { (tasks : List Task) (calls : List Call) → TasksAgree tasks other.now calls →
+    pub fn copy_from(&mut self, other: &TaskTable, ticks: &mut Ticks)
+        ensures size { task_total self.new ≡ task_total other.now }
+        ensures agrees { (tasks : List Task) (calls : List Call) → TasksAgree tasks other.now calls →
             TasksAgree tasks self.new calls }
+        ensures ticks { Within (task_total other.now) ticks.old ticks.new }
     {
+        ticks.tick_all(other.count);
         self.count = other.count;
         self.last = other.last;
-        self.places = other.places;
+        self.slots = other.slots;
     }
 }

@@ -75,7 +75,7 @@ ends_joining left level k a ts total h so_far = ends (operators_at level) (Item 
 pub item_smaller : (left level k : ℕ) (tokens rest : List Token) (x : Operator × Tree) → Item left level k (kinds tokens) ≡ Ok (x, kinds rest) → length rest < length tokens
 item_smaller left level k tokens rest x is = smaller (Item left level k) (item_takes left level k) tokens rest x is
 
--- ---- an operator without room, and an operand that stops
+-- ---- an operator without budget, and an operand that stops
 
 turns : (left level k : ℕ) (a : Tree) (ts : Kinds) → begins (operators_at level) ts ≡ true → Joining left level k a ts ≡ Folds join a (Item left level k ts >>= λ x. all (found (operators_at level) (Item left level k)) x.1 >>= λ y. Ok (x.0 ∷ y.0, y.1))
 turns left level k a ts h =
@@ -99,7 +99,7 @@ operand_by (fault.TooDeep at_) n m a further (Err e) le h = tt
 pub operand_stops : (wrong : ParseFault) (n m left level k : ℕ) (a : Tree) (ts : Kinds) (total : Read (Tree × Kinds)) → n ≤ m + (operators a + 1) → begins (operators_at level) ts ≡ true → StopsPair m wrong (Item left level k ts) → Joining left level k a ts ≡ total → Stops n wrong total
 operand_stops wrong n m left level k a ts total le h stops so_far = subst (λ r. Stops n wrong r) (sym (turns left level k a ts h) ∙ so_far) (operand_by wrong n m a (all (found (operators_at level) (Item left level k))) (Item left level k ts) le stops)
 
--- what a function says that has no room
+-- what a function says that has no budget
 pub full_stops : (wrong : ParseFault) (n : ℕ) (r : Read (Tree × Kinds)) → IsTooDeep wrong → Exceeds n r → Stops n wrong r
 full_stops fault.Memory n r h g = tt
 full_stops (fault.Syntax at_) n r h g = absurd h

@@ -1,9 +1,9 @@
 -- Each name, priority and location that a text declares is that of a token.
 use Rattle.std.proofs.Common.{◌≡◌, ℕ, true, false, Bool, List, [], ◌∷◌, ◌++◌, Some, All, subst}
 use Rattle.std.proofs.lemmas.List.Elements.{All-nil, All-cons, All-append}
-use Rattle.sfc_tokens.specs.declared.keyword.Keyword.{Keyword}
-use Rattle.sfc_tokens.specs.declared.keyword.Keyword.TheVariants as keyword
-use Rattle.sfc_tokens.specs.declared.location.Location.{Location}
+use Rattle.sfc_base.specs.declared.keyword.Keyword.{Keyword}
+use Rattle.sfc_base.specs.declared.keyword.Keyword.TheVariants as keyword
+use Rattle.sfc_base.specs.declared.location.Location.{Location}
 use Rattle.sfc_tokens.specs.declared.token.TokenKind.{TokenKind}
 use Rattle.sfc_tokens.specs.declared.token.TokenKind.TheVariants as token
 use Rattle.sfc_tokens.specs.Tokens.{Kinds}
@@ -51,17 +51,17 @@ further_names_declare : (P : TokenKind → Type 0) (limits : Limits) → Gives P
 unfolding grammar.further_names grammar.further_name
 further_names_declare P limits = of_repeated (of_right (name_declares P limits))
 
-place_declares : (P : TokenKind → Type 0) (limits : Limits) → Gives P limits grammar.place (λ p. All (OfName P) p.0 × OfOptional (OfLocation P) p.1)
-unfolding grammar.place
-place_declares P limits = of_either (of_map (of_right (so (location_declares P limits) (λ l h. (All-nil (OfName P), h))))) (of_map (so (further_names_declare P limits) (λ ns h. (h, tt))))
+names_or_location_declares : (P : TokenKind → Type 0) (limits : Limits) → Gives P limits grammar.names_or_location (λ p. All (OfName P) p.0 × OfOptional (OfLocation P) p.1)
+unfolding grammar.names_or_location
+names_or_location_declares P limits = of_either (of_map (of_right (so (location_declares P limits) (λ l h. (All-nil (OfName P), h))))) (of_map (so (further_names_declare P limits) (λ ns h. (h, tt))))
 
 declaration_declares : (P : TokenKind → Type 0) (limits : Limits) → Gives P limits grammar.declaration (OfDeclaration P)
 unfolding grammar.declaration
 declaration_declares P limits =
-    let place = so (place_declares P limits) (λ p h n g. (All-cons (OfName P) n p.0 g h.0, h.1)) in
+    let names_or_location = so (names_or_location_declares P limits) (λ p h n g. (All-cons (OfName P) n p.0 g h.0, h.1)) in
     of_map (of_left (of_both (λ y. All (OfName P) (y.0.0 ∷ y.0.1.0) × OfOptional (OfLocation P) y.0.1.1)
     (of_both (λ y. All (OfName P) (y.0 ∷ y.1.0) × OfOptional (OfLocation P) y.1.1)
-    (of_left (of_both (OfName P) (name_declares P limits) place))
+    (of_left (of_both (OfName P) (name_declares P limits) names_or_location))
     (always (λ t y h. h)))
     (always (λ i y h. record { names = h.0; location = h.1 }))))
 

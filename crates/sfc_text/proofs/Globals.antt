@@ -1,6 +1,6 @@
 -- Blocks of global variables, behind those found.
 use Rattle.std.proofs.Common.{◌≡◌, ◌<◌, List, ◌∷◌, [], Bool, true, false, length, Ok, refl, sym, ap, subst}
-use Rattle.sfc_tokens.specs.declared.keyword.Keyword.TheVariants as keyword
+use Rattle.sfc_base.specs.declared.keyword.Keyword.TheVariants as keyword
 use Rattle.sfc_tokens.specs.declared.token.Token.{Token}
 use Rattle.sfc_tokens.specs.Tokens.{Kinds, kinds}
 use Rattle.sfc_text.specs.declared.parse.fault.ParseFault.{ParseFault}

@@ -4,7 +4,7 @@ use Rattle.std.proofs.lemmas.Bool.{eqb-true}
 use Rattle.sfc_tokens.specs.declared.token.TokenKind.{TokenKind}
 use Rattle.sfc_tokens.specs.declared.token.TokenKind.TheVariants as token
 use Rattle.std.specs.Char.{to_ascii_uppercase}
-use Rattle.sfc_tokens.specs.Case.{same_word}
+use Rattle.sfc_base.specs.Case.{same_word}
 use Rattle.sfc_text.specs.Places.{same_keyword, same_delimiter}
 use Rattle.sfc_tokens.specs.Tokens.{Kinds}
 use Rattle.sfc_text.proofs.Places.{one_keyword, one_delimiter}

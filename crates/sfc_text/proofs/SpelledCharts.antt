@@ -1,9 +1,9 @@
 -- The tokens of a chart's parts derive them.
 use Rattle.std.proofs.Common.{◌≡◌, inl, inr, ℕ, Bool, true, false, List, [], ◌∷◌, ◌++◌, Option, Some, None, flat_map, codes, refl, sym, subst, ◌∙◌, append_assoc}
-use Rattle.sfc_tokens.specs.declared.delimiter.Delimiter.TheVariants as sign
-use Rattle.sfc_tokens.specs.declared.keyword.Keyword.TheVariants as keyword
+use Rattle.sfc_base.specs.declared.delimiter.Delimiter.TheVariants as sign
+use Rattle.sfc_base.specs.declared.keyword.Keyword.TheVariants as keyword
 use Rattle.sfc_tokens.specs.declared.token.TokenKind.TheVariants as token
-use Rattle.sfc_tokens.specs.Case.{same_word}
+use Rattle.sfc_base.specs.Case.{same_word}
 use Rattle.sfc_tokens.specs.Tokens.{Kinds}
 use Rattle.sfc_text.specs.declared.tree.Association.{Association}
 use Rattle.sfc_text.specs.declared.tree.AssociationTime.{AssociationTime}
@@ -11,8 +11,8 @@ use Rattle.sfc_text.specs.declared.tree.AssociationTime.TheVariants as time
 use Rattle.sfc_text.specs.declared.tree.Qualifier.{Qualifier}
 use Rattle.sfc_text.specs.declared.tree.Qualifier.TheVariants as qualifier
 use Rattle.sfc_text.specs.declared.tree.Step.{Step}
-use Rattle.sfc_text.specs.declared.tree.TimedQualifier.{TimedQualifier}
-use Rattle.sfc_text.specs.declared.tree.TimedQualifier.TheVariants as timed
+use Rattle.sfc_base.specs.declared.qualifier.TimedQualifier.{TimedQualifier}
+use Rattle.sfc_base.specs.declared.qualifier.TimedQualifier.TheVariants as timed
 use Rattle.sfc_text.specs.Grammar as grammar
 use Rattle.sfc_text.specs.Limits.{Limits, Within, Derived}
 use Rattle.sfc_text.specs.Lists.{is_empty}

@@ -2,13 +2,13 @@
 use Rattle.std.proofs.Common.{◌≡◌, inl, inr, ℕ, ℤ, pos, negsuc, suc, Bool, true, false, List, [], ◌∷◌, ◌++◌, Option, Some, None, All, if◌then◌else◌, flat_map, codes, refl, sym, subst, ◌∙◌, append_assoc, append-nil, int_eq}
 use Rattle.std.proofs.lemmas.Bool.Decides.{Decides-int_eq}
 use Rattle.std.proofs.lemmas.List.Elements.{All-head, All-tail}
-use Rattle.sfc_tokens.specs.declared.delimiter.Delimiter.TheVariants as sign
-use Rattle.sfc_tokens.specs.declared.keyword.Keyword.TheVariants as keyword
-use Rattle.sfc_tokens.specs.declared.location.Location.{Location}
+use Rattle.sfc_base.specs.declared.delimiter.Delimiter.TheVariants as sign
+use Rattle.sfc_base.specs.declared.keyword.Keyword.TheVariants as keyword
+use Rattle.sfc_base.specs.declared.location.Location.{Location}
 use Rattle.sfc_tokens.specs.declared.token.TokenKind.TheVariants as token
-use Rattle.sfc_tokens.specs.declared.var_type.VarType.{VarType}
-use Rattle.sfc_tokens.specs.declared.var_type.VarType.TheVariants as types
-use Rattle.sfc_tokens.specs.Case.{same_word}
+use Rattle.sfc_base.specs.declared.var_type.VarType.{VarType}
+use Rattle.sfc_base.specs.declared.var_type.VarType.TheVariants as types
+use Rattle.sfc_base.specs.Case.{same_word}
 use Rattle.sfc_tokens.specs.Tokens.{Kinds}
 use Rattle.sfc_text.specs.declared.tree.Configuration.{Configuration}
 use Rattle.sfc_text.specs.declared.tree.Declaration.{Declaration}
@@ -29,7 +29,7 @@ use Rattle.sfc_text.specs.Terms.{word, ◌▸◌, ◌&◌, maybe, else_given, ga
 use Rattle.sfc_text.specs.Trees.{ElementTree, ProgramTree, SourceTree}
 use Rattle.sfc_text.specs.Spelled.{literal_tokens}
 use Rattle.sfc_text.specs.SpelledCharts.{further_tokens, element_tokens, KeepsElement}
-use Rattle.sfc_text.specs.SpelledSources.{names_tokens, place_tokens, type_word, initial_tokens, declaration_tokens, AreDeclared, IsDeclaration, external_tokens, IsExternal, variables_tokens, AreVariables, program_tokens, KeepsProgram, globals_tokens, single_tokens, interval_tokens, task_tokens, with_tokens, instance_tokens, configuration_tokens, IsConfiguration, source_tokens, KeepsSource}
+use Rattle.sfc_text.specs.SpelledSources.{names_tokens, at_tokens, type_word, initial_tokens, declaration_tokens, AreDeclared, IsDeclaration, external_tokens, IsExternal, variables_tokens, AreVariables, program_tokens, KeepsProgram, globals_tokens, single_tokens, interval_tokens, task_tokens, with_tokens, instance_tokens, configuration_tokens, IsConfiguration, source_tokens, KeepsSource}
 use Rattle.sfc_text.proofs.SpelledCharts.{items_derive, further_names_derive, element_derives}
 use Rattle.sfc_text.proofs.SpelledStatements.{three}
 
@@ -63,14 +63,14 @@ value_derives n In (literal.Bool false) rest = inr (token.Keyword keyword.False,
 value_derives n In (literal.Time d) rest = inr (token.Duration d, refl, refl, refl)
 
 -- the last part of a declaration
-declared : (n : ℕ) (In : Inner) (y : List ℕ × make.Place) (t : VarType) (initial : Option Literal) (ts rest : Kinds) → Derives n In (grammar.name & grammar.place) ts y (token.Delimiter sign.Colon ∷ token.Keyword (type_word t) ∷ (initial_tokens initial ++ (token.Delimiter sign.Semicolon ∷ rest))) → Derives n In grammar.declaration ts (make.a_declaration ((y, t), initial)) rest
+declared : (n : ℕ) (In : Inner) (y : List ℕ × make.NamesOrLocation) (t : VarType) (initial : Option Literal) (ts rest : Kinds) → Derives n In (grammar.name & grammar.names_or_location) ts y (token.Delimiter sign.Colon ∷ token.Keyword (type_word t) ∷ (initial_tokens initial ++ (token.Delimiter sign.Semicolon ∷ rest))) → Derives n In grammar.declaration ts (make.a_declaration ((y, t), initial)) rest
 unfolding grammar.declaration
 declared n In y t None ts rest d =
     let colon = token.Delimiter sign.Colon in
     let end = token.Delimiter sign.Semicolon in
     let typed = token.Keyword (type_word t) ∷ end ∷ rest in
-    let front : (List ℕ × make.Place) × VarType = (y, t) in
-    let parts : ((List ℕ × make.Place) × VarType) × Option Literal = (front, None) in
+    let front : (List ℕ × make.NamesOrLocation) × VarType = (y, t) in
+    let parts : ((List ℕ × make.NamesOrLocation) × VarType) × Option Literal = (front, None) in
     (parts, ((parts, tt), (end ∷ rest, (parts, (end ∷ rest, (front, (typed, ((y, tt), (colon ∷ typed, d, (colon, refl, refl, refl)), refl), type_derives n In t (end ∷ rest)), refl), inr (refl, refl)), refl), (end, refl, refl, refl)), refl), refl)
 declared n In y t (Some l) ts rest d =
     let colon = token.Delimiter sign.Colon in
@@ -78,31 +78,31 @@ declared n In y t (Some l) ts rest d =
     let end = token.Delimiter sign.Semicolon in
     let value = literal_tokens l ++ (end ∷ rest) in
     let typed = token.Keyword (type_word t) ∷ assign ∷ value in
-    let front : (List ℕ × make.Place) × VarType = (y, t) in
-    let parts : ((List ℕ × make.Place) × VarType) × Option Literal = (front, Some l) in
+    let front : (List ℕ × make.NamesOrLocation) × VarType = (y, t) in
+    let parts : ((List ℕ × make.NamesOrLocation) × VarType) × Option Literal = (front, Some l) in
     (parts, ((parts, tt), (end ∷ rest, (parts, (assign ∷ value, (front, (typed, ((y, tt), (colon ∷ typed, d, (colon, refl, refl, refl)), refl), type_derives n In t (assign ∷ value)), refl), inl (l, ((tt, l), (value, (assign, refl, refl, refl), value_derives n In l (end ∷ rest)), refl), refl)), refl), (end, refl, refl, refl)), refl), refl)
 
-placed : (n : ℕ) (In : Inner) (names : List (List ℕ)) (location : Option Location) (t : VarType) (initial : Option Literal) (rest : Kinds) → AreDeclared names location → Derives n In grammar.declaration (names_tokens names ++ (place_tokens location ++ (token.Delimiter sign.Colon ∷ token.Keyword (type_word t) ∷ (initial_tokens initial ++ (token.Delimiter sign.Semicolon ∷ rest))))) (record { names = names; location = location; var_type = t; initial = initial }) rest
-unfolding grammar.place
-placed n In [] location t initial rest h = absurd h
-placed n In (one ∷ others) None t initial rest h =
+names_declared : (n : ℕ) (In : Inner) (names : List (List ℕ)) (location : Option Location) (t : VarType) (initial : Option Literal) (rest : Kinds) → AreDeclared names location → Derives n In grammar.declaration (names_tokens names ++ (at_tokens location ++ (token.Delimiter sign.Colon ∷ token.Keyword (type_word t) ∷ (initial_tokens initial ++ (token.Delimiter sign.Semicolon ∷ rest))))) (record { names = names; location = location; var_type = t; initial = initial }) rest
+unfolding grammar.names_or_location
+names_declared n In [] location t initial rest h = absurd h
+names_declared n In (one ∷ others) None t initial rest h =
     let behind = token.Delimiter sign.Colon ∷ token.Keyword (type_word t) ∷ (initial_tokens initial ++ (token.Delimiter sign.Semicolon ∷ rest)) in
     let named = token.Name one in
-    let y : List ℕ × make.Place = (one, (others, None)) in
+    let y : List ℕ × make.NamesOrLocation = (one, (others, None)) in
     declared n In y t initial (named ∷ (further_tokens others ++ behind)) rest (y, (further_tokens others ++ behind, (named, refl, refl, refl), inr (others, further_names_derive n In others behind, refl)), refl)
-placed n In (one ∷ []) (Some l) t initial rest h =
+names_declared n In (one ∷ []) (Some l) t initial rest h =
     let behind = token.Delimiter sign.Colon ∷ token.Keyword (type_word t) ∷ (initial_tokens initial ++ (token.Delimiter sign.Semicolon ∷ rest)) in
     let named = token.Name one in
     let at_ = token.Keyword keyword.At in
-    let place = token.Location l in
-    let y : List ℕ × make.Place = (one, ([], Some l)) in
-    declared n In y t initial (named ∷ at_ ∷ place ∷ behind) rest (y, (at_ ∷ place ∷ behind, (named, refl, refl, refl), inl (l, ((tt, l), (place ∷ behind, (at_, refl, refl, refl), (place, refl, refl, refl)), refl), refl)), refl)
-placed n In (one ∷ two ∷ others) (Some l) t initial rest h = absurd cc
+    let there = token.Location l in
+    let y : List ℕ × make.NamesOrLocation = (one, ([], Some l)) in
+    declared n In y t initial (named ∷ at_ ∷ there ∷ behind) rest (y, (at_ ∷ there ∷ behind, (named, refl, refl, refl), inl (l, ((tt, l), (there ∷ behind, (at_, refl, refl, refl), (there, refl, refl, refl)), refl), refl)), refl)
+names_declared n In (one ∷ two ∷ others) (Some l) t initial rest h = absurd cc
 
 declaration_derives : (n : ℕ) (In : Inner) (d : Declaration) (rest : Kinds) → IsDeclaration d → Derives n In grammar.declaration (declaration_tokens d ++ rest) d rest
 declaration_derives n In d rest h =
-    let same = four (names_tokens d.names) (place_tokens d.location) (token.Delimiter sign.Colon ∷ token.Keyword (type_word d.var_type) ∷ initial_tokens d.initial) (token.Delimiter sign.Semicolon ∷ []) rest in
-    subst (λ us. Derives n In grammar.declaration us d rest) (sym same) (placed n In d.names d.location d.var_type d.initial rest h)
+    let same = four (names_tokens d.names) (at_tokens d.location) (token.Delimiter sign.Colon ∷ token.Keyword (type_word d.var_type) ∷ initial_tokens d.initial) (token.Delimiter sign.Semicolon ∷ []) rest in
+    subst (λ us. Derives n In grammar.declaration us d rest) (sym same) (names_declared n In d.names d.location d.var_type d.initial rest h)
 
 names_derive : (n : ℕ) (In : Inner) (names : List (List ℕ)) (rest : Kinds) → is_empty names ≡ false → Derives n In grammar.names (names_tokens names ++ rest) names rest
 unfolding grammar.names

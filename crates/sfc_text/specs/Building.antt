@@ -1,13 +1,13 @@
 -- What the productions make of their parts.
 use Rattle.std.specs.Prelude.{ℕ, ℤ, pos, neg_ℤ, List, [], ◌∷◌, ◌++◌, Bool, true, false, cond, Option, Some, None, codes}
-use Rattle.sfc_tokens.specs.declared.delimiter.Delimiter.TheVariants as sign
-use Rattle.sfc_tokens.specs.declared.keyword.Keyword.TheVariants as keyword
-use Rattle.sfc_tokens.specs.declared.location.Location.{Location}
+use Rattle.sfc_base.specs.declared.delimiter.Delimiter.TheVariants as sign
+use Rattle.sfc_base.specs.declared.keyword.Keyword.TheVariants as keyword
+use Rattle.sfc_base.specs.declared.location.Location.{Location}
 use Rattle.sfc_tokens.specs.declared.token.TokenKind.{TokenKind}
 use Rattle.sfc_tokens.specs.declared.token.TokenKind.TheVariants as token
-use Rattle.sfc_tokens.specs.declared.var_type.VarType.{VarType}
-use Rattle.sfc_tokens.specs.declared.var_type.VarType.TheVariants as types
-use Rattle.sfc_tokens.specs.Case.{same_word}
+use Rattle.sfc_base.specs.declared.var_type.VarType.{VarType}
+use Rattle.sfc_base.specs.declared.var_type.VarType.TheVariants as types
+use Rattle.sfc_base.specs.Case.{same_word}
 use Rattle.sfc_tokens.specs.Tokens.{Kinds}
 use Rattle.sfc_text.specs.declared.expression.Operator.{Operator}
 use Rattle.sfc_text.specs.declared.expression.Operator.TheVariants as operator
@@ -23,8 +23,8 @@ use Rattle.sfc_text.specs.declared.tree.Qualifier.{Qualifier}
 use Rattle.sfc_text.specs.declared.tree.Qualifier.TheVariants as qualifier
 use Rattle.sfc_text.specs.declared.tree.Step.{Step}
 use Rattle.sfc_text.specs.declared.tree.Task.{Task}
-use Rattle.sfc_text.specs.declared.tree.TimedQualifier.{TimedQualifier}
-use Rattle.sfc_text.specs.declared.tree.TimedQualifier.TheVariants as timed
+use Rattle.sfc_base.specs.declared.qualifier.TimedQualifier.{TimedQualifier}
+use Rattle.sfc_base.specs.declared.qualifier.TimedQualifier.TheVariants as timed
 use Rattle.sfc_text.specs.declared.tree.VariableBlock.{VariableBlock}
 use Rattle.sfc_text.specs.Trees.{Tree, Binary, Block, Nothing, Assign, If, When, Otherwise, append, TransitionTree, ActionTree, ElementTree, ProgramTree, SourceTree}
 use Rattle.sfc_text.specs.Terms.{folded}
@@ -96,16 +96,16 @@ abbrev pub negative : ℕ → Literal
 negative n = literal.Integer (neg_ℤ (pos n))
 
 -- the names behind the first one, and the location
-abbrev pub Place : Type 0
-Place = List (List ℕ) × Option Location
+abbrev pub NamesOrLocation : Type 0
+NamesOrLocation = List (List ℕ) × Option Location
 
-abbrev pub at_location : Location → Place
+abbrev pub at_location : Location → NamesOrLocation
 at_location l = ([], Some l)
 
-abbrev pub with_names : List (List ℕ) → Place
+abbrev pub with_names : List (List ℕ) → NamesOrLocation
 with_names ns = (ns, None)
 
-abbrev pub a_declaration : ((List ℕ × Place) × VarType) × Option Literal → Declaration
+abbrev pub a_declaration : ((List ℕ × NamesOrLocation) × VarType) × Option Literal → Declaration
 a_declaration x = record { names = x.0.0.0 ∷ x.0.0.1.0; location = x.0.0.1.1; var_type = x.0.1; initial = x.1 }
 
 abbrev pub an_external : List (List ℕ) × VarType → External

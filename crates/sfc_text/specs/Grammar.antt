@@ -1,10 +1,10 @@
 -- The grammar (Annex B): all productions, from single tokens up to whole texts.
 use Rattle.std.specs.Prelude.{ℕ, zero, suc, ℤ, pos, List, [], ◌∷◌, Bool, true, false, cond, nat_eq, Option, codes}
-use Rattle.sfc_tokens.specs.declared.delimiter.Delimiter.TheVariants as sign
-use Rattle.sfc_tokens.specs.declared.keyword.Keyword.{Keyword}
-use Rattle.sfc_tokens.specs.declared.keyword.Keyword.TheVariants as keyword
-use Rattle.sfc_tokens.specs.declared.location.Location.{Location}
-use Rattle.sfc_tokens.specs.declared.var_type.VarType.{VarType}
+use Rattle.sfc_base.specs.declared.delimiter.Delimiter.TheVariants as sign
+use Rattle.sfc_base.specs.declared.keyword.Keyword.{Keyword}
+use Rattle.sfc_base.specs.declared.keyword.Keyword.TheVariants as keyword
+use Rattle.sfc_base.specs.declared.location.Location.{Location}
+use Rattle.sfc_base.specs.declared.var_type.VarType.{VarType}
 use Rattle.sfc_text.specs.declared.expression.Operator.{Operator}
 use Rattle.sfc_text.specs.declared.expression.Variable.{Variable}
 use Rattle.sfc_text.specs.declared.tree.Association.{Association}
@@ -19,7 +19,7 @@ use Rattle.sfc_text.specs.declared.tree.Qualifier.{Qualifier}
 use Rattle.sfc_text.specs.declared.tree.Qualifier.TheVariants.{NonStored, Timed}
 use Rattle.sfc_text.specs.declared.tree.Step.{Step}
 use Rattle.sfc_text.specs.declared.tree.Task.{Task}
-use Rattle.sfc_text.specs.declared.tree.TimedQualifier.{TimedQualifier}
+use Rattle.sfc_base.specs.declared.qualifier.TimedQualifier.{TimedQualifier}
 use Rattle.sfc_text.specs.declared.tree.VariableBlock.{VariableBlock}
 use Rattle.sfc_text.specs.declared.tree.VariableBlock.TheVariants as block
 use Rattle.sfc_text.specs.Trees as trees
@@ -164,13 +164,13 @@ unfoldable pub names : Rule (List (List ℕ))
 names = both (λ n ns. n ∷ ns) name further_names
 
 -- AT location | {',' name}
-unfoldable pub place : Rule make.Place
-place = map make.at_location (word keyword.At ▸ location) or map make.with_names further_names
+unfoldable pub names_or_location : Rule make.NamesOrLocation
+names_or_location = map make.at_location (word keyword.At ▸ location) or map make.with_names further_names
 
 -- decl ::= name (AT location | {',' name}) ':' type [':=' init] ';'
 unfoldable pub declaration : Rule Declaration
 declaration = map make.a_declaration
-    (name & place ◂ sign sign.Colon & data_type & maybe (sign sign.Assign ▸ initial_value) ◂ sign sign.Semicolon)
+    (name & names_or_location ◂ sign sign.Colon & data_type & maybe (sign sign.Assign ▸ initial_value) ◂ sign sign.Semicolon)
 
 -- name {',' name} ':' type ';'
 unfoldable pub external : Rule External

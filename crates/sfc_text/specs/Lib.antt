@@ -19,7 +19,7 @@ pub mod Building
 pub mod Grammar
 -- deriving within limits
 pub mod Limits
--- what a whole text is read as
+-- what a text is read as
 pub mod Reads
 -- the tokens of expressions
 pub mod Spelled

@@ -1,10 +1,10 @@
 -- By what the grammar tells tokens apart: the reserved word, the delimiter, the word in its place, or the kind.
 use Rattle.std.specs.Prelude.{ℕ, List, [], ◌∷◌, Bool, true, false, ◌||◌}
-use Rattle.sfc_tokens.specs.declared.keyword.Keyword.{Keyword}
-use Rattle.sfc_tokens.specs.declared.delimiter.Delimiter.{Delimiter}
+use Rattle.sfc_base.specs.declared.keyword.Keyword.{Keyword}
+use Rattle.sfc_base.specs.declared.delimiter.Delimiter.{Delimiter}
 use Rattle.sfc_tokens.specs.declared.token.TokenKind.{TokenKind}
 use Rattle.sfc_tokens.specs.declared.token.TokenKind.TheVariants as token
-use Rattle.sfc_tokens.specs.Case.{same_word}
+use Rattle.sfc_base.specs.Case.{same_word}
 use Rattle.sfc_text.specs.Places.{same_keyword, same_delimiter}
 
 pub data Mark : Type 0 where

@@ -6,3 +6,4 @@ pub mod Depth
 pub mod Counting
 pub mod Takes
 pub mod Views
+pub mod Telling

@@ -1,9 +1,9 @@
 -- Whether two reserved words or two delimiters are one: each has a place in a list.
 use Rattle.std.specs.Prelude.{ℕ, Bool, nat_eq}
-use Rattle.sfc_tokens.specs.declared.keyword.Keyword.{Keyword}
-use Rattle.sfc_tokens.specs.declared.keyword.Keyword.TheVariants as keyword
-use Rattle.sfc_tokens.specs.declared.delimiter.Delimiter.{Delimiter}
-use Rattle.sfc_tokens.specs.declared.delimiter.Delimiter.TheVariants as sign
+use Rattle.sfc_base.specs.declared.keyword.Keyword.{Keyword}
+use Rattle.sfc_base.specs.declared.keyword.Keyword.TheVariants as keyword
+use Rattle.sfc_base.specs.declared.delimiter.Delimiter.{Delimiter}
+use Rattle.sfc_base.specs.declared.delimiter.Delimiter.TheVariants as sign
 
 abbrev pub keyword_place : Keyword → ℕ
 keyword_place keyword.Action = 0

@@ -1,8 +1,8 @@
 -- The tokens that spell the elements of a chart: steps (2.6.2), transitions (2.6.3) and actions (2.6.4).
 use Rattle.std.specs.Prelude.{◌≡◌, ◌≤◌, ℕ, List, [], ◌∷◌, ◌++◌, Bool, true, false, flat_map, Option, Some, None, ⊤, codes}
-use Rattle.sfc_tokens.specs.declared.delimiter.Delimiter.TheVariants as sign
-use Rattle.sfc_tokens.specs.declared.keyword.Keyword.{Keyword}
-use Rattle.sfc_tokens.specs.declared.keyword.Keyword.TheVariants as keyword
+use Rattle.sfc_base.specs.declared.delimiter.Delimiter.TheVariants as sign
+use Rattle.sfc_base.specs.declared.keyword.Keyword.{Keyword}
+use Rattle.sfc_base.specs.declared.keyword.Keyword.TheVariants as keyword
 use Rattle.sfc_tokens.specs.declared.token.TokenKind.TheVariants as token
 use Rattle.sfc_tokens.specs.Tokens.{Kinds}
 use Rattle.sfc_text.specs.declared.tree.Association.{Association}
@@ -11,8 +11,8 @@ use Rattle.sfc_text.specs.declared.tree.AssociationTime.TheVariants as time
 use Rattle.sfc_text.specs.declared.tree.Qualifier.{Qualifier}
 use Rattle.sfc_text.specs.declared.tree.Qualifier.TheVariants as qualifier
 use Rattle.sfc_text.specs.declared.tree.Step.{Step}
-use Rattle.sfc_text.specs.declared.tree.TimedQualifier.{TimedQualifier}
-use Rattle.sfc_text.specs.declared.tree.TimedQualifier.TheVariants as timed
+use Rattle.sfc_base.specs.declared.qualifier.TimedQualifier.{TimedQualifier}
+use Rattle.sfc_base.specs.declared.qualifier.TimedQualifier.TheVariants as timed
 use Rattle.sfc_text.specs.Limits.{Limits}
 use Rattle.sfc_text.specs.Lists.{is_empty}
 use Rattle.sfc_text.specs.Trees.{TransitionTree, ActionTree, ElementTree, AStep, ATransition, AnAction, operators}

@@ -2,13 +2,13 @@
 use Rattle.std.specs.Prelude.{◌≡◌, ℕ, ℤ, pos, List, [], ◌∷◌, ◌++◌, false, flat_map}
 use Rattle.std.specs.Prelude.{Option, Some, None, All, ⊤, codes, if◌then◌else◌}
 use Rattle.std.specs.Ordering.{int_eq}
-use Rattle.sfc_tokens.specs.declared.delimiter.Delimiter.TheVariants as sign
-use Rattle.sfc_tokens.specs.declared.keyword.Keyword.{Keyword}
-use Rattle.sfc_tokens.specs.declared.keyword.Keyword.TheVariants as keyword
-use Rattle.sfc_tokens.specs.declared.location.Location.{Location}
+use Rattle.sfc_base.specs.declared.delimiter.Delimiter.TheVariants as sign
+use Rattle.sfc_base.specs.declared.keyword.Keyword.{Keyword}
+use Rattle.sfc_base.specs.declared.keyword.Keyword.TheVariants as keyword
+use Rattle.sfc_base.specs.declared.location.Location.{Location}
 use Rattle.sfc_tokens.specs.declared.token.TokenKind.TheVariants as token
-use Rattle.sfc_tokens.specs.declared.var_type.VarType.{VarType}
-use Rattle.sfc_tokens.specs.declared.var_type.VarType.TheVariants as types
+use Rattle.sfc_base.specs.declared.var_type.VarType.{VarType}
+use Rattle.sfc_base.specs.declared.var_type.VarType.TheVariants as types
 use Rattle.sfc_tokens.specs.Tokens.{Kinds}
 use Rattle.sfc_text.specs.declared.tree.Configuration.{Configuration}
 use Rattle.sfc_text.specs.declared.tree.Declaration.{Declaration}
@@ -31,9 +31,9 @@ abbrev pub names_tokens : List (List ℕ) → Kinds
 names_tokens [] = []
 names_tokens (one ∷ others) = token.Name one ∷ further_tokens others
 
-abbrev pub place_tokens : Option Location → Kinds
-place_tokens None = []
-place_tokens (Some l) = token.Keyword keyword.At ∷ token.Location l ∷ []
+abbrev pub at_tokens : Option Location → Kinds
+at_tokens None = []
+at_tokens (Some l) = token.Keyword keyword.At ∷ token.Location l ∷ []
 
 abbrev pub type_word : VarType → Keyword
 type_word types.Bool = keyword.Bool
@@ -47,7 +47,7 @@ initial_tokens (Some l) = token.Delimiter sign.Assign ∷ literal_tokens l
 
 abbrev pub declaration_tokens : Declaration → Kinds
 declaration_tokens d =
-    names_tokens d.names ++ place_tokens d.location
+    names_tokens d.names ++ at_tokens d.location
     ++ (token.Delimiter sign.Colon ∷ token.Keyword (type_word d.var_type) ∷ initial_tokens d.initial)
     ++ (token.Delimiter sign.Semicolon ∷ [])
 

@@ -1,8 +1,8 @@
 -- The tokens that spell statements (3.3.2).
 use Rattle.std.specs.Prelude.{◌≡◌, ℕ, suc, max, [], ◌∷◌, ◌++◌, ⊤}
-use Rattle.sfc_tokens.specs.declared.delimiter.Delimiter.TheVariants as sign
-use Rattle.sfc_tokens.specs.declared.keyword.Keyword.{Keyword}
-use Rattle.sfc_tokens.specs.declared.keyword.Keyword.TheVariants as keyword
+use Rattle.sfc_base.specs.declared.delimiter.Delimiter.TheVariants as sign
+use Rattle.sfc_base.specs.declared.keyword.Keyword.{Keyword}
+use Rattle.sfc_base.specs.declared.keyword.Keyword.TheVariants as keyword
 use Rattle.sfc_tokens.specs.declared.token.TokenKind.TheVariants as token
 use Rattle.sfc_tokens.specs.Tokens.{Kinds}
 use Rattle.sfc_text.specs.Trees.{Block, Nothing, Assign, If, When, Otherwise, operators}

@@ -1,7 +1,7 @@
 -- The words in which the productions are written.
 use Rattle.std.specs.Prelude.{ℕ, List, [], ◌∷◌, ◌++◌, Option, Some, None}
-use Rattle.sfc_tokens.specs.declared.delimiter.Delimiter.{Delimiter}
-use Rattle.sfc_tokens.specs.declared.keyword.Keyword.{Keyword}
+use Rattle.sfc_base.specs.declared.delimiter.Delimiter.{Delimiter}
+use Rattle.sfc_base.specs.declared.keyword.Keyword.{Keyword}
 use Rattle.sfc_text.specs.Marks.{Word, Sign, Named}
 use Rattle.sfc_text.specs.Rules as rules
 use Rattle.sfc_text.specs.Rules.{Rule, map, both, either, many, nothing}

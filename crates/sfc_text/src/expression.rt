@@ -1,7 +1,7 @@
 //! Expressions (3.3.1).
 
 use crate::tree::Literal;
-use sfc_tokens::name::Name;
+use sfc_base::name::Name;
 
 /// A name, with what stands behind its dot: a variable, or what a step or an action has (2.6.2, 2.6.4.5).
 #[derive(Debug)]

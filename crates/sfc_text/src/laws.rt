@@ -9,7 +9,7 @@ ghost use Rattle.sfc_text.specs.Declares.{OfSource};
 ghost use Rattle.sfc_text.specs.Grammar.{action, body, configuration, element, expression, program, source, step, transition};
 ghost use Rattle.sfc_text.specs.Limits.{Derived, Limits};
 ghost use Rattle.sfc_text.specs.Parsing.Lookahead.{fine};
-ghost use Rattle.sfc_text.specs.Reads.{AreOne, IsSource, TextReads};
+ghost use Rattle.sfc_text.specs.Reads.{AreOne, ExpressionReads, IsExpression, IsSource, TextReads};
 ghost use Rattle.sfc_text.specs.Spelled.{nesting, tree_tokens};
 ghost use Rattle.sfc_text.specs.SpelledCharts.{action_tokens, element_tokens, step_tokens, step_word, transition_tokens};
 ghost use Rattle.sfc_text.specs.SpelledCharts.{KeepsAction, KeepsElement, KeepsTransition};
@@ -31,6 +31,22 @@ pub fn one_reading()
 /// Each text has an outcome.
 pub fn some_reading()
     ensures { (text : List ℕ) → (r : Read SourceTree) × TextReads text r }
+{}
+
+/// Tokens are one expression at most, whatever the limits.
+pub fn one_expression()
+    ensures { (l m : Limits) (ts : Kinds) (s t : Tree) → IsExpression l ts s → IsExpression m ts t → s ≡ t }
+{}
+
+/// A text has one outcome as an expression, but that either of two refusals may be told where its tokens are none
+/// whatever the limits.
+pub fn one_expression_reading()
+    ensures { (text : List ℕ) (r s : Read Tree) → ExpressionReads text r → ExpressionReads text s → AreOne r s }
+{}
+
+/// Each text has an outcome as an expression.
+pub fn some_expression_reading()
+    ensures { (text : List ℕ) → (r : Read Tree) × ExpressionReads text r }
 {}
 
 /// The tokens of an expression derive it, whatever stands behind them.

@@ -4,7 +4,7 @@
 //! - `expression`, `statement`: the trees of expressions and of statements.
 //! - `laws`: what holds of the grammar itself.
 //! - `parse`: tokens to trees.
-//! - `read`: a whole text to its tree.
+//! - `read`: a whole text to its tree; `read_expr`: a text that is one expression to its tree.
 //! - `tree`: the trees of charts and configurations.
 #![tactic(auto)]
 
@@ -12,9 +12,10 @@ pub mod expression;
 pub mod laws;
 mod parse;
 pub mod read;
+pub mod read_expr;
 pub mod statement;
 pub mod tree;
 
+pub use sfc_base::time_text::put_time;
+pub use sfc_tokens::lex::tokens;
 pub use sfc_tokens::read_error::{ReadError, ReadErrorKind};
-pub use sfc_tokens::scan::tokens;
-pub use sfc_tokens::time_text::put_time;

@@ -1,14 +1,16 @@
 //! Texts to trees.
 
+ghost use Rattle.std.specs.Prelude.{◌≡◌};
 ghost use Rattle.sfc_tokens.specs.Texts.{Finds};
+ghost use Rattle.sfc_text.specs.Parsing.Telling.{kind_of};
 ghost use Rattle.sfc_text.specs.Reads.{TextReads};
 ghost use Rattle.sfc_text.specs.Trees.{source_of};
 
 use crate::parse::fault::ParseFault;
 use crate::parse::source::whole_source;
 use crate::tree::Source;
+use sfc_tokens::lex::{last_line, tokens};
 use sfc_tokens::read_error::{OUT_OF_MEMORY, ReadError, ReadErrorKind};
-use sfc_tokens::scan::{last_line, tokens};
 use sfc_tokens::token::Token;
 use std::alloc::Global;
 
@@ -18,6 +20,23 @@ fn line_at(text: &[u8], tokens: &[Token], left: usize) -> u32 {
     match index.and_then(|index| tokens.get(index)) {
         Some(token) => token.line,
         None => last_line(text),
+    }
+}
+
+/// Why a text is refused whose tokens the parser refuses, with the line.
+pub(crate) fn refusal(text: &[u8], tokens: &[Token], fault: ParseFault) -> ReadError
+    ensures { result.kind ≡ kind_of fault }
+{
+    match fault {
+        ParseFault::Memory => OUT_OF_MEMORY,
+        ParseFault::Syntax { left } => ReadError {
+            kind: ReadErrorKind::Syntax,
+            line: line_at(text, tokens, left),
+        },
+        ParseFault::TooDeep { left } => ReadError {
+            kind: ReadErrorKind::TooDeep,
+            line: line_at(text, tokens, left),
+        },
     }
 }
 
@@ -34,14 +53,6 @@ pub fn read(alloc: Global, text: &[u8]) -> Result<Source, ReadError>
     let tokens = tokens(alloc, text)?;
     match whole_source(alloc, tokens.as_slice()) {
         Ok(source) => Ok(source),
-        Err(ParseFault::Memory) => Err(OUT_OF_MEMORY),
-        Err(ParseFault::Syntax { left }) => Err(ReadError {
-            kind: ReadErrorKind::Syntax,
-            line: line_at(text, tokens.as_slice(), left),
-        }),
-        Err(ParseFault::TooDeep { left }) => Err(ReadError {
-            kind: ReadErrorKind::TooDeep,
-            line: line_at(text, tokens.as_slice(), left),
-        }),
+        Err(fault) => Err(refusal(text, tokens.as_slice(), fault)),
     }
 }

@@ -6,11 +6,12 @@ ghost use Rattle.sfc_text.specs.Lists.{is_empty};
 
 use crate::expression::Expression;
 use crate::statement::Statement;
-use sfc_tokens::items::Items;
-use sfc_tokens::location::Location;
-use sfc_tokens::name::Name;
-use sfc_tokens::time_value::TimeValue;
-use sfc_tokens::var_type::VarType;
+use sfc_base::items::Items;
+use sfc_base::location::Location;
+use sfc_base::name::Name;
+use sfc_base::qualifier::TimedQualifier;
+use sfc_base::time_value::TimeValue;
+use sfc_base::var_type::VarType;
 
 /// A whole text: program types, and one configuration among them.
 #[derive(Debug)]
@@ -144,21 +145,6 @@ impl Drop for Qualifier {
             Qualifier::Timed(_, _) => {}
         }
     }
-}
-
-/// The qualifiers with a time (2.6.4.4).
-#[derive(Clone, Copy, Debug, PartialEq, Eq)]
-pub enum TimedQualifier {
-    /// L, time limited.
-    Limited,
-    /// D, time delayed.
-    Delayed,
-    /// SD, stored and time delayed.
-    StoredDelayed,
-    /// DS, delayed and stored.
-    DelayedStored,
-    /// SL, stored and time limited.
-    StoredLimited,
 }
 
 /// The time of an association: written there, or the value of a variable.

@@ -1,13 +1,9 @@
 -- Flip-flop, on-delay and edge (2.5.2.3). A history lists the calls of a block, the newest first.
-use Rattle.std.specs.Prelude.{Bool, true, false, cond, not, List, [], ◌∷◌, ℤ, ◌-ℤ◌, int_le}
+use Rattle.std.specs.Prelude.{Bool, true, false, not, List, [], ◌∷◌, ℤ, ◌-ℤ◌, int_le}
 use Rattle.std.specs.List.{list_any}
 use Rattle.sfc_timers.specs.declared.edge.Change.{Change}
 use Rattle.sfc_timers.specs.declared.edge.Change.TheVariants.{Rise, Fall, Same}
-
--- the calls from the newest on, for as long as they pass
-abbrev pub leading : {A : Type 0} → (A → Bool) → List A → List A
-leading p [] = []
-leading p (x ∷ xs) = cond (p x) (x ∷ leading p xs) []
+use Rattle.sfc_base.specs.Leading.{leading}
 
 -- ---- flip-flop (2.5.2.3.1)
 

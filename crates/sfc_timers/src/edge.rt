@@ -1,6 +1,6 @@
 //! Rising and falling edges (2.5.2.3.2).
 
-use sfc_expr::ticks::Ticks;
+use sfc_base::ticks::Ticks;
 
 /// How an input changed from the call before.
 #[derive(Clone, Copy, Debug, PartialEq, Eq)]
@@ -20,7 +20,7 @@ pub struct Edge {
 #[tactic(auto, unfolding(crate::specs::Agreement::EdgeAgrees))]
 impl Edge {
     ghost use Rattle.std.specs.Prelude.{◌≡◌, Bool, List, [], ◌∷◌};
-    ghost use Rattle.sfc_expr.specs.Ticks.{Within};
+    ghost use Rattle.sfc_base.specs.Ticks.{Within};
     ghost use Rattle.sfc_timers.specs.Timers.{newest_input, change_between};
     ghost use Rattle.sfc_timers.specs.Agreement.{EdgeAgrees};
 
@@ -33,7 +33,7 @@ impl Edge {
 
     /// Takes the input of one more call, and answers how it changed.
     pub fn step(&mut self, input: bool, ticks: &mut Ticks) -> Change
-        ensures kept { (h : List Bool) → EdgeAgrees self.old h → EdgeAgrees self.new (input ∷ h) }
+        ensures agrees { (h : List Bool) → EdgeAgrees self.old h → EdgeAgrees self.new (input ∷ h) }
         ensures answer { (h : List Bool) → EdgeAgrees self.old h → result ≡ change_between (newest_input h) input }
         ensures ticks { Within 1 ticks.old ticks.new }
     {

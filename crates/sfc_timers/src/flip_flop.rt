@@ -1,6 +1,6 @@
 //! Flip-flops (2.5.2.3.1).
 
-use sfc_expr::ticks::Ticks;
+use sfc_base::ticks::Ticks;
 
 /// Is on once S was TRUE, until R is TRUE. R wins where both are: it is reset-dominant.
 #[derive(Drop)]
@@ -11,7 +11,7 @@ pub struct FlipFlop {
 #[tactic(auto, unfolding(crate::specs::Agreement::FlipFlopAgrees))]
 impl FlipFlop {
     ghost use Rattle.std.specs.Prelude.{◌≡◌, List, [], ◌∷◌};
-    ghost use Rattle.sfc_expr.specs.Ticks.{Within};
+    ghost use Rattle.sfc_base.specs.Ticks.{Within};
     ghost use Rattle.sfc_timers.specs.Timers.{Bistable, is_on};
     ghost use Rattle.sfc_timers.specs.Agreement.{FlipFlopAgrees};
 
@@ -24,7 +24,7 @@ impl FlipFlop {
 
     /// Takes S and R of one more call, and answers whether it is on.
     pub fn step(&mut self, s: bool, r: bool, ticks: &mut Ticks) -> bool
-        ensures kept { (h : List Bistable) → FlipFlopAgrees self.old h → FlipFlopAgrees self.new ((s, r) ∷ h) }
+        ensures agrees { (h : List Bistable) → FlipFlopAgrees self.old h → FlipFlopAgrees self.new ((s, r) ∷ h) }
         ensures answer { (h : List Bistable) → FlipFlopAgrees self.old h → result ≡ is_on ((s, r) ∷ h) }
         ensures ticks { Within 1 ticks.old ticks.new }
     {

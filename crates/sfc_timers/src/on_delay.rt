@@ -2,7 +2,7 @@
 
 ghost use Rattle.std.specs.Prelude.{◌≡◌, ◌^◌, ◌-ℤ◌, pos, ◌≤ℤ◌, int_le};
 
-use sfc_expr::ticks::Ticks;
+use sfc_base::ticks::Ticks;
 
 /// Is on when its input has been TRUE for the time PT that it took as the input rose. A PT of 0 or less ends at once
 /// (our choice), and a change of PT while the input is TRUE has no effect (our choice).
@@ -18,7 +18,7 @@ pub struct OnDelay {
 #[tactic(auto, unfolding(crate::specs::Agreement::OnDelayAgrees))]
 impl OnDelay {
     ghost use Rattle.std.specs.Prelude.{◌≡◌, ◌^◌, List, [], ◌∷◌, pos, ◌≤ℤ◌};
-    ghost use Rattle.sfc_expr.specs.Ticks.{Within};
+    ghost use Rattle.sfc_base.specs.Ticks.{Within};
     ghost use Rattle.sfc_timers.specs.Timers.{Reading, has_elapsed};
     ghost use Rattle.sfc_timers.specs.Agreement.{OnDelayAgrees};
 
@@ -38,7 +38,7 @@ impl OnDelay {
     pub fn step(&mut self, input: bool, pt: i64, t: i64, ticks: &mut Ticks) -> bool
         requires low { pos 0 ≤ℤ t }
         requires high { t ≤ℤ pos (2 ^ 62) }
-        ensures kept { (h : List Reading) → OnDelayAgrees self.old h → OnDelayAgrees self.new ((input, pt, t) ∷ h) }
+        ensures agrees { (h : List Reading) → OnDelayAgrees self.old h → OnDelayAgrees self.new ((input, pt, t) ∷ h) }
         ensures answer { (h : List Reading) → OnDelayAgrees self.old h → result ≡ has_elapsed ((input, pt, t) ∷ h) }
         ensures ticks { Within 1 ticks.old ticks.new }
     {

@@ -1,7 +1,7 @@
 -- The loop over the numbers of a location.
 use Rattle.std.proofs.Common.{◌≡◌, ℕ, suc, List, [], ◌∷◌, ◌++◌, length, Option, Some, None, refl, sym, ap, ◌∙◌, arith, append_assoc}
-use Rattle.sfc_tokens.specs.Scanning.Integers.{◌>>=◌}
-use Rattle.sfc_tokens.specs.Scanning.Locations.{numbers, number_at, pointed, with_front}
+use Rattle.sfc_tokens.specs.Lexing.Integers.{◌>>=◌}
+use Rattle.sfc_tokens.specs.Lexing.Locations.{numbers, number_at, pointed, with_front}
 
 one_turn : (left k n : ℕ) (rest behind : List ℕ) → left ≡ suc k → number_at rest ≡ Some (n, behind) → numbers left rest ≡ pointed n behind (numbers k)
 unfolding numbers

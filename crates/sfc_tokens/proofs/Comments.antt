@@ -2,7 +2,7 @@
 use Rattle.std.proofs.Common.{◌≡◌, ℕ, Bool, true, false, cond, eqb, ◌&&◌, List, [], ◌∷◌, ◌++◌, Some, None, refl, ap, subst}
 use Rattle.std.proofs.lemmas.Bool.{eqb-true}
 use Rattle.sfc_tokens.specs.Lexemes.{NoClose, NoBrace}
-use Rattle.sfc_tokens.specs.Scanning.Tokens.{after_comment, after_pragma}
+use Rattle.sfc_tokens.specs.Lexing.Tokens.{after_comment, after_pragma}
 
 -- ---- comments
 

@@ -3,16 +3,16 @@ use Rattle.std.proofs.Common.{◌≡◌, ℕ, ◌+◌, ◌-◌, ◌*◌, ◌^◌
 use Rattle.std.proofs.lemmas.Bool.{eqb-true, leb-true}
 use Rattle.std.proofs.lemmas.Bool.Decides.{nat_tests}
 use Rattle.std.proofs.Math.Nat.{mul-le-mul_left}
-use Rattle.sfc_tokens.specs.declared.class.Class.TheVariants as class
-use Rattle.sfc_tokens.specs.declared.run.Alphabet.TheVariants.{Figures}
-use Rattle.sfc_tokens.specs.Classes.{between, class_of}
-use Rattle.sfc_tokens.specs.Runs.{is_in, has, AllIn}
-use Rattle.sfc_tokens.specs.Numbers as numbers
-use Rattle.sfc_tokens.specs.Numbers.{below, digit_of, Digits, IsInteger, IsBased}
-use Rattle.sfc_tokens.specs.Scanning.Integers.{◌>>=◌, at_most, one_more, digits, integer, after, or_else, with_base, base_at}
+use Rattle.sfc_base.specs.declared.class.Class.TheVariants as class
+use Rattle.sfc_base.specs.declared.run.Alphabet.TheVariants.{Figures}
+use Rattle.sfc_base.specs.Classes.{between, class_of}
+use Rattle.sfc_base.specs.Runs.{is_in, has, AllIn}
+use Rattle.sfc_base.specs.Numbers as numbers
+use Rattle.sfc_base.specs.Numbers.{below, digit_of, Digits, IsInteger, IsBased}
+use Rattle.sfc_tokens.specs.Lexing.Integers.{◌>>=◌, at_most, one_more, digits, integer, after, or_else, with_base, base_at}
 use Rattle.sfc_tokens.specs.Literals as literals
 use Rattle.sfc_tokens.specs.Literals.{Magnitude}
-use Rattle.sfc_tokens.specs.Scanning.Literals.{limit, magnitude_at, magnitude}
+use Rattle.sfc_tokens.specs.Lexing.Literals.{limit, magnitude_at, magnitude}
 
 pub bind_some : {A B : Type 0} (o : Option A) (f : A → Option B) (y : B) → (o >>= f) ≡ Some y → (x : A) × (o ≡ Some x) × (f x ≡ Some y)
 bind_some None f y e = absurd cc

@@ -3,28 +3,28 @@ use Rattle.std.proofs.Common.{◌≡◌, ℕ, ℤ, ◌≤◌, Bool, true, false,
 use Rattle.std.proofs.lemmas.Bool.{eqb-true, ne_eqb}
 use Rattle.std.proofs.lemmas.Bool.Decides.{nat_tests}
 use Rattle.std.proofs.lemmas.List.{append-nil}
-use Rattle.sfc_tokens.specs.declared.class.Class.TheVariants as class
-use Rattle.sfc_tokens.specs.declared.run.Alphabet.TheVariants as alphabet
+use Rattle.sfc_base.specs.declared.class.Class.TheVariants as class
+use Rattle.sfc_base.specs.declared.run.Alphabet.TheVariants as alphabet
 use Rattle.sfc_tokens.specs.declared.literal.LiteralKind.{LiteralKind}
 use Rattle.sfc_tokens.specs.declared.literal.LiteralKind.TheVariants as kind
 use Rattle.sfc_tokens.specs.declared.token.TokenKind.TheVariants as token
-use Rattle.sfc_tokens.specs.Classes.{between, class_of}
+use Rattle.sfc_base.specs.Classes.{between, class_of}
 use Rattle.std.specs.Char.{to_ascii_uppercase}
-use Rattle.sfc_tokens.specs.Case.{same_word}
-use Rattle.sfc_tokens.specs.Runs.{is_in, has, AllIn, Ends, IsRun}
-use Rattle.sfc_tokens.specs.Scanning.Runs.{run}
-use Rattle.sfc_tokens.specs.Durations as durations
-use Rattle.sfc_tokens.specs.Durations.{units, IsUnit, Interval, IsInterval}
-use Rattle.sfc_tokens.specs.Scanning.Durations.{interval}
+use Rattle.sfc_base.specs.Case.{same_word}
+use Rattle.sfc_base.specs.Runs.{is_in, has, AllIn, Ends, IsRun}
+use Rattle.sfc_base.specs.Private.Runs.{run}
+use Rattle.sfc_base.specs.Durations as durations
+use Rattle.sfc_base.specs.Durations.{units, IsUnit, Interval, IsInterval}
+use Rattle.sfc_tokens.specs.Lexing.Durations.{interval}
 use Rattle.sfc_tokens.specs.Literals as literals
 use Rattle.sfc_tokens.specs.Literals.{kind_of_prefix, signed, IsLiteral}
 use Rattle.std.specs.Option.{option_map}
-use Rattle.sfc_tokens.specs.Scanning.DurationWords.{parts_value, signed_value, value_behind, value_after, duration_value}
+use Rattle.sfc_tokens.specs.Lexing.DurationWords.{parts_value, signed_value, value_behind, value_after, duration_value}
 use Rattle.sfc_tokens.specs.Lexemes as lexemes
-use Rattle.sfc_tokens.specs.Names.{StartsWord}
-use Rattle.sfc_tokens.specs.Lexemes.{Prefix, minus, is_minus, Body, Piece, Scans, IsDuration}
+use Rattle.sfc_base.specs.Names.{StartsWord}
+use Rattle.sfc_tokens.specs.Lexemes.{Prefix, minus, is_minus, Body, Piece, Lexes, IsDuration}
 use Rattle.sfc_tokens.proofs.Digits.{figures, sharp_class, underscore_class}
-use Rattle.sfc_tokens.proofs.Runs.{run_cuts, run_again, wider}
+use Rattle.sfc_base.proofs.Runs.{run_cuts, run_again, wider}
 use Rattle.sfc_tokens.proofs.Parts.{Begins, interval_sound, interval_begins, tenths_figures, dot_class}
 use Rattle.sfc_tokens.proofs.WholeIntervals.{duration_again}
 
@@ -171,7 +171,7 @@ pub answer : (w : List ℕ) (o : Option ℤ) → o ≡ duration_value w → Matc
 answer w None e = λ z i. let f = word_again i in cc
 answer w (Some z) e = word_sound w z (sym e)
 
--- ---- it is scanned as one token
+-- ---- it is lexed as one token
 
 pub append_in : (a : _) (w v : List ℕ) → AllIn a w → AllIn a v → AllIn a (w ++ v)
 append_in a [] v h g = g
@@ -216,8 +216,8 @@ duration_piece front negative w v rest e i ends =
 pub duration_before : (w : List ℕ) (z : ℤ) (rest : List ℕ) → IsDuration w z → Ends alphabet.Interval rest → Piece w rest (Some (token.Duration z))
 duration_before w z rest (lexemes.duration front negative u v e i) ends = duration_piece front negative u v rest e i ends
 
-one_token : (w : List ℕ) (t : _) → Piece w [] (Some t) → Scans w (Ok (t ∷ []))
-one_token w t p = subst (λ (x : List ℕ). Scans x (Ok (t ∷ []))) (append-nil w) (lexemes.one p lexemes.ended)
+one_token : (w : List ℕ) (t : _) → Piece w [] (Some t) → Lexes w (Ok (t ∷ []))
+one_token w t p = subst (λ (x : List ℕ). Lexes x (Ok (t ∷ []))) (append-nil w) (lexemes.one p lexemes.ended)
 
-pub duration_scans : (w : List ℕ) (z : ℤ) → IsDuration w z → Scans w (Ok (token.Duration z ∷ []))
-duration_scans w z d = one_token w (token.Duration z) (duration_before w z [] d tt)
+pub duration_lexes : (w : List ℕ) (z : ℤ) → IsDuration w z → Lexes w (Ok (token.Duration z ∷ []))
+duration_lexes w z d = one_token w (token.Duration z) (duration_before w z [] d tt)

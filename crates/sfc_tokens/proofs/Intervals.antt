@@ -1,10 +1,10 @@
 -- Durations are what their parts say.
 use Rattle.std.proofs.Common.{◌≡◌, ℕ, ◌+◌, ◌*◌, ◌/◌, ◌%◌, Bool, true, false, cond, eqb, List, [], ◌∷◌, ◌&&◌, Option, Some, None, is_some, refl, sym, subst, arith}
 use Rattle.std.proofs.lemmas.Bool.{eqb-true}
-use Rattle.sfc_tokens.specs.Numbers.{digit_of}
-use Rattle.sfc_tokens.specs.Durations as durations
-use Rattle.sfc_tokens.specs.Durations.{micros_of, spelling_of, units, IsUnit, Tenths, IsFraction, Interval, greatest, IsInterval}
-use Rattle.sfc_tokens.specs.Scanning.Durations.{are_digits, exact_tenth, tenth_more, tenths, fraction}
+use Rattle.sfc_base.specs.Numbers.{digit_of}
+use Rattle.sfc_base.specs.Durations as durations
+use Rattle.sfc_base.specs.Durations.{micros_of, spelling_of, units, IsUnit, Tenths, IsFraction, Interval, greatest, IsInterval}
+use Rattle.sfc_tokens.specs.Lexing.Durations.{are_digits, exact_tenth, tenth_more, tenths, fraction}
 use Rattle.sfc_tokens.proofs.Digits.{bind_some, digit_apart}
 
 -- ---- fractions

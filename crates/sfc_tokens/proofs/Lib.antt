@@ -1,14 +1,8 @@
-pub mod SameWords
-pub mod ReservedWords
 pub mod Tenths
 pub mod Addresses
 pub mod Shorter
-pub mod Written
-pub mod TimeTexts
 pub mod Loop
 pub mod Digits
-pub mod Runs
-pub mod Words
 pub mod Intervals
 pub mod Units
 pub mod Parts
@@ -17,7 +11,7 @@ pub mod LocationProofs
 pub mod LiteralProofs
 pub mod Comments
 pub mod Pieces
-pub mod Scans
+pub mod Lexes
 pub mod Outcomes
 pub mod DurationWords
 pub mod TimeLaw

@@ -4,13 +4,13 @@ use Rattle.sfc_tokens.specs.declared.literal.LiteralKind.{LiteralKind}
 use Rattle.sfc_tokens.specs.declared.literal.LiteralKind.TheVariants.{Number, Int, Dint, Truth, Duration, Location}
 use Rattle.sfc_tokens.specs.declared.token.TokenKind.{TokenKind}
 use Rattle.sfc_tokens.specs.declared.token.TokenKind.TheVariants as token
-use Rattle.sfc_tokens.specs.Scanning.Integers.{◌>>=◌, integer, base_at}
-use Rattle.sfc_tokens.specs.Durations.{units}
-use Rattle.sfc_tokens.specs.Scanning.Durations.{interval}
-use Rattle.sfc_tokens.specs.Scanning.Locations.{location}
+use Rattle.sfc_tokens.specs.Lexing.Integers.{◌>>=◌, integer, base_at}
+use Rattle.sfc_base.specs.Durations.{units}
+use Rattle.sfc_tokens.specs.Lexing.Durations.{interval}
+use Rattle.sfc_tokens.specs.Lexing.Locations.{location}
 use Rattle.sfc_tokens.specs.Literals as literals
 use Rattle.sfc_tokens.specs.Literals.{signed, truth_of, IsLiteral}
-use Rattle.sfc_tokens.specs.Scanning.Literals.{limit, magnitude, untyped_at, value_of, literal}
+use Rattle.sfc_tokens.specs.Lexing.Literals.{limit, magnitude, untyped_at, value_of, literal}
 use Rattle.sfc_tokens.proofs.Digits.{bind_some, based_sound, decimal_sound, decimal_again, integer_base, based_again, magnitude_sound, magnitude_again}
 use Rattle.sfc_tokens.proofs.Parts.{interval_sound}
 use Rattle.sfc_tokens.proofs.WholeIntervals.{duration_again}

@@ -3,22 +3,22 @@ use Rattle.std.proofs.Common.{◌≡◌, ℕ, zero, suc, ◌^◌, ◌<◌, ◌�
 use Rattle.std.proofs.lemmas.Bool.{eqb-true, ne_eqb}
 use Rattle.std.proofs.lemmas.Bool.Decides.{nat_tests}
 use Rattle.std.proofs.lemmas.List.{append-nil}
-use Rattle.sfc_tokens.specs.declared.run.Alphabet.TheVariants.{Figures}
-use Rattle.sfc_tokens.specs.declared.location.Area.{Area}
-use Rattle.sfc_tokens.specs.declared.location.Size.{Size}
-use Rattle.sfc_tokens.specs.declared.location.Size.TheVariants.{Bit}
+use Rattle.sfc_base.specs.declared.run.Alphabet.TheVariants.{Figures}
+use Rattle.sfc_base.specs.declared.location.Area.{Area}
+use Rattle.sfc_base.specs.declared.location.Size.{Size}
+use Rattle.sfc_base.specs.declared.location.Size.TheVariants.{Bit}
 use Rattle.std.specs.Char.{to_ascii_uppercase}
-use Rattle.sfc_tokens.specs.Numbers as numbers
-use Rattle.sfc_tokens.specs.Numbers.{Digits, IsInteger}
-use Rattle.sfc_tokens.specs.Scanning.Integers.{◌>>=◌, integer}
-use Rattle.sfc_tokens.specs.Runs.{Ends}
-use Rattle.sfc_tokens.specs.Scanning.Runs.{run}
-use Rattle.sfc_tokens.specs.Locations as locations
-use Rattle.sfc_tokens.specs.Locations.{LocationData, AreNumbers, area_of, size_of_capital, size_of, Numbers, IsLocation}
-use Rattle.sfc_tokens.specs.Scanning.Locations.{number_and_rest, number_at, pointed, numbers as taken_numbers, sized, size_at, location}
-use Rattle.sfc_tokens.specs.Scanning.Literals.{limit}
+use Rattle.sfc_base.specs.Numbers as numbers
+use Rattle.sfc_base.specs.Numbers.{Digits, IsInteger}
+use Rattle.sfc_tokens.specs.Lexing.Integers.{◌>>=◌, integer}
+use Rattle.sfc_base.specs.Runs.{Ends}
+use Rattle.sfc_base.specs.Private.Runs.{run}
+use Rattle.sfc_base.specs.Locations as locations
+use Rattle.sfc_base.specs.Locations.{LocationData, AreNumbers, area_of, size_of_capital, size_of, Numbers, IsLocation}
+use Rattle.sfc_tokens.specs.Lexing.Locations.{number_and_rest, number_at, pointed, numbers as taken_numbers, sized, size_at, location}
+use Rattle.sfc_tokens.specs.Lexing.Literals.{limit}
 use Rattle.sfc_tokens.proofs.Digits.{bind_some, decimal_sound, decimal_again, figures, decimal_bounds}
-use Rattle.sfc_tokens.proofs.Runs.{run_cuts, run_again}
+use Rattle.sfc_base.proofs.Runs.{run_cuts, run_again}
 use Rattle.sfc_tokens.proofs.Parts.{Begins, dot_class}
 
 record NumberSound (w : List ℕ) (x : ℕ × List ℕ) : Type 0 where

@@ -2,24 +2,24 @@
 use Rattle.std.proofs.Common.{◌≡◌, ℕ, ◌+◌, ◌*◌, ◌/◌, ◌≤◌, Bool, true, false, cond, eqb, List, [], ◌∷◌, ◌++◌, Some, None, refl, sym, ap, subst, ◌∙◌, arith}
 use Rattle.std.proofs.lemmas.Bool.{eqb-true}
 use Rattle.std.proofs.lemmas.List.{append-nil}
-use Rattle.sfc_tokens.specs.declared.unit.Unit.{Unit as TimeUnit}
-use Rattle.sfc_tokens.specs.declared.unit.Unit.TheVariants.{Day, Hour, Minute, Second, Millisecond}
-use Rattle.sfc_tokens.specs.declared.class.Class.{Class}
-use Rattle.sfc_tokens.specs.declared.class.Class.TheVariants as class
-use Rattle.sfc_tokens.specs.declared.delimiter.Delimiter.TheVariants as sign
-use Rattle.sfc_tokens.specs.declared.run.Alphabet.TheVariants.{Letters, Figures, Fraction}
-use Rattle.sfc_tokens.specs.Classes.{class_of}
-use Rattle.sfc_tokens.specs.Case.{same_word}
-use Rattle.sfc_tokens.specs.Numbers as numbers
-use Rattle.sfc_tokens.specs.Numbers.{digit_of, Digits, IsInteger}
-use Rattle.sfc_tokens.specs.Scanning.Integers.{◌>>=◌, at_most, integer}
-use Rattle.sfc_tokens.specs.Runs.{is_letter, is_figure, is_in, has, AllIn, Ends}
-use Rattle.sfc_tokens.specs.Scanning.Runs.{run}
-use Rattle.sfc_tokens.specs.Durations as durations
-use Rattle.sfc_tokens.specs.Durations.{micros_of, spelling_of, units, IsUnit, Tenths, IsFraction, Interval, greatest, IsInterval}
-use Rattle.sfc_tokens.specs.Scanning.Durations.{fraction, split_unit, split_fraction, split_number, Split, split_part, whole, unspaced, behind, part, is_unit, interval}
+use Rattle.sfc_base.specs.declared.unit.Unit.{Unit as TimeUnit}
+use Rattle.sfc_base.specs.declared.unit.Unit.TheVariants.{Day, Hour, Minute, Second, Millisecond}
+use Rattle.sfc_base.specs.declared.class.Class.{Class}
+use Rattle.sfc_base.specs.declared.class.Class.TheVariants as class
+use Rattle.sfc_base.specs.declared.delimiter.Delimiter.TheVariants as sign
+use Rattle.sfc_base.specs.declared.run.Alphabet.TheVariants.{Letters, Figures, Fraction}
+use Rattle.sfc_base.specs.Classes.{class_of}
+use Rattle.sfc_base.specs.Case.{same_word}
+use Rattle.sfc_base.specs.Numbers as numbers
+use Rattle.sfc_base.specs.Numbers.{digit_of, Digits, IsInteger}
+use Rattle.sfc_tokens.specs.Lexing.Integers.{◌>>=◌, at_most, integer}
+use Rattle.sfc_base.specs.Runs.{is_letter, is_figure, is_in, has, AllIn, Ends}
+use Rattle.sfc_base.specs.Private.Runs.{run}
+use Rattle.sfc_base.specs.Durations as durations
+use Rattle.sfc_base.specs.Durations.{micros_of, spelling_of, units, IsUnit, Tenths, IsFraction, Interval, greatest, IsInterval}
+use Rattle.sfc_tokens.specs.Lexing.Durations.{fraction, split_unit, split_fraction, split_number, Split, split_part, whole, unspaced, behind, part, is_unit, interval}
 use Rattle.sfc_tokens.proofs.Digits.{bind_some, at_most_some, integer_sound, figures, decimal_class, underscore_class}
-use Rattle.sfc_tokens.proofs.Runs.{Cuts, run_cuts, run_again}
+use Rattle.sfc_base.proofs.Runs.{Cuts, run_cuts, run_again}
 use Rattle.sfc_tokens.proofs.Intervals.{fraction_sound}
 
 -- ---- cutting off a part

@@ -1,31 +1,31 @@
--- Scanning is what the pieces say.
+-- Lexing is what the pieces say.
 use Rattle.std.proofs.Common.{◌≡◌, ℕ, Bool, true, false, cond, eqb, List, [], ◌∷◌, ◌++◌, Option, Some, None, Ok, Err, refl, sym, ap, subst, ◌∙◌, append_assoc}
 use Rattle.std.proofs.lemmas.Bool.{eqb-true}
-use Rattle.sfc_tokens.specs.declared.delimiter.Delimiter.{Delimiter}
-use Rattle.sfc_tokens.specs.declared.delimiter.Delimiter.TheVariants as sign
-use Rattle.sfc_tokens.specs.declared.class.Class.{Class}
-use Rattle.sfc_tokens.specs.declared.class.Class.TheVariants as class
-use Rattle.sfc_tokens.specs.declared.run.Alphabet.TheVariants as alphabet
+use Rattle.sfc_base.specs.declared.delimiter.Delimiter.{Delimiter}
+use Rattle.sfc_base.specs.declared.delimiter.Delimiter.TheVariants as sign
+use Rattle.sfc_base.specs.declared.class.Class.{Class}
+use Rattle.sfc_base.specs.declared.class.Class.TheVariants as class
+use Rattle.sfc_base.specs.declared.run.Alphabet.TheVariants as alphabet
 use Rattle.sfc_tokens.specs.declared.literal.LiteralKind.{LiteralKind}
 use Rattle.sfc_tokens.specs.declared.literal.LiteralKind.TheVariants as kind
 use Rattle.sfc_tokens.specs.declared.read_error.ReadErrorKind.TheVariants.{BadToken}
-use Rattle.sfc_tokens.specs.declared.scan.Ahead.{Ahead}
-use Rattle.sfc_tokens.specs.declared.scan.Ahead.TheVariants.{Alone, Longer, Comment}
+use Rattle.sfc_tokens.specs.declared.lex.Ahead.{Ahead}
+use Rattle.sfc_tokens.specs.declared.lex.Ahead.TheVariants.{Alone, Longer, Comment}
 use Rattle.sfc_tokens.specs.declared.token.TokenKind.{TokenKind}
-use Rattle.sfc_tokens.specs.Classes.{class_of}
-use Rattle.sfc_tokens.specs.Runs.{has, IsRun}
-use Rattle.sfc_tokens.specs.Scanning.Runs.{run}
+use Rattle.sfc_base.specs.Classes.{class_of}
+use Rattle.sfc_base.specs.Runs.{has, IsRun}
+use Rattle.sfc_base.specs.Private.Runs.{run}
 use Rattle.sfc_tokens.specs.Literals.{kind_of_prefix, alphabet_of, IsLiteral}
-use Rattle.sfc_tokens.specs.Scanning.Literals.{literal}
+use Rattle.sfc_tokens.specs.Lexing.Literals.{literal}
 use Rattle.sfc_tokens.specs.Lexemes as lexemes
-use Rattle.sfc_tokens.specs.Names.{StartsWord, is_spaced}
+use Rattle.sfc_base.specs.Names.{StartsWord, is_spaced}
 use Rattle.sfc_tokens.specs.Lexemes.{word_token, is_sharp_first, Prefix, minus, is_minus, Body, look_ahead, NoClose, NoBrace, Piece, Faulty, Tokens}
-use Rattle.sfc_tokens.specs.Scanning.Tokens.{after_comment, after_pragma, Next, literal_found, literal_in, tail, literal_at, prefixed, word_found, word_or_prefix, word_at, skipped, sign_found, sign_at, next_by}
-use Rattle.sfc_tokens.proofs.Runs.{Cuts, run_cuts, run_in}
+use Rattle.sfc_tokens.specs.Lexing.Tokens.{after_comment, after_pragma, Next, literal_found, literal_in, tail, literal_at, prefixed, word_found, word_or_prefix, word_at, skipped, sign_found, sign_at, next_by}
+use Rattle.sfc_base.proofs.Runs.{Cuts, run_cuts, run_in}
 use Rattle.sfc_tokens.proofs.Comments.{after_some, after_none, pragma_some, pragma_none}
 use Rattle.sfc_tokens.proofs.LiteralProofs.{literal_sound, literal_again}
 
--- what the first step of a scan says
+-- what the first step of the lexer says
 pub record Taken (bytes : List ℕ) (x : Option TokenKind × List ℕ) : Type 0 where
   pub text : List ℕ
   pub parts : bytes ≡ text ++ x.1

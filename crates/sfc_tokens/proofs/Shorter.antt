@@ -1,24 +1,24 @@
--- Each step of the scanner takes at least one byte.
+-- Each step of the lexer takes at least one byte.
 use Rattle.std.proofs.Common.{◌≡◌, ℕ, suc, ◌<◌, ◌≤◌, Bool, true, false, cond, List, [], ◌∷◌, length, Option, Some, None, Ok, Err, refl, arith}
-use Rattle.sfc_tokens.specs.declared.delimiter.Delimiter.{Delimiter}
-use Rattle.sfc_tokens.specs.declared.class.Class.{Class}
-use Rattle.sfc_tokens.specs.declared.class.Class.TheVariants as class
-use Rattle.sfc_tokens.specs.declared.run.Alphabet.{Alphabet}
-use Rattle.sfc_tokens.specs.declared.run.Alphabet.TheVariants as alphabet
+use Rattle.sfc_base.specs.declared.delimiter.Delimiter.{Delimiter}
+use Rattle.sfc_base.specs.declared.class.Class.{Class}
+use Rattle.sfc_base.specs.declared.class.Class.TheVariants as class
+use Rattle.sfc_base.specs.declared.run.Alphabet.{Alphabet}
+use Rattle.sfc_base.specs.declared.run.Alphabet.TheVariants as alphabet
 use Rattle.sfc_tokens.specs.declared.literal.LiteralKind.{LiteralKind}
 use Rattle.sfc_tokens.specs.declared.literal.LiteralKind.TheVariants as kind
 use Rattle.sfc_tokens.specs.declared.read_error.ReadErrorKind.{ReadErrorKind}
-use Rattle.sfc_tokens.specs.declared.scan.Ahead.{Ahead}
-use Rattle.sfc_tokens.specs.declared.scan.Ahead.TheVariants.{Alone, Longer, Comment}
+use Rattle.sfc_tokens.specs.declared.lex.Ahead.{Ahead}
+use Rattle.sfc_tokens.specs.declared.lex.Ahead.TheVariants.{Alone, Longer, Comment}
 use Rattle.sfc_tokens.specs.declared.token.TokenKind.{TokenKind}
-use Rattle.sfc_tokens.specs.Classes.{class_of, first_class}
-use Rattle.sfc_tokens.specs.Runs.{has}
-use Rattle.sfc_tokens.specs.Scanning.Runs.{run}
+use Rattle.sfc_base.specs.Classes.{class_of, first_class}
+use Rattle.sfc_base.specs.Runs.{has}
+use Rattle.sfc_base.specs.Private.Runs.{run}
 use Rattle.sfc_tokens.specs.Literals.{kind_of_prefix, alphabet_of}
-use Rattle.sfc_tokens.specs.Scanning.Literals.{literal}
-use Rattle.sfc_tokens.specs.Names.{is_spaced}
+use Rattle.sfc_tokens.specs.Lexing.Literals.{literal}
+use Rattle.sfc_base.specs.Names.{is_spaced}
 use Rattle.sfc_tokens.specs.Lexemes.{is_minus, look_ahead}
-use Rattle.sfc_tokens.specs.Scanning.Tokens.{after_comment, after_pragma, Next, literal_found, literal_in, tail, literal_at, prefixed, word_found, word_or_prefix, word_at, skipped, sign_found, next_by}
+use Rattle.sfc_tokens.specs.Lexing.Tokens.{after_comment, after_pragma, Next, literal_found, literal_in, tail, literal_at, prefixed, word_found, word_or_prefix, word_at, skipped, sign_found, next_by}
 
 run_at : (t : Bool) (a : Alphabet) (b : ℕ) (bs : List ℕ) → has a b ≡ t → length (run a bs).1 ≤ length bs → length (run a (b ∷ bs)).1 ≤ length (b ∷ bs)
 unfolding run

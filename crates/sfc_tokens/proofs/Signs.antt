@@ -1,14 +1,14 @@
--- Each delimiter as it is spelled is a piece of text that scans as it, and ends what stands before it.
+-- Each delimiter as it is spelled is a piece of text that lexes as it, and ends what stands before it.
 use Rattle.std.proofs.Common.{◌≡◌, ℕ, false, List, ◌++◌, Some, refl}
-use Rattle.sfc_tokens.specs.declared.delimiter.Delimiter.{Delimiter}
-use Rattle.sfc_tokens.specs.declared.delimiter.Delimiter.TheVariants as sign
-use Rattle.sfc_tokens.specs.declared.class.Class.TheVariants as class
-use Rattle.sfc_tokens.specs.declared.run.Alphabet.{Alphabet}
-use Rattle.sfc_tokens.specs.declared.run.Alphabet.TheVariants as alphabet
-use Rattle.sfc_tokens.specs.declared.scan.Ahead.TheVariants.{Alone}
+use Rattle.sfc_base.specs.declared.delimiter.Delimiter.{Delimiter}
+use Rattle.sfc_base.specs.declared.delimiter.Delimiter.TheVariants as sign
+use Rattle.sfc_base.specs.declared.class.Class.TheVariants as class
+use Rattle.sfc_base.specs.declared.run.Alphabet.{Alphabet}
+use Rattle.sfc_base.specs.declared.run.Alphabet.TheVariants as alphabet
+use Rattle.sfc_tokens.specs.declared.lex.Ahead.TheVariants.{Alone}
 use Rattle.sfc_tokens.specs.declared.token.TokenKind.TheVariants as token
-use Rattle.sfc_tokens.specs.Classes.{class_of, first_class}
-use Rattle.sfc_tokens.specs.Runs.{is_dot, is_in, Ends}
+use Rattle.sfc_base.specs.Classes.{class_of, first_class}
+use Rattle.sfc_base.specs.Runs.{is_dot, is_in, Ends}
 use Rattle.sfc_tokens.specs.Lexemes as lexemes
 use Rattle.sfc_tokens.specs.Lexemes.{is_sharp_first, look_ahead, Piece}
 use Rattle.sfc_tokens.specs.Spelling.{sign_text}

@@ -2,19 +2,19 @@
 use Rattle.std.proofs.Common.{◌≡◌, ℕ, Bool, true, false, ◌==◌, List, [], ◌∷◌, ◌++◌, Some, refl, ap, subst, ◌∙◌}
 use Rattle.std.proofs.lemmas.Bool.{eqb-true}
 use Rattle.std.specs.List.{Contains}
-use Rattle.sfc_tokens.specs.declared.delimiter.Delimiter.{Delimiter}
-use Rattle.sfc_tokens.specs.declared.delimiter.Delimiter.TheVariants as sign
-use Rattle.sfc_tokens.specs.declared.class.Class.TheVariants as class
-use Rattle.sfc_tokens.specs.declared.keyword.Keyword.{Keyword}
-use Rattle.sfc_tokens.specs.declared.run.Alphabet.{Alphabet}
-use Rattle.sfc_tokens.specs.declared.run.Alphabet.TheVariants as alphabet
-use Rattle.sfc_tokens.specs.declared.scan.Ahead.TheVariants.{Alone}
+use Rattle.sfc_base.specs.declared.delimiter.Delimiter.{Delimiter}
+use Rattle.sfc_base.specs.declared.delimiter.Delimiter.TheVariants as sign
+use Rattle.sfc_base.specs.declared.class.Class.TheVariants as class
+use Rattle.sfc_base.specs.declared.keyword.Keyword.{Keyword}
+use Rattle.sfc_base.specs.declared.run.Alphabet.{Alphabet}
+use Rattle.sfc_base.specs.declared.run.Alphabet.TheVariants as alphabet
+use Rattle.sfc_tokens.specs.declared.lex.Ahead.TheVariants.{Alone}
 use Rattle.sfc_tokens.specs.declared.token.TokenKind.{TokenKind}
 use Rattle.sfc_tokens.specs.declared.token.TokenKind.TheVariants as token
-use Rattle.sfc_tokens.specs.Classes.{class_of}
-use Rattle.sfc_tokens.specs.Runs.{is_in, Ends}
-use Rattle.sfc_tokens.specs.Words.{reserved_words, keyword_of}
-use Rattle.sfc_tokens.specs.Names.{IsWord, IsName}
+use Rattle.sfc_base.specs.Classes.{class_of}
+use Rattle.sfc_base.specs.Runs.{is_in, Ends}
+use Rattle.sfc_base.specs.Words.{reserved_words, keyword_of}
+use Rattle.sfc_base.specs.Names.{IsWord, IsName}
 use Rattle.sfc_tokens.specs.Lexemes.{is_sharp_first, look_ahead, Piece}
 use Rattle.sfc_tokens.specs.Spelling as spelling
 use Rattle.sfc_tokens.specs.Spelling.{Spells, sign_text}

@@ -1,24 +1,24 @@
--- The spellings of tokens are pieces of text that scan as them.
+-- The spellings of tokens are pieces of text that lex as them.
 use Rattle.std.proofs.Common.{◌≡◌, ℕ, ℤ, pos, negsuc, unsigned_abs, zero, suc, ◌<◌, ◌^◌, Bool, true, false, ◌&&◌, List, [], ◌∷◌, ◌++◌, length, Option, Some, None, is_none, refl, sym, subst, arith, codes}
 use Rattle.std.specs.Fmt.{decimal, signed_decimal}
 use Rattle.std.specs.List.{list_all, AllByRecursion, Contains}
 use Rattle.std.specs.Prelude.{slice_index_or}
-use Rattle.sfc_tokens.specs.declared.class.Class.{Class}
-use Rattle.sfc_tokens.specs.declared.class.Class.TheVariants as class
-use Rattle.sfc_tokens.specs.declared.run.Alphabet.TheVariants as alphabet
-use Rattle.sfc_tokens.specs.declared.keyword.Keyword.{Keyword}
+use Rattle.sfc_base.specs.declared.class.Class.{Class}
+use Rattle.sfc_base.specs.declared.class.Class.TheVariants as class
+use Rattle.sfc_base.specs.declared.run.Alphabet.TheVariants as alphabet
+use Rattle.sfc_base.specs.declared.keyword.Keyword.{Keyword}
 use Rattle.sfc_tokens.specs.declared.literal.LiteralKind.TheVariants as kind
 use Rattle.sfc_tokens.specs.declared.token.TokenKind.TheVariants as token
-use Rattle.sfc_tokens.specs.Classes.{class_of}
-use Rattle.sfc_tokens.specs.Runs.{is_in, has, AllIn, Ends, IsRun}
-use Rattle.sfc_tokens.specs.Case.{same_word}
-use Rattle.sfc_tokens.specs.Words.{reserved_words, keyword_of}
-use Rattle.sfc_tokens.specs.Names.{starts_word, is_spaced, is_word, IsWord, IsName}
+use Rattle.sfc_base.specs.Classes.{class_of}
+use Rattle.sfc_base.specs.Runs.{is_in, has, AllIn, Ends, IsRun}
+use Rattle.sfc_base.specs.Case.{same_word}
+use Rattle.sfc_base.specs.Words.{reserved_words, keyword_of}
+use Rattle.sfc_base.specs.Names.{starts_word, is_spaced, is_word, IsWord, IsName}
 use Rattle.sfc_tokens.specs.Literals as literals
 use Rattle.sfc_tokens.specs.Literals.{kind_of_prefix}
 use Rattle.sfc_tokens.specs.Lexemes as lexemes
 use Rattle.sfc_tokens.specs.Lexemes.{reserved_or_name, word_token, is_sharp_first, Prefix, is_minus, Piece}
-use Rattle.sfc_tokens.proofs.Runs.{wider}
+use Rattle.sfc_base.proofs.Runs.{wider}
 use Rattle.sfc_tokens.proofs.Digits.{figures}
 use Rattle.sfc_tokens.proofs.Parts.{integer_begins}
 use Rattle.sfc_tokens.proofs.DurationWords.{no_minus}

@@ -1,27 +1,27 @@
--- The text of a location is a piece of text that scans as it.
+-- The text of a location is a piece of text that lexes as it.
 use Rattle.std.proofs.Common.{◌≡◌, ℕ, suc, ◌<◌, ◌≤◌, ◌^◌, true, false, eqb, List, [], ◌∷◌, ◌++◌, length, Some, refl, sym, subst, arith, codes}
 use Rattle.std.proofs.lemmas.List.{append-nil}
 use Rattle.std.specs.Fmt.{decimal}
 use Rattle.std.specs.List.{All}
-use Rattle.sfc_tokens.specs.declared.class.Class.{Class}
-use Rattle.sfc_tokens.specs.declared.class.Class.TheVariants as class
-use Rattle.sfc_tokens.specs.declared.run.Alphabet.TheVariants as alphabet
+use Rattle.sfc_base.specs.declared.class.Class.{Class}
+use Rattle.sfc_base.specs.declared.class.Class.TheVariants as class
+use Rattle.sfc_base.specs.declared.run.Alphabet.TheVariants as alphabet
 use Rattle.sfc_tokens.specs.declared.literal.LiteralKind.TheVariants as kind
 use Rattle.sfc_tokens.specs.declared.token.TokenKind.TheVariants as token
-use Rattle.sfc_tokens.specs.declared.location.Area.{Area}
-use Rattle.sfc_tokens.specs.declared.location.Area.TheVariants.{Input, Output, Memory}
-use Rattle.sfc_tokens.specs.declared.location.Size.{Size}
-use Rattle.sfc_tokens.specs.declared.location.Size.TheVariants.{Bit, Byte, Word, DoubleWord, LongWord}
-use Rattle.sfc_tokens.specs.declared.location.Location.{Location}
-use Rattle.sfc_tokens.specs.Classes.{class_of}
-use Rattle.sfc_tokens.specs.Runs.{is_in, has, AllIn, Ends}
-use Rattle.sfc_tokens.specs.Locations as locations
-use Rattle.sfc_tokens.specs.Locations.{AreNumbers, area_of, size_of, Numbers, IsLocation}
-use Rattle.sfc_tokens.specs.LocationText.{area_text, size_text, numbers_text, location_text}
+use Rattle.sfc_base.specs.declared.location.Area.{Area}
+use Rattle.sfc_base.specs.declared.location.Area.TheVariants.{Input, Output, Memory}
+use Rattle.sfc_base.specs.declared.location.Size.{Size}
+use Rattle.sfc_base.specs.declared.location.Size.TheVariants.{Bit, Byte, Word, DoubleWord, LongWord}
+use Rattle.sfc_base.specs.declared.location.Location.{Location}
+use Rattle.sfc_base.specs.Classes.{class_of}
+use Rattle.sfc_base.specs.Runs.{is_in, has, AllIn, Ends}
+use Rattle.sfc_base.specs.Locations as locations
+use Rattle.sfc_base.specs.Locations.{AreNumbers, area_of, size_of, Numbers, IsLocation}
+use Rattle.sfc_base.specs.LocationText.{area_text, size_text, numbers_text, location_text}
 use Rattle.sfc_tokens.specs.Literals as literals
 use Rattle.sfc_tokens.specs.Lexemes as lexemes
 use Rattle.sfc_tokens.specs.Lexemes.{Prefix, is_minus, Body, Piece}
-use Rattle.sfc_tokens.proofs.Runs.{wider}
+use Rattle.sfc_base.proofs.Runs.{wider}
 use Rattle.sfc_tokens.proofs.Digits.{figures}
 use Rattle.sfc_tokens.proofs.Parts.{dot_class}
 use Rattle.sfc_tokens.proofs.DurationWords.{append_in}

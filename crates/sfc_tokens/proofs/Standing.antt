@@ -3,23 +3,23 @@ use Rattle.std.proofs.Common.{◌≡◌, ℕ, ◌<◌, ◌^◌, Bool, true, ◌&
 use Rattle.std.specs.Prelude.{⊤, is_none}
 use Rattle.std.specs.List.{list_all}
 use Rattle.std.proofs.lemmas.List.Elements.{All-nil, All-cons}
-use Rattle.sfc_tokens.specs.declared.keyword.Keyword.{Keyword}
-use Rattle.sfc_tokens.specs.declared.run.Alphabet.TheVariants as alphabet
+use Rattle.sfc_base.specs.declared.keyword.Keyword.{Keyword}
+use Rattle.sfc_base.specs.declared.run.Alphabet.TheVariants as alphabet
 use Rattle.sfc_tokens.specs.declared.literal.LiteralKind.{LiteralKind}
 use Rattle.sfc_tokens.specs.declared.token.TokenKind.{TokenKind}
-use Rattle.sfc_tokens.specs.Classes.{class_of}
-use Rattle.sfc_tokens.specs.Runs.{has, AllIn}
-use Rattle.sfc_tokens.specs.Words.{keyword_of}
-use Rattle.sfc_tokens.specs.Names.{StartsWord, starts_word, is_spaced, IsWord}
-use Rattle.sfc_tokens.specs.Locations as locations
-use Rattle.sfc_tokens.specs.Locations.{AreNumbers, Numbers, LocationData, IsLocation}
+use Rattle.sfc_base.specs.Classes.{class_of}
+use Rattle.sfc_base.specs.Runs.{has, AllIn}
+use Rattle.sfc_base.specs.Words.{keyword_of}
+use Rattle.sfc_base.specs.Names.{StartsWord, starts_word, is_spaced, IsWord}
+use Rattle.sfc_base.specs.Locations as locations
+use Rattle.sfc_base.specs.Locations.{AreNumbers, Numbers, LocationData, IsLocation}
 use Rattle.sfc_tokens.specs.Literals as literals
 use Rattle.sfc_tokens.specs.Literals.{IsLiteral}
 use Rattle.sfc_tokens.specs.Lexemes as lexemes
-use Rattle.sfc_tokens.specs.Lexemes.{reserved_or_name, Piece, Tokens, first, Scans}
+use Rattle.sfc_tokens.specs.Lexemes.{reserved_or_name, Piece, Tokens, first, Lexes}
 use Rattle.sfc_tokens.specs.Spelling.{CanStand}
 use Rattle.sfc_tokens.specs.Texts as texts
-use Rattle.sfc_tokens.specs.Texts.{TextScans}
+use Rattle.sfc_tokens.specs.Texts.{TextLexes}
 
 -- ---- words
 
@@ -89,15 +89,15 @@ first_stands : (t : TokenKind) (r : Tokens) → CanStand t → AllStand r → Al
 first_stands t (Ok ts) one others = All-cons CanStand t ts one others
 first_stands t (Err kind) one others = tt
 
-scanned_stand : {text : List ℕ} {r : Tokens} → Scans text r → AllStand r
-scanned_stand lexemes.ended = All-nil CanStand
-scanned_stand (lexemes.skip piece others) = scanned_stand others
-scanned_stand (lexemes.one {t = t} {r = r} piece others) = first_stands t r (piece_stands piece) (scanned_stand others)
-scanned_stand (lexemes.fault is) = tt
+lexed_stand : {text : List ℕ} {r : Tokens} → Lexes text r → AllStand r
+lexed_stand lexemes.ended = All-nil CanStand
+lexed_stand (lexemes.skip piece others) = lexed_stand others
+lexed_stand (lexemes.one {t = t} {r = r} piece others) = first_stands t r (piece_stands piece) (lexed_stand others)
+lexed_stand (lexemes.fault is) = tt
 
-outcome_stands : {text : List ℕ} {r : Tokens} → TextScans text r → AllStand r
+outcome_stands : {text : List ℕ} {r : Tokens} → TextLexes text r → AllStand r
 outcome_stands (texts.too_long lt) = tt
-outcome_stands (texts.scanned le scans) = scanned_stand scans
+outcome_stands (texts.lexed le lexes) = lexed_stand lexes
 
-pub tokens_stand : (text : List ℕ) (ts : List TokenKind) → TextScans text (Ok ts) → All CanStand ts
-tokens_stand text ts scans = outcome_stands scans
+pub tokens_stand : (text : List ℕ) (ts : List TokenKind) → TextLexes text (Ok ts) → All CanStand ts
+tokens_stand text ts lexes = outcome_stands lexes

@@ -1,11 +1,11 @@
 -- Digits behind a decimal point, from the last to the first.
 use Rattle.std.proofs.Common.{◌≡◌, ℕ, ◌*◌, ◌/◌, ◌≤◌, List, [], ◌∷◌, ◌++◌, Option, Some, None, ◌+◌, ◌<◌, refl, sym, ap, ◌∙◌, arith}
 use Rattle.std.proofs.Math.Nat.{mul-le-mul_right}
-use Rattle.sfc_tokens.specs.declared.unit.Unit.{Unit}
-use Rattle.sfc_tokens.specs.declared.unit.Unit.TheVariants.{Day, Hour, Minute, Second, Millisecond}
-use Rattle.sfc_tokens.specs.Durations.{micros_of, greatest}
-use Rattle.sfc_tokens.specs.Scanning.Integers.{◌>>=◌}
-use Rattle.sfc_tokens.specs.Scanning.Durations.{tenth_more, tenths}
+use Rattle.sfc_base.specs.declared.unit.Unit.{Unit}
+use Rattle.sfc_base.specs.declared.unit.Unit.TheVariants.{Day, Hour, Minute, Second, Millisecond}
+use Rattle.sfc_base.specs.Durations.{micros_of, greatest}
+use Rattle.sfc_tokens.specs.Lexing.Integers.{◌>>=◌}
+use Rattle.sfc_tokens.specs.Lexing.Durations.{tenth_more, tenths}
 
 bind_assoc : (o : Option ℕ) (f g : ℕ → Option ℕ) → ((o >>= f) >>= g) ≡ (o >>= λ x. f x >>= g)
 bind_assoc None f g = refl

@@ -5,19 +5,19 @@ use Rattle.std.proofs.lemmas.Bool.Decides.{nat_tests}
 use Rattle.std.proofs.lemmas.List.{append-nil}
 use Rattle.std.proofs.lemmas.Fmt.{decimal_by_steps}
 use Rattle.std.specs.Fmt.{decimal}
-use Rattle.sfc_tokens.specs.declared.unit.Unit.{Unit as TimeUnit}
-use Rattle.sfc_tokens.specs.declared.unit.Unit.TheVariants.{Day, Hour, Minute, Second, Millisecond}
+use Rattle.sfc_base.specs.declared.unit.Unit.{Unit as TimeUnit}
+use Rattle.sfc_base.specs.declared.unit.Unit.TheVariants.{Day, Hour, Minute, Second, Millisecond}
 use Rattle.sfc_tokens.specs.declared.literal.LiteralKind.TheVariants as kind
-use Rattle.sfc_tokens.specs.Classes.{class_of}
-use Rattle.sfc_tokens.specs.Case.{same_word}
-use Rattle.sfc_tokens.specs.Numbers as numbers
-use Rattle.sfc_tokens.specs.Numbers.{digit_of, Digits, IsInteger}
-use Rattle.sfc_tokens.specs.Durations as durations
-use Rattle.sfc_tokens.specs.Durations.{micros_of, spelling_of, units, IsUnit, Tenths, IsFraction, Interval, greatest, IsInterval}
+use Rattle.sfc_base.specs.Classes.{class_of}
+use Rattle.sfc_base.specs.Case.{same_word}
+use Rattle.sfc_base.specs.Numbers as numbers
+use Rattle.sfc_base.specs.Numbers.{digit_of, Digits, IsInteger}
+use Rattle.sfc_base.specs.Durations as durations
+use Rattle.sfc_base.specs.Durations.{micros_of, spelling_of, units, IsUnit, Tenths, IsFraction, Interval, greatest, IsInterval}
 use Rattle.sfc_tokens.specs.Literals.{kind_of_prefix}
 use Rattle.sfc_tokens.specs.Lexemes as lexemes
 use Rattle.sfc_tokens.specs.Lexemes.{IsDuration}
-use Rattle.sfc_tokens.specs.TimeText.{digit, thousandths, milliseconds_text, parts_text, above_milliseconds, magnitude_text, time_text}
+use Rattle.sfc_base.specs.TimeText.{digit, thousandths, milliseconds_text, parts_text, above_milliseconds, magnitude_text, time_text}
 
 positive : (n : ℕ) → (n ≡ 0 → ⊥) → 0 < n
 positive zero h = absurd (h refl)

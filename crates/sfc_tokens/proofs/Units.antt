@@ -1,7 +1,7 @@
 -- The unit of a part.
 use Rattle.std.proofs.Common.{◌≡◌, ℕ, Bool, true, false, cond, List, [], ◌∷◌, Option, Some, None, refl, sym, ap, ◌∙◌}
-use Rattle.sfc_tokens.specs.declared.unit.Unit.{Unit as TimeUnit}
-use Rattle.sfc_tokens.specs.Scanning.Durations.{Split, split_part, part, is_unit, unit_among, interval}
+use Rattle.sfc_base.specs.declared.unit.Unit.{Unit as TimeUnit}
+use Rattle.sfc_tokens.specs.Lexing.Durations.{Split, split_part, part, is_unit, unit_among, interval}
 
 -- what an interval is where its first part has this unit, and none where it has none
 abbrev pub interval_of : Option (TimeUnit × List TimeUnit) → List ℕ → Option ℕ

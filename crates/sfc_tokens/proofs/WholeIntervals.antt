@@ -1,16 +1,16 @@
 -- What is a duration is taken as one.
 use Rattle.std.proofs.Common.{◌≡◌, ℕ, ◌+◌, ◌*◌, ◌/◌, ◌<◌, ◌≤◌, Bool, true, false, eqb, ◌&&◌, List, [], ◌∷◌, ◌++◌, Option, Some, refl, sym, ap, subst, ◌∙◌, arith}
 use Rattle.std.proofs.lemmas.Bool.{eqb-true, eq-eqb, ne_eqb}
-use Rattle.sfc_tokens.specs.declared.unit.Unit.{Unit as TimeUnit}
-use Rattle.sfc_tokens.specs.declared.unit.Unit.TheVariants.{Day, Hour, Minute, Second, Millisecond}
-use Rattle.sfc_tokens.specs.declared.class.Class.TheVariants as class
-use Rattle.sfc_tokens.specs.Classes.{class_of}
+use Rattle.sfc_base.specs.declared.unit.Unit.{Unit as TimeUnit}
+use Rattle.sfc_base.specs.declared.unit.Unit.TheVariants.{Day, Hour, Minute, Second, Millisecond}
+use Rattle.sfc_base.specs.declared.class.Class.TheVariants as class
+use Rattle.sfc_base.specs.Classes.{class_of}
 use Rattle.std.specs.Char.{to_ascii_uppercase}
-use Rattle.sfc_tokens.specs.Case.{same_word}
-use Rattle.sfc_tokens.specs.Numbers.{IsInteger}
-use Rattle.sfc_tokens.specs.Durations as durations
-use Rattle.sfc_tokens.specs.Durations.{micros_of, spelling_of, units, IsUnit, IsFraction, Interval, greatest, IsInterval}
-use Rattle.sfc_tokens.specs.Scanning.Durations.{Split, split_part, whole, behind, part, is_unit, interval}
+use Rattle.sfc_base.specs.Case.{same_word}
+use Rattle.sfc_base.specs.Numbers.{IsInteger}
+use Rattle.sfc_base.specs.Durations as durations
+use Rattle.sfc_base.specs.Durations.{micros_of, spelling_of, units, IsUnit, IsFraction, Interval, greatest, IsInterval}
+use Rattle.sfc_tokens.specs.Lexing.Durations.{Split, split_part, whole, behind, part, is_unit, interval}
 use Rattle.sfc_tokens.proofs.Digits.{at_most_again, digits_again, underscore_class}
 use Rattle.sfc_tokens.proofs.Intervals.{fraction_again}
 use Rattle.sfc_tokens.proofs.Parts.{interval_begins, interval_ends_letters, split_plain, split_whole, split_point}

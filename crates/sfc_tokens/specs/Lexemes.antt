@@ -1,25 +1,25 @@
 -- Texts and their tokens (2.1, 2.2): pieces of text, each as long as it can be, and the first fault.
 use Rattle.std.specs.Prelude.{◌≡◌, ℕ, ℤ, List, [], ◌∷◌, ◌++◌, Bool, true, false, ◌&&◌, ◌==◌, Option, Some, None, Result, Ok, Err}
-use Rattle.sfc_tokens.specs.declared.delimiter.Delimiter.{Delimiter}
-use Rattle.sfc_tokens.specs.declared.delimiter.Delimiter.TheVariants as sign
-use Rattle.sfc_tokens.specs.declared.class.Class.{Class}
-use Rattle.sfc_tokens.specs.declared.class.Class.TheVariants as class
-use Rattle.sfc_tokens.specs.declared.run.Alphabet.TheVariants as alphabet
-use Rattle.sfc_tokens.specs.declared.keyword.Keyword.{Keyword}
+use Rattle.sfc_base.specs.declared.delimiter.Delimiter.{Delimiter}
+use Rattle.sfc_base.specs.declared.delimiter.Delimiter.TheVariants as sign
+use Rattle.sfc_base.specs.declared.class.Class.{Class}
+use Rattle.sfc_base.specs.declared.class.Class.TheVariants as class
+use Rattle.sfc_base.specs.declared.run.Alphabet.TheVariants as alphabet
+use Rattle.sfc_base.specs.declared.keyword.Keyword.{Keyword}
 use Rattle.sfc_tokens.specs.declared.literal.LiteralKind.{LiteralKind}
 use Rattle.sfc_tokens.specs.declared.literal.LiteralKind.TheVariants as kinds
 use Rattle.sfc_tokens.specs.declared.read_error.ReadErrorKind.{ReadErrorKind}
 use Rattle.sfc_tokens.specs.declared.read_error.ReadErrorKind.TheVariants.{NotAscii, BadToken}
-use Rattle.sfc_tokens.specs.declared.scan.Ahead.{Ahead}
-use Rattle.sfc_tokens.specs.declared.scan.Ahead.TheVariants.{Alone, Longer, Comment}
+use Rattle.sfc_tokens.specs.declared.lex.Ahead.{Ahead}
+use Rattle.sfc_tokens.specs.declared.lex.Ahead.TheVariants.{Alone, Longer, Comment}
 use Rattle.sfc_tokens.specs.declared.token.TokenKind.{TokenKind}
 use Rattle.sfc_tokens.specs.declared.token.TokenKind.TheVariants as token
-use Rattle.sfc_tokens.specs.Classes.{class_of, first_class}
-use Rattle.sfc_tokens.specs.Runs.{IsRun}
-use Rattle.sfc_tokens.specs.Words.{keyword_of}
-use Rattle.sfc_tokens.specs.Names.{StartsWord, is_spaced}
+use Rattle.sfc_base.specs.Classes.{class_of, first_class}
+use Rattle.sfc_base.specs.Runs.{IsRun}
+use Rattle.sfc_base.specs.Words.{keyword_of}
+use Rattle.sfc_base.specs.Names.{StartsWord, is_spaced}
 use Rattle.sfc_tokens.specs.Literals.{kind_of_prefix, alphabet_of, fault_of, signed, IsLiteral}
-use Rattle.sfc_tokens.specs.Durations.{IsInterval}
+use Rattle.sfc_base.specs.Durations.{IsInterval}
 
 -- ---- words
 
@@ -123,11 +123,11 @@ abbrev pub first : TokenKind → Tokens → Tokens
 first t (Ok ts) = Ok (t ∷ ts)
 first t (Err f) = Err f
 
-pub data Scans : List ℕ → Tokens → Type 0 where
-  ended : Scans [] (Ok [])
-  skip : {text rest : List ℕ} {r : Tokens} → Piece text rest None → Scans rest r → Scans (text ++ rest) r
-  one : {text rest : List ℕ} {t : TokenKind} {r : Tokens} → Piece text rest (Some t) → Scans rest r → Scans (text ++ rest) (first t r)
-  fault : {bytes : List ℕ} {f : ReadErrorKind} → Faulty bytes f → Scans bytes (Err f)
+pub data Lexes : List ℕ → Tokens → Type 0 where
+  ended : Lexes [] (Ok [])
+  skip : {text rest : List ℕ} {r : Tokens} → Piece text rest None → Lexes rest r → Lexes (text ++ rest) r
+  one : {text rest : List ℕ} {t : TokenKind} {r : Tokens} → Piece text rest (Some t) → Lexes rest r → Lexes (text ++ rest) (first t r)
+  fault : {bytes : List ℕ} {f : ReadErrorKind} → Faulty bytes f → Lexes bytes (Err f)
 
 -- a word that is one duration: `T#` or `TIME#` in any case, a minus or none, and its parts
 pub data IsDuration : List ℕ → ℤ → Type 0 where

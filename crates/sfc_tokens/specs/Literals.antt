@@ -4,15 +4,15 @@ use Rattle.sfc_tokens.specs.declared.literal.LiteralKind.{LiteralKind}
 use Rattle.sfc_tokens.specs.declared.literal.LiteralKind.TheVariants.{Number, Int, Dint, Truth, Duration, Location}
 use Rattle.sfc_tokens.specs.declared.read_error.ReadErrorKind.{ReadErrorKind}
 use Rattle.sfc_tokens.specs.declared.read_error.ReadErrorKind.TheVariants as fault
-use Rattle.sfc_tokens.specs.declared.run.Alphabet.{Alphabet}
-use Rattle.sfc_tokens.specs.declared.run.Alphabet.TheVariants as alphabet
+use Rattle.sfc_base.specs.declared.run.Alphabet.{Alphabet}
+use Rattle.sfc_base.specs.declared.run.Alphabet.TheVariants as alphabet
 use Rattle.sfc_tokens.specs.declared.token.TokenKind.{TokenKind}
 use Rattle.sfc_tokens.specs.declared.token.TokenKind.TheVariants as token
-use Rattle.sfc_tokens.specs.declared.location.Location.{Location as Place}
-use Rattle.sfc_tokens.specs.Case.{same_word}
-use Rattle.sfc_tokens.specs.Numbers.{IsInteger, IsBased}
-use Rattle.sfc_tokens.specs.Durations.{IsInterval}
-use Rattle.sfc_tokens.specs.Locations.{IsLocation}
+use Rattle.sfc_base.specs.declared.location.Location.{Location as LocationValue}
+use Rattle.sfc_base.specs.Case.{same_word}
+use Rattle.sfc_base.specs.Numbers.{IsInteger, IsBased}
+use Rattle.sfc_base.specs.Durations.{IsInterval}
+use Rattle.sfc_base.specs.Locations.{IsLocation}
 
 -- T and TIME, INT, DINT, BOOL, in any case
 unfoldable pub kind_of_prefix : List ℕ → Option LiteralKind
@@ -64,4 +64,4 @@ pub data IsLiteral : LiteralKind → Bool → List ℕ → TokenKind → Type 0 
   dint : {negative : Bool} {w : List ℕ} {n : ℕ} → Magnitude w n → IsLiteral Dint negative w (token.Dint (signed negative n))
   truth : {w : List ℕ} {b : Bool} → truth_of w ≡ Some b → IsLiteral Truth false w (token.Truth b)
   duration : {negative : Bool} {w : List ℕ} {v : ℕ} → IsInterval w v → IsLiteral Duration negative w (token.Duration (signed negative v))
-  location : {w : List ℕ} {place : Place} → IsLocation w place → IsLiteral Location false w (token.Location place)
+  location : {w : List ℕ} {located : LocationValue} → IsLocation w located → IsLiteral Location false w (token.Location located)

@@ -1,13 +1,13 @@
 -- Spelled tokens, one behind the other.
 use Rattle.std.specs.Prelude.{◌≡◌, ℕ, ◌<◌, ◌^◌, List, [], ◌∷◌, ◌++◌, All, Some, ⊤, codes}
-use Rattle.sfc_tokens.specs.declared.delimiter.Delimiter.{Delimiter}
-use Rattle.sfc_tokens.specs.declared.delimiter.Delimiter.TheVariants as sign
-use Rattle.sfc_tokens.specs.declared.class.Class.TheVariants as class
+use Rattle.sfc_base.specs.declared.delimiter.Delimiter.{Delimiter}
+use Rattle.sfc_base.specs.declared.delimiter.Delimiter.TheVariants as sign
+use Rattle.sfc_base.specs.declared.class.Class.TheVariants as class
 use Rattle.sfc_tokens.specs.declared.token.TokenKind.{TokenKind}
 use Rattle.sfc_tokens.specs.declared.token.TokenKind.TheVariants as token
-use Rattle.sfc_tokens.specs.Classes.{class_of}
-use Rattle.sfc_tokens.specs.Names.{IsName}
-use Rattle.sfc_tokens.specs.Locations.{AreNumbers}
+use Rattle.sfc_base.specs.Classes.{class_of}
+use Rattle.sfc_base.specs.Names.{IsName}
+use Rattle.sfc_base.specs.Locations.{AreNumbers}
 use Rattle.sfc_tokens.specs.Lexemes.{Piece, Tokens, first}
 
 -- Spells text ts rest: before rest, the text is these tokens, with white space among them

@@ -4,7 +4,7 @@ use Rattle.sfc_tokens.specs.declared.read_error.ReadError.{ReadError}
 use Rattle.sfc_tokens.specs.declared.read_error.ReadErrorKind.{ReadErrorKind}
 use Rattle.sfc_tokens.specs.declared.read_error.ReadErrorKind.TheVariants as kind
 use Rattle.sfc_tokens.specs.ReadErrors.{Read}
-use Rattle.sfc_tokens.specs.Lexemes.{Tokens, Scans}
+use Rattle.sfc_tokens.specs.Lexemes.{Tokens, Lexes}
 
 -- the greatest length of a text, in bytes (our choice)
 abbrev pub longest : ℕ
@@ -16,9 +16,9 @@ without_mark (a ∷ b ∷ c ∷ rest) = if a == 239 && b == 187 && c == 191 then
 without_mark text = text
 
 -- The outcome of a text: its tokens, or that it is too long, or its first fault.
-pub data TextScans : List ℕ → Tokens → Type 0 where
-  too_long : {text : List ℕ} → longest < length text → TextScans text (Err kind.TooLong)
-  scanned : {text : List ℕ} {outcome : Tokens} → length text ≤ longest → Scans (without_mark text) outcome → TextScans text outcome
+pub data TextLexes : List ℕ → Tokens → Type 0 where
+  too_long : {text : List ℕ} → longest < length text → TextLexes text (Err kind.TooLong)
+  lexed : {text : List ℕ} {outcome : Tokens} → length text ≤ longest → Lexes (without_mark text) outcome → TextLexes text outcome
 
 -- What a function returned is an outcome, unless memory ran out.
 abbrev pub FindsError : {Y : Type 0} → ReadErrorKind → (Read Y → Type 0) → Type 0

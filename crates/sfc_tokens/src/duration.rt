@@ -1,12 +1,12 @@
 //! Durations by themselves (B.1.2.3.1).
 
 ghost use Rattle.std.specs.Prelude.{◌≡◌, ℤ, MatchOption};
-ghost use Rattle.sfc_tokens.specs.Scanning.DurationWords as word_value;
+ghost use Rattle.sfc_tokens.specs.Lexing.DurationWords as word_value;
 ghost use Rattle.sfc_tokens.specs.Lexemes.{IsDuration};
 
-use crate::duration_scan::interval;
+use crate::lex_duration::interval;
 use crate::literal::{LiteralKind, signed};
-use crate::run::{Alphabet, run};
+use sfc_base::run::{Alphabet, run};
 
 // The value of the parts behind the sign.
 fn parts_value(is_negative: bool, parts: &[u8]) -> Option<i64>
@@ -33,7 +33,7 @@ fn signed_value(text: &[u8]) -> Option<i64>
 }
 
 // The value of the word, if it is a duration.
-#[tactic(auto, unfolding(crate::specs::Scanning::DurationWords::duration_value))]
+#[tactic(auto, unfolding(crate::specs::Lexing::DurationWords::duration_value))]
 fn value_of(word: &[u8]) -> Option<i64>
     ensures { result ≡ word_value.duration_value word.now }
 {

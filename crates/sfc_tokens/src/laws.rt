@@ -1,53 +1,45 @@
 //! What holds of the tokens and the TIME text themselves. Each law is a function with an empty body, whose contract is the
 //! law.
 
-ghost use Rattle.std.specs.Prelude.{◌≡◌, ◌≤◌, ◌<◌, ◌^◌, ◌↔◌, ℕ, ℤ, nat_eq, unsigned_abs, false, List, [], ◌∷◌, ◌++◌, length};
+ghost use Rattle.std.specs.Prelude.{◌≡◌, ◌≤◌, ◌<◌, ◌^◌, ◌↔◌, ℕ, ℤ, unsigned_abs, false, List, [], ◌∷◌, ◌++◌, length};
 ghost use Rattle.std.specs.Prelude.{Ok, Some, codes};
-ghost use Rattle.std.specs.Cmp.Lexicographic.{pointwise};
 ghost use Rattle.std.specs.Fmt.{decimal, signed_decimal};
 ghost use Rattle.std.specs.List.{All, Contains};
-ghost use Rattle.std.specs.Str.{str_to_ascii_uppercase};
-ghost use Rattle.sfc_tokens.specs.Case.{same_word};
-ghost use Rattle.sfc_tokens.specs.Classes.{class_of, first_class};
-ghost use Rattle.sfc_tokens.specs.Runs.{is_in, Ends};
-ghost use Rattle.sfc_tokens.specs.Words.{reserved_words, keyword_of};
-ghost use Rattle.sfc_tokens.specs.Names.{IsWord, IsName};
-ghost use Rattle.sfc_tokens.specs.Durations.{greatest};
-ghost use Rattle.sfc_tokens.specs.Locations.{AreNumbers};
-ghost use Rattle.sfc_tokens.specs.Lexemes.{look_ahead, Tokens, Scans, is_sharp_first, IsDuration, Piece};
+ghost use Rattle.sfc_base.specs.Classes.{class_of, first_class};
+ghost use Rattle.sfc_base.specs.Runs.{is_in, Ends};
+ghost use Rattle.sfc_base.specs.Words.{reserved_words, keyword_of};
+ghost use Rattle.sfc_base.specs.Names.{IsWord, IsName};
+ghost use Rattle.sfc_base.specs.Durations.{greatest};
+ghost use Rattle.sfc_base.specs.Locations.{AreNumbers};
+ghost use Rattle.sfc_tokens.specs.Lexemes.{look_ahead, Tokens, Lexes, is_sharp_first, IsDuration, Piece};
 ghost use Rattle.sfc_tokens.specs.Spelling.{CanStand, Spells, behind, sign_text};
-ghost use Rattle.sfc_tokens.specs.Texts.{longest, TextScans};
+ghost use Rattle.sfc_tokens.specs.Texts.{longest, TextLexes};
 ghost use Rattle.sfc_tokens.specs.Tokens.{Kinds};
-ghost use Rattle.sfc_tokens.specs.TimeText.{time_text};
-ghost use Rattle.sfc_tokens.specs.LocationText.{location_text};
-ghost use Rattle.sfc_tokens.specs.Scanning.DurationWords.{duration_value};
-ghost use Rattle.sfc_tokens.specs.declared.class.Class.TheVariants as class;
-ghost use Rattle.sfc_tokens.specs.declared.delimiter.Delimiter.{Delimiter};
-ghost use Rattle.sfc_tokens.specs.declared.keyword.Keyword.{Keyword};
-ghost use Rattle.sfc_tokens.specs.declared.location.Location.{Location};
-ghost use Rattle.sfc_tokens.specs.declared.run.Alphabet.{Alphabet};
-ghost use Rattle.sfc_tokens.specs.declared.run.Alphabet.TheVariants as alphabet;
-ghost use Rattle.sfc_tokens.specs.declared.scan.Ahead.TheVariants.{Alone};
+ghost use Rattle.sfc_base.specs.TimeText.{time_text};
+ghost use Rattle.sfc_base.specs.LocationText.{location_text};
+ghost use Rattle.sfc_tokens.specs.Lexing.DurationWords.{duration_value};
+ghost use Rattle.sfc_base.specs.declared.class.Class.TheVariants as class;
+ghost use Rattle.sfc_base.specs.declared.delimiter.Delimiter.{Delimiter};
+ghost use Rattle.sfc_base.specs.declared.keyword.Keyword.{Keyword};
+ghost use Rattle.sfc_base.specs.declared.location.Location.{Location};
+ghost use Rattle.sfc_base.specs.declared.run.Alphabet.{Alphabet};
+ghost use Rattle.sfc_base.specs.declared.run.Alphabet.TheVariants as alphabet;
+ghost use Rattle.sfc_tokens.specs.declared.lex.Ahead.TheVariants.{Alone};
 ghost use Rattle.sfc_tokens.specs.declared.token.TokenKind.{TokenKind};
 
-/// Two words are one but for case where their capitals are byte for byte the same.
-pub fn same_by_capitals()
-    ensures { (v w : List ℕ) → same_word v w ≡ pointwise nat_eq (str_to_ascii_uppercase v) (str_to_ascii_uppercase w) }
-{}
-
 /// A text has one outcome: its tokens, or that it is too long, or its first fault.
-pub fn one_scan()
-    ensures { (text : List ℕ) (r s : Tokens) → TextScans text r → TextScans text s → r ≡ s }
+pub fn one_lexing()
+    ensures { (text : List ℕ) (r s : Tokens) → TextLexes text r → TextLexes text s → r ≡ s }
 {}
 
 /// Each text has an outcome.
-pub fn some_scan()
-    ensures { (text : List ℕ) → (r : Tokens) × TextScans text r }
+pub fn some_lexing()
+    ensures { (text : List ℕ) → (r : Tokens) × TextLexes text r }
 {}
 
-/// A word that is one duration is scanned as that one token.
-pub fn duration_scanned()
-    ensures { (word : List ℕ) (z : ℤ) → IsDuration word z → Scans word (Ok (TokenKind.Duration z ∷ [])) }
+/// A word that is one duration is lexed as that one token.
+pub fn duration_lexed()
+    ensures { (word : List ℕ) (z : ℤ) → IsDuration word z → Lexes word (Ok (TokenKind.Duration z ∷ [])) }
 {}
 
 /// A word is read as the duration that it is, and as none where it is none.
@@ -124,20 +116,20 @@ pub fn spellings_join()
     ensures { (a b rest : List ℕ) (ts us : List TokenKind) → Spells a ts (b ++ rest) → Spells b us rest → Spells (a ++ b) (ts ++ us) rest }
 {}
 
-/// Spelled tokens are scanned as these tokens, and then what follows.
-pub fn spelling_scans()
-    ensures { (text rest : List ℕ) (ts : List TokenKind) (r : Tokens) → Spells text ts rest → Scans rest r
-        → Scans (text ++ rest) (behind ts r) }
+/// Spelled tokens are lexed as these tokens, and then what follows.
+pub fn spelling_lexes()
+    ensures { (text rest : List ℕ) (ts : List TokenKind) (r : Tokens) → Spells text ts rest → Lexes rest r
+        → Lexes (text ++ rest) (behind ts r) }
 {}
 
-/// Spelled tokens with nothing behind them are scanned as these tokens.
-pub fn spelling_scanned()
-    ensures { (text : List ℕ) (ts : List TokenKind) → Spells text ts [] → Scans text (Ok ts) }
+/// Spelled tokens with nothing behind them are lexed as these tokens.
+pub fn spelling_lexed()
+    ensures { (text : List ℕ) (ts : List TokenKind) → Spells text ts [] → Lexes text (Ok ts) }
 {}
 
 /// A whole text that spells tokens, and is not too long, has these tokens.
 pub fn spelled_text()
-    ensures { (text : List ℕ) (ts : List TokenKind) → length text ≤ longest → Spells text ts [] → TextScans text (Ok ts) }
+    ensures { (text : List ℕ) (ts : List TokenKind) → length text ≤ longest → Spells text ts [] → TextLexes text (Ok ts) }
 {}
 
 /// No run of bytes goes on with white space.
@@ -196,6 +188,6 @@ pub fn space_not_sharp()
 {}
 
 /// Each token of a text can stand in one.
-pub fn scanned_tokens()
-    ensures { (text : List ℕ) (ts : List TokenKind) → TextScans text (Ok ts) → All CanStand ts }
+pub fn lexed_tokens()
+    ensures { (text : List ℕ) (ts : List TokenKind) → TextLexes text (Ok ts) → All CanStand ts }
 {}

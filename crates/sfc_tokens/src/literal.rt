@@ -1,18 +1,18 @@
 //! Literals (2.2): what stands behind their prefix.
 
 ghost use Rattle.std.specs.Prelude.{◌≡◌, ◌≤◌, ◌^◌, Option, Some, None, IfSome, IfOk};
-ghost use Rattle.sfc_tokens.specs.Durations.{IsTimeValue};
+ghost use Rattle.sfc_base.specs.Durations.{IsTimeValue};
 ghost use Rattle.sfc_tokens.specs.Literals as literals;
-ghost use Rattle.sfc_tokens.specs.Scanning.Literals as scan;
+ghost use Rattle.sfc_tokens.specs.Lexing.Literals as lex;
 
-use crate::case::is_same_word;
-use crate::duration_scan::interval;
-use crate::location_scan::location;
+use crate::lex_duration::interval;
+use crate::lex_location::location;
 use crate::number::{base_at, integer};
 use crate::read_error::ReadErrorKind;
-use crate::run::Alphabet;
-use crate::time_value::TimeValue;
 use crate::token::TokenKind;
+use sfc_base::case::is_same_word;
+use sfc_base::run::Alphabet;
+use sfc_base::time_value::TimeValue;
 use std::alloc::{AllocError, Global};
 
 /// What a literal is, by what stands in front of it.
@@ -81,7 +81,7 @@ const LIMIT: u64 = 0xffff_ffff;
 
 // An integer of 32 bits, with a base or without one.
 fn magnitude(word: &[u8]) -> Option<u64>
-    ensures value { result ≡ scan.magnitude word.now }
+    ensures value { result ≡ lex.magnitude word.now }
     ensures fits { IfSome result (λ n. n ≤ 2 ^ 62) }
 {
     match base_at(word) {
@@ -110,7 +110,7 @@ fn time(is_negative: bool, magnitude: u64) -> TimeValue
 
 // An integer without a type.
 fn untyped(word: &[u8]) -> Option<TokenKind>
-    ensures { result ≡ scan.untyped word.now }
+    ensures { result ≡ lex.untyped word.now }
 {
     match base_at(word) {
         Some((base, digits)) => Some(TokenKind::Based(integer(base, LIMIT, digits)? as u32)),
@@ -132,9 +132,9 @@ fn truth(word: &[u8]) -> Option<bool>
 }
 
 // The literal that the word is, with a minus before it or without one; locations apart.
-#[tactic(auto, unfolding(crate::specs::Scanning::Literals::value_of))]
+#[tactic(auto, unfolding(crate::specs::Lexing::Literals::value_of))]
 fn value_of(kind: LiteralKind, is_negative: bool, word: &[u8]) -> Option<TokenKind>
-    ensures { result ≡ scan.value_of kind is_negative word.now }
+    ensures { result ≡ lex.value_of kind is_negative word.now }
 {
     match kind {
         LiteralKind::Int => Some(TokenKind::Int(signed(is_negative, magnitude(word)?))),
@@ -148,14 +148,14 @@ fn value_of(kind: LiteralKind, is_negative: bool, word: &[u8]) -> Option<TokenKi
 
 /// The literal that the word is, with a minus before it or without one, if it is one. The one error is that memory
 /// was refused.
-#[tactic(auto, unfolding(crate::specs::Scanning::Literals::literal))]
+#[tactic(auto, unfolding(crate::specs::Lexing::Literals::literal))]
 pub fn literal(
     alloc: Global,
     kind: LiteralKind,
     is_negative: bool,
     word: &[u8],
 ) -> Result<Option<TokenKind>, AllocError>
-    ensures { IfOk result (λ found. scan.literal kind is_negative word.now ≡ found) }
+    ensures { IfOk result (λ found. lex.literal kind is_negative word.now ≡ found) }
 {
     match kind {
         LiteralKind::Location if !is_negative => match location(alloc, word)? {

@@ -1,8 +1,8 @@
 //! Integers (B.1.2.1).
 
 ghost use Rattle.std.specs.Prelude.{◌≡◌, ◌≤◌, ◌<◌, ◌*◌, ◌+◌, ◌^◌, Option, Some, None, IfSome};
-ghost use Rattle.sfc_tokens.specs.Numbers as numbers;
-ghost use Rattle.sfc_tokens.specs.Scanning.Integers as scan;
+ghost use Rattle.sfc_base.specs.Numbers as numbers;
+ghost use Rattle.sfc_tokens.specs.Lexing.Integers as lex;
 
 /// What the byte stands for as a digit, where that is below the base.
 pub fn digit_of(base: u8, byte: u8) -> Option<u8>
@@ -23,7 +23,7 @@ fn one_more(base: u8, limit: u64, number: u64, byte: u8) -> Option<u64>
     requires base_small { base ≤ 16 }
     requires limit_small { limit ≤ 2 ^ 56 }
     requires number_small { number ≤ limit }
-    ensures { result ≡ scan.one_more base limit number byte }
+    ensures { result ≡ lex.one_more base limit number byte }
 {
     let digit = digit_of(base, byte)?;
     let more = number * u64::from(base) + u64::from(digit);
@@ -31,11 +31,11 @@ fn one_more(base: u8, limit: u64, number: u64, byte: u8) -> Option<u64>
 }
 
 /// The number that the word is as an integer of the base, if it is one and not over the limit.
-#[tactic(auto, unfolding(crate::specs::Scanning::Integers::digits))]
+#[tactic(auto, unfolding(crate::specs::Lexing::Integers::digits))]
 pub fn integer(base: u8, limit: u64, word: &[u8]) -> Option<u64>
     requires base_small { base ≤ 16 }
     requires limit_small { limit ≤ 2 ^ 56 }
-    ensures value { result ≡ scan.integer base limit word.now }
+    ensures value { result ≡ lex.integer base limit word.now }
     ensures fits { IfSome result (λ n. n ≤ limit) }
 {
     let mut number = 0;
@@ -54,9 +54,9 @@ pub fn integer(base: u8, limit: u64, word: &[u8]) -> Option<u64>
 }
 
 // What stands behind the given bytes.
-#[tactic(auto, unfolding(crate::specs::Scanning::Integers::after))]
+#[tactic(auto, unfolding(crate::specs::Lexing::Integers::after))]
 fn after<'a>(front: &[u8], word: &'a [u8]) -> Option<&'a [u8]>
-    ensures { scan.view_slice result ≡ scan.after front.now word.now }
+    ensures { lex.view_slice result ≡ lex.after front.now word.now }
 {
     let mut wanted = front;
     let mut rest = word;
@@ -72,9 +72,9 @@ fn after<'a>(front: &[u8], word: &'a [u8]) -> Option<&'a [u8]>
 }
 
 /// The base in front of the digits, and the digits.
-#[tactic(auto, unfolding(crate::specs::Scanning::Integers::base_at))]
+#[tactic(auto, unfolding(crate::specs::Lexing::Integers::base_at))]
 pub fn base_at(word: &[u8]) -> Option<(u8, &[u8])>
-    ensures value { scan.view_base result ≡ scan.base_at word.now }
+    ensures value { lex.view_base result ≡ lex.base_at word.now }
     ensures small { IfSome result (λ x. x.0 ≤ 16) }
 {
     if let Some(digits) = after(b"2#", word) {

@@ -5,7 +5,7 @@ use Rattle.std.proofs.lemmas.List.{append_assoc, append-nil, map-append}
 use Rattle.std.proofs.lemmas.List.Elements.{filter_map-append}
 use Rattle.sfc_variables.specs.declared.load_error.LoadError.{LoadError}
 use Rattle.sfc_variables.specs.declared.own.OwnVariables.{OwnVariables}
-use Rattle.sfc_variables.specs.declared.variable.Variable.{Variable}
+use Rattle.sfc_plant.specs.declared.variable.Variable.{Variable}
 use Rattle.sfc_variables.specs.Checks.{◌then◌, in_turn, Fails}
 use Rattle.sfc_variables.specs.Declarations.{Declared, declared_name, variable_of, global_check}
 use Rattle.sfc_variables.specs.Own.{Own, ALocal, own_name, own_check, local_in, external_in, global_id}

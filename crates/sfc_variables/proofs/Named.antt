@@ -1,8 +1,8 @@
 -- Variables have the names with which they were declared.
 use Rattle.std.proofs.Common.{◌≡◌, ℕ, List, [], ◌∷◌, map, refl, ap, sym, ◌∙◌}
-use Rattle.sfc_variables.specs.declared.variable.Variable.{Variable}
+use Rattle.sfc_plant.specs.declared.variable.Variable.{Variable}
 use Rattle.sfc_variables.specs.Declarations.{Declared, declared_name, variable_of}
-use Rattle.sfc_variables.specs.Finding.{names_of}
+use Rattle.sfc_plant.specs.VariableNames.{names_of}
 
 names_built : (ds : List Declared) → names_of (map variable_of ds) ≡ map declared_name ds
 names_built [] = refl

@@ -1,17 +1,17 @@
 -- The variables that a text declares (2.4.3).
 use Rattle.std.specs.Prelude.{ℕ, not, List, [], map, flat_map, Option, Some, None}
-use Rattle.sfc_tokens.specs.declared.location.Location.{Location}
-use Rattle.sfc_tokens.specs.declared.var_type.VarType.{VarType}
+use Rattle.sfc_base.specs.declared.location.Location.{Location}
+use Rattle.sfc_base.specs.declared.var_type.VarType.{VarType}
 use Rattle.sfc_text.specs.declared.tree.Declaration.{Declaration}
 use Rattle.sfc_text.specs.declared.tree.Literal.{Literal}
-use Rattle.sfc_expr.specs.declared.value.Value.{Value}
-use Rattle.sfc_expr.specs.Values.{default_value}
-use Rattle.sfc_expr.specs.Checking.{checked_literal}
-use Rattle.sfc_expr.specs.NameLists.{has}
+use Rattle.sfc_base.specs.declared.value.Value.{Value}
+use Rattle.sfc_base.specs.Values.{default_value}
+use Rattle.sfc_check.specs.Checking.{checked_literal}
+use Rattle.sfc_base.specs.NameLists.{has}
 use Rattle.sfc_variables.specs.declared.load_error.LoadError.TheVariants as fault
-use Rattle.sfc_variables.specs.declared.variable.Variable.{Variable}
+use Rattle.sfc_plant.specs.declared.variable.Variable.{Variable}
 use Rattle.sfc_variables.specs.Checks.{Check, ◌then◌, when, typed, checked_or, in_turn}
-use Rattle.sfc_variables.specs.Places.{fits_location}
+use Rattle.sfc_variables.specs.Locations.{fits_location}
 
 -- one name, with what its declaration says of it
 pub record Declared : Type 0 where

@@ -1,12 +1,12 @@
 -- The variables of a program type while they are read.
 use Rattle.std.specs.Prelude.{◌≡◌, ℕ, false, List, ◌++◌, map}
 use Rattle.std.specs.List.{filter_map}
-use Rattle.sfc_expr.specs.NameLists.{has}
+use Rattle.sfc_base.specs.NameLists.{has}
 use Rattle.sfc_variables.specs.declared.own.OwnDraft.TheInside.{Inside}
 use Rattle.sfc_variables.specs.declared.own.OwnVariables.{OwnVariables}
-use Rattle.sfc_variables.specs.declared.variable.Variable.{Variable}
+use Rattle.sfc_plant.specs.declared.variable.Variable.{Variable}
 use Rattle.sfc_variables.specs.Declarations.{Declared, declared_name, variable_of}
-use Rattle.sfc_variables.specs.Finding.{names_of}
+use Rattle.sfc_plant.specs.VariableNames.{names_of}
 use Rattle.sfc_variables.specs.Own.{Own, own_name, local_in, external_in, global_id}
 
 -- a name that is not among these is not among those

@@ -5,11 +5,9 @@ pub mod LoadErrors
 -- checks, one after the other, and what a function that makes them gives
 pub mod Checks
 -- where variables lie
-pub mod Places
+pub mod Locations
 -- the variables that a text declares
 pub mod Declarations
--- what a name among variables stands for
-pub mod Finding
 -- the variables of a program type
 pub mod Own
 -- What private clauses cite.

@@ -1,8 +1,8 @@
 -- The numbers and names of what loading refuses, and how a refusal is told (our choice).
 use Rattle.std.specs.Prelude.{ℕ, List, ◌++◌, codes}
 use Rattle.std.specs.Fmt.{decimal}
-use Rattle.sfc_expr.specs.declared.type_error.TypeError.{TypeError}
-use Rattle.sfc_expr.specs.declared.type_error.TypeError.TheVariants as type_error
+use Rattle.sfc_check.specs.declared.type_error.TypeError.{TypeError}
+use Rattle.sfc_check.specs.declared.type_error.TypeError.TheVariants as type_error
 use Rattle.sfc_variables.specs.declared.load_error.Limit.{Limit as LimitKind}
 use Rattle.sfc_variables.specs.declared.load_error.Limit.TheVariants.{Steps, Transitions, Associations, Variables, Instances, Tasks}
 use Rattle.sfc_variables.specs.declared.load_error.LoadError.{LoadError}

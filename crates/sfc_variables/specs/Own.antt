@@ -1,20 +1,20 @@
 -- The variables of a program type: its own, and the globals that it names (2.4.3, 2.5.3).
 use Rattle.std.specs.Prelude.{ℕ, not, List, [], map, flat_map, Option, Some, None, unwrap_or}
 use Rattle.std.specs.List.{filter_map}
-use Rattle.sfc_tokens.specs.declared.var_type.VarType.{VarType}
+use Rattle.sfc_base.specs.declared.var_type.VarType.{VarType}
 use Rattle.sfc_text.specs.declared.tree.External.{External}
 use Rattle.sfc_text.specs.declared.tree.VariableBlock.{VariableBlock}
 use Rattle.sfc_text.specs.declared.tree.VariableBlock.TheVariants as block
-use Rattle.sfc_expr.specs.declared.variable.GlobalId.{GlobalId}
-use Rattle.sfc_expr.specs.declared.variable.Variable.{Variable}
-use Rattle.sfc_expr.specs.Checking.{is_same_type}
-use Rattle.sfc_expr.specs.NameLists.{has}
+use Rattle.sfc_base.specs.declared.references.GlobalId.{GlobalId}
+use Rattle.sfc_base.specs.declared.references.Variable.{Variable}
+use Rattle.sfc_base.specs.Values.{is_same_type}
+use Rattle.sfc_base.specs.NameLists.{has}
 use Rattle.sfc_variables.specs.declared.load_error.LoadError.TheVariants as fault
 use Rattle.sfc_variables.specs.declared.own.OwnVariables.{OwnVariables}
-use Rattle.sfc_variables.specs.declared.variable.Variable.{Variable as PlantVariable}
+use Rattle.sfc_plant.specs.declared.variable.Variable.{Variable as PlantVariable}
 use Rattle.sfc_variables.specs.Checks.{Check, ◌then◌, when, in_turn}
 use Rattle.sfc_variables.specs.Declarations.{Declared, declared_in, declared_check, variable_of}
-use Rattle.sfc_variables.specs.Finding.{variable_place, global_named}
+use Rattle.sfc_plant.specs.VariableNames.{variable_place, global_named}
 
 -- one name in a block of variables
 pub data Own : Type 0 where

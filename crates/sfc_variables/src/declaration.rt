@@ -6,15 +6,15 @@ ghost use Rattle.sfc_variables.specs.Declarations as declarations;
 ghost use Rattle.sfc_variables.specs.Declarations.{declared_as, declared_check, global_check, initial_check};
 
 use crate::load_error::LoadError;
-use crate::place::fits_location;
-use crate::variable::Variable;
-use sfc_expr::literal::check_literal;
-use sfc_expr::name_table::NameTable;
-use sfc_expr::value::{Value, default_value};
+use crate::located::fits_location;
+use sfc_base::location::Location;
+use sfc_base::name::Name;
+use sfc_base::value::{Value, default_value};
+use sfc_base::var_type::VarType;
+use sfc_check::literal::check_literal;
+use sfc_plant::name_table::NameTable;
+use sfc_plant::variable::Variable;
 use sfc_text::tree::{Declaration, Literal};
-use sfc_tokens::location::Location;
-use sfc_tokens::name::Name;
-use sfc_tokens::var_type::VarType;
 use std::alloc::{AllocError, Global};
 
 // The same location once more, if there is one.

@@ -6,11 +6,11 @@ ghost use Rattle.sfc_variables.specs.Declarations.{declared_name, declared_as, d
 
 use crate::declaration::new_variable;
 use crate::load_error::LoadError;
-use crate::variable::Variable;
-use crate::variable_table::VariableTable;
-use sfc_expr::name_table::NameTable;
+use sfc_base::name::Name;
+use sfc_plant::name_table::NameTable;
+use sfc_plant::variable::Variable;
+use sfc_plant::variable_table::VariableTable;
 use sfc_text::tree::Declaration;
-use sfc_tokens::name::Name;
 use std::alloc::Global;
 
 // The variables that were declared so far, and their names.

@@ -3,14 +3,11 @@
 //! - `declaration`: one declared name to a variable; `globals`: the global variables.
 //! - `load_error`: why a chart was refused.
 //! - `own`: the variables of a program type, its own ones and the globals that it names.
-//! - `place`: where a variable lies.
-//! - `variable`: variables; `variable_table`: variables that are found by name.
+//! - `located`: where a variable lies.
 #![tactic(auto)]
 
 pub mod declaration;
 pub mod globals;
 pub mod load_error;
+pub mod located;
 pub mod own;
-pub mod place;
-pub mod variable;
-pub mod variable_table;

@@ -4,7 +4,7 @@ ghost use Rattle.std.specs.Prelude.{◌≡◌};
 ghost use Rattle.sfc_variables.specs.LoadErrors.{number_of, name_of, name_of_limit};
 ghost use Rattle.sfc_variables.specs.declared.load_error.LoadError.TheVariants.{Memory};
 
-use sfc_expr::type_error::TypeError;
+use sfc_check::type_error::TypeError;
 use std::alloc::{AllocError, AllocFailed};
 use std::error::Error;
 use std::fmt;

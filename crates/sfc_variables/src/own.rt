@@ -2,14 +2,14 @@
 
 use crate::declaration::new_variable;
 use crate::load_error::LoadError;
-use crate::variable::Variable;
-use crate::variable_table::VariableTable;
-use sfc_expr::name_table::NameTable;
-use sfc_expr::variable::GlobalId;
+use sfc_base::items::Items;
+use sfc_base::name::Name;
+use sfc_base::references::GlobalId;
+use sfc_base::var_type::VarType;
+use sfc_plant::name_table::NameTable;
+use sfc_plant::variable::Variable;
+use sfc_plant::variable_table::VariableTable;
 use sfc_text::tree::{Declaration, External, VariableBlock};
-use sfc_tokens::items::Items;
-use sfc_tokens::name::Name;
-use sfc_tokens::var_type::VarType;
 use std::alloc::Global;
 use std::marker::Model;
 

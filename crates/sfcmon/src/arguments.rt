@@ -18,7 +18,7 @@ pub enum Request {
     /// What a refusal or a fault means, by its number or its name.
     Explain { word: String },
     /// The numbers and names of all refusals and faults.
-    ListEntries,
+    ListExplanations,
     /// The words were answered already: help, the version, or what is wrong with them. This exit status is left.
     Answered(u8),
 }
@@ -189,7 +189,7 @@ fn explain_request(alloc: Global, names: Option<&[&str]>) -> Result<Request, All
             let word = joined(alloc, names)?;
             Ok(Request::Explain { word })
         }
-        None => Ok(Request::ListEntries),
+        None => Ok(Request::ListExplanations),
     }
 }
 

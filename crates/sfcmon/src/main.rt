@@ -33,7 +33,7 @@ fn answer(rt: &HostRuntime, words: &[String]) -> u8 {
             script.as_str(),
         ),
         Request::Explain { word } => explain::explain_word(rt, word.as_str()),
-        Request::ListEntries => explain::list_entries(rt),
+        Request::ListExplanations => explain::list_explanations(rt),
         Request::Answered(status) => status,
     }
 }

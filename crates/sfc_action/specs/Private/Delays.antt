@@ -1,8 +1,8 @@
 -- On-delays of actions.
 use Rattle.std.specs.Prelude.{ℕ, ◌≡◌, ◌<◌, Bool, cond, List, [], ◌∷◌, length, slice_index_or, All, ℤ, pos}
-use Rattle.sfc_text.specs.declared.tree.TimedQualifier.{TimedQualifier}
-use Rattle.sfc_text.specs.declared.tree.TimedQualifier.TheVariants.{Limited, Delayed, StoredDelayed}
-use Rattle.sfc_text.specs.declared.tree.TimedQualifier.TheVariants.{DelayedStored, StoredLimited}
+use Rattle.sfc_base.specs.declared.qualifier.TimedQualifier.{TimedQualifier}
+use Rattle.sfc_base.specs.declared.qualifier.TimedQualifier.TheVariants.{Limited, Delayed, StoredDelayed}
+use Rattle.sfc_base.specs.declared.qualifier.TimedQualifier.TheVariants.{DelayedStored, StoredLimited}
 use Rattle.sfc_flags.specs.Flags.{flag}
 use Rattle.sfc_timers.specs.Timers.{Reading, has_elapsed}
 use Rattle.sfc_timers.specs.Agreement.{OnDelayAgrees}
@@ -27,7 +27,7 @@ preset_of inputs presets a = cond (flag inputs.any_time a) (slice_index_or prese
 pub record IsStepped (input : Bool) (pt t : ℤ) (old new : Block) : Type 0 where
   pub action : new.action ≡ old.action
   pub qualifier : new.qualifier ≡ old.qualifier
-  pub kept : (h : List Reading) → OnDelayAgrees old.delay h → OnDelayAgrees new.delay ((input, pt, t) ∷ h)
+  pub agrees : (h : List Reading) → OnDelayAgrees old.delay h → OnDelayAgrees new.delay ((input, pt, t) ∷ h)
   pub answer : (h : List Reading) → OnDelayAgrees old.delay h → new.elapsed ≡ has_elapsed ((input, pt, t) ∷ h)
 
 -- each was called with what its action has

@@ -2,61 +2,61 @@
 use Rattle.std.specs.Prelude.{ℕ, ◌≡◌, ◌<◌, ◌≤◌, Bool, true, false}
 use Rattle.std.specs.Prelude.{not, ◌&&◌, ◌||◌, List, length, replicate, All, ℤ}
 use Rattle.std.specs.List.{list_any}
-use Rattle.sfc_text.specs.declared.tree.TimedQualifier.{TimedQualifier}
-use Rattle.sfc_text.specs.declared.tree.TimedQualifier.TheVariants.{Limited, Delayed, StoredDelayed}
-use Rattle.sfc_text.specs.declared.tree.TimedQualifier.TheVariants.{DelayedStored, StoredLimited}
+use Rattle.sfc_base.specs.declared.qualifier.TimedQualifier.{TimedQualifier}
+use Rattle.sfc_base.specs.declared.qualifier.TimedQualifier.TheVariants.{Limited, Delayed, StoredDelayed}
+use Rattle.sfc_base.specs.declared.qualifier.TimedQualifier.TheVariants.{DelayedStored, StoredLimited}
 use Rattle.sfc_flags.specs.Flags.{flag}
 use Rattle.sfc_timers.specs.Timers.{Reading, has_elapsed}
 use Rattle.sfc_timers.specs.Agreement.{OnDelayAgrees}
-use Rattle.sfc_tables.specs.declared.association.Qualifier.{Qualifier}
-use Rattle.sfc_tables.specs.declared.association.Qualifier.TheVariants.{Timed}
+use Rattle.sfc_plant.specs.declared.association.Qualifier.{Qualifier}
+use Rattle.sfc_plant.specs.declared.association.Qualifier.TheVariants.{Timed}
 use Rattle.sfc_tables.specs.declared.step_action.StepAction.{StepAction}
 use Rattle.sfc_tables.specs.Tables.{Tabled}
 use Rattle.sfc_action.specs.declared.inputs.Inputs.{Inputs}
 use Rattle.sfc_action.specs.declared.stores.Stores.{Stores}
 use Rattle.sfc_action.specs.declared.blocks.Block.{Block}
-use Rattle.sfc_action.specs.declared.kept.Kept.{Kept}
-use Rattle.sfc_action.specs.declared.scratch.Scratch.{Scratch}
+use Rattle.sfc_action.specs.declared.control_state.ControlState.{ControlState}
+use Rattle.sfc_action.specs.declared.control_scan.ControlScan.{ControlScan}
 use Rattle.sfc_action.specs.ActionControl.{Scan, S, L, D, P, SD, DS, SL, P1, P0}
 use Rattle.sfc_action.specs.ActionControl.{input, stored, delayed_then_stored, reading, column, q, executed}
-use Rattle.sfc_action.specs.Delays.{Delay, is_delay, delay_count}
+use Rattle.sfc_action.specs.Private.DelayLists.{Delay, is_delay, delay_count}
 use Rattle.sfc_action.specs.Private.TimedSets.{none}
 use Rattle.sfc_action.specs.Private.Storing.{AreStores, no_stores, IsNext}
 use Rattle.sfc_action.specs.Private.Delays.{AreStepped, AreOf, gathered}
 use Rattle.sfc_action.specs.Private.Copies.{AreCopied}
-use Rattle.sfc_action.specs.Private.Rooms.{IsScratch}
+use Rattle.sfc_action.specs.Private.ControlScans.{IsControlScan}
 use Rattle.sfc_action.specs.Private.Outputs.{q_at}
 
 -- for n actions
-pub record AreKeptSized (n : ℕ) (kept : Kept) : Type 0 where
-  pub pulse : length kept.pulse ≡ n
-  pub rising_pulse : length kept.rising_pulse ≡ n
-  pub falling_pulse : length kept.falling_pulse ≡ n
-  pub stores : AreStores n kept.stores
-  pub delayed_stored : length kept.delayed_stored ≡ n
-  pub q : length kept.q ≡ n
-  pub executed : length kept.executed ≡ n
-  pub blocks : AreOf n kept.blocks.items
+pub record IsStateSized (n : ℕ) (state : ControlState) : Type 0 where
+  pub pulse : length state.pulse ≡ n
+  pub rising_pulse : length state.rising_pulse ≡ n
+  pub falling_pulse : length state.falling_pulse ≡ n
+  pub stores : AreStores n state.stores
+  pub delayed_stored : length state.delayed_stored ≡ n
+  pub q : length state.q ≡ n
+  pub executed : length state.executed ≡ n
+  pub blocks : AreOf n state.blocks.items
 
--- and room for a scan of as many
-pub record AreRooms (kept : Kept) (scratch : Scratch) : Type 0 where
-  pub kept_sized : AreKeptSized (length kept.q) kept
-  pub scratch_sized : IsScratch (length kept.q) scratch
+-- and a scan of as many
+pub record AreOfOneSize (state : ControlState) (control_scan : ControlScan) : Type 0 where
+  pub state_sized : IsStateSized (length state.q) state
+  pub control_scan_sized : IsControlScan (length state.q) control_scan
 
 -- with no flag, and these on-delays
-pub record IsFresh (n : ℕ) (delays : List Block) (kept : Kept) : Type 0 where
-  pub pulse : kept.pulse ≡ replicate n false
-  pub rising_pulse : kept.rising_pulse ≡ replicate n false
-  pub falling_pulse : kept.falling_pulse ≡ replicate n false
-  pub stores : kept.stores ≡ no_stores n
-  pub delayed_stored : kept.delayed_stored ≡ replicate n false
-  pub q : kept.q ≡ replicate n false
-  pub executed : kept.executed ≡ replicate n false
-  pub blocks : kept.blocks.items ≡ delays
+pub record IsFresh (n : ℕ) (delays : List Block) (state : ControlState) : Type 0 where
+  pub pulse : state.pulse ≡ replicate n false
+  pub rising_pulse : state.rising_pulse ≡ replicate n false
+  pub falling_pulse : state.falling_pulse ≡ replicate n false
+  pub stores : state.stores ≡ no_stores n
+  pub delayed_stored : state.delayed_stored ≡ replicate n false
+  pub q : state.q ≡ replicate n false
+  pub executed : state.executed ≡ replicate n false
+  pub blocks : state.blocks.items ≡ delays
 
 -- what a scan at t made of all, with these inputs, flip-flops and times
-pub record IsActed (inputs : Inputs) (next : Stores) (presets : List ℤ) (t : ℤ) (old new : Kept) : Type 0 where
-  pub sized : AreKeptSized (length old.q) new
+pub record IsActed (inputs : Inputs) (next : Stores) (presets : List ℤ) (t : ℤ) (old new : ControlState) : Type 0 where
+  pub sized : IsStateSized (length old.q) new
   pub same_blocks : length new.blocks.items ≡ length old.blocks.items
   pub blocks : AreStepped inputs next presets t old.blocks.items new.blocks.items
   pub delayed_stored : IsNext old.delayed_stored (gathered new.blocks.items (none (length old.q))).delayed_stored
@@ -71,7 +71,7 @@ pub record IsActed (inputs : Inputs) (next : Stores) (presets : List ℤ) (t : �
   pub falling_pulse : new.falling_pulse ≡ inputs.falling_pulse
   pub stores : new.stores ≡ next
 
-pub record IsCopy (from to : Kept) : Type 0 where
+pub record IsCopy (from to : ControlState) : Type 0 where
   pub pulse : to.pulse ≡ from.pulse
   pub rising_pulse : to.rising_pulse ≡ from.rising_pulse
   pub falling_pulse : to.falling_pulse ≡ from.falling_pulse
@@ -99,11 +99,11 @@ abbrev pub IsCovered : List Block → StepAction → Type 0
 IsCovered blocks x = has_block blocks x.action.0 x.qualifier ≡ true
 
 -- for the actions of these tables, with an on-delay for each qualifier with a time that an action has
-pub record AreFor (tables : Tabled) (kept : Kept) : Type 0 where
-  pub sized : AreKeptSized (length tables.actions) kept
-  pub count : length kept.blocks.items ≡ delay_count tables
-  pub few : length kept.blocks.items ≤ length tables.associations
-  pub covered : All (IsCovered kept.blocks.items) tables.associations
+pub record AreFor (tables : Tabled) (state : ControlState) : Type 0 where
+  pub sized : IsStateSized (length tables.actions) state
+  pub count : length state.blocks.items ≡ delay_count tables
+  pub few : length state.blocks.items ≤ length tables.associations
+  pub covered : All (IsCovered state.blocks.items) tables.associations
 
 -- ---- what is kept after these scans
 
@@ -126,14 +126,14 @@ pub record BlockAgrees (tables : Tabled) (h : List Scan) (block : Block) : Type 
 abbrev pub AreEach : ℕ → List Bool → (ℕ → Bool) → Type 0
 AreEach n flags value = (a : ℕ) → a < n → flag flags a ≡ value a
 
-pub record AreKept (tables : Tabled) (kept : Kept) (h : List Scan) : Type 0 where
-  pub pulse : AreEach (length tables.actions) kept.pulse (λ a. input tables a P h)
-  pub rising_pulse : AreEach (length tables.actions) kept.rising_pulse (λ a. input tables a P1 h)
-  pub falling_pulse : AreEach (length tables.actions) kept.falling_pulse (λ a. input tables a P0 h)
-  pub set : AreEach (length tables.actions) kept.stores.set (λ a. stored tables a S h)
-  pub stored_delayed : AreEach (length tables.actions) kept.stores.stored_delayed (λ a. stored tables a SD h)
-  pub stored_limited : AreEach (length tables.actions) kept.stores.stored_limited (λ a. stored tables a SL h)
-  pub delayed_stored : AreEach (length tables.actions) kept.delayed_stored (λ a. delayed_then_stored tables a DS h)
-  pub q : AreEach (length tables.actions) kept.q (λ a. q tables a h)
-  pub executed : AreEach (length tables.actions) kept.executed (λ a. executed tables a h)
-  pub blocks : All (BlockAgrees tables h) kept.blocks.items
+pub record IsStateAfter (tables : Tabled) (state : ControlState) (h : List Scan) : Type 0 where
+  pub pulse : AreEach (length tables.actions) state.pulse (λ a. input tables a P h)
+  pub rising_pulse : AreEach (length tables.actions) state.rising_pulse (λ a. input tables a P1 h)
+  pub falling_pulse : AreEach (length tables.actions) state.falling_pulse (λ a. input tables a P0 h)
+  pub set : AreEach (length tables.actions) state.stores.set (λ a. stored tables a S h)
+  pub stored_delayed : AreEach (length tables.actions) state.stores.stored_delayed (λ a. stored tables a SD h)
+  pub stored_limited : AreEach (length tables.actions) state.stores.stored_limited (λ a. stored tables a SL h)
+  pub delayed_stored : AreEach (length tables.actions) state.delayed_stored (λ a. delayed_then_stored tables a DS h)
+  pub q : AreEach (length tables.actions) state.q (λ a. q tables a h)
+  pub executed : AreEach (length tables.actions) state.executed (λ a. executed tables a h)
+  pub blocks : All (BlockAgrees tables h) state.blocks.items

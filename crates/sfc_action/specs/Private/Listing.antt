@@ -1,13 +1,13 @@
 -- Which on-delays there are.
 use Rattle.std.specs.Prelude.{ℕ, ◌≡◌, ◌+◌, ◌<◌, ◌≤◌, false, List, [], length, map, All}
 use Rattle.std.specs.List.{list_any}
-use Rattle.sfc_text.specs.declared.tree.TimedQualifier.{TimedQualifier}
+use Rattle.sfc_base.specs.declared.qualifier.TimedQualifier.{TimedQualifier}
 use Rattle.sfc_flags.specs.Flags.{flag}
 use Rattle.sfc_timers.specs.Agreement.{OnDelayAgrees}
 use Rattle.sfc_tables.specs.declared.step_action.StepAction.{StepAction}
 use Rattle.sfc_action.specs.declared.timed.Timed.{Timed}
 use Rattle.sfc_action.specs.declared.blocks.Block.{Block}
-use Rattle.sfc_action.specs.Delays.{with_delays}
+use Rattle.sfc_action.specs.Private.DelayLists.{with_delays}
 use Rattle.sfc_action.specs.Private.TimedSets.{AreAll, by}
 use Rattle.sfc_action.specs.Private.Delays.{AreOf}
 use Rattle.sfc_action.specs.Private.Keeping.{delay_of, is_of, IsCovered}

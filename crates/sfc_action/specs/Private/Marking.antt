@@ -1,11 +1,11 @@
 -- What the associations that act leave as inputs.
 use Rattle.std.specs.Prelude.{ℕ, ◌≡◌, ◌==◌, ◌<◌, true, false, cond}
 use Rattle.std.specs.Prelude.{List, [], ◌∷◌, length, filter, replicate, slice_set, slice_index_or, ℤ, pos}
-use Rattle.sfc_text.specs.declared.tree.TimedQualifier.{TimedQualifier}
+use Rattle.sfc_base.specs.declared.qualifier.TimedQualifier.{TimedQualifier}
 use Rattle.sfc_flags.specs.Flags.{flag}
-use Rattle.sfc_tables.specs.declared.association.Qualifier.{Qualifier}
-use Rattle.sfc_tables.specs.declared.association.Qualifier.TheVariants.{NonStored, Reset, Set, Pulse}
-use Rattle.sfc_tables.specs.declared.association.Qualifier.TheVariants.{RisingPulse, FallingPulse, Timed}
+use Rattle.sfc_plant.specs.declared.association.Qualifier.{Qualifier}
+use Rattle.sfc_plant.specs.declared.association.Qualifier.TheVariants.{NonStored, Reset, Set, Pulse}
+use Rattle.sfc_plant.specs.declared.association.Qualifier.TheVariants.{RisingPulse, FallingPulse, Timed}
 use Rattle.sfc_tables.specs.declared.step_action.StepAction.{StepAction}
 use Rattle.sfc_action.specs.declared.inputs.Inputs.{Inputs}
 use Rattle.sfc_action.specs.ActionControl.{is_timed}

@@ -8,9 +8,9 @@ use Rattle.sfc_action.specs.declared.stores.Stores.{Stores}
 use Rattle.sfc_action.specs.declared.store_words.StoreWords.{StoreWords}
 use Rattle.sfc_action.specs.declared.inputs.Inputs.{Inputs}
 use Rattle.sfc_action.specs.declared.input_words.InputWords.{InputWords}
-use Rattle.sfc_action.specs.declared.scratch.Scratch.{Scratch}
-use Rattle.sfc_action.specs.declared.kept.Kept.{Kept}
-use Rattle.sfc_action.specs.declared.kept_words.KeptWords.{KeptWords}
+use Rattle.sfc_action.specs.declared.control_scan.ControlScan.{ControlScan}
+use Rattle.sfc_action.specs.declared.control_state.ControlState.{ControlState}
+use Rattle.sfc_action.specs.declared.state_words.StateWords.{StateWords}
 
 -- by the qualifiers with a time
 pub record TimedRow : Type 0 where
@@ -38,8 +38,8 @@ pub record InputRow : Type 0 where
   pub any_time : Bool
   pub more_times : Bool
 
--- what is kept of it from scan to scan
-pub record KeptRow : Type 0 where
+-- its state from scan to scan
+pub record StateRow : Type 0 where
   pub pulse : Bool
   pub rising_pulse : Bool
   pub falling_pulse : Bool
@@ -79,15 +79,15 @@ input_row inputs a = record {
   more_times = flag inputs.more_times a;
 }
 
-abbrev pub kept_row : Kept → ℕ → KeptRow
-kept_row kept a = record {
-  pulse = flag kept.pulse a;
-  rising_pulse = flag kept.rising_pulse a;
-  falling_pulse = flag kept.falling_pulse a;
-  stores = store_row kept.stores a;
-  delayed_stored = flag kept.delayed_stored a;
-  q = flag kept.q a;
-  executed = flag kept.executed a;
+abbrev pub state_row : ControlState → ℕ → StateRow
+state_row state a = record {
+  pulse = flag state.pulse a;
+  rising_pulse = flag state.rising_pulse a;
+  falling_pulse = flag state.falling_pulse a;
+  stores = store_row state.stores a;
+  delayed_stored = flag state.delayed_stored a;
+  q = flag state.q a;
+  executed = flag state.executed a;
 }
 
 -- ---- and in words
@@ -121,8 +121,8 @@ inputs_in words a = record {
   more_times = has words.more_times a;
 }
 
-abbrev pub kept_in : KeptWords → ℕ → KeptRow
-kept_in words a = record {
+abbrev pub state_in : StateWords → ℕ → StateRow
+state_in words a = record {
   pulse = has words.pulse a;
   rising_pulse = has words.rising_pulse a;
   falling_pulse = has words.falling_pulse a;
@@ -153,7 +153,7 @@ no_inputs = record {
   more_times = false;
 }
 
-abbrev pub nothing : KeptRow
+abbrev pub nothing : StateRow
 nothing = record {
   pulse = false;
   rising_pulse = false;
@@ -190,12 +190,12 @@ q_of i s e pulse delayed_stored = not i.reset && (
     || (s.stored_limited && not e.stored_limited))
 
 -- whether it is executed, where it had `was` and has `q`
-abbrev pub executed_of : InputRow → KeptRow → Bool → Bool
+abbrev pub executed_of : InputRow → StateRow → Bool → Bool
 executed_of i was q =
     ((was.q || q) || (i.rising_pulse && not was.rising_pulse)) || (was.falling_pulse && not i.falling_pulse)
 
-abbrev pub kept_after : InputRow → StoreRow → TimedRow → KeptRow → KeptRow
-kept_after i s e was =
+abbrev pub state_after : InputRow → StoreRow → TimedRow → StateRow → StateRow
+state_after i s e was =
     let stored = stored_after was.delayed_stored e.delayed_stored i.reset in
     let q = q_of i s e was.pulse stored in
     record {
@@ -208,10 +208,10 @@ kept_after i s e was =
       executed = executed_of i was q;
     }
 
--- of action a, with what the scratch has of it
-abbrev pub kept_row_after : Scratch → (ℕ → KeptRow) → ℕ → KeptRow
-kept_row_after scratch was a =
-    kept_after (input_row scratch.inputs a) (store_row scratch.stores a) (timed_row scratch.elapsed a) (was a)
+-- of action a, with what the control scan has of it
+abbrev pub state_row_after : ControlScan → (ℕ → StateRow) → ℕ → StateRow
+state_row_after control_scan was a =
+    state_after (input_row control_scan.inputs a) (store_row control_scan.stores a) (timed_row control_scan.elapsed a) (was a)
 
 -- whether one of the faults is there
 abbrev pub has_fault : InputRow → StoreRow → Bool

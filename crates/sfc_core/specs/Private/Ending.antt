@@ -1,37 +1,37 @@
 -- What the end of an event tells.
-use Rattle.std.specs.Prelude.{⊤, List, ℤ}
-use Rattle.sfc_chart.specs.declared.ids.TaskId.{TaskId}
-use Rattle.sfc_chart.specs.declared.task.Task.{Task}
-use Rattle.sfc_chart.specs.Plants.{PlantData}
+use Rattle.std.specs.Prelude.{⊤, List, ℤ, Option, Some, None}
+use Rattle.sfc_base.specs.declared.ids.TaskId.{TaskId}
+use Rattle.sfc_plant.specs.declared.task.Task.{Task}
+use Rattle.sfc_plant.specs.Plants.{PlantData}
 use Rattle.sfc_tasks.specs.Calls.{Call}
 use Rattle.sfc_tasks.specs.Releases.{interval_of, overruns}
 use Rattle.sfc_events.specs.declared.event.Event.{Event}
-use Rattle.sfc_events.specs.declared.event.Event.TheVariants.{Scan, ForcedScan, Input, Force, Release, Reset}
+use Rattle.sfc_events.specs.Events.{scanned_task}
 use Rattle.sfc_events.specs.declared.event.Outcome.{Outcome}
 use Rattle.sfc_events.specs.declared.event.Outcome.TheVariants.{Done, Scanned}
-use Rattle.sfc_machine.specs.declared.bits.Bits.{Bits}
-use Rattle.sfc_machine.specs.Ends.{AreBits}
-use Rattle.sfc_machine.specs.Table.{Table}
+use Rattle.sfc_instances.specs.declared.bits.Bits.{Bits}
+use Rattle.sfc_instances.specs.Ends.{AreBits}
+use Rattle.sfc_instances.specs.PlantState.{PlantState}
+
+-- the bits of a scan of this task at t, if there is one
+abbrev pub AreTaskBits : PlantData → Option TaskId → ℤ → PlantState → Bits → Type 0
+AreTaskBits plant None t state bits = ⊤
+AreTaskBits plant (Some task) t state bits = AreBits plant task t state bits
 
 -- the bits of a scan at t, if the event is one
-abbrev pub AreEventBits : PlantData → Event → ℤ → Table → Bits → Type 0
-AreEventBits plant (Scan task) t table bits = AreBits plant task t table bits
-AreEventBits plant (ForcedScan task) t table bits = AreBits plant task t table bits
-AreEventBits plant (Input id v) t table bits = ⊤
-AreEventBits plant (Force id v) t table bits = ⊤
-AreEventBits plant (Release id) t table bits = ⊤
-AreEventBits plant (Reset p) t table bits = ⊤
+abbrev pub AreEventBits : PlantData → Event → ℤ → PlantState → Bits → Type 0
+AreEventBits plant event t state bits = AreTaskBits plant (scanned_task event) t state bits
 
 -- a scan of the task with these bits, after which the tasks were told so
 abbrev pub scanned : List Task → List Call → Bits → TaskId → Outcome
 scanned tasks calls bits task =
     Scanned bits.ran bits.faulted bits.skipped (overruns (interval_of tasks task.0) task.0 calls)
 
+-- where this task was scanned, or none
+abbrev pub outcome_of : List Task → List Call → Bits → Option TaskId → Outcome
+outcome_of tasks calls bits None = Done
+outcome_of tasks calls bits (Some task) = scanned tasks calls bits task
+
 -- what an accepted event answers
 abbrev pub outcome_by : List Task → List Call → Bits → Event → Outcome
-outcome_by tasks calls bits (Scan task) = scanned tasks calls bits task
-outcome_by tasks calls bits (ForcedScan task) = scanned tasks calls bits task
-outcome_by tasks calls bits (Input id v) = Done
-outcome_by tasks calls bits (Force id v) = Done
-outcome_by tasks calls bits (Release id) = Done
-outcome_by tasks calls bits (Reset p) = Done
+outcome_by tasks calls bits event = outcome_of tasks calls bits (scanned_task event)

@@ -1,12 +1,13 @@
 -- The tasks at the instant of an event, before it.
 use Rattle.std.specs.Prelude.{◌≡◌, ◌≤◌, Bool, List, length, take, ℤ, None}
-use Rattle.sfc_chart.specs.Plants.{PlantData}
-use Rattle.sfc_tasks.specs.Agreement.{TasksAgree, task_places}
+use Rattle.sfc_base.specs.declared.limits.TheConstants.{TASKS}
+use Rattle.sfc_plant.specs.Plants.{PlantData}
+use Rattle.sfc_tasks.specs.Agreement.{TasksAgree, task_total}
 use Rattle.sfc_events.specs.declared.event.Event.{Event}
 use Rattle.sfc_events.specs.History.{History}
 use Rattle.sfc_core.specs.declared.singles.Singles.{Singles}
 use Rattle.sfc_core.specs.declared.due.Due.{Due}
-use Rattle.sfc_core.specs.Table.{table_of}
+use Rattle.sfc_core.specs.PlantState.{state_of}
 use Rattle.sfc_core.specs.Due.{singles_of, calls_at}
 use Rattle.sfc_core.specs.Verdict.{event_refusal}
 
@@ -16,9 +17,9 @@ flags_of singles = take singles.count singles.flags
 
 -- for the tasks of the plant
 pub record IsDueOf (plant : PlantData) (due : Due) : Type 0 where
-  pub tasks : task_places due.tasks ≡ length plant.tasks
+  pub tasks : task_total due.tasks ≡ length plant.tasks
   pub singles : length (flags_of due.singles) ≡ length plant.tasks
-  pub few : length plant.tasks ≤ 16
+  pub few : length plant.tasks ≤ TASKS
 
 -- at t after a history
 pub record IsDueAt (plant : PlantData) (h : History) (t : ℤ) (due : Due) : Type 0 where
@@ -27,5 +28,5 @@ pub record IsDueAt (plant : PlantData) (h : History) (t : ℤ) (due : Due) : Typ
 
 -- and the event may be
 pub record IsReady (plant : PlantData) (h : History) (event : Event) (t : ℤ) (due : Due) : Type 0 where
-  pub told : IsDueAt plant h t due
-  pub named : event_refusal plant (table_of plant h).changes event ≡ None
+  pub is_due : IsDueAt plant h t due
+  pub named : event_refusal plant (state_of plant h).changes event ≡ None

@@ -1,6 +1,6 @@
 -- Which SINGLE rises.
 use Rattle.std.specs.Prelude.{ℕ, ◌≡◌, Bool, List, drop, ℤ}
-use Rattle.sfc_chart.specs.declared.task.Task.{Task}
+use Rattle.sfc_plant.specs.declared.task.Task.{Task}
 use Rattle.sfc_tasks.specs.Calls.{Call}
 use Rattle.sfc_tasks.specs.Agreement.{TasksAgree}
 use Rattle.sfc_tasks.specs.declared.table.TaskTable.{TaskTable}

@@ -1,12 +1,13 @@
 -- What is kept of the scans of a life, in place of their rows.
 use Rattle.std.specs.Prelude.{All, ℕ, ◌≡◌, ◌<◌, ◌^◌, ◌+◌, ◌*◌, Bool, true, false, not, cond}
 use Rattle.std.specs.Prelude.{List, [], ◌∷◌, ℤ, pos, ◌-ℤ◌, ◌≤ℤ◌, length, slice_index_or, slice_set, sum_by}
-use Rattle.sfc_expr.specs.declared.variable.StepId.{StepId}
+use Rattle.sfc_base.specs.declared.references.StepId.{StepId}
 use Rattle.sfc_flags.specs.Flags.{flag}
-use Rattle.sfc_tables.specs.declared.ids.TransitionId.{TransitionId}
+use Rattle.sfc_base.specs.declared.ids.TransitionId.{TransitionId}
 use Rattle.sfc_tables.specs.Tables.{Sides, Tabled, sides_at}
 use Rattle.sfc_evolve.specs.Lookback.{is_empty}
-use Rattle.sfc_evolve.specs.Evolution.{Scan, step_count, rows_of, is_active, step_time, was_cleared, was_activated}
+use Rattle.sfc_evolve.specs.Clearing.{step_count}
+use Rattle.sfc_evolve.specs.Evolution.{Scan, rows_of, is_active, step_time, was_cleared, was_activated}
 
 -- each is one of n steps
 abbrev pub AllBelow : ℕ → List StepId → Type 0
@@ -31,13 +32,13 @@ changed_by change side (tr ∷ trs) flags = changed_by change side trs (change (
 
 -- the times with those of these steps as they are at t
 abbrev pub left_at : ℤ → List ℤ → List StepId → List ℤ → List ℤ
-left_at t since [] kept = kept
-left_at t since (step ∷ steps) kept = left_at t since steps (slice_set kept step.0 (t -ℤ number since step.0))
+left_at t since [] held_times = held_times
+left_at t since (step ∷ steps) held_times = left_at t since steps (slice_set held_times step.0 (t -ℤ number since step.0))
 
 -- the same for the steps of these transitions
 abbrev pub left_by : ℤ → List ℤ → (ℕ → List StepId) → List ℕ → List ℤ → List ℤ
-left_by t since side [] kept = kept
-left_by t since side (tr ∷ trs) kept = left_by t since side trs (left_at t since (side tr) kept)
+left_by t since side [] held_times = held_times
+left_by t since side (tr ∷ trs) held_times = left_by t since side trs (left_at t since (side tr) held_times)
 
 -- the times with those of these places as they are at t
 abbrev pub measured_at : ℤ → List ℤ → List ℕ → List ℤ → List ℤ
@@ -56,12 +57,12 @@ set_at (s ∷ places) flags = set_at places (slice_set flags s true)
 
 -- of each step: whether it is active, when it was last activated, the time that it kept when it was left, and whether
 -- the latest scan activated it; of each transition, whether the latest scan cleared it
-pub record AreKept (tables : Tabled) (begun : Bool) (active : List Bool) (since kept : List ℤ) (cleared activated : List Bool)
+pub record FieldsAgree (tables : Tabled) (begun : Bool) (active : List Bool) (since held_times : List ℤ) (cleared activated : List Bool)
     (scans : List Scan) : Type 0 where
   pub has_begun : begun ≡ not (is_empty scans)
   pub activity : (s : ℕ) → s < step_count tables → flag active s ≡ is_active tables (rows_of tables scans) s
   pub time : (s : ℕ) → s < step_count tables → (now : ℤ) →
-      step_time tables (rows_of tables scans) s now ≡ cond (flag active s) (now -ℤ number since s) (number kept s)
+      step_time tables (rows_of tables scans) s now ≡ cond (flag active s) (now -ℤ number since s) (number held_times s)
   pub clearing : (tr : ℕ) → flag cleared tr ≡ was_cleared (rows_of tables scans) tr
   pub activation : (s : ℕ) → s < step_count tables → flag activated s ≡ was_activated tables (rows_of tables scans) s
 

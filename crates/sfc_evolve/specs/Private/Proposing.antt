@@ -1,11 +1,10 @@
 -- Which transitions may be enabled.
 use Rattle.std.specs.Prelude.{ℕ, ◌≡◌, ◌<◌, Bool, true, List, [], ◌∷◌, map, slice_index_or}
 use Rattle.sfc_flags.specs.Flags.{flag}
-use Rattle.sfc_tables.specs.declared.ids.TransitionId.{TransitionId}
+use Rattle.sfc_base.specs.declared.ids.TransitionId.{TransitionId}
 use Rattle.sfc_tables.specs.Tables.{Tabled}
 use Rattle.sfc_tables.specs.Departures.{departures}
-use Rattle.sfc_evolve.specs.Evolution.{transition_count, preceding_of, is_enabled}
-use Rattle.sfc_evolve.specs.Clearing.{of_rank}
+use Rattle.sfc_evolve.specs.Clearing.{transition_count, preceding_of, is_enabled, of_rank}
 use Rattle.sfc_evolve.specs.Private.Keeping.{set_at}
 
 -- the flags with those of the transitions set whose first preceding step is one of these

@@ -2,21 +2,21 @@
 use Rattle.std.specs.Prelude.{ℕ, ◌≡◌, ◌≢◌, ◌<◌, ◌≤◌, ◌+◌, ◌⊎◌, Bool, true, false, List, length, Option}
 use Rattle.std.specs.Prelude.{Some, None, cond, nat_lt, slice_index_or, count_by, take, is_some, ◌==◌, unwrap_or, pos}
 use Rattle.std.specs.List.{list_any}
-use Rattle.sfc_chart.specs.declared.ids.ProgId.{ProgId}
-use Rattle.sfc_chart.specs.Plants.{PlantData}
-use Rattle.sfc_chart.specs.Finding.{first_local, instance_locals}
-use Rattle.sfc_image.specs.Changes.{Told, all_of}
+use Rattle.sfc_base.specs.declared.ids.ProgId.{ProgId}
+use Rattle.sfc_plant.specs.Plants.{PlantData}
+use Rattle.sfc_plant.specs.Finding.{first_local, instance_locals}
+use Rattle.sfc_image.specs.Changes.{Changes, all_of}
 use Rattle.sfc_flags.specs.Flags.{flag}
 use Rattle.sfc_expr.specs.Environment.{Environment}
 use Rattle.sfc_image.specs.Environments.{number_among, read_at, force_at, Moment}
 use Rattle.sfc_image.specs.Values.{variable_count, initial_of, type_of_variable, stored_value, forced_value}
-use Rattle.sfc_chart.specs.declared.ids.VarId.{VarId}
-use Rattle.sfc_tokens.specs.declared.var_type.VarType.TheVariants as types
-use Rattle.sfc_variables.specs.declared.variable.Variable.{Variable}
-use Rattle.sfc_expr.specs.declared.value.Value.{Value}
-use Rattle.sfc_expr.specs.declared.value.Value.TheVariants as value
-use Rattle.sfc_expr.specs.Values.{type_of}
-use Rattle.sfc_expr.specs.Checking.{is_same_type}
+use Rattle.sfc_base.specs.declared.ids.VarId.{VarId}
+use Rattle.sfc_base.specs.declared.var_type.VarType.TheVariants as types
+use Rattle.sfc_plant.specs.declared.variable.Variable.{Variable}
+use Rattle.sfc_base.specs.declared.value.Value.{Value}
+use Rattle.sfc_base.specs.declared.value.Value.TheVariants as value
+use Rattle.sfc_base.specs.Values.{type_of}
+use Rattle.sfc_base.specs.Values.{is_same_type}
 use Rattle.sfc_image.specs.declared.image_error.ImageError.{ImageError}
 use Rattle.sfc_image.specs.declared.image_error.ImageError.TheVariants.{UnknownVar, ValueType}
 use Rattle.sfc_image.specs.declared.slot.Slot.{Slot}
@@ -27,7 +27,7 @@ abbrev pub fresh_slot : Variable → Slot
 fresh_slot variable = record {
   var_type = variable.var_type;
   initial = variable.initial;
-  kept = variable.initial;
+  committed = variable.initial;
   stored = variable.initial;
   forced = None;
   is_tried = false;
@@ -38,7 +38,7 @@ abbrev pub no_slot : Slot
 no_slot = record {
   var_type = types.Bool;
   initial = value.Bool false;
-  kept = value.Bool false;
+  committed = value.Bool false;
   stored = value.Bool false;
   forced = None;
   is_tried = false;
@@ -54,7 +54,7 @@ number_at numbers j = slice_index_or numbers j 0
 abbrev pub locals_at : List Locals → ℕ → Locals
 locals_at locals k = slice_index_or locals k (record { first = 0; count = 0 })
 
--- how many variables were written since the scratch was opened
+-- how many variables were written since the transaction was opened
 abbrev pub tried_count : List Slot → ℕ
 tried_count slots = count_by (λ (slot : Slot). slot.is_tried) slots
 
@@ -66,9 +66,9 @@ is_listed numbers n i = list_any (λ number. number == i) (take n numbers)
 abbrev pub AreNumbers : ℕ → List ℕ → ℕ → Type 0
 AreNumbers slots numbers n = (j : ℕ) → j < n → number_at numbers j < slots
 
--- the numbers of the slots that were written since a scratch was opened, each once, and room for as many as there are
+-- the numbers of the slots that were written since a transaction was opened, each once, with capacity for all of them
 pub record AreTracked (slots : List Slot) (written : List ℕ) (count : ℕ) : Type 0 where
-  pub room : length written ≡ length slots
+  pub capacity : length written ≡ length slots
   pub counted : tried_count slots ≡ count
   pub numbers : AreNumbers (length slots) written count
   pub listed : (i : ℕ) → (slot_at slots i).is_tried ≡ true → is_listed written count i ≡ true
@@ -79,10 +79,10 @@ AreWithin n locals = (k : ℕ) → k < length locals →
     ((locals_at locals 0).first ≤ (locals_at locals k).first)
     × ((locals_at locals k).first + (locals_at locals k).count ≤ n)
 
--- what was tried becomes what is kept, or is given up
+-- what was tried becomes what is committed, or is given up
 abbrev pub closed : Bool → Slot → Slot
-closed true slot = record slot { kept = slot.stored; is_tried = false }
-closed false slot = record slot { stored = slot.kept; is_tried = false }
+closed true slot = record slot { committed = slot.stored; is_tried = false }
+closed false slot = record slot { stored = slot.committed; is_tried = false }
 
 -- a slot was closed, or is as before
 pub record MayClose (keep : Bool) (old new : Slot) : Type 0 where
@@ -93,9 +93,9 @@ pub record AreClosed (keep : Bool) (numbers : List ℕ) (n : ℕ) (old new : Lis
   pub each : (i : ℕ) → MayClose keep (slot_at old i) (slot_at new i)
   pub listed : (i : ℕ) → is_listed numbers n i ≡ true → (slot_at new i).is_tried ≡ false
 
--- a value is stored: for good, or in a scratch
-abbrev pub given : Value → Slot → Slot
-given v slot = record slot { kept = v; stored = v }
+-- a value is stored: for good, or in a transaction
+abbrev pub with_value : Value → Slot → Slot
+with_value v slot = record slot { committed = v; stored = v }
 
 abbrev pub tried : Value → Slot → Slot
 tried v slot = record slot { stored = v; is_tried = true }
@@ -123,7 +123,7 @@ fault_at slots id v =
 
 -- the slot of a variable that begins anew
 abbrev pub begun : Slot → Slot
-begun slot = record slot { kept = slot.initial; stored = slot.initial }
+begun slot = record slot { committed = slot.initial; stored = slot.initial }
 
 -- those from `first` on begin anew, n of them
 pub record AreBegun (first n : ℕ) (old new : List Slot) : Type 0 where
@@ -136,25 +136,25 @@ pub record AreBegun (first n : ℕ) (old new : List Slot) : Type 0 where
 -- ---- and the changes that it agrees with
 
 -- what is kept of variable i is what the changes give
-pub record IsKept (plant : PlantData) (told : Told) (i : ℕ) (slot : Slot) : Type 0 where
+pub record SlotAgrees (plant : PlantData) (changes : Changes) (i : ℕ) (slot : Slot) : Type 0 where
   pub var_type : slot.var_type ≡ type_of_variable plant i
   pub initial : slot.initial ≡ initial_of plant i
-  pub kept : slot.kept ≡ stored_value plant told.kept i
-  pub stored : slot.stored ≡ stored_value plant (all_of told) i
-  pub forced : slot.forced ≡ forced_value (all_of told) i
-  pub held : slot.forced ≡ forced_value told.kept i
-  pub untried : slot.is_tried ≡ false → slot.stored ≡ slot.kept
+  pub committed : slot.committed ≡ stored_value plant changes.committed i
+  pub stored : slot.stored ≡ stored_value plant (all_of changes) i
+  pub forced : slot.forced ≡ forced_value (all_of changes) i
+  pub held : slot.forced ≡ forced_value changes.committed i
+  pub untried : slot.is_tried ≡ false → slot.stored ≡ slot.committed
 
 abbrev pub locals_of : PlantData → ProgId → Locals
 locals_of plant p = record { first = first_local plant p; count = length (instance_locals plant p) }
 
-pub record AreKept (plant : PlantData) (slots : List Slot) (locals : List Locals) (count : ℕ) (is_trying : Bool)
-    (told : Told) : Type 0 where
+pub record SlotsAgree (plant : PlantData) (slots : List Slot) (locals : List Locals) (count : ℕ) (is_trying : Bool)
+    (changes : Changes) : Type 0 where
   pub variables : length slots ≡ variable_count plant
   pub instances : length locals ≡ length plant.instances
   pub locals_are : (p : ProgId) → p.0 < length locals → locals_at locals p.0 ≡ locals_of plant p
-  pub opened : is_trying ≡ is_some told.tried
-  pub each : (i : ℕ) → i < length slots → IsKept plant told i (slot_at slots i)
+  pub opened : is_trying ≡ is_some changes.tried
+  pub each : (i : ℕ) → i < length slots → SlotAgrees plant changes i (slot_at slots i)
 
 -- ---- and what it reads
 

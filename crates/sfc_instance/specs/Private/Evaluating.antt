@@ -2,16 +2,16 @@
 use Rattle.std.specs.Prelude.{ℕ, ◌≡◌, ◌==◌, ◌&&◌, Bool, false, cond, List, Result, Ok, Err, ◌+◌, length, slice_get}
 use Rattle.std.specs.List.{list_any}
 use Rattle.sfc_flags.specs.Flags.{flag}
-use Rattle.sfc_tables.specs.declared.ids.TransitionId.{TransitionId}
+use Rattle.sfc_base.specs.declared.ids.TransitionId.{TransitionId}
 use Rattle.sfc_expr.specs.declared.fault.Fault.{Fault}
-use Rattle.sfc_expr.specs.declared.value.Value.{Value}
-use Rattle.sfc_expr.specs.Values.{truth}
+use Rattle.sfc_base.specs.declared.value.Value.{Value}
+use Rattle.sfc_base.specs.Values.{truth}
 use Rattle.sfc_expr.specs.Environment.{Environment}
-use Rattle.sfc_tables.specs.declared.chart.Chart.{Chart}
+use Rattle.sfc_plant.specs.declared.chart.Chart.{Chart}
 use Rattle.sfc_tables.specs.Tables.{Tabled}
 use Rattle.sfc_instance.specs.Life.{Life}
 use Rattle.sfc_expr.specs.Nodes.{nodes}
-use Rattle.sfc_evolve.specs.Evolution.{preceding_of}
+use Rattle.sfc_evolve.specs.Clearing.{preceding_of}
 use Rattle.sfc_instance.specs.ProgramScan.{enabled, condition_in, condition_result, condition_flag}
 
 abbrev pub as_flag : Result Value Fault → Result Bool Fault

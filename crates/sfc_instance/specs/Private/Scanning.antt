@@ -1,24 +1,24 @@
 -- How a scan ends.
 use Rattle.std.specs.Prelude.{ℕ, ◌≡◌, ◌+◌, ◌∷◌, List, ℤ, length, Result, Ok, Err}
 use Rattle.sfc_expr.specs.declared.fault.Fault.{Fault}
-use Rattle.sfc_tables.specs.declared.chart.Chart.{Chart}
+use Rattle.sfc_plant.specs.declared.chart.Chart.{Chart}
 use Rattle.sfc_tables.specs.Tables.{Tabled}
 use Rattle.sfc_evolve.specs.Work.{advance_work}
 use Rattle.sfc_action.specs.Work.{control_work}
-use Rattle.sfc_chart.specs.Plants.{PlantData}
+use Rattle.sfc_plant.specs.Plants.{PlantData}
 use Rattle.sfc_image.specs.declared.image.Image.{Image}
 use Rattle.sfc_image.specs.Changes.{Change, settled}
 use Rattle.sfc_image.specs.Agreement.{ImageAgrees}
-use Rattle.sfc_instance.specs.declared.room.Room.{Room}
+use Rattle.sfc_instance.specs.declared.scan_buffers.ScanBuffers.{ScanBuffers}
 use Rattle.sfc_instance.specs.declared.scan_fault.ScanFault.{ScanFault}
 use Rattle.sfc_instance.specs.declared.state.State.{State}
 use Rattle.sfc_instance.specs.Life.{Life, Row}
 use Rattle.sfc_instance.specs.Work.{actions_work, copy_work}
 use Rattle.sfc_instance.specs.Agreement.{StateAgrees}
 
--- the row of which the room has the conditions and the times
-abbrev pub row_in : Room → ℤ → Row
-row_in room t = record { conditions = room.conditions.items; times = room.times.items; at = t }
+-- the row of which the buffers have the conditions and the times
+abbrev pub row_in : ScanBuffers → ℤ → Row
+row_in buffers t = record { conditions = buffers.conditions.items; times = buffers.times.items; at = t }
 
 -- where it succeeded the state is that after these scans, and else what it was
 abbrev pub Moved : Tabled → Life → Result (Unit {0}) Fault → State → State → Type 0

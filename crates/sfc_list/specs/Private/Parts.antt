@@ -3,17 +3,17 @@ use Rattle.std.specs.Prelude.{ℕ, zero, suc, List, [], ◌∷◌, ◌++◌, fla
 use Rattle.sfc_expr.specs.declared.statement.Statement.{Statement}
 use Rattle.sfc_expr.specs.declared.statement.Branch.{Branch}
 use Rattle.sfc_expr.specs.Trees.{Nothing, NoBranch, before, tried_before}
-use Rattle.sfc_program.specs.Names.{Space}
-use Rattle.sfc_expr.specs.declared.variable.StepId.{StepId}
-use Rattle.sfc_expr.specs.declared.variable.GlobalId.{GlobalId}
-use Rattle.sfc_expr.specs.declared.variable.Variable.{Variable}
-use Rattle.sfc_variables.specs.declared.variable.Variable as plant
-use Rattle.sfc_program.specs.declared.program_type.ProgramType.{ProgramType}
-use Rattle.sfc_chart.specs.declared.task.Task.{Task}
-use Rattle.sfc_chart.specs.declared.instance.Instance.{Instance}
-use Rattle.sfc_tables.specs.declared.association.Association.{Association}
+use Rattle.sfc_plant.specs.Spaces.{Space}
+use Rattle.sfc_base.specs.declared.references.StepId.{StepId}
+use Rattle.sfc_base.specs.declared.references.GlobalId.{GlobalId}
+use Rattle.sfc_base.specs.declared.references.Variable.{Variable}
+use Rattle.sfc_plant.specs.declared.variable.Variable as plant
+use Rattle.sfc_plant.specs.declared.program_type.ProgramType.{ProgramType}
+use Rattle.sfc_plant.specs.declared.task.Task.{Task}
+use Rattle.sfc_plant.specs.declared.instance.Instance.{Instance}
+use Rattle.sfc_plant.specs.declared.association.Association.{Association}
 use Rattle.sfc_list.specs.Layout.{line}
-use Rattle.sfc_list.specs.Names.{variable_name, step_name}
+use Rattle.sfc_plant.specs.Names.{variable_name, step_name}
 use Rattle.sfc_list.specs.Statements.{body_text, branches_text}
 use Rattle.sfc_list.specs.Charts.{association_text}
 use Rattle.sfc_list.specs.Listing.{variable_text, external_text, task_text, instance_text}

@@ -2,7 +2,7 @@
 use Rattle.std.specs.Prelude.{◌≡◌, ℕ, List, [], ◌∷◌, ◌++◌, Bool, true, false, Option}
 use denote.Ref.{Bor}
 use Rattle.std.specs.Io.KnownBytes.{Appends}
-use Rattle.sfc_tokens.specs.Writing.{AppendsFront}
+use Rattle.sfc_base.specs.Writing.{AppendsFront}
 use Rattle.sfc_list.specs.declared.sink.Sink.{Sink}
 
 -- Whether there was a fault, before and after; what the writer holds, before and after. After a fault nothing is written.

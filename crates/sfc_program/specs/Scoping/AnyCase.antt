@@ -2,13 +2,14 @@
 use Rattle.std.specs.Prelude.{◌≡◌, ℕ, Bool, true, List, Option, Some, None, position}
 use Rattle.std.specs.Option.{option_map}
 use Rattle.std.proofs.Common.{refl, ap, ◌∙◌}
-use Rattle.sfc_tokens.specs.Case.{same_word}
-use Rattle.sfc_tokens.proofs.SameWords.{same_word_equiv}
-use Rattle.sfc_expr.specs.NameLists.{place_of}
-use Rattle.sfc_expr.specs.Scopes.{IgnoresCase}
-use Rattle.sfc_expr.specs.declared.variable.Variable.TheVariants.{Global, Local}
-use Rattle.sfc_variables.specs.Finding.{names_of, typed_at, or_else}
-use Rattle.sfc_program.specs.Names.{Space, is_name_of, names_in}
+use Rattle.sfc_base.specs.Case.{same_word}
+use Rattle.sfc_base.proofs.SameWords.{same_word_equiv}
+use Rattle.sfc_base.specs.NameLists.{place_of}
+use Rattle.sfc_check.specs.Scopes.{IgnoresCase}
+use Rattle.sfc_base.specs.declared.references.Variable.TheVariants.{Global, Local}
+use Rattle.sfc_plant.specs.VariableNames.{names_of, typed_at, or_else}
+use Rattle.sfc_plant.specs.Spaces.{Space}
+use Rattle.sfc_program.specs.Names.{is_name_of, names_in}
 
 -- words that are one but for case are found alike
 alike : (one other : List ℕ) → same_word one other ≡ true → same_word one ≡ same_word other

@@ -2,7 +2,7 @@
 use Rattle.std.specs.Prelude.{ℕ, ◌+◌, ◌-◌, ◌*◌, ◌==◌, ◌||◌, ◌&&◌, nat_lt, if◌then◌else◌, List, [], ◌∷◌, Option, Some, None}
 use Rattle.std.specs.Prelude.{ℤ, pos}
 use Rattle.std.specs.Option.{option_and_then}
-use Rattle.sfc_tokens.specs.Classes.{between}
+use Rattle.sfc_base.specs.Classes.{between}
 use Rattle.sfc_script.specs.Private.Splitting.{begins_with_blank}
 
 -- the number that the digits in front make behind the number n, and what follows them; None where it is 10,000,000,000 or more

@@ -1,7 +1,7 @@
 -- Commands that are said again.
 use Rattle.std.specs.Prelude.{◌≡◌, ℕ, suc, List, [], ◌∷◌, ◌++◌, Option, Some, None, IfSome}
 use Rattle.std.specs.Option.{option_map}
-use Rattle.sfc_chart.specs.Plants.{PlantData}
+use Rattle.sfc_plant.specs.Plants.{PlantData}
 use Rattle.sfc_events.specs.declared.event.Event.{Event}
 use Rattle.sfc_script.specs.declared.command.Line.{Line}
 use Rattle.sfc_script.specs.declared.repeated.Repeated.{Repeated}
@@ -19,8 +19,8 @@ abbrev pub Repeats : PlantData → List ℕ → Event → Type 0
 Repeats plant tail event = (rest : List ℕ) → event_first plant (lines_of (tail ++ rest)) ≡ Some (event, lines_of rest)
 
 -- what is kept, if anything is, is an event with the end of its line
-abbrev pub Keeps : PlantData → Option Repeated → Type 0
-Keeps plant last = IfSome last (λ r. Repeats plant r.tail.now r.event)
+abbrev pub IsLast : PlantData → Option Repeated → Type 0
+IsLast plant last = IfSome last (λ r. Repeats plant r.tail.now r.event)
 
 -- the first line of these bytes is this one, and these bytes follow it
 abbrev pub Begins : PlantData → List ℕ → Line → List ℕ → Type 0

@@ -1,9 +1,9 @@
 -- What the associations of a chart show.
 use Rattle.std.specs.Prelude.{◌≡◌, ℕ, Bool, List, length, map}
 use Rattle.std.specs.List.{range_with_len}
-use Rattle.sfc_tables.specs.declared.association.Target.{Target}
+use Rattle.sfc_plant.specs.declared.association.Target.{Target}
 use Rattle.sfc_tables.specs.declared.step_action.StepAction.{StepAction}
-use Rattle.sfc_tables.specs.declared.ids.TransitionId.{TransitionId}
+use Rattle.sfc_base.specs.declared.ids.TransitionId.{TransitionId}
 use Rattle.sfc_tables.specs.Departures.{departures}
 use Rattle.sfc_tables.specs.Tables.{Sides, Tabled, AreTables}
 use Rattle.sfc_tables.specs.Private.Grouping.{IsGrouping}

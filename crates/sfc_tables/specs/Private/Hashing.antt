@@ -1,7 +1,7 @@
 -- What a hash of a variable is made of.
 use Rattle.std.specs.Prelude.{ℕ}
-use Rattle.sfc_expr.specs.declared.variable.Variable.{Variable}
-use Rattle.sfc_expr.specs.declared.variable.Variable.TheVariants.{Global, Local}
+use Rattle.sfc_base.specs.declared.references.Variable.{Variable}
+use Rattle.sfc_base.specs.declared.references.Variable.TheVariants.{Global, Local}
 
 -- its place among its kind
 abbrev pub hashed : Variable → ℕ

@@ -1,10 +1,10 @@
 -- How the Boolean actions are found.
 use Rattle.std.specs.Prelude.{◌≡◌, ℕ, ◌<◌, ◌^◌, ◌++◌, List, length, map}
 use Rattle.indexmap.specs.IndexSet.{insert_all}
-use Rattle.sfc_expr.specs.declared.variable.Variable.{Variable}
-use Rattle.sfc_tables.specs.declared.association.Association.{Association}
-use Rattle.sfc_tables.specs.declared.association.Target.{Target}
-use Rattle.sfc_tables.specs.declared.association.Target.TheVariants as target
+use Rattle.sfc_base.specs.declared.references.Variable.{Variable}
+use Rattle.sfc_plant.specs.declared.association.Association.{Association}
+use Rattle.sfc_plant.specs.declared.association.Target.{Target}
+use Rattle.sfc_plant.specs.declared.association.Target.TheVariants as target
 use Rattle.sfc_tables.specs.Actions.{same_variable, declared_actions, number_of}
 
 -- these variables and then the new ones of more, each once

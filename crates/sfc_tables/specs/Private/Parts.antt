@@ -1,6 +1,6 @@
 -- Where the links of transitions lie in one flat list.
 use Rattle.std.specs.Prelude.{ℕ, ◌≤◌, List, slice_range}
-use Rattle.sfc_expr.specs.declared.variable.StepId.{StepId}
+use Rattle.sfc_base.specs.declared.references.StepId.{StepId}
 use Rattle.sfc_tables.specs.declared.links.Range.{Range}
 use Rattle.sfc_tables.specs.Tables.{Sides}
 

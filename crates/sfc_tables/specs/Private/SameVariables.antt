@@ -3,8 +3,8 @@ use Rattle.std.proofs.Common.{◌≡◌, true, refl, ap, IsTrue}
 use Rattle.std.proofs.lemmas.Bool.{eqb-true}
 use Rattle.std.specs.Hash as fed
 use Rattle.std.specs.Cmp.{IsPartialEquivalence, IsEquivalence, partial_equiv_from_equiv, nat_eq_equiv}
-use Rattle.sfc_expr.specs.declared.variable.Variable.{Variable}
-use Rattle.sfc_expr.specs.declared.variable.Variable.TheVariants.{Global, Local}
+use Rattle.sfc_base.specs.declared.references.Variable.{Variable}
+use Rattle.sfc_base.specs.declared.references.Variable.TheVariants.{Global, Local}
 use Rattle.sfc_tables.specs.Actions.{same_variable}
 use Rattle.sfc_tables.specs.Private.Hashing.{hashed}
 

@@ -10,7 +10,7 @@ use Rattle.sfc_text.specs.declared.tree.Declaration.{Declaration}
 use Rattle.sfc_text.specs.Marks.{Marks, is_any}
 use Rattle.sfc_text.specs.Sorts.{Sort, Sorted}
 use Rattle.sfc_text.specs.Rules.{Rule, token, nothing, map, both, either, many, chain, ahead, inner, counted}
-use Rattle.sfc_text.specs.Building.{Place}
+use Rattle.sfc_text.specs.Building.{NamesOrLocation}
 use Rattle.sfc_text.specs.Parsing.Lookahead.{begins, first}
 
 -- why tokens are refused: they can't go on so, or a limit is passed
@@ -100,8 +100,8 @@ abbrev pub behind : {X : Type 0} → List X → Read (List X × Kinds) → Read 
 behind front r = made (λ xs. front ++ xs) r
 
 -- the names of a declaration with the first one before them
-abbrev pub with_first : List ℕ → Place → Place
-with_first first place = (first ∷ place.0, place.1)
+abbrev pub with_first : List ℕ → NamesOrLocation → NamesOrLocation
+with_first first names_or_location = (first ∷ names_or_location.0, names_or_location.1)
 
 -- the names of a configuration, and the globals of both levels in one list
 abbrev pub in_one_list :

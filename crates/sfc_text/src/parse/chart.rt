@@ -13,10 +13,10 @@ ghost use Rattle.sfc_text.specs.Rules as rules;
 ghost use Rattle.sfc_text.specs.Terms as terms;
 ghost use Rattle.sfc_text.specs.Terms.{maybe, ◌▸◌, ◌◂◌};
 ghost use Rattle.sfc_text.specs.Trees.{ElementTree, action_of, block_of, element_of, transition_of, tree_of};
-ghost use Rattle.sfc_tokens.specs.declared.delimiter.Delimiter.TheVariants as delimiter;
+ghost use Rattle.sfc_base.specs.declared.delimiter.Delimiter.TheVariants as delimiter;
 
 use crate::expression::Expression;
-use crate::parse::expression::expression;
+use crate::parse::expression::{MOST_LEVELS, expression};
 use crate::parse::fault::ParseFault;
 use crate::parse::list::Item;
 use crate::parse::statement::body;
@@ -27,15 +27,12 @@ use crate::parse::terminal::{
 use crate::parse::variables::names;
 use crate::statement::Statement;
 use crate::tree::{Action, Element, Transition};
-use sfc_tokens::delimiter::Delimiter;
-use sfc_tokens::items::Items;
-use sfc_tokens::keyword::Keyword;
-use sfc_tokens::name::Name;
+use sfc_base::delimiter::Delimiter;
+use sfc_base::items::Items;
+use sfc_base::keyword::Keyword;
+use sfc_base::name::Name;
 use sfc_tokens::token::Token;
 use std::alloc::Global;
-
-/// How deep parentheses, prefix operators and IF statements may nest (our choice).
-const MOST_LEVELS: u8 = 64;
 
 // The name of a transition, where there is one.
 fn maybe_name(alloc: Global, tokens: &[Token]) -> Result<(Option<Name>, &[Token]), ParseFault>

@@ -10,8 +10,8 @@ ghost use Rattle.sfc_text.specs.Parsing.Reading.{Gives, behind, in_one_list, mad
 ghost use Rattle.sfc_text.specs.Parsing.Takes.{task_takes, instance_takes};
 ghost use Rattle.sfc_text.specs.Terms.{else_given, gathered, maybe, some_of, ◌▸◌, ◌◂◌};
 ghost use Rattle.sfc_text.specs.Terms as terms;
-ghost use Rattle.sfc_tokens.specs.declared.delimiter.Delimiter.TheVariants as delimiter;
-ghost use Rattle.sfc_tokens.specs.declared.keyword.Keyword.TheVariants as reserved;
+ghost use Rattle.sfc_base.specs.declared.delimiter.Delimiter.TheVariants as delimiter;
+ghost use Rattle.sfc_base.specs.declared.keyword.Keyword.TheVariants as reserved;
 
 use crate::parse::fault::ParseFault;
 use crate::parse::list::{Item, list, list_behind};
@@ -19,11 +19,11 @@ use crate::parse::terminal::{
     begins_named, begins_word, duration, integer, name, named, sign, syntax, word,
 };
 use crate::tree::{Configuration, Declaration, Instance, Task};
-use sfc_tokens::delimiter::Delimiter;
-use sfc_tokens::items::Items;
-use sfc_tokens::keyword::Keyword;
-use sfc_tokens::name::Name;
-use sfc_tokens::time_value::TimeValue;
+use sfc_base::delimiter::Delimiter;
+use sfc_base::items::Items;
+use sfc_base::keyword::Keyword;
+use sfc_base::name::Name;
+use sfc_base::time_value::TimeValue;
 use sfc_tokens::token::Token;
 use std::alloc::Global;
 

@@ -5,24 +5,27 @@ ghost use Rattle.sfc_tokens.specs.Tokens.{kinds};
 ghost use Rattle.sfc_text.specs.Grammar as grammar;
 ghost use Rattle.sfc_text.specs.Parsing.Counting.{Counts, CountsPair};
 ghost use Rattle.sfc_text.specs.Parsing.Depth.{at, inside, reads};
-ghost use Rattle.sfc_text.specs.Parsing.Reading.{Gives, pair, view, view_by};
+ghost use Rattle.sfc_text.specs.Parsing.Reading.{Gives, ended, pair, view, view_by};
 ghost use Rattle.sfc_text.specs.Sorts.{AnExpression, AnOperand};
 ghost use Rattle.sfc_text.specs.Terms as terms;
 ghost use Rattle.sfc_text.specs.Terms.{maybe, ◌▸◌};
 ghost use Rattle.sfc_text.specs.Trees.{Binary, tree_of, operators};
-ghost use Rattle.sfc_tokens.specs.declared.delimiter.Delimiter.TheVariants as delimiter;
+ghost use Rattle.sfc_base.specs.declared.delimiter.Delimiter.TheVariants as delimiter;
 
 use crate::expression::{Expression, Operator, Variable};
 use crate::parse::fault::ParseFault;
 use crate::parse::operator::{begins_operator, operator};
 use crate::parse::terminal::{
-    begins_name, begins_sign, literal, name, sign, signed, too_deep, word,
+    begins_name, begins_sign, literal, name, sign, signed, syntax, too_deep, word,
 };
-use sfc_tokens::delimiter::Delimiter;
-use sfc_tokens::keyword::Keyword;
-use sfc_tokens::name::Name;
+use sfc_base::delimiter::Delimiter;
+use sfc_base::keyword::Keyword;
+use sfc_base::name::Name;
 use sfc_tokens::token::{Token, TokenKind};
 use std::alloc::{AllocError, Global};
+
+/// How deep parentheses, prefix operators and IF statements may nest (our choice).
+pub const MOST_LEVELS: u8 = 64;
 
 /// How many operators one expression has at most (our choice).
 const MOST_OPERATORS: u16 = 256;
@@ -36,19 +39,19 @@ struct Counted {
 
 /// How many levels may still open, and how many operators may still come.
 #[derive(Clone, Copy)]
-struct Room {
+struct Budget {
     levels: u8,
     operators: u16,
 }
 
-impl Room {
-    // The room that is left behind so many operators.
-    fn after_operators(self, count: u16) -> Room
+impl Budget {
+    // The budget that is left behind so many operators.
+    fn after_operators(self, count: u16) -> Budget
         requires { count ≤ self.operators }
         ensures levels { result.levels ≡ self.levels }
         ensures operators { result.operators ≡ self.operators - count }
     {
-        Room {
+        Budget {
             levels: self.levels,
             operators: self.operators - count,
         }
@@ -84,16 +87,16 @@ pub fn variable(alloc: Global, tokens: &[Token]) -> Result<(Variable, &[Token]),
 fn nested_expression(
     alloc: Global,
     tokens: &[Token],
-    room: Room,
+    budget: Budget,
 ) -> Result<(Counted, &[Token]), ParseFault>
-    ensures { Counts room.operators result (inside 256 room.levels AnExpression (kinds tokens.now)) }
+    ensures { Counts budget.operators result (inside 256 budget.levels AnExpression (kinds tokens.now)) }
 {
-    if room.levels == 0 {
+    if budget.levels == 0 {
         return Err(too_deep(tokens));
     }
-    let inner = Room {
-        levels: room.levels - 1,
-        operators: room.operators,
+    let inner = Budget {
+        levels: budget.levels - 1,
+        operators: budget.operators,
     };
     joined(alloc, tokens, 7, inner)
 }
@@ -104,16 +107,16 @@ fn nested_expression(
 fn nested_operand(
     alloc: Global,
     tokens: &[Token],
-    room: Room,
+    budget: Budget,
 ) -> Result<(Counted, &[Token]), ParseFault>
-    ensures { Counts room.operators result (inside 256 room.levels AnOperand (kinds tokens.now)) }
+    ensures { Counts budget.operators result (inside 256 budget.levels AnOperand (kinds tokens.now)) }
 {
-    if room.levels == 0 {
+    if budget.levels == 0 {
         return Err(too_deep(tokens));
     }
-    let inner = Room {
-        levels: room.levels - 1,
-        operators: room.operators,
+    let inner = Budget {
+        levels: budget.levels - 1,
+        operators: budget.operators,
     };
     unary(alloc, tokens, inner)
 }
@@ -124,12 +127,12 @@ fn nested_operand(
 fn parenthesized(
     alloc: Global,
     tokens: &[Token],
-    room: Room,
+    budget: Budget,
 ) -> Result<(Counted, &[Token]), ParseFault>
-    ensures { Counts room.operators result (at room.levels grammar.parenthesized (kinds tokens.now)) }
+    ensures { Counts budget.operators result (at budget.levels grammar.parenthesized (kinds tokens.now)) }
 {
     let tokens = sign(tokens, Delimiter::Open)?;
-    let (inner, tokens) = nested_expression(alloc, tokens, room)?;
+    let (inner, tokens) = nested_expression(alloc, tokens, budget)?;
     let tokens = sign(tokens, Delimiter::Close)?;
     Ok((inner, tokens))
 }
@@ -137,11 +140,15 @@ fn parenthesized(
 // An operand without prefix operators.
 #[cycle(expression)]
 #[tactic(auto, unfolding(crate::specs::Grammar::primary, crate::specs::Grammar::literal, crate::specs::Grammar::variable, crate::specs::Grammar::parenthesized))]
-fn primary(alloc: Global, tokens: &[Token], room: Room) -> Result<(Counted, &[Token]), ParseFault>
-    ensures { Counts room.operators result (at room.levels grammar.primary (kinds tokens.now)) }
+fn primary(
+    alloc: Global,
+    tokens: &[Token],
+    budget: Budget,
+) -> Result<(Counted, &[Token]), ParseFault>
+    ensures { Counts budget.operators result (at budget.levels grammar.primary (kinds tokens.now)) }
 {
     if begins_sign(tokens, Delimiter::Open) {
-        return parenthesized(alloc, tokens, room);
+        return parenthesized(alloc, tokens, budget);
     }
     if begins_name(tokens) {
         let (variable, tokens) = variable(alloc, tokens)?;
@@ -160,14 +167,18 @@ fn primary(alloc: Global, tokens: &[Token], room: Room) -> Result<(Counted, &[To
 // An operand with a minus before it.
 #[cycle(expression)]
 #[tactic(auto, unfolding(crate::specs::Grammar::opposite))]
-fn opposite(alloc: Global, tokens: &[Token], room: Room) -> Result<(Counted, &[Token]), ParseFault>
-    ensures { Counts room.operators result (at room.levels grammar.opposite (kinds tokens.now)) }
+fn opposite(
+    alloc: Global,
+    tokens: &[Token],
+    budget: Budget,
+) -> Result<(Counted, &[Token]), ParseFault>
+    ensures { Counts budget.operators result (at budget.levels grammar.opposite (kinds tokens.now)) }
 {
     let rest = sign(tokens, Delimiter::Minus)?;
-    if room.operators == 0 {
+    if budget.operators == 0 {
         return Err(too_deep(tokens));
     }
-    let (inner, rest) = nested_operand(alloc, rest, room.after_operators(1))?;
+    let (inner, rest) = nested_operand(alloc, rest, budget.after_operators(1))?;
     let Counted { tree, operators } = inner;
     let counted = Counted {
         tree: Expression::Minus(Box::new(alloc, tree)?),
@@ -179,14 +190,18 @@ fn opposite(alloc: Global, tokens: &[Token], room: Room) -> Result<(Counted, &[T
 // An operand with NOT before it.
 #[cycle(expression)]
 #[tactic(auto, unfolding(crate::specs::Grammar::negation))]
-fn negation(alloc: Global, tokens: &[Token], room: Room) -> Result<(Counted, &[Token]), ParseFault>
-    ensures { Counts room.operators result (at room.levels grammar.negation (kinds tokens.now)) }
+fn negation(
+    alloc: Global,
+    tokens: &[Token],
+    budget: Budget,
+) -> Result<(Counted, &[Token]), ParseFault>
+    ensures { Counts budget.operators result (at budget.levels grammar.negation (kinds tokens.now)) }
 {
     let rest = word(tokens, Keyword::Not)?;
-    if room.operators == 0 {
+    if budget.operators == 0 {
         return Err(too_deep(tokens));
     }
-    let (inner, rest) = nested_operand(alloc, rest, room.after_operators(1))?;
+    let (inner, rest) = nested_operand(alloc, rest, budget.after_operators(1))?;
     let Counted { tree, operators } = inner;
     let counted = Counted {
         tree: Expression::Not(Box::new(alloc, tree)?),
@@ -198,8 +213,8 @@ fn negation(alloc: Global, tokens: &[Token], room: Room) -> Result<(Counted, &[T
 // An operand with its prefix operators.
 #[cycle(expression)]
 #[tactic(auto, unfolding(crate::specs::Grammar::unary, crate::specs::Grammar::opposite, crate::specs::Grammar::negation, crate::specs::Grammar::signed))]
-fn unary(alloc: Global, tokens: &[Token], room: Room) -> Result<(Counted, &[Token]), ParseFault>
-    ensures { Counts room.operators result (at room.levels grammar.unary (kinds tokens.now)) }
+fn unary(alloc: Global, tokens: &[Token], budget: Budget) -> Result<(Counted, &[Token]), ParseFault>
+    ensures { Counts budget.operators result (at budget.levels grammar.unary (kinds tokens.now)) }
 {
     match tokens {
         [
@@ -225,15 +240,15 @@ fn unary(alloc: Global, tokens: &[Token], room: Room) -> Result<(Counted, &[Toke
                 ..
             },
             ..
-        ] => opposite(alloc, tokens, room),
+        ] => opposite(alloc, tokens, budget),
         [
             Token {
                 kind: TokenKind::Keyword(Keyword::Not),
                 ..
             },
             ..
-        ] => negation(alloc, tokens, room),
-        _ => primary(alloc, tokens, room),
+        ] => negation(alloc, tokens, budget),
+        _ => primary(alloc, tokens, budget),
     }
 }
 
@@ -257,14 +272,14 @@ fn operand(
     alloc: Global,
     tokens: &[Token],
     level: u8,
-    room: Room,
+    budget: Budget,
 ) -> Result<(Operator, Counted, &[Token]), ParseFault>
     requires some { 1 ≤ level }
     requires most { level ≤ 7 }
-    ensures { CountsPair room.operators result (pair (at room.levels (grammar.operator level)) (at room.levels (grammar.joined (level - 1))) (kinds tokens.now)) }
+    ensures { CountsPair budget.operators result (pair (at budget.levels (grammar.operator level)) (at budget.levels (grammar.joined (level - 1))) (kinds tokens.now)) }
 {
     let (operator, tokens) = operator(tokens, level)?;
-    let (operand, tokens) = joined(alloc, tokens, level - 1, room)?;
+    let (operand, tokens) = joined(alloc, tokens, level - 1, budget)?;
     Ok((operator, operand, tokens))
 }
 
@@ -275,28 +290,28 @@ fn joined(
     alloc: Global,
     tokens: &[Token],
     level: u8,
-    room: Room,
+    budget: Budget,
 ) -> Result<(Counted, &[Token]), ParseFault>
     requires { level ≤ 7 }
-    ensures { Counts room.operators result (at room.levels (grammar.joined level) (kinds tokens.now)) }
+    ensures { Counts budget.operators result (at budget.levels (grammar.joined level) (kinds tokens.now)) }
 {
     if level == 0 {
-        return unary(alloc, tokens, room);
+        return unary(alloc, tokens, budget);
     }
-    let (first, mut rest) = joined(alloc, tokens, level - 1, room)?;
+    let (first, mut rest) = joined(alloc, tokens, level - 1, budget)?;
     let Counted {
         mut tree,
         mut operators,
     } = first;
     'operands: while begins_operator(rest, level) {
-        if operators >= room.operators {
+        if operators >= budget.operators {
             return Err(too_deep(rest));
         }
         let (operator, second, behind) = operand(
             alloc,
             rest,
             level,
-            room.after_operators(operators + 1),
+            budget.after_operators(operators + 1),
         )?;
         tree = binary(alloc, operator, tree, second.tree)?;
         operators += second.operators + 1;
@@ -314,10 +329,21 @@ pub fn expression(
 ) -> Result<(Expression, &[Token]), ParseFault>
     ensures { Gives (view_by tree_of) result (at levels grammar.expression (kinds tokens.now)) }
 {
-    let room = Room {
+    let budget = Budget {
         levels,
         operators: MOST_OPERATORS,
     };
-    let (Counted { tree, .. }, tokens) = joined(alloc, tokens, 7, room)?;
+    let (Counted { tree, .. }, tokens) = joined(alloc, tokens, 7, budget)?;
     Ok((tree, tokens))
+}
+
+/// The expression that all tokens are.
+pub fn whole_expression(alloc: Global, tokens: &[Token]) -> Result<Expression, ParseFault>
+    ensures { Gives tree_of result (ended (reads grammar.expression (kinds tokens.now))) }
+{
+    let (tree, rest) = expression(alloc, tokens, MOST_LEVELS)?;
+    match rest {
+        [] => Ok(tree),
+        [_, ..] => Err(syntax(rest)),
+    }
 }

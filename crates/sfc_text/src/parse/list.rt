@@ -10,7 +10,7 @@ ghost use Rattle.sfc_text.specs.Rules.{Rule};
 ghost use Rattle.sfc_text.specs.Terms.{repeated};
 
 use crate::parse::fault::ParseFault;
-use sfc_tokens::items::Items;
+use sfc_base::items::Items;
 use sfc_tokens::token::Token;
 use std::alloc::Global;
 

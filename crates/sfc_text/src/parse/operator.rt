@@ -12,8 +12,8 @@ ghost use Rattle.sfc_text.specs.Parsing.Reading.{Gives, view};
 use crate::expression::Operator;
 use crate::parse::fault::ParseFault;
 use crate::parse::terminal::{begins_sign, begins_word, syntax};
-use sfc_tokens::delimiter::Delimiter;
-use sfc_tokens::keyword::Keyword;
+use sfc_base::delimiter::Delimiter;
+use sfc_base::keyword::Keyword;
 use sfc_tokens::token::{Token, TokenKind};
 
 // The operator that the token is.

@@ -14,8 +14,8 @@ use crate::parse::fault::ParseFault;
 use crate::parse::list::{Item, list, list_behind};
 use crate::parse::terminal::{begins_word, name, syntax, word};
 use crate::tree::{Program, Source};
-use sfc_tokens::items::Items;
-use sfc_tokens::keyword::Keyword;
+use sfc_base::items::Items;
+use sfc_base::keyword::Keyword;
 use sfc_tokens::token::Token;
 use std::alloc::Global;
 

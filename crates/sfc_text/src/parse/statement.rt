@@ -15,8 +15,8 @@ use crate::parse::expression::{expression, variable};
 use crate::parse::fault::ParseFault;
 use crate::parse::terminal::{begins_name, begins_sign, begins_word, sign, too_deep, word};
 use crate::statement::{Branch, Statement};
-use sfc_tokens::delimiter::Delimiter;
-use sfc_tokens::keyword::Keyword;
+use sfc_base::delimiter::Delimiter;
+use sfc_base::keyword::Keyword;
 use sfc_tokens::token::Token;
 use std::alloc::Global;
 

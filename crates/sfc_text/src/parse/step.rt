@@ -13,15 +13,16 @@ ghost use Rattle.sfc_text.specs.Parsing.Takes.{association_takes};
 ghost use Rattle.sfc_text.specs.Rules.{both};
 ghost use Rattle.sfc_text.specs.Terms as terms;
 ghost use Rattle.sfc_text.specs.Terms.{else_given, ◌◂◌};
-ghost use Rattle.sfc_tokens.specs.declared.delimiter.Delimiter.TheVariants as delimiter;
+ghost use Rattle.sfc_base.specs.declared.delimiter.Delimiter.TheVariants as delimiter;
 
 use crate::parse::fault::ParseFault;
 use crate::parse::list::{Item, list};
 use crate::parse::terminal::{begins_name, duration, name, sign, syntax, word};
-use crate::tree::{Association, AssociationTime, Qualifier, Step, TimedQualifier};
-use sfc_tokens::case::is_same_word;
-use sfc_tokens::delimiter::Delimiter;
-use sfc_tokens::keyword::Keyword;
+use crate::tree::{Association, AssociationTime, Qualifier, Step};
+use sfc_base::case::is_same_word;
+use sfc_base::delimiter::Delimiter;
+use sfc_base::keyword::Keyword;
+use sfc_base::qualifier::TimedQualifier;
 use sfc_tokens::token::{Token, TokenKind};
 use std::alloc::Global;
 

@@ -13,14 +13,14 @@ ghost use Rattle.sfc_text.specs.Terms as terms;
 
 use crate::parse::fault::ParseFault;
 use crate::tree::Literal;
-use sfc_tokens::case::is_same_word;
-use sfc_tokens::delimiter::Delimiter;
-use sfc_tokens::keyword::Keyword;
-use sfc_tokens::location::Location;
-use sfc_tokens::name::Name;
-use sfc_tokens::time_value::TimeValue;
+use sfc_base::case::is_same_word;
+use sfc_base::delimiter::Delimiter;
+use sfc_base::keyword::Keyword;
+use sfc_base::location::Location;
+use sfc_base::name::Name;
+use sfc_base::time_value::TimeValue;
+use sfc_base::var_type::VarType;
 use sfc_tokens::token::{Token, TokenKind};
-use sfc_tokens::var_type::VarType;
 use std::alloc::Global;
 
 /// The token at the front of these can't stand there.

@@ -14,8 +14,8 @@ ghost use Rattle.sfc_text.specs.Parsing.Takes.{further_name_takes, declaration_t
 ghost use Rattle.sfc_text.specs.Rules.{map};
 ghost use Rattle.sfc_text.specs.Terms as terms;
 ghost use Rattle.sfc_text.specs.Terms.{maybe, repeated, ◌▸◌, ◌◂◌};
-ghost use Rattle.sfc_tokens.specs.declared.delimiter.Delimiter.TheVariants as delimiter;
-ghost use Rattle.sfc_tokens.specs.declared.keyword.Keyword.TheVariants as reserved;
+ghost use Rattle.sfc_base.specs.declared.delimiter.Delimiter.TheVariants as delimiter;
+ghost use Rattle.sfc_base.specs.declared.keyword.Keyword.TheVariants as reserved;
 
 use crate::parse::fault::ParseFault;
 use crate::parse::list::{Item, list, list_behind};
@@ -23,11 +23,11 @@ use crate::parse::terminal::{
     begins_name, begins_sign, begins_word, literal, location, name, sign, signed, var_type, word,
 };
 use crate::tree::{Declaration, External, Literal, VariableBlock};
-use sfc_tokens::delimiter::Delimiter;
-use sfc_tokens::items::Items;
-use sfc_tokens::keyword::Keyword;
-use sfc_tokens::location::Location;
-use sfc_tokens::name::Name;
+use sfc_base::delimiter::Delimiter;
+use sfc_base::items::Items;
+use sfc_base::keyword::Keyword;
+use sfc_base::location::Location;
+use sfc_base::name::Name;
 use sfc_tokens::token::Token;
 use std::alloc::Global;
 
@@ -85,26 +85,30 @@ pub fn names(alloc: Global, tokens: &[Token]) -> Result<(Items<Name>, &[Token]),
 }
 
 // The names of a declaration, and its location.
-struct Placed {
+struct LocatedNames {
     names: Items<Name>,
     location: Option<Location>,
 }
 
 // The names of a declaration behind its first one, in one list with it, or its location.
-#[tactic(auto, unfolding(crate::specs::Grammar::place))]
-fn place(alloc: Global, first: Name, tokens: &[Token]) -> Result<(Placed, &[Token]), ParseFault>
-    ensures { Gives (view_by (λ placed. (placed.names, placed.location))) result (made (with_first first) (reads grammar.place (kinds tokens.now))) }
+#[tactic(auto, unfolding(crate::specs::Grammar::names_or_location))]
+fn names_or_location(
+    alloc: Global,
+    first: Name,
+    tokens: &[Token],
+) -> Result<(LocatedNames, &[Token]), ParseFault>
+    ensures { Gives (view_by (λ located. (located.names, located.location))) result (made (with_first first) (reads grammar.names_or_location (kinds tokens.now))) }
 {
     if begins_word(tokens, Keyword::At) {
         let tokens = word(tokens, Keyword::At)?;
         let (location, tokens) = location(alloc, tokens)?;
         let names = Items::one(alloc, first)?;
         let location = Some(location);
-        Ok((Placed { names, location }, tokens))
+        Ok((LocatedNames { names, location }, tokens))
     } else {
         let (names, tokens) = names_behind(alloc, first, tokens)?;
         let location = None;
-        Ok((Placed { names, location }, tokens))
+        Ok((LocatedNames { names, location }, tokens))
     }
 }
 
@@ -151,7 +155,7 @@ impl Item for Declaration {
     #[tactic(auto, unfolding(crate::specs::Grammar::declaration))]
     fn read(alloc: Global, tokens: &[Token]) -> Result<(Declaration, &[Token]), ParseFault> {
         let (first, tokens) = name(alloc, tokens)?;
-        let (Placed { names, location }, tokens) = place(alloc, first, tokens)?;
+        let (LocatedNames { names, location }, tokens) = names_or_location(alloc, first, tokens)?;
         let tokens = sign(tokens, Delimiter::Colon)?;
         let (var_type, tokens) = var_type(tokens)?;
         match maybe_initial_value(tokens) {

@@ -1,5 +1,5 @@
 use Rattle.std.proofs.Common.{◌≡◌, drop, length}
-use Rattle.sfc_expr.specs.Ticks.{Within}
+use Rattle.sfc_base.specs.Ticks.{Within}
 use Rattle.sfc_action.specs.Private.TimedSets.{AreAll}
 use Rattle.sfc_action.specs.Private.Delays.{gathered}
 use Rattle.sfc_action.proofs.blocks.gather.Given as goal

@@ -1,6 +1,6 @@
 use Rattle.std.proofs.Common.{◌≡◌, ◌<◌, ◌≤◌, ℕ}
 use Rattle.std.specs.Prelude.{slice_index_or}
-use Rattle.sfc_expr.specs.Ticks.{Within}
+use Rattle.sfc_base.specs.Ticks.{Within}
 use Rattle.sfc_flags.specs.Flags.{flag}
 use Rattle.sfc_action.specs.declared.blocks.Block.{Block}
 use Rattle.sfc_action.specs.Private.Delays.{input_of, preset_of, IsStepped}

@@ -1,5 +1,5 @@
 use Rattle.std.proofs.Common.{◌≡◌, ◌<◌, ℕ, None}
-use Rattle.sfc_expr.specs.Ticks.{Within}
+use Rattle.sfc_base.specs.Ticks.{Within}
 use Rattle.sfc_flags.specs.Words.{word_of}
 use Rattle.sfc_action.specs.Private.Failing.{fault_at}
 use Rattle.sfc_action.proofs.faults.is_faultless.Given as goal

@@ -2,7 +2,7 @@ use Rattle.std.proofs.Common.{◌≡◌, ◌<◌, ◌≤◌, ℕ, [], length, dr
 use Rattle.std.specs.Prelude.{slice_index_or, map}
 use Rattle.sfc_tables.specs.declared.step_action.StepAction.{StepAction}
 use Rattle.sfc_action.specs.Private.Keeping.{IsCovered, delay_of}
-use Rattle.sfc_action.specs.Delays.{with_delays}
+use Rattle.sfc_action.specs.Private.DelayLists.{with_delays}
 use Rattle.sfc_action.specs.Private.Listing.{IsListing}
 use Rattle.sfc_action.proofs.listing.list_blocks.Given as goal
 

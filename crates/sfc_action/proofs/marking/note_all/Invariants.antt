@@ -1,5 +1,5 @@
 use Rattle.std.proofs.Common.{◌≡◌, drop, length}
-use Rattle.sfc_expr.specs.Ticks.{Within}
+use Rattle.sfc_base.specs.Ticks.{Within}
 use Rattle.sfc_action.specs.Private.Marking.{AreSized, all_marked, all_presets}
 use Rattle.sfc_action.proofs.marking.note_all.Given as goal
 

@@ -18,7 +18,7 @@ loop-k-preserved c =
             high = omega (arith, invariant.high, w.edge.ensures.ticks.1);
             rises = λ all calls h.
                 risen _ before after k c.loop-k-test.true within all calls c.loop-k.tasks w.edge.new.self c.rose.result
-                c.rose.ensures w.if-rose.true (λ now a. w.edge.ensures.kept all now a) (invariant.rises all calls h);
+                c.rose.ensures w.if-rose.true (λ now a. w.edge.ensures.agrees all now a) (invariant.rises all calls h);
           })
       | else-rose w ↦
           rw (w.tasks-is, w.ticks-is, add-one) (record {

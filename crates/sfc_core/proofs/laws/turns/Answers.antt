@@ -1,6 +1,6 @@
 use Rattle.sfc_tasks.proofs.Picking.{picked_is}
 use Rattle.sfc_core.specs.Due.{calls_at}
-use Rattle.sfc_core.proofs.Turns.{picked_first, picked_runs, waits_not, another_first}
+use Rattle.sfc_core.proofs.Turns.{picked_first, picked_runs, waits_not, another_first, idle_refused, behind_refused}
 use Rattle.sfc_core.proofs.laws.turns.Goals as goal
 
 pub returns-clause-accepted : goal.returns-clause-accepted
@@ -18,3 +18,10 @@ returns-clause-other c plant h task first t e = (another_first plant h task t fi
 
 pub returns-clause-picked : goal.returns-clause-picked
 returns-clause-picked c plant h task t instant first = picked_runs plant h task t instant first
+
+pub returns-clause-idle : goal.returns-clause-idle
+returns-clause-idle c plant h task t instant lt idle = idle_refused plant h task t instant lt idle
+
+pub returns-clause-behind : goal.returns-clause-behind
+returns-clause-behind c plant h task first t since instant lt waits goes_first other =
+    behind_refused plant h task t first since instant lt waits goes_first other

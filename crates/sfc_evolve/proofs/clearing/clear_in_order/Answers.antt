@@ -1,8 +1,8 @@
 use Rattle.std.proofs.Common.{◌≡◌, ◌∙◌, ◌<◌, ◌+◌, suc, List, ap, refl, sym, length, get_or, arith, drop, false, Bool}
 use Rattle.std.proofs.lemmas.List.{length-drop, length-replicate, length-set}
 use Rattle.sfc_flags.specs.Flags.{flag, places_passed}
-use Rattle.sfc_tables.specs.declared.ids.TransitionId.{TransitionId}
-use Rattle.sfc_evolve.specs.Evolution.{preceding_of}
+use Rattle.sfc_base.specs.declared.ids.TransitionId.{TransitionId}
+use Rattle.sfc_evolve.specs.Clearing.{preceding_of}
 use Rattle.sfc_evolve.specs.Private.Keeping.{clearing_work}
 use Rattle.sfc_evolve.proofs.Next.{none_set}
 use Rattle.sfc_evolve.proofs.Placed.{ranks_long}

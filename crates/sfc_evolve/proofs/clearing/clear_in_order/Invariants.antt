@@ -1,6 +1,6 @@
 use Rattle.std.proofs.Common.{◌≡◌, ◌≤◌, ◌+◌, ◌-◌, drop, length}
 use Rattle.sfc_flags.specs.Flags.{flag, places_from}
-use Rattle.sfc_evolve.specs.Evolution.{cleared_in}
+use Rattle.sfc_evolve.specs.Clearing.{cleared_in}
 use Rattle.sfc_evolve.specs.Private.Keeping.{clearing_work}
 use Rattle.sfc_evolve.specs.Private.Proposing.{at_places}
 use Rattle.sfc_evolve.proofs.clearing.clear_in_order.Given as goal

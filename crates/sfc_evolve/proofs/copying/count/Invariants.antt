@@ -1,4 +1,4 @@
-use Rattle.sfc_expr.specs.Ticks.{Within}
+use Rattle.sfc_base.specs.Ticks.{Within}
 use Rattle.sfc_evolve.proofs.copying.count.Given as goal
 
 abbrev pub invariant-loop : goal.invariant-loop

@@ -1,7 +1,7 @@
 use Rattle.std.proofs.Common.{◌≡◌, ◌≤◌, ◌+◌, ◌-◌, drop, length}
 use Rattle.sfc_flags.specs.Flags.{places_from}
 use Rattle.sfc_evolve.specs.Marks.{marked}
-use Rattle.sfc_evolve.specs.Evolution.{following_of}
+use Rattle.sfc_evolve.specs.Clearing.{following_of}
 use Rattle.sfc_evolve.specs.Private.Keeping.{changed_by, side_work}
 use Rattle.sfc_evolve.proofs.marking.mark_following.Given as goal
 

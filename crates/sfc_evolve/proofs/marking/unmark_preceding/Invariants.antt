@@ -1,7 +1,7 @@
 use Rattle.std.proofs.Common.{◌≡◌, ◌≤◌, ◌+◌, ◌-◌, drop, length}
 use Rattle.sfc_flags.specs.Flags.{places_from}
 use Rattle.sfc_evolve.specs.Private.Keeping.{unmarked}
-use Rattle.sfc_evolve.specs.Evolution.{preceding_of}
+use Rattle.sfc_evolve.specs.Clearing.{preceding_of}
 use Rattle.sfc_evolve.specs.Private.Keeping.{changed_by, side_work}
 use Rattle.sfc_evolve.proofs.marking.unmark_preceding.Given as goal
 

@@ -1,6 +1,6 @@
 use Rattle.std.proofs.Common.{◌≡◌, drop}
 use Rattle.std.specs.List.{list_all}
-use Rattle.sfc_expr.specs.Ticks.{Within}
+use Rattle.sfc_base.specs.Ticks.{Within}
 use Rattle.sfc_flags.specs.Flags.{flag}
 use Rattle.sfc_evolve.proofs.marks.all_set.Given as goal
 

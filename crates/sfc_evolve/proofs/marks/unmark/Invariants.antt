@@ -1,5 +1,5 @@
 use Rattle.std.proofs.Common.{◌≡◌, drop, length}
-use Rattle.sfc_expr.specs.Ticks.{Within}
+use Rattle.sfc_base.specs.Ticks.{Within}
 use Rattle.sfc_evolve.specs.Private.Keeping.{unmarked}
 use Rattle.sfc_evolve.proofs.marks.unmark.Given as goal
 

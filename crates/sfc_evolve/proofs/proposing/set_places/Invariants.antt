@@ -1,5 +1,5 @@
 use Rattle.std.proofs.Common.{◌≡◌, drop, length}
-use Rattle.sfc_expr.specs.Ticks.{Within}
+use Rattle.sfc_base.specs.Ticks.{Within}
 use Rattle.sfc_evolve.specs.Private.Keeping.{set_at}
 use Rattle.sfc_evolve.proofs.proposing.set_places.Given as goal
 

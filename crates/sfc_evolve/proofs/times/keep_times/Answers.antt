@@ -18,7 +18,7 @@ cleared-preserved c =
     let tr = c.in-Some.tr in
     let s : suc tr ≡ tr + 1 = omega arith in
     record {
-      rest = rw (c.leave.ensures.kept, c.preceding.ensures) (rw c.in-Some.ensures.some.2 at c.cleared.invariant.rest);
+      rest = rw (c.leave.ensures.held_times, c.preceding.ensures) (rw c.in-Some.ensures.some.2 at c.cleared.invariant.rest);
       within = omega (arith, c.in-Some.ensures.some);
       rises = omega (arith, c.in-Some.ensures.ticks);
       ticks =

@@ -1,13 +1,13 @@
 use Rattle.std.proofs.Common.{◌≡◌, ◌≤◌, ◌+◌, ◌-◌, drop, length}
 use Rattle.sfc_flags.specs.Flags.{places_from}
-use Rattle.sfc_evolve.specs.Evolution.{preceding_of}
+use Rattle.sfc_evolve.specs.Clearing.{preceding_of}
 use Rattle.sfc_evolve.specs.Private.Keeping.{left_by, side_work}
 use Rattle.sfc_evolve.proofs.times.keep_times.Given as goal
 
 abbrev pub invariant-cleared : goal.invariant-cleared
 invariant-cleared l = record {
-  rest : left_by l.t l.since (preceding_of l.tables.sides) (places_from l.cleared l.at) l.kept
-      ≡ left_by l.t l.since (preceding_of l.tables.sides) (places_from l.cleared 0) l.initial.kept;
+  rest : left_by l.t l.since (preceding_of l.tables.sides) (places_from l.cleared l.at) l.held_times
+      ≡ left_by l.t l.since (preceding_of l.tables.sides) (places_from l.cleared 0) l.initial.held_times;
   within : l.at ≤ length l.cleared;
   rises : l.initial.ticks.count ≤ l.ticks.count;
   ticks : l.ticks.count + side_work (λ sides. sides.preceding) (drop l.at l.tables.sides)

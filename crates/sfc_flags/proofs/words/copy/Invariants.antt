@@ -1,5 +1,5 @@
 use Rattle.std.proofs.Common.{◌≡◌, ℕ, ◌<◌, get_or}
-use Rattle.sfc_expr.specs.Ticks.{Within}
+use Rattle.sfc_base.specs.Ticks.{Within}
 use Rattle.sfc_flags.proofs.words.copy.Given as goal
 
 abbrev pub invariant-loop-k : goal.invariant-loop-k

@@ -1,6 +1,6 @@
 use Rattle.std.proofs.Common.{◌≡◌, ℕ, ◌<◌, ◌≤◌, ◌*◌, ◌-◌, false}
 use Rattle.sfc_flags.specs.Private.Bits.{bit}
-use Rattle.sfc_expr.specs.Ticks.{Within}
+use Rattle.sfc_base.specs.Ticks.{Within}
 use Rattle.sfc_flags.proofs.words.next.Given as goal
 
 abbrev pub invariant-loop-k : goal.invariant-loop-k

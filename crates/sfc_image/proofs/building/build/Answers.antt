@@ -1,6 +1,6 @@
 use Rattle.std.proofs.Common.{◌≡◌, ◌+◌, ◌<◌, ◌∙◌, length, ap, refl}
 use Rattle.std.proofs.lemmas.List.{length_push}
-use Rattle.sfc_chart.specs.Image.{locals_of}
+use Rattle.sfc_plant.specs.Image.{locals_of}
 use Rattle.sfc_image.specs.declared.slot.Locals.{Locals}
 use Rattle.sfc_image.proofs.Built.{slots_more, locals_more}
 use Rattle.sfc_image.proofs.building.build.Goals as goal

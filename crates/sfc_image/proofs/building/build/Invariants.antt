@@ -1,6 +1,6 @@
 use Rattle.std.proofs.Common.{◌≡◌, ℕ, ◌<◌, length, map, take, slice_get}
-use Rattle.sfc_chart.specs.Image.{image_of}
-use Rattle.sfc_chart.specs.Finding.{locals_at as locals_of}
+use Rattle.sfc_plant.specs.Image.{image_of}
+use Rattle.sfc_plant.specs.Finding.{locals_at as locals_of}
 use Rattle.sfc_image.specs.Private.Keeping.{fresh_slot, locals_at}
 use Rattle.sfc_image.proofs.building.build.Given as goal
 

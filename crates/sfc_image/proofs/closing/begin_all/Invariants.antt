@@ -1,4 +1,4 @@
-use Rattle.sfc_expr.specs.Ticks.{Within}
+use Rattle.sfc_base.specs.Ticks.{Within}
 use Rattle.sfc_image.specs.Private.Keeping.{AreBegun}
 use Rattle.sfc_image.proofs.closing.begin_all.Given as goal
 

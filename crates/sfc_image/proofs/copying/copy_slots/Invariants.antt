@@ -1,5 +1,5 @@
 use Rattle.std.proofs.Common.{◌≡◌, take}
-use Rattle.sfc_expr.specs.Ticks.{Within}
+use Rattle.sfc_base.specs.Ticks.{Within}
 use Rattle.sfc_image.proofs.copying.copy_slots.Given as goal
 
 abbrev pub invariant-loop-i : goal.invariant-loop-i

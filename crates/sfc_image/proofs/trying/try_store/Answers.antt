@@ -1,11 +1,11 @@
 use Rattle.std.proofs.Common.{ap}
 use Rattle.sfc_image.specs.declared.slot.Slot.{Slot}
-use Rattle.sfc_image.proofs.Tracked.{room_left, tracked_more}
+use Rattle.sfc_image.proofs.Tracked.{capacity_left, tracked_more}
 use Rattle.sfc_image.proofs.trying.try_store.Goals as goal
 
 pub bounds-written-count : goal.bounds-written-count
 bounds-written-count c =
-    room_left c.args.slots.now c.args.written.now c.args.count c.args.i c.requires.place c.if-slot.false c.requires.tracked
+    capacity_left c.args.slots.now c.args.written.now c.args.count c.args.i c.requires.place c.if-slot.false c.requires.tracked
 
 pub returns-clause-tracked : goal.returns-clause-tracked
 returns-clause-tracked c =

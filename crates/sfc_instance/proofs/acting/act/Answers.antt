@@ -1,7 +1,7 @@
 use Rattle.std.proofs.Common.{◌≡◌, ◌+◌, ◌-◌, ◌++◌, arith, List, length, drop, sym, ap, ◌∙◌, append_assoc}
-use Rattle.sfc_tables.specs.declared.action.Action.{Action}
-use Rattle.sfc_tables.specs.declared.chart.Chart.{Chart}
-use Rattle.sfc_chart.specs.Finding.{chart_of}
+use Rattle.sfc_plant.specs.declared.action.Action.{Action}
+use Rattle.sfc_plant.specs.declared.chart.Chart.{Chart}
+use Rattle.sfc_plant.specs.Finding.{chart_of}
 use Rattle.sfc_image.specs.Changes.{Change, trying}
 use Rattle.sfc_image.specs.Outputs.{outputs}
 use Rattle.sfc_instance.specs.Life.{control_scans}
@@ -19,7 +19,7 @@ overflow_sub-first c =
       arith,
       c.actions-count.ensures,
       ap (λ (xs : List Action). length xs) c.as_slice.ensures,
-      all_declared acting.setting.tables.now acting.setting.chart.now c.requires.tables,
+      all_declared acting.context.tables.now acting.context.chart.now c.requires.tables,
     )
 
 -- from the first declared action on
@@ -27,9 +27,9 @@ pub loop-action-init : goal.loop-action-init
 unfolding StateAgrees
 loop-action-init c =
     let acting = c.args.acting in
-    let tables = acting.setting.tables.now in
-    let chart = acting.setting.chart.now in
-    let p = acting.setting.instance in
+    let tables = acting.context.tables.now in
+    let chart = acting.context.chart.now in
+    let p = acting.context.instance in
     let q = c.q_flags.result.now in
     let first = c.actions-count.result - length c.as_slice.result.now in
     let count : first + length chart.actions ≡ length tables.actions =
@@ -37,19 +37,19 @@ loop-action-init c =
     record {
       large = c.assign_outputs.ensures.large;
       «open» = c.assign_outputs.ensures.«open» ∙ sym c.requires.«open»;
-      kept = λ plant life t kept tried after h.
-          let made = tables_is plant acting.setting after.setting in
+      agrees = λ plant life t committed tried after h.
+          let made = tables_is plant acting.context after.context in
           let outs : List Change = outputs plant p q 0 tables.actions in
-          let same : length chart.actions ≡ length (chart_of plant p).actions = ap (λ (x : Chart). length x.actions) after.setting.chart in
+          let same : length chart.actions ≡ length (chart_of plant p).actions = ap (λ (x : Chart). length x.actions) after.context.chart in
           record {
             tried = outs ++ tried;
-            agrees = c.assign_outputs.ensures.kept plant (trying kept tried) made h;
+            agrees = c.assign_outputs.ensures.agrees plant (trying committed tried) made h;
             rest =
-                ap (after_actions plant p life t first (drop first tables.actions)) (append_assoc outs tried kept)
+                ap (after_actions plant p life t first (drop first tables.actions)) (append_assoc outs tried committed)
                 ∙ outputs_first plant p life t q (length tables.actions) tables made first (omega (arith, count, same)) (omega arith)
                 (λ k lt. c.q_flags.ensures.each tables (control_scans tables life) k (omega (arith, lt, c.requires.sizes.controls.same_actions))
                 after.state.controls)
-                (tried ++ kept);
+                (tried ++ committed);
           };
       from = omega arith;
       rises = omega (arith, c.assign_outputs.ensures.ticks.0);
@@ -58,8 +58,8 @@ loop-action-init c =
 
 pub loop-action-preserved : goal.loop-action-preserved
 loop-action-preserved c =
-    let tables = c.args.acting.setting.tables.now in
-    let chart = c.args.acting.setting.chart.now in
+    let tables = c.args.acting.context.tables.now in
+    let chart = c.args.acting.context.chart.now in
     let targets = tables.actions in
     let first = c.actions-count.result - length c.as_slice.result.now in
     let i = c.loop-action.action in
@@ -76,19 +76,19 @@ loop-action-preserved c =
         instances = made.large.instances ∙ before.large.instances;
       };
       «open» = made.«open» ∙ before.«open»;
-      kept = λ plant life t kept tried after h.
-          let b = before.kept plant life t kept tried after h in
-          acts_on plant c.args.acting.setting.instance life t kept targets i target c.act_one-answer.new.image tried (b.tried ++ kept)
-          c.act_one-answer.result (sym c.is_err.ensures.value ∙ c.if-is_err.false) next.0 next.1 (made.kept plant life t kept b.tried after b.agrees) b.rest;
+      agrees = λ plant life t committed tried after h.
+          let b = before.agrees plant life t committed tried after h in
+          acts_on plant c.args.acting.context.instance life t committed targets i target c.act_one-answer.new.image tried (b.tried ++ committed)
+          c.act_one-answer.result (sym c.is_err.ensures.value ∙ c.if-is_err.false) next.0 next.1 (made.agrees plant life t committed b.tried after b.agrees) b.rest;
       from = omega (arith, before.from);
       rises = omega (arith, before.rises, made.ticks.0);
       ticks = omega (arith, work, made.ticks.1, before.ticks);
     }
 
-pub returns-then-is_err-clause-kept : goal.returns-then-is_err-clause-kept
-returns-then-is_err-clause-kept c plant life t kept tried after h =
-    let tables = c.args.acting.setting.tables.now in
-    let chart = c.args.acting.setting.chart.now in
+pub returns-then-is_err-clause-agrees : goal.returns-then-is_err-clause-agrees
+returns-then-is_err-clause-agrees c plant life t committed tried after h =
+    let tables = c.args.acting.context.tables.now in
+    let chart = c.args.acting.context.chart.now in
     let targets = tables.actions in
     let first = c.actions-count.result - length c.as_slice.result.now in
     let i = c.loop-action.action in
@@ -96,15 +96,15 @@ returns-then-is_err-clause-kept c plant life t kept tried after h =
     declared_at tables chart c.actions-count.result c.as_slice.result.now c.requires.tables c.actions-count.ensures c.as_slice.ensures i
     c.loop-action.invariant.from c.loop-action-test.true in
     let target = declared (i - first) in
-    let b = c.loop-action.invariant.kept plant life t kept tried after h in
-    acts_end plant c.args.acting.setting.instance life t kept targets i target c.act_one-answer.new.image tried (b.tried ++ kept)
+    let b = c.loop-action.invariant.agrees plant life t committed tried after h in
+    acts_end plant c.args.acting.context.instance life t committed targets i target c.act_one-answer.new.image tried (b.tried ++ committed)
     c.act_one-answer.result (sym c.is_err.ensures.value ∙ c.if-is_err.true) next.0 next.1
-    (c.act_one-answer.ensures.kept plant life t kept b.tried after b.agrees) b.rest
+    (c.act_one-answer.ensures.agrees plant life t committed b.tried after b.agrees) b.rest
 
 pub returns-then-is_err-clause-ticks : goal.returns-then-is_err-clause-ticks
 returns-then-is_err-clause-ticks c =
-    let tables = c.args.acting.setting.tables.now in
-    let chart = c.args.acting.setting.chart.now in
+    let tables = c.args.acting.context.tables.now in
+    let chart = c.args.acting.context.chart.now in
     let targets = tables.actions in
     let first = c.actions-count.result - length c.as_slice.result.now in
     let i = c.loop-action.action in
@@ -117,14 +117,14 @@ returns-then-is_err-clause-ticks c =
     let work = work_split targets i target chart next.0 next.1 in
     (omega (arith, before.rises, made.ticks.0), omega (arith, work, made.ticks.1, before.ticks, work_left chart targets (i + 1)))
 
-pub returns-clause-kept : goal.returns-clause-kept
-returns-clause-kept c plant life t kept tried after h =
-    acts_all plant c.args.acting.setting.instance life t kept c.args.acting.setting.tables.now.actions tried c.loop-action.action
+pub returns-clause-agrees : goal.returns-clause-agrees
+returns-clause-agrees c plant life t committed tried after h =
+    acts_all plant c.args.acting.context.instance life t committed c.args.acting.context.tables.now.actions tried c.loop-action.action
     c.loop-action.image (omega (arith, c.loop-action-test.false, c.actions-count.ensures))
-    (c.loop-action.invariant.kept plant life t kept tried after h)
+    (c.loop-action.invariant.agrees plant life t committed tried after h)
 
 pub returns-clause-ticks : goal.returns-clause-ticks
 returns-clause-ticks c =
     let before = c.loop-action.invariant in
-    let targets = c.args.acting.setting.tables.now.actions in
+    let targets = c.args.acting.context.tables.now.actions in
     (before.rises, omega (arith, before.ticks, c.loop-action-test.false, c.actions-count.ensures))

@@ -1,5 +1,5 @@
 use Rattle.std.proofs.Common.{◌≡◌, ◌+◌, ◌≤◌, List, length, drop, ℤ}
-use Rattle.sfc_chart.specs.Plants.{PlantData}
+use Rattle.sfc_plant.specs.Plants.{PlantData}
 use Rattle.sfc_image.specs.Changes.{Change, trying}
 use Rattle.sfc_image.specs.Agreement.{ImageAgrees, IsAsLarge, is_open}
 use Rattle.sfc_instance.specs.Life.{Life}
@@ -9,14 +9,14 @@ use Rattle.sfc_instance.proofs.acting.act.Given as goal
 
 abbrev pub invariant-loop-action : goal.invariant-loop-action
 invariant-loop-action l =
-    let targets = l.acting.setting.tables.now.actions in
+    let targets = l.acting.context.tables.now.actions in
     record {
       large : IsAsLarge l.fn.image l.image;
       «open» : is_open l.image ≡ is_open l.fn.image;
-      kept : (plant : PlantData) (life : Life) (t : ℤ) (kept tried : List Change) → IsAfter plant l.acting life t →
-          ImageAgrees plant l.fn.image (trying kept tried) → Follows plant l.acting.setting.instance life t kept targets tried l.action l.image;
+      agrees : (plant : PlantData) (life : Life) (t : ℤ) (committed tried : List Change) → IsAfter plant l.acting life t →
+          ImageAgrees plant l.fn.image (trying committed tried) → Follows plant l.acting.context.instance life t committed targets tried l.action l.image;
       from : l.first ≤ l.action;
       rises : l.fn.ticks.count ≤ l.ticks.count;
-      ticks : l.ticks.count + actions_work l.acting.setting.chart.now (drop l.action targets) + l.action
-          ≤ l.fn.ticks.count + actions_work l.acting.setting.chart.now targets + length targets;
+      ticks : l.ticks.count + actions_work l.acting.context.chart.now (drop l.action targets) + l.action
+          ≤ l.fn.ticks.count + actions_work l.acting.context.chart.now targets + length targets;
     }

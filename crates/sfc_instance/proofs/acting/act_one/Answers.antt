@@ -1,39 +1,39 @@
 use Rattle.std.proofs.Common.{◌≡◌, true, false, slice_get, sym, ap, ◌∙◌}
 use Rattle.sfc_expr.specs.Trees.{body_of}
-use Rattle.sfc_tables.specs.declared.chart.Chart.{Chart}
+use Rattle.sfc_plant.specs.declared.chart.Chart.{Chart}
 use Rattle.sfc_tables.specs.Tables.{Tabled, tables_of}
 use Rattle.sfc_action.specs.ActionControl as control
 use Rattle.sfc_image.specs.Changes.{trying}
 use Rattle.sfc_image.specs.Environments.{moment_of}
 use Rattle.sfc_instance.specs.Life.{control_scans, evolution_rows}
 use Rattle.sfc_evolve.specs.Evolution.{active_steps}
-use Rattle.sfc_chart.specs.Finding.{chart_of}
+use Rattle.sfc_plant.specs.Finding.{chart_of}
 use Rattle.sfc_instance.specs.ProgramScan.{body_in, moment, step_times}
 use Rattle.sfc_instance.specs.Agreement.{StateAgrees}
 use Rattle.sfc_instance.proofs.Acted.{body_acted, passed}
 use Rattle.sfc_instance.proofs.Readings.{tables_is}
 use Rattle.sfc_instance.proofs.acting.act_one.Goals as goal
 
-pub returns-then-not-executed-clause-kept : goal.returns-then-not-executed-clause-kept
+pub returns-then-not-executed-clause-agrees : goal.returns-then-not-executed-clause-agrees
 unfolding StateAgrees
-returns-then-not-executed-clause-kept c plant life t kept tried after h =
-    let tables = c.args.acting.setting.tables.now in
-    let p = c.args.acting.setting.instance in
+returns-then-not-executed-clause-agrees c plant life t committed tried after h =
+    let tables = c.args.acting.context.tables.now in
+    let p = c.args.acting.context.instance in
     let a = c.args.action.0 in
-    let made : tables ≡ tables_of (chart_of plant p) = tables_is plant c.args.acting.setting after.setting in
+    let made : tables ≡ tables_of (chart_of plant p) = tables_is plant c.args.acting.context after.context in
     let off : control.executed (tables_of (chart_of plant p)) a (control_scans (tables_of (chart_of plant p)) life) ≡ false =
     sym (c.executed.ensures tables (control_scans tables life) after.state.controls
     ∙ ap (λ (x : Tabled). control.executed x a (control_scans x life)) made) ∙ c.if-not-executed.true in
-    passed plant p life t a kept tried c.args.image.now c.args.id off h
+    passed plant p life t a committed tried c.args.image.now c.args.id off h
 
-pub returns-clause-kept : goal.returns-clause-kept
+pub returns-clause-agrees : goal.returns-clause-agrees
 unfolding StateAgrees
-returns-clause-kept c plant life t kept tried after h =
-    let tables = c.args.acting.setting.tables.now in
-    let p = c.args.acting.setting.instance in
+returns-clause-agrees c plant life t committed tried after h =
+    let tables = c.args.acting.context.tables.now in
+    let p = c.args.acting.context.instance in
     let a = c.args.action.0 in
     let id = c.args.id in
-    let made : tables ≡ tables_of (chart_of plant p) = tables_is plant c.args.acting.setting after.setting in
+    let made : tables ≡ tables_of (chart_of plant p) = tables_is plant c.args.acting.context after.context in
     let on : control.executed (tables_of (chart_of plant p)) a (control_scans (tables_of (chart_of plant p)) life) ≡ true =
     sym (c.executed.ensures tables (control_scans tables life) after.state.controls
     ∙ ap (λ (x : Tabled). control.executed x a (control_scans x life)) made) ∙ c.if-not-executed.false in
@@ -41,13 +41,13 @@ returns-clause-kept c plant life t kept tried after h =
     c.q-q.ensures tables (control_scans tables life) after.state.controls
     ∙ ap (λ (x : Tabled). control.q x a (control_scans x life)) made in
     let body : body_of c.body_of-body.result.now ≡ body_in (slice_get (chart_of plant p).actions id.0) =
-    c.body_of-body.ensures ∙ ap (λ (x : Chart). body_in (slice_get x.actions id.0)) after.setting.chart in
+    c.body_of-body.ensures ∙ ap (λ (x : Chart). body_in (slice_get x.actions id.0)) after.context.chart in
     let active = c.readings.ensures.active tables life after.state
     ∙ ap (λ (x : Tabled). active_steps x (evolution_rows x life)) made in
     let times = c.readings.ensures.times ∙ after.times ∙ ap (λ (x : Tabled). step_times x life t) made in
     let moment_is : moment_of c.readings.result c.q-q.result
     ≡ moment (tables_of (chart_of plant p)) life t (control.q (tables_of (chart_of plant p)) a (control_scans (tables_of (chart_of plant p)) life)) =
     (λ i. record { active = active i; times = times i; q = q i }) in
-    body_acted plant p life t a kept tried c.execute.new.self id c.execute.result (body_of c.body_of-body.result.now)
+    body_acted plant p life t a committed tried c.execute.new.self id c.execute.result (body_of c.body_of-body.result.now)
     (moment_of c.readings.result c.q-q.result) on body moment_is
-    (c.execute.ensures.result plant (trying kept tried) h) (c.execute.ensures.kept plant (trying kept tried) h)
+    (c.execute.ensures.result plant (trying committed tried) h) (c.execute.ensures.agrees plant (trying committed tried) h)

@@ -4,13 +4,13 @@ use Rattle.sfc_instance.specs.Agreement.{StateAgrees}
 use Rattle.sfc_instance.proofs.Left.{closed}
 use Rattle.sfc_instance.proofs.acting.act_or_undo.Goals as goal
 
-pub returns-clause-kept : goal.returns-clause-kept
+pub returns-clause-agrees : goal.returns-clause-agrees
 unfolding StateAgrees
-returns-clause-kept c plant life t changes setting state measured h =
-    let tables = c.args.setting.tables.now in
+returns-clause-agrees c plant life t changes context state measured h =
+    let tables = c.args.context.tables.now in
     closed plant changes c.act-answer.new.image c.close.new.image _ c.act-answer.result
-    (c.act-answer.ensures.kept plant life t changes []
-    (record { setting = setting; state = state; times = c.times.ensures ∙ measured tables (evolution_scans life) state.steps })
-    (c.begin.ensures.kept plant changes h))
-    (λ on tried agrees. c.close.ensures.kept (c.is_ok.ensures.value ∙ on) plant changes tried agrees)
+    (c.act-answer.ensures.agrees plant life t changes []
+    (record { context = context; state = state; times = c.times.ensures ∙ measured tables (evolution_scans life) state.steps })
+    (c.begin.ensures.agrees plant changes h))
+    (λ on tried agrees. c.close.ensures.agrees (c.is_ok.ensures.value ∙ on) plant changes tried agrees)
     (λ off tried agrees. c.close.ensures.given_up (c.is_ok.ensures.value ∙ off) plant changes tried agrees)

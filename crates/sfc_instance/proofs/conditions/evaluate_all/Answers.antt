@@ -1,7 +1,7 @@
 use Rattle.std.proofs.Common.{◌≡◌, ◌<◌, ◌+◌, suc, arith, length, get_or, slice_set, drop, ℕ, Bool, false, List, [], ◌∷◌, Ok, refl, sym, ap, ◌∙◌}
 use Rattle.std.proofs.lemmas.List.{length-replicate, length-set, length-drop}
 use Rattle.sfc_flags.specs.Flags.{flag, places_from, places_passed}
-use Rattle.sfc_tables.specs.declared.ids.TransitionId.{TransitionId}
+use Rattle.sfc_base.specs.declared.ids.TransitionId.{TransitionId}
 use Rattle.sfc_evolve.specs.Agreement.{StepsAgree}
 use Rattle.sfc_evolve.specs.Private.Proposing.{at_places}
 use Rattle.sfc_instance.specs.Life.{Life, evolution_scans}
@@ -14,28 +14,28 @@ use Rattle.sfc_evolve.proofs.Placed.{ranks_long}
 use Rattle.sfc_evolve.proofs.TableFacts.{ranked_at}
 use Rattle.sfc_instance.specs.ProgramScan.{condition_fault}
 use Rattle.sfc_instance.specs.Private.Evaluating.{test_work}
-use Rattle.sfc_evolve.specs.Evolution.{transition_count}
+use Rattle.sfc_evolve.specs.Clearing.{transition_count}
 use Rattle.sfc_instance.proofs.Candidates.{fault_is, none_other, flag_next, fault_next, work_covers, work_left}
 use Rattle.sfc_instance.proofs.conditions.evaluate_all.Goals as goal
 
 pub bounds-ranked-j : goal.bounds-ranked-j
 bounds-ranked-j g c =
-    let long = ranks_long c.args.setting.tables.now c.ranked-ranked.ensures.tables in
+    let long = ranks_long c.args.context.tables.now c.ranked-ranked.ensures.tables in
     let same = ap (λ (l : List TransitionId). length l) c.ranked-ranked.ensures.value in
     omega (arith, long, same, c.in-Some.ensures.some, c.candidates-candidates.ensures.len, c.requires.sizes.same_transitions)
 
 pub evaluate-requires-clause-transition : goal.evaluate-requires-clause-transition
 evaluate-requires-clause-transition g c =
-    let long = ranks_long c.args.setting.tables.now c.ranked-ranked.ensures.tables in
+    let long = ranks_long c.args.context.tables.now c.ranked-ranked.ensures.tables in
     let same = ap (λ (l : List TransitionId). length l) c.ranked-ranked.ensures.value in
-    ranked_at c.args.setting.tables.now c.ranked-ranked.ensures.tables c.ranked-ranked.result.now c.ranked-ranked.ensures.value c.in-Some.j
+    ranked_at c.args.context.tables.now c.ranked-ranked.ensures.tables c.ranked-ranked.result.now c.ranked-ranked.ensures.value c.in-Some.j
     record { 0 = 0 }
     (omega (arith, long, same, c.in-Some.ensures.some, c.candidates-candidates.ensures.len, c.requires.sizes.same_transitions))
 
 pub candidates-init : goal.candidates-init
 candidates-init g c =
-    let tables = c.args.setting.tables.now in
-    let chart = c.args.setting.chart.now in
+    let tables = c.args.context.tables.now in
+    let chart = c.args.context.chart.now in
     let env = g.V.View.environment c.args.view.now in
     let sound = c.ranked-ranked.ensures.tables in
     let flags = c.candidates-candidates.result.now in
@@ -59,7 +59,7 @@ candidates-init g c =
 
 pub bounds-conditions-transition : goal.bounds-conditions-transition
 bounds-conditions-transition g c =
-    let tables = c.args.setting.tables.now in
+    let tables = c.args.context.tables.now in
     let long = ranks_long tables c.ranked-ranked.ensures.tables in
     let same = ap (λ (l : List TransitionId). length l) c.ranked-ranked.ensures.value in
     let lt = ranked_at tables c.ranked-ranked.ensures.tables c.ranked-ranked.result.now c.ranked-ranked.ensures.value c.in-Some.j
@@ -70,7 +70,7 @@ bounds-conditions-transition g c =
 
 pub overflow_cast-conditions : goal.overflow_cast-conditions
 overflow_cast-conditions g c =
-    let tables = c.args.setting.tables.now in
+    let tables = c.args.context.tables.now in
     let sound = c.ranked-ranked.ensures.tables in
     let long = ranks_long tables sound in
     let same = ap (λ (l : List TransitionId). length l) c.ranked-ranked.ensures.value in
@@ -80,8 +80,8 @@ overflow_cast-conditions g c =
 
 pub returns-in_err-conditions-clause-ticks : goal.returns-in_err-conditions-clause-ticks
 returns-in_err-conditions-clause-ticks g c =
-    let tables = c.args.setting.tables.now in
-    let chart = c.args.setting.chart.now in
+    let tables = c.args.context.tables.now in
+    let chart = c.args.context.chart.now in
     let at = c.candidates.at in
     let j = c.in-Some.j in
     let d : TransitionId = record { 0 = 0 } in
@@ -96,8 +96,8 @@ returns-in_err-conditions-clause-ticks g c =
 
 pub candidates-preserved : goal.candidates-preserved
 candidates-preserved g c =
-    let tables = c.args.setting.tables.now in
-    let chart = c.args.setting.chart.now in
+    let tables = c.args.context.tables.now in
+    let chart = c.args.context.chart.now in
     let env = g.V.View.environment c.args.view.now in
     let at = c.candidates.at in
     let j = c.in-Some.j in
@@ -147,8 +147,8 @@ candidates-preserved g c =
 
 pub returns-clause-flags : goal.returns-clause-flags
 returns-clause-flags g c life h =
-    let tables = c.args.setting.tables.now in
-    let chart = c.args.setting.chart.now in
+    let tables = c.args.context.tables.now in
+    let chart = c.args.context.chart.now in
     let env = g.V.View.environment c.args.view.now in
     let none : places_from c.candidates-candidates.result.now c.candidates.at ≡ [] = c.in_default.ensures.none refl in
     let cleared = ap (λ (l : List Bool). length l) c.clear.ensures ∙ length-replicate (length c.args.conditions.now) false in
@@ -158,8 +158,8 @@ returns-clause-flags g c life h =
 
 pub returns-clause-ticks : goal.returns-clause-ticks
 returns-clause-ticks g c =
-    let tables = c.args.setting.tables.now in
-    let chart = c.args.setting.chart.now in
+    let tables = c.args.context.tables.now in
+    let chart = c.args.context.chart.now in
     let at = c.candidates.at in
     let long = ranks_long tables c.ranked-ranked.ensures.tables in
     let passed = ap (places_passed (length c.candidates-candidates.result.now) at) c.in_default.is in

@@ -10,8 +10,8 @@ use Rattle.sfc_instance.proofs.conditions.evaluate_all.Given as goal
 
 abbrev pub invariant-candidates : goal.invariant-candidates
 invariant-candidates g l =
-    let tables = l.setting.tables.now in
-    let chart = l.setting.chart.now in
+    let tables = l.context.tables.now in
+    let chart = l.context.chart.now in
     let env = g.V.View.environment l.view in
     record {
       len : length l.conditions ≡ length l.initial.conditions;

@@ -1,8 +1,8 @@
 use Rattle.std.proofs.Common.{List, flat_map, codes, subst}
-use Rattle.sfc_variables.specs.declared.variable.Variable.{Variable}
-use Rattle.sfc_program.specs.declared.program_type.ProgramType.{ProgramType}
-use Rattle.sfc_chart.specs.declared.task.Task.{Task}
-use Rattle.sfc_chart.specs.declared.instance.Instance.{Instance}
+use Rattle.sfc_plant.specs.declared.variable.Variable.{Variable}
+use Rattle.sfc_plant.specs.declared.program_type.ProgramType.{ProgramType}
+use Rattle.sfc_plant.specs.declared.task.Task.{Task}
+use Rattle.sfc_plant.specs.declared.instance.Instance.{Instance}
 use Rattle.sfc_list.specs.Layout.{block}
 use Rattle.sfc_list.specs.Listing.{variable_text}
 use Rattle.sfc_list.specs.Private.Parts.{task_line, instance_line}

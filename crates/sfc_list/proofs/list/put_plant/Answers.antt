@@ -1,6 +1,6 @@
 use Rattle.std.proofs.Common.{List, flat_map, subst}
-use Rattle.sfc_variables.specs.declared.variable.Variable.{Variable}
-use Rattle.sfc_program.specs.declared.program_type.ProgramType.{ProgramType}
+use Rattle.sfc_plant.specs.declared.variable.Variable.{Variable}
+use Rattle.sfc_plant.specs.declared.program_type.ProgramType.{ProgramType}
 use Rattle.sfc_list.specs.Listing.{program_text}
 use Rattle.sfc_list.specs.Private.Sinking.{Puts}
 use Rattle.sfc_list.proofs.Sunk.{puts_then}

@@ -1,7 +1,7 @@
 use Rattle.std.proofs.Common.{List, flat_map, subst}
-use Rattle.sfc_tables.specs.declared.action.Action.{Action}
-use Rattle.sfc_tables.specs.declared.chart.Step.{Step}
-use Rattle.sfc_tables.specs.declared.chart.Transition.{Transition}
+use Rattle.sfc_plant.specs.declared.action.Action.{Action}
+use Rattle.sfc_plant.specs.declared.chart.Step.{Step}
+use Rattle.sfc_plant.specs.declared.chart.Transition.{Transition}
 use Rattle.sfc_list.specs.Charts.{step_text, transition_text, action_text}
 use Rattle.sfc_list.specs.Private.Sinking.{Puts}
 use Rattle.sfc_list.proofs.Sunk.{puts_then}

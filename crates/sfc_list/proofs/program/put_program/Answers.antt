@@ -1,7 +1,7 @@
 use Rattle.std.proofs.Common.{List, codes, subst}
-use Rattle.sfc_expr.specs.declared.variable.GlobalId.{GlobalId}
-use Rattle.sfc_variables.specs.declared.variable.Variable.{Variable}
-use Rattle.sfc_program.specs.Names.{Space, space_in}
+use Rattle.sfc_base.specs.declared.references.GlobalId.{GlobalId}
+use Rattle.sfc_plant.specs.declared.variable.Variable.{Variable}
+use Rattle.sfc_plant.specs.Spaces.{Space, space_in}
 use Rattle.sfc_list.specs.Layout.{block}
 use Rattle.sfc_list.specs.Listing.{variable_text, external_text, chart_text}
 use Rattle.sfc_list.specs.Private.Sinking.{Puts}

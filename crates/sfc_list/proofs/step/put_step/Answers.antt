@@ -1,5 +1,5 @@
 use Rattle.std.proofs.Common.{List, flat_map, subst}
-use Rattle.sfc_tables.specs.declared.association.Association.{Association}
+use Rattle.sfc_plant.specs.declared.association.Association.{Association}
 use Rattle.sfc_list.specs.Private.Parts.{association_line}
 use Rattle.sfc_list.specs.Private.Sinking.{Puts}
 use Rattle.sfc_list.proofs.Sunk.{puts_then}

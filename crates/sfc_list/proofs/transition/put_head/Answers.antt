@@ -1,7 +1,7 @@
 use Rattle.std.proofs.Common.{List, map, subst}
-use Rattle.sfc_expr.specs.declared.variable.StepId.{StepId}
+use Rattle.sfc_base.specs.declared.references.StepId.{StepId}
 use Rattle.sfc_list.specs.Charts.{side_text}
-use Rattle.sfc_list.specs.Names.{step_name}
+use Rattle.sfc_plant.specs.Names.{step_name}
 use Rattle.sfc_list.specs.Private.Sinking.{Puts}
 use Rattle.sfc_list.proofs.Sunk.{puts_then}
 use Rattle.sfc_list.proofs.transition.put_head.Goals as goal

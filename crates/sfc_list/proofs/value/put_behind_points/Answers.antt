@@ -1,4 +1,4 @@
-use Rattle.sfc_tokens.specs.LocationText.{behind_point}
+use Rattle.sfc_base.specs.LocationText.{behind_point}
 use Rattle.sfc_list.proofs.Sunk.{puts_next}
 use Rattle.sfc_list.proofs.value.put_behind_points.Goals as goal
 

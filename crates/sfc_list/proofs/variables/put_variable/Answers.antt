@@ -11,4 +11,4 @@ returns g c =
     subst (λ (text : List ℕ). Puts n c.args.out.now c.put.new.self text) c.spelling.ensures.value c.put.ensures in
     let kind : Puts n c.put-2.new.self c.put-3.new.self (type_text c.args.variable.now.var_type) =
     subst (λ (text : List ℕ). Puts n c.put-2.new.self c.put-3.new.self text) c.type_word.ensures c.put-3.ensures in
-    (puts_then n _ _ _ _ _ (puts_then n _ _ _ _ _ (puts_then n _ _ _ _ _ (puts_then n _ _ _ _ _ (puts_then n _ _ _ _ _ (puts_then n _ _ _ _ _ name c.put_place.ensures) c.put-2.ensures) kind) c.put-4.ensures) c.put_literal.ensures) c.put-5.ensures)
+    (puts_then n _ _ _ _ _ (puts_then n _ _ _ _ _ (puts_then n _ _ _ _ _ (puts_then n _ _ _ _ _ (puts_then n _ _ _ _ _ (puts_then n _ _ _ _ _ name c.put_at.ensures) c.put-2.ensures) kind) c.put-4.ensures) c.put_literal.ensures) c.put-5.ensures)

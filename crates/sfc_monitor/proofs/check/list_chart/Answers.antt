@@ -1,12 +1,12 @@
 use Rattle.std.proofs.Common.{ℕ, List, Err, subst}
 use Rattle.std.proofs.lemmas.Result.{err_from_is_err_and}
 use Rattle.sfc_list.specs.Listing.{listing}
-use Rattle.sfc_chart.specs.Accepted.{IsAccepted}
+use Rattle.sfc_load.specs.Accepted.{IsAccepted}
 use Rattle.sfc_monitor.specs.Acceptance.{Accepts, most}
 use Rattle.sfc_monitor.specs.Reading.{Device}
 use Rattle.sfc_monitor.proofs.Taken.{lost}
 use Rattle.sfc_monitor.proofs.Replayed.{Keeps-same}
-use Rattle.sfc_monitor.proofs.Checked.{refused, alike, told}
+use Rattle.sfc_monitor.proofs.Checked.{refused, alike, written}
 use Rattle.sfc_monitor.proofs.check.list_chart.Goals as goal
 
 pub returns-in_err-plant : goal.returns-in_err-plant
@@ -23,5 +23,5 @@ pub returns : goal.returns
 returns g c =
     let chart : Device = (g.C.Read.remaining c.args.chart.now, g.C.Read.remaining c.read_to_end.new.reader) in
     let w : Device = (g.W.Write.contents c.args.w.now, g.W.Write.contents c.put_listing.new.w) in
-    told listing chart w c.in_ok-text.text.items c.in_ok-plant.plant c.put_listing.result c.in_ok-text.ensures.taken
+    written listing chart w c.in_ok-text.text.items c.in_ok-plant.plant c.put_listing.result c.in_ok-text.ensures.taken
     (subst (λ (text : List ℕ). IsAccepted text c.in_ok-plant.plant) c.deref.ensures.value c.in_ok-plant.ensures) c.put_listing.ensures

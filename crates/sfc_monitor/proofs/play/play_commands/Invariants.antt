@@ -7,8 +7,8 @@ use Rattle.sfc_monitor.proofs.play.play_commands.Given as goal
 abbrev pub invariant-commands : goal.invariant-commands
 invariant-commands g l = record {
   plant : plant_of l.resource ≡ plant_of l.initial.resource;
-  under_way : (h : History) → Agrees l.initial.resource h → IsUnderWay (plant_of l.initial.resource) (g.W.Write.contents l.initial.w)
-      (g.W.Write.contents l.w) l.initial.text.items l.text.items l.resource h l.entries l.rest;
+  under_way : (h : History) → Agrees l.initial.resource h → IsUnderWay (g.R.Report.lines l.report) (plant_of l.initial.resource) (g.W.Write.contents l.initial.w)
+      (g.W.Write.contents l.w) l.initial.text.items l.text.items l.resource h l.timed_events l.rest;
 }
 
 abbrev pub decreases-commands : goal.decreases-commands

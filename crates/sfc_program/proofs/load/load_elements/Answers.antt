@@ -7,7 +7,7 @@ use Rattle.sfc_variables.proofs.Checks.{passes, fails_first}
 use Rattle.sfc_program.specs.Elements.{steps_of, step_names, action_names}
 use Rattle.sfc_program.specs.Loading.{distinct_check, element_names, initial_check, chart_check}
 use Rattle.sfc_program.specs.Built.{chart_of}
-use Rattle.sfc_program.specs.Names.{Space}
+use Rattle.sfc_plant.specs.Spaces.{Space}
 use Rattle.sfc_program.proofs.load.load_elements.Goals as goal
 
 pub returns-in_err-names : goal.returns-in_err-names

@@ -1,5 +1,5 @@
 use Rattle.std.proofs.Common.{◌<◌, length, subst, sym, arith}
-use Rattle.sfc_tables.specs.declared.association.Association.{Association}
+use Rattle.sfc_plant.specs.declared.association.Association.{Association}
 use Rattle.sfc_tables.specs.Actions.{number_of}
 use Rattle.sfc_tables.proofs.action_blocks.add_step.Goals as goal
 

@@ -2,7 +2,7 @@ use Rattle.std.proofs.Common.{◌≡◌, ◌∷◌, [], ◌+◌, ◌∙◌, sym,
 use Rattle.std.specs.Prelude.{map, slice_get, Some}
 use Rattle.std.specs.Option.{option_copied}
 use Rattle.std.proofs.lemmas.List.{append_assoc}
-use Rattle.sfc_tables.specs.declared.association.Target.TheVariants as target
+use Rattle.sfc_plant.specs.declared.association.Target.TheVariants as target
 use Rattle.sfc_tables.proofs.Listings.{next_variable}
 use Rattle.sfc_tables.proofs.action_list.boolean_targets.Goals as goal
 

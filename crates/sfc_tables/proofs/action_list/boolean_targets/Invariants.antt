@@ -1,6 +1,6 @@
 use Rattle.std.proofs.Common.{◌≡◌, drop, ◌++◌}
 use Rattle.std.specs.Prelude.{map}
-use Rattle.sfc_tables.specs.declared.association.Target.TheVariants as target
+use Rattle.sfc_plant.specs.declared.association.Target.TheVariants as target
 use Rattle.sfc_tables.proofs.action_list.boolean_targets.Given as goal
 
 abbrev pub invariant-loop-i : goal.invariant-loop-i

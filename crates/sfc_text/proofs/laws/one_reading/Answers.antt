@@ -1,5 +1,7 @@
+use Rattle.sfc_text.specs.Grammar.{source}
+use Rattle.sfc_text.proofs.Fine.{source_fine}
 use Rattle.sfc_text.proofs.Readings.{one}
 use Rattle.sfc_text.proofs.laws.one_reading.Goals as goal
 
 pub returns : goal.returns
-returns c = one
+returns c = one source source_fine

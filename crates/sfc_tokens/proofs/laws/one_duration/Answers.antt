@@ -1,5 +1,5 @@
 use Rattle.std.proofs.Common.{◌≡◌, Some}
-use Rattle.sfc_tokens.specs.Scanning.DurationWords.{duration_value}
+use Rattle.sfc_tokens.specs.Lexing.DurationWords.{duration_value}
 use Rattle.sfc_tokens.proofs.DurationWords.{word_again}
 use Rattle.sfc_tokens.proofs.laws.one_duration.Goals as goal
 

@@ -1,5 +1,5 @@
 use Rattle.std.proofs.Common.{◌≡◌, length}
-use Rattle.sfc_tokens.specs.Scanning.Integers.{after}
+use Rattle.sfc_tokens.specs.Lexing.Integers.{after}
 use Rattle.sfc_tokens.proofs.number.after.Given as goal
 
 abbrev pub invariant-all : goal.invariant-all

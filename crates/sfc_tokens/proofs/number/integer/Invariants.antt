@@ -1,5 +1,5 @@
 use Rattle.std.proofs.Common.{◌≡◌, ◌≤◌, true, length}
-use Rattle.sfc_tokens.specs.Scanning.Integers.{digits}
+use Rattle.sfc_tokens.specs.Lexing.Integers.{digits}
 use Rattle.sfc_tokens.proofs.number.integer.Given as goal
 
 abbrev pub invariant-all : goal.invariant-all

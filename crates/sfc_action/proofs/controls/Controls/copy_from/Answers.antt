@@ -1,22 +1,36 @@
-use Rattle.std.proofs.Common.{subst}
-use Rattle.sfc_action.specs.declared.kept.Kept.{Kept}
-use Rattle.sfc_action.specs.Private.Keeping.{IsCopy}
+use Rattle.std.proofs.Common.{ℕ, ◌∙◌, ap, length, subst, sym}
+use Rattle.sfc_action.specs.declared.control_state.ControlState.{ControlState}
+use Rattle.sfc_action.specs.Private.Keeping.{IsCopy, IsStateSized}
 use Rattle.sfc_action.specs.Agreement.{ControlsAgree}
-use Rattle.sfc_action.proofs.Fitting.{is_for, are_for}
-use Rattle.sfc_action.proofs.Starts.{copied_for, copied_kept}
+use Rattle.sfc_action.proofs.Fitting.{is_for, are_for, same_actions, same_delays}
+use Rattle.sfc_action.proofs.Starts.{copied_for, copied_state}
 use Rattle.sfc_action.proofs.controls.Controls.copy_from.Goals as goal
 
+pub copy_from-requires-clause-blocks : goal.copy_from-requires-clause-blocks
+copy_from-requires-clause-blocks c =
+    ap (λ (k : ControlState). length k.blocks.items) c.other.view_is
+    ∙ same_delays c.args.tables.now c.args.other.now c.args.self.now c.requires.others c.requires.own
+    ∙ sym (ap (λ (k : ControlState). length k.blocks.items) c.self.view_is)
+
+pub copy_from-requires-clause-other : goal.copy_from-requires-clause-other
+copy_from-requires-clause-other c =
+    subst (λ (n : ℕ). IsStateSized n c.other.inside.state)
+    (ap (λ (k : ControlState). length k.q) c.other.view_is
+    ∙ same_actions c.args.tables.now c.args.other.now c.args.self.now c.requires.others c.requires.own
+    ∙ sym (ap (λ (k : ControlState). length k.q) c.self.view_is))
+    c.other.invariant.state_sized
+
 copy : (c : goal.After-copy_from) → IsCopy c.args.other.now c.copy_from.new.self
-copy c = subst (λ (k : Kept). IsCopy k c.copy_from.new.self) c.other.view_is c.copy_from.ensures.copy
+copy c = subst (λ (k : ControlState). IsCopy k c.copy_from.new.self) c.other.view_is c.copy_from.ensures.copy
 
 pub returns-clause-sizes : goal.returns-clause-sizes
 returns-clause-sizes c tables for =
     is_for tables c.copy_from.new.self
     (copied_for tables c.args.other.now c.copy_from.new.self (copy c) (are_for tables c.args.other.now for))
 
-pub returns-clause-kept : goal.returns-clause-kept
+pub returns-clause-agrees : goal.returns-clause-agrees
 unfolding ControlsAgree
-returns-clause-kept c tables h agrees = record {
+returns-clause-agrees c tables h agrees = record {
   size = copied_for tables c.args.other.now c.copy_from.new.self (copy c) agrees.size;
-  each = copied_kept tables c.args.other.now c.copy_from.new.self h (copy c) agrees.each;
+  each = copied_state tables c.args.other.now c.copy_from.new.self h (copy c) agrees.each;
 }

@@ -1,13 +1,13 @@
 use Rattle.std.proofs.Common.{◌<◌, List, length, ◌∙◌, refl, sym, subst}
 use Rattle.std.specs.Prelude.{All}
 use Rattle.sfc_tables.specs.declared.step_action.StepAction.{StepAction}
-use Rattle.sfc_action.specs.Private.Keeping.{AreKeptSized}
-use Rattle.sfc_action.specs.Private.Rooms.{IsScratch}
+use Rattle.sfc_action.specs.Private.Keeping.{IsStateSized}
+use Rattle.sfc_action.specs.Private.ControlScans.{IsControlScan}
 use Rattle.sfc_action.specs.Agreement.{ControlsAgree}
 use Rattle.sfc_action.proofs.DelayLists.{none_listed}
 use Rattle.sfc_action.proofs.Fitting.{is_for}
 use Rattle.sfc_action.proofs.Sizes.{are_all}
-use Rattle.sfc_action.proofs.Starts.{all_listed, fresh_sized, fresh_for, fresh_kept}
+use Rattle.sfc_action.proofs.Starts.{all_listed, fresh_sized, fresh_for, fresh_state}
 use Rattle.sfc_action.proofs.Works.{within}
 use Rattle.sfc_action.proofs.controls.Controls.new.Goals as goal
 
@@ -16,10 +16,10 @@ invariant_of-result c =
     let n = c.actions-n.result in
     let blocks = c.in_ok-blocks.blocks.items in
     let listed = all_listed n c.in_ok-seen.seen c.step_actions.result.now blocks c.in_ok-seen.ensures c.in_ok-blocks.ensures in
-    let sized = fresh_sized n blocks c.in_ok-kept.kept c.in_ok-kept.ensures listed.actions in
+    let sized = fresh_sized n blocks c.in_ok-state.state c.in_ok-state.ensures listed.actions in
     record {
-      kept_sized = subst (λ k. AreKeptSized k c.in_ok-kept.kept) (sym sized.q) sized;
-      scratch_sized = subst (λ k. IsScratch k c.in_ok-scratch.scratch) (sym sized.q) c.in_ok-scratch.ensures;
+      state_sized = subst (λ k. IsStateSized k c.in_ok-state.state) (sym sized.q) sized;
+      control_scan_sized = subst (λ k. IsControlScan k c.in_ok-control_scan.control_scan) (sym sized.q) c.in_ok-control_scan.ensures;
     }
 
 pub returns-clause-sizes : goal.returns-clause-sizes
@@ -27,9 +27,9 @@ returns-clause-sizes c =
     let n = c.actions-n.result in
     let blocks = c.in_ok-blocks.blocks.items in
     let listed = all_listed n c.in_ok-seen.seen c.step_actions.result.now blocks c.in_ok-seen.ensures c.in_ok-blocks.ensures in
-    is_for c.args.tables.now c.in_ok-kept.kept
-    (fresh_for c.args.tables.now n c.step_actions.result.now blocks c.in_ok-kept.kept c.actions-n.ensures c.step_actions.ensures
-    c.in_ok-kept.ensures listed)
+    is_for c.args.tables.now c.in_ok-state.state
+    (fresh_for c.args.tables.now n c.step_actions.result.now blocks c.in_ok-state.state c.actions-n.ensures c.step_actions.ensures
+    c.in_ok-state.ensures listed)
 
 pub returns-clause-agrees : goal.returns-clause-agrees
 unfolding ControlsAgree
@@ -38,9 +38,9 @@ returns-clause-agrees c =
     let blocks = c.in_ok-blocks.blocks.items in
     let listed = all_listed n c.in_ok-seen.seen c.step_actions.result.now blocks c.in_ok-seen.ensures c.in_ok-blocks.ensures in
     record {
-      size = fresh_for c.args.tables.now n c.step_actions.result.now blocks c.in_ok-kept.kept c.actions-n.ensures
-          c.step_actions.ensures c.in_ok-kept.ensures listed;
-      each = fresh_kept c.args.tables.now n blocks c.in_ok-kept.kept c.in_ok-kept.ensures listed.fresh;
+      size = fresh_for c.args.tables.now n c.step_actions.result.now blocks c.in_ok-state.state c.actions-n.ensures
+          c.step_actions.ensures c.in_ok-state.ensures listed;
+      each = fresh_state c.args.tables.now n blocks c.in_ok-state.state c.in_ok-state.ensures listed.fresh;
     }
 
 pub list_blocks-requires-clause-listing : goal.list_blocks-requires-clause-listing

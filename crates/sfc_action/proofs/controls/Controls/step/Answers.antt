@@ -3,30 +3,30 @@ use Rattle.std.specs.Prelude.{All}
 use Rattle.std.proofs.lemmas.Int.{to_z-of_z}
 use Rattle.sfc_evolve.specs.Evolution as evolution
 use Rattle.sfc_tables.specs.declared.step_action.StepAction.{StepAction}
-use Rattle.sfc_action.specs.declared.kept.Kept.{Kept}
+use Rattle.sfc_action.specs.declared.control_state.ControlState.{ControlState}
 use Rattle.sfc_action.specs.ActionControl.{first_in}
 use Rattle.sfc_action.specs.Private.Failing.{fault_at}
 use Rattle.sfc_action.specs.Private.Storing.{AreStores, AreNext}
 use Rattle.sfc_action.specs.Private.Marking.{AreSized}
-use Rattle.sfc_action.specs.Private.Rooms.{IsScratch}
-use Rattle.sfc_action.specs.Private.Keeping.{AreKeptSized, IsActed}
+use Rattle.sfc_action.specs.Private.ControlScans.{IsControlScan}
+use Rattle.sfc_action.specs.Private.Keeping.{IsStateSized, IsActed}
 use Rattle.sfc_action.specs.Agreement.{ControlsAgree}
 use Rattle.sfc_action.proofs.Fitting.{is_for, are_for, actions_for}
-use Rattle.sfc_action.proofs.Next.{IsRead, fault_read, kept_read, next_size}
+use Rattle.sfc_action.proofs.Next.{IsRead, fault_read, state_read, next_size}
 use Rattle.sfc_action.proofs.Works.{within}
 use Rattle.sfc_action.proofs.controls.Controls.step.Goals as goal
 
 pub read-requires-clause-sized : goal.read-requires-clause-sized
 read-requires-clause-sized c =
-    subst (λ (n : ℕ). IsScratch n c.self.inside.scratch)
-    (actions_for c.args.tables.now c.self.inside.kept c.args.self.now c.self.view_is c.requires.sizes)
-    c.self.invariant.scratch_sized
+    subst (λ (n : ℕ). IsControlScan n c.self.inside.control_scan)
+    (actions_for c.args.tables.now c.self.inside.state c.args.self.now c.self.view_is c.requires.sizes)
+    c.self.invariant.control_scan_sized
 
 pub read-requires-clause-stored : goal.read-requires-clause-stored
 read-requires-clause-stored c =
-    subst (λ (n : ℕ). AreStores n c.self.inside.kept.stores)
-    (actions_for c.args.tables.now c.self.inside.kept c.args.self.now c.self.view_is c.requires.sizes)
-    c.self.invariant.kept_sized.stores
+    subst (λ (n : ℕ). AreStores n c.self.inside.state.stores)
+    (actions_for c.args.tables.now c.self.inside.state c.args.self.now c.self.view_is c.requires.sizes)
+    c.self.invariant.state_sized.stores
 
 pub first_fault-requires-clause-inputs : goal.first_fault-requires-clause-inputs
 first_fault-requires-clause-inputs c =
@@ -47,94 +47,94 @@ first_fault-requires-clause-actions c =
     (λ k d lt. (within tables c.steps-steps.ensures.tables n (length tables.associations) same refl k d lt).action)
 
 pub act-requires-clause-sized : goal.act-requires-clause-sized
-act-requires-clause-sized c = c.self.invariant.kept_sized
+act-requires-clause-sized c = c.self.invariant.state_sized
 
-pub act-requires-clause-scratch : goal.act-requires-clause-scratch
-act-requires-clause-scratch c =
-    subst (λ (n : ℕ). IsScratch n c.read.new.self)
-    (sym (actions_for c.args.tables.now c.self.inside.kept c.args.self.now c.self.view_is c.requires.sizes))
+pub act-requires-clause-control_scan : goal.act-requires-clause-control_scan
+act-requires-clause-control_scan c =
+    subst (λ (n : ℕ). IsControlScan n c.read.new.self)
+    (sym (actions_for c.args.tables.now c.self.inside.state c.args.self.now c.self.view_is c.requires.sizes))
     c.read.ensures.sized
 
 pub invariant_of-self-2 : goal.invariant_of-self-2
 invariant_of-self-2 c =
     let sized = c.act.ensures.acted.sized in
     record {
-      kept_sized = subst (λ (n : ℕ). AreKeptSized n c.act.new.self) (sym sized.q) sized;
-      scratch_sized = subst (λ (n : ℕ). IsScratch n c.act.new.scratch) (sym sized.q) c.act.ensures.scratch;
+      state_sized = subst (λ (n : ℕ). IsStateSized n c.act.new.self) (sym sized.q) sized;
+      control_scan_sized = subst (λ (n : ℕ). IsControlScan n c.act.new.control_scan) (sym sized.q) c.act.ensures.control_scan;
     }
 
 pub returns-in-Some-clause-fault : goal.returns-in-Some-clause-fault
 unfolding ControlsAgree
 returns-in-Some-clause-fault c scans h steps agrees =
     let tables = c.args.tables.now in
-    let scratch = c.read.new.self in
-    let read : IsRead tables c.args.self.now c.active_flags.result.now c.args.times.now c.self.inside.scratch.presets.items
-    scratch.inputs scratch.presets.items scratch.stores = record {
+    let control_scan = c.read.new.self in
+    let read : IsRead tables c.args.self.now c.active_flags.result.now c.args.times.now c.self.inside.control_scan.presets.items
+    control_scan.inputs control_scan.presets.items control_scan.stores = record {
       sound = c.steps-steps.ensures.tables;
       same_times = c.requires.times;
-      room = c.self.invariant.scratch_sized.presets ∙ ap (λ (k : Kept). length k.q) c.self.view_is ∙ c.requires.sizes.same_actions;
+      presets_len = c.self.invariant.control_scan_sized.presets ∙ ap (λ (k : ControlState). length k.q) c.self.view_is ∙ c.requires.sizes.same_actions;
       inputs = c.read.ensures.inputs;
       presets = c.read.ensures.presets;
-      stores = subst (λ (k : Kept). AreNext k.stores scratch.inputs scratch.stores) c.self.view_is c.read.ensures.next;
+      stores = subst (λ (k : ControlState). AreNext k.stores control_scan.inputs control_scan.stores) c.self.view_is c.read.ensures.next;
     } in
     sym c.in-Some.is ∙ c.first_fault.ensures.fault
-    ∙ ap (first_in (fault_at scratch.inputs scratch.stores)) c.step_actions.ensures
-    ∙ fault_read tables c.args.self.now c.active_flags.result.now c.args.times.now c.self.inside.scratch.presets.items scratch.inputs
-    scratch.presets.items scratch.stores c.args.t h read agrees.each
+    ∙ ap (first_in (fault_at control_scan.inputs control_scan.stores)) c.step_actions.ensures
+    ∙ fault_read tables c.args.self.now c.active_flags.result.now c.args.times.now c.self.inside.control_scan.presets.items control_scan.inputs
+    control_scan.presets.items control_scan.stores c.args.t h read agrees.each
     (evolution.active_steps tables (evolution.rows_of tables scans)) (c.active_flags.ensures.flags tables scans steps)
 
 pub returns-clause-sizes : goal.returns-clause-sizes
 returns-clause-sizes c =
-    let scratch = c.read.new.self in
-    let same : c.self.inside.kept ≡ c.args.self.now = c.self.view_is in
+    let control_scan = c.read.new.self in
+    let same : c.self.inside.state ≡ c.args.self.now = c.self.view_is in
     let t = to_z w64 (of_z w64 c.args.t) in
-    is_for c.args.tables.now c.act.new.self (next_size c.args.tables.now c.args.self.now c.act.new.self scratch.inputs scratch.presets.items scratch.stores t
+    is_for c.args.tables.now c.act.new.self (next_size c.args.tables.now c.args.self.now c.act.new.self control_scan.inputs control_scan.presets.items control_scan.stores t
     (are_for c.args.tables.now c.args.self.now c.requires.sizes)
-    (subst (λ (k : Kept). IsActed scratch.inputs scratch.stores scratch.presets.items t k c.act.new.self) same c.act.ensures.acted))
+    (subst (λ (k : ControlState). IsActed control_scan.inputs control_scan.stores control_scan.presets.items t k c.act.new.self) same c.act.ensures.acted))
 
--- what the scratch has read
+-- what the control scan has read
 read_of : (c : goal.After-act) → IsRead c.args.tables.now c.args.self.now c.active_flags.result.now c.args.times.now
-    c.self.inside.scratch.presets.items c.read.new.self.inputs c.read.new.self.presets.items c.read.new.self.stores
+    c.self.inside.control_scan.presets.items c.read.new.self.inputs c.read.new.self.presets.items c.read.new.self.stores
 read_of c = record {
   sound = c.steps-steps.ensures.tables;
   same_times = c.requires.times;
-  room = c.self.invariant.scratch_sized.presets ∙ ap (λ (k : Kept). length k.q) c.self.view_is ∙ c.requires.sizes.same_actions;
+  presets_len = c.self.invariant.control_scan_sized.presets ∙ ap (λ (k : ControlState). length k.q) c.self.view_is ∙ c.requires.sizes.same_actions;
   inputs = c.read.ensures.inputs;
   presets = c.read.ensures.presets;
-  stores = subst (λ (k : Kept). AreNext k.stores c.read.new.self.inputs c.read.new.self.stores) c.self.view_is c.read.ensures.next;
+  stores = subst (λ (k : ControlState). AreNext k.stores c.read.new.self.inputs c.read.new.self.stores) c.self.view_is c.read.ensures.next;
 }
 
 pub returns-clause-fault : goal.returns-clause-fault
 unfolding ControlsAgree
 returns-clause-fault c scans h steps agrees =
     let tables = c.args.tables.now in
-    let scratch = c.read.new.self in
+    let control_scan = c.read.new.self in
     sym c.in_default.is ∙ c.first_fault.ensures.fault
-    ∙ ap (first_in (fault_at scratch.inputs scratch.stores)) c.step_actions.ensures
-    ∙ fault_read tables c.args.self.now c.active_flags.result.now c.args.times.now c.self.inside.scratch.presets.items scratch.inputs
-    scratch.presets.items scratch.stores c.args.t h (read_of c) agrees.each
+    ∙ ap (first_in (fault_at control_scan.inputs control_scan.stores)) c.step_actions.ensures
+    ∙ fault_read tables c.args.self.now c.active_flags.result.now c.args.times.now c.self.inside.control_scan.presets.items control_scan.inputs
+    control_scan.presets.items control_scan.stores c.args.t h (read_of c) agrees.each
     (evolution.active_steps tables (evolution.rows_of tables scans)) (c.active_flags.ensures.flags tables scans steps)
 
-pub returns-clause-kept : goal.returns-clause-kept
+pub returns-clause-agrees : goal.returns-clause-agrees
 unfolding ControlsAgree
-returns-clause-kept c scans h steps agrees =
+returns-clause-agrees c scans h steps agrees =
     let tables = c.args.tables.now in
-    let scratch = c.read.new.self in
-    let same : c.self.inside.kept ≡ c.args.self.now = c.self.view_is in
+    let control_scan = c.read.new.self in
+    let same : c.self.inside.state ≡ c.args.self.now = c.self.view_is in
     let fits : SFits w64 c.args.t = c.ranges.t in
     let there = to_z w64 (of_z w64 c.args.t) in
-    let acted : IsActed scratch.inputs scratch.stores scratch.presets.items there c.args.self.now c.act.new.self =
-    subst (λ (k : Kept). IsActed scratch.inputs scratch.stores scratch.presets.items there k c.act.new.self) same c.act.ensures.acted in
-    let at : IsActed scratch.inputs scratch.stores scratch.presets.items c.args.t c.args.self.now c.act.new.self =
+    let acted : IsActed control_scan.inputs control_scan.stores control_scan.presets.items there c.args.self.now c.act.new.self =
+    subst (λ (k : ControlState). IsActed control_scan.inputs control_scan.stores control_scan.presets.items there k c.act.new.self) same c.act.ensures.acted in
+    let at : IsActed control_scan.inputs control_scan.stores control_scan.presets.items c.args.t c.args.self.now c.act.new.self =
     simp to_z-of_z at acted in
-    let faultless : first_in (fault_at scratch.inputs scratch.stores) tables.associations ≡ None =
-    sym (ap (first_in (fault_at scratch.inputs scratch.stores)) c.step_actions.ensures) ∙ sym c.first_fault.ensures.fault
+    let faultless : first_in (fault_at control_scan.inputs control_scan.stores) tables.associations ≡ None =
+    sym (ap (first_in (fault_at control_scan.inputs control_scan.stores)) c.step_actions.ensures) ∙ sym c.first_fault.ensures.fault
     ∙ c.in_default.is in
     record {
-      size = next_size tables c.args.self.now c.act.new.self scratch.inputs scratch.presets.items scratch.stores c.args.t
+      size = next_size tables c.args.self.now c.act.new.self control_scan.inputs control_scan.presets.items control_scan.stores c.args.t
           (are_for tables c.args.self.now c.requires.sizes) at;
-      each = kept_read tables c.args.self.now c.active_flags.result.now c.args.times.now c.self.inside.scratch.presets.items
-          scratch.inputs scratch.presets.items scratch.stores c.args.t h (read_of c) agrees.each c.act.new.self
+      each = state_read tables c.args.self.now c.active_flags.result.now c.args.times.now c.self.inside.control_scan.presets.items
+          control_scan.inputs control_scan.presets.items control_scan.stores c.args.t h (read_of c) agrees.each c.act.new.self
           (evolution.active_steps tables (evolution.rows_of tables scans)) (c.active_flags.ensures.flags tables scans steps)
           (are_for tables c.args.self.now c.requires.sizes) faultless at;
     }

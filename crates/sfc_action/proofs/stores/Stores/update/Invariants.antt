@@ -1,5 +1,5 @@
 use Rattle.std.proofs.Common.{ℕ, length}
-use Rattle.sfc_expr.specs.Ticks.{Within}
+use Rattle.sfc_base.specs.Ticks.{Within}
 use Rattle.sfc_action.specs.Private.Storing.{AreStores}
 use Rattle.sfc_flags.specs.Words.{AreDone}
 use Rattle.sfc_action.specs.Private.Rows.{store_row, input_row, stores_after}

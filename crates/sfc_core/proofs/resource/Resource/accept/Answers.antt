@@ -3,7 +3,7 @@ use Rattle.std.proofs.Math.Logic.{∥∥₁_map, ∥∥₁_elim}
 use Rattle.std.proofs.lemmas.Int.{ints}
 use Rattle.std.specs.Coded.{×_prop, le_prop}
 use Rattle.sfc_core.specs.Agreement.{Agrees, plant_of}
-use Rattle.sfc_core.specs.Table.{table_of}
+use Rattle.sfc_core.specs.PlantState.{state_of}
 use Rattle.sfc_core.proofs.Accepted.{kept_after, answered}
 use Rattle.sfc_core.proofs.resource.Resource.accept.Goals as goal
 
@@ -13,18 +13,18 @@ invariant_of-self c =
     let s = c.args.self.now in
     let fits : SFits w64 c.args.t = c.ranges.t in
     let after =
-    kept_after s.plant c.args.event c.args.t s.machine c.change-bits.new.machine c.args.due c.serve.new.self c.rise.new.self
-    c.read-after.result c.copy_from.new.self (simp (to_z-of_z, fits) at c.change-bits.ensures.kept) c.read-after.ensures.value
-    c.serve.ensures.singles (c.serve.ensures.kept s.plant.tasks) (simp (to_z-of_z, fits) at (c.rise.ensures.kept s.plant.tasks))
-    (c.copy_from.ensures.kept s.plant.tasks) in
+    kept_after s.plant c.args.event c.args.t s.instances c.change-bits.new.instances c.args.due c.serve.new.self c.rise.new.self
+    c.read-after.result c.copy_from.new.self (simp (to_z-of_z, fits) at c.change-bits.ensures.agrees) c.read-after.ensures.value
+    c.serve.ensures.singles (c.serve.ensures.agrees s.plant.tasks) (simp (to_z-of_z, fits) at (c.rise.ensures.agrees s.plant.tasks))
+    (c.copy_from.ensures.agrees s.plant.tasks) in
     record {
       whole = c.change-bits.ensures.sizes;
-      places = c.copy_from.ensures.size ∙ c.rise.ensures.size ∙ c.serve.ensures.size ∙ c.requires.sizes.tasks;
+      tasks_sized = c.copy_from.ensures.size ∙ c.rise.ensures.size ∙ c.serve.ensures.size ∙ c.requires.sizes.tasks;
       last_low = omega (arith, ints);
       last_high = omega (arith, ints);
-      told =
-          ∥∥₁_map s.told
-          (λ x. ((c.args.event, c.args.t) ∷ x.0, simp (to_z-of_z, fits) (after x.0 x.1.machines (c.requires.ready x.0 x.1))));
+      agrees =
+          ∥∥₁_map s.agrees
+          (λ x. ((c.args.event, c.args.t) ∷ x.0, simp (to_z-of_z, fits) (after x.0 x.1.instances_agree (c.requires.ready x.0 x.1))));
     }
 
 pub returns-clause-value : goal.returns-clause-value
@@ -33,25 +33,25 @@ returns-clause-value c h a =
     let s = c.args.self.now in
     let fits : SFits w64 c.args.t = c.ranges.t in
     let after =
-    kept_after s.plant c.args.event c.args.t s.machine c.change-bits.new.machine c.args.due c.serve.new.self c.rise.new.self
-    c.read-after.result c.copy_from.new.self (simp (to_z-of_z, fits) at c.change-bits.ensures.kept) c.read-after.ensures.value
-    c.serve.ensures.singles (c.serve.ensures.kept s.plant.tasks) (simp (to_z-of_z, fits) at (c.rise.ensures.kept s.plant.tasks))
-    (c.copy_from.ensures.kept s.plant.tasks) in
-    c.outcome.ensures s.plant.tasks _ (after h a.machines (c.requires.ready h a)).tasked
+    kept_after s.plant c.args.event c.args.t s.instances c.change-bits.new.instances c.args.due c.serve.new.self c.rise.new.self
+    c.read-after.result c.copy_from.new.self (simp (to_z-of_z, fits) at c.change-bits.ensures.agrees) c.read-after.ensures.value
+    c.serve.ensures.singles (c.serve.ensures.agrees s.plant.tasks) (simp (to_z-of_z, fits) at (c.rise.ensures.agrees s.plant.tasks))
+    (c.copy_from.ensures.agrees s.plant.tasks) in
+    c.outcome.ensures.value s.plant.tasks _ (after h a.instances_agree (c.requires.ready h a)).tasked
     ∙ answered s.plant h c.args.event c.args.t c.change-bits.result
-    (simp (to_z-of_z, fits) at (c.change-bits.ensures.bits (table_of s.plant h) a.machines))
+    (simp (to_z-of_z, fits) at (c.change-bits.ensures.bits (state_of s.plant h) a.instances_agree))
 
-pub returns-clause-kept : goal.returns-clause-kept
+pub returns-clause-agrees : goal.returns-clause-agrees
 unfolding Agrees plant_of
-returns-clause-kept c h a =
+returns-clause-agrees c h a =
     let s = c.args.self.now in
     let fits : SFits w64 c.args.t = c.ranges.t in
     let after =
-    kept_after s.plant c.args.event c.args.t s.machine c.change-bits.new.machine c.args.due c.serve.new.self c.rise.new.self
-    c.read-after.result c.copy_from.new.self (simp (to_z-of_z, fits) at c.change-bits.ensures.kept) c.read-after.ensures.value
-    c.serve.ensures.singles (c.serve.ensures.kept s.plant.tasks) (simp (to_z-of_z, fits) at (c.rise.ensures.kept s.plant.tasks))
-    (c.copy_from.ensures.kept s.plant.tasks) in
-    simp (to_z-of_z, fits) (after h a.machines (c.requires.ready h a))
+    kept_after s.plant c.args.event c.args.t s.instances c.change-bits.new.instances c.args.due c.serve.new.self c.rise.new.self
+    c.read-after.result c.copy_from.new.self (simp (to_z-of_z, fits) at c.change-bits.ensures.agrees) c.read-after.ensures.value
+    c.serve.ensures.singles (c.serve.ensures.agrees s.plant.tasks) (simp (to_z-of_z, fits) at (c.rise.ensures.agrees s.plant.tasks))
+    (c.copy_from.ensures.agrees s.plant.tasks) in
+    simp (to_z-of_z, fits) (after h a.instances_agree (c.requires.ready h a))
 
 pub returns-clause-ticks : goal.returns-clause-ticks
 unfolding Agrees plant_of
@@ -59,9 +59,9 @@ returns-clause-ticks c =
     let s = c.args.self.now in
     let sizes = c.requires.sizes.tasks in
     let served = c.serve.ensures.size in
-    ∥∥₁_elim s.told (×_prop le_prop le_prop)
+    ∥∥₁_elim s.agrees (×_prop le_prop le_prop)
     (λ x.
-    let changed = c.change-bits.ensures.ticks (table_of s.plant x.0) x.1.machines in (
-      omega (arith, changed.0, c.serve.ensures.ticks.0, c.rise.ensures.ticks.0),
-      omega (arith, changed.1, c.serve.ensures.ticks.1, c.rise.ensures.ticks.1, sizes, served),
+    let changed = c.change-bits.ensures.ticks (state_of s.plant x.0) x.1.instances_agree in (
+      omega (arith, changed.0, c.serve.ensures.ticks.0, c.read-after.ensures.ticks.0, c.rise.ensures.ticks.0, c.copy_from.ensures.ticks.0, c.outcome.ensures.ticks.0),
+      omega (arith, changed.1, c.serve.ensures.ticks.1, c.read-after.ensures.ticks.1, c.rise.ensures.ticks.1, c.copy_from.ensures.ticks.1, c.outcome.ensures.ticks.1, c.rise.ensures.size, sizes, served),
     ))

@@ -1,7 +1,7 @@
 use Rattle.std.proofs.Common.{w64, SFits, to_z-of_z}
 use Rattle.sfc_core.specs.Agreement.{Agrees, plant_of}
 use Rattle.sfc_core.specs.Due.{calls_at, calls_of}
-use Rattle.sfc_core.specs.Table.{table_of}
+use Rattle.sfc_core.specs.PlantState.{state_of}
 use Rattle.sfc_core.proofs.Verdicts.{none_of, due_there, refused_named, refused_turn, granted, ready_there}
 use Rattle.sfc_core.proofs.resource.Resource.apply.Goals as goal
 
@@ -11,7 +11,7 @@ accept-requires-clause-ready c h a =
     let plant = c.args.self.now.plant in
     let fits : SFits w64 c.args.t = c.ranges.t in
     let there =
-    due_there plant h c.args.t c.at-due.result (c.at-due.ensures.singles (table_of plant h) a.machines)
+    due_there plant h c.args.t c.at-due.result (c.at-due.ensures.singles (state_of plant h) a.instances_agree)
     (simp (to_z-of_z, fits) at (c.at-due.ensures.tasks (calls_of plant h) a.tasked)) in
     simp (to_z-of_z, fits)
     (ready_there plant h c.args.event c.args.t c.refuse_named.result (simp (to_z-of_z, fits) at (c.refuse_named.ensures.value h a))
@@ -30,7 +30,7 @@ returns-in-Some-refuse_turn-clause-answer c h a =
     let plant = c.args.self.now.plant in
     let fits : SFits w64 c.args.t = c.ranges.t in
     let there =
-    due_there plant h c.args.t c.at-due.result (c.at-due.ensures.singles (table_of plant h) a.machines)
+    due_there plant h c.args.t c.at-due.result (c.at-due.ensures.singles (state_of plant h) a.instances_agree)
     (simp (to_z-of_z, fits) at (c.at-due.ensures.tasks (calls_of plant h) a.tasked)) in
     refused_turn plant h c.args.event c.args.t c.refuse_named.result (simp (to_z-of_z, fits) at (c.refuse_named.ensures.value h a))
     (none_of c.refuse_named.result c.in_default.not-Some) c.at-due.result there c.refuse_turn.result
@@ -43,7 +43,7 @@ returns-in-None-clause-answer c h a =
     let plant = c.args.self.now.plant in
     let fits : SFits w64 c.args.t = c.ranges.t in
     let there =
-    due_there plant h c.args.t c.at-due.result (c.at-due.ensures.singles (table_of plant h) a.machines)
+    due_there plant h c.args.t c.at-due.result (c.at-due.ensures.singles (state_of plant h) a.instances_agree)
     (simp (to_z-of_z, fits) at (c.at-due.ensures.tasks (calls_of plant h) a.tasked)) in
     granted plant h c.args.event c.args.t c.refuse_named.result (simp (to_z-of_z, fits) at (c.refuse_named.ensures.value h a))
     (none_of c.refuse_named.result c.in_default.not-Some) c.at-due.result there c.refuse_turn.result

@@ -3,7 +3,7 @@ use Rattle.std.proofs.Math.Logic.{∥∥₁_map}
 use Rattle.sfc_core.specs.Agreement.{Agrees, plant_of}
 use Rattle.sfc_core.specs.Due.{calls_of}
 use Rattle.sfc_core.specs.Openings.{IsOpeningFor}
-use Rattle.sfc_core.specs.Table.{table_of}
+use Rattle.sfc_core.specs.PlantState.{state_of}
 use Rattle.sfc_core.proofs.Instants.{fits}
 use Rattle.sfc_core.proofs.Pasts.{opening_agrees}
 use Rattle.sfc_core.proofs.resource.Resource.restore.Goals as goal
@@ -16,15 +16,15 @@ invariant_of-self c =
     let same = to_z-of_z (fits opening.last opening.last_low opening.last_high) in
     record {
       whole = c.copy_from.ensures.sizes;
-      places = c.copy_from-2.ensures.size ∙ c.requires.places;
+      tasks_sized = c.copy_from-2.ensures.size ∙ c.requires.tasks_sized;
       last_low = subst (λ (t : ℤ). negsuc 0 ≤ℤ t) (sym same) opening.last_low;
       last_high = subst (λ (t : ℤ). t ≤ℤ pos (2 ^ 62)) (sym same) opening.last_high;
-      told = ∥∥₁_map c.requires.some (λ x. (
+      agrees = ∥∥₁_map c.requires.some (λ x. (
         x.0,
         record {
           instant = same ∙ x.1.instant;
-          machines = c.copy_from.ensures.kept (table_of plant x.0) x.1.machines;
-          tasked = c.copy_from-2.ensures.kept plant.tasks (calls_of plant x.0) x.1.tasked;
+          instances_agree = c.copy_from.ensures.agrees (state_of plant x.0) x.1.instances_agree;
+          tasked = c.copy_from-2.ensures.agrees plant.tasks (calls_of plant x.0) x.1.tasked;
         },
       ));
     }
@@ -38,6 +38,6 @@ returns-clause-restored c h e =
     let k = opening_agrees plant opening h c.requires e in
     record {
       instant = same ∙ k.instant;
-      machines = c.copy_from.ensures.kept (table_of plant h) k.machines;
-      tasked = c.copy_from-2.ensures.kept plant.tasks (calls_of plant h) k.tasked;
+      instances_agree = c.copy_from.ensures.agrees (state_of plant h) k.instances_agree;
+      tasked = c.copy_from-2.ensures.agrees plant.tasks (calls_of plant h) k.tasked;
     }

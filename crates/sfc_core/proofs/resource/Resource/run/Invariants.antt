@@ -8,6 +8,6 @@ abbrev pub invariant-loop-event : goal.invariant-loop-event
 invariant-loop-event l = record {
   same_plant : plant_of l.self ≡ plant_of l.fn.self;
   bound : l.count ≤ l.event-index;
-  kept : (h : History) → Agrees l.fn.self h → Agrees l.self (after_all (plant_of l.fn.self) h (take l.event-index l.events));
+  agrees : (h : History) → Agrees l.fn.self h → Agrees l.self (after_all (plant_of l.fn.self) h (take l.event-index l.events));
   counted : (h : History) → Agrees l.fn.self h → l.count ≡ accepted (plant_of l.fn.self) h (take l.event-index l.events);
 }

@@ -3,7 +3,7 @@ use Rattle.std.proofs.Math.Logic.{∥∥₁_map}
 use Rattle.sfc_core.specs.Agreement.{Agrees, plant_of}
 use Rattle.sfc_core.specs.Due.{calls_of}
 use Rattle.sfc_core.specs.Openings.{IsOpeningFor, past_of}
-use Rattle.sfc_core.specs.Table.{table_of}
+use Rattle.sfc_core.specs.PlantState.{state_of}
 use Rattle.sfc_core.proofs.Instants.{fits}
 use Rattle.sfc_core.proofs.Pasts.{parts_keep}
 use Rattle.sfc_core.proofs.resource.Resource.save.Goals as goal
@@ -17,13 +17,13 @@ returns-clause-sizes c =
     let same = to_z-of_z (fits resource.last resource.last_low resource.last_high) in
     record {
       whole = c.copy_from.ensures.sizes;
-      places = c.copy_from-2.ensures.size ∙ resource.places;
-      some = ∥∥₁_map resource.told (λ x. (
+      tasks_sized = c.copy_from-2.ensures.size ∙ resource.tasks_sized;
+      some = ∥∥₁_map resource.agrees (λ x. (
         x.0,
         record {
           instant = same ∙ x.1.instant;
-          machines = c.copy_from.ensures.kept (table_of plant x.0) x.1.machines;
-          tasked = c.copy_from-2.ensures.kept plant.tasks (calls_of plant x.0) x.1.tasked;
+          instances_agree = c.copy_from.ensures.agrees (state_of plant x.0) x.1.instances_agree;
+          tasked = c.copy_from-2.ensures.agrees plant.tasks (calls_of plant x.0) x.1.tasked;
         },
       ));
     }
@@ -37,6 +37,6 @@ returns-clause-saved c h k =
     parts_keep plant _ _ _ h c.copy_from.ensures.sizes
     record {
       instant = same ∙ k.instant;
-      machines = c.copy_from.ensures.kept (table_of plant h) k.machines;
-      tasked = c.copy_from-2.ensures.kept plant.tasks (calls_of plant h) k.tasked;
+      instances_agree = c.copy_from.ensures.agrees (state_of plant h) k.instances_agree;
+      tasked = c.copy_from-2.ensures.agrees plant.tasks (calls_of plant h) k.tasked;
     }

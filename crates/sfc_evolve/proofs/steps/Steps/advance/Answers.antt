@@ -4,9 +4,9 @@ use Rattle.std.proofs.lemmas.List.{with_items_is, length-replicate}
 use Rattle.std.specs.Prelude.{replicate}
 use Rattle.sfc_flags.specs.Flags.{flag, places_from}
 use Rattle.sfc_evolve.specs.Agreement.{StepsAgree}
-use Rattle.sfc_evolve.specs.Evolution.{step_count, transition_count, preceding_of}
+use Rattle.sfc_evolve.specs.Clearing.{step_count, transition_count, preceding_of}
 use Rattle.sfc_evolve.specs.Private.Keeping.{AreInstants, left_by, begun_at}
-use Rattle.sfc_evolve.proofs.Next.{Advanced, advanced, kept_next, kept_at}
+use Rattle.sfc_evolve.proofs.Next.{Advanced, advanced, fields_next, fields_at}
 use Rattle.sfc_evolve.specs.Private.Proposing.{AreProposed}
 use Rattle.sfc_evolve.proofs.Proposed.{proposed}
 use Rattle.sfc_evolve.proofs.Works.{work_of_scan, clearing_is}
@@ -18,7 +18,7 @@ record Sizes (c : goal.After-self-3-1) : Type 0 where
   used : length c.args.self.now.used ≡ step_count c.args.tables.now
   on : length c.args.self.now.on ≡ step_count c.args.tables.now
   since : length c.args.self.now.since.items ≡ step_count c.args.tables.now
-  kept : length c.args.self.now.kept.items ≡ step_count c.args.tables.now
+  held_times : length c.args.self.now.held_times.items ≡ step_count c.args.tables.now
   cleared : length c.args.self.now.cleared ≡ transition_count c.args.tables.now
 
 sizes : (c : goal.After-self-3-1) → Sizes c
@@ -29,14 +29,14 @@ sizes c =
       used = c.args.self.now.used_len ∙ la;
       on = c.args.self.now.on_len ∙ la;
       since = c.args.self.now.since_len ∙ la;
-      kept = c.args.self.now.kept_len ∙ la;
+      held_times = c.args.self.now.held_times_len ∙ la;
       cleared = c.requires.sizes.same_transitions;
     }
 
 scanned : (c : goal.After-self-3-1) → AreProposed c.args.tables.now (flag c.args.self.now.active) c.args.self.now.candidates
     → Advanced c.args.tables.now c.args.self.now.begun c.args.self.now.active c.args.self.now.since.items
-    c.args.self.now.kept.items c.args.conditions.now c.args.t
-    c.clear_in_order.new.cleared c.mark_following.new.on c.begin.new.active c.begin.new.since c.keep_times.new.kept
+    c.args.self.now.held_times.items c.args.conditions.now c.args.t
+    c.clear_in_order.new.cleared c.mark_following.new.on c.begin.new.active c.begin.new.since c.keep_times.new.held_times
 scanned c proposes =
     let tables = c.args.tables.now in
     let self = c.args.self.now in
@@ -44,15 +44,15 @@ scanned c proposes =
     let ft : SFits w64 c.args.t = c.ranges.t in
     let cleared = c.clear_in_order.new.cleared in
     let on = c.mark_following.new.on in
-    let keeps : c.keep_times.new.kept
+    let keeps : c.keep_times.new.held_times
     ≡ left_by c.args.t c.deref.result.now (preceding_of tables.sides) (places_from cleared 0) c.deref_mut.result.now =
-    simp to_z-of_z at c.keep_times.ensures.kept in
+    simp to_z-of_z at c.keep_times.ensures.held_times in
     let begins : c.begin.new.since ≡ begun_at c.args.t (places_from on 0) c.deref_mut-2.result.now =
     simp to_z-of_z at c.begin.ensures.since in
-    advanced tables c.steps-steps.ensures.tables self.begun self.active self.since.items self.kept.items c.args.conditions.now c.args.t
+    advanced tables c.steps-steps.ensures.tables self.begun self.active self.since.items self.held_times.items c.args.conditions.now c.args.t
     c.clear_all.new.self c.clear_all-2.new.self cleared c.unmark_preceding.new.active c.start.new.on on c.begin.new.active
-    c.begin.new.since c.keep_times.new.kept
-    n.active n.since n.kept (c.start.ensures.len ∙ n.on) (c.mark_following.ensures.len ∙ c.start.ensures.len ∙ n.on)
+    c.begin.new.since c.keep_times.new.held_times
+    n.active n.since n.held_times (c.start.ensures.len ∙ n.on) (c.mark_following.ensures.len ∙ c.start.ensures.len ∙ n.on)
     (c.clear_all.ensures.flags ∙ ap (λ k. replicate k false) n.used)
     (c.clear_all-2.ensures.flags ∙ ap (λ k. replicate k false) n.cleared)
     (c.clear_in_order.ensures.cleared proposes)
@@ -100,10 +100,10 @@ pub keep_times-requires-clause-since_len : goal.keep_times-requires-clause-since
 keep_times-requires-clause-since_len c =
     ap length c.deref.ensures.value ∙ c.args.self.now.since_len ∙ c.requires.sizes.same_steps
 
-pub keep_times-requires-clause-kept_len : goal.keep_times-requires-clause-kept_len
-keep_times-requires-clause-kept_len c =
+pub keep_times-requires-clause-held_times_len : goal.keep_times-requires-clause-held_times_len
+keep_times-requires-clause-held_times_len c =
     let self = c.args.self.now in
-    ap length c.deref_mut.ensures.value ∙ self.kept_len ∙ sym (ap length c.deref.ensures.value ∙ self.since_len)
+    ap length c.deref_mut.ensures.value ∙ self.held_times_len ∙ sym (ap length c.deref.ensures.value ∙ self.since_len)
 
 pub keep_times-requires-clause-instants : goal.keep_times-requires-clause-instants
 keep_times-requires-clause-instants c = subst AreInstants (sym c.deref.ensures.value) c.args.self.now.instants
@@ -214,16 +214,16 @@ invariant_of-self-clause-on_len c =
     c.mark_following.ensures.len ∙ c.start.ensures.len ∙ c.args.self.now.on_len
     ∙ sym (c.begin.ensures.active_len ∙ c.unmark_preceding.ensures.len)
 
-pub returns-clause-kept : goal.returns-clause-kept
+pub returns-clause-agrees : goal.returns-clause-agrees
 unfolding StepsAgree
-returns-clause-kept c scans k =
+returns-clause-agrees c scans k =
     let tables = c.args.tables.now in
     let self = c.args.self.now in
     let next =
-    kept_next tables c.steps-steps.ensures.tables self.begun self.active self.since.items self.kept.items self.cleared self.on
+    fields_next tables c.steps-steps.ensures.tables self.begun self.active self.since.items self.held_times.items self.cleared self.on
     c.args.conditions.now c.args.t
-    c.clear_in_order.new.cleared c.mark_following.new.on c.begin.new.active c.begin.new.since c.keep_times.new.kept scans
-    (scanned c k.proposed) k.kept in
+    c.clear_in_order.new.cleared c.mark_following.new.on c.begin.new.active c.begin.new.since c.keep_times.new.held_times scans
+    (scanned c k.proposed) k.fields in
     record {
       size = record {
         same_steps = c.begin.ensures.active_len ∙ c.unmark_preceding.ensures.len ∙ c.requires.sizes.same_steps;
@@ -233,8 +233,8 @@ returns-clause-kept c scans k =
             ∙ length-replicate (length self.cleared) false
             ∙ c.requires.sizes.same_transitions;
       };
-      kept = kept_at tables true _ _ _ _ _ _ _ _ _ _ _ refl (with_items_is self.since _ (omega arith))
-          (with_items_is self.kept _ (omega arith)) refl refl next;
+      fields = fields_at tables true _ _ _ _ _ _ _ _ _ _ _ refl (with_items_is self.since _ (omega arith))
+          (with_items_is self.held_times _ (omega arith)) refl refl next;
       proposed = proposed tables c.steps-steps.ensures.tables c.begin.new.active c.propose.new.candidates (length self.candidates)
           (self.candidates_len ∙ c.requires.sizes.same_transitions) c.propose.ensures.flags;
     }
@@ -281,12 +281,12 @@ invariant_of-self-clause-candidates_len c =
       length-replicate (length c.args.self.now.cleared) false,
     )
 
-pub invariant_of-self-clause-kept_len : goal.invariant_of-self-clause-kept_len
-invariant_of-self-clause-kept_len c =
+pub invariant_of-self-clause-held_times_len : goal.invariant_of-self-clause-held_times_len
+invariant_of-self-clause-held_times_len c =
     let self = c.args.self.now in
-    let same : length c.keep_times.new.kept ≡ length c.begin.new.active =
-    omega (arith, self.kept_len, c.begin.ensures.active_len, c.unmark_preceding.ensures.len) in
-    ap length (with_items_is self.kept c.keep_times.new.kept (omega arith)) ∙ same
+    let same : length c.keep_times.new.held_times ≡ length c.begin.new.active =
+    omega (arith, self.held_times_len, c.begin.ensures.active_len, c.unmark_preceding.ensures.len) in
+    ap length (with_items_is self.held_times c.keep_times.new.held_times (omega arith)) ∙ same
 
 pub invariant_of-self-clause-instants : goal.invariant_of-self-clause-instants
 invariant_of-self-clause-instants c =

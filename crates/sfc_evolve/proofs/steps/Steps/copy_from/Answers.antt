@@ -7,19 +7,19 @@ pub copy_from-requires-2 : goal.copy_from-requires-2
 copy_from-requires-2 c =
     c.args.other.now.candidates_len ∙ c.requires.transitions ∙ sym c.args.self.now.candidates_len
 
-pub copy_times-requires-clause-kept_len : goal.copy_times-requires-clause-kept_len
-copy_times-requires-clause-kept_len c =
+pub copy_times-requires-clause-held_times_len : goal.copy_times-requires-clause-held_times_len
+copy_times-requires-clause-held_times_len c =
     let self = c.args.self.now in
-    ap length c.deref_mut-2.ensures.value ∙ self.kept_len ∙ sym (ap length c.deref_mut.ensures.value ∙ self.since_len)
+    ap length c.deref_mut-2.ensures.value ∙ self.held_times_len ∙ sym (ap length c.deref_mut.ensures.value ∙ self.since_len)
 
 pub copy_times-requires-clause-from_since_len : goal.copy_times-requires-clause-from_since_len
 copy_times-requires-clause-from_since_len c =
     ap length c.deref.ensures.value ∙ c.args.other.now.since_len ∙ c.requires.steps
     ∙ sym (ap length c.deref_mut.ensures.value ∙ c.args.self.now.since_len)
 
-pub copy_times-requires-clause-from_kept_len : goal.copy_times-requires-clause-from_kept_len
-copy_times-requires-clause-from_kept_len c =
-    ap length c.deref-2.ensures.value ∙ c.args.other.now.kept_len ∙ c.requires.steps
+pub copy_times-requires-clause-from_held_times_len : goal.copy_times-requires-clause-from_held_times_len
+copy_times-requires-clause-from_held_times_len c =
+    ap length c.deref-2.ensures.value ∙ c.args.other.now.held_times_len ∙ c.requires.steps
     ∙ sym (ap length c.deref_mut.ensures.value ∙ c.args.self.now.since_len)
 
 pub invariant_of-self-clause-since_len : goal.invariant_of-self-clause-since_len
@@ -28,11 +28,11 @@ invariant_of-self-clause-since_len c =
     ∙ c.copy_times.ensures.since ∙ c.deref.ensures.value)
     ∙ c.args.other.now.since_len ∙ sym (ap length c.copy_flags.ensures.active)
 
-pub invariant_of-self-clause-kept_len : goal.invariant_of-self-clause-kept_len
-invariant_of-self-clause-kept_len c =
-    ap length (with_items_is c.args.self.now.kept c.copy_times.new.kept (omega arith)
-    ∙ c.copy_times.ensures.kept ∙ c.deref-2.ensures.value)
-    ∙ c.args.other.now.kept_len ∙ sym (ap length c.copy_flags.ensures.active)
+pub invariant_of-self-clause-held_times_len : goal.invariant_of-self-clause-held_times_len
+invariant_of-self-clause-held_times_len c =
+    ap length (with_items_is c.args.self.now.held_times c.copy_times.new.held_times (omega arith)
+    ∙ c.copy_times.ensures.held_times ∙ c.deref-2.ensures.value)
+    ∙ c.args.other.now.held_times_len ∙ sym (ap length c.copy_flags.ensures.active)
 
 pub invariant_of-self-clause-candidates_len : goal.invariant_of-self-clause-candidates_len
 invariant_of-self-clause-candidates_len c =
@@ -56,7 +56,7 @@ invariant_of-self-clause-instants c =
 pub returns-clause-ticks : goal.returns-clause-ticks
 returns-clause-ticks c =
     let self = c.args.self.now in
-    let room = ap length c.deref_mut.ensures.value in (
+    let fits = ap length c.deref_mut.ensures.value in (
       omega arith,
       omega (
         arith,
@@ -65,6 +65,6 @@ returns-clause-ticks c =
         c.copy_times.ensures.ticks,
         self.candidates_len,
         self.since_len,
-        room,
+        fits,
       ),
     )

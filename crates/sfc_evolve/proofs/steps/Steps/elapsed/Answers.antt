@@ -1,8 +1,8 @@
 use Rattle.std.proofs.Common.{◌≡◌, ◌<◌, length, sym, ap, subst, ◌∙◌, arith, cond, true, ℕ, ℤ, pos, Bool, ◌-ℤ◌, ◌≤ℤ◌, ◌^◌, to_z, of_z, w64}
 use Rattle.std.proofs.lemmas.List.{get_or_read}
 use Rattle.sfc_flags.specs.Flags.{flag}
-use Rattle.sfc_evolve.specs.Agreement.{StepsAgree}
-use Rattle.sfc_evolve.specs.Evolution.{step_count}
+use Rattle.sfc_evolve.specs.Agreement.{StepsAgree, shown_time}
+use Rattle.sfc_evolve.specs.Clearing.{step_count}
 use Rattle.sfc_evolve.specs.Private.Keeping.{number}
 use Rattle.sfc_evolve.proofs.Instants.{instant_low, instant_high, time_is}
 use Rattle.sfc_evolve.proofs.steps.Steps.elapsed.Goals as goal
@@ -34,18 +34,25 @@ time_since-requires-clause-since_high c =
     let read = get_or_read self.since.items s c.index.result.now within c.index.ensures (pos 0) in
     subst (λ (x : ℤ). to_z w64 (of_z w64 x) ≤ℤ pos (2 ^ 62)) (sym read) (instant_high (number self.since.items s) instant.0 instant.1)
 
-pub returns-then-get : goal.returns-then-get
-unfolding StepsAgree
-returns-then-get c tables scans k =
+pub returns-then-get-clause-shown : goal.returns-then-get-clause-shown
+unfolding shown_time
+returns-then-get-clause-shown c =
     let self = c.args.self.now in
     let s = c.args.step.0 in
     let t = c.args.t in
     let instant = self.instants s in
-    let lt : s < step_count tables = subst (λ (n : ℕ). s < n) k.size.same_steps c.requires.place in
     let within : s < length self.since.items = omega (arith, c.requires.place, self.since_len) in
     let read = get_or_read self.since.items s c.index.result.now within c.index.ensures (pos 0) in
     let on : flag self.active s ≡ true = sym c.get.ensures ∙ c.if-get.true in
     time_is t (number self.since.items s) c.time_since.result c.requires.low c.requires.high instant.0 instant.1
     (c.time_since.ensures ∙ ap (λ (x : ℤ). to_z w64 (of_z w64 t) -ℤ to_z w64 (of_z w64 x)) read)
-    ∙ ap (λ (b : Bool). cond b (t -ℤ number self.since.items s) (number self.kept.items s)) (sym on)
-    ∙ sym (k.kept.time s lt t)
+    ∙ ap (λ (b : Bool). cond b (t -ℤ number self.since.items s) (number self.held_times.items s)) (sym on)
+
+pub returns-then-get-clause-agrees : goal.returns-then-get-clause-agrees
+unfolding shown_time StepsAgree
+returns-then-get-clause-agrees c tables scans k =
+    let self = c.args.self.now in
+    let s = c.args.step.0 in
+    let t = c.args.t in
+    let lt : s < step_count tables = subst (λ (n : ℕ). s < n) k.size.same_steps c.requires.place in
+    returns-then-get-clause-shown c ∙ sym (k.fields.time s lt t)

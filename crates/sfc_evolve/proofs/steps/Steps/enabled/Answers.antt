@@ -1,7 +1,8 @@
 use Rattle.std.proofs.Common.{◌∙◌, ap, List}
-use Rattle.sfc_expr.specs.declared.variable.StepId.{StepId}
+use Rattle.sfc_base.specs.declared.references.StepId.{StepId}
 use Rattle.sfc_flags.specs.Flags.{flag}
-use Rattle.sfc_evolve.specs.Evolution.{step_count, is_active, is_enabled, rows_of, preceding_of}
+use Rattle.sfc_evolve.specs.Clearing.{step_count, is_enabled, preceding_of}
+use Rattle.sfc_evolve.specs.Evolution.{is_active, rows_of}
 use Rattle.sfc_evolve.specs.Agreement.{StepsAgree}
 use Rattle.sfc_evolve.proofs.Next.{all_same}
 use Rattle.sfc_evolve.proofs.TableFacts.{all_preceding_below}
@@ -14,6 +15,6 @@ returns-clause-value c scans k =
     let active = c.args.self.now.active in
     c.all_set.ensures.value
     ∙ ap (λ (steps : List StepId). is_enabled (flag active) steps) c.preceding.ensures
-    ∙ all_same (flag active) (is_active tables (rows_of tables scans)) (step_count tables) k.kept.activity
+    ∙ all_same (flag active) (is_active tables (rows_of tables scans)) (step_count tables) k.fields.activity
     (preceding_of tables.sides c.args.transition.0)
     (all_preceding_below tables c.steps-steps.ensures.tables c.args.transition)

@@ -4,13 +4,13 @@ use Rattle.std.proofs.lemmas.List.{with_items_is}
 use Rattle.sfc_flags.specs.Flags.{places_from}
 use Rattle.sfc_evolve.specs.Agreement.{StepsAgree, measured_times}
 use Rattle.sfc_evolve.specs.Private.Keeping.{AreInstants, measured_at}
-use Rattle.sfc_evolve.proofs.Next.{kept_at}
-use Rattle.sfc_evolve.proofs.Measured.{still_kept, times_are}
+use Rattle.sfc_evolve.proofs.Next.{fields_at}
+use Rattle.sfc_evolve.proofs.Measured.{fields_still, times_are}
 use Rattle.sfc_evolve.proofs.steps.Steps.measure.Goals as goal
 
 -- what was worked out
 made : (c : goal.After-self-2-1) → c.measure_active.new.times
-    ≡ measured_at c.args.t c.args.self.now.since.items (places_from c.args.self.now.active 0) c.args.self.now.kept.items
+    ≡ measured_at c.args.t c.args.self.now.since.items (places_from c.args.self.now.active 0) c.args.self.now.held_times.items
 made c =
     let self = c.args.self.now in
     let ft : SFits w64 c.args.t = c.ranges.t in
@@ -38,23 +38,23 @@ measure_active-requires-clause-active_len c = sym (ap length c.deref.ensures.val
 pub measure_active-requires-clause-times_len : goal.measure_active-requires-clause-times_len
 measure_active-requires-clause-times_len c =
     let self = c.args.self.now in
-    ap length c.deref_mut.ensures.value ∙ self.kept_len ∙ sym (ap length c.deref.ensures.value ∙ self.since_len)
+    ap length c.deref_mut.ensures.value ∙ self.held_times_len ∙ sym (ap length c.deref.ensures.value ∙ self.since_len)
 
-pub invariant_of-self-clause-kept_len : goal.invariant_of-self-clause-kept_len
-invariant_of-self-clause-kept_len c =
+pub invariant_of-self-clause-held_times_len : goal.invariant_of-self-clause-held_times_len
+invariant_of-self-clause-held_times_len c =
     let self = c.args.self.now in
-    ap length (with_items_is self.kept c.measure_active.new.times (omega arith))
-    ∙ c.measure_active.ensures.len ∙ ap length c.deref_mut.ensures.value ∙ self.kept_len
+    ap length (with_items_is self.held_times c.measure_active.new.times (omega arith))
+    ∙ c.measure_active.ensures.len ∙ ap length c.deref_mut.ensures.value ∙ self.held_times_len
 
-pub returns-clause-kept : goal.returns-clause-kept
+pub returns-clause-agrees : goal.returns-clause-agrees
 unfolding StepsAgree
-returns-clause-kept c tables scans k =
+returns-clause-agrees c tables scans k =
     let self = c.args.self.now in
     record {
       size = record { same_steps = k.size.same_steps; same_transitions = k.size.same_transitions };
-      kept = kept_at tables self.begun _ _ _ _ _ _ _ _ _ _ scans refl refl (with_items_is self.kept _ (omega arith)) refl refl
-          (still_kept tables self.begun self.active self.since.items self.kept.items self.cleared self.on scans c.args.t
-          c.measure_active.new.times self.kept_len (made c) k.kept);
+      fields = fields_at tables self.begun _ _ _ _ _ _ _ _ _ _ scans refl refl (with_items_is self.held_times _ (omega arith)) refl refl
+          (fields_still tables self.begun self.active self.since.items self.held_times.items self.cleared self.on scans c.args.t
+          c.measure_active.new.times self.held_times_len (made c) k.fields);
       proposed = k.proposed;
     }
 
@@ -62,8 +62,8 @@ pub returns-clause-measured : goal.returns-clause-measured
 unfolding StepsAgree measured_times
 returns-clause-measured c tables scans k =
     let self = c.args.self.now in
-    let new = with_items_is self.kept c.measure_active.new.times (omega arith) in
-    let long : length c.measure_active.new.times ≡ length self.kept.items = omega arith in
-    new ∙ times_are tables self.begun self.active self.since.items self.kept.items self.cleared self.on scans c.args.t
-    c.measure_active.new.times self.kept_len (made c) (long ∙ self.kept_len ∙ k.size.same_steps)
-    (kept_at tables self.begun _ _ _ _ _ _ _ _ _ _ scans refl refl (sym new) refl refl k.kept)
+    let new = with_items_is self.held_times c.measure_active.new.times (omega arith) in
+    let long : length c.measure_active.new.times ≡ length self.held_times.items = omega arith in
+    new ∙ times_are tables self.begun self.active self.since.items self.held_times.items self.cleared self.on scans c.args.t
+    c.measure_active.new.times self.held_times_len (made c) (long ∙ self.held_times_len ∙ k.size.same_steps)
+    (fields_at tables self.begun _ _ _ _ _ _ _ _ _ _ scans refl refl (sym new) refl refl k.fields)

@@ -18,7 +18,7 @@ returns-clause-agrees c =
         same_steps = ap length flags.ensures.first ∙ length-replicate n false ∙ c.steps-n.ensures.count;
         same_transitions = ap length sets.ensures.first ∙ length-replicate m false ∙ c.transitions-m.ensures.count;
       };
-      kept = fresh c.args.tables.now n m flags.active lists.since.items lists.kept.items sets.cleared flags.on
+      fields = fresh c.args.tables.now n m flags.active lists.since.items lists.held_times.items sets.cleared flags.on
           flags.ensures.first lists.ensures.second sets.ensures.first flags.ensures.third;
       proposed = rw flags.ensures.first (none_proposed c.args.tables.now c.steps-n.ensures.tables n _);
     }
@@ -37,8 +37,8 @@ invariant_of-result-clause-since_len c =
     ap length c.in_ok-since.ensures.first ∙ length-replicate n (pos 0)
     ∙ sym (ap length c.in_ok-active.ensures.first ∙ length-replicate n false)
 
-pub invariant_of-result-clause-kept_len : goal.invariant_of-result-clause-kept_len
-invariant_of-result-clause-kept_len c =
+pub invariant_of-result-clause-held_times_len : goal.invariant_of-result-clause-held_times_len
+invariant_of-result-clause-held_times_len c =
     let n = c.steps-n.result in
     ap length c.in_ok-since.ensures.second ∙ length-replicate n (pos 0)
     ∙ sym (ap length c.in_ok-active.ensures.first ∙ length-replicate n false)

@@ -8,40 +8,40 @@ next_difference-requires-clause-few c = omega (arith, c.self.invariant.sized)
 
 pub next_difference-requires-clause-len : goal.next_difference-requires-clause-len
 next_difference-requires-clause-len c =
-    alike _ _ _ _ c.deref.result.now c.deref-then-from-places.result.now _ _ c.self.invariant c.other.invariant
-    c.deref.ensures.value c.deref-then-from-places.ensures.value c.self.view_is c.other.view_is c.requires
+    alike _ _ _ _ c.deref.result.now c.deref-then-from-count.result.now _ _ c.self.invariant c.other.invariant
+    c.deref.ensures.value c.deref-then-from-count.ensures.value c.self.view_is c.other.view_is c.requires
 
-pub returns-then-from-places-clause-some : goal.returns-then-from-places-clause-some
-returns-then-from-places-clause-some c =
-    some_difference _ _ _ _ c.deref.result.now c.deref-then-from-places.result.now _ _ c.self.invariant c.other.invariant
-    c.deref.ensures.value c.deref-then-from-places.ensures.value c.self.view_is c.other.view_is c.requires
+pub returns-then-from-count-clause-some : goal.returns-then-from-count-clause-some
+returns-then-from-count-clause-some c =
+    some_difference _ _ _ _ c.deref.result.now c.deref-then-from-count.result.now _ _ c.self.invariant c.other.invariant
+    c.deref.ensures.value c.deref-then-from-count.ensures.value c.self.view_is c.other.view_is c.requires
     c.args.from c.next_difference.result c.next_difference.ensures.some
 
-pub returns-then-from-places-clause-before : goal.returns-then-from-places-clause-before
-returns-then-from-places-clause-before c =
-    none_before _ _ _ _ c.deref.result.now c.deref-then-from-places.result.now _ _ c.self.invariant c.other.invariant
-    c.deref.ensures.value c.deref-then-from-places.ensures.value c.self.view_is c.other.view_is c.requires
+pub returns-then-from-count-clause-before : goal.returns-then-from-count-clause-before
+returns-then-from-count-clause-before c =
+    none_before _ _ _ _ c.deref.result.now c.deref-then-from-count.result.now _ _ c.self.invariant c.other.invariant
+    c.deref.ensures.value c.deref-then-from-count.ensures.value c.self.view_is c.other.view_is c.requires
     c.args.from c.next_difference.result c.next_difference.ensures.some
 
-pub returns-then-from-places-clause-none : goal.returns-then-from-places-clause-none
-returns-then-from-places-clause-none c none j le =
-    same_flag _ _ _ _ c.deref.result.now c.deref-then-from-places.result.now _ _ c.self.invariant c.other.invariant
-    c.deref.ensures.value c.deref-then-from-places.ensures.value c.self.view_is c.other.view_is c.requires
+pub returns-then-from-count-clause-none : goal.returns-then-from-count-clause-none
+returns-then-from-count-clause-none c none j le =
+    same_flag _ _ _ _ c.deref.result.now c.deref-then-from-count.result.now _ _ c.self.invariant c.other.invariant
+    c.deref.ensures.value c.deref-then-from-count.ensures.value c.self.view_is c.other.view_is c.requires
     j (c.next_difference.ensures.none none j le)
 
-pub returns-else-from-places-clause-none : goal.returns-else-from-places-clause-none
-returns-else-from-places-clause-none c none j le =
-    past_both c.args.self.now c.args.other.now j c.requires (omega (arith, length_of c.self.inside.places c.self.inside.words.items, ap length c.self.view_is))
+pub returns-else-from-count-clause-none : goal.returns-else-from-count-clause-none
+returns-else-from-count-clause-none c none j le =
+    past_both c.args.self.now c.args.other.now j c.requires (omega (arith, length_of c.self.inside.count c.self.inside.words.items, ap length c.self.view_is))
 
-pub returns-then-from-places-clause-len : goal.returns-then-from-places-clause-len
-returns-then-from-places-clause-len c = omega (arith, length_of c.self.inside.places c.self.inside.words.items, ap length c.self.view_is)
+pub returns-then-from-count-clause-len : goal.returns-then-from-count-clause-len
+returns-then-from-count-clause-len c = omega (arith, length_of c.self.inside.count c.self.inside.words.items, ap length c.self.view_is)
 
-pub returns-else-from-places-clause-len : goal.returns-else-from-places-clause-len
-returns-else-from-places-clause-len c = omega (arith, length_of c.self.inside.places c.self.inside.words.items, ap length c.self.view_is)
+pub returns-else-from-count-clause-len : goal.returns-else-from-count-clause-len
+returns-else-from-count-clause-len c = omega (arith, length_of c.self.inside.count c.self.inside.words.items, ap length c.self.view_is)
 
-pub returns-then-from-places-clause-ticks : goal.returns-then-from-places-clause-ticks
-returns-then-from-places-clause-ticks c =
-    let few = differences_passed _ _ _ _ c.deref.result.now c.deref-then-from-places.result.now _ _ c.self.invariant c.other.invariant
-    c.deref.ensures.value c.deref-then-from-places.ensures.value c.self.view_is c.other.view_is c.requires
+pub returns-then-from-count-clause-ticks : goal.returns-then-from-count-clause-ticks
+returns-then-from-count-clause-ticks c =
+    let few = differences_passed _ _ _ _ c.deref.result.now c.deref-then-from-count.result.now _ _ c.self.invariant c.other.invariant
+    c.deref.ensures.value c.deref-then-from-count.ensures.value c.self.view_is c.other.view_is c.requires
     c.args.from c.next_difference.result (omega arith) c.next_difference.ensures.some in
     (omega (arith, c.next_difference.ensures.ticks.0), omega (arith, c.next_difference.ensures.ticks.1, few))

@@ -7,24 +7,24 @@ use Rattle.sfc_flags.proofs.flags.Flags.next_set.Goals as goal
 pub next-requires : goal.next-requires
 next-requires c = omega (arith, c.self.invariant.sized)
 
-pub returns-then-from-places-clause-some : goal.returns-then-from-places-clause-some
-returns-then-from-places-clause-some c = some_place _ _ c.deref.result.now _ c.self.invariant c.deref.ensures.value c.self.view_is c.args.from c.next.result c.next.ensures.some
+pub returns-then-from-count-clause-some : goal.returns-then-from-count-clause-some
+returns-then-from-count-clause-some c = some_place _ _ c.deref.result.now _ c.self.invariant c.deref.ensures.value c.self.view_is c.args.from c.next.result c.next.ensures.some
 
-pub returns-then-from-places-clause-none : goal.returns-then-from-places-clause-none
-returns-then-from-places-clause-none c none =
+pub returns-then-from-count-clause-none : goal.returns-then-from-count-clause-none
+returns-then-from-count-clause-none c none =
     no_place _ c.args.from (λ j le. shown _ _ c.deref.result.now _ c.self.invariant c.deref.ensures.value c.self.view_is j ∙ c.next.ensures.none none j le)
 
-pub returns-else-from-places-clause-none : goal.returns-else-from-places-clause-none
-returns-else-from-places-clause-none c none = none_left c.args.self.now c.args.from (omega (arith, length_of c.self.inside.places c.self.inside.words.items, ap length c.self.view_is))
+pub returns-else-from-count-clause-none : goal.returns-else-from-count-clause-none
+returns-else-from-count-clause-none c none = none_left c.args.self.now c.args.from (omega (arith, length_of c.self.inside.count c.self.inside.words.items, ap length c.self.view_is))
 
-pub returns-then-from-places-clause-len : goal.returns-then-from-places-clause-len
-returns-then-from-places-clause-len c = omega (arith, length_of c.self.inside.places c.self.inside.words.items, ap length c.self.view_is)
+pub returns-then-from-count-clause-len : goal.returns-then-from-count-clause-len
+returns-then-from-count-clause-len c = omega (arith, length_of c.self.inside.count c.self.inside.words.items, ap length c.self.view_is)
 
-pub returns-else-from-places-clause-len : goal.returns-else-from-places-clause-len
-returns-else-from-places-clause-len c = omega (arith, length_of c.self.inside.places c.self.inside.words.items, ap length c.self.view_is)
+pub returns-else-from-count-clause-len : goal.returns-else-from-count-clause-len
+returns-else-from-count-clause-len c = omega (arith, length_of c.self.inside.count c.self.inside.words.items, ap length c.self.view_is)
 
-pub returns-then-from-places-clause-ticks : goal.returns-then-from-places-clause-ticks
-returns-then-from-places-clause-ticks c =
-    let few = passed c.self.inside.places (length c.args.self.now) c.args.from c.self.inside.words.items c.deref.result.now c.next.result c.self.invariant c.deref.ensures.value
-    (omega (arith, length_of c.self.inside.places c.self.inside.words.items, ap length c.self.view_is)) (omega arith) c.next.ensures.some in
+pub returns-then-from-count-clause-ticks : goal.returns-then-from-count-clause-ticks
+returns-then-from-count-clause-ticks c =
+    let few = passed c.self.inside.count (length c.args.self.now) c.args.from c.self.inside.words.items c.deref.result.now c.next.result c.self.invariant c.deref.ensures.value
+    (omega (arith, length_of c.self.inside.count c.self.inside.words.items, ap length c.self.view_is)) (omega arith) c.next.ensures.some in
     (omega (arith, c.next.ensures.ticks.0), omega (arith, c.next.ensures.ticks.1, few))

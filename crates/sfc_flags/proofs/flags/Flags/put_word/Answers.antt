@@ -12,12 +12,12 @@ use Rattle.sfc_flags.proofs.flags.Flags.put_word.Goals as goal
 
 pub put_word-requires : goal.put_word-requires
 put_word-requires c =
-    omega (arith, length_of c.self.inside.places c.self.inside.words.items, ap length c.self.view_is, ap length c.deref_mut.ensures.value, c.self.invariant.sized)
+    omega (arith, length_of c.self.inside.count c.self.inside.words.items, ap length c.self.view_is, ap length c.deref_mut.ensures.value, c.self.invariant.sized)
 
 pub invariant_of-self : goal.invariant_of-self
 unfolding has
 invariant_of-self c =
-    let n = c.self.inside.places in let v = c.self.inside.words in let k = c.args.number in let w = c.args.word.0 in
+    let n = c.self.inside.count in let v = c.self.inside.words in let k = c.args.number in let w = c.args.word.0 in
     let all = length_of n v.items in
     let made : c.put_word.new.words ≡ slice_set v.items k w = c.put_word.ensures ∙ ap (λ ws. slice_set ws k w) c.deref_mut.ensures.value in
     let e : (with_items v c.put_word.new.words).items ≡ slice_set v.items k w =
@@ -27,12 +27,12 @@ invariant_of-self c =
 
 pub returns-clause-len : goal.returns-clause-len
 returns-clause-len c =
-    omega (arith, length_of c.self.inside.places (with_items c.self.inside.words c.put_word.new.words).items, length_of c.self.inside.places c.self.inside.words.items, ap length c.self.view_is)
+    omega (arith, length_of c.self.inside.count (with_items c.self.inside.words c.put_word.new.words).items, length_of c.self.inside.count c.self.inside.words.items, ap length c.self.view_is)
 
 pub returns-clause-flags : goal.returns-clause-flags
 unfolding has
 returns-clause-flags c place =
-    let n = c.self.inside.places in let v = c.self.inside.words in let k = c.args.number in let w = c.args.word.0 in
+    let n = c.self.inside.count in let v = c.self.inside.words in let k = c.args.number in let w = c.args.word.0 in
     let all = length_of n v.items in
     let made : c.put_word.new.words ≡ slice_set v.items k w = c.put_word.ensures ∙ ap (λ ws. slice_set ws k w) c.deref_mut.ensures.value in
     let e : (with_items v c.put_word.new.words).items ≡ slice_set v.items k w =

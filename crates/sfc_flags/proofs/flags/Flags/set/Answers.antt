@@ -7,11 +7,11 @@ use Rattle.sfc_flags.proofs.Views.{length_of, set_table, set_shows}
 use Rattle.sfc_flags.proofs.flags.Flags.set.Goals as goal
 
 pub put-requires : goal.put-requires
-put-requires c = omega (arith, length_of c.self.inside.places c.self.inside.words.items, ap length c.self.view_is)
+put-requires c = omega (arith, length_of c.self.inside.count c.self.inside.words.items, ap length c.self.view_is)
 
 pub invariant_of-self : goal.invariant_of-self
 invariant_of-self c =
-    let n = c.self.inside.places in
+    let n = c.self.inside.count in
     let v = c.self.inside.words in
     let within : c.args.place < n = omega (arith, length_of n v.items, ap length c.self.view_is) in
     let e : (with_items v c.put.new.words).items ≡ c.put.new.words = with_items_is v c.put.new.words (omega arith) in
@@ -19,7 +19,7 @@ invariant_of-self c =
 
 pub returns : goal.returns
 returns c =
-    let n = c.self.inside.places in
+    let n = c.self.inside.count in
     let v = c.self.inside.words in
     let within : c.args.place < n = omega (arith, length_of n v.items, ap length c.self.view_is) in
     let e : (with_items v c.put.new.words).items ≡ c.put.new.words = with_items_is v c.put.new.words (omega arith) in

@@ -1,29 +1,29 @@
 use Rattle.std.proofs.Common.{◌≡◌, ◌<◌, ◌≤◌, ◌∙◌, ℕ, arith, true, Bool, List, length, take, ap, refl, subst}
 use Rattle.sfc_flags.specs.Flags.{flag}
 use Rattle.sfc_tables.specs.Tables.{Tabled}
-use Rattle.sfc_image.specs.declared.given.Given.{Given}
+use Rattle.sfc_image.specs.declared.output_memo.OutputMemo.{OutputMemo}
 use Rattle.sfc_image.specs.Bodies.{with_changes}
 use Rattle.sfc_image.specs.Outputs.{output, outputs}
 use Rattle.sfc_image.specs.Private.Keeping.{slot_at}
-use Rattle.sfc_image.specs.Private.Giving.{given_at, IsAssigned}
+use Rattle.sfc_image.specs.Private.OutputMemos.{memo_at, IsAssigned}
 use Rattle.sfc_image.specs.Agreement.{ImageAgrees}
-use Rattle.sfc_image.proofs.Outputs.{none_given, passed, gave, noted, all_given, all_noted, noted_one}
+use Rattle.sfc_image.proofs.Outputs.{none_assigned, passed, gave, noted, all_assigned, all_noted, noted_one}
 use Rattle.sfc_image.proofs.image.Image.assign_outputs.Goals as goal
 
 pub outputs-init : goal.outputs-init
 outputs-init c =
-    let taken = c.take_given-holds.ensures in
+    let taken = c.take_memo-holds.ensures in
     record {
       large = taken.large;
       opened = taken.open ∙ c.requires.open;
       within = omega arith;
-      taken = taken.epoch;
+      taken = taken.generation;
       sized = taken.sized;
       noted = λ a lt fits. absurd (omega (arith, lt));
-      given = λ plant told is h.
-          none_given plant told c.args.instance c.args.q.now c.take_given-holds.result c.args.tables.now.actions
-          (ap (λ (x : Tabled). x.actions) is) c.take_given-holds.new.self (taken.kept plant told h)
-          (λ a on. taken.holds plant told a on h);
+      handled = λ plant changes is h.
+          none_assigned plant changes c.args.instance c.args.q.now c.take_memo-holds.result c.args.tables.now.actions
+          (ap (λ (x : Tabled). x.actions) is) c.take_memo-holds.new.self (taken.agrees plant changes h)
+          (λ a on. taken.holds plant changes a on h);
       ticks = (omega arith, omega arith);
     }
 
@@ -38,7 +38,7 @@ outputs-preserved c =
     let a = c.in-Some.action in
     let actions = c.args.tables.now.actions in
     let due = c.in-Some.ensures in
-    let old_given = ap (λ (xs : List Given). given_at xs p.0) c.give.ensures.given in
+    let old_memo = ap (λ (xs : List OutputMemo). memo_at xs p.0) c.give.ensures.memos in
     record {
       large = record {
         variables = c.note.ensures.large.variables ∙ c.give.ensures.large.variables ∙ before.large.variables;
@@ -46,45 +46,45 @@ outputs-preserved c =
       };
       opened = c.note.ensures.open ∙ c.give.ensures.open;
       within = omega (arith, due.some.1);
-      taken = c.note.ensures.epoch;
-      sized = λ on. c.note.ensures.sized ∙ ap (λ (g : Given). length g.q) old_given ∙ before.sized on;
-      noted = noted_one q a c.outputs.from (given_at c.outputs.self.given.items p.0) (given_at c.give.new.self.given.items p.0)
-          (given_at c.note.new.self.given.items p.0) c.get-is_set.result old_given c.get-is_set.ensures c.note.ensures.sized
+      taken = c.note.ensures.generation;
+      sized = λ on. c.note.ensures.sized ∙ ap (λ (g : OutputMemo). length g.q) old_memo ∙ before.sized on;
+      noted = noted_one q a c.outputs.from (memo_at c.outputs.self.memos.items p.0) (memo_at c.give.new.self.memos.items p.0)
+          (memo_at c.note.new.self.memos.items p.0) c.get-is_set.result old_memo c.get-is_set.ensures c.note.ensures.sized
           c.note.ensures.q before.noted (λ j le lt. (due.before j le lt).1);
-      given = λ plant told is h.
+      handled = λ plant changes is h.
           let actions_is = ap (λ (x : Tabled). x.actions) is in
           let lt = c.requires.instance in
-          let state = before.given plant told is h in
-          let at_due = passed plant told p q c.take_given-holds.result actions actions_is c.outputs.self c.outputs.from a
+          let state = before.handled plant changes is h in
+          let at_due = passed plant changes p q c.take_memo-holds.result actions actions_is c.outputs.self c.outputs.from a
           (omega (arith, lt, before.large.instances)) before.opened due.some.0 (omega (arith, due.some.1, c.requires.q)) due.before state in
-          let told_then = with_changes (outputs plant p q 0 (take a actions)) told in
-          let given_now = gave plant told p q c.take_given-holds.result actions actions_is c.outputs.self c.give.new.self a c.target.result
-          c.target.ensures c.give.ensures.given
-          (subst (λ (b : Bool). ImageAgrees plant c.give.new.self (with_changes (output plant p c.target.result b) told_then))
-          c.get-is_set.ensures (c.give.ensures.kept plant told_then at_due.agrees))
+          let changes_then = with_changes (outputs plant p q 0 (take a actions)) changes in
+          let assigned_now = gave plant changes p q c.take_memo-holds.result actions actions_is c.outputs.self c.give.new.self a c.target.result
+          c.target.ensures c.give.ensures.memos
+          (subst (λ (b : Bool). ImageAgrees plant c.give.new.self (with_changes (output plant p c.target.result b) changes_then))
+          c.get-is_set.ensures (c.give.ensures.agrees plant changes_then at_due.agrees))
           (λ v i same number. subst (λ (b : Bool). IsAssigned (slot_at c.give.new.self.slots.items i) b) c.get-is_set.ensures
-          (c.give.ensures.here plant told_then v i at_due.agrees same number))
-          (λ i none. c.give.ensures.others plant told_then i at_due.agrees none) at_due in
-          noted plant told p q c.take_given-holds.result actions actions_is c.give.new.self c.note.new.self a c.get-is_set.result
+          (c.give.ensures.here plant changes_then v i at_due.agrees same number))
+          (λ i none. c.give.ensures.others plant changes_then i at_due.agrees none) at_due in
+          noted plant changes p q c.take_memo-holds.result actions actions_is c.give.new.self c.note.new.self a c.get-is_set.result
           c.note.ensures.slots
           (λ on. let long = before.sized on in
-          omega (arith, long, ap (λ (g : Given). length g.q) old_given, c.requires.q)) c.note.ensures.q (c.note.ensures.kept plant) given_now;
+          omega (arith, long, ap (λ (g : OutputMemo). length g.q) old_memo, c.requires.q)) c.note.ensures.q (c.note.ensures.agrees plant) assigned_now;
       ticks = (omega (arith, before.ticks.0, due.ticks.0), omega (arith, before.ticks.1, due.ticks.1, due.some.0));
     }
 
-pub returns-clause-kept : goal.returns-clause-kept
-returns-clause-kept c plant told is h =
+pub returns-clause-agrees : goal.returns-clause-agrees
+returns-clause-agrees c plant changes is h =
     let before = c.outputs.invariant in
     let p = c.args.instance in
     let q = c.args.q.now in
     let actions = c.args.tables.now.actions in
     let actions_is = ap (λ (x : Tabled). x.actions) is in
-    let state = before.given plant told is h in
+    let state = before.handled plant changes is h in
     let same : (j : ℕ) → c.outputs.from ≤ j → j < length actions
-    → (c.take_given-holds.result ≡ true) × (flag (given_at c.outputs.self.given.items p.0).q j ≡ flag q j) =
+    → (c.take_memo-holds.result ≡ true) × (flag (memo_at c.outputs.self.memos.items p.0).q j ≡ flag q j) =
     λ j le lt. c.in_default.ensures.none refl j le (omega (arith, lt, c.requires.q)) in
-    c.leave_given.ensures.kept plant (with_changes (outputs plant p q 0 actions) told)
-    (all_given plant told p q c.take_given-holds.result actions actions_is c.outputs.self c.outputs.from
+    c.leave_memo.ensures.agrees plant (with_changes (outputs plant p q 0 actions) changes)
+    (all_assigned plant changes p q c.take_memo-holds.result actions actions_is c.outputs.self c.outputs.from
     (omega (arith, c.requires.instance, before.large.instances)) before.opened (omega (arith, before.within, c.requires.q)) same state)
-    (λ long. all_noted plant told p q c.take_given-holds.result actions actions_is c.outputs.self c.outputs.from c.requires.q before.noted
+    (λ long. all_noted plant changes p q c.take_memo-holds.result actions actions_is c.outputs.self c.outputs.from c.requires.q before.noted
     same state long)

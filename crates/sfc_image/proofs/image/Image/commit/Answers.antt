@@ -2,11 +2,11 @@ use Rattle.std.proofs.Common.{◌≡◌, ◌∙◌, ◌++◌, List, ℕ, true, f
 use Rattle.std.proofs.lemmas.List.{with_items_is}
 use Rattle.sfc_image.specs.declared.slot.Slot.{Slot}
 use Rattle.sfc_image.specs.Changes.{settled}
-use Rattle.sfc_image.specs.Private.Keeping.{AreClosed, AreTracked, AreWithin, AreKept, slot_at}
-use Rattle.sfc_image.specs.Private.Giving.{AreGiven}
+use Rattle.sfc_image.specs.Private.Keeping.{AreClosed, AreTracked, AreWithin, SlotsAgree, slot_at}
+use Rattle.sfc_image.specs.Private.OutputMemos.{MemosHold}
 use Rattle.sfc_image.specs.Agreement.{ImageAgrees}
-use Rattle.sfc_image.proofs.Agreed.{commit_kept}
-use Rattle.sfc_image.proofs.Giving.{closed_stays, given_stays}
+use Rattle.sfc_image.proofs.Agreed.{commit_agrees}
+use Rattle.sfc_image.proofs.OutputMemos.{closed_stays, memos_stay}
 use Rattle.sfc_image.proofs.Tracked.{closed_at, tracked_closed}
 use Rattle.sfc_image.proofs.image.Image.commit.Goals as goal
 
@@ -31,9 +31,9 @@ invariant_of-self c =
       sized = image.sized;
     }
 
-pub returns-clause-kept : goal.returns-clause-kept
+pub returns-clause-agrees : goal.returns-clause-agrees
 unfolding ImageAgrees
-returns-clause-kept c plant kept tried h =
+returns-clause-agrees c plant committed tried h =
     let image = c.args.self.now in
     let slots = image.slots.items in
     let written = image.written.items in
@@ -44,12 +44,12 @@ returns-clause-kept c plant kept tried h =
     c.deref_mut.ensures.value c.close_all.ensures.closed in
     let is = sym (with_items_is image.slots new long) in
     record {
-      kept =
-          subst (λ (xs : List Slot). AreKept plant xs image.locals.items 0 false (settled (tried ++ kept))) is
-          (commit_kept plant slots new image.locals.items written image.count image.is_trying kept tried (long ∙ image.slots.ok.0)
-          image.tracked closed h.kept);
-      given =
-          subst (λ (xs : List Slot). AreGiven plant xs image.given.items image.epoch) is
-          (given_stays plant slots new image.given.items image.epoch
-          (λ i. closed_stays (slot_at slots i) (slot_at new i) (closed.each i)) h.given);
+      slots =
+          subst (λ (xs : List Slot). SlotsAgree plant xs image.locals.items 0 false (settled (tried ++ committed))) is
+          (commit_agrees plant slots new image.locals.items written image.count image.is_trying committed tried (long ∙ image.slots.ok.0)
+          image.tracked closed h.slots);
+      memos =
+          subst (λ (xs : List Slot). MemosHold plant xs image.memos.items image.generation) is
+          (memos_stay plant slots new image.memos.items image.generation
+          (λ i. closed_stays (slot_at slots i) (slot_at new i) (closed.each i)) h.memos);
     }

@@ -1,17 +1,17 @@
 use Rattle.std.proofs.Common.{◌≡◌, ◌<◌, ◌∙◌, ◌∷◌, Some, ap, arith, length, refl, slice_set, subst, sym}
 use Rattle.sfc_image.specs.declared.slot.Slot.{Slot}
 use Rattle.sfc_image.specs.Changes.{Forced, settled}
-use Rattle.sfc_image.specs.Private.Keeping.{AreKept, slot_at, with_force}
-use Rattle.sfc_image.specs.Private.Giving.{AreGiven}
+use Rattle.sfc_image.specs.Private.Keeping.{SlotsAgree, slot_at, with_force}
+use Rattle.sfc_image.specs.Private.OutputMemos.{MemosHold}
 use Rattle.sfc_image.specs.Agreement.{ImageAgrees}
-use Rattle.sfc_image.proofs.Agreed.{force_kept}
-use Rattle.sfc_image.proofs.Giving.{given_stays, same_stays}
+use Rattle.sfc_image.proofs.Agreed.{force_agrees}
+use Rattle.sfc_image.proofs.OutputMemos.{memos_stay, same_stays}
 use Rattle.sfc_image.proofs.Tracked.{slot_read}
 use Rattle.sfc_image.proofs.image.Image.force.Goals as goal
 
 pub returns-clause-ok : goal.returns-clause-ok
 unfolding ImageAgrees
-returns-clause-ok c plant kept h =
+returns-clause-ok c plant committed h =
     let image = c.args.self.now in
     let id = c.args.id in
     let slots = image.slots.items in
@@ -24,12 +24,12 @@ returns-clause-ok c plant kept h =
     sym (c.with_force.ensures ∙ ap (with_force (Some c.args.value)) read) in
     let with_it : Slot = with_force (Some c.args.value) (slot_at slots id.0) in
     record {
-      kept =
-          subst (λ (y : Slot). AreKept plant (slice_set slots id.0 y) image.locals.items image.count image.is_trying
-          (settled (Forced id c.args.value ∷ kept))) made
-          (force_kept plant slots image.locals.items image.count image.is_trying kept id c.args.value lt h.kept);
-      given =
-          subst (λ (y : Slot). AreGiven plant (slice_set slots id.0 y) image.given.items image.epoch) made
-          (given_stays plant slots (slice_set slots id.0 with_it) image.given.items image.epoch
-          (same_stays slots id.0 with_it lt refl (λ on. on)) h.given);
+      slots =
+          subst (λ (y : Slot). SlotsAgree plant (slice_set slots id.0 y) image.locals.items image.count image.is_trying
+          (settled (Forced id c.args.value ∷ committed))) made
+          (force_agrees plant slots image.locals.items image.count image.is_trying committed id c.args.value lt h.slots);
+      memos =
+          subst (λ (y : Slot). MemosHold plant (slice_set slots id.0 y) image.memos.items image.generation) made
+          (memos_stay plant slots (slice_set slots id.0 with_it) image.memos.items image.generation
+          (same_stays slots id.0 with_it lt refl (λ on. on)) h.memos);
     }

@@ -29,7 +29,7 @@ returns-clause-within c =
 
 pub returns-clause-number : goal.returns-clause-number
 unfolding ImageAgrees
-returns-clause-number c plant told h =
+returns-clause-number c plant changes h =
     let image = c.args.self.now in
     let locals = image.locals.items in
     let p = c.args.instance in
@@ -40,6 +40,6 @@ returns-clause-number c plant told h =
     let first : g ≡ (locals_at locals 0).first =
     ap (λ (x : Locals). x.first) (locals_read locals 0 c.index.result.now some c.index.ensures) in
     let is : l ≡ locals_at locals p.0 = locals_read locals p.0 l c.requires c.index-own.ensures in
-    let ends = globals_end plant image.slots.items locals image.count image.is_trying told g some first h.kept in
+    let ends = globals_end plant image.slots.items locals image.count image.is_trying changes g some first h.slots in
     c.number_of.ensures ∙ ap (λ (n : ℕ). number_among n l.first l.count v) ends
-    ∙ ap (λ (x : Locals). number_among (length plant.globals) x.first x.count v) (is ∙ h.kept.locals_are p c.requires)
+    ∙ ap (λ (x : Locals). number_among (length plant.globals) x.first x.count v) (is ∙ h.slots.locals_are p c.requires)

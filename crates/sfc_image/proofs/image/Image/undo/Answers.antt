@@ -2,11 +2,11 @@ use Rattle.std.proofs.Common.{◌≡◌, ◌∙◌, List, ℕ, false, length, su
 use Rattle.std.proofs.lemmas.List.{with_items_is}
 use Rattle.sfc_image.specs.declared.slot.Slot.{Slot}
 use Rattle.sfc_image.specs.Changes.{settled}
-use Rattle.sfc_image.specs.Private.Keeping.{AreClosed, AreTracked, AreWithin, AreKept}
-use Rattle.sfc_image.specs.Private.Giving.{AreGiven}
+use Rattle.sfc_image.specs.Private.Keeping.{AreClosed, AreTracked, AreWithin, SlotsAgree}
+use Rattle.sfc_image.specs.Private.OutputMemos.{MemosHold}
 use Rattle.sfc_image.specs.Agreement.{ImageAgrees}
-use Rattle.sfc_image.proofs.Agreed.{undo_kept}
-use Rattle.sfc_image.proofs.Giving.{given_later}
+use Rattle.sfc_image.proofs.Agreed.{undo_agrees}
+use Rattle.sfc_image.proofs.OutputMemos.{memos_later}
 use Rattle.sfc_image.proofs.Tracked.{closed_at, tracked_closed}
 use Rattle.sfc_image.proofs.image.Image.undo.Goals as goal
 
@@ -31,9 +31,9 @@ invariant_of-self c =
       sized = image.sized;
     }
 
-pub returns-clause-kept : goal.returns-clause-kept
+pub returns-clause-agrees : goal.returns-clause-agrees
 unfolding ImageAgrees
-returns-clause-kept c plant kept tried h =
+returns-clause-agrees c plant committed tried h =
     let image = c.args.self.now in
     let slots = image.slots.items in
     let written = image.written.items in
@@ -44,11 +44,11 @@ returns-clause-kept c plant kept tried h =
     c.deref_mut.ensures.value c.close_all.ensures.closed in
     let is = sym (with_items_is image.slots new long) in
     record {
-      kept =
-          subst (λ (xs : List Slot). AreKept plant xs image.locals.items 0 false (settled kept)) is
-          (undo_kept plant slots new image.locals.items written image.count image.is_trying kept tried (long ∙ image.slots.ok.0)
-          image.tracked closed h.kept);
-      given =
-          subst (λ (xs : List Slot). AreGiven plant xs image.given.items c.next_epoch-self.result) is
-          (given_later plant slots new image.given.items image.epoch c.next_epoch-self.result c.next_epoch-self.ensures h.given);
+      slots =
+          subst (λ (xs : List Slot). SlotsAgree plant xs image.locals.items 0 false (settled committed)) is
+          (undo_agrees plant slots new image.locals.items written image.count image.is_trying committed tried (long ∙ image.slots.ok.0)
+          image.tracked closed h.slots);
+      memos =
+          subst (λ (xs : List Slot). MemosHold plant xs image.memos.items c.next_generation-self.result) is
+          (memos_later plant slots new image.memos.items image.generation c.next_generation-self.result c.next_generation-self.ensures h.memos);
     }

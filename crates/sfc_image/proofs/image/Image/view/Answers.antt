@@ -10,7 +10,7 @@ use Rattle.sfc_image.proofs.image.Image.view.Goals as goal
 
 pub returns : goal.returns
 unfolding ImageAgrees environment_in
-returns c plant told h =
+returns c plant changes h =
     let image = c.args.self.now in
     let locals = image.locals.items in
     let p = c.args.instance in
@@ -24,6 +24,6 @@ returns c plant told h =
     let within : l.first + l.count ≤ length image.slots.items =
     subst (λ (x : Locals). x.first + x.count ≤ length image.slots.items) (sym is) ((image.within p.0 c.requires).1) in
     ap (λ (xs : List Slot). shown_by xs g l moment) c.as_slice.ensures.value
-    ∙ viewed plant image.slots.items locals image.count image.is_trying told p g l moment
-    (globals_end plant image.slots.items locals image.count image.is_trying told g some first h.kept)
-    (is ∙ h.kept.locals_are p c.requires) within h.kept
+    ∙ viewed plant image.slots.items locals image.count image.is_trying changes p g l moment
+    (globals_end plant image.slots.items locals image.count image.is_trying changes g some first h.slots)
+    (is ∙ h.slots.locals_are p c.requires) within h.slots

@@ -6,13 +6,13 @@ use Rattle.sfc_instance.proofs.program.Program.copy_from.Goals as goal
 fits : (t : ℤ) → pos 0 ≤ℤ t → t ≤ℤ pos (2 ^ 62) → SFits w64 t
 fits t low high = search rules
 
-pub returns-clause-kept : goal.returns-clause-kept
+pub returns-clause-agrees : goal.returns-clause-agrees
 unfolding ProgramAgrees
-returns-clause-kept c standing agrees =
+returns-clause-agrees c instance_state agrees =
     let other = c.args.other.now in
     record {
-      now = c.copy_from.ensures.kept standing.life agrees.now;
-      fresh = c.copy_from-2.ensures.kept [] agrees.fresh;
+      now = c.copy_from.ensures.agrees instance_state.life agrees.now;
+      fresh = c.copy_from-2.ensures.agrees [] agrees.fresh;
       scans = agrees.scans;
       at = to_z-of_z (fits other.at other.at_low other.at_high) ∙ agrees.at;
       fault = agrees.fault;

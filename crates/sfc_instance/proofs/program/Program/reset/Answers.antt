@@ -4,8 +4,8 @@ use Rattle.sfc_instance.proofs.program.Program.reset.Goals as goal
 
 pub returns-clause-agrees : goal.returns-clause-agrees
 unfolding ProgramAgrees
-returns-clause-agrees c standing agrees = record {
-  now = c.copy_from.ensures.kept [] agrees.fresh;
+returns-clause-agrees c instance_state agrees = record {
+  now = c.copy_from.ensures.agrees [] agrees.fresh;
   fresh = agrees.fresh;
   scans = refl;
   at = refl;

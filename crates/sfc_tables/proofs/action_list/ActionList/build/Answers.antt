@@ -1,5 +1,5 @@
 use Rattle.std.proofs.Common.{◌≡◌, ◌++◌, List, ◌∙◌, ap, arith}
-use Rattle.sfc_tables.specs.declared.chart.Step.{Step}
+use Rattle.sfc_plant.specs.declared.chart.Step.{Step}
 use Rattle.sfc_tables.specs.Actions.{distinct, booleans_of, associations_in, declared_actions, boolean_actions}
 use Rattle.sfc_tables.specs.Private.Listing.{listed}
 use Rattle.sfc_tables.proofs.Listings.{distinct_is}

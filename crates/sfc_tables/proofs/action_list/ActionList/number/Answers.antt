@@ -1,9 +1,9 @@
 use Rattle.std.proofs.Common.{◌≡◌, ◌+◌, ◌<◌, ℕ, List, length, ◌∙◌, sym, ap, subst, arith, refl}
 use Rattle.std.specs.Prelude.{Option, Some, IsSome, position}
 use Rattle.std.specs.List.{position_or_len}
-use Rattle.sfc_expr.specs.declared.variable.Variable.{Variable}
-use Rattle.sfc_tables.specs.declared.association.Target.{Target}
-use Rattle.sfc_tables.specs.declared.association.Target.TheVariants as target
+use Rattle.sfc_base.specs.declared.references.Variable.{Variable}
+use Rattle.sfc_plant.specs.declared.association.Target.{Target}
+use Rattle.sfc_plant.specs.declared.association.Target.TheVariants as target
 use Rattle.sfc_tables.specs.Actions.{same_variable, same_target}
 use Rattle.sfc_tables.specs.Private.Listing.{listed}
 use Rattle.sfc_tables.proofs.Places.{place_boolean, place_declared, position_found}

@@ -1,13 +1,13 @@
 use Rattle.std.proofs.Common.{rules, ◌<◌, length, refl, w64, SFits}
 use Rattle.std.proofs.lemmas.Int.{to_z-of_z}
 use Rattle.sfc_tasks.specs.Agreement.{TasksAgree}
-use Rattle.sfc_tasks.proofs.Tables.{rise_kept}
+use Rattle.sfc_tasks.proofs.Tables.{rise_agrees}
 use Rattle.sfc_tasks.proofs.table.TaskTable.edge.Goals as goal
 
-pub returns-clause-kept : goal.returns-clause-kept
+pub returns-clause-agrees : goal.returns-clause-agrees
 unfolding TasksAgree
-returns-clause-kept c tasks calls kept =
+returns-clause-agrees c tasks calls agrees =
     let f : SFits w64 c.args.t = c.ranges.t in
     let gains = simp to_z-of_z at c.after_rise.ensures in
-    let fits : c.args.task.0 < length c.args.self.now.places = search rules in
-    rise_kept tasks c.args.self.now _ c.args.task c.args.t c.after_rise.result calls refl refl refl fits gains kept
+    let fits : c.args.task.0 < length c.args.self.now.slots = search rules in
+    rise_agrees tasks c.args.self.now _ c.args.task c.args.t c.after_rise.result calls refl refl refl fits gains agrees

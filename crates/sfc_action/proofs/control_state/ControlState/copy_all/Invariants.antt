@@ -1,0 +1,14 @@
+use Rattle.std.proofs.Common.{◌≡◌, length}
+use Rattle.sfc_base.specs.Ticks.{Within}
+use Rattle.sfc_action.specs.Private.Keeping.{IsStateSized}
+use Rattle.sfc_flags.specs.Words.{AreDone}
+use Rattle.sfc_action.specs.Private.Rows.{state_row}
+use Rattle.sfc_action.proofs.control_state.ControlState.copy_all.Given as goal
+
+abbrev pub invariant-loop-number : goal.invariant-loop-number
+invariant-loop-number l = record {
+  sized : IsStateSized (length l.initial.self.q) l.self;
+  blocks : l.self.blocks ≡ l.initial.self.blocks;
+  rows : AreDone l.number (state_row l.other) (state_row l.initial.self) (state_row l.self);
+  ticks : Within l.number l.initial.ticks l.ticks;
+}

@@ -1,0 +1,172 @@
+//! The state of action control, from scan to scan.
+
+use crate::blocks::{Block, copy_blocks};
+use crate::control_scan::ControlScan;
+use crate::delays::step_delays;
+use crate::state_words::StateWords;
+use crate::stores::Stores;
+use sfc_base::ticks::Ticks;
+use sfc_evolve::new_sets::three_sets;
+use sfc_flags::flags::Flags;
+use std::alloc::{AllocError, Global};
+
+/// Of each action the inputs P, P1 and P0 of the newest scan, its flip-flops, its Q and whether it was executed, and the
+/// on-delays of all.
+pub struct ControlState {
+    pub pulse: Flags,
+    pub rising_pulse: Flags,
+    pub falling_pulse: Flags,
+    pub stores: Stores,
+    pub delayed_stored: Flags,
+    pub q: Flags,
+    pub executed: Flags,
+    pub blocks: Vec<Block>,
+}
+
+// By hand, so that a caller that drops one proves one call.
+impl Drop for ControlState {
+    fn drop(self) {
+        let ControlState {
+            pulse: _,
+            rising_pulse: _,
+            falling_pulse: _,
+            stores: _,
+            delayed_stored: _,
+            q: _,
+            executed: _,
+            blocks: _,
+        } = self;
+    }
+}
+
+impl ControlState {
+    ghost use Rattle.std.specs.Prelude.{◌≡◌, ◌<◌, ◌≤◌, ◌+◌, ◌*◌, ◌^◌, ◌≤ℤ◌, ℕ, pos, length, IfOk};
+    ghost use Rattle.sfc_base.specs.Ticks.{Within};
+    ghost use Rattle.sfc_flags.specs.Words.{word_count, word_of, ArePut};
+    ghost use Rattle.sfc_action.specs.Private.ControlScans.{IsControlScan};
+    ghost use Rattle.sfc_action.specs.Private.Keeping.{IsStateSized, IsFresh, IsActed, IsCopy};
+    ghost use Rattle.sfc_action.specs.Private.Rows.{state_in, state_row, nothing, state_row_after};
+
+    /// Before the first scan of a life, with these on-delays. The one error is that memory was refused.
+    pub fn new(alloc: Global, actions: usize, blocks: Vec<Block>) -> Result<Self, AllocError>
+        ensures { IfOk result (λ state. IsFresh actions blocks.items state) }
+    {
+        let stores = Stores::new(alloc, actions)?;
+        let (delayed_stored, q, executed) = three_sets(alloc, actions)?;
+        let (pulse, rising_pulse, falling_pulse) = three_sets(alloc, actions)?;
+        Ok(ControlState {
+            pulse,
+            rising_pulse,
+            falling_pulse,
+            stores,
+            delayed_stored,
+            q,
+            executed,
+            blocks,
+        })
+    }
+
+    /// The state of the 64 actions of this word.
+    pub fn words(&self, number: usize) -> StateWords
+        requires sized { IsStateSized (length self.now.q) self.now }
+        requires number { number < word_count self.now.q }
+        ensures { (a : ℕ) → word_of a ≡ number → state_in result a ≡ state_row self.now a }
+    {
+        StateWords {
+            pulse: self.pulse.word(number),
+            rising_pulse: self.rising_pulse.word(number),
+            falling_pulse: self.falling_pulse.word(number),
+            stores: self.stores.words(number),
+            delayed_stored: self.delayed_stored.word(number),
+            q: self.q.word(number),
+            executed: self.executed.word(number),
+        }
+    }
+
+    // The 64 actions of this word get this state; past the last action it is nothing.
+    fn put(&mut self, number: usize, words: StateWords)
+        requires sized { IsStateSized (length self.old.q) self.old }
+        requires number { number < word_count self.old.q }
+        requires past { (a : ℕ) → word_of a ≡ number → length self.old.q ≤ a → state_in words a ≡ nothing }
+        ensures sized { IsStateSized (length self.old.q) self.new }
+        ensures blocks { self.new.blocks ≡ self.old.blocks }
+        ensures put { ArePut number (state_in words) (state_row self.old) (state_row self.new) }
+    {
+        self.pulse.put_word(number, words.pulse);
+        self.rising_pulse.put_word(number, words.rising_pulse);
+        self.falling_pulse.put_word(number, words.falling_pulse);
+        self.stores.put(number, words.stores);
+        self.delayed_stored.put_word(number, words.delayed_stored);
+        self.q.put_word(number, words.q);
+        self.executed.put_word(number, words.executed);
+    }
+
+    // What a scan makes of the 64 actions of this word.
+    fn act_word(&mut self, control_scan: &ControlScan, number: usize)
+        requires sized { IsStateSized (length self.old.q) self.old }
+        requires control_scan { IsControlScan (length self.old.q) control_scan.now }
+        requires number { number < word_count self.old.q }
+        ensures sized { IsStateSized (length self.old.q) self.new }
+        ensures blocks { self.new.blocks ≡ self.old.blocks }
+        ensures put { ArePut number (state_row_after control_scan.now (state_row self.old)) (state_row self.old) (state_row self.new) }
+    {
+        let words = self.words(number).after(control_scan.words(number));
+        self.put(number, words);
+    }
+
+    // What a scan makes of all actions, where the on-delays are done.
+    fn act_all(&mut self, control_scan: &ControlScan, ticks: &mut Ticks)
+        requires sized { IsStateSized (length self.old.q) self.old }
+        requires control_scan { IsControlScan (length self.old.q) control_scan.now }
+        ensures sized { IsStateSized (length self.old.q) self.new }
+        ensures blocks { self.new.blocks ≡ self.old.blocks }
+        ensures rows { (a : ℕ) → state_row self.new a ≡ state_row_after control_scan.now (state_row self.old) a }
+        ensures ticks { Within (length self.old.q) ticks.old ticks.new }
+    {
+        for number in 0..self.q.words() {
+            ticks.tick();
+            self.act_word(control_scan, number);
+        }
+    }
+
+    /// What a scan at t makes of all, where the control scan has read its input.
+    pub fn act(&mut self, control_scan: &mut ControlScan, t: i64, ticks: &mut Ticks)
+        requires sized { IsStateSized (length self.old.q) self.old }
+        requires control_scan { IsControlScan (length self.old.q) control_scan.old }
+        requires low { pos 0 ≤ℤ t }
+        requires high { t ≤ℤ pos (2 ^ 62) }
+        ensures control_scan { IsControlScan (length self.old.q) control_scan.new }
+        ensures acted { IsActed control_scan.old.inputs control_scan.old.stores control_scan.old.presets.items t self.old self.new }
+        ensures ticks { Within (2 * length self.old.q + 2 * length self.old.blocks.items) ticks.old ticks.new }
+    {
+        step_delays(&mut self.blocks, control_scan, t, ticks);
+        self.act_all(control_scan, ticks);
+    }
+
+    // Takes over the flags of the other.
+    fn copy_all(&mut self, other: &ControlState, ticks: &mut Ticks)
+        requires sized { IsStateSized (length self.old.q) self.old }
+        requires other { IsStateSized (length self.old.q) other.now }
+        ensures sized { IsStateSized (length self.old.q) self.new }
+        ensures blocks { self.new.blocks ≡ self.old.blocks }
+        ensures rows { (a : ℕ) → state_row self.new a ≡ state_row other.now a }
+        ensures ticks { Within (length self.old.q) ticks.old ticks.new }
+    {
+        for number in 0..self.q.words() {
+            ticks.tick();
+            self.put(number, other.words(number));
+        }
+    }
+
+    /// Takes over what the other keeps, which has as many actions and on-delays.
+    pub fn copy_from(&mut self, other: &ControlState, ticks: &mut Ticks)
+        requires sized { IsStateSized (length self.old.q) self.old }
+        requires other { IsStateSized (length self.old.q) other.now }
+        requires blocks { length other.now.blocks.items ≡ length self.old.blocks.items }
+        ensures copy { IsCopy other.now self.new }
+        ensures ticks { Within (length self.old.q + length self.old.blocks.items) ticks.old ticks.new }
+    {
+        self.copy_all(other, ticks);
+        copy_blocks(&mut self.blocks, &other.blocks, ticks);
+    }
+}

@@ -1,0 +1,82 @@
+//! Of 64 actions the state from scan to scan.
+
+ghost use Rattle.std.specs.Prelude.{◌≡◌, ℕ};
+ghost use Rattle.sfc_flags.specs.Words.{has};
+ghost use Rattle.sfc_action.specs.Private.Rows.{timed_in, stores_in, inputs_in, state_in, q_of, executed_of, state_after};
+
+use crate::input_words::InputWords;
+use crate::scan_words::ScanWords;
+use crate::store_words::{StoreWords, store};
+use sfc_flags::word::Word;
+
+/// Of 64 actions the inputs P, P1 and P0 of the newest scan, the flip-flops, Q, and whether they were executed.
+#[derive(Clone, Copy)]
+pub struct StateWords {
+    pub pulse: Word,
+    pub rising_pulse: Word,
+    pub falling_pulse: Word,
+    pub stores: StoreWords,
+    pub delayed_stored: Word,
+    pub q: Word,
+    pub executed: Word,
+}
+
+// Q: what the qualifiers contribute, where R does not block it. `pulse` has the input P of the scan before.
+fn q_after(scan: ScanWords, pulse: Word, delayed_stored: Word) -> Word
+    ensures { (a : ℕ) → has result a ≡ q_of (inputs_in scan.inputs a) (stores_in scan.stores a) (timed_in scan.elapsed a)
+        (has pulse a) (has delayed_stored a) }
+{
+    let ScanWords {
+        inputs,
+        stores,
+        elapsed,
+    } = scan;
+    let limited = inputs.timed.limited.without(elapsed.limited);
+    let begun = inputs.pulse.without(pulse);
+    let stored_limited = stores.stored_limited.without(elapsed.stored_limited);
+    inputs
+        .non_stored
+        .or(stores.set)
+        .or(limited)
+        .or(elapsed.delayed)
+        .or(begun)
+        .or(elapsed.stored_delayed)
+        .or(delayed_stored)
+        .or(stored_limited)
+        .without(inputs.reset)
+}
+
+// Which actions are executed: those that have Q or had it in the scan before, and those with a rising edge of P1 or a
+// falling one of P0.
+fn executed_after(was: StateWords, inputs: InputWords, q: Word) -> Word
+    ensures { (a : ℕ) → has result a ≡ executed_of (inputs_in inputs a) (state_in was a) (has q a) }
+{
+    let rises = inputs.rising_pulse.without(was.rising_pulse);
+    let falls = was.falling_pulse.without(inputs.falling_pulse);
+    was.q.or(q).or(rises).or(falls)
+}
+
+impl StateWords {
+    /// What a scan makes of them.
+    pub fn after(self, scan: ScanWords) -> StateWords
+        ensures { (a : ℕ) → state_in result a
+            ≡ state_after (inputs_in scan.inputs a) (stores_in scan.stores a) (timed_in scan.elapsed a) (state_in self a) }
+    {
+        let inputs = scan.inputs;
+        let delayed_stored = store(
+            self.delayed_stored,
+            scan.elapsed.delayed_stored,
+            inputs.reset,
+        );
+        let q = q_after(scan, self.pulse, delayed_stored);
+        StateWords {
+            pulse: inputs.pulse,
+            rising_pulse: inputs.rising_pulse,
+            falling_pulse: inputs.falling_pulse,
+            stores: scan.stores,
+            delayed_stored,
+            q,
+            executed: executed_after(self, inputs, q),
+        }
+    }
+}

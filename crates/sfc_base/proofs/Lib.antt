@@ -1,0 +1,9 @@
+mod Walks
+pub mod SameWords
+pub mod ReservedWords
+pub mod Runs
+pub mod Words
+pub mod Written
+pub mod TimeTexts
+pub mod ByPlace
+pub mod NamePlaces

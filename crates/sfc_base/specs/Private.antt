@@ -1,0 +1,3 @@
+-- What private clauses cite.
+pub mod Runs
+pub mod ReservedWords

@@ -1,5 +1,0 @@
-use Rattle.sfc_chart.proofs.Soundness.{built_sound}
-use Rattle.sfc_chart.proofs.load.load.Goals as goal
-
-pub assemble-requires-clause-sound : goal.assemble-requires-clause-sound
-assemble-requires-clause-sound c = built_sound c.args.source.now _ c.in_ok-parts.ensures.loads.0 c.in_ok-parts.ensures.loads.1

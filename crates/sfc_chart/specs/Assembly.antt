@@ -1,3 +1,0 @@
--- What private clauses cite.
-pub mod Parts
-pub mod PlantView

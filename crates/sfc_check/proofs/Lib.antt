@@ -1,0 +1,3 @@
+pub mod AnyCase
+pub mod CheckedTypes
+pub mod Checks

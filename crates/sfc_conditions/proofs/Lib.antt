@@ -1,0 +1,2 @@
+-- tables that are made entry by entry
+pub mod Tables

@@ -1,0 +1,69 @@
+//! The table of conditions that a debugger is handed.
+
+ghost use Rattle.std.specs.Prelude.{◌≡◌};
+ghost use Rattle.sfc_check.specs.Checking.{checked};
+ghost use Rattle.sfc_conditions.specs.Conditions.{Gives, condition_at, conditions_from, with_place};
+ghost use Rattle.sfc_conditions.specs.declared.condition_error.ConditionError.{ConditionError};
+
+use crate::condition_error::ConditionError;
+use sfc_base::ids::ProgId;
+use sfc_base::var_type::VarType;
+use sfc_check::check::check;
+use sfc_check::type_error::TypeError;
+use sfc_debug::break_condition::BreakCondition;
+use sfc_load::scope::scope_of;
+use sfc_plant::plant::Plant;
+use sfc_plant::typed::Condition;
+use sfc_text::expression::Expression;
+use std::alloc::Global;
+
+// The entry at this place with this fault of its types.
+fn wrong(place: usize, error: TypeError) -> ConditionError
+    ensures { result ≡ with_place place error }
+{
+    match error {
+        TypeError::Memory => ConditionError::Memory,
+        error => ConditionError::Wrong(place, error),
+    }
+}
+
+// The condition that stands at this place of the table.
+fn condition_of(
+    alloc: Global,
+    plant: &Plant,
+    place: usize,
+    written: &(ProgId, Expression),
+) -> Result<BreakCondition, ConditionError>
+    ensures { Gives (λ condition. condition) result (condition_at plant.now place written.now) }
+{
+    let (program, expression) = written;
+    if program.0 as usize >= plant.instances().len() {
+        return Err(ConditionError::UnknownProgram(place));
+    }
+    match check(alloc, expression, &scope_of(plant, *program), VarType::Bool) {
+        Ok(expr) => Ok(BreakCondition {
+            program: *program,
+            condition: Condition::new(expr),
+        }),
+        Err(error) => Err(wrong(place, error)),
+    }
+}
+
+/// The table of conditions that a text is: of each entry the BOOL expression, typed as the condition of a transition of its program
+/// instance is (2.6.3, 3.3): steps, locals and then globals of that instance have their names in it. A `CondId` is the place of an
+/// entry, from 0, and names the first 65,536. Else the first entry that is no such condition is told, or want of memory.
+pub fn conditions_of(
+    alloc: Global,
+    plant: &Plant,
+    written: &[(ProgId, Expression)],
+) -> Result<Vec<BreakCondition>, ConditionError>
+    ensures { Gives (λ table. table.items) result (conditions_from plant.now 0 written.now) }
+{
+    let mut table = Vec::with_capacity(alloc, written.len())?;
+    let mut rest = written;
+    'entries: while let Some((entry, after)) = rest.split_first() {
+        table.push(condition_of(alloc, plant, table.len(), entry)?)?;
+        rest = after;
+    }
+    Ok(table)
+}

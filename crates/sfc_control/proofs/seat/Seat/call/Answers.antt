@@ -1,0 +1,15 @@
+use Rattle.std.proofs.Common.{rules, List, subst, SFits, w64, to_z-of_z}
+use Rattle.sfc_plant.specs.Plants.{PlantData}
+use Rattle.sfc_debug.specs.declared.break_condition.BreakCondition.{BreakCondition}
+use Rattle.sfc_control.specs.Books.{accepted, first, plant}
+use Rattle.sfc_control.specs.LegalHistory.{IsLegal}
+use Rattle.sfc_control.proofs.seat.Seat.call.Goals as goal
+
+pub returns-clause-entered : goal.returns-clause-entered
+returns-clause-entered g c =
+    let fits : SFits w64 c.now-raw.result = search rules in
+    let locked = c.deref_mut.result.now in
+    let book = locked.book in
+    let legal = subst (λ (p : PlantData). IsLegal p g.L.Session.table (accepted book)) locked.plant
+    (subst (λ (t : List BreakCondition). IsLegal (plant book) t (accepted book)) locked.table book.legal) in
+    (c.now-raw.result, first book, accepted book, c.now-raw.ensures, legal, (c.enter.ensures.audit, simp (to_z-of_z, fits) at c.enter.ensures.answer))

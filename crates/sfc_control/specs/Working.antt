@@ -1,0 +1,22 @@
+-- What a worker's receipts are.
+use Rattle.std.specs.Prelude.{ℕ, ◌≡◌, ◌<◌, List, [], ◌∷◌, Option, Some, None, ⊤}
+use Rattle.sfc_base.specs.declared.ids.TaskId.{TaskId}
+use Rattle.sfc_events.specs.declared.command.Command.TheVariants.{Scan}
+use Rattle.sfc_control.specs.declared.receipt.Receipt.{Receipt}
+
+-- a scan of the task, from the seat
+abbrev pub IsScanOf : ℕ → TaskId → Receipt → Type 0
+IsScanOf number task receipt = (receipt.seat ≡ number) × (receipt.command ≡ Scan task)
+
+abbrev pub last_index : Option Receipt → ℕ
+last_index None = 0
+last_index (Some receipt) = receipt.index
+
+-- the indices rise, from above low on
+abbrev pub Rise : ℕ → List Receipt → Type 0
+Rise low [] = ⊤
+Rise low (receipt ∷ receipts) = (low < receipt.index) × Rise receipt.index receipts
+
+abbrev pub index_after : ℕ → List Receipt → ℕ
+index_after low [] = low
+index_after low (receipt ∷ receipts) = index_after receipt.index receipts

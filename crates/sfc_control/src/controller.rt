@@ -1,0 +1,93 @@
+//! A book that threads share.
+
+ghost use Rattle.std.specs.Prelude.{◌≡◌, ◌<◌, ◌≤◌, [], IfOk};
+ghost use Rattle.sfc_debug.specs.Agreement.{Agrees, plant_of, table_of, mask_of};
+ghost use Rattle.sfc_control.specs.Books as books;
+ghost use Rattle.sfc_control.specs.Seats.{AreFresh};
+ghost use Rattle.sfc_control.specs.Tails.{taken, capacity};
+
+use crate::book::Book;
+use crate::locked::Locked;
+use crate::seat::Seat;
+use crate::session::Session;
+use crate::tail::Tail;
+use sfc_debug::debugger::Debugger;
+use std::alloc::{AllocError, Global};
+use std::sync::ledger::{Blank, Ledger, Share};
+use std::sync::{Mutex, ledger};
+
+/// A book under a lock, which the seats that it handed out share.
+#[derive(Drop)]
+pub struct Controller<L: Session> {
+    pub(crate) locked: Mutex<Locked<L>>,
+}
+
+// The book under a ledger that has counted nothing.
+fn locked<L: Session>(book: Book, total: ledger::Book<L>) -> Locked<L>
+    requires empty { books.accepted book ≡ [] }
+    requires total { total.total ≡ 0 }
+    requires plant { books.plant book ≡ L.plant }
+    requires table { books.table book ≡ L.table }
+    requires mask { books.mask book ≡ L.mask }
+    requires limit { books.limit book ≡ L.limit }
+{
+    Locked { book, total }
+}
+
+// The seats 0, 1, .. of a share that has one part for each.
+fn seats_of<L: Ledger>(alloc: Global, all: Share<L>, count: u8) -> Result<Vec<Seat<L>>, AllocError>
+    requires parts { all.parts ≡ count }
+    requires amount { all.amount ≡ 0 }
+    requires few { count ≤ 24 }
+    ensures { IfOk result (λ seats. AreFresh count seats.items) }
+{
+    let mut rest = all;
+    let mut seats = Vec::with_capacity(alloc, count as usize)?;
+    for number in 0..count {
+        let share = rest.split_off(1, 0);
+        seats.push(Seat {
+            number,
+            calls: 0,
+            last: None,
+            share,
+        })?;
+    }
+    Ok(seats)
+}
+
+impl<L: Session> Controller<L> {
+    /// A controller over a debugger that has accepted nothing, with its seats, from 1 to 24, and the end of its feed that takes rows.
+    /// So many entries may be held, from 1 to 1,048,576; the feed has room for so many rows, from 1 to 65,536. The one error is that
+    /// memory was refused, and then the debugger is given up.
+    pub fn open(
+        alloc: Global,
+        blank: Blank,
+        debugger: Debugger,
+        seats: u8,
+        max_events: usize,
+        feed_capacity: usize,
+    ) -> Result<(Controller<L>, Vec<Seat<L>>, Tail), AllocError>
+        requires name { blank.name ≡ L.name }
+        requires parts { blank.parts ≡ L.parts }
+        requires one_each { blank.parts ≡ seats }
+        requires some { 0 < seats }
+        requires few { seats ≤ 24 }
+        requires plant { plant_of debugger ≡ L.plant }
+        requires table { table_of debugger ≡ L.table }
+        requires mask { mask_of debugger ≡ L.mask }
+        requires limit { max_events ≡ L.limit }
+        requires untold { Agrees debugger [] }
+        ensures seats { IfOk result (λ made. AreFresh seats made.1.items) }
+        ensures taken { IfOk result (λ made. taken made.2 ≡ []) }
+        ensures capacity { IfOk result (λ made. capacity made.2 ≡ feed_capacity) }
+    {
+        let (mut book, tail) = Book::new(alloc, debugger, feed_capacity)?;
+        book.reserve_events(max_events)?;
+        let (total, all) = blank.open::<L>();
+        let seats = seats_of(alloc, all, seats)?;
+        let controller = Controller {
+            locked: Mutex::new(locked(book, total)),
+        };
+        Ok((controller, seats, tail))
+    }
+}

@@ -1,0 +1,34 @@
+//! What lets a worker go on.
+
+ghost use Rattle.std.specs.Prelude.{◌≡◌, Bool, not};
+
+use sfc_base::ids::TaskId;
+
+/// What a worker's latest turn came to.
+#[derive(Clone, Copy, Debug, PartialEq, Eq)]
+pub enum Turn {
+    /// There was none yet.
+    First,
+    /// The scan was accepted; its entry has this index.
+    Done(u64),
+    /// No release of the task waits. The next one by its interval is at this instant, if there is one.
+    Waits(Option<i64>),
+    /// This other task goes first.
+    Yielded(TaskId),
+    /// The debugger has halted the resource.
+    Halted,
+}
+
+/// What a worker asks before each scan. It may wait.
+pub trait Gate {
+    /// Whether the latest turn was refused.
+    ghost is_shut: { Self → Bool };
+
+    /// Whether there is another turn.
+    fn turn(&mut self, last: Turn) -> bool
+        ensures { is_shut self.new ≡ not result };
+
+    /// Whether the latest turn was refused.
+    fn shut(&self) -> bool
+        ensures { result ≡ is_shut self.now };
+}

@@ -1,0 +1,42 @@
+//! A debugger that threads share: one history of all that was accepted, a receipt for each caller, and an audit at the end.
+//!
+//! - `accepted`, `history`, `seat_counts`: the entries that are held, and what is known of all.
+//! - `book`: a debugger with its history and its feed.
+//! - `call_error`: why a call is refused.
+//! - `clock`: where the instants of calls come from.
+//! - `close`: the audit at the end.
+//! - `controller`: a book under a lock.
+//! - `crews`: workers in threads of their own.
+//! - `entry`, `receipt`: what is entered, and what a caller keeps of it.
+//! - `feed`, `tail`: where accepted commands are published, and the end that takes rows.
+//! - `gate`: what lets a worker go on.
+//! - `laws`: what holds of a book and its tail in one hand, and of what an epoch drops.
+//! - `locked`: what lies under the lock.
+//! - `post`: where a worker sits.
+//! - `seat`: a place at a controller.
+//! - `session`: what a controller is opened with.
+//! - `telling`: a debugger that is told a command, where an epoch is kept.
+//! - `work`: a worker, which scans one task.
+#![tactic(auto)]
+
+mod accepted;
+pub mod book;
+pub mod call_error;
+pub mod clock;
+pub mod close;
+pub mod controller;
+pub mod crews;
+pub mod entry;
+mod feed;
+pub mod gate;
+mod history;
+pub mod laws;
+pub mod locked;
+pub mod post;
+pub mod receipt;
+pub mod seat;
+mod seat_counts;
+pub mod session;
+pub mod tail;
+mod telling;
+pub mod work;

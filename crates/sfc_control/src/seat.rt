@@ -1,0 +1,120 @@
+//! A place at a controller.
+
+ghost use Rattle.std.specs.Prelude.{◌≡◌, ◌<◌};
+
+use crate::book::Book;
+use crate::call_error::CallError;
+use crate::clock::Clock;
+use crate::controller::Controller;
+use crate::locked::Locked;
+use crate::receipt::Receipt;
+use crate::session::Session;
+use sfc_base::ticks::Ticks;
+use sfc_events::command::Command;
+use std::sync::Wait;
+use std::sync::ledger::{Ledger, Share};
+
+/// A place at the controller that handed it out: its number, the number of its accepted calls, its last receipt, and its part of
+/// the ledger.
+#[derive(Drop)]
+pub struct Seat<L: Ledger> {
+    pub(crate) number: u8,
+    pub(crate) calls: u64,
+    pub(crate) last: Option<Receipt>,
+    pub(crate) share: Share<L>,
+    pub ghost known: { number < 24 },
+    pub ghost one_part: { share.parts ≡ 1 },
+    pub ghost counted: { share.amount ≡ calls },
+}
+
+impl<L: Session> Seat<L> {
+    ghost use Rattle.std.specs.Prelude.{[], ◌∷◌, ◌++◌, ◌+◌, ◌-◌, Some, Err, IfOk, OnOk, OnErr};
+    ghost use Rattle.std.specs.Prelude.{ℤ, ℕ, List, IsTrue, ◌↔◌, length};
+    ghost use Rattle.sfc_control.specs.declared.entry.Entry.{Entry};
+    ghost use Rattle.sfc_control.specs.Answering.{answered};
+    ghost use Rattle.sfc_control.specs.Holding.{held_after, first_after};
+    ghost use Rattle.sfc_control.specs.LegalHistory.{IsLegal};
+    ghost use Rattle.sfc_control.specs.Receipts.{entry_of, IsReceiptOf};
+    ghost use Rattle.sfc_control.specs.Books.{accepted, entries, first, limit};
+    ghost use Rattle.sfc_control.specs.Lock.{book_of, total_of};
+    ghost use Rattle.sfc_control.specs.Seats.{number, calls, last_receipt, KeptStands, called, BothStand, IsEntered};
+
+    // Whether the last receipt, if there is one, stands in the book.
+    fn last_stands(&self, book: &Book) -> bool
+        ensures { IsTrue result ↔ KeptStands (last_receipt self.now) (first book.now) (accepted book.now) }
+    {
+        match &self.last {
+            Some(last) => book.stands(last),
+            None => true,
+        }
+    }
+
+    /// One command at the raw instant, in microseconds, on what lies under the lock: `AuditMismatch` where the last receipt does not
+    /// stand, else what the book answers to the seat's number. An accepted one is counted, and its receipt is kept. After a refusal
+    /// seat and book are as they were.
+    pub fn enter(
+        &mut self,
+        locked: &mut Locked<L>,
+        command: Command,
+        raw: i64,
+    ) -> Result<Receipt, CallError>
+        ensures audit { (KeptStands (last_receipt self.old) (first (book_of locked.old)) (accepted (book_of locked.old)) → ⊥) →
+            result ≡ Err CallError.AuditMismatch }
+        ensures answer { KeptStands (last_receipt self.old) (first (book_of locked.old)) (accepted (book_of locked.old)) →
+            result ≡ called (answered L.plant L.table L.limit (first (book_of locked.old)) (accepted (book_of locked.old))
+            (number self.old) command raw) }
+        ensures accepted { IfOk result (λ receipt. accepted (book_of locked.new) ≡
+            accepted (book_of locked.old) ++ entry_of receipt ∷ []) }
+        ensures entries { IfOk result (λ receipt. entries (book_of locked.new) ≡
+            held_after command (entries (book_of locked.old)) (entry_of receipt)) }
+        ensures first { IfOk result (λ receipt. first (book_of locked.new) ≡
+            first_after command (first (book_of locked.old)) receipt.index) }
+        ensures total { OnOk result (total_of locked.new ≡ total_of locked.old + 1) }
+        ensures number { number self.new ≡ number self.old }
+        ensures calls { OnOk result (calls self.new ≡ calls self.old + 1) }
+        ensures last { IfOk result (λ receipt. last_receipt self.new ≡ Some receipt) }
+        ensures receipt { IfOk result (λ receipt. IsReceiptOf receipt (number self.old) command raw) }
+        ensures legal { IfOk result (λ receipt. BothStand L.plant L.table (last_receipt self.old) receipt) }
+        ensures seat { OnErr result (self.new ≡ self.old) }
+        ensures book { OnErr result (book_of locked.new ≡ book_of locked.old) }
+        ensures ledger { OnErr result (total_of locked.new ≡ total_of locked.old) }
+    {
+        if !self.last_stands(&locked.book) {
+            return Err(CallError::AuditMismatch);
+        }
+        let Locked { book, total } = locked;
+        let mut ticks = Ticks::new();
+        let receipt = match book.apply(self.number, command, raw, &mut ticks) {
+            Ok(receipt) => receipt,
+            Err(refusal) => return Err(CallError::Refused(refusal)),
+        };
+        total.add(&mut self.share, 1);
+        total.audit(&mut self.share);
+        self.calls += 1;
+        self.last = Some(receipt);
+        Ok(receipt)
+    }
+
+    /// The same under the lock of the seat's controller, at the instant that the clock reads once the lock is held. It waits for
+    /// the lock.
+    pub fn call<R: Wait, C: Clock>(
+        &mut self,
+        rt: &R,
+        controller: &Controller<L>,
+        command: Command,
+        clock: &mut C,
+    ) -> Result<Receipt, CallError>
+        ensures entered { (raw : ℤ) × (first : ℕ) × (es : List Entry) × C.reads clock.old raw clock.new × IsLegal L.plant L.table es
+            × IsEntered L.plant L.table L.limit (last_receipt self.old) (number self.old) first es command raw result }
+        ensures receipt { IfOk result (λ receipt. (receipt.seat ≡ number self.old) × (receipt.command ≡ command)) }
+        ensures number { number self.new ≡ number self.old }
+        ensures calls { OnOk result (calls self.new ≡ calls self.old + 1) }
+        ensures last { IfOk result (λ receipt. last_receipt self.new ≡ Some receipt) }
+        ensures legal { IfOk result (λ receipt. BothStand L.plant L.table (last_receipt self.old) receipt) }
+        ensures seat { OnErr result (self.new ≡ self.old) }
+    {
+        let mut locked = controller.locked.lock(rt);
+        let raw = clock.now();
+        self.enter(&mut locked, command, raw)
+    }
+}

@@ -1,0 +1,120 @@
+//! A worker, which scans one task.
+
+ghost use Rattle.std.specs.Prelude.{◌≡◌, ◌+◌, ◌↔◌, All, Err, true, length};
+ghost use Rattle.sfc_control.specs.Working.{IsScanOf, Rise, last_index};
+ghost use Rattle.sfc_control.specs.Seats.{number, calls, last_receipt};
+
+use crate::call_error::CallError;
+use crate::clock::Clock;
+use crate::controller::Controller;
+use crate::gate::{Gate, Turn};
+use crate::receipt::Receipt;
+use crate::seat::Seat;
+use crate::session::Session;
+use sfc_base::ids::TaskId;
+use sfc_events::command::Command;
+use sfc_events::refusal::Refusal;
+use std::alloc::Global;
+use std::sync::Wait;
+use std::sync::ledger::Ledger;
+
+/// Why a worker ended.
+#[derive(Clone, Copy, Debug, PartialEq, Eq)]
+pub enum Why {
+    /// The gate refused a turn.
+    Closed,
+    /// The debugger has ended.
+    Ended,
+    /// The limit's entries are held, or as many commands were accepted as may be.
+    Full,
+    /// The clock went back, or is out of range.
+    Clock,
+    /// Memory was refused.
+    Memory,
+    /// The seat's last receipt does not stand, or the scan was refused for another reason.
+    Audit,
+}
+
+/// What a worker leaves: its seat, the receipts of its accepted scans, and why it ended.
+#[derive(Drop)]
+pub struct WorkerEnd<L: Ledger> {
+    /// The seat that was handed in.
+    pub seat: Seat<L>,
+    /// The receipts, in order.
+    pub receipts: Vec<Receipt>,
+    /// Why it ended.
+    pub why: Why,
+}
+
+// What a refusal means to a worker: another turn, or why it ends.
+fn turn_of(error: CallError) -> Result<Turn, Why>
+    ensures { result ≡ Err Why.Closed → ⊥ }
+{
+    match error {
+        CallError::Refused(Refusal::NotDue(next)) => Ok(Turn::Waits(next)),
+        CallError::Refused(Refusal::Yield(task)) => Ok(Turn::Yielded(task)),
+        CallError::Refused(Refusal::Stopped) => Ok(Turn::Halted),
+        CallError::Refused(Refusal::Ended) => Err(Why::Ended),
+        CallError::Refused(Refusal::HistoryFull) => Err(Why::Full),
+        CallError::Refused(Refusal::ClockBack) => Err(Why::Clock),
+        CallError::Refused(Refusal::InstantRange) => Err(Why::Clock),
+        CallError::Refused(_) => Err(Why::Audit),
+        CallError::AuditMismatch => Err(Why::Audit),
+    }
+}
+
+/// Scans the task each time that the gate answers true, until it answers false or a scan can't be answered. In each round the gate
+/// is asked, then room for the receipt is made, then comes the call. The task is one of the plant.
+pub fn worker<L: Session, R: Wait, G: Gate, C: Clock>(
+    rt: &R,
+    alloc: Global,
+    task: TaskId,
+    seat: Seat<L>,
+    controller: &Controller<L>,
+    gate: &mut G,
+    clock: &mut C,
+) -> WorkerEnd<L>
+    ensures seat { number result.seat ≡ number seat }
+    ensures count { length result.receipts.items + calls seat ≡ calls result.seat }
+    ensures scans { All (IsScanOf (number seat) task) result.receipts.items }
+    ensures rising { Rise (last_index (last_receipt seat)) result.receipts.items }
+    ensures why { (result.why ≡ Why.Closed) ↔ (G.is_shut gate.new ≡ true) }
+{
+    let mut seat = seat;
+    let mut receipts = Vec::new(alloc);
+    let mut last = Turn::First;
+    let command = Command::Scan(task);
+    'turns: for _ in rt.forever() {
+        if !gate.turn(last) {
+            return WorkerEnd {
+                seat,
+                receipts,
+                why: Why::Closed,
+            };
+        }
+        if receipts.reserve(1).is_err() {
+            return WorkerEnd {
+                seat,
+                receipts,
+                why: Why::Memory,
+            };
+        }
+        match seat.call(rt, controller, command, clock) {
+            Ok(receipt) => {
+                receipts.push_reserved(receipt);
+                last = Turn::Done(receipt.index);
+            }
+            Err(error) => match turn_of(error) {
+                Ok(turn) => last = turn,
+                Err(why) => {
+                    return WorkerEnd {
+                        seat,
+                        receipts,
+                        why,
+                    };
+                }
+            },
+        }
+    }
+    unreachable!()
+}

@@ -1,5 +1,0 @@
-use Rattle.sfc_core.proofs.Ordered.{calls_in_order}
-use Rattle.sfc_core.proofs.laws.told_in_order.Goals as goal
-
-pub returns : goal.returns
-returns c plant h ordered = calls_in_order plant h ordered

@@ -1,0 +1,53 @@
+-- What was last given to the outputs of an instance, and how long that holds.
+use Rattle.std.specs.Prelude.{ℕ, ◌≡◌, ◌<◌, ◌≤◌, Bool, true, false, List, [], length, Some, slice_get, slice_index_or}
+use Rattle.sfc_base.specs.declared.value.Value.TheVariants as value
+use Rattle.sfc_base.specs.declared.references.Variable.{Variable}
+use Rattle.sfc_flags.specs.Flags.{flag}
+use Rattle.sfc_plant.specs.declared.association.Target.TheVariants.{Boolean}
+use Rattle.sfc_tables.specs.Actions.{actions_of}
+use Rattle.sfc_base.specs.declared.ids.ProgId.{ProgId}
+use Rattle.sfc_plant.specs.Plants.{PlantData}
+use Rattle.sfc_plant.specs.Finding.{chart_of}
+use Rattle.sfc_image.specs.Environments.{number_of}
+use Rattle.sfc_image.specs.declared.slot.Slot.{Slot}
+use Rattle.sfc_image.specs.declared.output_memo.OutputMemo.{OutputMemo}
+use Rattle.sfc_image.specs.Private.Keeping.{slot_at}
+
+abbrev pub memo_at : List OutputMemo → ℕ → OutputMemo
+memo_at memos k = slice_index_or memos k (record { q = []; generation = 0 })
+
+-- the last generation, in which nothing that was given holds
+abbrev pub last_generation : ℕ
+last_generation = 18446744073709551615
+
+-- a generation after e, or the last one
+pub record IsLater (e later : ℕ) : Type 0 where
+  pub rises : e ≤ later
+  pub last : later ≡ e → last_generation ≤ later
+
+-- the generation after e where a variable changes
+pub record IsGenerationAfter (is_output : Bool) (e after : ℕ) : Type 0 where
+  pub output : is_output ≡ true → IsLater e after
+  pub other : is_output ≡ false → after ≡ e
+
+-- an output with this value
+pub record IsAssigned (slot : Slot) (q : Bool) : Type 0 where
+  pub stored : slot.stored ≡ value.Bool q
+  pub output : slot.is_output ≡ true
+
+-- the variable of action a of the instance, if the action is one, is an output with this value
+abbrev pub HasQ : PlantData → ProgId → List Slot → ℕ → Bool → Type 0
+HasQ plant p slots a q = (v : Variable) (i : ℕ) → slice_get (actions_of (chart_of plant p)) a ≡ Some (Boolean v)
+    → number_of plant p v ≡ Some i → IsAssigned (slot_at slots i) q
+
+-- what was given to an instance in this generation holds, unless it is the last one
+pub record MemosHold (plant : PlantData) (slots : List Slot) (memos : List OutputMemo) (generation : ℕ) : Type 0 where
+  pub begun : 0 < generation
+  pub past : (k : ℕ) → k < length memos → (memo_at memos k).generation ≤ generation
+  pub each : (p : ProgId) → p.0 < length memos → (memo_at memos p.0).generation ≡ generation → generation < last_generation → (a : ℕ)
+      → HasQ plant p slots a (flag (memo_at memos p.0).q a)
+
+-- a slot that keeps its value, and stays an output if it is one
+pub record Stays (old new : Slot) : Type 0 where
+  pub stored : new.stored ≡ old.stored
+  pub output : old.is_output ≡ true → new.is_output ≡ true

@@ -1,0 +1,46 @@
+//! What an instance last gave its outputs: the variables of its Boolean actions (2.6.4.1).
+
+ghost use Rattle.std.specs.Prelude.{◌≡◌, ◌<◌, ◌==◌, ℕ, cond, length, IfOk};
+ghost use Rattle.sfc_flags.specs.Flags.{flag};
+ghost use Rattle.sfc_image.specs.Private.OutputMemos.{IsLater, IsGenerationAfter};
+
+use sfc_flags::flags::Flags;
+
+/// The Q that was last given to the variable of each action, by the action's number, and the generation of the image in
+/// which that was; 0 where nothing is known to hold.
+#[derive(Drop)]
+pub struct OutputMemo {
+    pub q: Flags,
+    pub generation: u64,
+}
+
+impl OutputMemo {
+    /// Notes the Q of an action, if there is room for it.
+    pub fn note(&mut self, action: usize, q: bool)
+        ensures generation { self.new.generation ≡ self.old.generation }
+        ensures len { length self.new.q ≡ length self.old.q }
+        ensures q { (a : ℕ) → a < length self.old.q → flag self.new.q a ≡ cond (a == action) q (flag self.old.q a) }
+    {
+        if action < self.q.count() {
+            self.q.set(action, q);
+        }
+    }
+}
+
+/// A generation after this one, or the last one.
+pub fn next_generation(generation: u64) -> u64
+    ensures { IsLater generation result }
+{
+    generation.saturating_add(1)
+}
+
+/// The generation after a change of a variable: a later one, if it is an output.
+pub fn generation_after(generation: u64, is_output: bool) -> u64
+    ensures { IsGenerationAfter is_output generation result }
+{
+    if is_output {
+        next_generation(generation)
+    } else {
+        generation
+    }
+}

@@ -1,0 +1,59 @@
+use Rattle.std.proofs.Common.{false, arith, map, List, sym, ap, ◌∙◌}
+use Rattle.std.proofs.lemmas.List.{with_items_is}
+use Rattle.sfc_expr.specs.Environment.{Environment}
+use Rattle.sfc_image.specs.Changes.{settled}
+use Rattle.sfc_image.specs.Agreement.{environment_in}
+use Rattle.sfc_tables.specs.declared.step_action.StepAction.{StepAction}
+use Rattle.sfc_plant.specs.declared.chart.Chart.{Chart}
+use Rattle.sfc_tables.specs.Tables.{Tabled, tables_of}
+use Rattle.sfc_instance.specs.Life.{evolution_scans}
+use Rattle.sfc_plant.specs.Finding.{chart_of}
+use Rattle.sfc_instance.specs.ProgramScan.{association_times, time_of, condition_fault, condition_flags, environment}
+use Rattle.sfc_instance.specs.Agreement.{StateAgrees}
+use Rattle.sfc_instance.proofs.Left.{on_ok, hold_ok}
+use Rattle.sfc_instance.proofs.Readings.{environment_is, tables_is}
+use Rattle.sfc_instance.proofs.scan_buffers.ScanBuffers.read.Goals as goal
+
+pub returns-then-is_ok-clause-fault : goal.returns-then-is_ok-clause-fault
+unfolding StateAgrees
+returns-then-is_ok-clause-fault c plant life changes context state h =
+    let tables = c.args.context.tables.now in
+    let chart = c.args.context.chart.now in
+    let times = c.times.ensures ∙ c.requires.measured tables (evolution_scans life) state.steps in
+    let env = c.view-view.ensures plant (settled changes) h
+    ∙ environment_is plant c.args.context life changes c.args.t false c.active_flags.result.now c.times.result.now context
+    (c.active_flags.ensures.flags tables (evolution_scans life) state.steps) times in
+    c.evaluate_all-answer.ensures.fault life state.steps ∙ ap (λ (e : Environment). condition_fault tables chart e life tables.ranked) env
+
+pub returns-else-is_ok-clause-fault : goal.returns-else-is_ok-clause-fault
+unfolding StateAgrees
+returns-else-is_ok-clause-fault c plant life changes context state h =
+    let tables = c.args.context.tables.now in
+    let chart = c.args.context.chart.now in
+    let times = c.times.ensures ∙ c.requires.measured tables (evolution_scans life) state.steps in
+    let env = c.view-view.ensures plant (settled changes) h
+    ∙ environment_is plant c.args.context life changes c.args.t false c.active_flags.result.now c.times.result.now context
+    (c.active_flags.ensures.flags tables (evolution_scans life) state.steps) times in
+    c.evaluate_all-answer.ensures.fault life state.steps ∙ ap (λ (e : Environment). condition_fault tables chart e life tables.ranked) env
+
+pub returns-then-is_ok-clause-row : goal.returns-then-is_ok-clause-row
+unfolding StateAgrees
+returns-then-is_ok-clause-row c = hold_ok c.evaluate_all-answer.result _ (λ plant life changes context state h.
+    let tables = c.args.context.tables.now in
+    let chart = c.args.context.chart.now in
+    let p = c.args.context.instance in
+    let times = c.times.ensures ∙ c.requires.measured tables (evolution_scans life) state.steps in
+    let env = c.view-view.ensures plant (settled changes) h
+    ∙ environment_is plant c.args.context life changes c.args.t false c.active_flags.result.now c.times.result.now context
+    (c.active_flags.ensures.flags tables (evolution_scans life) state.steps) times in
+    let flags = with_items_is c.args.self.now.conditions c.evaluate_all-answer.new.conditions (omega arith)
+    ∙ on_ok c.evaluate_all-answer.result _ (sym c.is_ok.ensures.value ∙ c.if-is_ok.true) c.evaluate_all-answer.ensures.flags life state.steps
+    ∙ ap (λ (e : Environment). condition_flags tables chart e life) env
+    ∙ ap (λ (x : Tabled). condition_flags x chart (environment plant p life changes c.args.t false) life) (tables_is plant c.args.context context)
+    ∙ ap (λ (x : Chart). condition_flags (tables_of (chart_of plant p)) x (environment plant p life changes c.args.t false) life) context.chart in
+    let association = with_items_is c.args.self.now.times c.read_association_times.new.times (omega arith)
+    ∙ c.read_association_times.ensures.times
+    ∙ ap (λ (xs : List StepAction). map (λ x. time_of (environment_in c.view-view.result) x.qualifier) xs) c.step_actions.ensures
+    ∙ ap (λ (e : Environment). association_times tables e) env
+    ∙ ap (λ (x : Tabled). association_times x (environment plant p life changes c.args.t false)) (tables_is plant c.args.context context) in
+    (λ i. record { conditions = flags i; times = association i; at = c.args.t }))

@@ -1,0 +1,13 @@
+//! What a program instance runs in.
+
+use sfc_base::ids::ProgId;
+use sfc_plant::chart::Chart;
+use sfc_tables::tables::Tables;
+
+/// The chart of a program instance, the tables of that chart, and the instance's number in its plant.
+#[derive(Clone, Copy)]
+pub struct ProgramContext<'a> {
+    pub tables: &'a Tables,
+    pub chart: &'a Chart,
+    pub instance: ProgId,
+}

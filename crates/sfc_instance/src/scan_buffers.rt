@@ -1,0 +1,97 @@
+//! The buffers of a scan of a program instance.
+
+/// Of each transition the condition and of each association the time, by number; and the numbers of the associations whose
+/// time a scan reads.
+#[derive(Drop)]
+pub struct ScanBuffers {
+    pub conditions: Vec<bool>,
+    pub times: Vec<i64>,
+    pub varied: Vec<usize>,
+}
+
+ghost use Rattle.std.specs.Prelude.{◌≡◌, ◌<◌, ◌≤ℤ◌, ◌^◌, ◌+◌, List, false, pos, length, IfOk, OnOk};
+ghost use Rattle.std.specs.Result.{result_err};
+ghost use Rattle.sfc_base.specs.Ticks.{Within};
+ghost use Rattle.sfc_tables.specs.Tables.{tables_of};
+ghost use Rattle.sfc_evolve.specs.Agreement.{AreMeasured};
+ghost use Rattle.sfc_plant.specs.Plants.{PlantData};
+ghost use Rattle.sfc_image.specs.Changes.{Change, settled};
+ghost use Rattle.sfc_image.specs.Agreement.{ImageAgrees, instance_total};
+ghost use Rattle.sfc_instance.specs.Life.{Life};
+ghost use Rattle.sfc_instance.specs.Contexts.{IsContextOf};
+ghost use Rattle.sfc_instance.specs.ProgramScan.{environment, condition_fault, next_row};
+ghost use Rattle.sfc_instance.specs.Work.{condition_work};
+ghost use Rattle.sfc_instance.specs.Agreement.{IsStateFor, AreBuffersFor, StateAgrees};
+
+use crate::conditions::evaluate_all;
+use crate::program_context::ProgramContext;
+use crate::reading::{list_varied, read_association_times};
+use crate::state::State;
+use sfc_base::ticks::Ticks;
+use sfc_expr::fault::Fault;
+use sfc_image::image::Image;
+use sfc_image::step_readings::StepReadings;
+use sfc_tables::tables::Tables;
+use std::alloc::{AllocError, Global};
+
+impl ScanBuffers {
+    /// Buffers for scans of a chart with these tables. The one error is that memory was refused.
+    pub fn new(alloc: Global, tables: &Tables) -> Result<ScanBuffers, AllocError>
+        ensures { IfOk result (λ buffers. AreBuffersFor tables.now buffers) }
+    {
+        let mut times = vec![in alloc; 0; tables.associations()]?;
+        let varied = list_varied(alloc, tables.step_actions(), &mut times)?;
+        Ok(ScanBuffers {
+            conditions: vec![in alloc; false; tables.transitions()]?,
+            times,
+            varied,
+        })
+    }
+
+    /// The conditions of the next scan, at t, and the times of associations, both from what is read before it; or the
+    /// first fault of a condition. The times of the steps are worked out before.
+    pub fn read(
+        &mut self,
+        context: ProgramContext<'_>,
+        state: &State,
+        image: &Image,
+        t: i64,
+        ticks: &mut Ticks,
+    ) -> Result<(), Fault>
+        requires tables { context.tables.now ≡ tables_of context.chart.now }
+        requires sizes { AreBuffersFor context.tables.now self.old }
+        requires state { IsStateFor context.tables.now state.now }
+        requires measured { AreMeasured t state.now.steps }
+        requires instance { context.instance.0 < instance_total image.now }
+        requires low { pos 0 ≤ℤ t }
+        requires high { t ≤ℤ pos (2 ^ 62) }
+        ensures sizes { AreBuffersFor context.entry.tables.now self.new }
+        ensures fault { (plant : PlantData) (life : Life) (changes : List Change) → IsContextOf plant context.entry →
+            StateAgrees context.entry.tables.now state.now life → ImageAgrees plant image.now (settled changes) →
+            result_err result ≡ condition_fault context.entry.tables.now context.entry.chart.now
+            (environment plant context.entry.instance life changes t false) life context.entry.tables.now.ranked }
+        ensures row { OnOk result ((plant : PlantData) (life : Life) (changes : List Change) → IsContextOf plant context.entry →
+            StateAgrees context.entry.tables.now state.now life → ImageAgrees plant image.now (settled changes) →
+            record { conditions = self.new.conditions.items; times = self.new.times.items; at = t }
+            ≡ next_row plant context.entry.instance life changes t) }
+        ensures ticks { Within (condition_work context.entry.tables.now context.entry.chart.now context.entry.tables.now.ranked
+            + length context.entry.tables.now.associations) ticks.old ticks.new }
+    {
+        let readings = StepReadings {
+            active: state.steps.active_flags(),
+            times: state.steps.times(),
+        };
+        let view = image.view(context.instance, readings, false);
+        let answer = evaluate_all(context, &state.steps, &view, &mut self.conditions, ticks);
+        if answer.is_ok() {
+            read_association_times(
+                &mut self.times,
+                &self.varied,
+                context.tables.step_actions(),
+                &view,
+                ticks,
+            );
+        }
+        answer
+    }
+}

@@ -1,0 +1,164 @@
+//! A scan of a program instance: what it works on.
+
+use crate::acting::act_or_undo;
+use crate::scan_buffers::ScanBuffers;
+use crate::state::State;
+
+/// The steps and the action control after the latest scan, and those on which the next one is tried.
+pub struct ScanRun {
+    pub now: State,
+    pub spare: State,
+    pub buffers: ScanBuffers,
+}
+
+// By hand, so that a caller that drops one proves one call.
+impl Drop for ScanRun {
+    fn drop(self) {
+        let ScanRun {
+            now: _,
+            spare: _,
+            buffers: _,
+        } = self;
+    }
+}
+
+ghost use Rattle.std.specs.Prelude.{◌≡◌, ◌<◌, ◌+◌, ◌≤ℤ◌, ◌^◌, [], List, false, pos, length, IfOk};
+ghost use Rattle.sfc_base.specs.Ticks.{Within};
+ghost use Rattle.sfc_tables.specs.Tables.{tables_of};
+ghost use Rattle.sfc_plant.specs.Plants.{PlantData};
+ghost use Rattle.sfc_image.specs.Changes.{Change, settled};
+ghost use Rattle.sfc_image.specs.Agreement.{ImageAgrees, IsAsLarge, instance_total, variable_total, is_open};
+ghost use Rattle.sfc_instance.specs.Life.{Life};
+ghost use Rattle.sfc_instance.specs.Contexts.{IsContextOf};
+ghost use Rattle.sfc_instance.specs.ProgramScan.{after_actions, attempt, next_row, with_row};
+ghost use Rattle.sfc_instance.specs.Work.{actions_work, scan_work};
+ghost use Rattle.sfc_instance.specs.Agreement.{IsScanRunFor, StateAgrees};
+ghost use Rattle.sfc_instance.specs.Private.Acting.{HasActed};
+ghost use Rattle.sfc_instance.specs.Private.Scanning.{HasScanned, Moves, go_work, row_in};
+
+use crate::program_context::ProgramContext;
+use crate::scan_fault::ScanFault;
+use sfc_base::ticks::Ticks;
+use sfc_expr::fault::Fault;
+use sfc_image::image::Image;
+use sfc_tables::tables::Tables;
+use std::alloc::{AllocError, Global};
+
+impl ScanRun {
+    /// Before the first scan of a life. The one error is that memory was refused.
+    pub fn new(alloc: Global, tables: &Tables) -> Result<ScanRun, AllocError>
+        ensures sizes { IfOk result (λ run. IsScanRunFor tables.now run) }
+        ensures agrees { IfOk result (λ run. StateAgrees tables.now run.now []) }
+    {
+        Ok(ScanRun {
+            now: State::new(alloc, tables)?,
+            spare: State::new(alloc, tables)?,
+            buffers: ScanBuffers::new(alloc, tables)?,
+        })
+    }
+
+    // What the actions do after the scan of the spare steps and action control, which then are those after the latest scan;
+    // or the fault of a body.
+    fn finish(
+        &mut self,
+        context: ProgramContext<'_>,
+        image: &mut Image,
+        t: i64,
+        ticks: &mut Ticks,
+    ) -> Result<(), Fault>
+        requires tables { context.tables.now ≡ tables_of context.chart.now }
+        requires sizes { IsScanRunFor context.tables.now self.old }
+        requires instance { context.instance.0 < instance_total image.old }
+        requires closed { is_open image.old ≡ false }
+        requires low { pos 0 ≤ℤ t }
+        requires high { t ≤ℤ pos (2 ^ 62) }
+        ensures sizes { IsScanRunFor context.entry.tables.now self.new }
+        ensures large { IsAsLarge image.old image.new }
+        ensures closed { is_open image.new ≡ false }
+        ensures now { (life : Life) → StateAgrees context.entry.tables.now self.old.spare life →
+            Moves context.entry.tables.now life result self.old.now self.new.now }
+        ensures agrees { (plant : PlantData) (life : Life) (changes : List Change) → IsContextOf plant context.entry →
+            StateAgrees context.entry.tables.now self.old.spare life → ImageAgrees plant image.old (settled changes) →
+            HasActed plant changes image.new result
+            (after_actions plant context.entry.instance life t 0 context.entry.tables.now.actions changes) }
+        ensures ticks { Within (length context.entry.tables.now.initial
+            + actions_work context.entry.chart.now context.entry.tables.now.actions
+            + variable_total image.old) ticks.old ticks.new }
+    {
+        self.spare.measure(context.tables, t, ticks);
+        let answer = act_or_undo(context, &self.spare, image, ticks);
+        if answer.is_ok() {
+            std::mem::swap(&mut self.now, &mut self.spare);
+        }
+        answer
+    }
+
+    // The steps and the action control go on, and then the actions, where the buffers have the conditions and times.
+    fn go_on(
+        &mut self,
+        context: ProgramContext<'_>,
+        image: &mut Image,
+        t: i64,
+        ticks: &mut Ticks,
+    ) -> Result<(), ScanFault>
+        requires tables { context.tables.now ≡ tables_of context.chart.now }
+        requires sizes { IsScanRunFor context.tables.now self.old }
+        requires instance { context.instance.0 < instance_total image.old }
+        requires closed { is_open image.old ≡ false }
+        requires low { pos 0 ≤ℤ t }
+        requires high { t ≤ℤ pos (2 ^ 62) }
+        ensures sizes { IsScanRunFor context.entry.tables.now self.new }
+        ensures large { IsAsLarge image.old image.new }
+        ensures closed { is_open image.new ≡ false }
+        ensures agrees { (plant : PlantData) (life : Life) (changes : List Change) → IsContextOf plant context.entry →
+            StateAgrees context.entry.tables.now self.old.now life → ImageAgrees plant image.old (settled changes) →
+            HasScanned plant context.entry.tables.now life changes (row_in self.old.buffers t) self.new.now image.new result
+            (with_row plant context.entry.instance life changes t (row_in self.old.buffers t)) }
+        ensures ticks { Within (go_work context.entry.tables.now context.entry.chart.now (variable_total image.old)) ticks.old ticks.new }
+    {
+        self.spare.copy_from(context.tables, &self.now, ticks);
+        match self.spare.advance(
+            context.tables,
+            &self.buffers.conditions,
+            &self.buffers.times,
+            t,
+            ticks,
+        ) {
+            Err(fault) => Err(ScanFault::Control(fault)),
+            Ok(()) => match self.finish(context, image, t, ticks) {
+                Err(fault) => Err(ScanFault::Expression(fault)),
+                Ok(()) => Ok(()),
+            },
+        }
+    }
+
+    /// One scan at t. After a fault steps, action control and variables are as before.
+    pub fn scan(
+        &mut self,
+        context: ProgramContext<'_>,
+        image: &mut Image,
+        t: i64,
+        ticks: &mut Ticks,
+    ) -> Result<(), ScanFault>
+        requires tables { context.tables.now ≡ tables_of context.chart.now }
+        requires sizes { IsScanRunFor context.tables.now self.old }
+        requires instance { context.instance.0 < instance_total image.old }
+        requires closed { is_open image.old ≡ false }
+        requires low { pos 0 ≤ℤ t }
+        requires high { t ≤ℤ pos (2 ^ 62) }
+        ensures sizes { IsScanRunFor context.entry.tables.now self.new }
+        ensures large { IsAsLarge image.old image.new }
+        ensures closed { is_open image.new ≡ false }
+        ensures agrees { (plant : PlantData) (life : Life) (changes : List Change) → IsContextOf plant context.entry →
+            StateAgrees context.entry.tables.now self.old.now life → ImageAgrees plant image.old (settled changes) →
+            HasScanned plant context.entry.tables.now life changes (next_row plant context.entry.instance life changes t)
+            self.new.now image.new result (attempt plant context.entry.instance life changes t) }
+        ensures ticks { Within (scan_work context.entry.tables.now context.entry.chart.now (variable_total image.old)) ticks.old ticks.new }
+    {
+        self.now.measure(context.tables, t, ticks);
+        match self.buffers.read(context, &self.now, image, t, ticks) {
+            Err(fault) => Err(ScanFault::Expression(fault)),
+            Ok(()) => self.go_on(context, image, t, ticks),
+        }
+    }
+}

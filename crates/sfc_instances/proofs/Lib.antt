@@ -1,0 +1,10 @@
+pub mod Copied
+pub mod Built
+pub mod ScanEnd
+pub mod EndBits
+pub mod OfOnePlant
+pub mod Pasts
+pub mod Scanned
+pub mod InstanceState
+pub mod TaskScans
+pub mod Typed

@@ -1,0 +1,10 @@
+//! The variables and the program instances of a plant (IEC 61131-3:2003, 2.4, 2.6 and 2.7.1).
+//!
+//! - `bits`: how the scans of a task's instances ended.
+//! - `laws`: what the definitions mean.
+//! - `instances`: the variables and the program instances, in running form.
+#![tactic(auto)]
+
+pub mod bits;
+pub mod instances;
+pub mod laws;

@@ -1,0 +1,97 @@
+//! Program instances (2.7.2).
+
+ghost use Rattle.std.specs.Prelude.{◌≡◌, ◌≤◌, ◌++◌, ◌∷◌, [], length, map, OnOk, IfOk};
+ghost use Rattle.sfc_variables.specs.Checks.{Loads, in_turn};
+ghost use Rattle.sfc_load.specs.Loading as loading;
+ghost use Rattle.sfc_load.specs.Loading.{instance_name, instance_check, instances_check};
+ghost use Rattle.sfc_load.specs.Built.{instance_of};
+
+use sfc_base::ids::{TaskId, TypeId};
+use sfc_base::limits::{INSTANCES, TASKS};
+use sfc_base::name::Name;
+use sfc_plant::instance::Instance;
+use sfc_plant::name_table::NameTable;
+use sfc_text::tree;
+use sfc_variables::load_error::{Limit, LoadError};
+use std::alloc::Global;
+
+// The number of a task, if one is named that is there.
+fn task_number(name: &Option<Name>, tasks: &NameTable) -> Option<usize>
+    ensures { result ≡ loading.task_number tasks.now name.now }
+{
+    match name {
+        None => None,
+        Some(name) => tasks.find(name.spelling()),
+    }
+}
+
+fn load_instance(
+    alloc: Global,
+    instance: &tree::Instance,
+    tasks: &NameTable,
+    types: &NameTable,
+    names: &mut NameTable,
+) -> Result<Instance, LoadError>
+    requires { length tasks.now ≤ TASKS }
+    ensures loads { Loads (λ loaded. loaded) result (instance_check tasks.now types.now names.old instance.now) (instance_of tasks.now types.now instance.now) }
+    ensures named { OnOk result (names.new ≡ names.old ++ instance.now.name ∷ []) }
+{
+    if !names.add(alloc, instance.name.spelling())? {
+        return Err(LoadError::Duplicate);
+    }
+    let Some(task) = task_number(&instance.task, tasks) else {
+        return Err(LoadError::NoTask);
+    };
+    let Some(program) = types.find(instance.program.spelling()) else {
+        return Err(LoadError::UnknownType);
+    };
+    Ok(Instance {
+        name: instance.name.copy(alloc)?,
+        task: TaskId(task as u8),
+        program: TypeId(program),
+    })
+}
+
+// Each instance in turn, and the table of their names.
+fn load_each(
+    alloc: Global,
+    instances: &[tree::Instance],
+    tasks: &NameTable,
+    types: &NameTable,
+) -> Result<(Vec<Instance>, NameTable), LoadError>
+    requires { length tasks.now ≤ TASKS }
+    ensures loads { Loads (λ loaded. loaded.0.items) result
+        (in_turn instance_name (instance_check tasks.now types.now) [] instances.now)
+        (map (instance_of tasks.now types.now) instances.now) }
+    ensures named { IfOk result (λ loaded. loaded.1 ≡ map instance_name instances.now) }
+{
+    let mut loaded = Vec::new(alloc);
+    let mut names = NameTable::new(alloc);
+    let mut rest = instances;
+    'instances: while let Some((instance, after)) = rest.split_first() {
+        let instance = load_instance(alloc, instance, tasks, types, &mut names)?;
+        loaded.push(instance)?;
+        rest = after;
+    }
+    Ok((loaded, names))
+}
+
+/// At most 64 instances, and the table of their names.
+#[tactic(auto, unfolding(crate::specs::Loading::instances_check))]
+pub(crate) fn load_instances(
+    alloc: Global,
+    instances: &[tree::Instance],
+    tasks: &NameTable,
+    types: &NameTable,
+) -> Result<(Vec<Instance>, NameTable), LoadError>
+    requires { length tasks.now ≤ TASKS }
+    ensures loads { Loads (λ loaded. loaded.0.items) result
+        (instances_check tasks.now types.now instances.now)
+        (map (instance_of tasks.now types.now) instances.now) }
+    ensures named { IfOk result (λ loaded. loaded.1 ≡ map instance_name instances.now) }
+{
+    if instances.len() > INSTANCES {
+        return Err(LoadError::Limit(Limit::Instances));
+    }
+    load_each(alloc, instances, tasks, types)
+}

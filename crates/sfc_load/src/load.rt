@@ -1,0 +1,24 @@
+//! Trees to plants: names are looked up, types and limits are checked.
+ghost use Rattle.sfc_text.specs.Trees.{source_of};
+ghost use Rattle.sfc_variables.specs.Checks.{Loads};
+ghost use Rattle.sfc_load.specs.Built.{source_check, plant_of};
+
+use crate::assembly::{assemble, load_parts};
+use sfc_plant::plant::Plant;
+use sfc_text::tree::Source;
+use sfc_variables::load_error::LoadError;
+use std::alloc::Global;
+
+/// The plant that the trees of a text are (2.4 to 2.7).
+///
+/// It answers the first fault in this order: the global variables; the number of tasks, the tasks; the program types,
+/// each with its limits, variables, names, an initial step, associations, transitions and bodies; the number of
+/// instances, the instances; the number of variables, equal locations. `Memory` is answered where memory was refused.
+/// The source is not changed.
+pub fn load(alloc: Global, source: &Source) -> Result<Plant, LoadError>
+    ensures { Loads (λ plant. plant) result (source_check (source_of source.now)) (plant_of (source_of source.now)) }
+{
+    let parts = load_parts(alloc, source)?;
+    let plant = assemble(alloc, source, parts)?;
+    Ok(plant)
+}

@@ -1,0 +1,6 @@
+pub mod Images
+pub mod Charts
+pub mod NamesAt
+pub mod Places
+-- which values may go to another thread
+pub mod Crosses

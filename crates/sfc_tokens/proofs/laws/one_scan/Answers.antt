@@ -1,5 +1,0 @@
-use Rattle.sfc_tokens.proofs.Outcomes.{one_outcome}
-use Rattle.sfc_tokens.proofs.laws.one_scan.Goals as goal
-
-pub returns : goal.returns
-returns c = one_outcome

@@ -1,5 +1,0 @@
-use Rattle.sfc_tokens.proofs.Standing.{tokens_stand}
-use Rattle.sfc_tokens.proofs.laws.scanned_tokens.Goals as goal
-
-pub returns : goal.returns
-returns c = tokens_stand

@@ -1,5 +1,0 @@
-use Rattle.sfc_tokens.proofs.Outcomes.{some_outcome}
-use Rattle.sfc_tokens.proofs.laws.some_scan.Goals as goal
-
-pub returns : goal.returns
-returns c = some_outcome

@@ -1,0 +1,30 @@
+//! What keeps the lexer from going on.
+
+ghost use Rattle.std.specs.Prelude.{◌≡◌};
+ghost use Rattle.sfc_tokens.specs.declared.lex_fault.LexFault.TheVariants.{Memory};
+
+use crate::read_error::ReadErrorKind;
+use std::alloc::{AllocError, AllocFailed};
+
+/// What is wrong with the text at one place, or want of memory.
+#[derive(Clone, Copy, Debug, PartialEq, Eq)]
+pub enum LexFault {
+    Memory,
+    Wrong(ReadErrorKind),
+}
+
+impl From<AllocError> for LexFault {
+    ghost from_gives = { λ _ fault. fault ≡ Memory };
+
+    fn from(_error: AllocError) -> LexFault {
+        LexFault::Memory
+    }
+}
+
+impl<T: Drop> From<AllocFailed<T>> for LexFault {
+    ghost from_gives = { λ _ fault. fault ≡ Memory };
+
+    fn from(_error: AllocFailed<T>) -> LexFault {
+        LexFault::Memory
+    }
+}

@@ -1,9 +1,0 @@
-use Rattle.std.proofs.Common.{◌≡◌, length}
-use Rattle.sfc_variables.specs.Places.{repeats}
-use Rattle.sfc_variables.proofs.place.repeats.Given as goal
-
-abbrev pub invariant-locations : goal.invariant-locations
-invariant-locations l = repeats l.locations ≡ repeats l.rest
-
-abbrev pub decreases-locations : goal.decreases-locations
-decreases-locations l = length l.rest
