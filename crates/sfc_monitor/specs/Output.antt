@@ -1,16 +1,19 @@
 -- What is written of a session: of each command with its answer, and of how the session stands at the end.
-use Rattle.std.specs.Prelude.{ℕ, List, [], ◌∷◌, ◌++◌, flat_map, Result}
+use Rattle.std.specs.Prelude.{ℕ, ◌==◌, Bool, true, false, not, ◌||◌, List, [], ◌∷◌, ◌++◌, flat_map, Result, Ok, Err}
 use Rattle.std.specs.List.{range_with_len}
 use Rattle.sfc_plant.specs.Plants.{PlantData}
 use Rattle.sfc_image.specs.Values.{variable_count, value_of, forced_value}
-use Rattle.sfc_events.specs.declared.event.Outcome.{Outcome}
+use Rattle.sfc_events.specs.declared.command.Answer.{Answer}
+use Rattle.sfc_events.specs.declared.command.Answer.TheVariants.{Scanned}
 use Rattle.sfc_events.specs.declared.refusal.Refusal.{Refusal}
-use Rattle.sfc_events.specs.History.{TimedEvent}
 use Rattle.sfc_instances.specs.PlantState.{PlantState}
-use Rattle.sfc_core.specs.PlantState.{state_of}
-use Rattle.sfc_core.specs.Verdict.{verdict, after}
+use Rattle.sfc_core.specs.PlantState as core
+use Rattle.sfc_debug.specs.Histories.{TimedCommand}
+use Rattle.sfc_debug.specs.States.{DebugState, state_of}
+use Rattle.sfc_debug.specs.Verdict.{verdict, after}
 use Rattle.sfc_output.specs.Commands.{answer_lines}
 use Rattle.sfc_output.specs.ImageLines.{image_line}
+use Rattle.sfc_output.specs.Steered.{Steered}
 
 -- ---- for whatever answers commands
 
@@ -48,19 +51,23 @@ closing_lines session lines h = lines.closing (session.state h)
 abbrev pub lines_of_play : {C A S : Type 0} → Session C A S → Lines C A S → List C → List C → List ℕ
 lines_of_play session lines h cs = commands_lines session lines h cs ++ closing_lines session lines (session_after session h cs)
 
--- ---- a resource, and its text
+-- ---- a debugger, and its text
 
--- what a resource answers
-abbrev pub Answer : Type 0
-Answer = Result Outcome Refusal
+-- what a debugger answers
+abbrev pub Verdict : Type 0
+Verdict = Result Answer Refusal
 
--- a resource of the plant
-abbrev pub resource_of : PlantData → Session TimedEvent Answer PlantState
-resource_of plant = record {
-  verdict = λ h timed_event. verdict plant h timed_event.0 timed_event.1;
-  after = after plant;
-  state = state_of plant;
+-- a debugger of this plant, with this table of conditions
+abbrev pub debugger_of : Steered → Session TimedCommand Verdict DebugState
+debugger_of steered = record {
+  verdict = λ h timed. verdict steered.plant steered.table h timed.0 timed.1;
+  after = after steered.plant steered.table;
+  state = state_of steered.plant steered.table;
 }
+
+-- how the plant stands, where the debugger stands so
+abbrev pub plant_state : Steered → DebugState → PlantState
+plant_state steered state = core.state_of steered.plant state.events
 
 -- the line of a variable
 abbrev pub variable_line : PlantData → PlantState → ℕ → List ℕ
@@ -70,9 +77,23 @@ variable_line plant state v = image_line plant (record { 0 = v }) (value_of plan
 abbrev pub image_lines : PlantData → PlantState → List ℕ
 image_lines plant state = flat_map (variable_line plant state) (range_with_len 0 (variable_count plant))
 
--- the text of a resource: the lines of each command, and at the end those of the image
-abbrev pub text_of : PlantData → Lines TimedEvent Answer PlantState
-text_of plant = record {
-  command = λ state timed_event answer. answer_lines plant state.instance_state timed_event.0 timed_event.1 answer;
-  closing = image_lines plant;
+-- the text of a debugger: the lines of each command, at its run instant, and at the end those of the image
+abbrev pub text_of : Steered → Lines TimedCommand Verdict DebugState
+text_of steered = record {
+  command = λ state timed answer.
+      answer_lines steered (plant_state steered state).instance_state timed.0 state.clock.instant answer;
+  closing = λ state. image_lines steered.plant (plant_state steered state);
 }
+
+-- ---- what went amiss
+
+-- a command was refused, or the scan of an instance ended with a fault or was passed over for one
+abbrev pub is_amiss : Verdict → Bool
+is_amiss (Err refusal) = true
+is_amiss (Ok (Scanned ran faulted skipped overruns hit)) = not (faulted == 0) || not (skipped == 0)
+is_amiss (Ok _) = false
+
+-- that was so of one of the commands after others
+abbrev pub any_amiss : Steered → List TimedCommand → List TimedCommand → Bool
+any_amiss steered h [] = false
+any_amiss steered h (c ∷ cs) = is_amiss ((debugger_of steered).verdict h c) || any_amiss steered ((debugger_of steered).after h c) cs

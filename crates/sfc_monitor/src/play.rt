@@ -1,11 +1,13 @@
 //! The commands of a script, one after the other.
 
-ghost use Rattle.std.specs.Prelude.{◌≡◌, ◌++◌, OnOk, IfErr};
+ghost use Rattle.std.specs.Prelude.{◌≡◌, ◌++◌, ◌||◌, IfOk, OnOk, IfErr};
 ghost use Rattle.sfc_base.specs.Writing.{Writes};
-ghost use Rattle.sfc_events.specs.History.{History};
-ghost use Rattle.sfc_core.specs.Agreement.{Agrees, plant_of};
-ghost use Rattle.sfc_core.specs.Verdict.{after};
-ghost use Rattle.sfc_monitor.specs.Output.{command_lines, commands_lines, lines_of_play, resource_of};
+ghost use Rattle.sfc_debug.specs.Agreement.{Agrees, plant_of, table_of};
+ghost use Rattle.sfc_debug.specs.Histories.{CommandHistory};
+ghost use Rattle.sfc_debug.specs.Verdict.{after};
+ghost use Rattle.sfc_output.specs.Steered.{steered_by};
+ghost use Rattle.sfc_monitor.specs.Output as output;
+ghost use Rattle.sfc_monitor.specs.Output.{any_amiss, command_lines, commands_lines, debugger_of, lines_of_play};
 ghost use Rattle.sfc_monitor.specs.Working.Faults.{IsOutputFault};
 ghost use Rattle.sfc_monitor.specs.Working.Playing.{HasPlayed, PassesOn};
 
@@ -13,31 +15,99 @@ use crate::monitor_error::MonitorError;
 use crate::report::Report;
 use sfc_base::ticks::Ticks;
 use sfc_base::write_fault::put_all;
-use sfc_core::resource::Resource;
-use sfc_events::event::Event;
+use sfc_debug::debugger::Debugger;
+use sfc_debug::opening::DebugOpening;
+use sfc_events::command::{Answer, Command};
+use sfc_events::refusal::Refusal;
 use std::alloc::{AllocError, Global};
 use std::io::Write;
 
 /// How many bytes wait before they are written.
 const PIECE: usize = 65_536;
 
-// One command, and its lines behind what waits.
+// A command was refused, or the scan of an instance ended with a fault or was passed over for one.
+fn is_amiss(answer: Result<Answer, Refusal>) -> bool
+    ensures { result ≡ output.is_amiss answer }
+{
+    match answer {
+        Err(_) => true,
+        Ok(Answer::Scanned {
+            faulted, skipped, ..
+        }) => faulted != 0 || skipped != 0,
+        Ok(Answer::Done | Answer::Value(_)) => false,
+    }
+}
+
+// One of the two is true.
+fn either(first: bool, second: bool) -> bool
+    ensures { result ≡ first || second }
+{
+    first || second
+}
+
+// One command.
+fn obey(debugger: &mut Debugger, timed: (Command, i64)) -> Result<Answer, Refusal>
+    ensures plant { plant_of debugger.new ≡ plant_of debugger.old }
+    ensures table { table_of debugger.new ≡ table_of debugger.old }
+    ensures answer { (h : CommandHistory) → Agrees debugger.old h →
+        result ≡ (debugger_of (steered_by debugger.old)).verdict h timed }
+    ensures agrees { (h : CommandHistory) → Agrees debugger.old h →
+        Agrees debugger.new (after (plant_of debugger.old) (table_of debugger.old) h timed) }
+{
+    let (command, raw) = timed;
+    let mut ticks = Ticks::new();
+    debugger.command(command, raw, &mut ticks)
+}
+
+// The debugger goes on from what it has kept of its commands.
+fn begin_epoch(alloc: Global, debugger: &mut Debugger) -> Result<(), AllocError>
+    ensures plant { plant_of debugger.new ≡ plant_of debugger.old }
+    ensures table { table_of debugger.new ≡ table_of debugger.old }
+    ensures agrees { (h : CommandHistory) → Agrees debugger.old h → Agrees debugger.new h }
+{
+    let mut opening = DebugOpening::new(alloc, debugger)?;
+    debugger.save(&mut opening);
+    debugger.restore(&opening);
+    Ok(())
+}
+
+// The same at an accepted Epoch, and else nothing.
+fn begin_if_epoch(
+    alloc: Global,
+    debugger: &mut Debugger,
+    command: Command,
+    answer: Result<Answer, Refusal>,
+) -> Result<(), AllocError>
+    ensures plant { plant_of debugger.new ≡ plant_of debugger.old }
+    ensures table { table_of debugger.new ≡ table_of debugger.old }
+    ensures agrees { (h : CommandHistory) → Agrees debugger.old h → Agrees debugger.new h }
+{
+    match (command, answer) {
+        (Command::Epoch, Ok(_)) => begin_epoch(alloc, debugger),
+        _ => Ok(()),
+    }
+}
+
+// One command, and its lines behind what waits; and whether something went amiss.
 fn run_command<R: Report>(
     alloc: Global,
     report: &R,
-    resource: &mut Resource,
-    timed_event: &(Event, i64),
+    debugger: &mut Debugger,
+    timed: &(Command, i64),
     text: &mut Vec<u8>,
-) -> Result<(), AllocError>
-    ensures plant { plant_of resource.new ≡ plant_of resource.old }
-    ensures agrees { (h : History) → Agrees resource.old h → Agrees resource.new (after (plant_of resource.old) h timed_event.now) }
-    ensures lines { (h : History) → Agrees resource.old h →
-        OnOk result (text.new.items ≡ text.old.items ++ command_lines (resource_of (plant_of resource.old)) (R.lines report.now (plant_of resource.old)) h timed_event.now) }
+) -> Result<bool, AllocError>
+    ensures steered { steered_by debugger.new ≡ steered_by debugger.old }
+    ensures agrees { (h : CommandHistory) → Agrees debugger.old h →
+        Agrees debugger.new ((debugger_of (steered_by debugger.old)).after h timed.now) }
+    ensures amiss { (h : CommandHistory) → Agrees debugger.old h →
+        IfOk result (λ amiss. amiss ≡ output.is_amiss ((debugger_of (steered_by debugger.old)).verdict h timed.now)) }
+    ensures lines { (h : CommandHistory) → Agrees debugger.old h → OnOk result (text.new.items ≡ text.old.items
+        ++ command_lines (debugger_of (steered_by debugger.old)) (R.lines report.now (steered_by debugger.old)) h timed.now) }
 {
-    let (event, t) = *timed_event;
-    let mut ticks = Ticks::new();
-    let answer = resource.apply(event, t, &mut ticks);
-    report.append_answer(alloc, text, resource, *timed_event, answer)
+    let answer = obey(debugger, *timed);
+    begin_if_epoch(alloc, debugger, timed.0, answer)?;
+    report.append_answer(alloc, text, debugger, *timed, answer)?;
+    Ok(is_amiss(answer))
 }
 
 // Writes what waits, where it is long.
@@ -53,49 +123,54 @@ fn pass_on<W: Write>(text: &mut Vec<u8>, w: &mut W) -> Result<(), MonitorError>
     Ok(())
 }
 
-// The commands in turn, each with its lines; the last of these wait.
+// The commands in turn, each with its lines; the last of these wait. It answers whether something went amiss.
 fn play_commands<R: Report, W: Write>(
     alloc: Global,
     report: &R,
-    resource: &mut Resource,
-    timed_events: &[(Event, i64)],
+    debugger: &mut Debugger,
+    commands: &[(Command, i64)],
     text: &mut Vec<u8>,
     w: &mut W,
-) -> Result<(), MonitorError>
+) -> Result<bool, MonitorError>
     ensures faults { IfErr result IsOutputFault }
-    ensures plant { plant_of resource.new ≡ plant_of resource.old }
-    ensures agrees { (h : History) → Agrees resource.old h → HasPlayed resource.new h timed_events.now result }
-    ensures lines { (h : History) → Agrees resource.old h → PassesOn (W.contents w.old) (W.contents w.new)
-        (text.old.items ++ commands_lines (resource_of (plant_of resource.old)) (R.lines report.now (plant_of resource.old)) h timed_events.now) text.new.items result }
+    ensures steered { steered_by debugger.new ≡ steered_by debugger.old }
+    ensures played { (h : CommandHistory) → Agrees debugger.old h → HasPlayed debugger.new h commands.now result }
+    ensures lines { (h : CommandHistory) → Agrees debugger.old h → PassesOn (W.contents w.old) (W.contents w.new)
+        (text.old.items ++ commands_lines (debugger_of (steered_by debugger.old)) (R.lines report.now (steered_by debugger.old)) h commands.now)
+        text.new.items result }
 {
-    let mut rest = timed_events;
-    'commands: while let Some((timed_event, after)) = rest.split_first() {
-        run_command(alloc, report, resource, timed_event, text)?;
+    let mut rest = commands;
+    let mut amiss = false;
+    'commands: while let Some((timed, after)) = rest.split_first() {
+        amiss = either(amiss, run_command(alloc, report, debugger, timed, text)?);
         pass_on(text, w)?;
         rest = after;
     }
-    Ok(())
+    Ok(amiss)
 }
 
-/// Runs the events on a resource, and writes what the report has of each and of how the resource stands at the end, many
-/// commands at a time.
+/// Gives the commands to a debugger, each at its raw instant in microseconds, and writes what the report has of each and of how the
+/// debugger stands at the end, many commands at a time. It answers whether something went amiss: a command was refused, or the scan
+/// of an instance ended with a fault or was passed over for one. At an accepted Epoch the debugger goes on from what it keeps of
+/// its commands, in memory that is given back.
 ///
 /// `Write` is answered where the writer failed or took no byte, `Memory` where memory was refused; then a front of the
 /// lines was written.
 pub fn play<R: Report, W: Write>(
     alloc: Global,
     report: &R,
-    resource: &mut Resource,
-    timed_events: &[(Event, i64)],
+    debugger: &mut Debugger,
+    commands: &[(Command, i64)],
     w: &mut W,
-) -> Result<(), MonitorError>
+) -> Result<bool, MonitorError>
     ensures faults { IfErr result IsOutputFault }
-    ensures lines { (h : History) → Agrees resource.old h →
-        Writes (W.contents w.old) (W.contents w.new) result (lines_of_play (resource_of (plant_of resource.old)) (R.lines report.now (plant_of resource.old)) h timed_events.now) }
+    ensures amiss { (h : CommandHistory) → Agrees debugger.old h → IfOk result (λ amiss. amiss ≡ any_amiss (steered_by debugger.old) h commands.now) }
+    ensures lines { (h : CommandHistory) → Agrees debugger.old h → Writes (W.contents w.old) (W.contents w.new) result
+        (lines_of_play (debugger_of (steered_by debugger.old)) (R.lines report.now (steered_by debugger.old)) h commands.now) }
 {
     let mut text = Vec::new(alloc);
-    play_commands(alloc, report, resource, timed_events, &mut text, w)?;
-    report.append_closing(alloc, &mut text, resource)?;
+    let amiss = play_commands(alloc, report, debugger, commands, &mut text, w)?;
+    report.append_closing(alloc, &mut text, debugger)?;
     put_all(w, &text)?;
-    Ok(())
+    Ok(amiss)
 }

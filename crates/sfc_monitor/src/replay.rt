@@ -1,6 +1,10 @@
 //! A chart and a script, from bytes to bytes.
 
-ghost use Rattle.sfc_monitor.specs.Replay.{Replays};
+ghost use Rattle.std.specs.Prelude.{◌≡◌, [], IfOk};
+ghost use Rattle.sfc_core.specs.Agreement as core;
+ghost use Rattle.sfc_debug.specs.Agreement.{Agrees};
+ghost use Rattle.sfc_output.specs.Steered.{steered_by};
+ghost use Rattle.sfc_monitor.specs.Replay.{Finds, Replays};
 
 use crate::chart::plant_of_text;
 use crate::input::read_to_end;
@@ -8,9 +12,47 @@ use crate::monitor_error::MonitorError;
 use crate::play::play;
 use crate::text::Text;
 use sfc_core::resource::Resource;
+use sfc_debug::break_condition::BreakCondition;
+use sfc_debug::debugger::Debugger;
+use sfc_debug::trace_mask::TraceMask;
 use sfc_script::script::read_script;
-use std::alloc::Global;
+use std::alloc::{AllocError, Global};
 use std::io::{Read, Write};
+
+// A debugger of the resource with these conditions, which keeps no row of its trace.
+fn debug(
+    alloc: Global,
+    resource: Resource,
+    conditions: Vec<BreakCondition>,
+) -> Result<Debugger, AllocError>
+    requires untold { core.Agrees resource [] }
+    ensures agrees { IfOk result (λ debugger. Agrees debugger []) }
+    ensures steered { IfOk result (λ debugger. steered_by debugger ≡ record { plant = core.plant_of resource; table = conditions.items }) }
+{
+    Debugger::with_conditions(alloc, resource, 1, TraceMask(0), conditions)
+}
+
+/// Plays a script on a chart as `replay` does, and answers whether something went amiss: a command was refused, or the scan of an
+/// instance ended with a fault or was passed over for one.
+#[tactic(none)]
+pub fn replay_strict<C: Read, S: Read, W: Write>(
+    alloc: Global,
+    chart: &mut C,
+    script: &mut S,
+    w: &mut W,
+) -> Result<bool, MonitorError>
+    ensures replays { Replays (C.remaining chart.old, C.remaining chart.new) (S.remaining script.old, S.remaining script.new)
+        (W.contents w.old, W.contents w.new) result }
+    ensures finds { Finds (C.remaining chart.old, C.remaining chart.new) (S.remaining script.old, S.remaining script.new) result }
+{
+    let text = read_to_end(alloc, chart)?;
+    let plant = plant_of_text(alloc, &text)?;
+    let resource = Resource::open(alloc, plant)?;
+    let bytes = read_to_end(alloc, script)?;
+    let said = read_script(alloc, &resource, &bytes)?;
+    let mut debugger = debug(alloc, resource, said.conditions)?;
+    play(alloc, &Text, &mut debugger, &said.commands, w)
+}
 
 /// Plays a script on a chart, and writes what each command answers and the variables at the end.
 ///
@@ -19,7 +61,6 @@ use std::io::{Read, Write};
 /// `Chart` is answered where the chart is refused, `Script` where the script is refused, `Read` where a reader failed:
 /// then nothing was written. `Write` is answered where the writer failed or took no byte, `Memory` where memory was
 /// refused: then a front of the output was written.
-#[tactic(none)]
 pub fn replay<C: Read, S: Read, W: Write>(
     alloc: Global,
     chart: &mut C,
@@ -29,10 +70,8 @@ pub fn replay<C: Read, S: Read, W: Write>(
     ensures { Replays (C.remaining chart.old, C.remaining chart.new) (S.remaining script.old, S.remaining script.new)
         (W.contents w.old, W.contents w.new) result }
 {
-    let text = read_to_end(alloc, chart)?;
-    let plant = plant_of_text(alloc, &text)?;
-    let mut resource = Resource::open(alloc, plant)?;
-    let commands = read_to_end(alloc, script)?;
-    let timed_events = read_script(alloc, resource.plant(), &commands)?;
-    play(alloc, &Text, &mut resource, &timed_events, w)
+    match replay_strict(alloc, chart, script, w) {
+        Ok(_) => Ok(()),
+        Err(error) => Err(error),
+    }
 }

@@ -3,15 +3,20 @@
 ghost use Rattle.std.specs.Prelude.{◌≡◌, ◌<◌, ◌++◌, length, OnOk};
 ghost use Rattle.sfc_image.specs.Values.{variable_count};
 ghost use Rattle.sfc_events.specs.History.{History};
-ghost use Rattle.sfc_core.specs.Agreement.{Agrees, plant_of};
+ghost use Rattle.sfc_core.specs.Agreement as core;
 ghost use Rattle.sfc_core.specs.PlantState.{state_of};
+ghost use Rattle.sfc_debug.specs.Agreement.{Agrees};
+ghost use Rattle.sfc_debug.specs.Histories.{CommandHistory};
+ghost use Rattle.sfc_debug.specs.States as debug;
 ghost use Rattle.sfc_output.specs.Commands.{answer_lines, program_lines, written_line};
-ghost use Rattle.sfc_monitor.specs.Output.{image_lines, variable_line};
+ghost use Rattle.sfc_output.specs.Steered.{steered_by};
+ghost use Rattle.sfc_monitor.specs.Output.{debugger_of, image_lines, plant_state, variable_line};
 
 use crate::report::Report;
 use sfc_base::ids::{ProgId, VarId};
 use sfc_core::resource::Resource;
-use sfc_events::event::{Event, Outcome};
+use sfc_debug::debugger::Debugger;
+use sfc_events::command::{Answer, Command};
 use sfc_events::refusal::Refusal;
 use sfc_instance::scan_end::ScanEnd;
 use sfc_output::command::{append_command, append_refusal, scan_end_in};
@@ -26,9 +31,9 @@ fn append_written(
     instance: ProgId,
     scan_end: Option<ScanEnd>,
 ) -> Result<(), AllocError>
-    requires { instance.0 < length (plant_of resource.now).instances }
-    ensures { (h : History) → Agrees resource.now h → OnOk result (out.new.items ≡
-        out.old.items ++ written_line (plant_of resource.now) (state_of (plant_of resource.now) h).instance_state instance.0 scan_end) }
+    requires { instance.0 < length (core.plant_of resource.now).instances }
+    ensures { (h : History) → core.Agrees resource.now h → OnOk result (out.new.items ≡
+        out.old.items ++ written_line (core.plant_of resource.now) (state_of (core.plant_of resource.now) h).instance_state instance.0 scan_end) }
 {
     let Some(scan_end) = scan_end else {
         return Ok(());
@@ -40,43 +45,45 @@ fn append_written(
 fn append_programs(
     out: &mut Vec<u8>,
     resource: &Resource,
-    outcome: Outcome,
+    answer: Answer,
 ) -> Result<(), AllocError>
-    ensures { (h : History) → Agrees resource.now h → OnOk result (out.new.items ≡
-        out.old.items ++ program_lines (plant_of resource.now) (state_of (plant_of resource.now) h).instance_state outcome) }
+    ensures { (h : History) → core.Agrees resource.now h → OnOk result (out.new.items ≡
+        out.old.items ++ program_lines (core.plant_of resource.now) (state_of (core.plant_of resource.now) h).instance_state answer) }
 {
     for k in 0..resource.plant().instances().len() {
-        let scan_end = scan_end_in(outcome, k as u32);
+        let scan_end = scan_end_in(answer, k as u32);
         append_written(out, resource, ProgId(k as u8), scan_end)?;
     }
     Ok(())
 }
 
-// The lines of a command that was answered so; the resource has seen it.
+// The lines of a command that was answered so; the debugger has seen it.
 fn append_answer(
     alloc: Global,
     out: &mut Vec<u8>,
-    resource: &Resource,
-    timed_event: (Event, i64),
-    answer: Result<Outcome, Refusal>,
+    debugger: &Debugger,
+    command: Command,
+    answer: Result<Answer, Refusal>,
 ) -> Result<(), AllocError>
-    ensures { (h : History) → Agrees resource.now h → OnOk result (out.new.items ≡
-        out.old.items ++ answer_lines (plant_of resource.now) (state_of (plant_of resource.now) h).instance_state timed_event.0 timed_event.1 answer) }
+    ensures { (h : CommandHistory) → Agrees debugger.now h → OnOk result (out.new.items ≡ out.old.items
+        ++ answer_lines (steered_by debugger.now)
+        (plant_state (steered_by debugger.now) ((debugger_of (steered_by debugger.now)).state h)).instance_state
+        command ((debugger_of (steered_by debugger.now)).state h).clock.instant answer) }
 {
     match answer {
-        Err(refusal) => append_refusal(alloc, out, resource.plant(), refusal),
-        Ok(outcome) => {
-            append_command(out, resource.plant(), timed_event, outcome)?;
-            append_programs(out, resource, outcome)
+        Err(refusal) => append_refusal(alloc, out, debugger.resource().plant(), refusal),
+        Ok(answer) => {
+            append_command(out, debugger, command, debugger.run_instant(), answer)?;
+            append_programs(out, debugger.resource(), answer)
         }
     }
 }
 
 // The line of a variable.
 fn append_numbered(out: &mut Vec<u8>, resource: &Resource, id: VarId) -> Result<(), AllocError>
-    requires { id.0 < variable_count (plant_of resource.now) }
-    ensures { (h : History) → Agrees resource.now h → OnOk result (out.new.items ≡
-        out.old.items ++ variable_line (plant_of resource.now) (state_of (plant_of resource.now) h) id.0) }
+    requires { id.0 < variable_count (core.plant_of resource.now) }
+    ensures { (h : History) → core.Agrees resource.now h → OnOk result (out.new.items ≡
+        out.old.items ++ variable_line (core.plant_of resource.now) (state_of (core.plant_of resource.now) h) id.0) }
 {
     let read = (resource.value(id), resource.forced(id));
     append_variable(out, resource.plant(), id, read)
@@ -84,8 +91,8 @@ fn append_numbered(out: &mut Vec<u8>, resource: &Resource, id: VarId) -> Result<
 
 // A line for each variable, in the order of the image.
 fn append_image(out: &mut Vec<u8>, resource: &Resource) -> Result<(), AllocError>
-    ensures { (h : History) → Agrees resource.now h → OnOk result (out.new.items ≡
-        out.old.items ++ image_lines (plant_of resource.now) (state_of (plant_of resource.now) h)) }
+    ensures { (h : History) → core.Agrees resource.now h → OnOk result (out.new.items ≡
+        out.old.items ++ image_lines (core.plant_of resource.now) (state_of (core.plant_of resource.now) h)) }
 {
     for v in 0..resource.variables() {
         append_numbered(out, resource, VarId(v as u16))?;
@@ -106,19 +113,19 @@ impl Report for Text {
         &self,
         alloc: Global,
         out: &mut Vec<u8>,
-        resource: &Resource,
-        timed_event: (Event, i64),
-        answer: Result<Outcome, Refusal>,
+        debugger: &Debugger,
+        timed: (Command, i64),
+        answer: Result<Answer, Refusal>,
     ) -> Result<(), AllocError> {
-        append_answer(alloc, out, resource, timed_event, answer)
+        append_answer(alloc, out, debugger, timed.0, answer)
     }
 
     fn append_closing(
         &self,
         _alloc: Global,
         out: &mut Vec<u8>,
-        resource: &Resource,
+        debugger: &Debugger,
     ) -> Result<(), AllocError> {
-        append_image(out, resource)
+        append_image(out, debugger.resource())
     }
 }

@@ -6,6 +6,8 @@ pub mod Lists
 pub mod Values
 -- names in commands, in programs and in the image
 pub mod Names
+-- what a debugger steers
+pub mod Steered
 -- the line of a program after a scan
 pub mod Programs
 -- the lines of commands and of their answers

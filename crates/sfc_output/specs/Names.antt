@@ -4,14 +4,12 @@ use Rattle.sfc_plant.specs.declared.association.Target.{Target}
 use Rattle.sfc_plant.specs.declared.association.Target.TheVariants.{Boolean, Declared}
 use Rattle.sfc_tables.specs.Tables.{Tabled}
 use Rattle.sfc_plant.specs.VariableNames.{names_of}
-use Rattle.sfc_plant.specs.declared.program_type.ProgramType.{ProgramType}
-use Rattle.sfc_plant.specs.Spaces.{Space, space_in}
+use Rattle.sfc_plant.specs.Spaces.{Space}
 use Rattle.sfc_base.specs.declared.ids.ProgId.{ProgId}
 use Rattle.sfc_base.specs.declared.ids.TaskId.{TaskId}
 use Rattle.sfc_base.specs.declared.ids.VarId.{VarId}
 use Rattle.sfc_plant.specs.declared.image_variable.ImageVariable.{ImageVariable}
 use Rattle.sfc_plant.specs.declared.image_variable.ImageVariable.TheVariants.{Global, Local}
-use Rattle.sfc_plant.specs.declared.instance.Instance.{Instance}
 use Rattle.sfc_plant.specs.Finding.{instance_locals}
 use Rattle.sfc_plant.specs.Image.{image_numbering}
 use Rattle.sfc_plant.specs.Plants.{PlantData}
@@ -36,22 +34,6 @@ abbrev pub image_name : PlantData → VarId → List ℕ
 image_name plant id = image_variable_name plant (slice_get (image_numbering plant) id.0)
 
 -- ---- in a program instance
-
--- the names of a program type that isn't there
-abbrev pub no_space : Space
-no_space = record { globals = []; locals = []; steps = []; actions = [] }
-
-abbrev pub space_among : PlantData → Option ProgramType → Space
-space_among plant None = no_space
-space_among plant (Some p) = space_in plant.globals p
-
-abbrev pub space_at : PlantData → Option Instance → Space
-space_at plant None = no_space
-space_at plant (Some instance) = space_among plant (slice_get plant.types instance.program.0)
-
--- the names in the program type of an instance
-abbrev pub space_of : PlantData → ProgId → Space
-space_of plant p = space_at plant (slice_get plant.instances p.0)
 
 -- a Boolean action has the name of its variable
 abbrev pub target_name : Space → Option Target → List ℕ

@@ -15,10 +15,11 @@ use Rattle.sfc_instance.specs.declared.scan_fault.ScanFault.{ScanFault}
 use Rattle.sfc_instance.specs.declared.scan_fault.ScanFault.TheVariants.{Expression, Control}
 use Rattle.sfc_instance.specs.Life.{InstanceState}
 use Rattle.sfc_plant.specs.Finding.{chart_of}
+use Rattle.sfc_plant.specs.InstanceSpaces.{space_of}
 use Rattle.sfc_instance.specs.Answers.{scan_count, is_step_active, step_elapsed, is_transition_cleared, is_action_executed}
 use Rattle.sfc_plant.specs.Names.{step_name}
 use Rattle.sfc_output.specs.Lists.{listed}
-use Rattle.sfc_output.specs.Names.{program_name, space_of, numbered_action}
+use Rattle.sfc_output.specs.Names.{program_name, numbered_action}
 use Rattle.sfc_output.specs.Values.{line_end}
 
 -- the texts of those of n places, from place k on, that are in a set

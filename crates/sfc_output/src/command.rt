@@ -1,89 +1,177 @@
 //! The lines of commands and of their answers.
 
-ghost use Rattle.std.specs.Prelude.{◌≡◌, ◌<◌, ◌++◌, OnOk};
+ghost use Rattle.std.specs.Prelude.{◌≡◌, ◌<◌, ◌++◌, length, OnOk};
+ghost use Rattle.sfc_events.specs.declared.command.Command.TheVariants.{BreakIf};
 ghost use Rattle.sfc_output.specs.Commands as output;
+ghost use Rattle.sfc_output.specs.Names.{image_name};
+ghost use Rattle.sfc_output.specs.Steered.{steered_by};
 
 use crate::append::{append, append_number, append_time, append_value};
+use crate::breakpoint::{append_condition, append_place};
 use crate::naming::{append_image_name, program_name, task_name};
-use sfc_base::ids::VarId;
+use sfc_base::ids::{ProgId, TaskId, VarId};
 use sfc_base::value::Value;
-use sfc_events::event::{Event, Outcome};
+use sfc_debug::debugger::Debugger;
+use sfc_events::command::{Answer, Command, CondId, Point, TraceRow};
 use sfc_events::refusal::Refusal;
 use sfc_instance::scan_end::ScanEnd;
 use sfc_plant::plant::Plant;
 use std::alloc::{AllocError, Global};
 
-// A variable and a value, behind a word.
+// A word, and a variable with a value.
 fn append_valued(
     out: &mut Vec<u8>,
     plant: &Plant,
+    word: &[u8],
     id: VarId,
     value: Value,
 ) -> Result<(), AllocError>
-    ensures { OnOk result (out.new.items ≡ out.old.items ++ output.valued_text plant.now id value) }
+    ensures { OnOk result (out.new.items ≡ out.old.items ++ word.now ++ output.valued_text plant.now id value) }
 {
+    append(out, word)?;
     append_image_name(out, plant, id)?;
     append(out, b" ")?;
     append_value(out, value)
 }
 
-// The words of a command.
-fn append_words(out: &mut Vec<u8>, plant: &Plant, event: Event) -> Result<(), AllocError>
-    ensures { OnOk result (out.new.items ≡ out.old.items ++ output.command_text plant.now event) }
+// A word, and a variable.
+fn append_variable_word(
+    out: &mut Vec<u8>,
+    plant: &Plant,
+    word: &[u8],
+    id: VarId,
+) -> Result<(), AllocError>
+    ensures { OnOk result (out.new.items ≡ out.old.items ++ word.now ++ image_name plant.now id) }
 {
-    match event {
-        Event::Scan(task) | Event::ForcedScan(task) => {
-            append(out, b" SCAN ")?;
-            append(out, task_name(plant, task))
-        }
-        Event::Input(id, value) => {
-            append(out, b" INPUT ")?;
-            append_valued(out, plant, id, value)
-        }
-        Event::Force(id, value) => {
-            append(out, b" FORCE ")?;
-            append_valued(out, plant, id, value)
-        }
-        Event::Release(id) => {
-            append(out, b" RELEASE ")?;
-            append_image_name(out, plant, id)
-        }
-        Event::Reset(p) => {
-            append(out, b" RESET ")?;
-            append(out, program_name(plant, p))
-        }
+    append(out, word)?;
+    append_image_name(out, plant, id)
+}
+
+// A word, and a name.
+fn append_named(out: &mut Vec<u8>, word: &[u8], name: &[u8]) -> Result<(), AllocError>
+    ensures { OnOk result (out.new.items ≡ out.old.items ++ word.now ++ name.now) }
+{
+    append(out, word)?;
+    append(out, name)
+}
+
+// A word, and a place of breakpoints.
+fn append_placed(
+    out: &mut Vec<u8>,
+    debugger: &Debugger,
+    word: &[u8],
+    program: ProgId,
+    point: Point,
+) -> Result<(), AllocError>
+    ensures { OnOk result (out.new.items ≡ out.old.items ++ word.now ++ output.place_text (steered_by debugger.now).plant program point) }
+{
+    append(out, word)?;
+    append_place(out, debugger.resource(), program, point)
+}
+
+// A breakpoint with its condition.
+fn append_conditional(
+    out: &mut Vec<u8>,
+    debugger: &Debugger,
+    program: ProgId,
+    point: Point,
+    id: CondId,
+) -> Result<(), AllocError>
+    ensures { OnOk result (out.new.items ≡ out.old.items ++ output.command_text (steered_by debugger.now) (BreakIf program point id)) }
+{
+    append_placed(out, debugger, b" BREAK ", program, point)?;
+    append(out, b" WHEN ")?;
+    append_condition(out, debugger, id)
+}
+
+// A single scan, and the time that it lets pass.
+fn append_single(
+    out: &mut Vec<u8>,
+    plant: &Plant,
+    task: TaskId,
+    delta: i64,
+) -> Result<(), AllocError>
+    ensures { OnOk result (out.new.items ≡ out.old.items ++ output.single_text plant.now task delta) }
+{
+    append_named(out, b" SINGLE ", task_name(plant, task))?;
+    append(out, b" ")?;
+    append_time(out, delta)
+}
+
+// The words of a command.
+fn append_words(out: &mut Vec<u8>, debugger: &Debugger, command: Command) -> Result<(), AllocError>
+    ensures { OnOk result (out.new.items ≡ out.old.items ++ output.command_text (steered_by debugger.now) command) }
+{
+    let plant = debugger.resource().plant();
+    match command {
+        Command::Scan(task) => append_named(out, b" SCAN ", task_name(plant, task)),
+        Command::Input(id, value) => append_valued(out, plant, b" INPUT ", id, value),
+        Command::Force(id, value) => append_valued(out, plant, b" FORCE ", id, value),
+        Command::Release(id) => append_variable_word(out, plant, b" RELEASE ", id),
+        Command::Reset(p) => append_named(out, b" RESET ", program_name(plant, p)),
+        Command::Read(id) => append_variable_word(out, plant, b" READ ", id),
+        Command::Break(p, point) => append_placed(out, debugger, b" BREAK ", p, point),
+        Command::BreakIf(p, point, id) => append_conditional(out, debugger, p, point, id),
+        Command::Unbreak(p, point) => append_placed(out, debugger, b" UNBREAK ", p, point),
+        Command::Stop => append(out, b" STOP"),
+        Command::Go => append(out, b" GO"),
+        Command::Single(task, delta) => append_single(out, plant, task, delta),
+        Command::End => append(out, b" END"),
+        Command::Epoch => append(out, b" EPOCH"),
     }
+}
+
+// Whether a breakpoint was hit.
+fn append_hit(out: &mut Vec<u8>, hit: bool) -> Result<(), AllocError>
+    ensures { OnOk result (out.new.items ≡ out.old.items ++ output.hit_text hit) }
+{
+    if hit { append(out, b" hit") } else { Ok(()) }
 }
 
 // What the answer adds.
-fn append_outcome(out: &mut Vec<u8>, outcome: Outcome) -> Result<(), AllocError>
-    ensures { OnOk result (out.new.items ≡ out.old.items ++ output.outcome_text outcome) }
+fn append_answer(out: &mut Vec<u8>, answer: Answer) -> Result<(), AllocError>
+    ensures { OnOk result (out.new.items ≡ out.old.items ++ output.answer_text answer) }
 {
-    match outcome {
-        Outcome::Done => Ok(()),
-        Outcome::Scanned { overruns, .. } => {
+    match answer {
+        Answer::Done => Ok(()),
+        Answer::Value(value) => {
+            append(out, b" ")?;
+            append_value(out, value)
+        }
+        Answer::Scanned { overruns, hit, .. } => {
             append(out, b" overruns ")?;
-            append_number(out, overruns)
+            append_number(out, overruns)?;
+            append_hit(out, hit)
         }
     }
 }
 
-/// Puts the line of an accepted command at the end: its instant in microseconds, its words, and what its answer adds. The
+/// Puts the line of an accepted command at the end: its run instant in microseconds, its words, and what its answer adds. The
 /// one error is that memory was refused; then a front of it may stand there.
 #[tactic(auto, unfolding(crate::specs::Commands::command_line))]
 pub fn append_command(
     out: &mut Vec<u8>,
-    plant: &Plant,
-    timed_event: (Event, i64),
-    outcome: Outcome,
+    debugger: &Debugger,
+    command: Command,
+    t: i64,
+    answer: Answer,
 ) -> Result<(), AllocError>
-    ensures { OnOk result (out.new.items ≡ out.old.items ++ output.command_line plant.now timed_event.0 timed_event.1 outcome) }
+    ensures { OnOk result (out.new.items ≡ out.old.items ++ output.command_line (steered_by debugger.now) command t answer) }
 {
-    let (event, t) = timed_event;
     append_time(out, t)?;
-    append_words(out, plant, event)?;
-    append_outcome(out, outcome)?;
+    append_words(out, debugger, command)?;
+    append_answer(out, answer)?;
     append(out, b"\n")
+}
+
+/// Puts the line of a row of the trace at the end: its number, and the line of its command. The one error is that memory was
+/// refused; then a front of it may stand there.
+pub fn append_row(out: &mut Vec<u8>, debugger: &Debugger, row: TraceRow) -> Result<(), AllocError>
+    ensures { OnOk result (out.new.items ≡ out.old.items ++ output.row_line (steered_by debugger.now) row) }
+{
+    append_number(out, row.number)?;
+    append(out, b" ")?;
+    append_command(out, debugger, row.command, row.t, row.answer)
 }
 
 // What a refusal adds to its number and name.
@@ -122,16 +210,16 @@ pub fn append_refusal(
 }
 
 /// How the answer to a scan tells that the scan of instance k ended; `None` where it doesn't tell of it.
-pub fn scan_end_in(outcome: Outcome, k: u32) -> Option<ScanEnd>
+pub fn scan_end_in(answer: Answer, k: u32) -> Option<ScanEnd>
     requires { k < 64 }
-    ensures { result ≡ output.scan_end_in outcome k }
+    ensures { result ≡ output.scan_end_in answer k }
 {
-    let Outcome::Scanned {
+    let Answer::Scanned {
         ran,
         faulted,
         skipped,
         ..
-    } = outcome
+    } = answer
     else {
         return None;
     };

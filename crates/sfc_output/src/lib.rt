@@ -2,7 +2,8 @@
 //! format). The names, times and marks are those of IEC 61131-3:2003.
 //!
 //! - `append`: pieces of text, put at the end of a buffer.
-//! - `command`: the lines of commands and of their answers.
+//! - `breakpoint`: where breakpoints stand, and their conditions.
+//! - `command`: the lines of commands and of their answers; of rows of the trace.
 //! - `image_line`: the lines of the image.
 //! - `list`: lists in a line.
 //! - `naming`: names as they were declared.
@@ -10,6 +11,7 @@
 #![tactic(auto)]
 
 pub mod append;
+mod breakpoint;
 pub mod command;
 pub mod image_line;
 mod list;

@@ -1,6 +1,7 @@
 //! Names as they were declared (2.1.2).
 
 ghost use Rattle.std.specs.Prelude.{◌≡◌, ◌<◌, ◌++◌, length, OnOk, Some};
+ghost use Rattle.sfc_plant.specs.InstanceSpaces.{space_of};
 ghost use Rattle.sfc_output.specs.Names as naming;
 
 use crate::append::append;
@@ -56,7 +57,7 @@ pub fn append_image_name(out: &mut Vec<u8>, plant: &Plant, id: VarId) -> Result<
 /// The names in the program type of an instance of the plant.
 pub fn names_of(plant: &Plant, p: ProgId) -> Names<'_>
     requires { p.0 < length plant.now.instances }
-    ensures { result ≡ naming.space_of plant.now p }
+    ensures { result ≡ space_of plant.now p }
 {
     let instance = &plant.instances()[p.0 as usize];
     Names::new(plant.globals(), &plant.types()[instance.program.0])

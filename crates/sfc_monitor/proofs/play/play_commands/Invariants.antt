@@ -1,14 +1,15 @@
 use Rattle.std.proofs.Common.{◌≡◌, length}
-use Rattle.sfc_events.specs.History.{History}
-use Rattle.sfc_core.specs.Agreement.{Agrees, plant_of}
+use Rattle.sfc_debug.specs.Agreement.{Agrees}
+use Rattle.sfc_debug.specs.Histories.{CommandHistory}
+use Rattle.sfc_output.specs.Steered.{steered_by}
 use Rattle.sfc_monitor.proofs.Playing.{IsUnderWay}
 use Rattle.sfc_monitor.proofs.play.play_commands.Given as goal
 
 abbrev pub invariant-commands : goal.invariant-commands
 invariant-commands g l = record {
-  plant : plant_of l.resource ≡ plant_of l.initial.resource;
-  under_way : (h : History) → Agrees l.initial.resource h → IsUnderWay (g.R.Report.lines l.report) (plant_of l.initial.resource) (g.W.Write.contents l.initial.w)
-      (g.W.Write.contents l.w) l.initial.text.items l.text.items l.resource h l.timed_events l.rest;
+  steered : steered_by l.debugger ≡ steered_by l.initial.debugger;
+  under_way : (h : CommandHistory) → Agrees l.initial.debugger h → IsUnderWay (g.R.Report.lines l.report) (steered_by l.initial.debugger)
+      (g.W.Write.contents l.initial.w) (g.W.Write.contents l.w) l.initial.text.items l.text.items l.debugger l.amiss h l.commands l.rest;
 }
 
 abbrev pub decreases-commands : goal.decreases-commands

@@ -12,7 +12,7 @@ pub loop-k-preserved : goal.loop-k-preserved
 loop-k-preserved c h agrees =
     let plant = plant_of c.args.resource.now in
     let instance_state = (state_of plant h).instance_state in
-    let line = λ (k : ℕ). written_line plant instance_state k (scan_end_in c.args.outcome k) in
+    let line = λ (k : ℕ). written_line plant instance_state k (scan_end_in c.args.answer k) in
     let n = length plant.instances in
     let k = c.loop-k.k in
     let out = c.loop-k.out.items in

@@ -10,5 +10,5 @@ abbrev pub invariant-loop-k : goal.invariant-loop-k
 invariant-loop-k l = (h : History) → Agrees l.resource h →
     let plant = plant_of l.resource in
     let n = length plant.instances in
-    let line = λ (k : ℕ). written_line plant (state_of plant h).instance_state k (scan_end_in l.outcome k) in
+    let line = λ (k : ℕ). written_line plant (state_of plant h).instance_state k (scan_end_in l.answer k) in
     l.initial.out.items ++ flat_map line (range_with_len 0 n) ≡ l.out.items ++ flat_map line (range_with_len l.k (n - l.k))

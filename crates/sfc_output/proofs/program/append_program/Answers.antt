@@ -6,7 +6,8 @@ use Rattle.sfc_plant.specs.Plants.{PlantData}
 use Rattle.sfc_plant.specs.Spaces.{Space}
 use Rattle.sfc_plant.specs.Finding.{chart_of}
 use Rattle.sfc_instance.specs.Views.{plant_in, instance_in}
-use Rattle.sfc_output.specs.Names.{program_name, space_of}
+use Rattle.sfc_plant.specs.InstanceSpaces.{space_of}
+use Rattle.sfc_output.specs.Names.{program_name}
 use Rattle.sfc_output.specs.Programs.{end_text, program_line}
 use Rattle.sfc_output.specs.Values.{line_end}
 use Rattle.sfc_output.proofs.Appended.{two_appended}

@@ -1,0 +1,128 @@
+//! Where breakpoints stand, and their conditions.
+
+ghost use Rattle.std.specs.Prelude.{◌≡◌, ◌<◌, ◌++◌, length, slice_get, OnOk};
+ghost use Rattle.sfc_plant.specs.InstanceSpaces.{space_of};
+ghost use Rattle.sfc_core.specs.Agreement as core;
+ghost use Rattle.sfc_expr.specs.Trees.{expression_of};
+ghost use Rattle.sfc_instance.specs.Views.{plant_in, instance_in, tables_in};
+ghost use Rattle.sfc_list.specs.Expressions.{expression_text};
+ghost use Rattle.sfc_output.specs.Commands as output;
+ghost use Rattle.sfc_output.specs.Names.{numbered_action};
+ghost use Rattle.sfc_output.specs.Steered.{steered_by};
+
+use crate::append::{append, append_number};
+use crate::naming::{names_of, program_name, target_name};
+use sfc_base::ids::{ActionNumber, ProgId};
+use sfc_core::resource::Resource;
+use sfc_debug::debugger::Debugger;
+use sfc_events::command::{CondId, Point};
+use sfc_expr::expr::Expr;
+use sfc_instance::program_view::ProgramView;
+use sfc_list::list_expr::list_expr;
+use sfc_plant::names::Names;
+use sfc_plant::plant::Plant;
+use sfc_tables::tables::Tables;
+use std::alloc::AllocError;
+
+// The name of the action with this number; nothing where the chart has none.
+fn action_name<'a>(names: &'a Names<'a>, tables: &Tables, action: ActionNumber) -> &'a [u8]
+    ensures { result.now ≡ numbered_action names.now tables.now action.0 }
+{
+    if action.0 < tables.actions() {
+        target_name(names, tables.target(action))
+    } else {
+        b""
+    }
+}
+
+// A point of the chart.
+fn append_point(
+    out: &mut Vec<u8>,
+    names: &Names<'_>,
+    tables: &Tables,
+    point: Point,
+) -> Result<(), AllocError>
+    ensures { OnOk result (out.new.items ≡ out.old.items ++ output.point_text names.now tables.now point) }
+{
+    match point {
+        Point::Step(step) => {
+            append(out, b" STEP ")?;
+            append(out, names.step(step))
+        }
+        Point::Transition(transition) => {
+            append(out, b" TRANSITION ")?;
+            append_number(out, u64::from(transition.0) + 1)
+        }
+        Point::Action(action) => {
+            append(out, b" ACTION ")?;
+            append(out, action_name(names, tables, action))
+        }
+    }
+}
+
+// A point of a program instance that is there.
+fn append_point_of(
+    out: &mut Vec<u8>,
+    resource: &Resource,
+    program: ProgId,
+    point: Point,
+) -> Result<(), AllocError>
+    ensures { OnOk result (out.new.items ≡ out.old.items ++
+        output.point_in (core.plant_of resource.now) program point (slice_get (core.plant_of resource.now).instances program.0)) }
+{
+    let plant = resource.plant();
+    if (program.0 as usize) >= plant.instances().len() {
+        return Ok(());
+    }
+    let view = resource.program(program);
+    append_point(out, &names_of(plant, program), view.tables(), point)
+}
+
+/// Puts at the end where a breakpoint stands: the name of the program instance, and the point of its chart. The one error is that
+/// memory was refused; then a front of it may stand there.
+pub fn append_place(
+    out: &mut Vec<u8>,
+    resource: &Resource,
+    program: ProgId,
+    point: Point,
+) -> Result<(), AllocError>
+    ensures { OnOk result (out.new.items ≡ out.old.items ++ output.place_text (core.plant_of resource.now) program point) }
+{
+    append(out, program_name(resource.plant(), program))?;
+    append_point_of(out, resource, program, point)
+}
+
+// An expression of a program instance.
+fn append_expression(
+    out: &mut Vec<u8>,
+    plant: &Plant,
+    program: ProgId,
+    expr: &Expr,
+) -> Result<(), AllocError>
+    requires { program.0 < length plant.now.instances }
+    ensures { OnOk result (out.new.items ≡ out.old.items ++
+        expression_text (space_of plant.now program) [] (expression_of expr.now)) }
+{
+    match list_expr(plant, program, expr, out) {
+        Ok(()) => Ok(()),
+        Err(_) => Err(AllocError),
+    }
+}
+
+/// Puts a condition of the debugger at the end, as the condition of a transition is listed; nothing where there is none. The one
+/// error is that memory was refused; then a front of it may stand there.
+pub fn append_condition(
+    out: &mut Vec<u8>,
+    debugger: &Debugger,
+    id: CondId,
+) -> Result<(), AllocError>
+    ensures { OnOk result (out.new.items ≡ out.old.items ++
+        output.condition_text (steered_by debugger.now).plant (slice_get (steered_by debugger.now).table id.0)) }
+{
+    let plant = debugger.resource().plant();
+    match debugger.condition(id) {
+        Some((program, expr)) if (program.0 as usize) < plant.instances().len() =>
+            append_expression(out, plant, program, expr),
+        _ => Ok(()),
+    }
+}
