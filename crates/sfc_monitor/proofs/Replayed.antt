@@ -1,5 +1,5 @@
 -- Where replay ends.
-use Rattle.std.proofs.Common.{◌≡◌, ℕ, Bool, List, [], Option, Some, None, Result, Ok, Err, refl, inl, inr, ⊤}
+use Rattle.std.proofs.Common.{◌≡◌, ℕ, Bool, List, [], Option, Some, None, Result, Ok, Err, refl, inl, inr}
 use Rattle.std.specs.Result.{IfErr, IfOk}
 use Rattle.std.specs.Io.KnownBytes.{Appends, Keeps}
 use Rattle.sfc_base.specs.Writing.{Writes, AppendsFront}
@@ -11,6 +11,7 @@ use Rattle.sfc_monitor.specs.declared.monitor_error.MonitorError.TheVariants.{Ch
 use Rattle.sfc_monitor.specs.MonitorErrors.{of_script}
 use Rattle.sfc_monitor.specs.Working.Faults.{IsInputFault, IsOutputFault}
 use Rattle.sfc_script.specs.Scripts.{ScriptData, ScriptReads}
+use Rattle.sfc_script.specs.Answers.{ReadsScript}
 use Rattle.sfc_monitor.specs.Output.{any_amiss, lines_of_play, debugger_of, text_of}
 use Rattle.sfc_monitor.specs.Reading.{Device, IsUntouched, TakesAtMost, LosesAtMost}
 use Rattle.sfc_load.specs.Accepted.{IsAccepted}
@@ -54,14 +55,9 @@ module _ (chart script w : Device) where
     script_unread Write h lost unwritten = absurd h
     script_unread Memory h lost unwritten = inl (inr ((text, taken, (plant, loaded)), lost), unwritten)
 
-    -- what reading the script answers
-    abbrev pub Refuses : List ℕ → ScriptError → Type 0
-    Refuses commands (script_error.Faulty n) = ScriptReads plant commands (Err n)
-    Refuses commands script_error.Memory = ⊤
-
     -- the script was taken, and has a faulty line
     pub script_stopped : (commands : List ℕ) (error : ScriptError) → TakesAtMost most script commands → LosesAtMost most script → IsUntouched w
-        → Refuses commands error → Replays chart script w {X = Bool} (Err (of_script error))
+        → ReadsScript plant commands (Err error) → Replays chart script w {X = Bool} (Err (of_script error))
     script_stopped commands (script_error.Faulty n) taken' lost unwritten said =
         ((text, taken, (commands, taken', record { plant = plant; loaded = loaded; parsed = said })), unwritten)
     script_stopped commands script_error.Memory taken' lost unwritten said = inl (inr ((text, taken, (plant, loaded)), lost), unwritten)
@@ -71,7 +67,7 @@ module _ (chart script w : Device) where
     debugger_stopped lost unwritten = inl (inr ((text, taken, (plant, loaded)), lost), unwritten)
 
     module _ (bytes : List ℕ) (taken' : TakesAtMost most script bytes) (said : ScriptData) (parsed : ScriptReads plant bytes (Ok said)) where
-      lines : List ℕ
+      abbrev lines : List ℕ
       lines = lines_of_play (debugger_of (played_on plant said)) (text_of (played_on plant said)) [] said.commands
 
       output : IsOutput text bytes lines

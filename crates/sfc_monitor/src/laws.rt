@@ -17,6 +17,7 @@ ghost use Rattle.sfc_core.specs.Verdict.{after_all};
 ghost use Rattle.sfc_monitor.specs.Replay.{IsOutput};
 
 use sfc_core::laws::types;
+use sfc_script::laws::one_script;
 use sfc_text::laws::one_reading;
 
 /// A chart and a script have one output.
@@ -24,6 +25,7 @@ pub fn one_output()
     ensures { (text script output other : List ℕ) → IsOutput text script output → IsOutput text script other → output ≡ other }
 {
     one_reading();
+    one_script();
 }
 
 /// The plant that a text is, where no check of loading fails, is typed: each variable begins with a value of its type, an

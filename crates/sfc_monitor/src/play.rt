@@ -31,9 +31,13 @@ fn is_amiss(answer: Result<Answer, Refusal>) -> bool
 {
     match answer {
         Err(_) => true,
-        Ok(Answer::Scanned {
-            faulted, skipped, ..
-        }) => faulted != 0 || skipped != 0,
+        Ok(
+            Answer::Scanned {
+                faulted,
+                skipped,
+                ..
+            },
+        ) => faulted != 0 || skipped != 0,
         Ok(Answer::Done | Answer::Value(_)) => false,
     }
 }

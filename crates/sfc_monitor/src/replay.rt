@@ -50,8 +50,9 @@ pub fn replay_strict<C: Read, S: Read, W: Write>(
     let resource = Resource::open(alloc, plant)?;
     let bytes = read_to_end(alloc, script)?;
     let said = read_script(alloc, &resource, &bytes)?;
-    let mut debugger = debug(alloc, resource, said.conditions)?;
-    play(alloc, &Text, &mut debugger, &said.commands, w)
+    let (commands, conditions) = said.into_parts();
+    let mut debugger = debug(alloc, resource, conditions)?;
+    play(alloc, &Text, &mut debugger, &commands, w)
 }
 
 /// Plays a script on a chart, and writes what each command answers and the variables at the end.

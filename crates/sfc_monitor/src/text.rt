@@ -42,11 +42,7 @@ fn append_written(
 }
 
 // A line for each instance that the answer tells of.
-fn append_programs(
-    out: &mut Vec<u8>,
-    resource: &Resource,
-    answer: Answer,
-) -> Result<(), AllocError>
+fn append_programs(out: &mut Vec<u8>, resource: &Resource, answer: Answer) -> Result<(), AllocError>
     ensures { (h : History) → core.Agrees resource.now h → OnOk result (out.new.items ≡
         out.old.items ++ program_lines (core.plant_of resource.now) (state_of (core.plant_of resource.now) h).instance_state answer) }
 {

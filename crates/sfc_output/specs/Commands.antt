@@ -29,7 +29,8 @@ use Rattle.sfc_events.specs.Refusals.{refusal_text}
 use Rattle.sfc_instance.specs.declared.scan_end.ScanEnd.{ScanEnd}
 use Rattle.sfc_instance.specs.declared.scan_end.ScanEnd.TheVariants.{Ran, Faulted, Skipped}
 use Rattle.sfc_instance.specs.Life.{InstanceState}
-use Rattle.sfc_debug.specs.declared.break_condition.BreakCondition.{BreakCondition}
+use Rattle.sfc_expr.specs.Trees.{Expression}
+use Rattle.sfc_debug.specs.Hits.{shown_condition}
 use Rattle.sfc_list.specs.Expressions.{expression_text}
 use Rattle.sfc_output.specs.Names.{task_name, program_name, image_name, numbered_action}
 use Rattle.sfc_output.specs.Programs.{program_line}
@@ -52,14 +53,15 @@ point_in plant p point (Some instance) = point_text (space_of plant p) (tables_o
 abbrev pub place_text : PlantData → ProgId → Point → List ℕ
 place_text plant p point = program_name plant p ++ point_in plant p point (slice_get plant.instances p.0)
 
--- a condition, as the condition of a transition of its program instance is listed
-abbrev pub condition_in : PlantData → BreakCondition → Option Instance → List ℕ
-condition_in plant entry None = []
-condition_in plant entry (Some instance) = expression_text (space_of plant entry.program) [] entry.condition
+-- an expression, as the condition of a transition of this program instance is listed
+abbrev pub expression_in : PlantData → ProgId → Expression → Option Instance → List ℕ
+expression_in plant p e None = []
+expression_in plant p e (Some instance) = expression_text (space_of plant p) [] e
 
-abbrev pub condition_text : PlantData → Option BreakCondition → List ℕ
+-- a condition of breakpoints: a program instance, and an expression in it
+abbrev pub condition_text : PlantData → Option (ProgId × Expression) → List ℕ
 condition_text plant None = []
-condition_text plant (Some entry) = condition_in plant entry (slice_get plant.instances entry.program.0)
+condition_text plant (Some c) = expression_in plant c.0 c.1 (slice_get plant.instances c.0.0)
 
 -- ---- commands
 
@@ -81,7 +83,8 @@ command_text steered (commands.Reset p) = codes " RESET " ++ program_name steere
 command_text steered (commands.Read id) = codes " READ " ++ image_name steered.plant id
 command_text steered (commands.Break p point) = codes " BREAK " ++ place_text steered.plant p point
 command_text steered (commands.BreakIf p point id) =
-    codes " BREAK " ++ place_text steered.plant p point ++ codes " WHEN " ++ condition_text steered.plant (slice_get steered.table id.0)
+    codes " BREAK " ++ place_text steered.plant p point ++ codes " WHEN "
+    ++ condition_text steered.plant (shown_condition (slice_get steered.table id.0))
 command_text steered (commands.Unbreak p point) = codes " UNBREAK " ++ place_text steered.plant p point
 command_text steered commands.Stop = codes " STOP"
 command_text steered commands.Go = codes " GO"

@@ -1,11 +1,9 @@
 //! Where breakpoints stand, and their conditions.
 
-ghost use Rattle.std.specs.Prelude.{◌≡◌, ◌<◌, ◌++◌, length, slice_get, OnOk};
-ghost use Rattle.sfc_plant.specs.InstanceSpaces.{space_of};
+ghost use Rattle.std.specs.Prelude.{◌≡◌, ◌++◌, slice_get, OnOk};
 ghost use Rattle.sfc_core.specs.Agreement as core;
 ghost use Rattle.sfc_expr.specs.Trees.{expression_of};
-ghost use Rattle.sfc_instance.specs.Views.{plant_in, instance_in, tables_in};
-ghost use Rattle.sfc_list.specs.Expressions.{expression_text};
+ghost use Rattle.sfc_debug.specs.Hits.{shown_condition};
 ghost use Rattle.sfc_output.specs.Commands as output;
 ghost use Rattle.sfc_output.specs.Names.{numbered_action};
 ghost use Rattle.sfc_output.specs.Steered.{steered_by};
@@ -92,17 +90,19 @@ pub fn append_place(
     append_point_of(out, resource, program, point)
 }
 
-// An expression of a program instance.
+// An expression of a program instance; nothing where that isn't there.
 fn append_expression(
     out: &mut Vec<u8>,
     plant: &Plant,
     program: ProgId,
     expr: &Expr,
 ) -> Result<(), AllocError>
-    requires { program.0 < length plant.now.instances }
     ensures { OnOk result (out.new.items ≡ out.old.items ++
-        expression_text (space_of plant.now program) [] (expression_of expr.now)) }
+        output.expression_in plant.now program (expression_of expr.now) (slice_get plant.now.instances program.0)) }
 {
+    if (program.0 as usize) >= plant.instances().len() {
+        return Ok(());
+    }
     match list_expr(plant, program, expr, out) {
         Ok(()) => Ok(()),
         Err(_) => Err(AllocError),
@@ -116,13 +116,11 @@ pub fn append_condition(
     debugger: &Debugger,
     id: CondId,
 ) -> Result<(), AllocError>
-    ensures { OnOk result (out.new.items ≡ out.old.items ++
-        output.condition_text (steered_by debugger.now).plant (slice_get (steered_by debugger.now).table id.0)) }
+    ensures { OnOk result (out.new.items ≡ out.old.items ++ output.condition_text (steered_by debugger.now).plant
+        (shown_condition (slice_get (steered_by debugger.now).table id.0))) }
 {
-    let plant = debugger.resource().plant();
     match debugger.condition(id) {
-        Some((program, expr)) if (program.0 as usize) < plant.instances().len() =>
-            append_expression(out, plant, program, expr),
-        _ => Ok(()),
+        None => Ok(()),
+        Some((program, expr)) => append_expression(out, debugger.resource().plant(), program, expr),
     }
 }

@@ -7,6 +7,7 @@ use Rattle.sfc_output.specs.Steered.{Steered, steered_by}
 use Rattle.sfc_monitor.specs.Output.{commands_lines, closing_lines, session_after, debugger_of}
 use Rattle.sfc_monitor.proofs.Playing.{front_before, with_closing}
 use Rattle.sfc_monitor.proofs.play.play.Goals as goal
+
 pub returns-in_err-amiss-clause-lines : goal.returns-in_err-amiss-clause-lines
 returns-in_err-amiss-clause-lines g c h agrees =
     let f = err_from_is_err_and c.from_residual.result c.from_residual.ensures.1 in
