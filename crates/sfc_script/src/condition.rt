@@ -49,7 +49,7 @@ pub fn read_condition(
     conditional: Conditional<'_>,
     number: usize,
 ) -> Result<Option<BreakCondition>, ScriptError>
-    ensures { adding.ReadsCondition plant.now conditions (as_conditional conditional) number result }
+    ensures { adding.ReadsCondition plant.now conditions (as_conditional conditional.entry) number result }
 {
     let expression = match read_expr(alloc, conditional.text) {
         Ok(expression) => expression,

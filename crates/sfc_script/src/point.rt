@@ -35,7 +35,6 @@ pub struct Place {
 }
 
 // The program type of this instance, if it is there.
-#[tactic(auto, using(crate::proofs::Charts::chart_there, crate::proofs::Charts::no_chart))]
 fn type_of_instance(plant: &Plant, program: ProgId) -> Option<&ProgramType>
     ensures chart { MatchOption result (finding.chart_of plant.now program ≡ finding.chart_in None)
         (λ program_type. finding.chart_of plant.now program ≡ program_type.now.chart) }
@@ -142,7 +141,6 @@ fn find_action(names: &Names<'_>, tables: &Tables, name: &[u8]) -> Option<usize>
 }
 
 // The first action of a program instance with this name; else a number that no chart has.
-#[tactic(auto, using(crate::proofs::Charts::no_action))]
 fn action_of(resource: &Resource, program: ProgId, name: &[u8]) -> ActionNumber
     ensures { result ≡ points.action_of (plant_of resource.now) program name.now }
 {

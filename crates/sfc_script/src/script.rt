@@ -106,7 +106,7 @@ impl Script {
         line: Line<'_>,
         number: usize,
     ) -> Result<(), ScriptError>
-        ensures { AddsLine (plant_of resource.now) (as_said line) number self.old self.new result }
+        ensures { AddsLine (plant_of resource.now) (as_said line.entry) number self.old self.new result }
     {
         match line {
             Line::Skipped => Ok(()),
