@@ -43,15 +43,15 @@ pub adds_breakpoint : (place : Place) (t z : ℤ) (condition : Option BreakCondi
     → new.conditions.items ≡ old.conditions.items ++ option_to_list condition → AddsCondition place t condition n old new (Ok tt)
 adds_breakpoint place t z condition n k old new here small same e f =
     subst (λ j. (text : List ℕ) → (first : ScriptData)
-        × (in_table j (record { place = place; text = text }) t (Some (option_to_list condition)) ≡ Some first)
-        × (script_data new ≡ joined (script_data old) first)) here
+    × (in_table j (record { place = place; text = text }) t (Some (option_to_list condition)) ≡ Some first)
+    × (script_data new ≡ joined (script_data old) first)) here
     (λ text.
-      let c : Conditional = record { place = place; text = text } in
-      let first : ScriptData = numbered k c t (option_to_list condition) in (
-        first,
-        ap (λ b. if b then Some first else None) (below k small),
-        behind old new first (e ∙ at_instant old.commands.items (BreakIf place.program place.point (record { 0 = k })) z t same) f,
-      ))
+    let c : Conditional = record { place = place; text = text } in
+    let first : ScriptData = numbered k c t (option_to_list condition) in (
+      first,
+      ap (λ b. if b then Some first else None) (below k small),
+      behind old new first (e ∙ at_instant old.commands.items (BreakIf place.program place.point (record { 0 = k })) z t same) f,
+    ))
 
 -- ---- lines
 

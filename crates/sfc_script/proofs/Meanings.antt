@@ -1,9 +1,9 @@
 -- A script says one thing.
-use Rattle.std.proofs.Common.{◌≡◌, ◌⊎◌, inl, inr, ℕ, suc, ◌+◌, nat_lt, Bool, true, false, MatchBool, List, [], ◌∷◌, length, Option, Some, None, Result, Ok, Err, refl, sym, ap, subst, ◌∙◌}
+use Rattle.std.proofs.Common.{◌≡◌, ℕ, suc, ◌+◌, nat_lt, Bool, true, false, MatchBool, List, [], ◌∷◌, length, Option, Some, None, Result, Ok, Err, refl, sym, ap, subst, ◌∙◌}
 use Rattle.sfc_base.specs.declared.ids.ProgId.{ProgId}
 use Rattle.sfc_plant.specs.Plants.{PlantData}
 use Rattle.sfc_tokens.specs.ReadErrors.{Read}
-use Rattle.sfc_text.specs.Reads.{ExpressionReads, AreOne}
+use Rattle.sfc_text.specs.Reads.{AreOne}
 use Rattle.sfc_text.specs.Trees.{Tree}
 use Rattle.sfc_text.specs.Grammar.{expression}
 use Rattle.sfc_text.proofs.Fine.{expression_fine}

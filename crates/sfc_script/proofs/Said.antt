@@ -5,7 +5,7 @@ use Rattle.sfc_script.specs.declared.script.Script.{Script}
 use Rattle.sfc_script.specs.declared.script.ScriptError.{ScriptError}
 use Rattle.sfc_script.specs.declared.script.ScriptError.TheVariants.{Faulty, Memory}
 use Rattle.sfc_script.specs.Answers.{Tells, script_data}
-use Rattle.sfc_script.specs.Commands.{Said, said_of}
+use Rattle.sfc_script.specs.Commands.{Said}
 use Rattle.sfc_script.specs.Lines.{lines_of}
 use Rattle.sfc_script.specs.Scripts.{ScriptData, nothing_said, joined, LineReads, and_then, Continues, LinesRead}
 use Rattle.sfc_script.specs.Private.Adding.{AddsLine}

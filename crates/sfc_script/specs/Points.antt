@@ -1,5 +1,5 @@
 -- The points of a chart at which a breakpoint may stand: a step, a transition or an action (our choice of format).
-use Rattle.std.specs.Prelude.{ℕ, suc, ◌-◌, ◌==◌, nat_lt, Bool, true, ◌&&◌, if◌then◌else◌, List, [], ◌∷◌, codes}
+use Rattle.std.specs.Prelude.{ℕ, suc, ◌-◌, nat_lt, Bool, true, ◌&&◌, if◌then◌else◌, List, [], ◌∷◌, codes}
 use Rattle.std.specs.Prelude.{Option, Some, None, option_map, option_and_then, unwrap_or}
 use Rattle.sfc_base.specs.Case.{same_word}
 use Rattle.sfc_base.specs.Classes.{between}

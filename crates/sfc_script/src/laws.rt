@@ -13,7 +13,8 @@ pub fn number_read()
 
 /// A script says one thing.
 pub fn one_script()
-    ensures { (plant : PlantData) (bytes : List ℕ) (a b : Result ScriptData ℕ) → ScriptReads plant bytes a → ScriptReads plant bytes b → a ≡ b }
+    ensures { (plant : PlantData) (bytes : List ℕ) (a b : Result ScriptData ℕ) → ScriptReads plant bytes a
+        → ScriptReads plant bytes b → a ≡ b }
 {}
 
 /// Each script says something: commands, or which of its lines is none.

@@ -46,8 +46,10 @@ Adds said n old new (Err error.Memory) = ⊤
 
 -- a breakpoint, with its condition or none
 abbrev pub AddsCondition : Place → ℤ → Option BreakCondition → ℕ → Script → Script → Result (Unit {0}) ScriptError → Type 0
-AddsCondition place t condition n old new result = (text : List ℕ) →
-    Adds (in_table (length old.conditions.items) (record { place = place; text = text }) t (Some (option_to_list condition))) n old new result
+AddsCondition place t condition n old new result =
+    (text : List ℕ) → Adds
+    (in_table (length old.conditions.items) (record { place = place; text = text }) t (Some (option_to_list condition)))
+    n old new result
 
 -- what a line says
 abbrev pub AddsLine : PlantData → Said → ℕ → Script → Script → Result (Unit {0}) ScriptError → Type 0
