@@ -1,5 +1,5 @@
 -- Tables of conditions that are made entry by entry.
-use Rattle.std.proofs.Common.{ℕ, ◌+◌, ◌≡◌, refl, List, [], ◌∷◌, ◌++◌, length, Result, Ok, Err, ap, ◌∙◌, sym, subst, append_assoc}
+use Rattle.std.proofs.Common.{◌+◌, ◌≡◌, refl, List, [], ◌∷◌, ◌++◌, length, Result, Ok, Err, ap, ◌∙◌, sym, subst, append_assoc}
 use Rattle.std.proofs.lemmas.List.{length_push}
 use Rattle.sfc_plant.specs.Plants.{PlantData}
 use Rattle.sfc_debug.specs.declared.break_condition.BreakCondition.{BreakCondition}

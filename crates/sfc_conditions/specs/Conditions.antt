@@ -3,7 +3,7 @@ use Rattle.std.specs.Prelude.{ℕ, ◌+◌, ◌≡◌, List, [], ◌∷◌, Opti
 use Rattle.sfc_base.specs.declared.ids.ProgId.{ProgId}
 use Rattle.sfc_base.specs.declared.var_type.VarType.TheVariants.{Bool}
 use Rattle.sfc_text.specs.declared.expression.Expression.{Expression}
-use Rattle.sfc_text.specs.Trees.{tree_of}
+use Rattle.sfc_text.specs.Trees.{Tree, tree_of}
 use Rattle.sfc_check.specs.declared.type_error.TypeError.{TypeError}
 use Rattle.sfc_check.specs.declared.type_error.TypeError.TheVariants as type_error
 use Rattle.sfc_check.specs.Checking.{checked}
@@ -37,10 +37,14 @@ condition_in None place condition = Err (UnknownProgram place)
 condition_in (Some instance) place condition = condition
 
 -- the condition that stands at this place: a BOOL expression, in which names are those of the conditions of the instance
+abbrev pub condition_of : PlantData → ℕ → ProgId → Tree → Result BreakCondition ConditionFault
+condition_of plant place p tree =
+    condition_in (slice_get plant.instances p.0) place
+    (condition_by p place (checked (names_in (space_of plant p) None) tree Bool))
+
+-- that of an entry
 abbrev pub condition_at : PlantData → ℕ → Entry → Result BreakCondition ConditionFault
-condition_at plant place entry =
-    condition_in (slice_get plant.instances entry.0.0) place
-    (condition_by entry.0 place (checked (names_in (space_of plant entry.0) None) (tree_of entry.1) Bool))
+condition_at plant place entry = condition_of plant place entry.0 (tree_of entry.1)
 
 -- one more before the others, or the first fault
 abbrev pub before : Result BreakCondition ConditionFault → Result (List BreakCondition) ConditionFault →

@@ -2,7 +2,9 @@
 
 ghost use Rattle.std.specs.Prelude.{◌≡◌};
 ghost use Rattle.sfc_check.specs.Checking.{checked};
-ghost use Rattle.sfc_conditions.specs.Conditions.{Gives, condition_at, conditions_from, with_place};
+ghost use Rattle.sfc_text.specs.Trees.{tree_of};
+ghost use Rattle.sfc_conditions.specs.Conditions as conditions;
+ghost use Rattle.sfc_conditions.specs.Conditions.{Gives, conditions_from, with_place};
 ghost use Rattle.sfc_conditions.specs.declared.condition_error.ConditionError.{ConditionError};
 
 use crate::condition_error::ConditionError;
@@ -27,22 +29,25 @@ fn wrong(place: usize, error: TypeError) -> ConditionError
     }
 }
 
-// The condition that stands at this place of the table.
-fn condition_of(
+/// The condition that an expression is: typed as the condition of a transition of this program instance is (2.6.3, 3.3), so that
+/// steps, locals and then globals of the instance have their names in it. `UnknownProgram` where the instance isn't one of the plant's
+/// and `Wrong` where it is no BOOL expression there are told with the place, which is that of an entry of a table; `Memory` where
+/// memory was refused.
+pub fn condition_of(
     alloc: Global,
     plant: &Plant,
     place: usize,
-    written: &(ProgId, Expression),
+    program: ProgId,
+    expression: &Expression,
 ) -> Result<BreakCondition, ConditionError>
-    ensures { Gives (λ condition. condition) result (condition_at plant.now place written.now) }
+    ensures { Gives (λ condition. condition) result (conditions.condition_of plant.now place program (tree_of expression.now)) }
 {
-    let (program, expression) = written;
     if program.0 as usize >= plant.instances().len() {
         return Err(ConditionError::UnknownProgram(place));
     }
-    match check(alloc, expression, &scope_of(plant, *program), VarType::Bool) {
+    match check(alloc, expression, &scope_of(plant, program), VarType::Bool) {
         Ok(expr) => Ok(BreakCondition {
-            program: *program,
+            program,
             condition: Condition::new(expr),
         }),
         Err(error) => Err(wrong(place, error)),
@@ -62,7 +67,8 @@ pub fn conditions_of(
     let mut table = Vec::with_capacity(alloc, written.len())?;
     let mut rest = written;
     'entries: while let Some((entry, after)) = rest.split_first() {
-        table.push(condition_of(alloc, plant, table.len(), entry)?)?;
+        let (program, expression) = entry;
+        table.push(condition_of(alloc, plant, table.len(), *program, expression)?)?;
         rest = after;
     }
     Ok(table)

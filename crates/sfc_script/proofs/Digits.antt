@@ -1,8 +1,7 @@
 -- Numbers by their digits.
 use Rattle.std.proofs.Common.{◌≡◌, ℕ, ◌+◌, ◌-◌, ◌*◌, ◌<◌, nat_le, ◌&&◌, if◌then◌else◌, Bool, true, false, List, [], ◌∷◌, Some, None, refl, sym, ap, ◌∙◌, arith}
 use Rattle.std.proofs.lemmas.Bool.Decides.{leb_tells}
-use Rattle.sfc_script.specs.Values.{digits_from, decimal_of}
-use Rattle.sfc_script.specs.Private.Reading.{limited}
+use Rattle.sfc_script.specs.Values.{digits_from, decimal_of, limited}
 
 -- a number over the limit stays over it
 grown : (limit n : ℕ) (digits : List ℕ) → limit < n → limited limit (digits_from n digits) ≡ None

@@ -1,17 +1,15 @@
--- The first line, by its instant and its event.
-use Rattle.std.proofs.Common.{◌≡◌, ℕ, ℤ, suc, ◌<◌, ◌==◌, true, false, ◌&&◌, if◌then◌else◌, List, [], ◌∷◌, ◌++◌, length, Option, Some, None, refl, sym, ap, subst, ◌∙◌, arith, length-append}
+-- The first line, by its instant and its command.
+use Rattle.std.proofs.Common.{◌≡◌, ℕ, ℤ, ◌<◌, ◌==◌, true, false, ◌&&◌, if◌then◌else◌, List, [], ◌∷◌, ◌++◌, length, Option, Some, None, refl, sym, ap, subst, ◌∙◌, arith, length-append}
 use Rattle.std.specs.Option.{option_map}
 use Rattle.std.proofs.lemmas.Bool.Decides.{nat_tests}
 use Rattle.sfc_tokens.specs.Lexing.DurationWords.{duration_value}
 use Rattle.sfc_plant.specs.Plants.{PlantData}
-use Rattle.sfc_events.specs.declared.event.Event.{Event}
+use Rattle.sfc_events.specs.declared.command.Command.{Command}
 use Rattle.sfc_script.specs.declared.repeated.Repeated.{Repeated}
-use Rattle.sfc_script.specs.declared.command.Line.TheVariants.{Skipped, Command, Faulty}
 use Rattle.sfc_script.specs.Lines.{in_line, begins_with_lf, lines_of, is_blank, split_before, first_word}
-use Rattle.sfc_script.specs.Commands.{timed, read_event, line_behind, line_of}
-use Rattle.sfc_script.specs.Scripts.{and_then, commands_of_lines}
+use Rattle.sfc_script.specs.Commands.{Nothing, Plain, command_of, conditional_of, said_by, said_at, said_behind, said_of}
 use Rattle.sfc_script.specs.Private.Splitting.{begins_with_blank}
-use Rattle.sfc_script.specs.Private.Repeating.{event_first, Repeats, IsLast, Begins}
+use Rattle.sfc_script.specs.Private.Repeating.{command_first, Repeats, IsLast, Begins}
 use Rattle.sfc_script.proofs.Splits.{split_more, split_stop}
 use Rattle.sfc_script.proofs.PlainInstants.{IsPlain, ArePlain, IsInstant}
 
@@ -60,12 +58,12 @@ blank_line (b ∷ bytes) blank = by (lines_of bytes) refl
 
 -- the line that an instant and what stands behind it are
 timed_line : (plant : PlantData) (first : ℕ) (word text : List ℕ) (t : ℤ) → IsPlain first → ArePlain word → duration_value (first ∷ word) ≡ Some t → begins_with_blank text ≡ true
-    → line_of plant (first ∷ (word ++ text)) ≡ timed (Some t) (read_event plant text)
+    → said_of plant (first ∷ (word ++ text)) ≡ said_at plant (Some t) text
 timed_line plant first word text t plain others value blank =
-    ap (λ s. line_behind plant (if s then first_word (word ++ text) else Some (split_before is_blank (first ∷ (word ++ text))))) plain.blank
-    ∙ ap (λ s. line_behind plant (Some s)) (word_split (first ∷ word) text (plain, others) blank)
-    ∙ ap (λ s. if s then Skipped else timed (duration_value (first ∷ word)) (read_event plant text)) plain.comment
-    ∙ ap (λ o. timed o (read_event plant text)) value
+    ap (λ s. said_behind plant (if s then first_word (word ++ text) else Some (split_before is_blank (first ∷ (word ++ text))))) plain.blank
+    ∙ ap (λ s. said_behind plant (Some s)) (word_split (first ∷ word) text (plain, others) blank)
+    ∙ ap (λ s. if s then Nothing else said_at plant (duration_value (first ∷ word)) text) plain.comment
+    ∙ ap (λ o. said_at plant o text) value
 
 -- the line that begins with an instant
 record Timed (plant : PlantData) (bytes : List ℕ) (t : ℤ) (behind : List ℕ) : Type 0 where
@@ -74,7 +72,7 @@ record Timed (plant : PlantData) (bytes : List ℕ) (t : ℤ) (behind : List ℕ
   others : List (List ℕ)
   first : lines_of bytes ≡ line ∷ others
   behind_first : lines_of behind ≡ text ∷ others
-  is : line_of plant line ≡ timed (Some t) (read_event plant text)
+  is : said_of plant line ≡ said_at plant (Some t) text
 
 timed_is : (plant : PlantData) (bytes : List ℕ) (t : ℤ) (behind : List ℕ) → IsInstant bytes t behind → Timed plant bytes t behind
 timed_is plant bytes t behind i =
@@ -88,49 +86,41 @@ timed_is plant bytes t behind i =
       is = timed_line plant i.first i.word b.text t i.first_plain i.plain i.value b.blank;
     }
 
--- the event behind an instant
-event_by : (o : Option Event) (event : Event) (others lines : List (List ℕ)) → option_map {U = Event × List (List ℕ)} (λ e. (e, others)) o ≡ Some (event, lines) → (o ≡ Some event) × (others ≡ lines)
-event_by None event others lines e = absurd cc
-event_by (Some x) event others lines e = let same : ◌≡◌ {A = Event × List (List ℕ)} (x, others) (event, lines) = cc in (ap (λ p. Some p.0) same, ap (λ p. p.1) same)
+-- the command behind an instant
+command_by : (o : Option Command) (command : Command) (others lines : List (List ℕ)) → option_map {U = Command × List (List ℕ)} (λ c. (c, others)) o ≡ Some (command, lines) → (o ≡ Some command) × (others ≡ lines)
+command_by None command others lines e = absurd cc
+command_by (Some x) command others lines e = let same : ◌≡◌ {A = Command × List (List ℕ)} (x, others) (command, lines) = cc in (ap (λ p. Some p.0) same, ap (λ p. p.1) same)
 
-no_event_by : (o : Option Event) (others : List (List ℕ)) → option_map {U = Event × List (List ℕ)} (λ e. (e, others)) o ≡ None → o ≡ None
-no_event_by None others e = refl
-no_event_by (Some x) others e = absurd cc
-
-pub command_first : (plant : PlantData) (bytes : List ℕ) (t : ℤ) (behind : List ℕ) (event : Event) (rest : List ℕ) → IsInstant bytes t behind → event_first plant (lines_of behind) ≡ Some (event, lines_of rest) → Begins plant bytes (Command event t) rest
-command_first plant bytes t behind event rest i e =
+pub plain_first : (plant : PlantData) (bytes : List ℕ) (t : ℤ) (behind : List ℕ) (command : Command) (rest : List ℕ) → IsInstant bytes t behind → command_first plant (lines_of behind) ≡ Some (command, lines_of rest) → Begins plant bytes (Plain command t) rest
+plain_first plant bytes t behind command rest i e =
     let l = timed_is plant bytes t behind i in
-    let o = event_by (read_event plant l.text) event l.others (lines_of rest) (sym (ap (event_first plant) l.behind_first) ∙ e) in
-    λ n. ap (commands_of_lines plant n) l.first
-    ∙ ap (λ s. and_then s n (commands_of_lines plant (suc n) l.others)) (l.is ∙ ap (timed (Some t)) o.0)
-    ∙ ap (λ ls. and_then (Command event t) n (commands_of_lines plant (suc n) ls)) o.1
-
-pub faulty_first : (plant : PlantData) (bytes : List ℕ) (t : ℤ) (behind rest : List ℕ) → IsInstant bytes t behind → event_first plant (lines_of behind) ≡ None → Begins plant bytes Faulty rest
-faulty_first plant bytes t behind rest i e =
-    let l = timed_is plant bytes t behind i in
-    let o = no_event_by (read_event plant l.text) l.others (sym (ap (event_first plant) l.behind_first) ∙ e) in
-    λ n. ap (commands_of_lines plant n) l.first ∙ ap (λ s. and_then s n (commands_of_lines plant (suc n) l.others)) (l.is ∙ ap (timed (Some t)) o)
+    let o = command_by (command_of plant l.text) command l.others (lines_of rest) (sym (ap (command_first plant) l.behind_first) ∙ e) in
+    record {
+      line = l.line;
+      lines = l.first ∙ ap (λ lines. l.line ∷ lines) o.1;
+      is = l.is ∙ ap (λ c. said_by c (conditional_of plant l.text) t) o.0;
+    }
 
 -- ---- what is said again
 
 -- what is kept is not nothing
-last_some : (plant : PlantData) (event : Event) → Repeats plant [] event → ⊥
-last_some plant event repeats = let none : ◌≡◌ {A = Option (Event × List (List ℕ))} None (Some (event, [])) = repeats [] in cc
+last_some : (plant : PlantData) (command : Command) → Repeats plant [] command → ⊥
+last_some plant command repeats = let none : ◌≡◌ {A = Option (Command × List (List ℕ))} None (Some (command, [])) = repeats [] in cc
 
--- where the bytes begin with what is kept, the event is the kept one
-pub event_again : (plant : PlantData) (last : Option Repeated) (r : Repeated) (behind rest : List ℕ) → last ≡ Some r → IsLast plant last → behind ≡ r.tail.now ++ rest → event_first plant (lines_of behind) ≡ Some (r.event, lines_of rest)
-event_again plant None r behind rest e is_last split = absurd cc
-event_again plant (Some x) r behind rest e is_last split =
+-- where the bytes begin with what is kept, the command is the kept one
+pub command_again : (plant : PlantData) (last : Option Repeated) (r : Repeated) (behind rest : List ℕ) → last ≡ Some r → IsLast plant last → behind ≡ r.tail.now ++ rest → command_first plant (lines_of behind) ≡ Some (r.command, lines_of rest)
+command_again plant None r behind rest e is_last split = absurd cc
+command_again plant (Some x) r behind rest e is_last split =
     let same : x ≡ r = cc in
-    ap (λ (b : List ℕ). event_first plant (lines_of b)) split ∙ subst (λ (y : Repeated). Repeats plant y.tail.now y.event) same is_last rest
+    ap (λ (b : List ℕ). command_first plant (lines_of b)) split ∙ subst (λ (y : Repeated). Repeats plant y.tail.now y.command) same is_last rest
 
 -- and what follows is shorter
 pub rest_shorter : (plant : PlantData) (last : Option Repeated) (r : Repeated) (behind rest : List ℕ) → last ≡ Some r → IsLast plant last → behind ≡ r.tail.now ++ rest → length rest < length behind
 rest_shorter plant None r behind rest e is_last split = absurd cc
 rest_shorter plant (Some x) r behind rest e is_last split =
     let same : x ≡ r = cc in
-    by r.tail.now (subst (λ (y : Repeated). Repeats plant y.tail.now y.event) same is_last) split
+    by r.tail.now (subst (λ (y : Repeated). Repeats plant y.tail.now y.command) same is_last) split
   where
-    by : (tail : List ℕ) → Repeats plant tail r.event → behind ≡ tail ++ rest → length rest < length behind
-    by [] repeats is = absurd (last_some plant r.event repeats)
+    by : (tail : List ℕ) → Repeats plant tail r.command → behind ≡ tail ++ rest → length rest < length behind
+    by [] repeats is = absurd (last_some plant r.command repeats)
     by (b ∷ tail) repeats is = rw is (omega (arith, length-append tail rest))

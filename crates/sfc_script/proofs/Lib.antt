@@ -1,6 +1,12 @@
+pub mod Actions
+pub mod Adding
+pub mod Charts
+pub mod Conditions
 pub mod Decimals
 pub mod Digits
 pub mod FirstLines
+pub mod Meanings
+pub mod Places
 pub mod PlainInstants
 pub mod Said
 pub mod Splits

@@ -6,7 +6,9 @@ pub mod Lines
 pub mod Values
 -- what a word in a name's place stands for
 pub mod Names
--- the commands: a keyword, and what stands behind it
+-- the points of a chart at which a breakpoint may stand
+pub mod Points
+-- the commands: a keyword, and what stands behind it; what a line says
 pub mod Commands
 -- whole scripts
 pub mod Scripts

@@ -1,5 +1,5 @@
 -- Decimal numbers, and the values that words are (our choice of format).
-use Rattle.std.specs.Prelude.{ℕ, ◌+◌, ◌-◌, ◌*◌, ◌==◌, if◌then◌else◌, List, [], ◌∷◌, codes, true, false}
+use Rattle.std.specs.Prelude.{ℕ, ◌+◌, ◌-◌, ◌*◌, ◌==◌, nat_le, if◌then◌else◌, List, [], ◌∷◌, codes, true, false}
 use Rattle.std.specs.Prelude.{ℤ, pos, neg_ℤ, Option, Some, None, option_map, option_and_then}
 use Rattle.std.specs.Option.{option_or}
 use Rattle.std.specs.Ordering.{int_eq}
@@ -23,6 +23,10 @@ digits_from n (b ∷ digits) = if between 48 57 b then digits_from (n * 10 + (b 
 abbrev pub decimal_of : List ℕ → Option ℕ
 decimal_of [] = None
 decimal_of (b ∷ digits) = digits_from 0 (b ∷ digits)
+
+-- the number, if it is not over the limit
+abbrev pub limited : ℕ → Option ℕ → Option ℕ
+limited limit o = option_and_then (λ n. if nat_le n limit then Some n else None) o
 
 -- decimal digits with a minus or without; 45 is the minus, and `-0` is 0
 abbrev pub number_of : List ℕ → Option ℤ

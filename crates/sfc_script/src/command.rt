@@ -1,27 +1,27 @@
-//! The commands of a script, by their lines.
+//! The commands of a script: a keyword, and what stands behind it on its line.
 
-ghost use Rattle.std.specs.Prelude.{◌≡◌};
+ghost use Rattle.std.specs.Prelude.{◌≡◌, MatchOption, Some, None};
+ghost use Rattle.sfc_core.specs.Agreement.{plant_of};
 ghost use Rattle.sfc_script.specs.Commands as commands;
+ghost use Rattle.sfc_script.specs.Private.Reading.{as_conditional};
 
 use crate::names::{program_of, task_of, type_of, variable_of};
+use crate::point::{Place, first_place, only_place};
 use crate::split::{first_word, only_word, two_words};
 use crate::value::value_of_word;
 use sfc_base::case::is_same_word;
 use sfc_base::ids::VarId;
 use sfc_base::value::Value;
-use sfc_events::event::Event;
+use sfc_core::resource::Resource;
+use sfc_events::command::Command;
 use sfc_plant::plant::Plant;
 use sfc_tokens::duration::duration;
 
-/// What a line of a script is.
-#[derive(Clone, Copy, Debug, PartialEq, Eq)]
-pub enum Line {
-    /// It has no words, or begins with a semicolon.
-    Skipped,
-    /// An event, and its instant in microseconds.
-    Command(Event, i64),
-    /// It is no command.
-    Faulty,
+/// A breakpoint with a condition, whose text is not read yet.
+#[derive(Clone, Copy)]
+pub struct Conditional<'a> {
+    pub place: Place,
+    pub text: &'a [u8],
 }
 
 // A variable and a value, which are the words of the text.
@@ -35,49 +35,127 @@ fn assigned(plant: &Plant, rest: &[u8]) -> Option<(VarId, Value)>
 }
 
 // SCAN task
-fn scan(plant: &Plant, rest: &[u8]) -> Option<Event>
+fn scan(plant: &Plant, rest: &[u8]) -> Option<Command>
     ensures { result ≡ commands.scan_of plant.now rest.now }
 {
     let name = only_word(rest)?;
-    Some(Event::Scan(task_of(plant, name)))
+    Some(Command::Scan(task_of(plant, name)))
 }
 
 // INPUT variable value
-fn input(plant: &Plant, rest: &[u8]) -> Option<Event>
+fn input(plant: &Plant, rest: &[u8]) -> Option<Command>
     ensures { result ≡ commands.input_of plant.now rest.now }
 {
     let (id, value) = assigned(plant, rest)?;
-    Some(Event::Input(id, value))
+    Some(Command::Input(id, value))
 }
 
 // FORCE variable value
-fn force(plant: &Plant, rest: &[u8]) -> Option<Event>
+fn force(plant: &Plant, rest: &[u8]) -> Option<Command>
     ensures { result ≡ commands.force_of plant.now rest.now }
 {
     let (id, value) = assigned(plant, rest)?;
-    Some(Event::Force(id, value))
+    Some(Command::Force(id, value))
 }
 
 // RELEASE variable
-fn release(plant: &Plant, rest: &[u8]) -> Option<Event>
+fn release(plant: &Plant, rest: &[u8]) -> Option<Command>
     ensures { result ≡ commands.release_of plant.now rest.now }
 {
     let name = only_word(rest)?;
-    Some(Event::Release(variable_of(plant, name)))
+    Some(Command::Release(variable_of(plant, name)))
 }
 
 // RESET program
-fn reset(plant: &Plant, rest: &[u8]) -> Option<Event>
+fn reset(plant: &Plant, rest: &[u8]) -> Option<Command>
     ensures { result ≡ commands.reset_of plant.now rest.now }
 {
     let name = only_word(rest)?;
-    Some(Event::Reset(program_of(plant, name)))
+    Some(Command::Reset(program_of(plant, name)))
 }
 
-// The event of a command: its keyword, and the rest of its line.
-fn event_of(plant: &Plant, keyword: &[u8], rest: &[u8]) -> Option<Event>
-    ensures { result ≡ commands.event_of plant.now keyword.now rest.now }
+// READ variable
+fn read(plant: &Plant, rest: &[u8]) -> Option<Command>
+    ensures { result ≡ commands.read_of plant.now rest.now }
 {
+    let name = only_word(rest)?;
+    Some(Command::Read(variable_of(plant, name)))
+}
+
+// BREAK program point
+fn set_break(resource: &Resource, rest: &[u8]) -> Option<Command>
+    ensures { result ≡ commands.break_of (plant_of resource.now) rest.now }
+{
+    let place = only_place(resource, rest)?;
+    Some(Command::Break(place.program, place.point))
+}
+
+// UNBREAK program point
+fn unbreak(resource: &Resource, rest: &[u8]) -> Option<Command>
+    ensures { result ≡ commands.unbreak_of (plant_of resource.now) rest.now }
+{
+    let place = only_place(resource, rest)?;
+    Some(Command::Unbreak(place.program, place.point))
+}
+
+// SINGLE task duration
+fn single(plant: &Plant, rest: &[u8]) -> Option<Command>
+    ensures { result ≡ commands.single_of plant.now rest.now }
+{
+    let (name, word) = two_words(rest)?;
+    let micros = duration(word)?;
+    Some(Command::Single(task_of(plant, name), micros))
+}
+
+// STOP, GO, END and EPOCH
+fn bare_word(keyword: &[u8]) -> Option<Command>
+    ensures { result ≡ commands.bare_word keyword.now }
+{
+    if is_same_word(keyword, b"STOP") {
+        Some(Command::Stop)
+    } else if is_same_word(keyword, b"GO") {
+        Some(Command::Go)
+    } else if is_same_word(keyword, b"END") {
+        Some(Command::End)
+    } else if is_same_word(keyword, b"EPOCH") {
+        Some(Command::Epoch)
+    } else {
+        None
+    }
+}
+
+// The command of a keyword that has nothing behind it.
+fn bare(keyword: &[u8], rest: &[u8]) -> Option<Command>
+    ensures { result ≡ commands.bare_of keyword.now rest.now }
+{
+    if first_word(rest).is_some() {
+        return None;
+    }
+    bare_word(keyword)
+}
+
+// A command of the debugger's own: its keyword, and the rest of its line.
+fn debugging(resource: &Resource, keyword: &[u8], rest: &[u8]) -> Option<Command>
+    ensures { result ≡ commands.debugging_of (plant_of resource.now) keyword.now rest.now }
+{
+    if is_same_word(keyword, b"READ") {
+        read(resource.plant(), rest)
+    } else if is_same_word(keyword, b"BREAK") {
+        set_break(resource, rest)
+    } else if is_same_word(keyword, b"UNBREAK") {
+        unbreak(resource, rest)
+    } else if is_same_word(keyword, b"SINGLE") {
+        single(resource.plant(), rest)
+    } else {
+        bare(keyword, rest)
+    }
+}
+
+// A command without a condition: its keyword, and the rest of its line.
+fn command_by(resource: &Resource, keyword: &[u8], rest: &[u8]) -> Option<Command>
+    ensures { result ≡ commands.command_by (plant_of resource.now) keyword.now rest.now }
+{
+    let plant = resource.plant();
     if is_same_word(keyword, b"SCAN") {
         scan(plant, rest)
     } else if is_same_word(keyword, b"INPUT") {
@@ -89,40 +167,42 @@ fn event_of(plant: &Plant, keyword: &[u8], rest: &[u8]) -> Option<Event>
     } else if is_same_word(keyword, b"RESET") {
         reset(plant, rest)
     } else {
-        None
+        debugging(resource, keyword, rest)
     }
 }
 
-/// The event that stands behind the instant of a line. It takes no memory.
-pub fn read_event(plant: &Plant, text: &[u8]) -> Option<Event>
-    ensures { result ≡ commands.read_event plant.now text.now }
+/// The command that the text is, over the names of the resource's plant, where it is one without a condition: what a
+/// line of a script has behind its instant. A name that isn't found stands as a number that no plant has: 65,535 for a
+/// variable, a step, a transition or an action, 255 for a task or a program instance. It takes no memory.
+pub fn read_command(resource: &Resource, text: &[u8]) -> Option<Command>
+    ensures { result ≡ commands.command_of (plant_of resource.now) text.now }
 {
     let (keyword, rest) = first_word(text)?;
-    event_of(plant, keyword, rest)
+    command_by(resource, keyword, rest)
 }
 
-// Whether the word begins with a semicolon.
-fn begins_comment(word: &[u8]) -> bool
-    ensures { result ≡ commands.begins_comment word.now }
+// program point WHEN text
+fn when<'a>(resource: &Resource, rest: &'a [u8]) -> Option<Conditional<'a>>
+    ensures { MatchOption result (commands.when_of (plant_of resource.now) rest.now ≡ None)
+        (λ c. commands.when_of (plant_of resource.now) rest.now ≡ Some (as_conditional c)) }
 {
-    match word.first() {
-        Some(byte) => *byte == b';',
-        None => false,
+    let (place, behind) = first_place(resource, rest)?;
+    let (keyword, text) = first_word(behind)?;
+    if !is_same_word(keyword, b"WHEN") {
+        return None;
     }
+    Some(Conditional { place, text })
 }
 
-/// What a line of a script is, without its end. It takes no memory.
-pub fn read_line(plant: &Plant, line: &[u8]) -> Line
-    ensures { result ≡ commands.line_of plant.now line.now }
+/// The breakpoint with a condition that the text is, if it is one: `BREAK`, a program instance and one of its points,
+/// `WHEN`, and the text of the condition, which is not read here. It takes no memory.
+pub fn read_conditional<'a>(resource: &Resource, text: &'a [u8]) -> Option<Conditional<'a>>
+    ensures { MatchOption result (commands.conditional_of (plant_of resource.now) text.now ≡ None)
+        (λ c. commands.conditional_of (plant_of resource.now) text.now ≡ Some (as_conditional c)) }
 {
-    let Some((instant, text)) = first_word(line) else {
-        return Line::Skipped;
-    };
-    if begins_comment(instant) {
-        return Line::Skipped;
+    let (keyword, rest) = first_word(text)?;
+    if !is_same_word(keyword, b"BREAK") {
+        return None;
     }
-    match (duration(instant), read_event(plant, text)) {
-        (Some(t), Some(event)) => Line::Command(event, t),
-        _ => Line::Faulty,
-    }
+    when(resource, rest)
 }

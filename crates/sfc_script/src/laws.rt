@@ -1,10 +1,23 @@
 //! What the definitions mean: each law is a function with an empty body, whose contract is the law.
 
-ghost use Rattle.std.specs.Prelude.{◌≡◌, ◌<◌, ◌^◌, ℤ, unsigned_abs, Some};
+ghost use Rattle.std.specs.Prelude.{◌≡◌, ◌<◌, ◌^◌, ℕ, ℤ, List, Result, unsigned_abs, Some};
 ghost use Rattle.std.specs.Fmt.{signed_decimal};
+ghost use Rattle.sfc_plant.specs.Plants.{PlantData};
+ghost use Rattle.sfc_script.specs.Scripts.{ScriptData, ScriptReads};
 ghost use Rattle.sfc_script.specs.Values.{number_of};
 
 /// What is written for a number is read as that number.
 pub fn number_read()
     ensures { (z : ℤ) → unsigned_abs z < 2 ^ 64 → number_of (signed_decimal z) ≡ Some z }
+{}
+
+/// A script says one thing.
+pub fn one_script()
+    ensures { (plant : PlantData) (bytes : List ℕ) (a b : Result ScriptData ℕ) → ScriptReads plant bytes a
+        → ScriptReads plant bytes b → a ≡ b }
+{}
+
+/// Each script says something: commands, or which of its lines is none.
+pub fn some_script()
+    ensures { (plant : PlantData) (bytes : List ℕ) → (a : Result ScriptData ℕ) × ScriptReads plant bytes a }
 {}

@@ -1,19 +1,26 @@
-//! The commands of a script, over the names of a plant: events, with their instants.
+//! The commands of a script, over the names of a resource's plant, with their instants, and the conditions of its
+//! breakpoints.
 //!
 //! - `laws`: what the definitions mean.
 //! - `script`: whole scripts.
-//! - `command`: a line: an instant, a keyword, and what stands behind it.
+//! - `condition`: the conditions of breakpoints, by their texts.
+//! - `line`: a line: an instant, and what stands behind it.
+//! - `command`: commands: a keyword, and what stands behind it.
+//! - `point`: points of charts, by their names and numbers.
 //! - `names`: tasks, program instances and variables by their names.
 //! - `value`, `number`: values of variables, and decimal numbers.
 //! - `split`: lines and words.
 //! - `instant`, `repeated`: instants in their plainest form, and commands that a script says again.
 #![tactic(auto)]
 
-mod command;
+pub mod command;
+mod condition;
 mod instant;
 pub mod laws;
+mod line;
 mod names;
 mod number;
+mod point;
 mod repeated;
 pub mod script;
 mod split;

@@ -2,7 +2,7 @@
 
 ghost use Rattle.std.specs.Prelude.{◌≡◌, ◌≤◌, ◌^◌, ◌∷◌, [], IfSome};
 ghost use Rattle.sfc_script.specs.Values as values;
-ghost use Rattle.sfc_script.specs.Private.Reading.{limited};
+ghost use Rattle.sfc_script.specs.Values.{limited};
 
 /// The greatest magnitude of a DINT below zero.
 const LEAST_DINT: u64 = 2_147_483_648;
@@ -23,8 +23,8 @@ fn one_more(number: u64, byte: u8, limit: u64) -> Option<u64>
     if more <= limit { Some(more) } else { None }
 }
 
-// The number that the decimal digits are, if it is not over the limit.
-fn magnitude(word: &[u8], limit: u64) -> Option<u64>
+/// The number that the decimal digits are, if it is not over the limit; None where it is over it, and where the word is none.
+pub fn magnitude(word: &[u8], limit: u64) -> Option<u64>
     requires { limit ≤ 2 ^ 31 }
     ensures value { result ≡ limited limit (values.decimal_of word.now) }
     ensures limit { IfSome result (λ n. n ≤ limit) }

@@ -1,6 +1,5 @@
 use Rattle.std.proofs.Common.{◌≡◌, ◌≤◌, length}
-use Rattle.sfc_script.specs.Values.{digits_from}
-use Rattle.sfc_script.specs.Private.Reading.{limited}
+use Rattle.sfc_script.specs.Values.{digits_from, limited}
 use Rattle.sfc_script.proofs.number.magnitude.Given as goal
 
 abbrev pub invariant-digits : goal.invariant-digits

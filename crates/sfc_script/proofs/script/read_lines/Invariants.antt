@@ -1,15 +1,15 @@
-use Rattle.std.proofs.Common.{◌≡◌, ◌+◌, ◌≤◌, length}
+use Rattle.std.proofs.Common.{◌+◌, ◌≤◌, length}
+use Rattle.sfc_core.specs.Agreement.{plant_of}
 use Rattle.sfc_script.specs.Lines.{lines_of}
-use Rattle.sfc_script.specs.Scripts.{commands_of_lines}
 use Rattle.sfc_script.specs.Private.Repeating.{IsLast}
-use Rattle.sfc_script.proofs.Said.{behind}
+use Rattle.sfc_script.proofs.Said.{GoesOn}
 use Rattle.sfc_script.proofs.script.read_lines.Given as goal
 
 abbrev pub invariant-lines : goal.invariant-lines
 invariant-lines l = record {
   counted : l.number + length l.rest ≤ length l.bytes + 1;
-  said : commands_of_lines l.plant 1 (lines_of l.bytes) ≡ behind l.timed_events.items (commands_of_lines l.plant l.number (lines_of l.rest));
-  is_last : IsLast l.plant l.last;
+  said : GoesOn (plant_of l.fn.resource) (lines_of l.bytes) l.number l.script (lines_of l.rest);
+  is_last : IsLast (plant_of l.fn.resource) l.last;
 }
 
 abbrev pub decreases-lines : goal.decreases-lines

@@ -1,0 +1,58 @@
+-- A script that is read line by line.
+use Rattle.std.specs.Prelude.{◌≡◌, ℕ, ℤ, List, length, Option, Some, None, Result, Ok, Err, ⊤}
+use Rattle.std.specs.Option.{option_to_list}
+use Rattle.sfc_plant.specs.Plants.{PlantData}
+use Rattle.sfc_tokens.specs.declared.read_error.ReadErrorKind.{ReadErrorKind}
+use Rattle.sfc_tokens.specs.declared.read_error.ReadErrorKind.TheVariants as kind
+use Rattle.sfc_debug.specs.declared.break_condition.BreakCondition.{BreakCondition}
+use Rattle.sfc_conditions.specs.declared.condition_error.ConditionError.{ConditionError}
+use Rattle.sfc_conditions.specs.declared.condition_error.ConditionError.TheVariants.{UnknownProgram, Wrong, Memory}
+use Rattle.sfc_script.specs.declared.point.Place.{Place}
+use Rattle.sfc_script.specs.declared.script.Script.{Script}
+use Rattle.sfc_script.specs.declared.script.ScriptError.{ScriptError}
+use Rattle.sfc_script.specs.declared.script.ScriptError.TheVariants as error
+use Rattle.sfc_script.specs.Answers.{script_data}
+use Rattle.sfc_script.specs.Commands as commands
+use Rattle.sfc_script.specs.Commands.{Said}
+use Rattle.sfc_script.specs.Scripts.{ScriptData, ConditionReads, LineReads, in_table, joined}
+
+-- ---- conditions
+
+-- a text that is no expression is told with its line; want of memory has none
+abbrev pub refusal : ℕ → ReadErrorKind → ScriptError
+refusal n kind.Memory = error.Memory
+refusal n _ = error.Faulty n
+
+-- the condition that checking gave; none where the program instance isn't there
+abbrev pub added : ℕ → Result BreakCondition ConditionError → Result (Option BreakCondition) ScriptError
+added n (Ok condition) = Ok (Some condition)
+added n (Err (UnknownProgram place)) = Ok None
+added n (Err (Wrong place fault)) = Err (error.Faulty n)
+added n (Err Memory) = Err error.Memory
+
+-- what was answered for the condition of line n, behind k others
+abbrev pub ReadsCondition : PlantData → ℕ → commands.Conditional → ℕ → Result (Option BreakCondition) ScriptError → Type 0
+ReadsCondition plant k c n (Ok condition) = ConditionReads plant k c.place.program c.text (Some (option_to_list condition))
+ReadsCondition plant k c n (Err (error.Faulty m)) = (m ≡ n) × ConditionReads plant k c.place.program c.text None
+ReadsCondition plant k c n (Err error.Memory) = ⊤
+
+-- ---- lines
+
+-- what line n says was added to a script, or is no command
+abbrev pub Adds : Option ScriptData → ℕ → Script → Script → Result (Unit {0}) ScriptError → Type 0
+Adds said n old new (Ok _) = (first : ScriptData) × (said ≡ Some first) × (script_data new ≡ joined (script_data old) first)
+Adds said n old new (Err (error.Faulty m)) = (m ≡ n) × (said ≡ None)
+Adds said n old new (Err error.Memory) = ⊤
+
+-- a breakpoint, with its condition or none
+abbrev pub AddsCondition : Place → ℤ → Option BreakCondition → ℕ → Script → Script → Result (Unit {0}) ScriptError → Type 0
+AddsCondition place t condition n old new result =
+    (text : List ℕ) → Adds
+    (in_table (length old.conditions.items) (record { place = place; text = text }) t (Some (option_to_list condition)))
+    n old new result
+
+-- what a line says
+abbrev pub AddsLine : PlantData → Said → ℕ → Script → Script → Result (Unit {0}) ScriptError → Type 0
+AddsLine plant line n old new (Err error.Memory) = ⊤
+AddsLine plant line n old new result =
+    (said : Option ScriptData) × LineReads plant (length old.conditions.items) line said × Adds said n old new result

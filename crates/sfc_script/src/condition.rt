@@ -1,0 +1,63 @@
+//! The conditions of breakpoints, by their texts.
+
+ghost use Rattle.std.specs.Prelude.{◌≡◌};
+ghost use Rattle.sfc_script.specs.Private.Adding as adding;
+ghost use Rattle.sfc_script.specs.Private.Reading.{as_conditional};
+
+use crate::command::Conditional;
+use crate::script::ScriptError;
+use sfc_conditions::condition_error::ConditionError;
+use sfc_conditions::conditions::condition_of;
+use sfc_debug::break_condition::BreakCondition;
+use sfc_plant::plant::Plant;
+use sfc_text::read_expr::read_expr;
+use sfc_tokens::read_error::ReadErrorKind;
+use std::alloc::Global;
+
+// The refusal of a text that is no expression, which stands at this line.
+fn refusal(kind: ReadErrorKind, number: usize) -> ScriptError
+    ensures { result ≡ adding.refusal number kind }
+{
+    match kind {
+        ReadErrorKind::Memory => ScriptError::Memory,
+        _ => ScriptError::Faulty(number),
+    }
+}
+
+// What a condition that was checked adds, which stands at this line.
+fn added(
+    checked: Result<BreakCondition, ConditionError>,
+    number: usize,
+) -> Result<Option<BreakCondition>, ScriptError>
+    ensures { result ≡ adding.added number checked }
+{
+    match checked {
+        Ok(condition) => Ok(Some(condition)),
+        Err(ConditionError::UnknownProgram(_)) => Ok(None),
+        Err(ConditionError::Wrong(_, _)) => Err(ScriptError::Faulty(number)),
+        Err(ConditionError::Memory) => Err(ScriptError::Memory),
+    }
+}
+
+/// The condition of a breakpoint, which stands at this line of a script, behind others with so many conditions. None
+/// where its program instance isn't there, though its text can be read. `Faulty` tells the line where the text can't be
+/// read, or is no BOOL expression of the program instance; `Memory` that memory was refused.
+pub fn read_condition(
+    alloc: Global,
+    plant: &Plant,
+    conditions: usize,
+    conditional: Conditional<'_>,
+    number: usize,
+) -> Result<Option<BreakCondition>, ScriptError>
+    ensures { adding.ReadsCondition plant.now conditions (as_conditional conditional.entry) number result }
+{
+    let expression = match read_expr(alloc, conditional.text) {
+        Ok(expression) => expression,
+        Err(error) => return Err(refusal(error.kind, number)),
+    };
+    let program = conditional.place.program;
+    added(
+        condition_of(alloc, plant, conditions, program, &expression),
+        number,
+    )
+}
