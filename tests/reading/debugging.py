@@ -34,9 +34,9 @@ class Given(NamedTuple):
     raw: int
     instant: int
     mode: str
-    delta: int
-    point: Optional[Point]
-    condition: Optional[tuple]
+    delta: int = 0
+    point: Optional[Point] = None
+    condition: Optional[tuple] = None
 
 
 def executed(life, scan: int) -> list:
@@ -87,9 +87,9 @@ class Debugger:
             raise Refusal("33 InstantRange")
         return instant
 
-    def keep(self, word: str, raw: int, instant: int, hit=False, delta=0, point=None, condition=None):
-        """Takes an accepted command into the list."""
-        self.given.append(Given(word, raw, instant, self.mode_after(word, hit), delta, point, condition))
+    def keep(self, word: str, raw: int, instant: int, hit=False, **more):
+        """Takes an accepted command into the list, with what it has more than others."""
+        self.given.append(Given(word, raw, instant, self.mode_after(word, hit), **more))
 
     # -- breakpoints
 

@@ -13,9 +13,9 @@ CHARTS = [lambda rng: PlantMaker(rng).text(), lambda rng: PlantMaker(rng).text()
 
 
 class ManyHalts(DebugScripts):
-    """Makes scripts in which every second command or so is the debugger's."""
+    """Makes scripts in which most commands are the debugger's."""
 
-    LEAST, MOST, FEW = 60, 120, 6
+    LEAST, MOST, FEW = 70, 130, 4
 
 
 def plant(seed: int) -> tuple:

@@ -13,8 +13,8 @@ FAULTING = {
     "TIME": ["{v} + T#53375995d > T#0s", "{v} - T#53375995d - T#2d < {v}"],
     "BOOL": ["{v} OR 1 / 0 = 1", "{v} AND 5 / (3 - 3) > 1", "INT#-32768 / -1 > 0 OR {v}"],
 }
-WRONG_CONDITIONS = ["5", "T#1s", "zz", "zz.X", "S0.Q", "S0.T", "Act0.Q", "P0.flag", "TRUE TRUE", "(TRUE", "TRUE)", "TRUE;", "", "NOT", "TRUE OR",
-                    "(* TRUE", "1 + 1", "INT#1 = DINT#1", "INT#40000 = 1", "TRUE < FALSE", "a__b", "16#G = 1", "T#1 = T#1s",
+WRONG_CONDITIONS = ["5", "T#1s", "zz", "zz.X", "S0.Q", "S0.T", "Act0.Q", "P0.flag", "TRUE TRUE", "(TRUE", "TRUE)", "TRUE;", "", "NOT",
+                    "TRUE OR", "(* TRUE", "1 + 1", "INT#1 = DINT#1", "INT#40000 = 1", "TRUE < FALSE", "a__b", "16#G = 1", "T#1 = T#1s",
                     "2 = TRUE", "S0.X := TRUE", "WHEN TRUE", "S0.", ".X", "\xc4", "(" * 65 + "TRUE" + ")" * 65, "NOT " * 65 + "TRUE",
                     "TRUE" + " OR TRUE" * 257]
 WRONG_LINES = ["BREAK", "BREAK P0", "BREAK P0 STEP", "BREAK P0 S0", "BREAK P0 STEP S0 S1", "BREAK P0 STEP S0 IF TRUE", "BREAK P0 WHEN TRUE",
@@ -25,7 +25,7 @@ WRONG_LINES = ["BREAK", "BREAK P0", "BREAK P0 STEP", "BREAK P0 S0", "BREAK P0 ST
 
 
 class DebugScripts(Scripts):
-    """Makes scripts with commands of the debugger; `FEW` is the weight of those that halt or ask while the plant runs."""
+    """Makes scripts with commands of the debugger; FEW is the weight of those that are asked while the plant runs."""
 
     FEW = 1
 
@@ -105,7 +105,8 @@ class DebugScripts(Scripts):
         step = self.plant.instances[0].chart.steps[0]
         words = rng.choice([("READ", "zz"), ("READ", instance), ("GO",), ("STOP",), ("SINGLE", "zz", "T#1ms"), ("SINGLE", task, "T#-1ms"),
                             ("SINGLE", "zz", "T#-1ms"), ("BREAK", "zz", "STEP", step), ("BREAK", instance, "STEP", "zz"),
-                            ("BREAK", instance, "ACTION", "zz"), ("BREAK", instance, "ACTION", step), ("BREAK", instance, "TRANSITION", "zz"),
+                            ("BREAK", instance, "ACTION", "zz"), ("BREAK", instance, "ACTION", step),
+                            ("BREAK", instance, "TRANSITION", "zz"),
                             ("BREAK", instance, "TRANSITION", "65535"), ("BREAK", instance, "TRANSITION", "-1"),
                             ("BREAK", "zz", "STEP", step, "WHEN", "zz"), ("BREAK", "zz", "STEP", step, "WHEN", "5 +(* 5 *)5"),
                             ("BREAK", instance, "STEP", "zz", "WHEN", "FALSE"), ("UNBREAK", "zz", "STEP", step),
