@@ -14,7 +14,7 @@ class Refusal(Exception):
 class Accepted:
     """An accepted event: its kind, what it names, its instant, what it wrote, and what each SINGLE reads after it.
 
-    A scan also has how many releases it served.
+    A scan, forced or not, also has how many releases it served.
     """
 
     def __init__(self, kind: str, number: int, instant: int):
@@ -117,9 +117,9 @@ class History:
         return next(iter(self.multiples(task, instant, MOST_INSTANT)), None)
 
     def overruns(self, task: int) -> int:
-        """The releases beyond the first that the task's scans served."""
+        """The releases beyond the first that each of the task's scans served; a forced one may have served none."""
         scans = [event for event in self.events if event.kind == "SCAN" and event.number == task]
-        return min(MOST_COUNT, sum(event.served - 1 for event in scans))
+        return min(MOST_COUNT, sum(max(0, event.served - 1) for event in scans))
 
     # -- events
 
@@ -200,8 +200,20 @@ class History:
             raise Refusal("29 NotDue", self.next_release(task, instant))
         if picked != task:
             raise Refusal("30 Yield", self.plant.tasks[picked].name)
+        return self.scan_task(task, instant)
+
+    def forced_scan(self, task, instant: int) -> list:
+        """A scan of a task that need not be due, nor go first; it serves what waits, if anything does."""
+        self.watch_instant(instant)
+        if task is None:
+            raise Refusal("31 UnknownTask")
+        return self.scan_task(task, instant)
+
+    def scan_task(self, task: int, instant: int) -> list:
+        """An accepted scan of either kind."""
+        served = sum(len(one) for one in self.waiting(task, instant))
         event = self.begin("SCAN", task, instant)
-        event.served = sum(len(one) for one in releases)
+        event.served = served
         done = [(one, self.scan_instance(one, event)) for one in self.instances if one.plant.task == task]
         self.end()
         return done

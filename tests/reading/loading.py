@@ -13,8 +13,9 @@ class Place(NamedTuple):
 
 
 class Literal(NamedTuple):
-    """A value."""
+    """A value and its type."""
     value: Union[int, bool]
+    type: str
 
 
 class Variable(NamedTuple):
@@ -91,18 +92,19 @@ class Action(NamedTuple):
 
 
 class Transition(NamedTuple):
-    """A transition: its preceding and following steps as sets of numbers, its condition and its priority."""
+    """A transition: its preceding and following steps as sets of numbers, its condition, its priority and its name."""
     before: frozenset
     after: frozenset
     condition: tuple
     priority: Optional[int]
+    name: Optional[str]
 
 
 class Chart(NamedTuple):
     """What a program type says. Actions stand in the order of their first association.
 
-    `bodies` has the numbers of the declared actions that are associated, in the order of their declarations; `ranked` has the
-    numbers of the transitions, the first in rank first.
+    `bodies` has the numbers of the declared actions that are associated, in the order of their declarations, and `declared` the names
+    of all that are declared; `ranked` has the numbers of the transitions, the first in rank first; `scope` is that of conditions.
     """
     own: list
     steps: list
@@ -110,8 +112,10 @@ class Chart(NamedTuple):
     associations: list
     actions: list
     bodies: list
+    declared: list
     transitions: list
     ranked: list
+    scope: object
 
 
 class PlantTask(NamedTuple):
@@ -159,8 +163,8 @@ def fits(value, kind: str) -> bool:
 
 
 def place_of(names: list, name: str):
-    """The number of a name in a list, in whatever capitals; None where it isn't there."""
-    wanted = name.upper()
+    """The number of a name in a list, in whatever capitals; None where it isn't there. A declared name is ASCII."""
+    wanted = name.upper() if name.isascii() else None
     return next((number for number, other in enumerate(names) if other.upper() == wanted), None)
 
 
@@ -172,7 +176,7 @@ def literal(tree, wanted: str) -> Literal:
         refuse("10 WrongType")
     if not fits(tree.value, wanted):
         refuse("11 LiteralRange")
-    return Literal(bool(tree.value) if wanted == "BOOL" else tree.value)
+    return Literal(bool(tree.value) if wanted == "BOOL" else tree.value, wanted)
 
 
 class Scope:
@@ -324,7 +328,8 @@ class ChartLoader:
         initial = frozenset(number for number, step in enumerate(self.tree.steps) if step.initial)
         if not initial:
             refuse("14 NoInitial")
-        return Chart(self.own, self.steps, initial, associations, actions, bodies, transitions, ranked)
+        names = [action.name for action in self.tree.actions]
+        return Chart(self.own, self.steps, initial, associations, actions, bodies, names, transitions, ranked, self.scope())
 
     def scope(self, action=None) -> Scope:
         """The names as they stand in a condition, or in the body of an action."""
@@ -387,7 +392,7 @@ class ChartLoader:
                 refuse("15 UnknownStep")
             refuse_doubles(names)
             sides.append(frozenset(numbers))
-        return Transition(*sides, self.scope().check(tree.condition, "BOOL"), tree.priority)
+        return Transition(*sides, self.scope().check(tree.condition, "BOOL"), tree.priority, tree.name)
 
 
 def rank(transition: Transition, number: int) -> tuple:

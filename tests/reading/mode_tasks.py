@@ -69,9 +69,9 @@ class TaskScripts(Scripts):
 
     def scan(self):
         """A scan of the task that goes first, at the next release of some task where none waits."""
-        if self.history.picked(self.now) is None:
+        if self.picked() is None:
             self.go_on()
-        picked = self.history.picked(self.now)
+        picked = self.picked()
         self.any_scan() if picked is None else self.say("SCAN", self.plant.tasks[picked].name)
 
     def any_scan(self):
@@ -81,12 +81,10 @@ class TaskScripts(Scripts):
 
     def go_on(self):
         """Lets time go on: to a release of some task, a little, by some interval, or far."""
-        rng, tasks = self.rng, range(len(self.plant.tasks))
-        coming = [self.history.next_release(task, self.now) for task in tasks]
-        coming = [instant for instant in coming if instant is not None]
+        rng, coming = self.rng, self.coming()
         how = rng.random()
         if how < 0.5 and coming:
-            then = rng.choice(sorted(coming)[:6]) + rng.choice([0, 0, 0, -1, 1])
+            then = self.now + rng.choice(sorted(coming)[:6]) + rng.choice([0, 0, 0, -1, 1])
         elif how < 0.8:
             then = self.now + rng.choice([0, 1, 2, 3, 7, 1_000])
         elif how < 0.97:

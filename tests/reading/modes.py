@@ -1,6 +1,7 @@
 """The random plants by subject: each mode gives chart and script of a seed."""
 
 import mode_control
+import mode_debug
 import mode_image
 import mode_steps
 import mode_tasks
@@ -12,4 +13,5 @@ MODES = {
     "control": mode_control.plant,
     "tasks": mode_tasks.plant,
     "image": mode_image.plant,
+    "debug": mode_debug.plant,
 }

@@ -8,7 +8,8 @@ from random import Random
 from grammar import read
 from loading import load
 from plant_values import any_value, literal, said, time_literal
-from scripts import Replay, command
+from playing import Replay
+from scripts import command
 
 
 class Scripts:
@@ -21,7 +22,7 @@ class Scripts:
 
     def __init__(self, rng: Random, chart: str):
         self.rng, self.replay = rng, Replay(load(read(chart.encode())))
-        self.plant, self.history = self.replay.plant, self.replay.history
+        self.plant, self.history, self.debugger = self.replay.plant, self.replay.history, self.replay.debugger
         self.now = rng.choice([0] * 8 + [3_000, 15_000, 1_000_000, 2 ** 62 - 2_000_000])
         self.lines, self.end = [], "\r\n" if rng.random() < 0.1 else "\n"
 
@@ -49,16 +50,27 @@ class Scripts:
         gap = self.rng.choice([" "] * 12 + ["  ", "\t"])
         line = gap.join(words)
         self.lines.append(line)
-        self.replay.play(command(line))
+        self.replay.play(command(line, self.plant))
+
+    def run(self) -> int:
+        """The present instant as the plant has it: raw time stands still for it while it is halted."""
+        return self.debugger.run_instant(self.now)
+
+    def coming(self) -> list:
+        """How long it is to the next release of each task that has one."""
+        now = self.run()
+        found = [self.history.next_release(task, now) for task in range(len(self.plant.tasks))]
+        return [instant - now for instant in found if instant is not None]
+
+    def picked(self):
+        """The task that goes first now, or None."""
+        return self.history.picked(self.run())
 
     def go_on(self):
         """Lets time go on, most often to the next release."""
-        tasks = range(len(self.plant.tasks))
-        coming = [self.history.next_release(task, self.now) for task in tasks]
-        coming = [instant for instant in coming if instant is not None]
-        how = self.rng.random()
+        coming, how = self.coming(), self.rng.random()
         if how < 0.7 and coming:
-            self.now = min(coming)
+            self.now += min(coming)
         elif how < 0.9:
             self.now += self.rng.choice([0, 1, 500, 1_000, 5_000, 5_000, 10_000, 20_000])
         elif how < 0.97:
@@ -69,13 +81,13 @@ class Scripts:
 
     def scan(self):
         """A scan, most often of the task that is to go first."""
-        if self.history.picked(self.now) is None or self.rng.random() < 0.05:
+        if self.picked() is None or self.rng.random() < 0.05:
             self.go_on()
-        picked = self.history.picked(self.now)
+        picked = self.picked()
         for _ in range(3):
             if picked is None:
                 self.wake()
-                picked = self.history.picked(self.now)
+                picked = self.picked()
         if picked is None or self.rng.random() < 0.05:
             picked = self.rng.randrange(len(self.plant.tasks))
         self.say(self.word("SCAN"), said(self.rng, self.plant.tasks[picked].name))

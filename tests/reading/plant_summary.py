@@ -8,6 +8,10 @@ from reading import Ended, replayed
 
 PATTERNS = {
     "scans accepted": r"^T#\S+ SCAN ",
+    "scans that hit": r"^T#\S+ SCAN .* hit$",
+    "single scans accepted": r"^T#\S+ SINGLE ",
+    "breakpoints set": r"^T#\S+ BREAK ",
+    "of these with a condition": r"^T#\S+ BREAK .* WHEN ",
     "program scans": r"^  \S+ [0-9]+ steps ",
     "program scans that clear a transition": r"^  \S+ [0-9]+ steps \S+ cleared [0-9]",
     "program scans skipped": r"^  \S+ skipped ",

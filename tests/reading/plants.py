@@ -8,7 +8,7 @@ those of one subject (modes.py).
 import argparse
 from random import Random
 
-from plant_scripts import Scripts
+from plant_debugging import DebugScripts
 from plant_values import Expressions, TIMES, Variable, any_value, literal, said
 
 TIMED = ["L", "D", "SD", "DS", "SL"]
@@ -361,7 +361,7 @@ def plant(seed: int) -> tuple:
     """The chart and the script of a seed, as texts."""
     rng = Random(seed)
     chart = PlantMaker(rng).text()
-    return chart, Scripts(rng, chart).text()
+    return chart, DebugScripts(rng, chart).text()
 
 
 def write(seed: int, mode: str, files: list):

@@ -6,7 +6,8 @@ import sys
 from grammar import read
 from lexer import Refused
 from loading import load
-from scripts import FaultyLine, Replay, commands
+from playing import Replay
+from scripts import FaultyLine, commands
 
 sys.setrecursionlimit(10_000)
 
@@ -27,7 +28,7 @@ def replayed(chart: bytes, script: bytes) -> str:
     """All that a replay prints; raises Ended where chart or script is refused."""
     plant = plant_of(chart)
     try:
-        found = commands(script)
+        found = commands(script, plant)
     except FaultyLine as line:
         raise Ended(f"script line {line}", 1) from None
     return "".join(line + "\n" for line in Replay(plant).lines(found))
