@@ -148,7 +148,7 @@ fn bare_command<'a>(alloc: Global) -> Result<Command<'a>, AllocError> {
     let command = Command::new(alloc, "sfcmon").bin_name("sfcmon")?;
     Ok(
         command
-            .version("0.2.0")
+            .version("0.3.0")
             .about(
                 "Runs Sequential Function Charts (IEC 61131-3:2003) exactly as their definitions say",
             )
