@@ -60,7 +60,7 @@ run check --help
 ends 0 && mentions "Exit status:" out && mentions "docs/LANGUAGE.md" out && mentions "Example:" out && says ""
 note $? "the help on check"
 run replay --help
-ends 0 && mentions "Exit status:" out && mentions "docs/FORMATS.md" out && mentions "Example:" out && says ""
+ends 0 && mentions "Exit status:" out && mentions "docs/FORMATS.md" out && mentions "Examples:" out && says ""
 note $? "the help on replay"
 
 for example in "$examples"/*.chart "$work/press.chart"; do
@@ -376,7 +376,7 @@ file=$share/completions/sfcmon.fish
 same "fish has the commands" "$work/commands" <(sed -nE 's/.*__fish_use_subcommand -a ([a-z]+) .*/\1/p' "$file")
 same "fish has the list of commands" "$work/commands" <(sed -n 's/^set -l commands //p' "$file" | tr ' ' '\n')
 same "fish has the options" "$work/options" \
-  <(grep -oE -- '-(s [A-Za-z]|l [a-z-]+) ' "$file" | sed 's/^-s /-/; s/^-l /--/; s/ $//')
+  <(grep '^complete' "$file" | grep -oE -- '-(s [A-Za-z]|l [a-z-]+) ' | sed 's/^-s /-/; s/^-l /--/; s/ $//')
 same "fish has the names of explain" "$work/names" \
   <(sed -n '/^set -l names/,/[^\\]$/p' "$file" | sed 's/^set -l names//; s/\\$//' | tr -s ' ' '\n' | grep .)
 same "the man page has the commands" "$work/commands" <(section "$manual" COMMANDS | cut -d' ' -f2)
