@@ -38,6 +38,13 @@ for example in "$examples"/*.chart; do
   note $? "$(basename "$example")"
 done
 
+# the session that README.md shows: its second block, and what it prints but for the variables
+awk '/^```/ { fence++; next } fence == 3' "$top/README.md" >"$work/session.script"
+awk '/^```/ { fence++; next } fence == 5' "$top/README.md" >"$work/session.expect"
+run replay "$examples/pump.chart" "$work/session.script"
+ends 0 && says "" && [ -s "$work/session.expect" ] && grep -v '^image' "$work/out" | cmp -s - "$work/session.expect"
+note $? "the session of README.md"
+
 usage "no words" "Usage: sfcmon"
 usage "no such command" "unrecognized subcommand" play "$chart" "$script"
 usage "no files" "<FILE>" replay
