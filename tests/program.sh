@@ -38,6 +38,13 @@ for example in "$examples"/*.chart; do
   note $? "$(basename "$example")"
 done
 
+# the session that README.md shows: its second block, and what it prints but for the variables
+awk '/^```/ { fence++; next } fence == 3' "$top/README.md" >"$work/session.script"
+awk '/^```/ { fence++; next } fence == 5' "$top/README.md" >"$work/session.expect"
+run replay "$examples/pump.chart" "$work/session.script"
+ends 0 && says "" && [ -s "$work/session.expect" ] && grep -v '^image' "$work/out" | cmp -s - "$work/session.expect"
+note $? "the session of README.md"
+
 usage "no words" "Usage: sfcmon"
 usage "no such command" "unrecognized subcommand" play "$chart" "$script"
 usage "no files" "<FILE>" replay
@@ -60,7 +67,7 @@ run check --help
 ends 0 && mentions "Exit status:" out && mentions "docs/LANGUAGE.md" out && mentions "Example:" out && says ""
 note $? "the help on check"
 run replay --help
-ends 0 && mentions "Exit status:" out && mentions "docs/FORMATS.md" out && mentions "Example:" out && says ""
+ends 0 && mentions "Exit status:" out && mentions "docs/FORMATS.md" out && mentions "Examples:" out && says ""
 note $? "the help on replay"
 
 for example in "$examples"/*.chart "$work/press.chart"; do
@@ -102,6 +109,18 @@ note $? "the chart that is shown"
 run replay "$chart" "$work/early.script"
 ends 0 && mentions "refused 29 NotDue" out && says ""
 note $? "a command that is refused leaves status 0"
+# strict TITLE STATUS CHART SCRIPT: the output is that without --strict, and the status is this one
+strict() { run replay "$3" "$4"; cp "$work/out" "$work/plain"; run replay --strict "$3" "$4"; ends "$2" && says "" && cmp -s "$work/out" "$work/plain"; note $? "$1"; }
+strict "nothing is refused, with --strict" 0 "$chart" "$script"
+strict "a command that is refused, with --strict" 1 "$chart" "$work/early.script"
+sed 's/Lamp(N)/Lamp(L, T#1s); Lamp(D, T#1s)/' "$chart" >"$work/timed.chart"
+printf 'T#0s SCAN Main\n' >"$work/one.script"
+strict "a scan that ends with a fault, with --strict" 1 "$work/timed.chart" "$work/one.script"
+run replay "$chart" "$script" --strict
+ends 0 && says ""
+note $? "--strict behind the files"
+fails "a chart that is refused, with --strict" 1 "refused 14 NoInitial" replay --strict "$work/dark.chart" "$script"
+usage "--strict of another command" "unexpected argument" check --strict "$chart"
 if [ -e /dev/full ]; then
   "$program" replay "$chart" "$script" >/dev/full 2>"$work/err"
   status=$?
@@ -116,7 +135,7 @@ fi
 # ---- explain
 
 unknown() { fails "$1" 2 "error: no refusal or fault is called '$2'; 'sfcmon explain' lists all" explain "${@:3}"; }
-unknown "a number that isn't there" 34 34
+unknown "a number that isn't there" 43 43
 unknown "a number that no byte has" 300 300
 unknown "a name that isn't there" "No Initial" No Initial
 unknown "an empty name" "" ""
@@ -125,7 +144,7 @@ run explain --help
 ends 0 && mentions "Exit status:" out && mentions "docs/FORMATS.md" out && mentions "Examples:" out && says ""
 note $? "the help on explain"
 run explain
-ends 0 && says "" && cp "$work/out" "$work/listed" && [ "$(wc -l <"$work/listed")" = 42 ]
+ends 0 && says "" && cp "$work/out" "$work/listed" && [ "$(wc -l <"$work/listed")" = 51 ]
 note $? "all refusals and faults"
 # an explanation is what docs/FORMATS.md shows
 awk '/^## Refusals/ { seen = 1 } seen && /^```/ { if (++fence == 2) exit; next } fence == 1' "$top/docs/FORMATS.md" >"$work/shown"
@@ -235,8 +254,18 @@ leads() {
       fi
       ;;
     script)
+      : >"$work/more"
+      if [ "$1" = 38 ]; then
+        printf '  STEP S%s: END_STEP\n' {1..65} >"$work/more"
+        { printf 'T#0s BREAK P STEP S%s\n' {1..64}; cat "$work/example"; } >"$work/longer" && mv "$work/longer" "$work/example"
+      fi
+      framed "$work/more" >"$work/framed.chart"
       run replay "$work/framed.chart" "$work/example"
       if [ -z "$1" ]; then ends 1 && says "$2 1"; else ends 0 && grep -qE "^$told( |$)" "$work/out"; fi
+      ;;
+    code) # its calls are there
+      status=0
+      grep -oE '[a-z_]+\(' "$work/example" | while read -r call; do grep -rqF "fn $call" "$top"/crates/*/src || exit 1; done
       ;;
     *)
       (cd "$work/there" && PATH=$work/bin:$PATH bash "$work/example") >"$work/out" 2>"$work/err" </dev/null
@@ -257,7 +286,7 @@ while IFS='|' read -r number name _ line; do
     "write fault") [ -e /dev/full ] || continue ;;
   esac
   run explain "${number:-$name}"
-  place=$(sed -nE 's/^  example, (in|on) (a|the) ([a-z ]+):$/\3/p' "$work/out")
+  place=$(sed -nE 's/^  example, (in|on) ((a|the) )?([a-z ]+)(, as no script leads to it)?:$/\4/p' "$work/out")
   grep '^    ' "$work/out" >"$work/example"
   leads "$number" "$name" "$line"
   note $? "the example of ${number:+$number }$name"
@@ -348,16 +377,17 @@ same "bash completes files" <(printf '%s\n' "$examples"/lamp.*) <(completed sfcm
 
 file=$share/completions/_sfcmon
 same "zsh has the commands" "$work/commands" <(sed -nE "/commands=\(/,/^  \)/s/^ *'([a-z]+):.*/\1/p" "$file")
-same "zsh has the options" "$work/options" <(grep -oE '\{-[A-Za-z],--[a-z-]+\}' "$file" | tr -d '{}' | tr ',' '\n')
+same "zsh has the options" "$work/options" <(grep -oE '\{-[A-Za-z],--[a-z-]+\}|--[a-z-]+\[' "$file" | tr -d '{}[' | tr ',' '\n')
 same "zsh has the names of explain" "$work/names" <(sed -n '/names=(/,/^  )/p' "$file" | grep -v '[()]' | tr -s ' ' '\n' | grep .)
 file=$share/completions/sfcmon.fish
 same "fish has the commands" "$work/commands" <(sed -nE 's/.*__fish_use_subcommand -a ([a-z]+) .*/\1/p' "$file")
 same "fish has the list of commands" "$work/commands" <(sed -n 's/^set -l commands //p' "$file" | tr ' ' '\n')
-same "fish has the options" "$work/options" <(sed -nE 's/.*-s ([A-Za-z]) -l ([a-z-]+) .*/-\1\n--\2/p' "$file")
+same "fish has the options" "$work/options" \
+  <(grep '^complete' "$file" | grep -oE -- '-(s [A-Za-z]|l [a-z-]+) ' | sed 's/^-s /-/; s/^-l /--/; s/ $//')
 same "fish has the names of explain" "$work/names" \
   <(sed -n '/^set -l names/,/[^\\]$/p' "$file" | sed 's/^set -l names//; s/\\$//' | tr -s ' ' '\n' | grep .)
 same "the man page has the commands" "$work/commands" <(section "$manual" COMMANDS | cut -d' ' -f2)
-same "the man page has the options" "$work/options" <(section "$manual" OPTIONS | tr -d '\\,"' | sed 's/^\.BR //' | tr -s ' ' '\n')
+same "the man page has the options" "$work/options" <(section "$manual" OPTIONS | tr -d '\\,"' | sed 's/^\.BR\? //' | tr -s ' ' '\n')
 grep -qF "\"$("$program" --version)\"" "$manual"
 note $? "the man page has the version"
 # read_by TITLE TOOL WORD..: the tool has nothing to say; it need not be there

@@ -7,6 +7,7 @@ _sfcmon() {
     Unknown WrongType LiteralRange NotAssignable Duplicate NoInitial UnknownStep UnknownAction NotBool NotTime NoTask
     UnknownType SameLocation Limit
     UnknownVar ValueType NotInput NotForced ClockBack NotDue Yield UnknownTask UnknownProgram InstantRange
+    Stopped NotRunning NotStopped NoSuchPoint TooManyPoints HistoryFull Ended AuditMismatch NoSuchCondition
     DivZero Range TwoTimed SdWhileSl SlWhileSd'
   local word=${COMP_WORDS[COMP_CWORD]} command='' i
   for ((i = 1; i < COMP_CWORD; i++)); do
@@ -20,6 +21,7 @@ _sfcmon() {
     :-*) mapfile -t COMPREPLY < <(compgen -W '-h --help -V --version' -- "$word") ;;
     :*) mapfile -t COMPREPLY < <(compgen -W "$commands" -- "$word") ;;
     help:*) mapfile -t COMPREPLY < <(compgen -W "$commands" -- "$word") ;;
+    replay:-*) mapfile -t COMPREPLY < <(compgen -W '-h --help --strict' -- "$word") ;;
     *:-*) mapfile -t COMPREPLY < <(compgen -W '-h --help' -- "$word") ;;
     explain:*) mapfile -t COMPREPLY < <(compgen -W "$names" -- "$word") ;;
     check:* | list:* | replay:*)

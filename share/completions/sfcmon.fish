@@ -5,6 +5,7 @@ set -l names TooLong NotAscii BadToken Syntax TooDeep BadDuration BadNumber Memo
     Unknown WrongType LiteralRange NotAssignable Duplicate NoInitial UnknownStep UnknownAction NotBool NotTime NoTask \
     UnknownType SameLocation Limit \
     UnknownVar ValueType NotInput NotForced ClockBack NotDue Yield UnknownTask UnknownProgram InstantRange \
+    Stopped NotRunning NotStopped NoSuchPoint TooManyPoints HistoryFull Ended AuditMismatch NoSuchCondition \
     DivZero Range TwoTimed SdWhileSl SlWhileSd
 
 complete -c sfcmon -f
@@ -16,5 +17,6 @@ complete -c sfcmon -n __fish_use_subcommand -a replay -d 'play a script on a cha
 complete -c sfcmon -n __fish_use_subcommand -a explain -d 'tell what a refusal or a fault means'
 complete -c sfcmon -n __fish_use_subcommand -a help -d 'print help on a command'
 complete -c sfcmon -n '__fish_seen_subcommand_from check list replay' -F
+complete -c sfcmon -n '__fish_seen_subcommand_from replay' -l strict -d 'end with status 1 after a refused command or a fault'
 complete -c sfcmon -n '__fish_seen_subcommand_from explain' -a "$names"
 complete -c sfcmon -n '__fish_seen_subcommand_from help' -a "$commands"

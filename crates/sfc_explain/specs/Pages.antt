@@ -5,7 +5,7 @@ use Rattle.sfc_explain.specs.declared.explanation.Explanation.{Explanation}
 use Rattle.sfc_explain.specs.declared.explanation.LineMark.{LineMark}
 use Rattle.sfc_explain.specs.declared.explanation.LineMark.TheVariants.{No, Yes, First}
 use Rattle.sfc_explain.specs.declared.explanation.ExampleKind.{ExampleKind}
-use Rattle.sfc_explain.specs.declared.explanation.ExampleKind.TheVariants.{Chart, Script, Shell}
+use Rattle.sfc_explain.specs.declared.explanation.ExampleKind.TheVariants.{Chart, Script, Shell, Code}
 use Rattle.sfc_explain.specs.declared.page.Label.{Label}
 use Rattle.sfc_explain.specs.declared.page.Label.TheVariants.{From, Line, Meaning, Cause}
 use Rattle.sfc_explain.specs.Topics.{number_of, name_of}
@@ -41,6 +41,7 @@ abbrev pub kind_text : ExampleKind → List ℕ
 kind_text Chart = codes "  example, in a chart:\n"
 kind_text Script = codes "  example, in a script:\n"
 kind_text Shell = codes "  example, on the command line:\n"
+kind_text Code = codes "  example, in code, as no script leads to it:\n"
 
 -- the number and the name
 unfoldable pub heading : Explanation → List ℕ

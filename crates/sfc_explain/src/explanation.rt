@@ -22,6 +22,8 @@ pub enum ExampleKind {
     Script,
     /// On the command line.
     Shell,
+    /// In code over the crates, where no chart and no script leads to it.
+    Code,
 }
 
 /// What is told of a refusal or a fault. All texts but the example are one line, without its end.
@@ -29,7 +31,7 @@ pub enum ExampleKind {
 pub struct Explanation {
     /// What it is.
     pub topic: Topic,
-    /// What tells it: the reader, the loader, or a command.
+    /// What tells it: the reader, the loader, a command, ..
     pub from: &'static str,
     /// Whether a line is told.
     pub line: LineMark,

@@ -54,6 +54,7 @@ fn kind_text(kind: ExampleKind) -> &'static [u8]
         ExampleKind::Chart => b"  example, in a chart:\n",
         ExampleKind::Script => b"  example, in a script:\n",
         ExampleKind::Shell => b"  example, on the command line:\n",
+        ExampleKind::Code => b"  example, in code, as no script leads to it:\n",
     }
 }
 

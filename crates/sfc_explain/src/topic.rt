@@ -16,6 +16,8 @@ pub enum Topic {
     Loading(LoadError),
     /// A command is refused.
     Command(Refusal),
+    /// An audit of a controller finds that its history, its receipts and its seats don't agree.
+    Audit,
     /// What messages tell by this name alone: a fault of a scan, of a script, of a file or of memory.
     Named(&'static str),
 }
@@ -29,6 +31,7 @@ impl Topic {
             Topic::Reading(kind) => Some(kind.number()),
             Topic::Loading(error) => Some(error.number()),
             Topic::Command(refusal) => Some(refusal.number()),
+            Topic::Audit => Some(41),
             Topic::Named(_) => None,
         }
     }
@@ -41,6 +44,7 @@ impl Topic {
             Topic::Reading(kind) => kind.name(),
             Topic::Loading(error) => error.name(),
             Topic::Command(refusal) => refusal.name(),
+            Topic::Audit => "AuditMismatch",
             Topic::Named(name) => name,
         }
     }

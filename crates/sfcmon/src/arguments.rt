@@ -2,9 +2,20 @@
 
 use crate::files::end_with;
 use clap::error::ErrorKind;
-use clap::{Arg, ArgMatches, Command, Error};
+use clap::{Arg, ArgAction, ArgMatches, Command, Error};
 use sfc_monitor::monitor_error::MonitorError;
 use std::alloc::{AllocError, Global};
+
+/// A script to be played on a chart.
+#[derive(Drop)]
+pub struct Playing {
+    /// The name of the chart's file.
+    pub chart: String,
+    /// The name of the script's file.
+    pub script: String,
+    /// Whether what is refused or ends with a fault counts for the exit status.
+    pub strict: bool,
+}
 
 /// What the words ask for.
 #[derive(Drop)]
@@ -13,8 +24,8 @@ pub enum Request {
     Check { chart: String },
     /// A chart to be listed, by the name of its file.
     List { chart: String },
-    /// A script to be played on a chart, by the names of their files.
-    Replay { chart: String, script: String },
+    /// A script to be played on a chart.
+    Replay(Playing),
     /// What a refusal or a fault means, by its number or its name.
     Explain { word: String },
     /// The numbers and names of all refusals and faults.
@@ -27,13 +38,14 @@ pub enum Request {
 const REPLAY_NOTES: &str = "\
 Exit status:
   0  all commands were played; one that was refused has a line that begins with 'refused'
-  1  the chart or the script is refused
+  1  the chart or the script is refused; with --strict also: a command was refused, or a scan ended with a fault
   2  the words of the command line are wrong
   3  a file can't be read, or the output can't be written
   4  memory was refused
 
-Example:
+Examples:
   sfcmon replay examples/lamp.chart examples/lamp.script
+  sfcmon replay --strict examples/lamp.chart examples/lamp.script
 
 'sfcmon explain NUMBER' tells what a refusal or a fault means.
 docs/LANGUAGE.md describes the text of charts, docs/FORMATS.md scripts and output.";
@@ -96,6 +108,14 @@ fn chart_argument<'a>(alloc: Global) -> Arg<'a> {
         .help("The chart, a text of IEC 61131-3")
 }
 
+// The argument by which what is refused or faulted counts for the exit status.
+fn strict_argument<'a>(alloc: Global) -> Arg<'a> {
+    Arg::new(alloc, "strict")
+        .long("strict")
+        .action(ArgAction::SetTrue)
+        .help("Ends with status 1 where a command was refused or a scan ended with a fault")
+}
+
 fn check_command<'a>(alloc: Global) -> Result<Command<'a>, AllocError> {
     Command::new(alloc, "check")
         .about("Reads a chart of the whole language and checks its names, types and limits")
@@ -119,6 +139,7 @@ fn replay_command<'a>(alloc: Global) -> Result<Command<'a>, AllocError> {
     Command::new(alloc, "replay")
         .about("Plays a script on a chart and prints what each command answers")
         .after_help(REPLAY_NOTES)
+        .arg(strict_argument(alloc))?
         .arg(chart_argument(alloc))?
         .arg(script)
 }
@@ -148,7 +169,7 @@ fn bare_command<'a>(alloc: Global) -> Result<Command<'a>, AllocError> {
     let command = Command::new(alloc, "sfcmon").bin_name("sfcmon")?;
     Ok(
         command
-            .version("0.2.0")
+            .version("0.3.0")
             .about(
                 "Runs Sequential Function Charts (IEC 61131-3:2003) exactly as their definitions say",
             )
@@ -221,7 +242,12 @@ fn replay_request(alloc: Global, matches: &ArgMatches) -> Result<Request, AllocE
         (Some(chart), Some(script)) => {
             let chart = String::from_str(alloc, chart)?;
             let script = String::from_str(alloc, script)?;
-            Ok(Request::Replay { chart, script })
+            let strict = matches.get_flag("strict");
+            Ok(Request::Replay(Playing {
+                chart,
+                script,
+                strict,
+            }))
         }
         _ => Ok(Request::Answered(2)),
     }

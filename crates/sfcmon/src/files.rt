@@ -2,7 +2,9 @@
 
 use sfc_monitor::check::{check_chart, list_chart};
 use sfc_monitor::monitor_error::MonitorError;
-use sfc_monitor::replay::replay;
+use sfc_monitor::replay::{replay, replay_strict};
+use std::alloc::Global;
+use std::io::{Read, Write};
 use std::rt::Files;
 use std::{fs, io};
 
@@ -36,12 +38,32 @@ pub fn list_file<R: Print + Eprint + Files + AllocGlobal>(rt: &R, chart: &str) -
     }
 }
 
+// Plays the script on the chart to the end: the exit status, which is 1 only with `strict`, where a command was refused, or a
+// scan of a program ended with a fault or passed it over because of one.
+fn play<C: Read, S: Read, W: Write>(
+    alloc: Global,
+    chart: &mut C,
+    script: &mut S,
+    writer: &mut W,
+    strict: bool,
+) -> Result<u8, MonitorError> {
+    if !strict {
+        replay(alloc, chart, script, writer)?;
+        return Ok(0);
+    }
+    match replay_strict(alloc, chart, script, writer)? {
+        true => Ok(1),
+        false => Ok(0),
+    }
+}
+
 /// Plays the script on the chart, from files to standard output: the exit status. Both files are opened before either
 /// is read; one that can't be opened is a read fault.
 pub fn replay_files<R: Print + Eprint + Files + AllocGlobal>(
     rt: &R,
     chart: &str,
     script: &str,
+    strict: bool,
 ) -> u8 {
     let Ok(mut chart) = fs::open(rt, chart) else {
         return end_with(rt, MonitorError::Read);
@@ -50,8 +72,8 @@ pub fn replay_files<R: Print + Eprint + Files + AllocGlobal>(
         return end_with(rt, MonitorError::Read);
     };
     let mut out = io::writer(rt);
-    match replay(rt.alloc(), &mut chart, &mut script, &mut out) {
-        Ok(()) => 0,
+    match play(rt.alloc(), &mut chart, &mut script, &mut out, strict) {
+        Ok(status) => status,
         Err(error) => end_with(rt, error),
     }
 }

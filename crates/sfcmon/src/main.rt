@@ -10,7 +10,7 @@ mod arguments;
 mod explain;
 mod files;
 
-use arguments::{Request, read_words, refuse_words};
+use arguments::{Playing, Request, read_words, refuse_words};
 use sfc_monitor::monitor_error::MonitorError;
 use std::process::ExitCode;
 use std::{env, io};
@@ -22,20 +22,32 @@ fn words_of(rt: &HostRuntime) -> io::Result<Vec<String>> {
     Ok(words)
 }
 
-// Does what the words ask for: the exit status.
-fn answer(rt: &HostRuntime, words: &[String]) -> u8 {
-    match read_words(rt, words) {
+// Plays a script on a chart: the exit status.
+fn replay(rt: &HostRuntime, playing: &Playing) -> u8 {
+    files::replay_files(
+        rt,
+        playing.chart.as_str(),
+        playing.script.as_str(),
+        playing.strict,
+    )
+}
+
+// Does what is asked for: the exit status.
+fn serve(rt: &HostRuntime, request: &Request) -> u8 {
+    match request {
         Request::Check { chart } => files::check_file(rt, chart.as_str()),
         Request::List { chart } => files::list_file(rt, chart.as_str()),
-        Request::Replay { chart, script } => files::replay_files(
-            rt,
-            chart.as_str(),
-            script.as_str(),
-        ),
+        Request::Replay(playing) => replay(rt, playing),
         Request::Explain { word } => explain::explain_word(rt, word.as_str()),
         Request::ListExplanations => explain::list_explanations(rt),
-        Request::Answered(status) => status,
+        Request::Answered(status) => *status,
     }
+}
+
+// Does what the words ask for: the exit status.
+fn answer(rt: &HostRuntime, words: &[String]) -> u8 {
+    let request = read_words(rt, words);
+    serve(rt, &request)
 }
 
 // Answers the words of the command line: the exit status.
