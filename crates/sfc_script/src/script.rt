@@ -76,6 +76,18 @@ impl Drop for Script {
 }
 
 impl Script {
+    /// The commands, and the conditions.
+    pub fn into_parts(self) -> (Vec<(Command, i64)>, Vec<BreakCondition>)
+        ensures commands { result.0 ≡ self.commands }
+        ensures conditions { result.1 ≡ self.conditions }
+    {
+        let Script {
+            commands,
+            conditions,
+        } = self;
+        (commands, conditions)
+    }
+
     // Adds a breakpoint, with its condition where that is known; else Faulty at this line.
     fn add_breakpoint(
         &mut self,
