@@ -21,5 +21,5 @@ returns c = λ text script output other first second.
     let plant : first.plant ≡ second.plant = sym one.built ∙ ap (λ t. plant_of t) tree ∙ two.built in
     let parsed : ScriptReads second.plant script (Ok first.said) = subst (λ (p : PlantData). ScriptReads p script (Ok first.said)) plant first.parsed in
     let said : first.said ≡ second.said = same_said first.said second.said (Ok first.said) (Ok second.said) refl refl
-        (c.one_script.ensures second.plant script (Ok first.said) (Ok second.said) parsed second.parsed) in
+    (c.one_script.ensures second.plant script (Ok first.said) (Ok second.said) parsed second.parsed) in
     first.lines ∙ (λ i. lines (plant i) (said i)) ∙ sym second.lines

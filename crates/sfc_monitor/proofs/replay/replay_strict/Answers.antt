@@ -7,6 +7,7 @@ use Rattle.sfc_plant.specs.Plants.{PlantData}
 use Rattle.sfc_debug.specs.declared.break_condition.BreakCondition.{BreakCondition}
 use Rattle.sfc_debug.specs.Histories.{TimedCommand}
 use Rattle.sfc_script.specs.Scripts.{ScriptData, ScriptReads}
+use Rattle.sfc_script.specs.Answers.{ReadsScript}
 use Rattle.sfc_output.specs.Steered.{Steered, steered_by}
 use Rattle.sfc_load.specs.Accepted.{IsAccepted}
 use Rattle.sfc_monitor.specs.Output.{any_amiss, lines_of_play, debugger_of, text_of}
@@ -79,14 +80,15 @@ returns-in_err-said-clause-replays g c =
     rw (p.1, p.2) (script_stopped chart script w c.in_ok-text.text.items c.in_ok-plant.plant c.in_ok-text.ensures.taken loaded
     c.in_ok-bytes.bytes.items c.in_err-said.field-0.0 c.in_ok-bytes.ensures.taken
     (lost most script.0 script.1 c.in_ok-bytes.bytes.items c.in_ok-bytes.ensures.taken) (Keeps-same w.0)
-    (rw (c.in_ok-resource.ensures.plant, c.deref-2.ensures.value) at c.in_err-said.ensures))
+    (subst (λ (b : List ℕ). ReadsScript c.in_ok-plant.plant b (Err c.in_err-said.field-0.0)) c.deref-2.ensures.value
+    (subst (λ (p : PlantData). ReadsScript p c.deref-2.result.now (Err c.in_err-said.field-0.0)) c.in_ok-resource.ensures.plant c.in_err-said.ensures)))
 
 pub returns-in_err-said-clause-finds : goal.returns-in_err-said-clause-finds
 returns-in_err-said-clause-finds g c =
     let p = err_from_is_err_and c.from_residual-in_err-said.result c.from_residual-in_err-said.ensures.1 in rw p.1 tt
 
 pub debug-requires : goal.debug-requires
-debug-requires g c = c.in_ok-resource.ensures.agrees
+debug-requires g c = record { untold = c.in_ok-resource.ensures.agrees }
 
 pub returns-in_err-debugger-clause-replays : goal.returns-in_err-debugger-clause-replays
 returns-in_err-debugger-clause-replays g c =
@@ -110,15 +112,17 @@ returns-clause-replays g c =
     let plant = c.in_ok-plant.plant in
     let said : ScriptData = record { commands = c.in_ok-said.said.commands.items; table = c.in_ok-said.said.conditions.items } in
     let loaded : IsAccepted c.in_ok-text.text.items plant = rw c.deref.ensures.value at c.in_ok-plant.ensures in
-    let parsed : ScriptReads plant c.in_ok-bytes.bytes.items (Ok said) = rw (c.in_ok-resource.ensures.plant, c.deref-2.ensures.value) at c.in_ok-said.ensures in
+    let parsed : ScriptReads plant c.in_ok-bytes.bytes.items (Ok said) =
+    subst (λ (b : List ℕ). ReadsScript plant b (Ok c.in_ok-said.said)) c.deref-2.ensures.value
+    (subst (λ (p : PlantData). ReadsScript p c.deref-2.result.now (Ok c.in_ok-said.said)) c.in_ok-resource.ensures.plant c.in_ok-said.ensures) in
     let steered : steered_by c.in_ok-debugger.debugger ≡ played_on plant said = c.in_ok-debugger.ensures.steered
-    ∙ (λ i. record { plant = c.in_ok-resource.ensures.plant i; table = (c.into_parts.ensures.conditions i).items }) in
-    let commands : c.deref-3.result.now ≡ said.commands = c.deref-3.ensures.value ∙ ap (λ (v : Vec TimedCommand). v.items) c.into_parts.ensures.commands in
+    ∙ (λ i. record { plant = c.in_ok-resource.ensures.plant i; table = (c.into_parts-commands.ensures.conditions i).items }) in
+    let commands : c.deref-3.result.now ≡ said.commands = c.deref-3.ensures.value ∙ ap (λ (v : Vec TimedCommand). v.items) c.into_parts-commands.ensures.commands in
     played chart script w c.in_ok-text.text.items plant c.in_ok-text.ensures.taken loaded c.in_ok-bytes.bytes.items c.in_ok-bytes.ensures.taken said parsed
     c.play.result c.play.ensures.faults
     (subst (λ (s : Steered). Writes w.0 w.1 c.play.result (lines_of_play (debugger_of s) (text_of s) [] said.commands)) steered
     (subst (λ (cs : List TimedCommand). Writes w.0 w.1 c.play.result
-        (lines_of_play (debugger_of (steered_by c.in_ok-debugger.debugger)) (text_of (steered_by c.in_ok-debugger.debugger)) [] cs)) commands
+    (lines_of_play (debugger_of (steered_by c.in_ok-debugger.debugger)) (text_of (steered_by c.in_ok-debugger.debugger)) [] cs)) commands
     (c.play.ensures.lines [] c.in_ok-debugger.ensures.agrees)))
 
 pub returns-clause-finds : goal.returns-clause-finds
@@ -129,10 +133,12 @@ returns-clause-finds g c =
     let plant = c.in_ok-plant.plant in
     let said : ScriptData = record { commands = c.in_ok-said.said.commands.items; table = c.in_ok-said.said.conditions.items } in
     let loaded : IsAccepted c.in_ok-text.text.items plant = rw c.deref.ensures.value at c.in_ok-plant.ensures in
-    let parsed : ScriptReads plant c.in_ok-bytes.bytes.items (Ok said) = rw (c.in_ok-resource.ensures.plant, c.deref-2.ensures.value) at c.in_ok-said.ensures in
+    let parsed : ScriptReads plant c.in_ok-bytes.bytes.items (Ok said) =
+    subst (λ (b : List ℕ). ReadsScript plant b (Ok c.in_ok-said.said)) c.deref-2.ensures.value
+    (subst (λ (p : PlantData). ReadsScript p c.deref-2.result.now (Ok c.in_ok-said.said)) c.in_ok-resource.ensures.plant c.in_ok-said.ensures) in
     let steered : steered_by c.in_ok-debugger.debugger ≡ played_on plant said = c.in_ok-debugger.ensures.steered
-    ∙ (λ i. record { plant = c.in_ok-resource.ensures.plant i; table = (c.into_parts.ensures.conditions i).items }) in
-    let commands : c.deref-3.result.now ≡ said.commands = c.deref-3.ensures.value ∙ ap (λ (v : Vec TimedCommand). v.items) c.into_parts.ensures.commands in
+    ∙ (λ i. record { plant = c.in_ok-resource.ensures.plant i; table = (c.into_parts-commands.ensures.conditions i).items }) in
+    let commands : c.deref-3.result.now ≡ said.commands = c.deref-3.ensures.value ∙ ap (λ (v : Vec TimedCommand). v.items) c.into_parts-commands.ensures.commands in
     found chart script w c.in_ok-text.text.items plant c.in_ok-text.ensures.taken loaded c.in_ok-bytes.bytes.items c.in_ok-bytes.ensures.taken said parsed
     c.play.result
     (subst (λ (s : Steered). IfOk c.play.result (λ (amiss : Bool). amiss ≡ any_amiss s [] said.commands)) steered
