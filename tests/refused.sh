@@ -49,6 +49,10 @@ sweep() {
 }
 
 sweep "$top/examples/mixing.expect" replay "$top/examples/mixing.chart" "$top/examples/mixing.script"
+# a session with breakpoints that are hit, single scans and halts; one with a condition; and one that is cut while it is halted
+sweep "$top/examples/commissioning.expect" replay "$top/examples/commissioning.chart" "$top/examples/commissioning.script"
+sweep "$top/examples/late_dose.expect" replay "$top/examples/late_dose.chart" "$top/examples/late_dose.script"
+sweep "$data/epoch_while_stopped.expect" replay "$data/epoch_while_stopped.chart" "$data/epoch_while_stopped.script"
 sweep "$data/listed_mix.expect" list "$data/listed_mix.chart"
 echo ok >"$work/ok"
 sweep "$work/ok" check "$data/listed_mix.chart"
