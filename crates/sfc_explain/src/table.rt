@@ -1,4 +1,4 @@
-//! All refusals and faults.
+//! All refusals and faults, in three tables: one of all is more than the prover takes in at once.
 
 use crate::explanation::{ExampleKind, Explanation, LineMark};
 use crate::topic::Topic;
@@ -7,8 +7,8 @@ use sfc_events::refusal::Refusal;
 use sfc_tokens::read_error::ReadErrorKind;
 use sfc_variables::load_error::{Limit, LoadError};
 
-/// All refusals and faults: first those with a number, in its order.
-pub static TABLE: [Explanation; 51] = [
+/// What a chart is refused for, in the order of its numbers: by the reader, and then by the loader.
+pub static OF_CHARTS: [Explanation; 23] = [
     Explanation {
         topic: Topic::Reading(ReadErrorKind::TooLong),
         from: "reader",
@@ -218,6 +218,10 @@ pub static TABLE: [Explanation; 51] = [
         kind: ExampleKind::Shell,
         example: "    (ulimit -v 20000; sfcmon check large.chart)    # of a million bytes\n",
     },
+];
+
+/// What a command is refused for, in the order of its numbers.
+pub static OF_COMMANDS: [Explanation; 19] = [
     Explanation {
         topic: Topic::Command(Refusal::UnknownVar),
         from: "INPUT, FORCE, RELEASE, READ",
@@ -389,6 +393,10 @@ pub static TABLE: [Explanation; 51] = [
         kind: ExampleKind::Code,
         example: "    Debugger::new(alloc, resource, 1, mask)    // no conditions; and then Command::BreakIf\n",
     },
+];
+
+/// Faults, which have no number.
+pub static FAULTS: [Explanation; 9] = [
     Explanation {
         topic: Topic::Named("DivZero"),
         from: "scan",
