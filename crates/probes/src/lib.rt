@@ -1,6 +1,7 @@
 //! Tests of what no case can show: devices that fail, calls on their own, whole plants.
 //!
-//! - `bench`: a resource, and all that it shows as text; `broken`: devices that fail; `stations` and `texts`: charts.
+//! - `bench`: a resource, and all that it shows as text; `broken`: devices that fail; `sessions`: threads at a controller; `stations`
+//!   and `texts`: charts.
 //! - The rest: tests.
 #![tactic(auto)]
 
@@ -11,11 +12,9 @@ mod books;
 #[cfg(test)]
 mod broken;
 #[cfg(test)]
+mod crews;
+#[cfg(test)]
 mod debugger;
-#[cfg(test)]
-mod devices;
-#[cfg(test)]
-mod faults;
 #[cfg(test)]
 mod openings;
 #[cfg(test)]
@@ -24,6 +23,8 @@ mod plants;
 mod resource;
 #[cfg(test)]
 mod scans;
+#[cfg(test)]
+mod sessions;
 #[cfg(test)]
 mod stations;
 #[cfg(test)]
