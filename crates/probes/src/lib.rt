@@ -16,6 +16,10 @@ mod crews;
 #[cfg(test)]
 mod debugger;
 #[cfg(test)]
+mod devices;
+#[cfg(test)]
+mod faults;
+#[cfg(test)]
 mod openings;
 #[cfg(test)]
 mod plants;

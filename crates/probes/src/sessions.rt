@@ -22,6 +22,7 @@ use sfc_debug::debugger::Debugger;
 use sfc_events::command::{Answer, Command};
 use std::alloc::{AllocError, Global};
 use std::marker::Brand;
+use std::process::Abort;
 use std::sync::Wait;
 use std::sync::atomic::{AtomicI64, AtomicU64, Ordering};
 use std::sync::ledger::{Blank, Ledger};
@@ -48,9 +49,7 @@ pub struct Board {
 }
 
 impl Board {
-    fn new(plan: Plan) -> Board
-        ensures { result.plan ≡ plan }
-    {
+    fn new(plan: Plan) -> Board {
         Board {
             plan,
             asked: AtomicU64::new(0),
@@ -303,9 +302,7 @@ fn posts_of<'a, L: Ledger, R: time::Clock>(
     alloc: Global,
     seats: &mut Vec<Seat<L>>,
     board: &'a Board,
-) -> Result<Vec<Post<L, Watch<'a, R>, Hand<'a>>>, AllocError>
-    ensures { IfOk result (λ posts. length posts.items + length seats.new.items ≡ length seats.old.items) }
-{
+) -> Result<Vec<Post<L, Watch<'a, R>, Hand<'a>>>, AllocError> {
     let mut posts = Vec::new(alloc);
     for (number, job) in board.plan.jobs.iter().enumerate() {
         let Some(seat) = seats.pop() else {
@@ -338,9 +335,7 @@ fn in_turn<L: Session, R: Wait, G: Gate + Drop, C: Clock + Drop>(
     alloc: Global,
     controller: &Controller<L>,
     posts: Vec<Post<L, G, C>>,
-) -> Result<Vec<WorkerEnd<L>>, AllocError>
-    ensures { IfOk result (λ ends. length ends.items ≡ length posts.items) }
-{
+) -> Result<Vec<WorkerEnd<L>>, AllocError> {
     let mut ends = Vec::new(alloc);
     for post in posts {
         let Post {
@@ -362,15 +357,12 @@ fn side_by_side<'a, L: Session + Send + Sync, R: Threads + Wait + time::Clock + 
     controller: &Controller<L>,
     posts: Vec<Post<L, Watch<'a, R>, Hand<'a>>>,
     caller: Caller<'a, L>,
-) -> Result<(Vec<WorkerEnd<L>>, Caller<'a, L>), AllocError>
-    ensures { IfOk result (λ both. length both.0.items ≡ length posts.items) }
-{
+) -> Result<(Vec<WorkerEnd<L>>, Caller<'a, L>), AllocError> {
     thread::scope(
         thread::scope_env(),
         rt,
         |scope| -> Result<(Vec<WorkerEnd<L>>, Caller<L>), AllocError>
             requires { IsSync R.row }
-            ensures { IfOk result (λ both. length both.0.items ≡ length posts.items) }
         {
             let child = scope.spawn(move || called(rt, controller, caller))?;
             let ends = crew(rt, alloc, controller, posts)?;
@@ -405,9 +397,7 @@ struct Work<L: Ledger> {
 
 impl<L: Ledger> Work<L> {
     // Puts the ends' seats, receipts and reasons behind those that are there.
-    fn gather(&mut self, ends: Vec<WorkerEnd<L>>) -> Result<(), AllocError>
-        ensures { IfOk result (λ _. length self.new.seats.items ≡ length self.old.seats.items + length ends.items) }
-    {
+    fn gather(&mut self, ends: Vec<WorkerEnd<L>>) -> Result<(), AllocError> {
         for end in ends {
             let WorkerEnd {
                 seat,
@@ -427,9 +417,7 @@ fn left_by_calls<'a, L: Ledger>(
     alloc: Global,
     seats: Vec<Seat<L>>,
     caller: Caller<'a, L>,
-) -> Result<Work<L>, AllocError>
-    ensures { IfOk result (λ work. length work.seats.items ≡ length seats.items + 1) }
-{
+) -> Result<Work<L>, AllocError> {
     let Caller {
         seat,
         board: _,
@@ -447,20 +435,15 @@ fn left_by_calls<'a, L: Ledger>(
 }
 
 // Runs the workers, in their place, beside the calls. All seats come back.
-fn worked<L: Session + Send + Sync, R: Threads + Wait + time::Clock + Sync>(
+fn worked<L: Session + Send + Sync, R: Threads + Wait + time::Clock + Sync + Abort>(
     rt: &R,
     alloc: Global,
     controller: &Controller<L>,
     seats: Vec<Seat<L>>,
     board: &Board,
-) -> Result<Work<L>, AllocError>
-    requires { 0 < length seats.items }
-    ensures { IfOk result (λ work. length work.seats.items ≡ length seats.items) }
-{
+) -> Result<Work<L>, AllocError> {
     let mut seats = seats;
-    let Some(seat) = seats.pop() else {
-        unreachable!()
-    };
+    let seat = seats.pop().expect(rt, "a seat that calls");
     let answers = Vec::new(alloc);
     let caller = Caller {
         seat,
@@ -495,7 +478,7 @@ fn altered(
 }
 
 // Opens a controller with so many seats, runs the workers beside the calls, and closes it.
-fn run<L: Session + Send + Sync, R: Threads + Wait + time::Clock + Sync>(
+fn run<L: Session + Send + Sync, R: Threads + Wait + time::Clock + Sync + Abort>(
     rt: &R,
     alloc: Global,
     blank: Blank,
@@ -526,6 +509,7 @@ fn run<L: Session + Send + Sync, R: Threads + Wait + time::Clock + Sync>(
         receipts,
         whys,
     } = work;
+    assert!(rt; seats.len() == usize::from(count), "all seats came back");
     Ok(Left {
         answers,
         whys,
@@ -537,7 +521,7 @@ fn run<L: Session + Send + Sync, R: Threads + Wait + time::Clock + Sync>(
 }
 
 /// A session over the debugger, with as many seats as there are workers and one more.
-pub fn held<R: Threads + Wait + time::Clock + Sync>(
+pub fn held<R: Threads + Wait + time::Clock + Sync + Abort>(
     rt: &R,
     alloc: Global,
     debugger: Debugger,
