@@ -46,8 +46,8 @@ __attribute__((destructor)) static void report(void) {
 
 static int is_refused(void) {
   if (!is_ready) return 0;
-  allocations++;
-  return wanted == ALLOCATION && allocations == limit;
+  long number = __atomic_add_fetch(&allocations, 1, __ATOMIC_SEQ_CST);
+  return wanted == ALLOCATION && number == limit;
 }
 
 void *malloc(size_t size) {

@@ -59,21 +59,25 @@ sweep "$work/ok" check "$data/listed_mix.chart"
 awk '/^## Refusals/ { seen = 1 } seen && /^```/ { if (++fence == 2) exit; next } fence == 1' "$top/docs/FORMATS.md" >"$work/shown"
 sweep "$work/shown" explain 14
 
-# Tests in code that make openings, read conditions and open a debugger, which no command does yet: each allocation that is refused
-# is told as want of memory, or the run is undisturbed. A hundred undisturbed ones in turn are behind the last allocation.
+# Tests in code that make openings, read conditions, open a debugger and run workers, which no command does yet: each allocation that
+# is refused is told as want of memory, or the run is undisturbed. A hundred undisturbed ones in turn are behind the last allocation.
+# A worker that ends for want of memory says so itself (`Memory`), once the test has seen a receipt of each call that was accepted.
 probe=$top/crates/probes/out/probes_tests
 if [ -x "$probe" ]; then
-  for test in openings::the_opening_of_no_event_begins_anew debugger::a_debugger_is_interrupted_once; do
+  for test in openings::the_opening_of_no_event_begins_anew debugger::a_debugger_is_interrupted_once \
+    crews::a_worker_keeps_the_receipts_of_twenty_scans crews::a_crew_of_one_keeps_the_receipts_of_twenty_scans; do
     words=("$test")
-    calm=0
+    calm=0 ends=0
     for ((n = 1; n <= 20000 && calm < 100; n++)); do
       SFC_REFUSE=alloc:$n LD_PRELOAD="$work/refuse.so" "$probe" "${words[0]}" >"$work/out" 2>&1
       status=$?
       if [ "$status" = 0 ]; then calm=$((calm + 1)); else calm=0; fi
       [ "$status" = 0 ] || grep -qE '^error: .*(Memory|AllocError|AllocFailed)' "$work/out"
       note $? "allocation $n refused"
+      grep -qx 'error: Memory' "$work/out" && ends=$((ends + 1))
     done
     [ "$calm" = 100 ]; note $? "the undisturbed run"
+    case $test in crews::*) [ "$ends" -gt 1 ]; note $? "a worker's want of memory ($ends times)" ;; esac
   done
   # Ten scans and a hundred thousand make equally many allocations: all memory is taken at the opening.
   for scans in ten a_hundred_thousand; do

@@ -1,6 +1,7 @@
 //! Tests of what no case can show: devices that fail, calls on their own, whole plants.
 //!
-//! - `bench`: a resource, and all that it shows as text; `broken`: devices that fail; `stations` and `texts`: charts.
+//! - `bench`: a resource, and all that it shows as text; `broken`: devices that fail; `sessions`: threads at a controller; `stations`
+//!   and `texts`: charts.
 //! - The rest: tests.
 #![tactic(auto)]
 
@@ -10,6 +11,8 @@ mod bench;
 mod books;
 #[cfg(test)]
 mod broken;
+#[cfg(test)]
+mod crews;
 #[cfg(test)]
 mod debugger;
 #[cfg(test)]
@@ -24,6 +27,8 @@ mod plants;
 mod resource;
 #[cfg(test)]
 mod scans;
+#[cfg(test)]
+mod sessions;
 #[cfg(test)]
 mod stations;
 #[cfg(test)]

@@ -17,11 +17,12 @@ use sfc_control::receipt::Receipt;
 use sfc_control::seat::Seat;
 use sfc_control::session::Session;
 use sfc_control::tail::Tail;
-use sfc_control::work::{Why, WorkerEnd};
+use sfc_control::work::{Why, WorkerEnd, worker};
 use sfc_debug::debugger::Debugger;
 use sfc_events::command::{Answer, Command};
 use std::alloc::{AllocError, Global};
 use std::marker::Brand;
+use std::process::Abort;
 use std::sync::Wait;
 use std::sync::atomic::{AtomicI64, AtomicU64, Ordering};
 use std::sync::ledger::{Blank, Ledger};
@@ -29,9 +30,10 @@ use std::thread::Threads;
 use std::time::Duration;
 use std::{thread, time};
 
-/// What is counted over all threads of a session.
+/// A session's plan, and what is counted over all its threads.
 #[derive(Drop)]
 pub struct Board {
+    plan: Plan,
     // The gates that were asked for their first turn.
     asked: AtomicU64,
     // The accepted scans that gates were told of, and the accepted calls of the seat that calls.
@@ -47,8 +49,9 @@ pub struct Board {
 }
 
 impl Board {
-    fn new() -> Board {
+    fn new(plan: Plan) -> Board {
         Board {
+            plan,
             asked: AtomicU64::new(0),
             answered: AtomicU64::new(0),
             halted: AtomicU64::new(0),
@@ -216,6 +219,15 @@ pub enum Change {
     Index(u64),
 }
 
+/// Where workers run.
+#[derive(Clone, Copy)]
+pub enum Place {
+    /// In threads of their own.
+    Threads,
+    /// One after the other, in the thread that has the session.
+    Here,
+}
+
 /// A session: at most 23 workers, and a seat that calls.
 #[derive(Clone, Copy)]
 pub struct Plan {
@@ -225,6 +237,8 @@ pub struct Plan {
     pub room: usize,
     /// The workers.
     pub jobs: &'static [Job],
+    /// Where the workers run.
+    pub place: Place,
     /// What the other seat calls, beside the workers.
     pub calls: &'static [Call],
     /// Its clock.
@@ -250,43 +264,47 @@ pub struct Left {
     pub missed: u64,
 }
 
-// Calls each, after what it waits for.
-fn called<L: Session, R: Wait + time::Clock>(
+// The seat that calls, and what it was answered.
+#[derive(Drop)]
+struct Caller<'a, L: Ledger> {
+    seat: Seat<L>,
+    board: &'a Board,
+    answers: Vec<Result<Receipt, CallError>>,
+}
+
+// Makes each call of the plan, after what it waits for.
+fn called<'a, L: Session, R: Wait + time::Clock>(
     rt: &R,
     controller: &Controller<L>,
-    seat: &mut Seat<L>,
-    board: &Board,
-    plan: &Plan,
-    answers: &mut Vec<Result<Receipt, CallError>>,
-) -> Result<(), AllocError> {
+    caller: Caller<'a, L>,
+) -> Result<Caller<'a, L>, AllocError> {
+    let mut caller = caller;
+    let board = caller.board;
     let mut hand = Hand {
-        times: plan.times,
+        times: board.plan.times,
         next: 0,
         board,
     };
-    for (when, command) in plan.calls {
+    for (when, command) in board.plan.calls {
         wait_for(rt, board, *when);
-        let answer = seat.call(rt, controller, *command, &mut hand);
+        let answer = caller.seat.call(rt, controller, *command, &mut hand);
         if answer.is_ok() {
             count(&board.answered);
         }
-        answers.push(answer)?;
+        caller.answers.push(answer)?;
     }
-    Ok(())
+    Ok(caller)
 }
 
-// The posts of the jobs, which take their seats from the end.
+// The posts of the plan's jobs, which take their seats from the end.
 fn posts_of<'a, L: Ledger, R: time::Clock>(
     rt: &'a R,
     alloc: Global,
     seats: &mut Vec<Seat<L>>,
     board: &'a Board,
-    jobs: &[Job],
-) -> Result<Vec<Post<L, Watch<'a, R>, Hand<'a>>>, AllocError>
-    ensures { IfOk result (λ posts. length posts.items + length seats.new.items ≡ length seats.old.items) }
-{
+) -> Result<Vec<Post<L, Watch<'a, R>, Hand<'a>>>, AllocError> {
     let mut posts = Vec::new(alloc);
-    for (number, job) in jobs.iter().enumerate() {
+    for (number, job) in board.plan.jobs.iter().enumerate() {
         let Some(seat) = seats.pop() else {
             return Ok(posts);
         };
@@ -311,6 +329,49 @@ fn posts_of<'a, L: Ledger, R: time::Clock>(
     Ok(posts)
 }
 
+// A worker for each post, one after the other.
+fn in_turn<L: Session, R: Wait, G: Gate + Drop, C: Clock + Drop>(
+    rt: &R,
+    alloc: Global,
+    controller: &Controller<L>,
+    posts: Vec<Post<L, G, C>>,
+) -> Result<Vec<WorkerEnd<L>>, AllocError> {
+    let mut ends = Vec::new(alloc);
+    for post in posts {
+        let Post {
+            task,
+            seat,
+            mut gate,
+            mut clock,
+        } = post;
+        let end = worker(rt, alloc, task, seat, controller, &mut gate, &mut clock);
+        ends.push(end)?;
+    }
+    Ok(ends)
+}
+
+// A worker for each post in a thread of its own, and the calls in one more.
+fn side_by_side<'a, L: Session + Send + Sync, R: Threads + Wait + time::Clock + Sync>(
+    rt: &'a R,
+    alloc: Global,
+    controller: &Controller<L>,
+    posts: Vec<Post<L, Watch<'a, R>, Hand<'a>>>,
+    caller: Caller<'a, L>,
+) -> Result<(Vec<WorkerEnd<L>>, Caller<'a, L>), AllocError> {
+    thread::scope(
+        thread::scope_env(),
+        rt,
+        |scope| -> Result<(Vec<WorkerEnd<L>>, Caller<L>), AllocError>
+            requires { IsSync R.row }
+        {
+            let child = scope.spawn(move || called(rt, controller, caller))?;
+            let ends = crew(rt, alloc, controller, posts)?;
+            let caller = child.join(rt)?;
+            Ok((ends, caller))
+        },
+    )
+}
+
 // The receipts of the calls that were accepted.
 fn accepted(
     alloc: Global,
@@ -325,30 +386,86 @@ fn accepted(
     Ok(receipts)
 }
 
-// Puts the ends' seats, receipts and reasons behind those that are there.
-fn gather<L: Ledger>(
-    ends: Vec<WorkerEnd<L>>,
-    seats: &mut Vec<Seat<L>>,
-    receipts: &mut Vec<Receipt>,
-    whys: &mut Vec<Why>,
-) -> Result<(), AllocError>
-    ensures { IfOk result (λ _. length seats.new.items ≡ length seats.old.items + length ends.items) }
-{
-    for end in ends {
-        let WorkerEnd {
-            seat,
-            receipts: more,
-            why,
-        } = end;
-        seats.push(seat)?;
-        receipts.extend_from_slice(&more)?;
-        whys.push(why)?;
-    }
-    Ok(())
+// What workers and calls leave.
+#[derive(Drop)]
+struct Work<L: Ledger> {
+    seats: Vec<Seat<L>>,
+    answers: Vec<Result<Receipt, CallError>>,
+    receipts: Vec<Receipt>,
+    whys: Vec<Why>,
 }
 
-// Changes them.
-fn alter(receipts: &mut [Receipt], changes: &[(usize, Change)]) {
+impl<L: Ledger> Work<L> {
+    // Puts the ends' seats, receipts and reasons behind those that are there.
+    fn gather(&mut self, ends: Vec<WorkerEnd<L>>) -> Result<(), AllocError> {
+        for end in ends {
+            let WorkerEnd {
+                seat,
+                receipts,
+                why,
+            } = end;
+            self.seats.push(seat)?;
+            self.receipts.extend_from_slice(&receipts)?;
+            self.whys.push(why)?;
+        }
+        Ok(())
+    }
+}
+
+// What the calls leave, beside the seats.
+fn left_by_calls<'a, L: Ledger>(
+    alloc: Global,
+    seats: Vec<Seat<L>>,
+    caller: Caller<'a, L>,
+) -> Result<Work<L>, AllocError> {
+    let Caller {
+        seat,
+        board: _,
+        answers,
+    } = caller;
+    let mut seats = seats;
+    seats.push(seat)?;
+    let receipts = accepted(alloc, &answers)?;
+    Ok(Work {
+        seats,
+        answers,
+        receipts,
+        whys: Vec::new(alloc),
+    })
+}
+
+// Runs the workers, in their place, beside the calls. All seats come back.
+fn worked<L: Session + Send + Sync, R: Threads + Wait + time::Clock + Sync + Abort>(
+    rt: &R,
+    alloc: Global,
+    controller: &Controller<L>,
+    seats: Vec<Seat<L>>,
+    board: &Board,
+) -> Result<Work<L>, AllocError> {
+    let mut seats = seats;
+    let seat = seats.pop().expect(rt, "a seat that calls");
+    let answers = Vec::new(alloc);
+    let caller = Caller {
+        seat,
+        board,
+        answers,
+    };
+    let posts = posts_of(rt, alloc, &mut seats, board)?;
+    let (ends, caller) = match board.plan.place {
+        Place::Threads => side_by_side(rt, alloc, controller, posts, caller)?,
+        Place::Here => (in_turn(rt, alloc, controller, posts)?, caller),
+    };
+    let mut work = left_by_calls(alloc, seats, caller)?;
+    work.gather(ends)?;
+    Ok(work)
+}
+
+// The receipts, changed so.
+fn altered(
+    receipts: &Vec<Receipt>,
+    changes: &[(usize, Change)],
+) -> Result<Vec<Receipt>, AllocError> {
+    let mut receipts = receipts.clone()?;
     for (place, change) in changes {
         if let Some(receipt) = receipts.get_mut(*place) {
             match change {
@@ -357,10 +474,11 @@ fn alter(receipts: &mut [Receipt], changes: &[(usize, Change)]) {
             }
         }
     }
+    Ok(receipts)
 }
 
 // Opens a controller with so many seats, runs the workers beside the calls, and closes it.
-fn run<L: Session + Send + Sync, R: Threads + Wait + time::Clock + Sync>(
+fn run<L: Session + Send + Sync, R: Threads + Wait + time::Clock + Sync + Abort>(
     rt: &R,
     alloc: Global,
     blank: Blank,
@@ -379,31 +497,19 @@ fn run<L: Session + Send + Sync, R: Threads + Wait + time::Clock + Sync>(
     requires limit { plan.now.limit ≡ L.limit }
     requires untold { Agrees debugger [] }
 {
-    let board = Board::new();
-    let (controller, mut seats, tail) = Controller::<L>::open(
+    let board = Board::new(*plan);
+    let (controller, seats, tail) = Controller::<L>::open(
         alloc, blank, debugger, count, plan.limit, plan.room,
     )?;
-    let Some(mut own) = seats.pop() else {
-        unreachable!()
-    };
-    let posts = posts_of(rt, alloc, &mut seats, &board, plan.jobs)?;
-    let mut answers = Vec::new(alloc);
-    let (ends, told) = thread::join(
-        rt,
-        || -> Result<Vec<WorkerEnd<L>>, AllocError>
-            requires { IsSync R.row }
-            ensures { IfOk result (λ ends. length ends.items ≡ length posts.entry.items) }
-        { crew(rt, alloc, &controller, posts) },
-        || called(rt, &controller, &mut own, &board, plan, &mut answers),
-    );
-    let ends = ends?;
-    told?;
-    seats.push(own)?;
-    let mut receipts = accepted(alloc, &answers)?;
-    let mut whys = Vec::new(alloc);
-    gather(ends, &mut seats, &mut receipts, &mut whys)?;
-    let mut changed = receipts.clone()?;
-    alter(changed.as_mut_slice(), plan.changes);
+    let work = worked(rt, alloc, &controller, seats, &board)?;
+    let changed = altered(&work.receipts, plan.changes)?;
+    let Work {
+        seats,
+        answers,
+        receipts,
+        whys,
+    } = work;
+    assert!(rt; seats.len() == usize::from(count), "all seats came back");
     Ok(Left {
         answers,
         whys,
@@ -415,7 +521,7 @@ fn run<L: Session + Send + Sync, R: Threads + Wait + time::Clock + Sync>(
 }
 
 /// A session over the debugger, with as many seats as there are workers and one more.
-pub fn held<R: Threads + Wait + time::Clock + Sync>(
+pub fn held<R: Threads + Wait + time::Clock + Sync + Abort>(
     rt: &R,
     alloc: Global,
     debugger: Debugger,

@@ -1,7 +1,7 @@
 //! Workers in threads of their own at one controller, beside a seat that calls.
 
 use crate::books::{check_taken, debugger_of};
-use crate::sessions::{Call, Change, Job, Left, Plan, Times, When, held};
+use crate::sessions::{Call, Change, Job, Left, Place, Plan, Times, When, held};
 use crate::texts::{one_step, sixteen_tasks, two_tasks};
 use sfc_base::ids::VarId;
 use sfc_base::value::Value;
@@ -137,6 +137,7 @@ fn turns() -> Case {
             limit: 100,
             room: 2,
             jobs: &TURNS,
+            place: Place::Threads,
             calls: &AN_INPUT,
             times: STILL,
             changes: &[],
@@ -173,6 +174,7 @@ fn calls_go_back() -> Case {
             limit: 100,
             room: 16,
             jobs: &[],
+            place: Place::Threads,
             calls: &TWO_READS,
             times: Times::Listed([5, 4, 4, 4]),
             changes: &[],
@@ -199,6 +201,7 @@ fn a_worker_goes_back() -> Case {
             limit: 100,
             room: 16,
             jobs: &GOES_BACK,
+            place: Place::Threads,
             calls: &[],
             times: STILL,
             changes: &[],
@@ -229,6 +232,7 @@ fn fills() -> Case {
             limit: 3,
             room: 16,
             jobs: &ON_TIME,
+            place: Place::Threads,
             calls: &[],
             times: STILL,
             changes: &[],
@@ -263,6 +267,7 @@ fn is_ended() -> Case {
             limit: 100,
             room: 16,
             jobs: &LATE,
+            place: Place::Threads,
             calls: &THE_END,
             times: STILL,
             changes: &[],
@@ -295,6 +300,7 @@ fn changed(changes: &'static [(usize, Change)], closed: Result<usize, (u8, u64)>
             limit: 100,
             room: 16,
             jobs: &[],
+            place: Place::Threads,
             calls: &THREE_READS,
             times: STILL,
             changes,
@@ -330,6 +336,55 @@ fn receipts_that_were_changed_are_told(rt: HostRuntime) -> Result<(), Fail> {
     Ok(())
 }
 
+// Twenty scans, for whose receipts a worker asks for more room again and again.
+const TWENTY: [Job; 1] = [Job {
+    first: When::Now,
+    scans: 20,
+    times: Times::Shared,
+}];
+
+fn twenty(place: Place) -> Case {
+    Case {
+        chart: one_step().chart,
+        plan: Plan {
+            limit: 100,
+            room: 16,
+            jobs: &TWENTY,
+            place,
+            calls: &[],
+            times: STILL,
+            changes: &[],
+        },
+        answers: &[],
+        whys: &[Why::Closed],
+        indices: &[],
+        closed: Ok(20),
+    }
+}
+
+// The worker has scanned twenty times, or memory was refused to it: either way it has the receipts of all that was accepted.
+fn check_twenty(rt: &impl Abort, left: &Left) -> Result<(), Fail> {
+    check_closed(rt, left, Ok(left.receipts.len()));
+    if matches!(left.whys.as_slice(), [Why::Memory]) {
+        return Err(Why::Memory.into());
+    }
+    assert_eq!(rt; left.whys.as_slice(), [Why::Closed].as_slice());
+    assert_eq!(rt; left.receipts.len(), 20);
+    Ok(())
+}
+
+#[test]
+fn a_worker_keeps_the_receipts_of_twenty_scans(rt: HostRuntime) -> Result<(), Fail> {
+    let left = left_of(&rt, rt.alloc(), &twenty(Place::Here))?;
+    check_twenty(&rt, &left)
+}
+
+#[test]
+fn a_crew_of_one_keeps_the_receipts_of_twenty_scans(rt: HostRuntime) -> Result<(), Fail> {
+    let left = left_of(&rt, rt.alloc(), &twenty(Place::Threads))?;
+    check_twenty(&rt, &left)
+}
+
 #[test]
 fn want_of_memory_opens_no_controller(rt: HostRuntime) -> Result<(), Fail> {
     let mut case = changed(&[], Ok(3));
@@ -360,6 +415,7 @@ fn stops() -> Case {
             limit: 64,
             room: 64,
             jobs: &SIXTEEN,
+            place: Place::Threads,
             calls: &STOP_AND_GO,
             times: Times::Shared,
             changes: &[],
