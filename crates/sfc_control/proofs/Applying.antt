@@ -72,6 +72,14 @@ instant_after : (plant : PlantData) (table : List BreakCondition) (h : CommandHi
 unfolding state_of
 instant_after plant table h command raw = refl
 
+-- a debugger that agrees with the entries has counted them
+pub count_is : (debugger : Debugger) (es : List Entry) (count : ℕ) → ∥ Agrees debugger (commands_of es) ∥₁ →
+    ((h : CommandHistory) → Agrees debugger h → count ≡ length h) → count ≡ length es
+count_is debugger es count agrees all =
+    let found : count ≡ length (commands_of es) = here ℕ-set debugger es (λ h. length h) count agrees all in
+    let told : length (commands_of es) ≡ 0 + length es = length-told [] es in
+    omega (arith, found, told)
+
 module _ (old new : Debugger) (es : List Entry) (command : Command) (raw : ℤ) (agrees : ∥ Agrees old (commands_of es) ∥₁)
     (goes : (h : CommandHistory) → Agrees old h → Agrees new ((command, raw) ∷ h)) where
   pub index_is : (index : ℕ) → ((h : CommandHistory) → Agrees new h → index ≡ length h) → index ≡ length es + 1

@@ -125,6 +125,13 @@ impl Book {
         self.history.first()
     }
 
+    /// How many entries there were since the first, also those that were dropped since.
+    pub fn accepted(&self) -> u64
+        ensures { result ≡ length (accepted self.now) }
+    {
+        self.debugger.accepted()
+    }
+
     /// What the entries that were dropped leave for later answers.
     pub fn opening(&self) -> &DebugOpening
         ensures opening { result.now ≡ opening_of self.now }

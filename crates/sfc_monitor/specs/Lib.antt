@@ -8,6 +8,8 @@ pub mod Reading
 pub mod Acceptance
 -- what replay answers and writes
 pub mod Replay
+-- a chart that runs in real time
+pub mod Running
 -- what each fault becomes; exit statuses and texts
 pub mod MonitorErrors
 -- What private clauses cite.

@@ -8,6 +8,7 @@
 //! - `play`: the commands of a script, one after the other.
 //! - `report`: what is written of a run; `text`: its text.
 //! - `replay`: a chart and a script, from bytes to bytes.
+//! - `run`: a chart in real time; `run_opening`: what it is opened with; `run_threads`: its threads.
 #![tactic(auto)]
 
 mod chart;
@@ -18,4 +19,7 @@ pub mod monitor_error;
 pub mod play;
 pub mod replay;
 pub mod report;
+pub mod run;
+mod run_opening;
+mod run_threads;
 pub mod text;

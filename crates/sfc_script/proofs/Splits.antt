@@ -1,10 +1,12 @@
 -- Lines, and the bytes up to a mark.
-use Rattle.std.proofs.Common.{◌≡◌, ℕ, suc, ◌-◌, ◌<◌, ◌≤◌, ◌==◌, Bool, true, false, ◌&&◌, if◌then◌else◌, List, [], ◌∷◌, ◌++◌, length, take, refl, sym, ap, ◌∙◌, subst, arith, append_assoc, length-append}
+use Rattle.std.proofs.Common.{◌≡◌, ℕ, suc, ◌-◌, ◌<◌, ◌≤◌, ◌==◌, Bool, true, false, Option, Some, None, ◌&&◌, if◌then◌else◌, List, [], ◌∷◌, ◌++◌, length, take, refl, sym, ap, ◌∙◌, subst, arith, append_assoc, length-append}
 use Rattle.std.proofs.Math.Bool.{and-false}
 use Rattle.std.proofs.lemmas.Bool.Decides.{nat_tests}
 use Rattle.std.proofs.lemmas.List.{take_at}
 use Rattle.sfc_script.specs.Lines.{in_line, begins_with_lf, lines_of, split_before}
-use Rattle.sfc_script.specs.Private.Splitting.{without_cr, is_lf, IsLine}
+use Rattle.sfc_script.specs.Arriving as arriving
+use Rattle.sfc_script.specs.Arriving.{without_cr, is_lf}
+use Rattle.sfc_script.specs.Private.Splitting.{IsLine}
 
 pub split_more : (p : ℕ → Bool) (b : ℕ) (bytes : List ℕ) → p b ≡ false → split_before p (b ∷ bytes) ≡ (b ∷ (split_before p bytes).0, (split_before p bytes).1)
 unfolding split_before
@@ -197,3 +199,32 @@ other_number m n h = by (m == n) refl
 pub none_left : (bytes : List ℕ) → length bytes ≡ 0 → bytes ≡ []
 none_left [] e = refl
 none_left (b ∷ bytes) e = absurd (omega arith)
+
+-- ---- lines of text that comes in pieces
+
+split_as : (s : List ℕ × List ℕ) (line rest : List ℕ) → arriving.ended_by s ≡ Some (line, rest) → (m : ℕ) × (s.1 ≡ m ∷ rest) × (without_cr s.0 ≡ line)
+split_as (front, []) line rest e = absurd (let bad : None ≡ Some (line, rest) = e in cc)
+split_as (front, m ∷ behind) line rest e =
+    let same : (without_cr front, behind) ≡ (line, rest) = some_inj e in
+    (m, (ap (λ p. m ∷ p.1) same, ap (λ p. p.0) same))
+
+-- a line that has its end is the first line, whatever comes behind the bytes
+pub stays : (bytes line rest more : List ℕ) → arriving.ended_line bytes ≡ Some (line, rest) → lines_of (bytes ++ more) ≡ line ∷ lines_of (rest ++ more)
+stays bytes line rest more e =
+    let s = split_as (split_before is_lf bytes) line rest e in
+    let front = (split_before is_lf bytes).0 in
+    let m = s.0 in
+    let whole : bytes ≡ front ++ m ∷ rest = sym (parts_joined is_lf bytes) ∙ ap (λ r. front ++ r) s.1.0 in
+    let joined : bytes ++ more ≡ (front ++ m ∷ []) ++ rest ++ more =
+        ap (λ b. b ++ more) whole ∙ append_assoc front (m ∷ rest) more ∙ sym (append_assoc front (m ∷ []) (rest ++ more)) in
+    let again : split_before is_lf ((front ++ m ∷ []) ++ rest ++ more) ≡ (front, m ∷ rest ++ more) = parted_again bytes m rest (rest ++ more) s.1.0 in
+    ap lines_of joined
+    ∙ ended_line ((front ++ m ∷ []) ++ rest ++ more) m (rest ++ more) (ap (λ p. p.1) again)
+    ∙ ap (λ p. without_cr p.0 ∷ lines_of (rest ++ more)) again ∙ ap (λ l. l ∷ lines_of (rest ++ more)) s.1.1
+
+pub line_ends : (s : List ℕ × List ℕ) (line behind rest trimmed : List ℕ) (m : ℕ) → (line, behind) ≡ s → behind ≡ m ∷ rest → trimmed ≡ without_cr line → arriving.ended_by s ≡ Some (trimmed, rest)
+line_ends s line behind rest trimmed m split found cut =
+    ap arriving.ended_by (sym split ∙ ap (λ b. (line, b)) found) ∙ ap (λ l. Some (l, rest)) (sym cut)
+
+pub no_end_yet : (s : List ℕ × List ℕ) (line behind : List ℕ) → (line, behind) ≡ s → behind ≡ [] → arriving.ended_by s ≡ None
+no_end_yet s line behind split none = ap arriving.ended_by (sym split ∙ ap (λ b. (line, b)) none)

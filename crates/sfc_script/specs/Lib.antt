@@ -12,6 +12,9 @@ pub mod Points
 pub mod Commands
 -- whole scripts
 pub mod Scripts
+-- lines of text that comes in pieces, and what a line of a session says
+pub mod Arriving
+pub mod SessionLines
 -- what a reader of scripts answers
 pub mod Answers
 -- What private clauses cite.

@@ -1,8 +1,10 @@
 //! What the definitions mean: each law is a function with an empty body, whose contract is the law.
 
-ghost use Rattle.std.specs.Prelude.{◌≡◌, ◌<◌, ◌^◌, ℕ, ℤ, List, Result, unsigned_abs, Some};
+ghost use Rattle.std.specs.Prelude.{◌≡◌, ◌<◌, ◌^◌, ◌∷◌, ◌++◌, ℕ, ℤ, List, Result, unsigned_abs, Some};
 ghost use Rattle.std.specs.Fmt.{signed_decimal};
 ghost use Rattle.sfc_plant.specs.Plants.{PlantData};
+ghost use Rattle.sfc_script.specs.Arriving.{ended_line};
+ghost use Rattle.sfc_script.specs.Lines.{lines_of};
 ghost use Rattle.sfc_script.specs.Scripts.{ScriptData, ScriptReads};
 ghost use Rattle.sfc_script.specs.Values.{number_of};
 
@@ -20,4 +22,10 @@ pub fn one_script()
 /// Each script says something: commands, or which of its lines is none.
 pub fn some_script()
     ensures { (plant : PlantData) (bytes : List ℕ) → (a : Result ScriptData ℕ) × ScriptReads plant bytes a }
+{}
+
+/// A line that has its end is the first line of the whole text, whatever bytes come behind it.
+pub fn first_line_stays()
+    ensures { (bytes line rest more : List ℕ) → ended_line bytes ≡ Some (line, rest)
+        → lines_of (bytes ++ more) ≡ line ∷ lines_of (rest ++ more) }
 {}

@@ -5,14 +5,16 @@
 //! - `script`: whole scripts.
 //! - `condition`: the conditions of breakpoints, by their texts.
 //! - `line`: a line: an instant, and what stands behind it.
+//! - `session_line`: a line of a session, which has no instant.
 //! - `command`: commands: a keyword, and what stands behind it.
 //! - `point`: points of charts, by their names and numbers.
 //! - `names`: tasks, program instances and variables by their names.
 //! - `value`, `number`: values of variables, and decimal numbers.
-//! - `split`: lines and words.
+//! - `split`: lines and words; `arriving`: lines of text that comes in pieces.
 //! - `instant`, `repeated`: instants in their plainest form, and commands that a script says again.
 #![tactic(auto)]
 
+pub mod arriving;
 pub mod command;
 mod condition;
 mod instant;
@@ -23,5 +25,6 @@ mod number;
 mod point;
 mod repeated;
 pub mod script;
+pub mod session_line;
 mod split;
 mod value;

@@ -24,8 +24,8 @@ pub enum Line<'a> {
     Faulty,
 }
 
-// Whether the word begins with a semicolon.
-fn begins_comment(word: &[u8]) -> bool
+/// Whether the word begins with a semicolon.
+pub fn begins_comment(word: &[u8]) -> bool
     ensures { result ≡ commands.begins_comment word.now }
 {
     match word.first() {

@@ -1,10 +1,12 @@
 //! Lines and words of a script.
 
 ghost use Rattle.std.specs.Prelude.{◌≡◌, ◌∷◌, ◌<◌, ◌-◌, [], length, take, MatchOption, IfSome, Some, None};
+ghost use Rattle.sfc_script.specs.Arriving as arriving;
+ghost use Rattle.sfc_script.specs.Arriving.{is_lf};
 ghost use Rattle.sfc_script.specs.Lines as lines;
 ghost use Rattle.sfc_script.specs.Lines.{split_before};
 ghost use Rattle.sfc_script.specs.Private.Splitting as splitting;
-ghost use Rattle.sfc_script.specs.Private.Splitting.{is_lf, IsLine};
+ghost use Rattle.sfc_script.specs.Private.Splitting.{IsLine};
 
 fn is_blank(byte: u8) -> bool
     ensures { result ≡ lines.is_blank byte }
@@ -37,9 +39,9 @@ fn split_word(bytes: &[u8]) -> (&[u8], &[u8])
     bytes.split_at(count)
 }
 
-// The bytes before the first LF, and the rest.
+/// The bytes before the first LF, and the rest.
 #[tactic(auto, unfolding(crate::specs::Lines::split_before))]
-fn split_line(bytes: &[u8]) -> (&[u8], &[u8])
+pub fn split_line(bytes: &[u8]) -> (&[u8], &[u8])
     ensures { (result.0.now, result.1.now) ≡ split_before is_lf bytes.now }
 {
     let mut count = 0;
@@ -52,9 +54,9 @@ fn split_line(bytes: &[u8]) -> (&[u8], &[u8])
     bytes.split_at(count)
 }
 
-// The line without a CR at its end.
-fn without_cr(line: &[u8]) -> &[u8]
-    ensures { result.now ≡ splitting.without_cr line.now }
+/// The line without a CR at its end.
+pub fn without_cr(line: &[u8]) -> &[u8]
+    ensures { result.now ≡ arriving.without_cr line.now }
 {
     let Some((last, front)) = line.split_last() else {
         return line;

@@ -1,6 +1,6 @@
 use Rattle.std.proofs.Common.{◌≡◌, ◌++◌, take, drop}
 use Rattle.sfc_script.specs.Lines.{split_before}
-use Rattle.sfc_script.specs.Private.Splitting.{is_lf}
+use Rattle.sfc_script.specs.Arriving.{is_lf}
 use Rattle.sfc_script.proofs.split.split_line.Given as goal
 
 abbrev pub invariant-all : goal.invariant-all

@@ -1,0 +1,145 @@
+//! The threads of a run: a worker for each task, and one that prints; the session is held in the thread that has the run.
+
+ghost use Rattle.std.specs.Prelude.{◌≡◌, IfOk, IfSome, length};
+ghost use Rattle.std.specs.Thread.{IsSync};
+
+use sfc_control::crews::crew;
+use sfc_control::post::Post;
+use sfc_control::session::Session;
+use sfc_control::work::WorkerEnd;
+use sfc_debug::debugger::Debugger;
+use sfc_live::console::Console;
+use sfc_live::printing::{PrintFault, Printing, print_rows};
+use sfc_live::real_time::{Pace, RealTime};
+use sfc_live::run_faults::RunFaults;
+use sfc_live::session::{Desk, hold};
+use std::alloc::{AllocError, Global};
+use std::io::{Read, Write};
+use std::sync::Wait;
+use std::sync::atomic::{AtomicBool, Ordering};
+use std::sync::ledger::Ledger;
+use std::thread::{Promise, Threads};
+use std::{thread, time};
+
+/// Where the lines of a session come from, and where its faults are told.
+pub struct Streams<'s, S: Read, E: Write> {
+    pub commands: &'s mut S,
+    pub errors: &'s mut E,
+}
+
+/// What the threads of a run leave.
+#[derive(Drop)]
+pub struct Left<L: Ledger, W: Write> {
+    /// The workers' ends; `None` where memory or a thread was refused to the crew.
+    pub ends: Option<Vec<WorkerEnd<L>>>,
+    /// Where lines were printed, and what is left of the feed; `None` where the thread that prints was refused.
+    pub printing: Option<Printing<W>>,
+    /// What went wrong.
+    pub faults: RunFaults,
+}
+
+// As many ends as there were posts.
+#[derive(Clone, Copy)]
+pub struct EndsOf {
+    pub posts: usize,
+}
+
+impl<L: Ledger> Promise<Result<Vec<WorkerEnd<L>>, AllocError>> for EndsOf {
+    ghost kept_by = { λ promise ends. IfOk ends (λ ends. length ends.items ≡ promise.posts) };
+}
+
+// Workers in threads of their own, beside the session.
+fn work<'a, L: Session + Send + Sync, R: Threads + Wait + time::Clock + Sync, S: Read, E: Write>(
+    desk: &Desk<'a, L, R>,
+    posts: Vec<Post<L, Pace<'a, R>, RealTime<'a, R>>>,
+    console: &mut Console<L, RealTime<'a, R>>,
+    streams: &mut Streams<'_, S, E>,
+) -> (Option<Vec<WorkerEnd<L>>>, RunFaults)
+    ensures { IfSome result.0 (λ ends. length ends.items ≡ length posts.items) }
+{
+    let (rt, alloc, controller) = (desk.rt, desk.alloc, desk.controller);
+    thread::scope(
+        thread::scope_env(),
+        rt,
+        |scope| -> (Option<Vec<WorkerEnd<L>>>, RunFaults)
+            requires { IsSync R.row }
+            ensures { IfSome result.0 (λ ends. length ends.items ≡ length posts.items) }
+        {
+            let promise = EndsOf { posts: posts.len() };
+            let job = move || -> Result<Vec<WorkerEnd<L>>, AllocError>
+                ensures { IfOk result (λ ends. length ends.items ≡ length posts.items) }
+            { crew(rt, alloc, controller, posts) };
+            let Ok(child) = scope.spawn_with(promise, job) else {
+                return (None, RunFaults::of_memory());
+            };
+            let faults = hold(desk, console, streams.commands, streams.errors);
+            match child.join(rt) {
+                Ok(ends) => (Some(ends), faults),
+                Err(_) => (None, faults.with(RunFaults::of_memory())),
+            }
+        },
+    )
+}
+
+// What printing comes to.
+fn printed<R: Wait + time::Clock, W: Write>(
+    rt: &R,
+    alloc: Global,
+    names: &Debugger,
+    printing: Printing<W>,
+    over: &AtomicBool,
+) -> (Printing<W>, RunFaults) {
+    let mut printing = printing;
+    let faults = match print_rows(rt, alloc, names, &mut printing, over) {
+        Ok(()) => RunFaults::none(),
+        Err(PrintFault::Write) => RunFaults::of_write(),
+        Err(PrintFault::Memory) => RunFaults::of_memory(),
+    };
+    (printing, faults)
+}
+
+/// Holds the session beside the workers, and prints what the feed has meanwhile. All threads have ended then.
+pub fn run_threads<
+    'a,
+    L: Session + Send + Sync,
+    R: Threads + Wait + time::Clock + Sync,
+    S: Read,
+    W: Write + Send + Drop,
+    E: Write,
+>(
+    desk: &Desk<'a, L, R>,
+    posts: Vec<Post<L, Pace<'a, R>, RealTime<'a, R>>>,
+    console: &mut Console<L, RealTime<'a, R>>,
+    printing: Printing<W>,
+    streams: &mut Streams<'_, S, E>,
+) -> Left<L, W>
+    ensures { IfSome result.ends (λ ends. length ends.items ≡ length posts.items) }
+{
+    let (rt, alloc, names) = (desk.rt, desk.alloc, desk.names);
+    let flag = AtomicBool::new(false);
+    let over = &flag;
+    thread::scope(
+        thread::scope_env(),
+        rt,
+        |scope| -> Left<L, W>
+            requires { IsSync R.row }
+            ensures { IfSome result.ends (λ ends. length ends.items ≡ length posts.items) }
+        {
+            let Ok(printer) = scope.spawn(move || printed(rt, alloc, names, printing, over)) else {
+                return Left {
+                    ends: None,
+                    printing: None,
+                    faults: RunFaults::of_memory(),
+                };
+            };
+            let (ends, faults) = work(desk, posts, console, streams);
+            over.store(true, Ordering::SeqCst);
+            let (printing, print_faults) = printer.join(rt);
+            Left {
+                ends,
+                printing: Some(printing),
+                faults: faults.with(print_faults),
+            }
+        },
+    )
+}
