@@ -13,8 +13,12 @@ abbrev pub text_if : Bool → List ℕ → List ℕ
 text_if true text = text
 text_if false text = []
 
+abbrev pub front_text : RunFaults → List ℕ
+front_text faults = text_if faults.memory (codes "out of memory\n") ++ text_if faults.read (codes "read fault\n")
+
+abbrev pub back_text : RunFaults → List ℕ
+back_text faults = text_if faults.write (codes "write fault\n") ++ text_if faults.mismatch (codes "refused 41 AuditMismatch\n")
+
 -- a line for each
 abbrev pub faults_text : RunFaults → List ℕ
-faults_text faults =
-    text_if faults.memory (codes "out of memory\n") ++ text_if faults.read (codes "read fault\n")
-    ++ text_if faults.write (codes "write fault\n") ++ text_if faults.mismatch (codes "refused 41 AuditMismatch\n")
+faults_text faults = front_text faults ++ back_text faults

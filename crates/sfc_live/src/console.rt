@@ -66,7 +66,10 @@ impl<L: Session, C: Clock> Console<L, C> {
         ensures { number self.new.seat ≡ number self.old.seat }
     {
         let room = self.receipts.reserve(1).is_ok();
-        let receipt = match self.seat.call(rt, controller, Command::End, &mut self.clock) {
+        let receipt = match self
+            .seat
+            .call(rt, controller, Command::End, &mut self.clock)
+        {
             Ok(receipt) => receipt,
             Err(error) => return Err(error),
         };

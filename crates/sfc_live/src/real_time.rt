@@ -11,7 +11,7 @@ use std::{thread, time};
 
 /// A clock that counts microseconds from its start, by the runtime's monotonic clock. Where that can't be read, the reading is 2^63 - 1,
 /// past each instant that a command may have.
-#[derive(Clone, Copy)]
+#[derive(Drop)]
 pub struct RealTime<'a, R: time::Clock> {
     rt: &'a R,
     start: Option<Instant>,
@@ -22,7 +22,11 @@ fn micros_from(start: Instant, now: Instant) -> i64
     ensures { result ≡ micros_between (instant_nanos start) (instant_nanos now) }
 {
     let micros = now.duration_since(start).as_micros();
-    if micros < i64::MAX as u128 { micros as i64 } else { i64::MAX }
+    if micros < i64::MAX as u128 {
+        micros as i64
+    } else {
+        i64::MAX
+    }
 }
 
 impl<'a, R: time::Clock> RealTime<'a, R> {
@@ -31,6 +35,16 @@ impl<'a, R: time::Clock> RealTime<'a, R> {
         RealTime {
             rt,
             start: Instant::now(rt).ok(),
+        }
+    }
+
+    /// Another clock with the same start.
+    pub fn another(&self) -> RealTime<'a, R>
+        ensures { result ≡ self.now }
+    {
+        RealTime {
+            rt: self.rt,
+            start: self.start,
         }
     }
 }
@@ -48,7 +62,7 @@ impl<'a, R: time::Clock> Clock for RealTime<'a, R> {
 
 /// The gate of a worker that scans as long as it may. It sleeps a millisecond where the task isn't due, goes behind another, or the
 /// resource is halted.
-#[derive(Clone, Copy)]
+#[derive(Drop)]
 pub struct Pace<'a, R: time::Clock> {
     rt: &'a R,
 }

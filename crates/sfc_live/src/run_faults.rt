@@ -89,8 +89,12 @@ impl RunFaults {
 
     /// What is so of either.
     pub fn with(self, other: RunFaults) -> RunFaults
-        ensures { result ≡ record { memory = self.memory || other.memory; read = self.read || other.read;
-            write = self.write || other.write; mismatch = self.mismatch || other.mismatch } }
+        ensures { result ≡ record {
+          memory = self.memory || other.memory;
+          read = self.read || other.read;
+          write = self.write || other.write;
+          mismatch = self.mismatch || other.mismatch;
+        } }
     {
         RunFaults {
             memory: self.memory || other.memory,
@@ -115,14 +119,28 @@ impl RunFaults {
         }
     }
 
+    // The first two of the lines.
+    fn append_front(self, out: &mut Vec<u8>) -> Result<(), AllocError>
+        ensures { OnOk result (out.new.items ≡ out.old.items ++ faults.front_text self) }
+    {
+        append_if(out, self.memory, b"out of memory\n")?;
+        append_if(out, self.read, b"read fault\n")
+    }
+
+    // The last two.
+    fn append_back(self, out: &mut Vec<u8>) -> Result<(), AllocError>
+        ensures { OnOk result (out.new.items ≡ out.old.items ++ faults.back_text self) }
+    {
+        append_if(out, self.write, b"write fault\n")?;
+        append_if(out, self.mismatch, b"refused 41 AuditMismatch\n")
+    }
+
     /// Puts a line for each at the end: `out of memory`, `read fault`, `write fault`, `refused 41 AuditMismatch`, in this order. The one error
     /// is that memory was refused; then a front of them may stand there.
     pub fn append_text(self, out: &mut Vec<u8>) -> Result<(), AllocError>
         ensures { OnOk result (out.new.items ≡ out.old.items ++ faults.faults_text self) }
     {
-        append_if(out, self.memory, b"out of memory\n")?;
-        append_if(out, self.read, b"read fault\n")?;
-        append_if(out, self.write, b"write fault\n")?;
-        append_if(out, self.mismatch, b"refused 41 AuditMismatch\n")
+        self.append_front(out)?;
+        self.append_back(out)
     }
 }

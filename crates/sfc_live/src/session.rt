@@ -28,6 +28,7 @@ pub const MOST: usize = 1_048_576;
 const PIECE: usize = 4096;
 
 /// What a session stands on: the controller, and a debugger of the same plant, by whose names lines are read and refusals are told.
+#[derive(Drop)]
 pub struct Desk<'a, L: Session, R: Wait> {
     /// The runtime.
     pub rt: &'a R,
@@ -39,13 +40,20 @@ pub struct Desk<'a, L: Session, R: Wait> {
     pub names: &'a Debugger,
 }
 
+// A number, and the end of its line.
+fn append_last(out: &mut Vec<u8>, number: u64) -> Result<(), AllocError>
+    ensures { OnOk result (out.new.items ≡ out.old.items ++ text.last_text number) }
+{
+    append_number(out, number)?;
+    append(out, b"\n")
+}
+
 // A line that is no command, by its number.
 fn append_faulty(out: &mut Vec<u8>, number: u64) -> Result<(), AllocError>
     ensures { OnOk result (out.new.items ≡ out.old.items ++ text.faulty_text number) }
 {
     append(out, b"script line ")?;
-    append_number(out, number)?;
-    append(out, b"\n")
+    append_last(out, number)
 }
 
 // Tells of a line that is no command. A fault of the writer is passed over.

@@ -128,15 +128,18 @@ fn run_with<
         unreachable!()
     };
     let clock = RealTime::start(rt);
-    let posts = posts_of(rt, alloc, seats, clock)?;
+    let posts = posts_of(rt, alloc, seats, &clock)?;
     let mut console = Console::new(alloc, seat, clock);
-    let desk = Desk {
-        rt,
-        alloc,
-        controller: &controller,
-        names: &names,
+    let printing = Printing { tail, w };
+    let left = {
+        let desk = Desk {
+            rt,
+            alloc,
+            controller: &controller,
+            names: &names,
+        };
+        run_threads(&desk, posts, &mut console, printing, streams)
     };
-    let left = run_threads(&desk, posts, &mut console, Printing { tail, w }, streams);
     Ok(finish(alloc, controller, console, left))
 }
 
@@ -198,14 +201,7 @@ pub fn run_chart<
     };
     let seats = opened.debugger.resource().plant().tasks().len() as u64 + 1;
     let mut streams = Streams { commands, errors };
-    let ran = run_with::<Brand, R, S, W, E>(
-        rt,
-        alloc,
-        Blank::new(seats),
-        opened,
-        w,
-        &mut streams,
-    );
+    let ran = run_with::<Brand, R, S, W, E>(rt, alloc, Blank::new(seats), opened, w, &mut streams);
     let faults = match ran {
         Ok(faults) => faults,
         Err(_) => RunFaults::of_memory(),

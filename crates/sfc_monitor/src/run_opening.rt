@@ -24,19 +24,10 @@ use std::time;
 const KEPT: usize = 1024;
 
 /// The debugger of a run, and one of the same chart for the names that lines are read and written by, which is told nothing.
+#[derive(Drop)]
 pub struct Opened {
     pub debugger: Debugger,
     pub names: Debugger,
-}
-
-// By hand, so that a caller that drops one proves one call.
-impl Drop for Opened {
-    fn drop(self) {
-        let Opened {
-            debugger: _,
-            names: _,
-        } = self;
-    }
 }
 
 // A debugger of the plant that the bytes of a chart are.
@@ -91,7 +82,7 @@ pub fn posts_of<'a, L: Ledger, R: time::Clock>(
     rt: &'a R,
     alloc: Global,
     seats: Vec<Seat<L>>,
-    clock: RealTime<'a, R>,
+    clock: &RealTime<'a, R>,
 ) -> Result<Vec<Post<L, Pace<'a, R>, RealTime<'a, R>>>, AllocError>
     ensures { IfOk result (λ posts. length posts.items ≡ length seats.items) }
 {
@@ -102,7 +93,7 @@ pub fn posts_of<'a, L: Ledger, R: time::Clock>(
             task: TaskId(number),
             seat,
             gate: Pace::new(rt),
-            clock,
+            clock: clock.another(),
         })?;
         number = number.saturating_add(1);
     }

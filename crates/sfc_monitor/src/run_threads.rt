@@ -22,6 +22,7 @@ use std::thread::{Promise, Threads};
 use std::{thread, time};
 
 /// Where the lines of a session come from, and where its faults are told.
+#[derive(Drop)]
 pub struct Streams<'s, S: Read, E: Write> {
     pub commands: &'s mut S,
     pub errors: &'s mut E,
@@ -49,8 +50,8 @@ impl<L: Ledger> Promise<Result<Vec<WorkerEnd<L>>, AllocError>> for EndsOf {
 }
 
 // Workers in threads of their own, beside the session.
-fn work<'a, L: Session + Send + Sync, R: Threads + Wait + time::Clock + Sync, S: Read, E: Write>(
-    desk: &Desk<'a, L, R>,
+fn work<'a, 'd, L: Session + Send + Sync, R: Threads + Wait + time::Clock + Sync, S: Read, E: Write>(
+    desk: &Desk<'d, L, R>,
     posts: Vec<Post<L, Pace<'a, R>, RealTime<'a, R>>>,
     console: &mut Console<L, RealTime<'a, R>>,
     streams: &mut Streams<'_, S, E>,
@@ -101,13 +102,14 @@ fn printed<R: Wait + time::Clock, W: Write>(
 /// Holds the session beside the workers, and prints what the feed has meanwhile. All threads have ended then.
 pub fn run_threads<
     'a,
+    'd,
     L: Session + Send + Sync,
     R: Threads + Wait + time::Clock + Sync,
     S: Read,
     W: Write + Send + Drop,
     E: Write,
 >(
-    desk: &Desk<'a, L, R>,
+    desk: &Desk<'d, L, R>,
     posts: Vec<Post<L, Pace<'a, R>, RealTime<'a, R>>>,
     console: &mut Console<L, RealTime<'a, R>>,
     printing: Printing<W>,

@@ -205,8 +205,8 @@ none_left (b ∷ bytes) e = absurd (omega arith)
 split_as : (s : List ℕ × List ℕ) (line rest : List ℕ) → arriving.ended_by s ≡ Some (line, rest) → (m : ℕ) × (s.1 ≡ m ∷ rest) × (without_cr s.0 ≡ line)
 split_as (front, []) line rest e = absurd (let bad : None ≡ Some (line, rest) = e in cc)
 split_as (front, m ∷ behind) line rest e =
-    let same : (without_cr front, behind) ≡ (line, rest) = some_inj e in
-    (m, (ap (λ p. m ∷ p.1) same, ap (λ p. p.0) same))
+    let same : ◌≡◌ {A = List ℕ × List ℕ} (without_cr front, behind) (line, rest) = cc in
+    (m, ap (λ p. m ∷ p.1) same, ap (λ p. p.0) same)
 
 -- a line that has its end is the first line, whatever comes behind the bytes
 pub stays : (bytes line rest more : List ℕ) → arriving.ended_line bytes ≡ Some (line, rest) → lines_of (bytes ++ more) ≡ line ∷ lines_of (rest ++ more)
@@ -214,17 +214,10 @@ stays bytes line rest more e =
     let s = split_as (split_before is_lf bytes) line rest e in
     let front = (split_before is_lf bytes).0 in
     let m = s.0 in
-    let whole : bytes ≡ front ++ m ∷ rest = sym (parts_joined is_lf bytes) ∙ ap (λ r. front ++ r) s.1.0 in
-    let joined : bytes ++ more ≡ (front ++ m ∷ []) ++ rest ++ more =
-        ap (λ b. b ++ more) whole ∙ append_assoc front (m ∷ rest) more ∙ sym (append_assoc front (m ∷ []) (rest ++ more)) in
-    let again : split_before is_lf ((front ++ m ∷ []) ++ rest ++ more) ≡ (front, m ∷ rest ++ more) = parted_again bytes m rest (rest ++ more) s.1.0 in
+    let whole : bytes ≡ front ++ m ∷ rest = sym (parts_joined is_lf bytes) ∙ ap (λ r. front ++ r) s.1 in
+    let joined : bytes ++ more ≡ (front ++ m ∷ []) ++ (rest ++ more) =
+    ap (λ b. b ++ more) whole ∙ append_assoc front (m ∷ rest) more ∙ sym (append_assoc front (m ∷ []) (rest ++ more)) in
+    let again : split_before is_lf ((front ++ m ∷ []) ++ (rest ++ more)) ≡ (front, m ∷ (rest ++ more)) = parted_again bytes m rest (rest ++ more) s.1 in
     ap lines_of joined
-    ∙ ended_line ((front ++ m ∷ []) ++ rest ++ more) m (rest ++ more) (ap (λ p. p.1) again)
-    ∙ ap (λ p. without_cr p.0 ∷ lines_of (rest ++ more)) again ∙ ap (λ l. l ∷ lines_of (rest ++ more)) s.1.1
-
-pub line_ends : (s : List ℕ × List ℕ) (line behind rest trimmed : List ℕ) (m : ℕ) → (line, behind) ≡ s → behind ≡ m ∷ rest → trimmed ≡ without_cr line → arriving.ended_by s ≡ Some (trimmed, rest)
-line_ends s line behind rest trimmed m split found cut =
-    ap arriving.ended_by (sym split ∙ ap (λ b. (line, b)) found) ∙ ap (λ l. Some (l, rest)) (sym cut)
-
-pub no_end_yet : (s : List ℕ × List ℕ) (line behind : List ℕ) → (line, behind) ≡ s → behind ≡ [] → arriving.ended_by s ≡ None
-no_end_yet s line behind split none = ap arriving.ended_by (sym split ∙ ap (λ b. (line, b)) none)
+    ∙ ended_line ((front ++ m ∷ []) ++ (rest ++ more)) m (rest ++ more) (ap (λ p. p.1) again)
+    ∙ ap (λ p. without_cr p.0 ∷ lines_of (rest ++ more)) again ∙ ap (λ l. l ∷ lines_of (rest ++ more)) s.2
