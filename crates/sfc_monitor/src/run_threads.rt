@@ -56,7 +56,7 @@ fn work<'a, 'd, L: Session + Send + Sync, R: Threads + Wait + time::Clock + Sync
     console: &mut Console<L, RealTime<'a, R>>,
     streams: &mut Streams<'_, S, E>,
 ) -> (Option<Vec<WorkerEnd<L>>>, RunFaults)
-    ensures { IfSome result.0 (λ ends. length ends.items ≡ length posts.items) }
+    ensures { IfSome result.0 (λ ends. length ends.items ≡ length posts.entry.items) }
 {
     let (rt, alloc, controller) = (desk.rt, desk.alloc, desk.controller);
     thread::scope(
@@ -64,11 +64,11 @@ fn work<'a, 'd, L: Session + Send + Sync, R: Threads + Wait + time::Clock + Sync
         rt,
         |scope| -> (Option<Vec<WorkerEnd<L>>>, RunFaults)
             requires { IsSync R.row }
-            ensures { IfSome result.0 (λ ends. length ends.items ≡ length posts.items) }
+            ensures { IfSome result.0 (λ ends. length ends.items ≡ length posts.entry.items) }
         {
             let promise = EndsOf { posts: posts.len() };
             let job = move || -> Result<Vec<WorkerEnd<L>>, AllocError>
-                ensures { IfOk result (λ ends. length ends.items ≡ length posts.items) }
+                ensures { IfOk result (λ ends. length ends.items ≡ length posts.entry.items) }
             { crew(rt, alloc, controller, posts) };
             let Ok(child) = scope.spawn_with(promise, job) else {
                 return (None, RunFaults::of_memory());
@@ -115,7 +115,7 @@ pub fn run_threads<
     printing: Printing<W>,
     streams: &mut Streams<'_, S, E>,
 ) -> Left<L, W>
-    ensures { IfSome result.ends (λ ends. length ends.items ≡ length posts.items) }
+    ensures { IfSome result.ends (λ ends. length ends.items ≡ length posts.entry.items) }
 {
     let (rt, alloc, names) = (desk.rt, desk.alloc, desk.names);
     let flag = AtomicBool::new(false);
@@ -125,7 +125,7 @@ pub fn run_threads<
         rt,
         |scope| -> Left<L, W>
             requires { IsSync R.row }
-            ensures { IfSome result.ends (λ ends. length ends.items ≡ length posts.items) }
+            ensures { IfSome result.ends (λ ends. length ends.items ≡ length posts.entry.items) }
         {
             let Ok(printer) = scope.spawn(move || printed(rt, alloc, names, printing, over)) else {
                 return Left {

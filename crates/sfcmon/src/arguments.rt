@@ -1,8 +1,10 @@
 //! The command line.
 
 use crate::files::end_with;
+use clap::builder::ValueParser;
 use clap::error::ErrorKind;
 use clap::{Arg, ArgAction, ArgMatches, Command, Error};
+use sfc_debug::trace_mask::TraceMask;
 use sfc_monitor::monitor_error::MonitorError;
 use std::alloc::{AllocError, Global};
 
@@ -17,6 +19,15 @@ pub struct Playing {
     pub strict: bool,
 }
 
+/// A chart to be run in real time.
+#[derive(Drop)]
+pub struct Running {
+    /// The name of the chart's file.
+    pub chart: String,
+    /// Which commands have lines.
+    pub mask: TraceMask,
+}
+
 /// What the words ask for.
 #[derive(Drop)]
 pub enum Request {
@@ -26,6 +37,8 @@ pub enum Request {
     List { chart: String },
     /// A script to be played on a chart.
     Replay(Playing),
+    /// A chart to be run in real time, with a session on standard input.
+    Run(Running),
     /// What a refusal or a fault means, by its number or its name.
     Explain { word: String },
     /// The numbers and names of all refusals and faults.
@@ -49,6 +62,45 @@ Examples:
 
 'sfcmon explain NUMBER' tells what a refusal or a fault means.
 docs/LANGUAGE.md describes the text of charts, docs/FORMATS.md scripts and output.";
+
+// What stands at the end of the help on `run`.
+const RUN_NOTES: &str = "\
+Lines of the session come from standard input, as in a script, but without instants: SCAN, INPUT, FORCE, RELEASE, RESET, READ, BREAK,
+UNBREAK, STOP, GO, SINGLE, END and EPOCH. At the end of input (Ctrl-D) the session ends the run.
+Each accepted command has a line on standard output: its number, and its line as 'replay' prints it. The last line is 'audit ok' and how
+many commands were accepted. What is refused, and 'script line N' for a line that is no command, stands on standard error.
+
+A session that starts a pump, halts it, reads, forces, lets go and ends; typed:   printed, beside the lines of scans:
+  INPUT Start TRUE                                                               3 T#1.2s INPUT Start TRUE
+  INPUT Start FALSE                                                              9 T#2.1s INPUT Start FALSE
+  READ Pump                                                                      14 T#3.2s READ Pump TRUE
+  STOP                                                                           21 T#4.5s STOP
+  READ Pump                                                                      22 T#4.5s READ Pump TRUE
+  FORCE Full TRUE                                                                23 T#4.5s FORCE Full TRUE
+  SINGLE Main T#200ms                                                            24 T#4.7s SINGLE Main T#200ms overruns 0
+  RELEASE Full                                                                   25 T#4.7s RELEASE Full
+  GO                                                                             26 T#4.7s GO
+  END                                                                            31 T#5.6s END
+and at the end 'audit ok 31'. While the run is halted its time stands still.
+
+Sum for --trace of the commands that have lines:
+  1   SCAN, SINGLE        16  BREAK, UNBREAK
+  2   INPUT               32  STOP, GO, END, EPOCH
+  4   FORCE, RELEASE      64  READ
+  8   RESET
+
+Exit status:
+  0  the run has ended, and its audit is right
+  1  the chart is refused, or the audit found a mismatch
+  2  the words of the command line are wrong
+  3  a file or standard input can't be read, or standard output can't be written
+  4  memory or a thread was refused
+
+Examples:
+  sfcmon run examples/pump.chart
+  sfcmon run examples/pump.chart --trace 0 < examples/pump.session
+
+docs/FORMATS.md says what each line is.";
 
 // What stands at the end of the help on the program.
 const NOTES: &str = "\
@@ -144,6 +196,26 @@ fn replay_command<'a>(alloc: Global) -> Result<Command<'a>, AllocError> {
         .arg(script)
 }
 
+// The argument that says which commands have lines.
+fn trace_argument<'a>(alloc: Global) -> Arg<'a> {
+    Arg::new(alloc, "trace")
+        .long("trace")
+        .value_name("N")
+        .value_parser(ValueParser::Unsigned(0, 127))
+        .default_value("127")
+        .help("Which commands have lines: a sum of the numbers below, 0 to 127")
+}
+
+fn run_command<'a>(alloc: Global) -> Result<Command<'a>, AllocError> {
+    Command::new(alloc, "run")
+        .about(
+            "Runs a chart in real time, with a session on standard input, and audits the run at its end",
+        )
+        .after_help(RUN_NOTES)
+        .arg(trace_argument(alloc))?
+        .arg(chart_argument(alloc))
+}
+
 fn explain_command<'a>(alloc: Global) -> Result<Command<'a>, AllocError> {
     let name = Arg::new(alloc, "NAME").num_args(1..).help(
         "A number such as 14 or a name such as NoInitial, whatever the case of its letters",
@@ -188,6 +260,7 @@ fn with_chart_commands<'a>(alloc: Global, command: Command<'a>) -> Result<Comman
 fn sfcmon_command<'a>(alloc: Global) -> Result<Command<'a>, AllocError> {
     let command = with_chart_commands(alloc, bare_command(alloc)?)?;
     let command = with_command(command, replay_command(alloc))?;
+    let command = with_command(command, run_command(alloc))?;
     with_command(command, explain_command(alloc))
 }
 
@@ -253,6 +326,20 @@ fn replay_request(alloc: Global, matches: &ArgMatches) -> Result<Request, AllocE
     }
 }
 
+// A chart to be run, where one is named.
+fn run_request(alloc: Global, matches: &ArgMatches) -> Result<Request, AllocError> {
+    match (matches.get_str("FILE"), matches.get_one::<u8>("trace")) {
+        (Some(chart), Some(mask)) => {
+            let chart = String::from_str(alloc, chart)?;
+            Ok(Request::Run(Running {
+                chart,
+                mask: TraceMask(mask),
+            }))
+        }
+        _ => Ok(Request::Answered(2)),
+    }
+}
+
 // What the words that matched ask for.
 fn request_of(alloc: Global, matches: &ArgMatches) -> Result<Request, AllocError> {
     if let Some(check) = matches.subcommand_matches("check") {
@@ -263,6 +350,9 @@ fn request_of(alloc: Global, matches: &ArgMatches) -> Result<Request, AllocError
     }
     if let Some(replay) = matches.subcommand_matches("replay") {
         return replay_request(alloc, replay);
+    }
+    if let Some(run) = matches.subcommand_matches("run") {
+        return run_request(alloc, run);
     }
     if let Some(explain) = matches.subcommand_matches("explain") {
         return explain_request(alloc, explain.get_strs("NAME"));

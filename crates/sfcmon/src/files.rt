@@ -1,12 +1,16 @@
 //! Files, standard output and exit status.
 
+use sfc_debug::trace_mask::TraceMask;
 use sfc_monitor::check::{check_chart, list_chart};
 use sfc_monitor::monitor_error::MonitorError;
 use sfc_monitor::replay::{replay, replay_strict};
+use sfc_monitor::run::run_chart;
 use std::alloc::Global;
-use std::io::{Read, Write};
+use std::io::{Read, Stderr, Stdin, Stdout, Write};
 use std::rt::Files;
-use std::{fs, io};
+use std::sync::Wait;
+use std::thread::Threads;
+use std::{fs, io, time};
 
 /// Prints the text of the error on standard error, where a fault is passed over; the exit status.
 pub fn end_with<R: Eprint>(rt: &R, error: MonitorError) -> u8 {
@@ -76,4 +80,36 @@ pub fn replay_files<R: Print + Eprint + Files + AllocGlobal>(
         Ok(status) => status,
         Err(error) => end_with(rt, error),
     }
+}
+
+/// Standard input, output and error.
+#[derive(Drop)]
+pub struct Streams {
+    pub input: Stdin,
+    pub output: Stdout,
+    pub errors: Stderr,
+}
+
+/// Runs the chart of a file in real time, with a session on standard input: the exit status. A file that can't be opened is a read fault.
+pub fn run_file<R>(rt: &R, streams: Streams, chart: &str, mask: TraceMask) -> u8
+where
+    R: Threads + Wait + time::Clock + Sync + Eprint + Files + AllocGlobal,
+{
+    let Ok(mut chart) = fs::open(rt, chart) else {
+        return end_with(rt, MonitorError::Read);
+    };
+    let Streams {
+        mut input,
+        output,
+        mut errors,
+    } = streams;
+    run_chart(
+        rt,
+        rt.alloc(),
+        &mut chart,
+        &mut input,
+        output,
+        &mut errors,
+        mask,
+    )
 }

@@ -1,5 +1,5 @@
-//! `sfcmon`: checks and lists Sequential Function Charts, plays scripts on them and prints what happens, and tells what a
-//! refusal or a fault means.
+//! `sfcmon`: checks and lists Sequential Function Charts, plays scripts on them and prints what happens, runs them in real time, and
+//! tells what a refusal or a fault means.
 //!
 //! - `arguments`: the command line.
 //! - `explain`: what refusals and faults mean.
@@ -11,9 +11,13 @@ mod explain;
 mod files;
 
 use arguments::{Playing, Request, read_words, refuse_words};
+use files::Streams;
 use sfc_monitor::monitor_error::MonitorError;
 use std::process::ExitCode;
-use std::{env, io};
+use std::rt::Files;
+use std::sync::Wait;
+use std::thread::Threads;
+use std::{env, io, time};
 
 // The words of the command line. The error is `InvalidData` where one of them isn't UTF-8, and else `OutOfMemory`.
 fn words_of(rt: &HostRuntime) -> io::Result<Vec<String>> {
@@ -23,7 +27,7 @@ fn words_of(rt: &HostRuntime) -> io::Result<Vec<String>> {
 }
 
 // Plays a script on a chart: the exit status.
-fn replay(rt: &HostRuntime, playing: &Playing) -> u8 {
+fn replay<R: Print + Eprint + Files + AllocGlobal>(rt: &R, playing: &Playing) -> u8 {
     files::replay_files(
         rt,
         playing.chart.as_str(),
@@ -33,32 +37,38 @@ fn replay(rt: &HostRuntime, playing: &Playing) -> u8 {
 }
 
 // Does what is asked for: the exit status.
-fn serve(rt: &HostRuntime, request: &Request) -> u8 {
+fn serve<R>(rt: &R, streams: Streams, request: &Request) -> u8
+where
+    R: Threads + Wait + time::Clock + Sync + Print + Eprint + Files + AllocGlobal,
+{
     match request {
         Request::Check { chart } => files::check_file(rt, chart.as_str()),
         Request::List { chart } => files::list_file(rt, chart.as_str()),
         Request::Replay(playing) => replay(rt, playing),
+        Request::Run(running) => files::run_file(rt, streams, running.chart.as_str(), running.mask),
         Request::Explain { word } => explain::explain_word(rt, word.as_str()),
         Request::ListExplanations => explain::list_explanations(rt),
         Request::Answered(status) => *status,
     }
 }
 
-// Does what the words ask for: the exit status.
-fn answer(rt: &HostRuntime, words: &[String]) -> u8 {
-    let request = read_words(rt, words);
-    serve(rt, &request)
-}
-
-// Answers the words of the command line: the exit status.
-fn run(rt: &HostRuntime) -> u8 {
+// What the words ask for.
+fn request_of(rt: &HostRuntime) -> Request {
     match words_of(rt) {
-        Ok(words) => answer(rt, words.as_slice()),
-        Err(error) if error.kind() == io::ErrorKind::InvalidData => refuse_words(rt),
-        Err(_) => files::end_with(rt, MonitorError::Memory),
+        Ok(words) => read_words(rt, words.as_slice()),
+        Err(error) if error.kind() == io::ErrorKind::InvalidData => {
+            Request::Answered(refuse_words(rt))
+        }
+        Err(_) => Request::Answered(files::end_with(rt, MonitorError::Memory)),
     }
 }
 
 fn main(rt: HostRuntime) -> ExitCode {
-    ExitCode::from(run(&rt))
+    let request = request_of(&rt);
+    let streams = Streams {
+        input: rt.stdin(),
+        output: rt.stdout(),
+        errors: rt.stderr(),
+    };
+    ExitCode::from(serve(&rt, streams, &request))
 }
