@@ -1,3 +1,7 @@
+-- what holds of a value, where there is one
+pub mod Ends
+-- which values may go to another thread
+pub mod Crosses
 -- lines of numbered places, one after the other
 pub mod Numbered
 -- a script that is being played

@@ -82,21 +82,66 @@ fn work<'a, 'd, L: Session + Send + Sync, R: Threads + Wait + time::Clock + Sync
     )
 }
 
+// What the thread that prints looks at: by whose names it prints, and what tells it that no more rows come.
+#[derive(Drop)]
+struct Board<'b> {
+    names: &'b Debugger,
+    over: &'b AtomicBool,
+}
+
 // What printing comes to.
-fn printed<R: Wait + time::Clock, W: Write>(
+fn printed<'b, R: Wait + time::Clock, W: Write>(
     rt: &R,
     alloc: Global,
-    names: &Debugger,
+    board: Board<'b>,
     printing: Printing<W>,
-    over: &AtomicBool,
 ) -> (Printing<W>, RunFaults) {
     let mut printing = printing;
-    let faults = match print_rows(rt, alloc, names, &mut printing, over) {
+    let faults = match print_rows(rt, alloc, board.names, &mut printing, board.over) {
         Ok(()) => RunFaults::none(),
         Err(PrintFault::Write) => RunFaults::of_write(),
         Err(PrintFault::Memory) => RunFaults::of_memory(),
     };
     (printing, faults)
+}
+
+// Prints what the feed has beside a job, until the job is done and no row is left: what the job gave, and what printing came to. `None`
+// where the thread was refused; then the job was let go.
+fn print_beside<
+    R: Threads + Wait + time::Clock + Sync,
+    W: Write + Send + Drop,
+    T,
+    F: FnOnce() -> T + Drop,
+>(
+    rt: &R,
+    alloc: Global,
+    names: &Debugger,
+    printing: Printing<W>,
+    job: F,
+) -> Option<(T, Printing<W>, RunFaults)>
+    requires { F.pre job }
+    ensures { IfSome result (λ done. F.post job done.0) }
+{
+    let flag = AtomicBool::new(false);
+    let over = &flag;
+    let board = Board { names, over };
+    thread::scope(
+        thread::scope_env(),
+        rt,
+        |scope| -> Option<(T, Printing<W>, RunFaults)>
+            requires sync { IsSync R.row }
+            requires job { F.pre job }
+            ensures { IfSome result (λ done. F.post job done.0) }
+        {
+            let Ok(child) = scope.spawn(move || printed(rt, alloc, board, printing)) else {
+                return None;
+            };
+            let done = job();
+            over.store(true, Ordering::SeqCst);
+            let (printing, faults) = child.join(rt);
+            Some((done, printing, faults))
+        },
+    )
 }
 
 /// Holds the session beside the workers, and prints what the feed has meanwhile. All threads have ended then.
@@ -117,31 +162,20 @@ pub fn run_threads<
 ) -> Left<L, W>
     ensures { IfSome result.ends (λ ends. length ends.items ≡ length posts.entry.items) }
 {
-    let (rt, alloc, names) = (desk.rt, desk.alloc, desk.names);
-    let flag = AtomicBool::new(false);
-    let over = &flag;
-    thread::scope(
-        thread::scope_env(),
-        rt,
-        |scope| -> Left<L, W>
-            requires { IsSync R.row }
-            ensures { IfSome result.ends (λ ends. length ends.items ≡ length posts.entry.items) }
-        {
-            let Ok(printer) = scope.spawn(move || printed(rt, alloc, names, printing, over)) else {
-                return Left {
-                    ends: None,
-                    printing: None,
-                    faults: RunFaults::of_memory(),
-                };
-            };
-            let (ends, faults) = work(desk, posts, console, streams);
-            over.store(true, Ordering::SeqCst);
-            let (printing, print_faults) = printer.join(rt);
-            Left {
-                ends,
-                printing: Some(printing),
-                faults: faults.with(print_faults),
-            }
+    let job = || -> (Option<Vec<WorkerEnd<L>>>, RunFaults)
+        requires { IsSync R.row }
+        ensures { IfSome result.0 (λ ends. length ends.items ≡ length posts.entry.items) }
+    { work(desk, posts, console, streams) };
+    match print_beside(desk.rt, desk.alloc, desk.names, printing, job) {
+        Some(((ends, faults), printing, print_faults)) => Left {
+            ends,
+            printing: Some(printing),
+            faults: faults.with(print_faults),
         },
-    )
+        None => Left {
+            ends: None,
+            printing: None,
+            faults: RunFaults::of_memory(),
+        },
+    }
 }
