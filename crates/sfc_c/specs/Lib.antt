@@ -1,0 +1,10 @@
+-- The rules, in reading order.
+
+-- what a handle owns
+pub mod Held
+-- what C reads of answers, values and points
+pub mod Codes
+-- what a handle's calls answer
+pub mod Handles
+-- why nothing is opened
+pub mod Faults
