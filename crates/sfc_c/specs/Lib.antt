@@ -8,3 +8,5 @@ pub mod Codes
 pub mod Handles
 -- why nothing is opened
 pub mod Faults
+-- what is read without a command
+pub mod Readings

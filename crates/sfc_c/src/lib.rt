@@ -2,7 +2,7 @@
 //!
 //! - `life`: opening, checking, closing; explanations.
 //! - `commands`: commands by number.
-//! - `reading`: what is read without a command.
+//! - `reading`: what is read without a command; `showing`: steps, transitions and actions.
 //! - `finding`: names, numbers and counts.
 //! - `line`: a line of a script, and the lines that it gives.
 //! - `handle`: a debugger on the heap, as one word that C keeps; `loose`: a box as its pointer.
@@ -17,5 +17,7 @@ mod loose;
 mod number;
 mod opening;
 mod point;
+pub mod reading;
 pub mod reply;
+pub mod showing;
 mod status;
