@@ -1,11 +1,14 @@
 -- What C reads of answers, values and points: the numbers that stand for them (our choice).
 use Rattle.std.specs.Prelude.{◌≡◌, ℕ, ℤ, pos, negsuc, int_lt, not, cond, ◌==◌, ◌&&◌, ◌^◌, ◌-◌, if◌then◌else◌}
-use Rattle.std.specs.Prelude.{Bool, true, false, Option, Some, None, Result, Ok, Err}
+use Rattle.std.specs.Prelude.{Bool, true, false, Option, Some, None, Result, Ok, Err, option_map, slice_get}
 use Rattle.sfc_base.specs.declared.var_type.VarType.{VarType}
 use Rattle.sfc_base.specs.declared.var_type.VarType.TheVariants as types
 use Rattle.sfc_base.specs.declared.value.Value.{Value}
 use Rattle.sfc_base.specs.declared.value.Value.TheVariants as values
 use Rattle.sfc_base.specs.declared.ids.ProgId.{ProgId}
+use Rattle.sfc_base.specs.declared.ids.VarId.{VarId}
+use Rattle.sfc_plant.specs.Plants.{PlantData}
+use Rattle.sfc_plant.specs.Image.{image_variables}
 use Rattle.sfc_events.specs.declared.command.Answer.{Answer}
 use Rattle.sfc_events.specs.declared.command.Answer.TheVariants as answers
 use Rattle.sfc_events.specs.declared.command.Command.{Command}
@@ -69,6 +72,10 @@ reply_of (Err (Yield task)) = record {
 reply_of (Err refusal) = nothing_told
 
 -- ---- values
+
+-- the type of a variable, if there is one with this number
+abbrev pub type_of : PlantData → VarId → Option VarType
+type_of plant id = option_map (λ v. v.var_type) (slice_get (image_variables plant) id.0)
 
 -- it is not below the first and not above the second
 abbrev pub is_within : ℤ → ℤ → ℤ → Bool

@@ -1,5 +1,6 @@
 -- What a handle's calls answer: the debugger's own words, over whatever the handle's debugger agrees with.
-use Rattle.std.specs.Prelude.{◌≡◌, ℕ, List, ℤ, Option, Some, None, Ok}
+use Rattle.std.specs.Prelude.{◌≡◌, [], ℤ, Option, Some, None}
+use Rattle.sfc_plant.specs.Plants.{PlantData}
 use Rattle.sfc_events.specs.declared.command.Command.{Command}
 use Rattle.sfc_events.specs.History.{History}
 use Rattle.sfc_debug.specs.declared.debugger.Debugger.{Debugger}
@@ -7,10 +8,7 @@ use Rattle.sfc_debug.specs.Agreement.{Agrees}
 use Rattle.sfc_debug.specs.Histories.{CommandHistory}
 use Rattle.sfc_debug.specs.States as debug
 use Rattle.sfc_debug.specs.Verdict.{verdict, after}
-use Rattle.sfc_load.specs.Accepted.{IsAccepted}
 use Rattle.sfc_output.specs.Steered.{Steered, steered_by}
-use Rattle.sfc_script.specs.Scripts.{ScriptData, ScriptReads}
-use Rattle.sfc_monitor.specs.Replay.{played_on}
 use Rattle.sfc_c.specs.declared.reply.Reply.{Reply}
 use Rattle.sfc_c.specs.Codes.{code_of, reply_of}
 
@@ -19,12 +17,9 @@ abbrev pub Holds : Option Debugger → Steered → CommandHistory → Type 0
 Holds None s h = ⊥
 Holds (Some debugger) s h = (steered_by debugger ≡ s) × Agrees debugger h
 
--- the plant of a text, and the conditions of a script over it
-pub record IsOpening (text script : List ℕ) (s : Steered) : Type 0 where
-  pub said : ScriptData
-  pub loaded : IsAccepted text s.plant
-  pub parsed : ScriptReads s.plant script (Ok said)
-  pub steered : s ≡ played_on s.plant said
+-- the plant, and no conditions of breakpoints
+abbrev pub without_conditions : PlantData → Steered
+without_conditions plant = record { plant = plant; table = [] }
 
 -- ---- commands
 

@@ -6,7 +6,5 @@ pub mod Held
 pub mod Codes
 -- what a handle's calls answer
 pub mod Handles
--- why nothing is opened
-pub mod Faults
 -- what is read without a command
 pub mod Readings

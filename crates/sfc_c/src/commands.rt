@@ -6,7 +6,6 @@ ghost use Rattle.sfc_events.specs.declared.command.Command.TheVariants as comman
 ghost use Rattle.sfc_events.specs.declared.command.Point.{Point as PointData};
 ghost use Rattle.sfc_debug.specs.Histories.{CommandHistory};
 ghost use Rattle.sfc_output.specs.Steered.{Steered};
-ghost use Rattle.sfc_script.specs.Names as names;
 ghost use Rattle.sfc_c.specs.Codes as codes;
 ghost use Rattle.sfc_c.specs.Handles.{Answers, Follows, Holds, Replies};
 
@@ -54,7 +53,7 @@ fn order(alloc: Global, plc: &mut Handle, command: Command, t: i64) -> i32
 
 // The type of a variable, if there is one with this number.
 fn type_of(plant: &Plant, id: VarId) -> Option<VarType>
-    ensures { result ≡ names.type_of plant.now id }
+    ensures { result ≡ codes.type_of plant.now id }
 {
     let variable = plant.variable(id)?;
     Some(variable.var_type)
@@ -63,7 +62,7 @@ fn type_of(plant: &Plant, id: VarId) -> Option<VarType>
 // The value of the variable's type that the number is told as, if there is one.
 fn value_at(alloc: Global, plc: &mut Handle, id: VarId, n: i64) -> Option<Value>
     ensures value { (s : Steered) (h : CommandHistory) → Holds plc.old.value s h →
-        result ≡ codes.value_of_number (names.type_of s.plant id) n }
+        result ≡ codes.value_of_number (codes.type_of s.plant id) n }
     ensures kept { plc.new.value ≡ plc.old.value }
     ensures closed { plc.old.value ≡ None → is_some result ≡ true }
 {
@@ -116,13 +115,13 @@ pub extern "C" fn sfc_single(
 #[unsafe(no_mangle)]
 pub extern "C" fn sfc_input(alloc: Global, plc: &mut Handle, var: u16, value: i64, t: i64) -> i32
     ensures code { (s : Steered) (h : CommandHistory) (v : ValueData) → Holds plc.old.value s h →
-        codes.value_of_number (names.type_of s.plant (record { 0 = var })) value ≡ Some v →
+        codes.value_of_number (codes.type_of s.plant (record { 0 = var })) value ≡ Some v →
         Answers plc.old.value (commands.Input (record { 0 = var }) v) t result }
     ensures kept { (s : Steered) (h : CommandHistory) (v : ValueData) → Holds plc.old.value s h →
-        codes.value_of_number (names.type_of s.plant (record { 0 = var })) value ≡ Some v →
+        codes.value_of_number (codes.type_of s.plant (record { 0 = var })) value ≡ Some v →
         Follows plc.old.value plc.new.value (commands.Input (record { 0 = var }) v) t }
     ensures no_value { (s : Steered) (h : CommandHistory) → Holds plc.old.value s h →
-        codes.value_of_number (names.type_of s.plant (record { 0 = var })) value ≡ None →
+        codes.value_of_number (codes.type_of s.plant (record { 0 = var })) value ≡ None →
         (result ≡ negsuc 1) × (plc.new.value ≡ plc.old.value) }
     ensures closed { plc.old.value ≡ None → result ≡ negsuc 0 }
 {
@@ -136,13 +135,13 @@ pub extern "C" fn sfc_input(alloc: Global, plc: &mut Handle, var: u16, value: i6
 #[unsafe(no_mangle)]
 pub extern "C" fn sfc_force(alloc: Global, plc: &mut Handle, var: u16, value: i64, t: i64) -> i32
     ensures code { (s : Steered) (h : CommandHistory) (v : ValueData) → Holds plc.old.value s h →
-        codes.value_of_number (names.type_of s.plant (record { 0 = var })) value ≡ Some v →
+        codes.value_of_number (codes.type_of s.plant (record { 0 = var })) value ≡ Some v →
         Answers plc.old.value (commands.Force (record { 0 = var }) v) t result }
     ensures kept { (s : Steered) (h : CommandHistory) (v : ValueData) → Holds plc.old.value s h →
-        codes.value_of_number (names.type_of s.plant (record { 0 = var })) value ≡ Some v →
+        codes.value_of_number (codes.type_of s.plant (record { 0 = var })) value ≡ Some v →
         Follows plc.old.value plc.new.value (commands.Force (record { 0 = var }) v) t }
     ensures no_value { (s : Steered) (h : CommandHistory) → Holds plc.old.value s h →
-        codes.value_of_number (names.type_of s.plant (record { 0 = var })) value ≡ None →
+        codes.value_of_number (codes.type_of s.plant (record { 0 = var })) value ≡ None →
         (result ≡ negsuc 1) × (plc.new.value ≡ plc.old.value) }
     ensures closed { plc.old.value ≡ None → result ≡ negsuc 0 }
 {

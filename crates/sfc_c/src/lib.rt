@@ -1,13 +1,11 @@
 //! The runtime as a C library; `include/sfc.h` has each function for C.
 //!
-//! - `life`: opening, checking, closing; explanations.
+//! - `life`: opening and closing.
 //! - `commands`: commands by number.
 //! - `reading`: what is read without a command; `showing`: steps, transitions and actions.
-//! - `finding`: names, numbers and counts.
-//! - `line`: a line of a script, and the lines that it gives.
 //! - `handle`: a debugger on the heap, as one word that C keeps; `loose`: a box as its pointer.
 //! - `opening`: texts to debuggers.
-//! - `reply`, `number`, `point`: what C reads of answers, values and points.
+//! - `reply`, `number`, `point`, `status`: what C reads of answers, values, points and calls.
 #![tactic(auto)]
 
 pub mod commands;

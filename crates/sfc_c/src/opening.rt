@@ -1,77 +1,51 @@
 //! Texts to debuggers.
 
-ghost use Rattle.std.specs.Prelude.{◌≡◌, [], IfOk, IfSome, MatchResult};
+ghost use Rattle.std.specs.Prelude.{◌≡◌, ◌<◌, [], IfOk, IfErr, IfSome};
 ghost use Rattle.sfc_core.specs.Agreement as core;
-ghost use Rattle.sfc_debug.specs.Agreement.{Agrees};
+ghost use Rattle.sfc_debug.specs.Agreement.{Agrees, plant_of};
+ghost use Rattle.sfc_load.specs.Accepted.{IsAccepted};
 ghost use Rattle.sfc_output.specs.Steered.{steered_by};
-ghost use Rattle.sfc_script.specs.Scripts.{ScriptData};
-ghost use Rattle.sfc_monitor.specs.Acceptance.{Accepts};
-ghost use Rattle.sfc_c.specs.Faults.{IsRefused, OpensResource, ReadsConditions, number_of_fault};
-ghost use Rattle.sfc_c.specs.Handles.{IsOpening};
 
-use crate::status::{MEMORY, NO_COMMAND};
+use crate::status::MEMORY;
 use sfc_core::resource::Resource;
-use sfc_debug::break_condition::BreakCondition;
 use sfc_debug::debugger::Debugger;
 use sfc_debug::trace_mask::TraceMask;
 use sfc_load::load::load;
-use sfc_monitor::monitor_error::{ChartError, MonitorError};
 use sfc_plant::plant::Plant;
-use sfc_script::script::read_script;
 use sfc_text::read::read;
-use std::alloc::{AllocError, Global};
+use std::alloc::Global;
 
-/// The plant that a text is. `Chart` is answered where it is refused, `Memory` where memory was.
-pub fn plant_of_text(alloc: Global, text: &[u8]) -> Result<Plant, MonitorError>
-    ensures { Accepts text.now result }
+// The plant that a text is, or the number of its first fault.
+fn plant_of_text(alloc: Global, text: &[u8]) -> Result<Plant, u8>
+    ensures { IfOk result (λ plant. IsAccepted text.now plant) }
 {
-    let tree = read(alloc, text)?;
-    let plant = load(alloc, &tree)?;
-    Ok(plant)
-}
-
-// A resource of the text's plant that has seen no event.
-fn open_resource(alloc: Global, text: &[u8]) -> Result<Resource, MonitorError>
-    ensures { OpensResource text.now result }
-{
-    match plant_of_text(alloc, text) {
-        Ok(plant) => match Resource::open(alloc, plant) {
-            Ok(resource) => Ok(resource),
-            Err(_) => Err(MonitorError::Memory),
+    match read(alloc, text) {
+        Ok(tree) => match load(alloc, &tree) {
+            Ok(plant) => Ok(plant),
+            Err(error) => Err(error.number()),
         },
-        Err(error) => Err(error),
+        Err(error) => Err(error.kind.number()),
     }
 }
 
-// The conditions of a script's breakpoints.
-fn read_conditions(
-    alloc: Global,
-    resource: &Resource,
-    script: &[u8],
-) -> Result<Vec<BreakCondition>, MonitorError>
-    ensures { ReadsConditions (core.plant_of resource.now) script.now result }
+// A resource of the plant that has seen no event, unless memory was refused.
+fn resource_of(alloc: Global, plant: Plant) -> Option<Resource>
+    ensures plant { IfSome result (λ resource. core.plant_of resource ≡ plant) }
+    ensures agrees { IfSome result (λ resource. core.Agrees resource []) }
 {
-    match read_script(alloc, resource, script) {
-        Ok(said) => {
-            let (_, conditions) = said.into_parts();
-            Ok(conditions)
-        }
-        Err(error) => Err(MonitorError::from(error)),
+    match Resource::open(alloc, plant) {
+        Ok(resource) => Some(resource),
+        Err(_) => None,
     }
 }
 
-// A debugger of the resource on the heap, with these conditions, which keeps no row of its trace.
-fn steer(
-    alloc: Global,
-    resource: Resource,
-    conditions: Vec<BreakCondition>,
-) -> Option<Box<Debugger>>
+// A debugger of the resource on the heap, without conditions, which keeps no row of its trace.
+fn steer(alloc: Global, resource: Resource) -> Option<Box<Debugger>>
     requires untold { core.Agrees resource [] }
     ensures agrees { IfSome result (λ made. Agrees made.value []) }
-    ensures steered { IfSome result (λ made.
-        steered_by made.value ≡ record { plant = core.plant_of resource; table = conditions.items }) }
+    ensures steered { IfSome result (λ made. steered_by made.value ≡ record { plant = core.plant_of resource; table = [] }) }
 {
-    match Debugger::with_conditions(alloc, resource, 1, TraceMask(0), conditions) {
+    match Debugger::new(alloc, resource, 1, TraceMask(0)) {
         Ok(debugger) => match Box::new(alloc, debugger) {
             Ok(made) => Some(made),
             Err(_) => None,
@@ -80,31 +54,29 @@ fn steer(
     }
 }
 
-/// A debugger of the text's plant, whose breakpoints may wait for the conditions that the script has. `Chart` is answered
-/// where the text is refused, `Script` where the script is, `Memory` where memory was refused.
-pub fn open(alloc: Global, text: &[u8], script: &[u8]) -> Result<Box<Debugger>, MonitorError>
-    ensures opening { IfOk result (λ made. IsOpening text.now script.now (steered_by made.value)) }
-    ensures agrees { IfOk result (λ made. Agrees made.value []) }
-    ensures refused { MatchResult result (λ made. ⊤) (λ error. IsRefused text.now script.now error) }
+// A debugger of the plant that was told nothing, on the heap, unless memory was refused.
+fn boxed(alloc: Global, plant: Plant) -> Option<Box<Debugger>>
+    ensures agrees { IfSome result (λ made. Agrees made.value []) }
+    ensures steered { IfSome result (λ made. steered_by made.value ≡ record { plant = plant; table = [] }) }
 {
-    let resource = match open_resource(alloc, text) {
-        Ok(resource) => resource,
-        Err(error) => return Err(error),
-    };
-    match read_conditions(alloc, &resource, script) {
-        Ok(conditions) => steer(alloc, resource, conditions).ok_or(MonitorError::Memory),
-        Err(error) => Err(error),
+    match resource_of(alloc, plant) {
+        Some(resource) => steer(alloc, resource),
+        None => None,
     }
 }
 
-/// The number of a fault: that of the reader's or the loader's, 8 for want of memory, and -4 for a faulty script.
-pub fn fault_number(error: MonitorError) -> i32
-    ensures { result ≡ number_of_fault error }
+/// A debugger that runs the plant that the text is, or the number of the text's first fault, as `sfcmon check` tells it;
+/// 8 where memory was refused.
+pub fn open(alloc: Global, text: &[u8]) -> Result<Box<Debugger>, u8>
+    ensures opened { IfOk result (λ made. IsAccepted text.now (steered_by made.value).plant) }
+    ensures table { IfOk result (λ made. (steered_by made.value).table ≡ []) }
+    ensures agrees { IfOk result (λ made. Agrees made.value []) }
 {
-    match error {
-        MonitorError::Chart(ChartError::Read(error)) => i32::from(error.kind.number()),
-        MonitorError::Chart(ChartError::Load(error)) => i32::from(error.number()),
-        MonitorError::Script(_) => NO_COMMAND,
-        MonitorError::Read | MonitorError::Write | MonitorError::Memory => MEMORY,
+    match plant_of_text(alloc, text) {
+        Ok(plant) => match boxed(alloc, plant) {
+            Some(made) => Ok(made),
+            None => Err(MEMORY),
+        },
+        Err(number) => Err(number),
     }
 }

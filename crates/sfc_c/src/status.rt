@@ -9,11 +9,5 @@ pub const NO_VALUE: i32 = -2;
 /// There is nothing with this number or name.
 pub const UNKNOWN: i32 = -3;
 
-/// The line is no command, or more than one.
-pub const NO_COMMAND: i32 = -4;
-
-/// The command was obeyed, but memory for its lines was refused.
-pub const UNTOLD: i32 = -5;
-
 /// Memory was refused, and nothing was done.
-pub const MEMORY: i32 = 8;
+pub const MEMORY: u8 = 8;
