@@ -45,7 +45,14 @@ told (values.Time t) = t
 -- what is told where nothing is
 abbrev pub nothing_told : Reply
 nothing_told = record {
-  ran = 0; faulted = 0; skipped = 0; overruns = 0; next = negsuc 0; value = pos 0; first = negsuc 0; hit = pos 0;
+  ran = 0;
+  faulted = 0;
+  skipped = 0;
+  overruns = 0;
+  next = negsuc 0;
+  value = pos 0;
+  first = negsuc 0;
+  hit = pos 0;
 }
 
 -- an instant, or -1
@@ -57,17 +64,44 @@ instant_or_none (Some t) = t
 abbrev pub reply_of : Result Answer Refusal → Reply
 reply_of (Ok answers.Done) = nothing_told
 reply_of (Ok (answers.Value v)) = record {
-  ran = 0; faulted = 0; skipped = 0; overruns = 0; next = negsuc 0; value = told v; first = negsuc 0; hit = pos 0;
+  ran = 0;
+  faulted = 0;
+  skipped = 0;
+  overruns = 0;
+  next = negsuc 0;
+  value = told v;
+  first = negsuc 0;
+  hit = pos 0;
 }
 reply_of (Ok (answers.Scanned ran faulted skipped overruns hit)) = record {
-  ran = ran; faulted = faulted; skipped = skipped; overruns = overruns;
-  next = negsuc 0; value = pos 0; first = negsuc 0; hit = flag hit;
+  ran = ran;
+  faulted = faulted;
+  skipped = skipped;
+  overruns = overruns;
+  next = negsuc 0;
+  value = pos 0;
+  first = negsuc 0;
+  hit = flag hit;
 }
 reply_of (Err (NotDue next)) = record {
-  ran = 0; faulted = 0; skipped = 0; overruns = 0; next = instant_or_none next; value = pos 0; first = negsuc 0; hit = pos 0;
+  ran = 0;
+  faulted = 0;
+  skipped = 0;
+  overruns = 0;
+  next = instant_or_none next;
+  value = pos 0;
+  first = negsuc 0;
+  hit = pos 0;
 }
 reply_of (Err (Yield task)) = record {
-  ran = 0; faulted = 0; skipped = 0; overruns = 0; next = negsuc 0; value = pos 0; first = pos task.0; hit = pos 0;
+  ran = 0;
+  faulted = 0;
+  skipped = 0;
+  overruns = 0;
+  next = negsuc 0;
+  value = pos 0;
+  first = pos task.0;
+  hit = pos 0;
 }
 reply_of (Err refusal) = nothing_told
 

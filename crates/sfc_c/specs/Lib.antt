@@ -8,3 +8,5 @@ pub mod Codes
 pub mod Handles
 -- what is read without a command
 pub mod Readings
+-- the numbers of what names stand for
+pub mod Found

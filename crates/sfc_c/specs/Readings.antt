@@ -79,12 +79,16 @@ shown_step tables instance_state s = record {
 
 abbrev pub shown_transition : Tabled → InstanceState → ℕ → PointState
 shown_transition tables instance_state tr = record {
-  elapsed = pos 0; active = pos 0; happened = flag (is_transition_cleared tables instance_state tr);
+  elapsed = pos 0;
+  active = pos 0;
+  happened = flag (is_transition_cleared tables instance_state tr);
 }
 
 abbrev pub shown_action : Tabled → InstanceState → ℕ → PointState
 shown_action tables instance_state a = record {
-  elapsed = pos 0; active = flag (action_q tables instance_state a); happened = flag (is_action_executed tables instance_state a);
+  elapsed = pos 0;
+  active = flag (action_q tables instance_state a);
+  happened = flag (is_action_executed tables instance_state a);
 }
 
 -- a step, its time and whether it was activated (2.6.2); whether a transition was cleared (2.6.5); Q and A of an action (2.6.4.5)

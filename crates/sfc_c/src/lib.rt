@@ -2,6 +2,7 @@
 //!
 //! - `life`: opening and closing.
 //! - `commands`: commands by number.
+//! - `finding`: numbers by names.
 //! - `reading`: what is read without a command; `showing`: steps, transitions and actions.
 //! - `handle`: a debugger on the heap, as one word that C keeps; `loose`: a box as its pointer.
 //! - `opening`: texts to debuggers.
@@ -9,6 +10,7 @@
 #![tactic(auto)]
 
 pub mod commands;
+pub mod finding;
 pub mod handle;
 pub mod life;
 mod loose;

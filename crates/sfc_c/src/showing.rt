@@ -44,11 +44,13 @@ fn shown(view: &ProgramView<'_>, point: Point) -> Option<PointState>
             active: flag(view.active(step)),
             happened: flag(view.activated(step)),
         }),
-        Point::Transition(transition) if (transition.0 as usize) < view.transitions() => Some(PointState {
-            elapsed: 0,
-            active: 0,
-            happened: flag(view.cleared(transition)),
-        }),
+        Point::Transition(transition) if (transition.0 as usize) < view.transitions() => Some(
+            PointState {
+                elapsed: 0,
+                active: 0,
+                happened: flag(view.cleared(transition)),
+            },
+        ),
         Point::Action(action) if action.0 < view.actions() => Some(PointState {
             elapsed: 0,
             active: flag(view.q(action)),
