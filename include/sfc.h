@@ -14,7 +14,7 @@
  * Instants and TIME values are in microseconds. An instant t is from 0 to 2^62, and not before that of an accepted command.
  * Variables, tasks, programs, steps, transitions and actions are counted from 0 in text order, and keep their numbers.
  *
- * A call answers 0, or the number of a refusal by docs/FORMATS.md (24 to 42), or one of the codes below. After any answer
+ * A command answers 0, or the number of a refusal by docs/FORMATS.md (24 to 42), or one of the codes below. After any answer
  * but 0 the resource is as it was.
  */
 #ifndef SFC_H
@@ -28,7 +28,7 @@ extern "C" {
 enum {
     SFC_CLOSED = -1,   /* the handle holds no resource */
     SFC_NO_VALUE = -2, /* the number is no value of the variable's type */
-    SFC_UNKNOWN = -3,  /* there is no such variable, program or point, or no such kind of points */
+    SFC_UNKNOWN = -3,  /* there is nothing with this number or name, or no such kind of points */
     SFC_MEMORY = 8,    /* sfc_open: memory was refused */
     SFC_NOT_DUE = 29,  /* sfc_scan: no release of the task waits; `next` tells the next one */
     SFC_YIELD = 30,    /* sfc_scan: another task goes first; `first` tells which */
@@ -88,6 +88,18 @@ typedef struct {
 int32_t sfc_open(const uint8_t *text, size_t text_len, sfc_handle_t *plc);
 /* Frees the resource, if the handle holds one. It may be called twice. */
 void sfc_close(sfc_handle_t *plc);
+
+/* Numbers by names, in any case of their letters; SFC_UNKNOWN where there is none. */
+
+/* The global variable with this name. */
+int32_t sfc_variable(sfc_handle_t *plc, const uint8_t *name, size_t name_len);
+/* The variable with this name that the program declares for itself. */
+int32_t sfc_local(sfc_handle_t *plc, uint8_t program, const uint8_t *name, size_t name_len);
+int32_t sfc_task(sfc_handle_t *plc, const uint8_t *name, size_t name_len);
+int32_t sfc_program(sfc_handle_t *plc, const uint8_t *name, size_t name_len);
+/* A step or a transition of the program's chart. */
+int32_t sfc_step(sfc_handle_t *plc, uint8_t program, const uint8_t *name, size_t name_len);
+int32_t sfc_transition(sfc_handle_t *plc, uint8_t program, const uint8_t *name, size_t name_len);
 
 /* Commands. Each is accepted, and has happened at t, or is refused, and nothing has changed. */
 

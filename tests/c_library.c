@@ -36,7 +36,7 @@ static void misuse(void) {
     WANT(sfc_program(&plc, name, 5) == SFC_CLOSED && sfc_step(&plc, 0, name, 5) == SFC_CLOSED);
     WANT(sfc_transition(&plc, 0, name, 5) == SFC_CLOSED);
 
-    WANT(sfc_open(text, 0, &plc) == 4 && sfc_open(text, length - 1, &plc) != 0 && sfc_status(&plc, &status) == SFC_CLOSED);
+    WANT(sfc_open(text, 0, &plc) == 4 && sfc_open(text, length / 2, &plc) == 4 && sfc_status(&plc, &status) == SFC_CLOSED);
     WANT(sfc_open(text, length, &plc) == 0);
     WANT(sfc_open(name, 5, &plc) == 4 && sfc_status(&plc, &status) == 0);
     int start = named(sfc_variable, &plc, "start"), pump = named(sfc_variable, &plc, "Pump");
@@ -120,7 +120,8 @@ static void damaged(long count) {
         sfc_handle_t plc = SFC_NONE;
         int32_t code = sfc_open(other, n, &plc);
         WANT(code >= 0 && code <= 23 && (code == 0) == (plc.at != NULL));
-        if (code == 0) opened++, WANT(sfc_scan(&plc, 0, 0, &reply) == 0 || reply.ran == 0);
+        opened += code == 0;
+        if (code == 0) WANT(sfc_scan(&plc, 0, 0, &reply) == 0 || reply.ran == 0);
         sfc_close(&plc);
     }
     WANT(opened > 0 && opened < count);

@@ -25,8 +25,8 @@ cc -O1 -Wall -Wextra -Werror -pedantic -std=c11 -I "$build" "$here/c_library.c" 
 "$work/try" damaged "$top/examples/mixing.chart" 10000; note $? "10000 damaged texts"
 "$work/try" threads "$top/examples/pump.chart"; note $? "two handles in two threads"
 if command -v valgrind >/dev/null; then
-  valgrind -q --error-exitcode=9 --leak-check=full --show-leak-kinds=all "$work/try" opens "$top/examples/lamp.chart" 1000
-  note $? "1000 openings and closings under valgrind"
+  valgrind -q --error-exitcode=9 --leak-check=full --show-leak-kinds=all "$work/try" opens "$top/examples/lamp.chart" 100000
+  note $? "100000 openings under valgrind"
 fi
 [ "$("$build/bench" "$top/examples/pump.chart" Main 200000 1000000 2>/dev/null)" = "1000000 scans, 0 overruns" ]; note $? "the bench"
 printf '' | timeout 20 "$build/loop" "$top/examples/pump.chart" >"$work/loop"; note $? "the loop"
