@@ -19,7 +19,8 @@ exported=$("$top/tools/prototypes" "$top/crates/sfc_c" | sed 's/.* \(sfc_[a-z_]*
 note $? "what libsfc.so exports"
 echo '#include "sfc.h"' | c++ -x c++ -Wall -Wextra -Werror -pedantic -I "$build" -fsyntax-only -; note $? "the header as C++"
 
-cc -O1 -Wall -Wextra -Werror -pedantic -std=c11 -I "$build" "$here/c_library.c" "$build/libsfc.a" -lpthread -o "$work/try"; note $? "c_library.c"
+cc -O1 -Wall -Wextra -Werror -pedantic -std=c11 -I "$build" "$here/c_library.c" "$build/libsfc.a" -lpthread -o "$work/try"
+note $? "c_library.c"
 "$work/try" misuse "$top/examples/pump.chart"; note $? "misuse"
 "$work/try" fields "$top/examples/pump.chart"; note $? "each field of the structs"
 "$work/try" damaged "$top/examples/mixing.chart" 10000; note $? "10000 damaged texts"
@@ -31,7 +32,9 @@ fi
 [ "$("$build/bench" "$top/examples/pump.chart" Main 200000 1000000 2>/dev/null)" = "1000000 scans, 0 overruns" ]; note $? "the bench"
 printf '' | timeout 20 "$build/loop" "$top/examples/pump.chart" >"$work/loop"; note $? "the loop"
 grep -q '^0 us: pump off, 0 overruns$' "$work/loop"; note $? "what the loop prints"
-PYTHONPATH=$build:$here SFC_LIBRARY=$build/libsfc.so python3 "$here/c_library.py" "$top"/examples/*.chart; note $? "the scripts of examples/ by Python"
+export PYTHONPATH=$build
+python3 "$top/examples/python/test_mixing.py" >/dev/null; note $? "the tests of the mixing station"
+python3 "$here/c_library.py" "$top"/examples/*.chart; note $? "the scripts of examples/ by Python"
 
 echo "$passed passed, $failed failed"
 [ "$failed" = 0 ]

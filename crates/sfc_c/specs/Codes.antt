@@ -1,5 +1,5 @@
 -- What C reads of answers, values and points: the numbers that stand for them (our choice).
-use Rattle.std.specs.Prelude.{◌≡◌, ℕ, ℤ, pos, negsuc, int_lt, not, cond, ◌==◌, ◌&&◌, ◌^◌, ◌-◌, if◌then◌else◌}
+use Rattle.std.specs.Prelude.{ℕ, ℤ, pos, negsuc, int_lt, not, cond, ◌==◌, ◌&&◌, ◌^◌, ◌-◌, if◌then◌else◌}
 use Rattle.std.specs.Prelude.{Bool, true, false, Option, Some, None, Result, Ok, Err, option_map, slice_get}
 use Rattle.sfc_base.specs.declared.var_type.VarType.{VarType}
 use Rattle.sfc_base.specs.declared.var_type.VarType.TheVariants as types

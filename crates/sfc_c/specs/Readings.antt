@@ -1,5 +1,5 @@
 -- What is read without a command: what the rules say of the commands that were accepted.
-use Rattle.std.specs.Prelude.{◌≡◌, ℕ, ◌<◌, nat_lt, cond, is_some, List, length, ℤ, pos, negsuc, Option, Some, None}
+use Rattle.std.specs.Prelude.{◌≡◌, ℕ, nat_lt, cond, is_some, length, ℤ, pos, negsuc, Option, Some, None}
 use Rattle.sfc_base.specs.declared.ids.ProgId.{ProgId}
 use Rattle.sfc_base.specs.declared.ids.VarId.{VarId}
 use Rattle.sfc_plant.specs.Finding.{chart_of}
