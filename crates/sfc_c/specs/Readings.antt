@@ -1,0 +1,107 @@
+-- What is read without a command: what the rules say of the commands that were accepted.
+use Rattle.std.specs.Prelude.{◌≡◌, ℕ, nat_lt, cond, is_some, length, ℤ, pos, negsuc, Option, Some, None}
+use Rattle.sfc_base.specs.declared.ids.ProgId.{ProgId}
+use Rattle.sfc_base.specs.declared.ids.VarId.{VarId}
+use Rattle.sfc_plant.specs.Finding.{chart_of}
+use Rattle.sfc_tables.specs.Tables.{Tabled, tables_of}
+use Rattle.sfc_expr.specs.declared.fault.Fault.TheVariants.{DivZero, Range}
+use Rattle.sfc_action.specs.declared.fault.ControlFault.TheVariants.{TwoTimed, SdWhileSl, SlWhileSd}
+use Rattle.sfc_image.specs.Values.{variable_count}
+use Rattle.sfc_instance.specs.declared.scan_fault.ScanFault.{ScanFault}
+use Rattle.sfc_instance.specs.declared.scan_fault.ScanFault.TheVariants.{Expression, Control}
+use Rattle.sfc_instance.specs.Life.{InstanceState}
+use Rattle.sfc_instance.specs.Answers.{scan_count, is_step_active, step_elapsed, is_step_activated, is_transition_cleared}
+use Rattle.sfc_instance.specs.Answers.{action_q, is_action_executed}
+use Rattle.sfc_events.specs.declared.command.Point.{Point}
+use Rattle.sfc_events.specs.declared.command.Point.TheVariants as points
+use Rattle.sfc_core.specs.Answers.{value_of, forced_of, instance_state_of}
+use Rattle.sfc_debug.specs.Histories.{CommandHistory}
+use Rattle.sfc_debug.specs.States.{state_of}
+use Rattle.sfc_output.specs.Steered.{Steered}
+use Rattle.sfc_c.specs.declared.reading.Status.{Status}
+use Rattle.sfc_c.specs.declared.reading.ProgramState.{ProgramState}
+use Rattle.sfc_c.specs.declared.showing.PointState.{PointState}
+use Rattle.sfc_c.specs.Codes.{told, flag, mode_number}
+use Rattle.sfc_c.specs.Handles.{events_of}
+
+-- what is there is given, with 0; where nothing is there, -3 is answered and nothing given
+abbrev pub Gives : {X : Type 0} → Option X → X → X → ℤ → Type 0
+Gives None old new result = (result ≡ negsuc 2) × (new ≡ old)
+Gives (Some x) old new result = (result ≡ pos 0) × (new ≡ x)
+
+-- ---- variables
+
+-- what the variable reads
+abbrev pub told_value : Steered → CommandHistory → VarId → Option ℤ
+told_value s h id = cond (nat_lt id.0 (variable_count s.plant)) (Some (told (value_of s.plant (events_of s h) id))) None
+
+-- whether it is forced: 1 or 0, and -3 where there is no such variable
+abbrev pub told_forced : Steered → CommandHistory → VarId → ℤ
+told_forced s h id = cond (nat_lt id.0 (variable_count s.plant)) (flag (is_some (forced_of s.plant (events_of s h) id))) (negsuc 2)
+
+-- ---- the resource
+
+-- its run instant, how many commands it accepted, and its mode
+abbrev pub status_of : Steered → CommandHistory → Status
+status_of s h = record {
+  instant = (state_of s.plant s.table h).clock.instant;
+  accepted = length h;
+  mode = mode_number (state_of s.plant s.table h).clock.mode;
+}
+
+-- ---- program instances
+
+-- in the order in which the kinds of faults are told
+abbrev pub scan_fault_number : Option ScanFault → ℤ
+scan_fault_number None = pos 0
+scan_fault_number (Some (Expression DivZero)) = pos 1
+scan_fault_number (Some (Expression Range)) = pos 2
+scan_fault_number (Some (Control TwoTimed)) = pos 3
+scan_fault_number (Some (Control SdWhileSl)) = pos 4
+scan_fault_number (Some (Control SlWhileSd)) = pos 5
+
+abbrev pub state_in : InstanceState → ProgramState
+state_in instance_state = record { scans = scan_count instance_state; fault = scan_fault_number instance_state.fault }
+
+-- how many scans its life has had, and its fault
+abbrev pub program_state : Steered → CommandHistory → ProgId → Option ProgramState
+program_state s h p =
+    cond (nat_lt p.0 (length s.plant.instances)) (Some (state_in (instance_state_of s.plant (events_of s h) p))) None
+
+-- ---- points
+
+abbrev pub shown_step : Tabled → InstanceState → ℕ → PointState
+shown_step tables instance_state s = record {
+  elapsed = step_elapsed tables instance_state s;
+  active = flag (is_step_active tables instance_state s);
+  happened = flag (is_step_activated tables instance_state s);
+}
+
+abbrev pub shown_transition : Tabled → InstanceState → ℕ → PointState
+shown_transition tables instance_state tr = record {
+  elapsed = pos 0;
+  active = pos 0;
+  happened = flag (is_transition_cleared tables instance_state tr);
+}
+
+abbrev pub shown_action : Tabled → InstanceState → ℕ → PointState
+shown_action tables instance_state a = record {
+  elapsed = pos 0;
+  active = flag (action_q tables instance_state a);
+  happened = flag (is_action_executed tables instance_state a);
+}
+
+-- a step, its time and whether it was activated (2.6.2); whether a transition was cleared (2.6.5); Q and A of an action (2.6.4.5)
+abbrev pub shown : Tabled → InstanceState → Point → Option PointState
+shown tables instance_state (points.Step s) =
+    cond (nat_lt s.0 (length tables.initial)) (Some (shown_step tables instance_state s.0)) None
+shown tables instance_state (points.Transition tr) =
+    cond (nat_lt tr.0 (length tables.sides)) (Some (shown_transition tables instance_state tr.0)) None
+shown tables instance_state (points.Action a) =
+    cond (nat_lt a.0 (length tables.actions)) (Some (shown_action tables instance_state a.0)) None
+
+-- in the chart of a program instance
+abbrev pub point_state : Steered → CommandHistory → ProgId → Option Point → Option PointState
+point_state s h p None = None
+point_state s h p (Some point) = cond (nat_lt p.0 (length s.plant.instances))
+    (shown (tables_of (chart_of s.plant p)) (instance_state_of s.plant (events_of s h) p) point) None

@@ -1,0 +1,122 @@
+"""Plays NAME.script on each NAME.chart through sfc.py, and compares what can be read with NAME.expect: each line but the names
+of refusals and of actions. Scripts with conditions of breakpoints are passed over. The exit status is 1 where something differs."""
+
+import re
+import sys
+from sfc import Plc, Refused
+
+UNITS = {"d": 86_400_000_000, "h": 3_600_000_000, "m": 60_000_000, "s": 1_000_000, "ms": 1000}
+
+
+def time(text):
+    body = text.split("#")[1]
+    total = sum(round(float(n) * UNITS[u]) for n, u in re.findall(r"([\d.]+)(ms|d|h|m|s)", body))
+    return -total if body.startswith("-") else total
+
+
+def value(text):
+    words = {"TRUE": 1, "FALSE": 0}
+    return words[text.upper()] if text.upper() in words else time(text) if "#" in text else int(text)
+
+
+def point(words):
+    program, kind, name = words
+    return program, kind.lower(), int(name) - 1 if name.isdigit() else name
+
+
+def obey(plc, words):
+    """What one command answers: the words behind its instant and name, as far as they can be read."""
+    t, verb, *rest = words
+    t = time(t)
+    if verb in ("SCAN", "SINGLE"):
+        did = plc.scan(rest[0], t) if verb == "SCAN" else plc.single(rest[0], time(rest[1]), t)
+        return ["overruns", str(did.overruns)] + ["hit"] * did.hit
+    if verb == "READ":
+        return [plc.read(rest[0], t)]
+    if verb in ("INPUT", "FORCE"):
+        (plc.input if verb == "INPUT" else plc.force)(rest[0], value(rest[1]), t)
+    elif verb in ("RELEASE", "RESET"):
+        (plc.release if verb == "RELEASE" else plc.reset)(rest[0], t)
+    elif verb in ("BREAK", "UNBREAK"):
+        (plc.set_break if verb == "BREAK" else plc.unbreak)(*point(rest), t)
+    else:
+        {"STOP": plc.stop, "GO": plc.go, "END": plc.end}[verb](t)
+    return []
+
+
+def states(plc, program, kind):
+    """The points of a kind, by number."""
+    k = 0
+    while True:
+        try:
+            yield k, plc.state(program, kind, k)
+        except Refused:
+            return
+        k += 1
+
+
+def check_program(plc, line):
+    """The line of a program below a scan."""
+    words = line.split()
+    if words[1] in ("fault", "skipped"):
+        kinds = ["DivZero", "Range", "TwoTimed", "SdWhileSl", "SlWhileSd"]
+        assert plc.state(words[0]).fault == 1 + kinds.index(words[2]), line
+        return
+    program, scans, _, steps, _, cleared, _, actions = words
+    assert plc.state(program).scans == int(scans), line
+    wanted = {} if steps == "-" else dict(it.split("=") for it in steps.split(","))
+    for name, elapsed in wanted.items():
+        state = plc.state(program, "step", name)
+        assert state.active and state.elapsed == time(elapsed), (line, name, state.active, state.elapsed)
+    assert sum(state.active for _, state in states(plc, program, "step")) == len(wanted), line
+    did = [str(k + 1) for k, state in states(plc, program, "transition") if state.happened]
+    assert (",".join(did) or "-") == cleared, (line, did)
+    done = sum(state.happened for _, state in states(plc, program, "action"))
+    assert done == (0 if actions == "-" else len(actions.split(","))), line
+
+
+def compare(plc, words, line):
+    """One command, and the line that it is to give."""
+    wanted = line.split()
+    try:
+        told = obey(plc, words)
+    except Refused as it:
+        assert wanted[:2] == ["refused", str(it.code)], (line, it.code)
+        if it.code == 29:
+            assert it.reply.next == (-1 if wanted[3] == "none" else time(wanted[3])), (line, it.reply.next)
+        return
+    assert wanted[0] != "refused", line
+    assert plc.status().instant == time(wanted[0]), (line, plc.status().instant)
+    if words[1] == "READ":
+        assert told == [value(wanted[-1])], (line, told)
+    else:
+        assert wanted[1:] == words[1:] + told, (line, told)
+
+
+def play(base):
+    said = [it.split() for it in open(f"{base}.script") if it.split() and not it.split()[0].startswith(";")]
+    if any("WHEN" in words for words in said):
+        return None
+    lines = open(f"{base}.expect").read().splitlines()
+    at = count = 0
+    with Plc(open(f"{base}.chart", "rb").read()) as plc:
+        for words in said:
+            compare(plc, words, lines[at])
+            at, count = at + 1, count + 1
+            while at < len(lines) and lines[at].startswith("  "):
+                check_program(plc, lines[at])
+                at, count = at + 1, count + 1
+        for line in lines[at:]:
+            _, name, text, *forced = line.split()
+            assert plc[name] == value(text) and plc.forced(name) == bool(forced), (line, plc[name])
+            count += 1
+    assert count == len(lines), (base, count)
+    return count
+
+
+played = 0
+for chart in sys.argv[1:]:
+    lines = play(chart.removesuffix(".chart"))
+    print(chart, "passed over" if lines is None else f"{lines} lines")
+    played += lines or 0
+sys.exit(0 if played else 1)
