@@ -10,6 +10,7 @@ from pathlib import Path
 
 TASKS = 16
 EACH = 1_000
+WARM = 70_000
 MOST_GROWTH = 1_024
 LINE = re.compile(r"([0-9]+) T#\S+ ([A-Z]+)")
 INSTANCE = "PROGRAM P{0} WITH Task{0} : Mix;"
@@ -81,7 +82,7 @@ class Pressure:
         self.kinds[kind] = self.kinds.get(kind, 0) + 1
 
     def steer(self):
-        """Sends a halt and an epoch for each thousand commands, and the end behind the last; watches the memory."""
+        """Sends a halt and an epoch for each thousand commands, and ends the input behind the last; watches the memory."""
         sent = 0
         while self.number < self.wanted and self.child.poll() is None:
             time.sleep(0.005)
@@ -91,9 +92,7 @@ class Pressure:
                 time.sleep(0.003)
                 self.send("GO\nEPOCH\n")
                 self.memory.append((self.number, memory_of(self.child.pid)))
-        if self.child.poll() is None:
-            self.send("END\n")
-            self.child.stdin.close()
+        self.child.stdin.close()
 
     def play(self) -> int:
         """Runs to the end; gives the exit status."""
@@ -105,8 +104,8 @@ class Pressure:
         return self.child.wait()
 
     def growth(self) -> int:
-        """Kilobytes by which the memory grew after the first tenth of the commands."""
-        late = [size for number, size in self.memory if number > self.wanted // 10]
+        """Kilobytes by which the memory grew after WARM commands, which fill the feed's 65,536 rows once; -1 where there are no more."""
+        late = [size for number, size in self.memory if number > WARM]
         return max(late) - late[0] if late else -1
 
 
@@ -132,7 +131,7 @@ def main() -> int:
     kinds = ", ".join(f"{count} {kind}" for kind, count in sorted(run.kinds.items()))
     sizes = [size for _, size in run.memory] or [0]
     print(f"{run.number} commands in {time.monotonic() - begin:.0f} s; lines: {kinds}; {run.missing} lines left out; {run.halts} halts; "
-          f"memory {min(sizes)} to {max(sizes)} kB, grown by {run.growth()} kB after the first tenth")
+          f"memory {min(sizes)} to {max(sizes)} kB, grown by {run.growth()} kB after {WARM} commands")
     failed = sum(not holds for _, holds in checks)
     print(f"{len(checks) - failed} passed, {failed} failed")
     return 1 if failed else 0

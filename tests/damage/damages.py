@@ -24,7 +24,8 @@ def changed(rng, text: bytes) -> bytes:
     """Some bytes changed."""
     made = bytearray(text or b" ")
     for _ in range(rng.choice([1, 1, 1, 2, 4])):
-        made[rng.randrange(len(made))] = rng.choice(TELLING) if rng.random() < 0.5 else rng.choice([rng.randrange(256), rng.randrange(32, 127)])
+        others = TELLING if rng.random() < 0.5 else [rng.randrange(256), rng.randrange(32, 127)]
+        made[rng.randrange(len(made))] = rng.choice(others)
     return bytes(made)
 
 

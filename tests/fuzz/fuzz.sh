@@ -46,7 +46,8 @@ fi
 # fuzz NAME SECONDS WORD..: the program with these words
 fuzz() {
   local name=$1 time=$2; shift 2
-  nice -n 10 afl-fuzz -V "$time" -i "$work/small" -o "$work/$name" -x "$here/words.dict" -t 1000 -m none -- "$work/seen" "$@" >"$work/$name.log"
+  nice -n 10 afl-fuzz -V "$time" -i "$work/small" -o "$work/$name" -x "$here/words.dict" -t 1000 -m none -- \
+    "$work/seen" "$@" >"$work/$name.log"
   grep -E 'run_time|execs_done|corpus_count|edges_found|saved_(crashes|hangs)' "$work/$name/default/fuzzer_stats"
 }
 fuzz check $((seconds / 10)) check @@
