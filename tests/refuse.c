@@ -1,7 +1,9 @@
 // Stands between sfcmon and the C library, and makes one thing fail. The environment says which:
 //   SFC_REFUSE=alloc:N    the Nth allocation is refused, counted from 1
 //   SFC_REFUSE=read:N     the Nth read fails
+//   SFC_REFUSE=take:K     reads give K bytes in all, and then fail
 //   SFC_REFUSE=write:K    standard output takes K bytes in all, and then fails
+//   SFC_REFUSE=full:K     standard output takes K bytes in all, and then none, without failing
 //   SFC_SHORT=1           each read and each write moves one byte
 //   SFC_COUNTS=FILE       the numbers of allocations and reads are written to this file at the end
 // Built by refused.sh: cc -shared -fPIC -o refuse.so refuse.c -ldl
@@ -14,16 +16,18 @@
 #include <string.h>
 #include <unistd.h>
 
-enum kind { NOTHING, ALLOCATION, READ, WRITE };
+enum kind { NOTHING, ALLOCATION, READ, TAKE, WRITE, FULL };
 
 static enum kind wanted = NOTHING;
-static long limit, allocations, reads, written;
+static long limit, allocations, reads, taken, written;
 static int is_ready, is_short;
 
 __attribute__((constructor)) static void set_up(void) {
   const char *word = getenv("SFC_REFUSE");
   if (word && !strncmp(word, "alloc:", 6)) { wanted = ALLOCATION; limit = atol(word + 6); }
   if (word && !strncmp(word, "read:", 5)) { wanted = READ; limit = atol(word + 5); }
+  if (word && !strncmp(word, "take:", 5)) { wanted = TAKE; limit = atol(word + 5); }
+  if (word && !strncmp(word, "full:", 5)) { wanted = FULL; limit = atol(word + 5); }
   if (word && !strncmp(word, "write:", 6)) { wanted = WRITE; limit = atol(word + 6); }
   is_short = getenv("SFC_SHORT") != NULL;
   is_ready = 1;
@@ -83,7 +87,14 @@ ssize_t read(int file, void *buffer, size_t size) {
   if (!is_ready) return real(file, buffer, size);
   reads++;
   if (wanted == READ && reads == limit) { errno = EIO; return -1; }
-  return real(file, buffer, is_short && size > 1 ? 1 : size);
+  if (is_short && size > 1) size = 1;
+  if (wanted == TAKE) {
+    if (taken >= limit) { errno = EIO; return -1; }
+    if ((long)size > limit - taken) size = (size_t)(limit - taken);
+  }
+  ssize_t count = real(file, buffer, size);
+  if (count > 0) taken += count;
+  return count;
 }
 
 ssize_t write(int file, const void *buffer, size_t size) {
@@ -91,7 +102,8 @@ ssize_t write(int file, const void *buffer, size_t size) {
   if (!real) real = next_of("write");
   if (!is_ready || file != 1) return real(file, buffer, size);
   if (is_short && size > 1) size = 1;
-  if (wanted == WRITE) {
+  if (wanted == WRITE || wanted == FULL) {
+    if (written >= limit && wanted == FULL) return 0;
     if (written >= limit) { errno = EIO; return -1; }
     if ((long)size > limit - written) size = (size_t)(limit - written);
   }

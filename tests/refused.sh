@@ -1,13 +1,17 @@
 #!/usr/bin/env bash
 # Runs the built sfcmon with its allocations, reads and writes failing one by one, and says what is not as it should be:
-# a refused allocation gives status 4, `out of memory` and a front of the output, or the undisturbed run; a refused read
-# status 3, `read fault` and no output; writes that fail after k bytes status 3, `write fault` and exactly those k bytes;
-# reads and writes of one byte change nothing. The last line is 'N passed, M failed'.
+# a refused allocation gives status 4, `out of memory` and a front of the output, or the undisturbed run; a refused read, and
+# files that fail after k bytes, status 3, `read fault` and no output; an output that fails after k bytes, or takes no byte
+# more, status 3, `write fault` and exactly those k bytes; reads and writes of one byte change nothing. Where the chart is
+# refused, a script that fails changes nothing. The last line is 'N passed, M failed'.
+# SFCMON, where it is set, is the program that is run; else it is the proved one of this clone.
 set -u
 here=$(cd "$(dirname "${BASH_SOURCE[0]}")" && pwd)
 top=$(dirname "$here")
-"$top/sfcmon" --prove || exit 1
-program=$top/crates/sfcmon/out/sfcmon
+if [ -z "${SFCMON:-}" ]; then
+  "$top/sfcmon" --prove || exit 1
+fi
+program=${SFCMON:-$top/crates/sfcmon/out/sfcmon}
 work=$(mktemp -d)
 trap 'rm -rf "$work"' EXIT
 cc -O1 -shared -fPIC -o "$work/refuse.so" "$here/refuse.c" -ldl || exit 1
@@ -21,9 +25,15 @@ is_whole() { [ "$status" = 0 ] && cmp -s "$work/out" "$whole" && [ ! -s "$work/e
 says() { [ "$(cat "$work/err")" = "$1" ]; }
 note() { if [ "$1" = 0 ]; then passed=$((passed + 1)); else failed=$((failed + 1)); echo "not as it should be: ${words[0]}, $2 (status $status)"; fi; }
 
+# the bytes of all files among the words
+size_of_files() {
+  local word size=0
+  for word in "${words[@]}"; do [ ! -f "$word" ] || size=$((size + $(stat -c %s "$word"))); done
+  echo "$size"
+}
 # sweep WHOLE WORD..: the program with these words, whose undisturbed run writes the file WHOLE
 sweep() {
-  local n k allocations reads bytes
+  local n k allocations reads bytes size kind
   whole=$1 words=("${@:2}")
   run SFC_COUNTS="$work/counts"
   is_whole; note $? "the undisturbed run"
@@ -39,10 +49,18 @@ sweep() {
     [ "$status" = 3 ] && says "read fault" && [ ! -s "$work/out" ]
     note $? "read $n of $reads refused"
   done
-  for ((k = 0; k < bytes; k++)); do
-    run SFC_REFUSE=write:$k
-    [ "$status" = 3 ] && says "write fault" && [ "$(stat -c %s "$work/out")" = "$k" ] && is_front
-    note $? "writes that fail after $k of $bytes bytes"
+  size=$(size_of_files)
+  for ((k = 0; k < size; k++)); do
+    run SFC_REFUSE=take:$k
+    [ "$status" = 3 ] && says "read fault" && [ ! -s "$work/out" ]
+    note $? "files that fail after $k of $size bytes"
+  done
+  for kind in write full; do
+    for ((k = 0; k < bytes; k++)); do
+      run SFC_REFUSE=$kind:$k
+      [ "$status" = 3 ] && says "write fault" && [ "$(stat -c %s "$work/out")" = "$k" ] && is_front
+      note $? "an output that has room for $k of $bytes bytes ($kind)"
+    done
   done
   run SFC_SHORT=1
   is_whole; note $? "reads and writes of one byte"
@@ -58,6 +76,16 @@ echo ok >"$work/ok"
 sweep "$work/ok" check "$data/listed_mix.chart"
 awk '/^## Refusals/ { seen = 1 } seen && /^```/ { if (++fence == 2) exit; next } fence == 1' "$top/docs/FORMATS.md" >"$work/shown"
 sweep "$work/shown" explain 14
+
+# A chart that is refused, with a script that fails after each number of bytes: the chart's refusal is told.
+sed 's/INITIAL_STEP/STEP/' "$top/examples/lamp.chart" >"$work/dark.chart"
+words=(replay "$work/dark.chart" "$top/examples/lamp.script")
+front=$(stat -c %s "$work/dark.chart")
+for ((k = 1; k < $(stat -c %s "$top/examples/lamp.script"); k++)); do
+  run SFC_REFUSE=take:$((front + k))
+  [ "$status" = 1 ] && says "refused 14 NoInitial" && [ ! -s "$work/out" ]
+  note $? "a refused chart, and a script that fails after $k bytes"
+done
 
 # Tests in code that make openings, read conditions, open a debugger and run workers, which no command does yet: each allocation that
 # is refused is told as want of memory, or the run is undisturbed. A hundred undisturbed ones in turn are behind the last allocation.

@@ -1,15 +1,15 @@
 #!/usr/bin/env python3
 """Runs files of cases through the reading: `cases.py FOLDER`. Their form is told in crates/conformance/README.md.
 
-Cases of `check` and `list` are passed over, and so are charts that are to be refused: the reading takes well-formed charts. A case
-that doesn't end as it is to is shown; the last line is `N passed, M failed, K passed over`.
+Listings are passed over: the reading writes none. A case that doesn't end as it is to is shown; the last line is
+`N passed, M failed, K passed over`.
 """
 
 import re
 import sys
 from pathlib import Path
 
-from reading import Ended, replayed
+from reading import Ended, plant_of, replayed
 
 TEXTS = ("chart", "globals", "body", "task", "script", "output")
 TASK = b"TASK Main(INTERVAL := T#10ms, PRIORITY := 1); PROGRAM P WITH Main : Mix;"
@@ -94,17 +94,24 @@ def case_of(path: Path) -> Case:
 
 
 def is_played(case: Case) -> bool:
-    """Whether the case is a replay of a chart that is to be loaded."""
-    return case.words["command"] == "replay" and not case.words["stderr"].startswith("refused")
+    """Whether the reading answers the case: all but a listing."""
+    return case.words["command"] != "list" or case.words["stderr"] != ""
+
+
+def answered(case: Case) -> str:
+    """What the reading prints for a case, or the text with which it ends."""
+    try:
+        if case.words["command"] == "replay":
+            return replayed(case.chart(), case.text("script"))
+        plant_of(case.chart())
+        return "ok\n"
+    except Ended as ended:
+        return f"ended: {ended.args[0]}\n"
 
 
 def differs(case: Case) -> str:
     """How the reading ends where that isn't as it is to be; else an empty text."""
-    try:
-        got = replayed(case.chart(), case.text("script"))
-    except Ended as ended:
-        got = f"ended: {ended.args[0]}\n"
-    refused = case.words["stderr"]
+    got, refused = answered(case), case.words["stderr"]
     wanted = f"ended: {refused}\n" if refused else case.text("output").decode("latin-1")
     return "" if got == wanted else f"wanted\n{wanted}got\n{got}"
 

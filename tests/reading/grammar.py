@@ -130,6 +130,7 @@ class Source(NamedTuple):
 
 
 TYPES = ("BOOL", "INT", "DINT", "TIME")
+MOST_OPEN, MOST_OPERATORS = 64, 256
 TIMED = ("L", "D", "SD", "DS", "SL")
 UNTIMED = ("N", "R", "S", "P", "P0", "P1")
 LEVELS = [["OR"], ["XOR"], ["AND", "&"], ["=", "<>"], ["<", ">", "<=", ">="], ["+", "-"], ["*", "/", "MOD"]]
@@ -140,6 +141,29 @@ class Parser:
 
     def __init__(self, found: list):
         self.tokens, self.place = found, 0
+        self.open, self.operators = 0, 0
+
+    # -- limits of depth
+
+    def fail_too_deep(self):
+        """Tells that the next token stands too deep, or is an operator too many."""
+        raise Refused(f"refused 5 TooDeep line {self.peek().line}")
+
+    def inside(self, production):
+        """What a production reads behind a parenthesis, a prefix operator or an IF, all of which stay open meanwhile."""
+        if self.open == MOST_OPEN:
+            self.fail_too_deep()
+        self.open += 1
+        found = production()
+        self.open -= 1
+        return found
+
+    def operator(self):
+        """Takes an operator of an expression and gives it in capitals."""
+        if self.operators == MOST_OPERATORS:
+            self.fail_too_deep()
+        self.operators += 1
+        return self.take().value.upper()
 
     # -- tokens
 
@@ -411,7 +435,7 @@ class Parser:
     def statement(self):
         """An assignment or an IF."""
         if self.eat("IF"):
-            return self.choice()
+            return self.inside(self.choice)
         target = self.name()
         suffix = self.name() if self.eat(".") else ""
         self.expect(":=")
@@ -432,26 +456,30 @@ class Parser:
 
     # -- expressions
 
-    def expression(self, level=0):
-        """An expression whose operators bind at least as tightly as those of this level; equal ones group to the left."""
+    def expression(self):
+        """A whole expression, whose operators are counted."""
+        self.operators = 0
+        return self.joined(0)
+
+    def joined(self, level: int):
+        """Operands with operators that bind at least as tightly as those of this level; equal ones group to the left."""
         if level == len(LEVELS):
             return self.unary()
-        left = self.expression(level + 1)
+        left = self.joined(level + 1)
         while any(self.sees(operator) for operator in LEVELS[level]):
-            operator = self.take().value.upper()
-            left = Binary("AND" if operator == "&" else operator, left, self.expression(level + 1))
+            operator = self.operator()
+            left = Binary("AND" if operator == "&" else operator, left, self.joined(level + 1))
         return left
 
     def unary(self):
         """An operand with its prefix operators; a minus directly before a decimal integer is its sign."""
-        if self.eat("NOT"):
-            return Prefix("NOT", self.unary())
-        if self.eat("-"):
-            if self.peek().kind == "integer":
-                return Integer(-self.take().value)
-            return Prefix("-", self.unary())
+        if self.sees("-") and self.peek(1).kind == "integer":
+            self.take()
+            return Integer(-self.take().value)
+        if self.sees("NOT") or self.sees("-"):
+            return Prefix(self.operator(), self.inside(self.unary))
         if self.eat("("):
-            inner = self.expression()
+            inner = self.inside(lambda: self.joined(0))
             self.expect(")")
             return inner
         return self.literal() or self.operand()
@@ -463,5 +491,5 @@ class Parser:
 
 
 def read(text: bytes) -> Source:
-    """The tree of a text; raises Refused where there is none. The limits of nesting aren't watched."""
+    """The tree of a text; raises Refused where there is none within the limits of depth."""
     return Parser(tokens(text)).source()

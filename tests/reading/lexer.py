@@ -7,6 +7,7 @@ from typing import NamedTuple, Union
 MOST_MICROSECONDS = 2 ** 62
 MOST_INTEGER = 4_294_967_295
 MOST_BYTES = 1_048_576
+MOST_DIGITS = 40
 
 RESERVED = frozenset("""
     ACTION AND AT BOOL CONFIGURATION DINT ELSE ELSIF END_ACTION END_CONFIGURATION END_IF END_PROGRAM END_RESOURCE
@@ -60,8 +61,11 @@ def duration(run: str):
         if UNITS.index(unit) <= lowest or (fraction and part.end() < len(rest)):
             return None
         lowest, place = UNITS.index(unit), part.end()
-        text = digits.replace("_", "") + ("." + fraction.replace("_", "") if fraction else "")
-        total += Fraction(text) * MICROSECONDS[unit]
+        total += whole(digits.replace("_", "")) * MICROSECONDS[unit]
+        after = (fraction or "").replace("_", "").rstrip("0")
+        if len(after) > MOST_DIGITS:
+            return None
+        total += Fraction(int(after or "0"), 10 ** len(after)) * MICROSECONDS[unit]
     if place == 0 or total.denominator != 1 or total > MOST_MICROSECONDS:
         return None
     return -int(total) if negative else int(total)
@@ -82,10 +86,16 @@ def time_text(microseconds: int) -> str:
     return "T#" + ("-" if microseconds < 0 else "") + ("_".join(parts) or "0s")
 
 
+def whole(digits: str) -> int:
+    """The number that decimal digits say; of a number beyond all limits only that it is one."""
+    found = digits.lstrip("0")
+    return int(found or "0") if len(found) <= MOST_DIGITS else 10 ** MOST_DIGITS
+
+
 def number(run: str):
     """Kind and value of a run that begins with a digit, or None where it is no number in range."""
     if INTEGER.match(run):
-        kind, value = "integer", int(run.replace("_", ""))
+        kind, value = "integer", whole(run.replace("_", ""))
     else:
         based = BASED.match(run.upper())
         if not based:
@@ -102,10 +112,13 @@ class Scanner:
 
     def __init__(self, text: str):
         self.text, self.place = text, 0
+        self.counted, self.lines = 0, 1
 
     def line(self) -> int:
         """The line of the present place, counted from 1."""
-        return self.text.count("\n", 0, self.place) + 1
+        self.lines += self.text.count("\n", self.counted, self.place)
+        self.counted = self.place
+        return self.lines
 
     def refuse(self, what: str):
         """Tells a fault of the token that begins at the present place."""
@@ -157,7 +170,7 @@ class Scanner:
         made = LOCATION.match(run.upper())
         if not made:
             self.refuse("3 BadToken")
-        numbers = tuple(int(part.replace("_", "")) for part in made[3].split("."))
+        numbers = tuple(whole(part.replace("_", "")) for part in made[3].split("."))
         if max(numbers) > MOST_INTEGER:
             self.refuse("3 BadToken")
         return self.token("location", (made[1], made[2] or "X", numbers), len(run))

@@ -284,10 +284,20 @@ def held(declaration) -> Held:
     return Held(declaration.name, kind, location, first)
 
 
-def refuse_doubles(names: list):
-    """Refuses a list in which a name stands twice, in whatever capitals."""
-    if len({name.upper() for name in names}) < len(names):
+LIMITS = {"Steps": 1_024, "Transitions": 2_048, "Associations": 4_096, "Variables": 4_096, "Instances": 64, "Tasks": 16}
+
+
+def watch_limit(what: str, count: int):
+    """Refuses more than there may be."""
+    if count > LIMITS[what]:
+        refuse(f"22 Limit {what}")
+
+
+def watch_double(seen: set, name: str):
+    """Refuses a name that stands before, in whatever capitals, and notes it."""
+    if name.upper() in seen:
         refuse("13 Duplicate")
+    seen.add(name.upper())
 
 
 def load_task(task, variables: list) -> PlantTask:
@@ -313,10 +323,17 @@ class ChartLoader:
         self.variables = {held_one.name.upper(): (Place(False, number), held_one.type)
                           for number, held_one in enumerate(global_variables)}
         self.steps = [step.name for step in tree.steps]
+        self.step_numbers = {name.upper(): number for number, name in enumerate(self.steps)}
 
     def load(self) -> Chart:
         """The chart of the program type."""
+        watch_limit("Steps", len(self.tree.steps))
+        watch_limit("Transitions", len(self.tree.transitions))
+        watch_limit("Associations", sum(len(step.associations) for step in self.tree.steps))
         self.load_variables()
+        initial = frozenset(number for number, step in enumerate(self.tree.steps) if step.initial)
+        if not initial:
+            refuse("14 NoInitial")
         associations = [self.association(number, association)
                         for number, step in enumerate(self.tree.steps) for association in step.associations]
         transitions = [self.transition(transition) for transition in self.tree.transitions]
@@ -325,9 +342,6 @@ class ChartLoader:
         actions = [action if action.place else action._replace(statements=declared[action.name.upper()]) for action in self.actions]
         bodies = [self.action_numbers[action.name.upper()] for action in self.tree.actions
                   if action.name.upper() in self.action_numbers]
-        initial = frozenset(number for number, step in enumerate(self.tree.steps) if step.initial)
-        if not initial:
-            refuse("14 NoInitial")
         names = [action.name for action in self.tree.actions]
         return Chart(self.own, self.steps, initial, associations, actions, bodies, names, transitions, ranked, self.scope())
 
@@ -337,10 +351,9 @@ class ChartLoader:
 
     def load_variables(self):
         """The program type's own variables and its externals; a name of its own hides a global one."""
-        tree, seen = self.tree, dict(self.variables)
-        transitions = [transition.name for transition in tree.transitions if transition.name]
-        refuse_doubles([one.name for one in tree.variables] + self.steps + [one.name for one in tree.actions] + transitions)
+        tree, seen, names = self.tree, dict(self.variables), set()
         for one in tree.variables:
+            watch_double(names, one.name)
             if isinstance(one, grammar.Declaration):
                 self.variables[one.name.upper()] = (Place(True, len(self.own)), one.type)
                 self.own.append(held(one))
@@ -348,6 +361,9 @@ class ChartLoader:
                 refuse("9 Unknown")
             elif seen[one.name.upper()][1] != one.type:
                 refuse("10 WrongType")
+        transitions = [transition.name for transition in tree.transitions if transition.name]
+        for name in self.steps + [one.name for one in tree.actions] + transitions:
+            watch_double(names, name)
 
     def boolean_action(self, name: str) -> Action:
         """The action that a BOOL variable is by itself; it has the spelling of the variable's declaration."""
@@ -383,14 +399,20 @@ class ChartLoader:
             refuse("9 Unknown")
         return Association(step, action, tree.qualifier, time)
 
+    def numbered_step(self, name: str):
+        """The number of a step, or None."""
+        return self.step_numbers.get(name.upper())
+
     def transition(self, tree) -> Transition:
         """A transition between steps by their numbers."""
         sides = []
         for names in (tree.before, tree.after):
-            numbers = [place_of(self.steps, name) for name in names]
-            if None in numbers:
-                refuse("15 UnknownStep")
-            refuse_doubles(names)
+            numbers = [self.numbered_step(name) for name in names]
+            seen = set()
+            for name, number in zip(names, numbers):
+                if number is None:
+                    refuse("15 UnknownStep")
+                watch_double(seen, name)
             sides.append(frozenset(numbers))
         return Transition(*sides, self.scope().check(tree.condition, "BOOL"), tree.priority, tree.name)
 
@@ -401,26 +423,61 @@ def rank(transition: Transition, number: int) -> tuple:
     return (unnumbered, 0 if unnumbered else transition.priority, number)
 
 
-def load(source) -> Plant:
-    """The plant of a tree; raises Refused where a check fails. Limits of sizes aren't watched."""
-    refuse_doubles([one.name for one in source.globals])
-    variables = [held(one) for one in source.globals]
-    first = len(variables)
-    refuse_doubles([task.name for task in source.tasks])
-    tasks = [load_task(task, variables) for task in source.tasks]
-    refuse_doubles([one.name for one in source.types])
-    charts = [ChartLoader(one, variables[:first]).load() for one in source.types]
-    refuse_doubles([one.name for one in source.instances])
-    instances = []
+def load_globals(declarations: list) -> list:
+    """The global variables."""
+    found, names = [], set()
+    for one in declarations:
+        watch_double(names, one.name)
+        found.append(held(one))
+    return found
+
+
+def load_tasks(trees: list, variables: list) -> list:
+    """The tasks, over the global variables."""
+    watch_limit("Tasks", len(trees))
+    found, names = [], set()
+    for one in trees:
+        watch_double(names, one.name)
+        found.append(load_task(one, variables))
+    return found
+
+
+def load_charts(trees: list, variables: list) -> list:
+    """The charts of the program types, over the global variables."""
+    found, names = [], set()
+    for one in trees:
+        watch_double(names, one.name)
+        found.append(ChartLoader(one, variables).load())
+    return found
+
+
+def load_instances(source, tasks: list, charts: list, first: int) -> list:
+    """The instances; the variables of the first one stand behind so many global ones."""
+    watch_limit("Instances", len(source.instances))
+    found, names = [], set()
     for one in source.instances:
+        watch_double(names, one.name)
         task = None if one.task is None else place_of([task.name for task in tasks], one.task)
         number = place_of([kind.name for kind in source.types], one.type)
         if task is None:
             refuse("19 NoTask")
         if number is None:
             refuse("20 UnknownType")
-        instances.append(PlantInstance(one.name, task, charts[number], len(variables)))
-        variables += [own._replace(name=f"{one.name}.{own.name}") for own in charts[number].own]
+        found.append(PlantInstance(one.name, task, charts[number], first))
+        first += len(charts[number].own)
+    return found
+
+
+def load(source) -> Plant:
+    """The plant of a tree; raises Refused with the first check that fails."""
+    variables = load_globals(source.globals)
+    first = len(variables)
+    tasks = load_tasks(source.tasks, variables)
+    charts = load_charts(source.types, variables[:])
+    instances = load_instances(source, tasks, charts, first)
+    watch_limit("Variables", first + sum(len(one.chart.own) for one in instances))
+    for one in instances:
+        variables += [own._replace(name=f"{one.name}.{own.name}") for own in one.chart.own]
     locations = [variable.location for variable in variables if variable.location]
     if len(set(locations)) < len(locations):
         refuse("21 SameLocation")

@@ -4,7 +4,7 @@ import re
 from typing import NamedTuple, Optional, Union
 
 from conditions import read_condition, typed_condition
-from lexer import duration
+from lexer import duration, whole
 from loading import fits, place_of
 
 MOST_BYTES = 1_048_576
@@ -68,7 +68,8 @@ def value_word(word: str):
     if word.upper() in ("FALSE", "TRUE"):
         return "BOOL", word.upper() == "TRUE"
     if NUMBER.match(word):
-        return (None, int(word)) if fits(int(word), "DINT") else None
+        value = -whole(word[1:]) if word.startswith("-") else whole(word)
+        return (None, value) if fits(value, "DINT") else None
     time = duration_word(word)
     return None if time is None else ("TIME", time)
 
@@ -79,9 +80,9 @@ def point_of(kind: str, word: str) -> tuple:
         raise ValueError(kind)
     if kind.upper() != "TRANSITION" or not DIGITS.match(word):
         return kind.upper(), word
-    if not 1 <= int(word) <= MOST_TRANSITION:
+    if not 1 <= whole(word) <= MOST_TRANSITION:
         raise ValueError(word)
-    return kind.upper(), int(word)
+    return kind.upper(), whole(word)
 
 
 def break_command(instant: int, rest: str, plant) -> Command:
