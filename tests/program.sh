@@ -420,5 +420,90 @@ else
   fi
 fi
 
+# ---- run
+
+# live TITLE STATUS SESSION WORD..: run with these words and this session, from a pipe; leaves out, err and status
+live() { local session=$1; shift; printf '%s' "$session" | "$program" run "$@" >"$work/out" 2>"$work/err"; status=${PIPESTATUS[1]}; }
+last() { [ "$(tail -n 1 "$work/out")" = "$1" ]; }
+# counted: the lines before the last are numbered from 1 without a gap, and the last tells how many they are
+counted() {
+  local lines=$(($(wc -l <"$work/out") - 1))
+  last "audit ok $lines" && head -n "$lines" "$work/out" | awk '$1 != NR { wrong = 1 } END { exit wrong }'
+}
+# its one task is scanned by an edge alone, which never comes
+sed 's/TASK Main(.*PRIORITY := 1)/TASK Main(SINGLE := Go, PRIORITY := 1)/; s/VAR_GLOBAL/VAR_GLOBAL Go AT %IX0.7 : BOOL;/' "$chart" >"$work/edge.chart"
+run check "$work/edge.chart"
+ends 0
+note $? "the chart of an edge"
+live '' --trace 0 "$work/edge.chart"
+ends 0 && says "" && [ "$(cat "$work/out")" = "audit ok 1" ]
+note $? "a run without commands"
+live $'STOP\nREAD Lamp\nFORCE Lamp TRUE\n\n ; a note\nREAD Lamp\nRELEASE Lamp\nGO' "$work/edge.chart"
+ends 0 && says "" && counted && last "audit ok 7" && [ "$(sed 's/T#[^ ]* //' "$work/out" | head -n 7)" = "1 STOP
+2 READ Lamp FALSE
+3 FORCE Lamp TRUE
+4 READ Lamp TRUE
+5 RELEASE Lamp
+6 GO
+7 END" ]
+note $? "a session whose commands are all accepted"
+live $'JUMP\nGO\nT#0s STOP\nEPOCH\nREAD Lamp\nEND\nREAD Lamp\n' --trace 32 "$work/edge.chart"
+ends 0 && [ "$(cat "$work/err")" = "script line 1
+refused 36 NotStopped
+script line 3
+refused 40 Ended
+refused 40 Ended" ] && [ "$(sed 's/T#[^ ]* //' "$work/out")" = "1 EPOCH
+3 END
+audit ok 3" ]
+note $? "lines that are no commands, refusals, and an epoch"
+live $'BREAK Lamp1 STEP On WHEN TRUE\r\nread lamp\r\n' --trace 64 "$work/edge.chart"
+ends 0 && says "script line 1" && [ "$(sed 's/T#[^ ]* //' "$work/out")" = "1 READ Lamp FALSE
+audit ok 2" ]
+note $? "a condition is no command of a session, and CR LF ends a line"
+"$program" run --trace 0 "$work/edge.chart" <"$work" >"$work/out" 2>"$work/err"
+status=$?
+ends 3 && says "read fault" && [ "$(cat "$work/out")" = "audit ok 1" ]
+note $? "a session that can't be read"
+yes '; no command' | head -c 2000000 | "$program" run --trace 0 "$work/edge.chart" >"$work/out" 2>"$work/err"
+status=${PIPESTATUS[2]}
+ends 0 && says "" && [ "$(cat "$work/out")" = "audit ok 1" ]
+note $? "a session that is longer than is read"
+fails "a chart that is refused, run" 1 "refused 14 NoInitial" run "$work/dark.chart"
+fails "no such chart, run" 3 "read fault" run "$work/no.chart"
+for mask in 128 -1 x ''; do usage "--trace '$mask'" "error:" run --trace "$mask" "$chart"; done
+usage "no file to run" "<FILE>" run
+run help run
+ends 0 && mentions "Exit status:" out && mentions "docs/FORMATS.md" out && mentions "GO" out && says ""
+note $? "the help on run"
+if [ -e /dev/full ]; then
+  printf 'STOP\n' | "$program" run "$work/edge.chart" >/dev/full 2>"$work/err"
+  status=${PIPESTATUS[1]}
+  ends 3 && says "write fault"
+  note $? "lines of a run that can't be written"
+  printf 'JUMP\n' | "$program" run --trace 0 "$work/edge.chart" >"$work/out" 2>/dev/full
+  status=${PIPESTATUS[1]}
+  ends 0 && [ "$(cat "$work/out")" = "audit ok 1" ]
+  note $? "faults of a run that can't be told"
+fi
+# two seconds of the pump: it is started, halted and let go, and each accepted command has a line
+pump() {
+  { sleep 0.5; echo 'INPUT Start TRUE'; sleep 0.7; echo STOP; echo 'READ Pump'; sleep 0.3; echo GO; sleep 0.5; } | "$program" run "$examples/pump.chart" >"$work/out$1" 2>"$work/err$1"
+  echo "${PIPESTATUS[1]}" >"$work/status$1"
+}
+for n in 0 1 2 3 4 5 6 7 8 9; do pump "$n" & done
+wait
+for n in 0 1 2 3 4 5 6 7 8 9; do
+  cp "$work/out$n" "$work/out"
+  cp "$work/err$n" "$work/err"
+  status=$(cat "$work/status$n")
+  ends 0 && says "" && counted && [ "$(grep -c ' SCAN Main overruns ' "$work/out")" -ge 7 ] && mentions " READ Pump TRUE" out \
+    && ! sed -n '/ STOP$/,/ GO$/p' "$work/out" | grep -q SCAN
+  note $? "the pump in real time, one of ten side by side"
+done
+{ sleep 0.2; echo STOP; sleep 0.2; echo GO; } | "$program" run "$examples/pump.chart" 2>"$work/err" | head -n 1 >"$work/out"
+status=${PIPESTATUS[1]}
+ends 3 && says "write fault"
+note $? "a pipe that is closed ends a run with its session"
+
 echo "$passed passed, $failed failed"
 [ "$failed" = 0 ]

@@ -77,6 +77,24 @@ sweep "$work/ok" check "$data/listed_mix.chart"
 awk '/^## Refusals/ { seen = 1 } seen && /^```/ { if (++fence == 2) exit; next } fence == 1' "$top/docs/FORMATS.md" >"$work/shown"
 sweep "$work/shown" explain 14
 
+# A run whose task is never due, with a session: each allocation that is refused is told as want of memory, or the run is undisturbed.
+sed 's/TASK Main(.*PRIORITY := 1)/TASK Main(SINGLE := Go, PRIORITY := 1)/; s/VAR_GLOBAL/VAR_GLOBAL Go AT %IX0.7 : BOOL;/' \
+  "$top/examples/lamp.chart" >"$work/edge.chart"
+printf 'STOP\nREAD Lamp\nGO\nGO\nJUMP\n' >"$work/session"
+words=(run --trace 0 "$work/edge.chart")
+live() { env "$@" LD_PRELOAD="$work/refuse.so" "$program" "${words[@]}" <"$work/session" >"$work/out" 2>"$work/err"; status=$?; }
+live SFC_COUNTS="$work/counts"
+[ "$status" = 0 ] && [ "$(cat "$work/out")" = "audit ok 4" ]
+note $? "the undisturbed run"
+cp "$work/err" "$work/told"
+read -r allocations reads <"$work/counts"
+for ((n = 1; n <= allocations + 5; n++)); do
+  live SFC_REFUSE=alloc:$n
+  { [ "$status" = 0 ] && [ "$(cat "$work/out")" = "audit ok 4" ] && cmp -s "$work/err" "$work/told"; } \
+    || { [ "$status" = 4 ] && { [ ! -s "$work/err" ] || [ "$(tail -n 1 "$work/err")" = "out of memory" ]; }; }
+  note $? "allocation $n of $allocations of a run refused"
+done
+
 # A chart that is refused, with a script that fails after each number of bytes: the chart's refusal is told.
 sed 's/INITIAL_STEP/STEP/' "$top/examples/lamp.chart" >"$work/dark.chart"
 words=(replay "$work/dark.chart" "$top/examples/lamp.script")

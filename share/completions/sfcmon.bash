@@ -2,7 +2,7 @@
 # ~/.local/share/bash-completion/completions.
 
 _sfcmon() {
-  local commands='check list replay explain help'
+  local commands='check list replay run explain help'
   local names='TooLong NotAscii BadToken Syntax TooDeep BadDuration BadNumber Memory
     Unknown WrongType LiteralRange NotAssignable Duplicate NoInitial UnknownStep UnknownAction NotBool NotTime NoTask
     UnknownType SameLocation Limit
@@ -22,9 +22,10 @@ _sfcmon() {
     :*) mapfile -t COMPREPLY < <(compgen -W "$commands" -- "$word") ;;
     help:*) mapfile -t COMPREPLY < <(compgen -W "$commands" -- "$word") ;;
     replay:-*) mapfile -t COMPREPLY < <(compgen -W '-h --help --strict' -- "$word") ;;
+    run:-*) mapfile -t COMPREPLY < <(compgen -W '-h --help --trace' -- "$word") ;;
     *:-*) mapfile -t COMPREPLY < <(compgen -W '-h --help' -- "$word") ;;
     explain:*) mapfile -t COMPREPLY < <(compgen -W "$names" -- "$word") ;;
-    check:* | list:* | replay:*)
+    check:* | list:* | replay:* | run:*)
       mapfile -t COMPREPLY < <(compgen -f -- "$word")
       compopt -o filenames 2>/dev/null
       ;;

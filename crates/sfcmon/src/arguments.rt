@@ -65,40 +65,40 @@ docs/LANGUAGE.md describes the text of charts, docs/FORMATS.md scripts and outpu
 
 // What stands at the end of the help on `run`.
 const RUN_NOTES: &str = "\
-Lines of the session come from standard input, as in a script, but without instants: SCAN, INPUT, FORCE, RELEASE, RESET, READ, BREAK,
-UNBREAK, STOP, GO, SINGLE, END and EPOCH. At the end of input (Ctrl-D) the session ends the run.
-Each accepted command has a line on standard output: its number, and its line as 'replay' prints it. The last line is 'audit ok' and how
-many commands were accepted. What is refused, and 'script line N' for a line that is no command, stands on standard error.
+A session comes from standard input, a command a line as in a script, but without instants: SCAN, INPUT, FORCE, RELEASE, RESET, READ, BREAK,
+UNBREAK, STOP, GO, SINGLE, END, EPOCH. At the end of input, at a terminal Ctrl-D, it sends END. Each accepted command has a line on standard
+output: its number, and its line as 'replay' prints it. The last line is 'audit ok' and how many commands were accepted. Why a command is
+refused, and 'script line N' for a line that is no command, stands on standard error.
 
-A session that starts a pump, halts it, reads, forces, lets go and ends; typed:   printed, beside the lines of scans:
-  INPUT Start TRUE                                                               3 T#1.2s INPUT Start TRUE
-  INPUT Start FALSE                                                              9 T#2.1s INPUT Start FALSE
-  READ Pump                                                                      14 T#3.2s READ Pump TRUE
-  STOP                                                                           21 T#4.5s STOP
-  READ Pump                                                                      22 T#4.5s READ Pump TRUE
-  FORCE Full TRUE                                                                23 T#4.5s FORCE Full TRUE
-  SINGLE Main T#200ms                                                            24 T#4.7s SINGLE Main T#200ms overruns 0
-  RELEASE Full                                                                   25 T#4.7s RELEASE Full
-  GO                                                                             26 T#4.7s GO
-  END                                                                            31 T#5.6s END
-and at the end 'audit ok 31'. While the run is halted its time stands still.
+A session that starts a pump, halts it, reads, forces, lets go and ends, and what is printed of it, beside the lines of scans:
+  ; start it                   7 T#1s_100ms INPUT Start TRUE
+  INPUT Start TRUE             13 T#2s_100ms READ Pump TRUE
+  READ Pump                    19 T#3s_50ms STOP
+  STOP                         20 T#3s_50ms READ Pump TRUE
+  READ Pump                    21 T#3s_50ms FORCE Stop TRUE
+  FORCE Stop TRUE              22 T#3s_250ms SINGLE Main T#200ms overruns 0
+  SINGLE Main T#200ms          23 T#3s_250ms READ RunOnLamp TRUE
+  READ RunOnLamp               24 T#3s_250ms RELEASE Stop
+  RELEASE Stop                 25 T#3s_250ms GO
+  GO                           28 T#3s_700ms END
+                               audit ok 28
+While the resource is halted its time stands still, however long the halt is.
 
-Sum for --trace of the commands that have lines:
-  1   SCAN, SINGLE        16  BREAK, UNBREAK
-  2   INPUT               32  STOP, GO, END, EPOCH
-  4   FORCE, RELEASE      64  READ
-  8   RESET
+Which commands have lines, for --trace:
+  1  SCAN, SINGLE      8  RESET               64  READ
+  2  INPUT            16  BREAK, UNBREAK
+  4  FORCE, RELEASE   32  STOP, GO, END, EPOCH
 
 Exit status:
   0  the run has ended, and its audit is right
   1  the chart is refused, or the audit found a mismatch
   2  the words of the command line are wrong
-  3  a file or standard input can't be read, or standard output can't be written
+  3  the file or standard input can't be read, or standard output can't be written
   4  memory or a thread was refused
 
 Examples:
   sfcmon run examples/pump.chart
-  sfcmon run examples/pump.chart --trace 0 < examples/pump.session
+  sfcmon run --trace 126 examples/pump.chart
 
 docs/FORMATS.md says what each line is.";
 
@@ -241,7 +241,7 @@ fn bare_command<'a>(alloc: Global) -> Result<Command<'a>, AllocError> {
     let command = Command::new(alloc, "sfcmon").bin_name("sfcmon")?;
     Ok(
         command
-            .version("0.3.0")
+            .version("0.4.0")
             .about(
                 "Runs Sequential Function Charts (IEC 61131-3:2003) exactly as their definitions say",
             )

@@ -1,0 +1,26 @@
+//! A chart that runs in real time, as two compilers make it: its task is scanned by an edge alone, which never comes, so that the audit at
+//! the end counts the commands of standard input and the End behind them.
+#![tactic(auto)]
+
+use sfc_debug::trace_mask::TraceMask;
+use sfc_monitor::run::run_chart;
+use std::process::ExitCode;
+
+const CHART: &[u8] = b"PROGRAM P INITIAL_STEP S: END_STEP END_PROGRAM \
+CONFIGURATION C RESOURCE R ON Plc VAR_GLOBAL Go AT %IX0.0 : BOOL; Lamp AT %QX0.0 : BOOL; END_VAR \
+TASK Edge(SINGLE := Go, PRIORITY := 1); PROGRAM P1 WITH Edge : P; END_RESOURCE END_CONFIGURATION";
+
+fn main(rt: HostRuntime) -> ExitCode {
+    let mut chart = CHART;
+    let mut commands = rt.stdin();
+    let mut errors = rt.stderr();
+    ExitCode::from(run_chart(
+        &rt,
+        rt.alloc(),
+        &mut chart,
+        &mut commands,
+        rt.stdout(),
+        &mut errors,
+        TraceMask(0),
+    ))
+}
