@@ -505,5 +505,19 @@ status=${PIPESTATUS[1]}
 ends 3 && says "write fault"
 note $? "a pipe that is closed ends a run with its session"
 
+# at a terminal of its own
+if command -v python3 >"$work/which"; then
+  python3 "$here/terminal.py" "$program" "$work/edge.chart" >"$work/out" 2>"$work/err"
+  status=$?
+  if [[ $(tail -n 1 "$work/out") =~ ^([0-9]+)\ passed,\ ([0-9]+)\ failed$ ]]; then
+    passed=$((passed + BASH_REMATCH[1])) failed=$((failed + BASH_REMATCH[2]))
+    sed '$d' "$work/out"
+  else
+    note 1 "runs at a terminal"
+  fi
+else
+  echo "not asked, python3 isn't there: runs at a terminal"
+fi
+
 echo "$passed passed, $failed failed"
 [ "$failed" = 0 ]
