@@ -48,6 +48,14 @@ __attribute__((destructor)) static void report(void) {
   close(target);
 }
 
+// A program with threads ends by this, and no destructor runs.
+void _exit(int status) {
+  void (*real)(int) = next_of("_exit");
+  report();
+  real(status);
+  __builtin_unreachable();
+}
+
 static int is_refused(void) {
   if (!is_ready) return 0;
   long number = __atomic_add_fetch(&allocations, 1, __ATOMIC_SEQ_CST);
