@@ -422,7 +422,7 @@ fi
 
 # ---- run
 
-# live TITLE STATUS SESSION WORD..: run with these words and this session, from a pipe; leaves out, err and status
+# live SESSION WORD..: run with these words and this session, from a pipe; leaves out, err and status
 live() { local session=$1; shift; printf '%s' "$session" | "$program" run "$@" >"$work/out" 2>"$work/err"; status=${PIPESTATUS[1]}; }
 last() { [ "$(tail -n 1 "$work/out")" = "$1" ]; }
 # counted: the lines before the last are numbered from 1 without a gap, and the last tells how many they are
@@ -431,7 +431,8 @@ counted() {
   last "audit ok $lines" && head -n "$lines" "$work/out" | awk '$1 != NR { wrong = 1 } END { exit wrong }'
 }
 # its one task is scanned by an edge alone, which never comes
-sed 's/TASK Main(.*PRIORITY := 1)/TASK Main(SINGLE := Go, PRIORITY := 1)/; s/VAR_GLOBAL/VAR_GLOBAL Go AT %IX0.7 : BOOL;/' "$chart" >"$work/edge.chart"
+sed 's/TASK Main(.*PRIORITY := 1)/TASK Main(SINGLE := Go, PRIORITY := 1)/; s/VAR_GLOBAL/VAR_GLOBAL Go AT %IX0.7 : BOOL;/' \
+  "$chart" >"$work/edge.chart"
 run check "$work/edge.chart"
 ends 0
 note $? "the chart of an edge"
@@ -487,7 +488,8 @@ if [ -e /dev/full ]; then
 fi
 # two seconds of the pump: it is started, halted and let go, and each accepted command has a line
 pump() {
-  { sleep 0.5; echo 'INPUT Start TRUE'; sleep 0.7; echo STOP; echo 'READ Pump'; sleep 0.3; echo GO; sleep 0.5; } | "$program" run "$examples/pump.chart" >"$work/out$1" 2>"$work/err$1"
+  { sleep 0.5; echo 'INPUT Start TRUE'; sleep 0.7; echo STOP; echo 'READ Pump'; sleep 0.3; echo GO; sleep 0.5; } \
+    | "$program" run "$examples/pump.chart" >"$work/out$1" 2>"$work/err$1"
   echo "${PIPESTATUS[1]}" >"$work/status$1"
 }
 for n in 0 1 2 3 4 5 6 7 8 9; do pump "$n" & done

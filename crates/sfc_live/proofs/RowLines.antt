@@ -30,10 +30,12 @@ pub one_more : (steered : Steered) (old mid new : Tail) (before text after : Lis
     → Takes mid new (row ∷ []) → after ≡ text ++ row_line steered row → Along steered old new before after
 one_more steered old mid new before text after row was takes line =
     let rows = was.0 in
-    let one : rows_text steered (row ∷ []) ≡ row_line steered row = append-nil (row_line steered row) in
-    (rows ++ row ∷ [], takes_more old mid new rows (row ∷ []) was.1 takes,
-    line ∙ ap (λ t. t ++ row_line steered row) was.2 ∙ append_assoc before (rows_text steered rows) (row_line steered row)
-    ∙ ap (λ t. before ++ t) (sym (rows_more steered rows (row ∷ []) ∙ ap (λ t. rows_text steered rows ++ t) one)))
+    let one : rows_text steered (row ∷ []) ≡ row_line steered row = append-nil (row_line steered row) in (
+      rows ++ row ∷ [],
+      takes_more old mid new rows (row ∷ []) was.1 takes,
+      line ∙ ap (λ t. t ++ row_line steered row) was.2 ∙ append_assoc before (rows_text steered rows) (row_line steered row)
+          ∙ ap (λ t. before ++ t) (sym (rows_more steered rows (row ∷ []) ∙ ap (λ t. rows_text steered rows ++ t) one)),
+    )
 
 -- some rows were taken, and their lines written
 abbrev pub Told : Steered → Tail → Tail → Option (List ℕ) → Option (List ℕ) → Type 0
@@ -43,17 +45,24 @@ pub told_none : (steered : Steered) (tail : Tail) (written : Option (List ℕ)) 
 told_none steered tail written = ([], sym (append-nil (taken tail)), Appends-nil written)
 
 pub told_more : (steered : Steered) (old mid new : Tail) (a b c : Option (List ℕ)) → Told steered old mid a b → Told steered mid new b c → Told steered old new a c
-told_more steered old mid new a b c was more =
-    (was.0 ++ more.0, takes_more old mid new was.0 more.0 was.1 more.1,
-    subst (λ t. Appends a c t) (sym (rows_more steered was.0 more.0)) (Appends-trans a b c (rows_text steered was.0) (rows_text steered more.0) was.2 more.2))
+told_more steered old mid new a b c was more = (
+  was.0 ++ more.0,
+  takes_more old mid new was.0 more.0 was.1 more.1,
+  subst (λ t. Appends a c t) (sym (rows_more steered was.0 more.0)) (Appends-trans a b c (rows_text steered was.0) (rows_text steered more.0) was.2 more.2),
+)
 
 -- behind lines that were written, a front of others before a fault
 pub told_front : (steered : Steered) (old mid new : Tail) (a b c : Option (List ℕ)) → Told steered old mid a b
     → (rows : List TraceRow) → Takes mid new rows → AppendsFront b c (rows_text steered rows)
     → (all : List TraceRow) × Takes old new all × AppendsFront a c (rows_text steered all)
 told_front steered old mid new a b c was rows takes front =
-    let first = rows_text steered was.0 in
-    (was.0 ++ rows, takes_more old mid new was.0 rows was.1 takes,
-    (first ++ front.0, front.1,
-    rows_more steered was.0 rows ∙ ap (λ t. first ++ t) front.2 ∙ sym (append_assoc first front.0 front.1),
-    Appends-trans a b c first front.0 was.2 front.3))
+    let first = rows_text steered was.0 in (
+      was.0 ++ rows,
+      takes_more old mid new was.0 rows was.1 takes,
+      (
+        first ++ front.0,
+        front.1,
+        rows_more steered was.0 rows ∙ ap (λ t. first ++ t) front.2 ∙ sym (append_assoc first front.0 front.1),
+        Appends-trans a b c first front.0 was.2 front.3,
+      ),
+    )

@@ -84,8 +84,8 @@ fn print_some<W: Write>(
 /// Takes rows as they come and writes the line of each: its number, and the line of its command. It ends once it is told that no more rows
 /// come, and none is left. It sleeps a millisecond where none has come.
 ///
-/// `Write` is answered where the writer failed or took no byte, `Memory` where memory was refused; then a front of the lines was written, and
-/// no more rows are taken.
+/// `Write` is answered where the writer failed or took no byte, `Memory` where memory was refused; then a front of the lines was
+/// written, and no more rows are taken.
 pub fn print_rows<R: Wait + time::Clock, W: Write>(
     rt: &R,
     alloc: Global,

@@ -135,8 +135,8 @@ impl RunFaults {
         append_if(out, self.mismatch, b"refused 41 AuditMismatch\n")
     }
 
-    /// Puts a line for each at the end: `out of memory`, `read fault`, `write fault`, `refused 41 AuditMismatch`, in this order. The one error
-    /// is that memory was refused; then a front of them may stand there.
+    /// Puts a line for each at the end: `out of memory`, `read fault`, `write fault`, `refused 41 AuditMismatch`, in this order. The
+    /// one error is that memory was refused; then a front of them may stand there.
     pub fn append_text(self, out: &mut Vec<u8>) -> Result<(), AllocError>
         ensures { OnOk result (out.new.items ≡ out.old.items ++ faults.faults_text self) }
     {

@@ -166,18 +166,19 @@ fn tell_faults<E: Write>(alloc: Global, faults: RunFaults, errors: &mut E) -> u8
     faults.status()
 }
 
-/// Runs a chart in real time, its clock from 0: a worker for each task in a thread of its own, a session that obeys the lines of `commands`
-/// as they come, and a thread that writes a line to `w` for each accepted command that the mask wants: its number, and its line as `replay`
-/// writes it, without lines of instances. At the end of `commands` the session sends End. Then history, receipts and seats are audited, and
-/// the last line is `audit ok` and the number of accepted commands; it isn't written after a fault of the writer, where they don't agree, or
-/// where memory was refused before.
+/// Runs a chart in real time, its clock from 0: a worker for each task in a thread of its own, a session that obeys the lines of
+/// `commands` as they come, and a thread that writes a line to `w` for each accepted command that the mask wants: its number, and its
+/// line as `replay` writes it, without lines of instances. At the end of `commands` the session sends End. Then history, receipts and
+/// seats are audited, and the last line is `audit ok` and the number of accepted commands; it isn't written after a fault of the
+/// writer, where they don't agree, or where memory was refused before.
 ///
-/// What is wrong is told on `errors`, whose faults are passed over: why the chart is refused; a line that is no command, by its number; why a
-/// command is refused; and at the end a line for each fault. At most 1,048,577 bytes are taken from the chart, and 1,048,576 from `commands`.
-/// At most 1,048,576 commands are held, and the feed has room for 65,536 rows; a row that finds it full isn't written.
+/// What is wrong is told on `errors`, whose faults are passed over: why the chart is refused; a line that is no command, by its
+/// number; why a command is refused; and at the end a line for each fault. At most 1,048,577 bytes are taken from the chart, and
+/// 1,048,576 from `commands`. At most 1,048,576 commands are held, and the feed has room for 65,536 rows; a row that finds it full
+/// isn't written.
 ///
-/// The answer is the exit status: 0; 1 where the chart is refused or the audit fails; 3 where a reader or `w` failed; 4 where memory or a thread
-/// was refused. Of several the first of 4, 3, 1. It waits for the end of `commands`, and for locks and threads.
+/// The answer is the exit status: 0; 1 where the chart is refused or the audit fails; 3 where a reader or `w` failed; 4 where memory
+/// or a thread was refused. Of several the first of 4, 3, 1. It waits for the end of `commands`, and for locks and threads.
 pub fn run_chart<
     R: Threads + Wait + time::Clock + Sync,
     C: Read,

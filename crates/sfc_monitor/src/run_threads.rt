@@ -50,7 +50,14 @@ impl<L: Ledger> Promise<Result<Vec<WorkerEnd<L>>, AllocError>> for EndsOf {
 }
 
 // Workers in threads of their own, beside the session.
-fn work<'a, 'd, L: Session + Send + Sync, R: Threads + Wait + time::Clock + Sync, S: Read, E: Write>(
+fn work<
+    'a,
+    'd,
+    L: Session + Send + Sync,
+    R: Threads + Wait + time::Clock + Sync,
+    S: Read,
+    E: Write,
+>(
     desk: &Desk<'d, L, R>,
     posts: Vec<Post<L, Pace<'a, R>, RealTime<'a, R>>>,
     console: &mut Console<L, RealTime<'a, R>>,
