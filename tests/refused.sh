@@ -95,6 +95,12 @@ for ((n = 1; n <= allocations + 5; n++)); do
   note $? "allocation $n of $allocations of a run refused"
 done
 
+for ((k = 0; k < 11; k++)); do
+  live SFC_REFUSE=write:$k
+  [ "$status" = 3 ] && [ "$(tail -n 1 "$work/err")" = "write fault" ] && [ "$(cat "$work/out")" = "$(printf 'audit ok 4' | head -c "$k")" ]
+  note $? "the last line of a run, whose writes fail after $k bytes"
+done
+
 # A chart that is refused, with a script that fails after each number of bytes: the chart's refusal is told.
 sed 's/INITIAL_STEP/STEP/' "$top/examples/lamp.chart" >"$work/dark.chart"
 words=(replay "$work/dark.chart" "$top/examples/lamp.script")
