@@ -131,6 +131,24 @@ if [ -x "$probe" ]; then
     [ "$calm" = 100 ]; note $? "the undisturbed run"
     case $test in crews::*) [ "$ends" -gt 1 ]; note $? "a worker's want of memory ($ends times)" ;; esac
   done
+  # A load and a listing that memory is refused to are called again with the same source and plant: the answer is right then. What
+  # was called again has made more allocations than the undisturbed run.
+  words=(retries::the_same_source_and_plant_are_right_once_there_is_memory)
+  SFC_COUNTS="$work/counts" LD_PRELOAD="$work/refuse.so" "$probe" "${words[0]}" >"$work/out" 2>&1
+  status=$?
+  [ "$status" = 0 ]; note $? "the undisturbed run"
+  read -r allocations reads <"$work/counts"
+  again=0
+  for ((n = 1; n <= allocations; n++)); do
+    SFC_COUNTS="$work/counts" SFC_REFUSE=alloc:$n LD_PRELOAD="$work/refuse.so" "$probe" "${words[0]}" >"$work/out" 2>&1
+    status=$?
+    [ "$status" = 0 ] || grep -qE '^error: .*(Memory|AllocError|AllocFailed)' "$work/out"
+    note $? "allocation $n of $allocations refused"
+    read -r made reads <"$work/counts"
+    [ "$status" = 0 ] && [ "$made" -gt "$allocations" ] && again=$((again + 1))
+  done
+  [ "$again" -gt 20 ]; note $? "calls that were made again ($again)"
+  echo "$again of $allocations refused allocations, after which a load or a listing was called again and was right"
   # Ten scans and a hundred thousand make equally many allocations: all memory is taken at the opening.
   for scans in ten a_hundred_thousand; do
     SFC_COUNTS="$work/counts" LD_PRELOAD="$work/refuse.so" "$probe" "scans::${scans}_are_accepted" >"$work/out" 2>&1

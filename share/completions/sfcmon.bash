@@ -2,7 +2,7 @@
 # ~/.local/share/bash-completion/completions.
 
 _sfcmon() {
-  local commands='check list replay run explain help'
+  local commands='check list replay run draw wave explain help'
   local names='TooLong NotAscii BadToken Syntax TooDeep BadDuration BadNumber Memory
     Unknown WrongType LiteralRange NotAssignable Duplicate NoInitial UnknownStep UnknownAction NotBool NotTime NoTask
     UnknownType SameLocation Limit
@@ -23,9 +23,11 @@ _sfcmon() {
     help:*) mapfile -t COMPREPLY < <(compgen -W "$commands" -- "$word") ;;
     replay:-*) mapfile -t COMPREPLY < <(compgen -W '-h --help --strict' -- "$word") ;;
     run:-*) mapfile -t COMPREPLY < <(compgen -W '-h --help --trace' -- "$word") ;;
+    draw:-*) mapfile -t COMPREPLY < <(compgen -W '-h --help --program --after' -- "$word") ;;
+    wave:-*) mapfile -t COMPREPLY < <(compgen -W '-h --help --raw' -- "$word") ;;
     *:-*) mapfile -t COMPREPLY < <(compgen -W '-h --help' -- "$word") ;;
     explain:*) mapfile -t COMPREPLY < <(compgen -W "$names" -- "$word") ;;
-    check:* | list:* | replay:* | run:*)
+    check:* | list:* | replay:* | run:* | draw:* | wave:*)
       mapfile -t COMPREPLY < <(compgen -f -- "$word")
       compopt -o filenames 2>/dev/null
       ;;

@@ -26,6 +26,8 @@ mod plants;
 #[cfg(test)]
 mod resource;
 #[cfg(test)]
+mod retries;
+#[cfg(test)]
 mod scans;
 #[cfg(test)]
 mod sessions;

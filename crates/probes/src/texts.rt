@@ -53,6 +53,40 @@ task main(interval := t#10ms, priority := 1);
 program p with main : mix;
 end_resource end_configuration";
 
+// What it lists as.
+const MIXTURE_LISTED: &[u8] = b"\
+PROGRAM mix
+  VAR
+    n : INT := INT#255;
+    t1 : TIME := T#1d_1h_15m;
+  END_VAR
+  INITIAL_STEP s0:
+    act(P1, n);
+    out(N);
+  END_STEP
+  STEP s1:
+    out(SL, t1);
+  END_STEP
+  TRANSITION go (PRIORITY := 2) FROM s0 TO s1
+    := (n + INT#1) * INT#-2 > -INT#5 OR NOT (out AND s0.T >= T#1s_500ms);
+  END_TRANSITION
+  ACTION act:
+    IF n = INT#3 THEN
+      n := n - (INT#1 - n);
+    END_IF;
+  END_ACTION
+END_PROGRAM
+CONFIGURATION c
+  RESOURCE r ON plc
+    VAR_GLOBAL
+      out AT %QX0.1 : BOOL := FALSE;
+    END_VAR
+    TASK main(INTERVAL := T#10ms, PRIORITY := 1);
+    PROGRAM p WITH main : mix;
+  END_RESOURCE
+END_CONFIGURATION
+";
+
 // Two tasks of unlike priority, each with one instance of the one step, and an input word.
 const TWO_TASKS: &[u8] = b"PROGRAM Mix INITIAL_STEP S: Lamp(N); END_STEP END_PROGRAM \
 CONFIGURATION C RESOURCE R ON Plc VAR_GLOBAL Lamp : BOOL; X AT %IW0 : INT; END_VAR \
@@ -100,6 +134,11 @@ pub fn all_qualifiers() -> &'static [u8] {
 /// A chart with something of each kind.
 pub fn mixture() -> &'static [u8] {
     MIXTURE
+}
+
+/// What the chart with something of each kind lists as.
+pub fn mixture_listed() -> &'static [u8] {
+    MIXTURE_LISTED
 }
 
 /// A lamp that is lit by the one step, and three scans of it.

@@ -13,6 +13,8 @@ pub mod Standing
 pub mod Firsts
 -- receipts whose indices rise
 pub mod Indices
+-- the receipts that a worker keeps
+pub mod Kept
 -- one post and its end more
 pub mod Manned
 -- the entries that are held, after every list with the opening's past

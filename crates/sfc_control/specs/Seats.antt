@@ -25,6 +25,10 @@ module _ {X : Type 0} where
   abbrev pub last_receipt : Seat X → Option Receipt
   last_receipt seat = seat.last
 
+  -- the index of the first entry that was held when it was given; 0 where there is none
+  abbrev pub first_held : Seat X → ℕ
+  first_held seat = seat.first
+
   -- its part of the ledger
   abbrev pub parts : Seat X → ℕ
   parts seat = seat.share.parts

@@ -67,6 +67,7 @@ fn settle<L: Ledger>(total: &mut ledger::Book<L>, seats: Vec<Seat<L>>)
         number: _,
         calls: _,
         last: _,
+        first: _,
         share: mut all,
     } = last;
     while let Some(seat) = seats.pop() {
@@ -74,6 +75,7 @@ fn settle<L: Ledger>(total: &mut ledger::Book<L>, seats: Vec<Seat<L>>)
             number: _,
             calls: _,
             last: _,
+            first: _,
             share,
         } = seat;
         all.merge(share);

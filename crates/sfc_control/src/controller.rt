@@ -49,6 +49,7 @@ fn seats_of<L: Ledger>(alloc: Global, all: Share<L>, count: u8) -> Result<Vec<Se
             number,
             calls: 0,
             last: None,
+            first: 0,
             share,
         })?;
     }

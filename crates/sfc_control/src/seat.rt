@@ -1,6 +1,7 @@
 //! A place at a controller.
 
-ghost use Rattle.std.specs.Prelude.{◌≡◌, ◌<◌};
+ghost use Rattle.std.specs.Prelude.{◌≡◌, ◌<◌, ◌≤◌};
+ghost use Rattle.sfc_control.specs.Working.{last_index};
 
 use crate::book::Book;
 use crate::call_error::CallError;
@@ -14,22 +15,24 @@ use sfc_events::command::Command;
 use std::sync::Wait;
 use std::sync::ledger::{Ledger, Share};
 
-/// A place at the controller that handed it out: its number, the number of its accepted calls, its last receipt, and its part of
-/// the ledger.
+/// A place at the controller that handed it out: its number, the number of its accepted calls, its last receipt, the index of the first
+/// entry that was held when it was given, and its part of the ledger.
 #[derive(Drop)]
 pub struct Seat<L: Ledger> {
     pub(crate) number: u8,
     pub(crate) calls: u64,
     pub(crate) last: Option<Receipt>,
+    pub(crate) first: u64,
     pub(crate) share: Share<L>,
     pub ghost known: { number < 24 },
     pub ghost one_part: { share.parts ≡ 1 },
     pub ghost counted: { share.amount ≡ calls },
+    pub ghost met: { first ≤ last_index last },
 }
 
 impl<L: Session> Seat<L> {
     ghost use Rattle.std.specs.Prelude.{[], ◌∷◌, ◌++◌, ◌+◌, ◌-◌, Some, Err, IfOk, OnOk, OnErr};
-    ghost use Rattle.std.specs.Prelude.{ℤ, ℕ, List, IsTrue, ◌↔◌, length};
+    ghost use Rattle.std.specs.Prelude.{ℤ, ℕ, List, IsTrue, ◌↔◌, length, max};
     ghost use Rattle.sfc_control.specs.declared.entry.Entry.{Entry};
     ghost use Rattle.sfc_control.specs.Answering.{answered};
     ghost use Rattle.sfc_control.specs.Holding.{held_after, first_after};
@@ -37,7 +40,7 @@ impl<L: Session> Seat<L> {
     ghost use Rattle.sfc_control.specs.Receipts.{entry_of, IsReceiptOf};
     ghost use Rattle.sfc_control.specs.Books.{accepted, entries, first, limit};
     ghost use Rattle.sfc_control.specs.Lock.{book_of, total_of};
-    ghost use Rattle.sfc_control.specs.Seats.{number, calls, last_receipt, KeptStands, called, BothStand, IsEntered};
+    ghost use Rattle.sfc_control.specs.Seats.{number, calls, last_receipt, first_held, KeptStands, called, BothStand, IsEntered};
 
     // Whether the last receipt, if there is one, stands in the book.
     fn last_stands(&self, book: &Book) -> bool
@@ -73,6 +76,7 @@ impl<L: Session> Seat<L> {
         ensures number { number self.new ≡ number self.old }
         ensures calls { OnOk result (calls self.new ≡ calls self.old + 1) }
         ensures last { IfOk result (λ receipt. last_receipt self.new ≡ Some receipt) }
+        ensures held { OnOk result (first_held self.new ≡ max (first_held self.old) (first (book_of locked.new))) }
         ensures receipt { IfOk result (λ receipt. IsReceiptOf receipt (number self.old) command raw) }
         ensures legal { IfOk result (λ receipt. BothStand L.plant L.table (last_receipt self.old) receipt) }
         ensures seat { OnErr result (self.new ≡ self.old) }
@@ -92,6 +96,7 @@ impl<L: Session> Seat<L> {
         total.audit(&mut self.share);
         self.calls += 1;
         self.last = Some(receipt);
+        self.first = self.first.max(book.first());
         Ok(receipt)
     }
 
@@ -105,7 +110,8 @@ impl<L: Session> Seat<L> {
         clock: &mut C,
     ) -> Result<Receipt, CallError>
         ensures entered { (raw : ℤ) × (first : ℕ) × (es : List Entry) × C.reads clock.old raw clock.new × IsLegal L.plant L.table es
-            × IsEntered L.plant L.table L.limit (last_receipt self.old) (number self.old) first es command raw result }
+            × IsEntered L.plant L.table L.limit (last_receipt self.old) (number self.old) first es command raw result
+            × IfOk result (λ receipt. first_held self.new ≡ max (first_held self.old) (first_after command first receipt.index)) }
         ensures receipt { IfOk result (λ receipt. (receipt.seat ≡ number self.old) × (receipt.command ≡ command)) }
         ensures number { number self.new ≡ number self.old }
         ensures calls { OnOk result (calls self.new ≡ calls self.old + 1) }

@@ -1,8 +1,8 @@
 //! A worker, which scans one task.
 
-ghost use Rattle.std.specs.Prelude.{◌≡◌, ◌+◌, ◌↔◌, All, Err, true, length};
-ghost use Rattle.sfc_control.specs.Working.{IsScanOf, Rise, last_index};
-ghost use Rattle.sfc_control.specs.Seats.{number, calls, last_receipt};
+ghost use Rattle.std.specs.Prelude.{◌≡◌, ◌≤◌, ◌↔◌, nat_le, All, Err, true};
+ghost use Rattle.sfc_control.specs.Working.{Receives, held_from, last_index};
+ghost use Rattle.sfc_control.specs.Seats.{number, calls, last_receipt, first_held};
 
 use crate::call_error::CallError;
 use crate::clock::Clock;
@@ -35,12 +35,12 @@ pub enum Why {
     Audit,
 }
 
-/// What a worker leaves: its seat, the receipts of its accepted scans, and why it ended.
+/// What a worker leaves: its seat, the receipts of its accepted scans whose entries are held, and why it ended.
 #[derive(Drop)]
 pub struct WorkerEnd<L: Ledger> {
     /// The seat that was handed in.
     pub seat: Seat<L>,
-    /// The receipts, in order.
+    /// The receipts, in order: those from the latest epoch on that an accepted scan of the worker met.
     pub receipts: Vec<Receipt>,
     /// Why it ended.
     pub why: Why,
@@ -63,8 +63,20 @@ fn turn_of(error: CallError) -> Result<Turn, Why>
     }
 }
 
+// Lets go of the receipts from before the first entry that is held, where that is another one than before.
+fn let_go(receipts: &mut Vec<Receipt>, before: u64, first: u64)
+    requires kept { All (λ receipt. nat_le before receipt.index ≡ true) receipts.old.items }
+    requires rising { before ≤ first }
+    ensures { receipts.new.items ≡ held_from first receipts.old.items }
+{
+    if before < first {
+        receipts.retain(|receipt| first <= receipt.index);
+    }
+}
+
 /// Scans the task each time that the gate answers true, until it answers false or a scan can't be answered. In each round the gate
-/// is asked, then room for the receipt is made, then comes the call. The task is one of the plant.
+/// is asked, then room for the receipt is made, then comes the call. Receipts whose entries an epoch has dropped are let go at the next
+/// accepted scan, so that the memory is bounded by what is held. The task is one of the plant.
 pub fn worker<L: Session, R: Wait, G: Gate, C: Clock>(
     rt: &R,
     alloc: Global,
@@ -75,9 +87,8 @@ pub fn worker<L: Session, R: Wait, G: Gate, C: Clock>(
     clock: &mut C,
 ) -> WorkerEnd<L>
     ensures seat { number result.seat ≡ number seat }
-    ensures count { length result.receipts.items + calls seat ≡ calls result.seat }
-    ensures scans { All (IsScanOf (number seat) task) result.receipts.items }
-    ensures rising { Rise (last_index (last_receipt seat)) result.receipts.items }
+    ensures receipts { Receives (number seat) task (last_index (last_receipt seat)) (calls seat) (calls result.seat)
+        (first_held result.seat) result.receipts.items }
     ensures why { (result.why ≡ Why.Closed) ↔ (G.is_shut gate.new ≡ true) }
 {
     let mut seat = seat;
@@ -99,9 +110,11 @@ pub fn worker<L: Session, R: Wait, G: Gate, C: Clock>(
                 why: Why::Memory,
             };
         }
+        let before = seat.first;
         match seat.call(rt, controller, command, clock) {
             Ok(receipt) => {
                 receipts.push_reserved(receipt);
+                let_go(&mut receipts, before, seat.first);
                 last = Turn::Done(receipt.index);
             }
             Err(error) => match turn_of(error) {

@@ -11,9 +11,9 @@
 //! - `run`: a chart in real time; `run_opening`: what it is opened with; `run_threads`: its threads.
 #![tactic(auto)]
 
-mod chart;
+pub mod chart;
 pub mod check;
-mod input;
+pub mod input;
 pub mod laws;
 pub mod monitor_error;
 pub mod play;

@@ -6,6 +6,7 @@ use clap::error::ErrorKind;
 use clap::{Arg, ArgAction, ArgMatches, Command, Error};
 use sfc_debug::trace_mask::TraceMask;
 use sfc_monitor::monitor_error::MonitorError;
+use sfc_pictures::wave::Instants;
 use std::alloc::{AllocError, Global};
 
 /// A script to be played on a chart.
@@ -28,6 +29,28 @@ pub struct Running {
     pub mask: TraceMask,
 }
 
+/// A chart to be drawn.
+#[derive(Drop)]
+pub struct Drawing {
+    /// The name of the chart's file.
+    pub chart: String,
+    /// The program type that is drawn alone.
+    pub program: Option<String>,
+    /// The name of the file of the script behind which the instances are drawn.
+    pub script: Option<String>,
+}
+
+/// A script on a chart whose signals are to be shown.
+#[derive(Drop)]
+pub struct Waving {
+    /// The name of the chart's file.
+    pub chart: String,
+    /// The name of the script's file.
+    pub script: String,
+    /// Which instants are shown.
+    pub instants: Instants,
+}
+
 /// What the words ask for.
 #[derive(Drop)]
 pub enum Request {
@@ -39,6 +62,10 @@ pub enum Request {
     Replay(Playing),
     /// A chart to be run in real time, with a session on standard input.
     Run(Running),
+    /// A chart to be drawn.
+    Draw(Drawing),
+    /// A script on a chart whose signals are to be shown.
+    Wave(Waving),
     /// What a refusal or a fault means, by its number or its name.
     Explain { word: String },
     /// The numbers and names of all refusals and faults.
@@ -137,6 +164,41 @@ Example:
 'sfcmon explain NUMBER' tells what a fault means.
 docs/LANGUAGE.md describes the text of charts, docs/FORMATS.md how it is laid out, and the faults.";
 
+// What stands at the end of the help on `draw`.
+const DRAW_NOTES: &str = "\
+Exit status:
+  0  the picture is written
+  1  the chart or the script is refused
+  2  there is no such program type, or the words of the command line are wrong
+  3  a file can't be read, or the output can't be written
+  4  memory was refused
+
+Examples:
+  sfcmon draw examples/pump.chart | dot -Tsvg > pump.svg
+  sfcmon draw --program PumpControl examples/pump.chart
+  sfcmon draw --after examples/pump.script examples/pump.chart
+
+dot is a program of Graphviz. A long condition is cut with '..', and stands whole where the pointer rests on it.";
+
+// What stands at the end of the help on `wave`.
+const WAVE_NOTES: &str = "\
+Signals, in the scope of the resource: mode.Running; TASK.scan, up at each scan, and TASK.overruns; each global variable, and VARIABLE.forced.
+In the scope of each program instance: its local variables; STEP.X and STEP.T, in microseconds as of its latest scan; ACTION.Q and ACTION.A.
+Instants are microseconds. They are run instants, so that a halt takes no time; with --raw they are those of the script.
+
+Exit status:
+  0  the whole script was played; what was refused isn't shown
+  1  the chart or the script is refused
+  2  the words of the command line are wrong
+  3  a file can't be read, or the output can't be written
+  4  memory was refused
+
+Examples:
+  sfcmon wave examples/pump.chart examples/pump.script > pump.vcd
+  sfcmon wave --raw examples/commissioning.chart examples/commissioning.script > commissioning.vcd
+
+GTKWave and PulseView show such files.";
+
 // What stands at the end of the help on `explain`.
 const EXPLAIN_NOTES: &str = "\
 Exit status:
@@ -185,15 +247,12 @@ fn list_command<'a>(alloc: Global) -> Result<Command<'a>, AllocError> {
 }
 
 fn replay_command<'a>(alloc: Global) -> Result<Command<'a>, AllocError> {
-    let script = Arg::new(alloc, "SCRIPT").required(true).help(
-        "The script, lines of an instant and a command such as T#10ms SCAN Main",
-    );
     Command::new(alloc, "replay")
         .about("Plays a script on a chart and prints what each command answers")
         .after_help(REPLAY_NOTES)
         .arg(strict_argument(alloc))?
         .arg(chart_argument(alloc))?
-        .arg(script)
+        .arg(script_argument(alloc))
 }
 
 // The argument that says which commands have lines.
@@ -214,6 +273,55 @@ fn run_command<'a>(alloc: Global) -> Result<Command<'a>, AllocError> {
         .after_help(RUN_NOTES)
         .arg(trace_argument(alloc))?
         .arg(chart_argument(alloc))
+}
+
+// The argument that names a program type.
+fn program_argument<'a>(alloc: Global) -> Arg<'a> {
+    Arg::new(alloc, "program")
+        .long("program")
+        .value_name("TYPE")
+        .help("Draws this program type alone, or its instances")
+}
+
+// The argument that names the script behind which instances are drawn.
+fn after_argument<'a>(alloc: Global) -> Arg<'a> {
+    Arg::new(alloc, "after")
+        .long("after")
+        .value_name("SCRIPT")
+        .help("Draws the program instances as they stand when this script has been played")
+}
+
+fn draw_command<'a>(alloc: Global) -> Result<Command<'a>, AllocError> {
+    Command::new(alloc, "draw")
+        .about("Draws a chart, for dot of Graphviz: steps, transitions, action blocks")
+        .after_help(DRAW_NOTES)
+        .arg(program_argument(alloc))?
+        .arg(after_argument(alloc))?
+        .arg(chart_argument(alloc))
+}
+
+// The argument that names the file of a script.
+fn script_argument<'a>(alloc: Global) -> Arg<'a> {
+    Arg::new(alloc, "SCRIPT").required(true).help(
+        "The script, lines of an instant and a command such as T#10ms SCAN Main",
+    )
+}
+
+// The argument by which a waveform has the instants of the script.
+fn raw_argument<'a>(alloc: Global) -> Arg<'a> {
+    Arg::new(alloc, "raw")
+        .long("raw")
+        .action(ArgAction::SetTrue)
+        .help("Shows the instants of the script, so that a halt takes time")
+}
+
+fn wave_command<'a>(alloc: Global) -> Result<Command<'a>, AllocError> {
+    Command::new(alloc, "wave")
+        .about("Plays a script on a chart and prints its signals as a Value Change Dump")
+        .after_help(WAVE_NOTES)
+        .arg(raw_argument(alloc))?
+        .arg(chart_argument(alloc))?
+        .arg(script_argument(alloc))
 }
 
 fn explain_command<'a>(alloc: Global) -> Result<Command<'a>, AllocError> {
@@ -257,10 +365,20 @@ fn with_chart_commands<'a>(alloc: Global, command: Command<'a>) -> Result<Comman
     with_command(command, list_command(alloc))
 }
 
+// With the commands whose output other tools show.
+fn with_picture_commands<'a>(
+    alloc: Global,
+    command: Command<'a>,
+) -> Result<Command<'a>, AllocError> {
+    let command = with_command(command, draw_command(alloc))?;
+    with_command(command, wave_command(alloc))
+}
+
 fn sfcmon_command<'a>(alloc: Global) -> Result<Command<'a>, AllocError> {
     let command = with_chart_commands(alloc, bare_command(alloc)?)?;
     let command = with_command(command, replay_command(alloc))?;
     let command = with_command(command, run_command(alloc))?;
+    let command = with_picture_commands(alloc, command)?;
     with_command(command, explain_command(alloc))
 }
 
@@ -340,6 +458,56 @@ fn run_request(alloc: Global, matches: &ArgMatches) -> Result<Request, AllocErro
     }
 }
 
+// The value of an option, where it was given.
+fn option_of(
+    alloc: Global,
+    matches: &ArgMatches,
+    name: &str,
+) -> Result<Option<String>, AllocError> {
+    match matches.get_str(name) {
+        Some(value) => Ok(Some(String::from_str(alloc, value)?)),
+        None => Ok(None),
+    }
+}
+
+// A chart to be drawn, where one is named.
+fn draw_request(alloc: Global, matches: &ArgMatches) -> Result<Request, AllocError> {
+    match matches.get_str("FILE") {
+        Some(chart) => {
+            let chart = String::from_str(alloc, chart)?;
+            let program = option_of(alloc, matches, "program")?;
+            let script = option_of(alloc, matches, "after")?;
+            Ok(Request::Draw(Drawing {
+                chart,
+                program,
+                script,
+            }))
+        }
+        None => Ok(Request::Answered(2)),
+    }
+}
+
+// A waveform, where chart and script are named.
+fn wave_request(alloc: Global, matches: &ArgMatches) -> Result<Request, AllocError> {
+    match (matches.get_str("FILE"), matches.get_str("SCRIPT")) {
+        (Some(chart), Some(script)) => {
+            let chart = String::from_str(alloc, chart)?;
+            let script = String::from_str(alloc, script)?;
+            let instants = if matches.get_flag("raw") {
+                Instants::Raw
+            } else {
+                Instants::Run
+            };
+            Ok(Request::Wave(Waving {
+                chart,
+                script,
+                instants,
+            }))
+        }
+        _ => Ok(Request::Answered(2)),
+    }
+}
+
 // What the words that matched ask for.
 fn request_of(alloc: Global, matches: &ArgMatches) -> Result<Request, AllocError> {
     if let Some(check) = matches.subcommand_matches("check") {
@@ -353,6 +521,12 @@ fn request_of(alloc: Global, matches: &ArgMatches) -> Result<Request, AllocError
     }
     if let Some(run) = matches.subcommand_matches("run") {
         return run_request(alloc, run);
+    }
+    if let Some(draw) = matches.subcommand_matches("draw") {
+        return draw_request(alloc, draw);
+    }
+    if let Some(wave) = matches.subcommand_matches("wave") {
+        return wave_request(alloc, wave);
     }
     if let Some(explain) = matches.subcommand_matches("explain") {
         return explain_request(alloc, explain.get_strs("NAME"));

@@ -4,11 +4,13 @@
 //! - `arguments`: the command line.
 //! - `explain`: what refusals and faults mean.
 //! - `files`: charts and scripts in files, standard output and exit status.
+//! - `pictures`: charts and runs as pictures.
 #![tactic(auto)]
 
 mod arguments;
 mod explain;
 mod files;
+mod pictures;
 
 use arguments::{Playing, Request, read_words, refuse_words};
 use files::Streams;
@@ -46,6 +48,8 @@ where
         Request::List { chart } => files::list_file(rt, chart.as_str()),
         Request::Replay(playing) => replay(rt, playing),
         Request::Run(running) => files::run_file(rt, streams, running.chart.as_str(), running.mask),
+        Request::Draw(drawing) => pictures::draw_file(rt, drawing),
+        Request::Wave(waving) => pictures::wave_files(rt, waving),
         Request::Explain { word } => explain::explain_word(rt, word.as_str()),
         Request::ListExplanations => explain::list_explanations(rt),
         Request::Answered(status) => *status,

@@ -3,6 +3,7 @@ use Rattle.sfc_plant.specs.Plants.{PlantData}
 use Rattle.sfc_debug.specs.declared.break_condition.BreakCondition.{BreakCondition}
 use Rattle.sfc_control.specs.Books.{accepted, first, plant}
 use Rattle.sfc_control.specs.LegalHistory.{IsLegal}
+use Rattle.sfc_control.proofs.Kept.{met_by}
 use Rattle.sfc_control.proofs.seat.Seat.call.Goals as goal
 
 pub returns-clause-entered : goal.returns-clause-entered
@@ -12,4 +13,5 @@ returns-clause-entered g c =
     let book = locked.book in
     let legal = subst (λ (p : PlantData). IsLegal p g.L.Session.table (accepted book)) locked.plant
     (subst (λ (t : List BreakCondition). IsLegal (plant book) t (accepted book)) locked.table book.legal) in
-    (c.now-raw.result, first book, accepted book, c.now-raw.ensures, legal, (c.enter.ensures.audit, simp (to_z-of_z, fits) at c.enter.ensures.answer))
+    (c.now-raw.result, first book, accepted book, c.now-raw.ensures, legal, (c.enter.ensures.audit, simp (to_z-of_z, fits) at c.enter.ensures.answer),
+    met_by c.enter.result c.args.command c.args.self.now.first c.enter.new.self.first (first book) (first (c.enter.new.locked.book)) c.enter.ensures.held c.enter.ensures.first)
