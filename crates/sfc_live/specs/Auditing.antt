@@ -1,5 +1,5 @@
 -- What the audit at the end of a run finds, and its line (our choice of format).
-use Rattle.std.specs.Prelude.{ℕ, ◌≡◌, ◌+◌, List, ◌++◌, length, codes, Option, Some, None}
+use Rattle.std.specs.Prelude.{ℕ, ◌≡◌, List, ◌++◌, length, codes, Option, Some, None}
 use Rattle.std.specs.Fmt.{decimal}
 use Rattle.sfc_control.specs.declared.entry.Entry.{Entry}
 use Rattle.sfc_control.specs.declared.receipt.Receipt.{Receipt}

@@ -1,5 +1,5 @@
 -- What a console keeps of a call.
-use Rattle.std.specs.Prelude.{ℕ, ◌≡◌, ◌+◌, List, [], ◌∷◌, ◌++◌, Result, Ok, Err, ⊤}
+use Rattle.std.specs.Prelude.{◌≡◌, ◌+◌, [], ◌∷◌, ◌++◌, Result, Ok, Err, ⊤}
 use Rattle.std.specs.declared.alloc.AllocError.{AllocError}
 use Rattle.sfc_events.specs.declared.command.Command.{Command}
 use Rattle.sfc_control.specs.declared.call_error.CallError.{CallError}

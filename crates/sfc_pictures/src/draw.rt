@@ -1,5 +1,8 @@
 //! A chart as Graphviz text, from bytes to bytes.
 
+ghost use Rattle.std.specs.Prelude.{[]};
+ghost use Rattle.sfc_core.specs.Agreement.{Agrees};
+
 use crate::drawing::{picture_of_instances, picture_of_types};
 use crate::picture_error::PictureError;
 use crate::quiet::Quiet;
@@ -72,7 +75,9 @@ pub fn draw_chart<C: Read, W: Write>(
 }
 
 // A debugger of the resource behind all commands of the script.
-fn played(alloc: Global, resource: Resource, script: Script) -> Result<Debugger, MonitorError> {
+fn played(alloc: Global, resource: Resource, script: Script) -> Result<Debugger, MonitorError>
+    requires untold { Agrees resource [] }
+{
     let (commands, conditions) = script.into_parts();
     let mut debugger = Debugger::with_conditions(alloc, resource, 1, TraceMask(0), conditions)?;
     let mut nothing = Vec::new(alloc);

@@ -85,10 +85,10 @@ fn transitions_before(plant: &Plant, program: usize) -> usize {
 }
 
 // The drawing of a program type.
-fn append_type(
+fn append_type<'a>(
     out: &mut Vec<u8>,
-    plant: &Plant,
-    conditions: &Conditions,
+    plant: &'a Plant,
+    conditions: &'a Conditions,
     number: usize,
 ) -> Result<(), AllocError> {
     let Some(program) = plant.types().get(number) else {
@@ -108,10 +108,10 @@ fn append_type(
 }
 
 // The drawing of an instance.
-fn append_instance(
+fn append_instance<'a>(
     out: &mut Vec<u8>,
-    resource: &Resource,
-    conditions: &Conditions,
+    resource: &'a Resource,
+    conditions: &'a Conditions,
     number: usize,
 ) -> Result<(), AllocError> {
     let plant = resource.plant();

@@ -32,6 +32,13 @@ pub fn append_cut(out: &mut Vec<u8>, text: &[u8]) -> Result<(), AllocError> {
     if text.len() <= SHOWN {
         return append_escaped(out, text);
     }
-    append_escaped(out, &text[..SHOWN])?;
+    let mut left = SHOWN;
+    for byte in text {
+        if left == 0 {
+            break;
+        }
+        left -= 1;
+        append_byte(out, *byte)?;
+    }
     append(out, b" ..")
 }

@@ -100,7 +100,9 @@ impl Signals {
             count: end.saturating_sub(from),
         })?;
         for number in from..end {
-            self.push_variable(resource.plant(), VarId(number as u16))?;
+            if let Ok(number) = u16::try_from(number) {
+                self.push_variable(resource.plant(), VarId(number))?;
+            }
         }
         Ok(end)
     }

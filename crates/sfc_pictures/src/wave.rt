@@ -1,5 +1,8 @@
 //! A script on a chart as a waveform, from bytes to bytes.
 
+ghost use Rattle.std.specs.Prelude.{[]};
+ghost use Rattle.sfc_core.specs.Agreement.{Agrees};
+
 use crate::waveform::Waveform;
 use sfc_base::ticks::Ticks;
 use sfc_base::write_fault::put_all;
@@ -93,7 +96,9 @@ fn put_script<W: Write>(
     script: Script,
     instants: Instants,
     w: &mut W,
-) -> Result<(), MonitorError> {
+) -> Result<(), MonitorError>
+    requires untold { Agrees resource [] }
+{
     let (commands, conditions) = script.into_parts();
     let mut debugger = Debugger::with_conditions(alloc, resource, 1, TraceMask(0), conditions)?;
     put_waveform(alloc, &mut debugger, &commands, instants, w)

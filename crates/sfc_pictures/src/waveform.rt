@@ -48,6 +48,15 @@ fn append_at(
     append_change(text, number, shown.signal.width(), shown.last)
 }
 
+// The task that a command scans.
+fn scanned_task(command: Command) -> Option<TaskId> {
+    match command {
+        Command::Scan(task) => Some(task),
+        Command::Single(task, _) => Some(task),
+        _ => None,
+    }
+}
+
 // The number of the signal of a task's scans.
 fn scan_of(task: TaskId) -> usize {
     FIRST_SCAN + STRIDE * usize::from(task.0)
@@ -303,8 +312,8 @@ impl Waveform {
         if self.is_raised && instant > self.instant {
             self.lower()?;
         }
-        match (command, answer) {
-            (Command::Scan(task) | Command::Single(task, _), Answer::Scanned { ran, .. }) => {
+        match (scanned_task(command), answer) {
+            (Some(task), Answer::Scanned { ran, .. }) => {
                 self.raise(task, instant)?;
                 self.put_scanned(debugger, instant, task, ran)
             }

@@ -1,6 +1,5 @@
-use Rattle.std.proofs.Common.{[], ◌∷◌, ◌++◌, ◌∙◌, sym, append-nil}
+use Rattle.std.proofs.Common.{[], ◌∷◌, ◌++◌, ◌∙◌}
 use Rattle.std.proofs.lemmas.Result.{err_from_is_err_and}
-use Rattle.sfc_control.specs.Tails.{taken}
 use Rattle.sfc_output.specs.Steered.{steered_by}
 use Rattle.sfc_live.proofs.RowLines.{none_yet, takes_more, one_more}
 use Rattle.sfc_live.proofs.printing.append_rows.Goals as goal

@@ -5,7 +5,7 @@ use Rattle.sfc_debug.specs.Agreement.{Agrees}
 use Rattle.sfc_debug.specs.Histories.{TimedCommand}
 use Rattle.sfc_output.specs.Steered.{Steered, steered_by}
 use Rattle.sfc_monitor.specs.Output.{command_lines, commands_lines, debugger_of, is_amiss}
-use Rattle.sfc_monitor.proofs.Playing.{IsUnderWay, all_found, all_played, passed, ran, stopped}
+use Rattle.sfc_monitor.proofs.Playing.{IsUnderWay, passed, ran, stopped}
 use Rattle.sfc_monitor.proofs.play.play_commands.Goals as goal
 
 pub commands-preserved : goal.commands-preserved

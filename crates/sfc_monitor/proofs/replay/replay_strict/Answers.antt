@@ -1,10 +1,9 @@
-use Rattle.std.proofs.Common.{◌≡◌, ℕ, List, [], Result, Ok, Err, Bool, refl, sym, ap, subst, ◌∙◌}
+use Rattle.std.proofs.Common.{◌≡◌, ℕ, List, [], Ok, Err, Bool, ap, subst, ◌∙◌}
 use Rattle.std.proofs.lemmas.Result.{err_from_is_err_and}
 use Rattle.std.specs.Global.{Vec}
 use Rattle.std.specs.Result.{IfOk}
 use Rattle.sfc_base.specs.Writing.{Writes}
 use Rattle.sfc_plant.specs.Plants.{PlantData}
-use Rattle.sfc_debug.specs.declared.break_condition.BreakCondition.{BreakCondition}
 use Rattle.sfc_debug.specs.Histories.{TimedCommand}
 use Rattle.sfc_script.specs.Scripts.{ScriptData, ScriptReads}
 use Rattle.sfc_script.specs.Answers.{ReadsScript}
