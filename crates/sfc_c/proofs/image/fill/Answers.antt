@@ -1,4 +1,4 @@
-use Rattle.std.proofs.Common.{◌≡◌, ◌<◌, ◌+◌, ◌-◌, ◌∙◌, ◌++◌, ℕ, List, [], ◌∷◌, ap, arith, drop, length, map, sym, take}
+use Rattle.std.proofs.Common.{◌≡◌, ◌<◌, ◌+◌, ◌∙◌, ◌++◌, ℕ, List, [], ◌∷◌, ap, arith, length, map, sym}
 use Rattle.std.specs.List.{range_with_len, slice_set}
 use Rattle.std.proofs.lemmas.Grind.{drop_more_same}
 use Rattle.std.proofs.lemmas.List.{drop-set-lt, take_more_set}

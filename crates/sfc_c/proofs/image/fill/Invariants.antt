@@ -1,6 +1,4 @@
-use Rattle.std.proofs.Common.{◌≡◌, ◌≤◌, length}
 use Rattle.sfc_events.specs.History.{History}
-use Rattle.sfc_image.specs.Values.{variable_count}
 use Rattle.sfc_core.specs.Agreement.{Agrees, plant_of}
 use Rattle.sfc_c.specs.Readings.{HasStates}
 use Rattle.sfc_c.proofs.image.fill.Given as goal
