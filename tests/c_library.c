@@ -162,7 +162,7 @@ static void texts(void) {
     WANT(sfc_task_state(&plc, 0, &task) == 0 && task.next == 600000 && task.overruns == 1);
     WANT(sfc_image(&plc, image, 6) == 0 && image[0].value == 1 && image[2].value == 1 && image[3].value == 0 && image[5].value == 0);
     WANT(sfc_force(&plc, 1, 1, 500000) == 0 && sfc_image(&plc, image, 5) == 0 && image[1].value == 1 && image[1].forced == 1);
-    WANT(sfc_image_text(&plc, out, sizeof out, &needed) == 0 && !memcmp(out, "image Start TRUE\nimage Stop TRUE forced\nimage Pump TRUE\n", 57));
+    WANT(sfc_image_text(&plc, out, sizeof out, &needed) == 0 && !memcmp(out, "image Start TRUE\nimage Stop TRUE forced\nimage Pump TRUE\n", 56));
     WANT(sfc_explain(29, out, sizeof out, &needed) == 0 && !memcmp(out, "29 NotDue\n", 10));
     sfc_close(&plc);
 }

@@ -253,7 +253,9 @@ class Plc:
     def command(self, line):
         """Obeys a line of a script: the lines that `sfcmon replay` prints for it, also for a refusal."""
         code, text = _text(_LIB.sfc_command, self.handle, line.encode(), len(line.encode()))
-        return _done(code) or text if code < 0 else text
+        if code < 0:
+            _done(code)
+        return text
 
     def run(self, task, until):
         """Scans the task at each release by its interval from now on up to this instant, while the resource runs."""
