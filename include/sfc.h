@@ -9,13 +9,14 @@
  * - Each pointer is not NULL, also one to 0 bytes, and is aligned for its type. It points to initialised memory that is there
  *   during the call. What a call writes overlaps nothing else that the call is given. The library keeps no pointer.
  * - No call from a signal handler, and none is left by longjmp or by the cancelling of a thread.
- * - malloc, realloc and free are one allocator. Only sfc_open and sfc_close take or give memory.
+ * - malloc, realloc and free are one allocator. Events, debugger commands by number and readers of numbers take no memory.
  *
  * Instants and TIME values are in microseconds. An instant t is from 0 to 2^62, and not before that of an accepted command.
  * Variables, tasks, programs, steps, transitions and actions are counted from 0 in text order, and keep their numbers.
  *
- * A command answers 0, or the number of a refusal by docs/FORMATS.md (24 to 42), or one of the codes below. After any answer
- * but 0 the resource is as it was.
+ * Texts are bytes and a length, without a NUL. Where a text is answered, it is written to `into`, and `needed` is its length.
+ * Where `into_len` is less, the answer is SFC_SHORT, nothing is written, and `needed` tells the length all the same. Where
+ * there is no text, `needed` is 0.
  */
 #ifndef SFC_H
 #define SFC_H
@@ -25,19 +26,25 @@
 extern "C" {
 #endif
 
+/* What calls answer. 1 to 22 are faults of a chart, 24 to 42 refusals of commands, by docs/FORMATS.md; sfc_explain tells what
+ * each means. After any answer but 0 the resource is as it was. */
 enum {
+    SFC_DONE = 0,
     SFC_CLOSED = -1,   /* the handle holds no resource */
     SFC_NO_VALUE = -2, /* the number is no value of the variable's type */
-    SFC_UNKNOWN = -3,  /* there is nothing with this number or name, or no such kind of points */
-    SFC_MEMORY = 8,    /* sfc_open: memory was refused */
+    SFC_UNKNOWN = -3,  /* there is nothing with this number or name, or no such kind */
+    SFC_MEMORY = -4,   /* memory was refused */
+    SFC_NO_LINE = -5,  /* it is no line of a script */
+    SFC_SHORT = -6,    /* the caller's array is too short */
     SFC_NOT_DUE = 29,  /* sfc_scan: no release of the task waits; `next` tells the next one */
     SFC_YIELD = 30,    /* sfc_scan: another task goes first; `first` tells which */
     SFC_STOPPED = 34,  /* sfc_scan: the resource is halted */
     SFC_ENDED = 40     /* an sfc_end was accepted before */
 };
 
-/* Kinds of points. An action is a declared one, or a variable that is one by itself. */
-enum { SFC_STEP = 0, SFC_TRANSITION = 1, SFC_ACTION = 2 };
+/* Kinds. The first three are those of points, which a program's chart has. An action is a declared one, or a variable that is
+ * one by itself. */
+enum { SFC_STEP = 0, SFC_TRANSITION = 1, SFC_ACTION = 2, SFC_VARIABLE = 3, SFC_TASK = 4, SFC_PROGRAM = 5 };
 
 /* The condition of a breakpoint that waits for none. */
 enum { SFC_NO_CONDITION = 65535 };
@@ -50,6 +57,13 @@ typedef struct {
     void *at;
 } sfc_handle_t;
 #define SFC_NONE {0}
+
+/* Where the first fault of a chart is. */
+typedef struct {
+    uint32_t line; /* the line, from 1, where the reader tells one (faults 1 to 7); else 0 */
+    int32_t limit; /* with fault 22, what there is too much of: 1 steps, 2 transitions, 3 associations, 4 variables, 5 programs,
+                      6 tasks; else 0 */
+} sfc_text_fault_t;
 
 /* What a command answered. After a refusal all but `next` and `first` is as where nothing is told. */
 typedef struct {
@@ -70,6 +84,19 @@ typedef struct {
     int32_t mode;      /* SFC_RUNNING, SFC_HALTED or SFC_END */
 } sfc_status_t;
 
+/* What a variable reads. */
+typedef struct {
+    int64_t value;  /* BOOL as 0 or 1, a TIME in microseconds */
+    int32_t forced; /* 1 where the variable is forced; else 0 */
+} sfc_variable_state_t;
+
+/* How a task stands. */
+typedef struct {
+    int64_t next;      /* the run instant of its first release by INTERVAL after that of the latest accepted command; -1 where
+                          there is none, and while its SINGLE reads TRUE */
+    uint64_t overruns; /* its overruns since the opening */
+} sfc_task_state_t;
+
 /* How a program stands. */
 typedef struct {
     uint64_t scans; /* how many scans its life has had */
@@ -83,25 +110,37 @@ typedef struct {
     int32_t happened; /* 1 where the scan activated the step, cleared the transition or executed the action; else 0 */
 } sfc_point_state_t;
 
+/* ---- Life. */
+
 /* Opens a resource that runs this chart, in the place of one that the handle holds: each variable has its initial value, and
- * no command was accepted. It answers 0, or the number of the chart's first fault (1 to 23), or SFC_MEMORY. */
+ * no command was accepted. It answers 0, or the number of the chart's first fault, or SFC_MEMORY; then the handle holds what
+ * it held. */
 int32_t sfc_open(const uint8_t *text, size_t text_len, sfc_handle_t *plc);
+/* The same, with conditions for breakpoints: those that stand behind WHEN in this script (docs/FORMATS.md), numbered from 0 in
+ * the order of its lines. Nothing else of the script counts. SFC_NO_LINE where one of its lines is no command. A resource has
+ * the conditions of its opening; there is no way to add one later. */
+int32_t sfc_open_with(const uint8_t *text, size_t text_len, const uint8_t *script, size_t script_len, sfc_handle_t *plc);
+/* The first fault of a text: its number, and where it is in `into`; 0 where the text is a chart; or SFC_MEMORY. */
+int32_t sfc_check(const uint8_t *text, size_t text_len, sfc_text_fault_t *into);
 /* Frees the resource, if the handle holds one. It may be called twice. */
 void sfc_close(sfc_handle_t *plc);
 
-/* Numbers by names, in any case of their letters; SFC_UNKNOWN where there is none. */
+/* ---- Names. Letters are the same in any case. A number that is found is 0 or more; SFC_UNKNOWN where there is none. */
 
-/* The global variable with this name. */
+/* A variable: NAME of a global one, PROGRAM.NAME of one that the program declares for itself, or a location, as %IX0.0.
+ * SFC_MEMORY may be answered for a location. */
 int32_t sfc_variable(sfc_handle_t *plc, const uint8_t *name, size_t name_len);
-/* The variable with this name that the program declares for itself. */
-int32_t sfc_local(sfc_handle_t *plc, uint8_t program, const uint8_t *name, size_t name_len);
 int32_t sfc_task(sfc_handle_t *plc, const uint8_t *name, size_t name_len);
 int32_t sfc_program(sfc_handle_t *plc, const uint8_t *name, size_t name_len);
-/* A step or a transition of the program's chart. */
-int32_t sfc_step(sfc_handle_t *plc, uint8_t program, const uint8_t *name, size_t name_len);
-int32_t sfc_transition(sfc_handle_t *plc, uint8_t program, const uint8_t *name, size_t name_len);
+/* A point of the program's chart: SFC_STEP, SFC_TRANSITION or SFC_ACTION, of the last the first that has the name. */
+int32_t sfc_point(sfc_handle_t *plc, uint8_t program, uint8_t kind, const uint8_t *name, size_t name_len);
+/* How many there are of a kind; of points those of the program's chart. Variables, tasks and programs want no program. */
+int32_t sfc_count(sfc_handle_t *plc, uint8_t kind, uint8_t program);
+/* The name of number n of a kind, as it was declared: of a variable as sfc_variable takes it; empty of a transition without a
+ * name. SFC_UNKNOWN where there is no such number, SFC_SHORT, SFC_MEMORY. */
+int32_t sfc_name(sfc_handle_t *plc, uint8_t kind, uint8_t program, uint16_t number, uint8_t *into, size_t into_len, size_t *needed);
 
-/* Commands. Each is accepted, and has happened at t, or is refused, and nothing has changed. */
+/* ---- Commands. Each is accepted, and has happened at t, or is refused, and nothing has changed. */
 
 /* Scans the programs of a task that is due (2.7.2). */
 int32_t sfc_scan(sfc_handle_t *plc, uint8_t task, int64_t t, sfc_reply_t *into);
@@ -116,8 +155,8 @@ int32_t sfc_release(sfc_handle_t *plc, uint16_t var, int64_t t);
 int32_t sfc_reset(sfc_handle_t *plc, uint8_t program, int64_t t);
 /* What the variable reads, in `value`, as a command with an instant. */
 int32_t sfc_read(sfc_handle_t *plc, uint16_t var, int64_t t, sfc_reply_t *into);
-/* Sets a breakpoint: a scan that hits it halts the resource. There are no conditions yet: `condition` is SFC_NO_CONDITION, and
- * any other is refused with 42. */
+/* Sets a breakpoint at a point: a scan that hits it halts the resource. It waits for the condition of this number, of those of
+ * sfc_open_with, or for none with SFC_NO_CONDITION. */
 int32_t sfc_break(sfc_handle_t *plc, uint8_t program, uint8_t kind, uint16_t number, uint16_t condition, int64_t t);
 int32_t sfc_unbreak(sfc_handle_t *plc, uint8_t program, uint8_t kind, uint16_t number, int64_t t);
 /* Halts the resource: its time stands still, and only sfc_single scans. */
@@ -127,21 +166,40 @@ int32_t sfc_go(sfc_handle_t *plc, int64_t t);
 /* No later command is accepted. */
 int32_t sfc_end(sfc_handle_t *plc, int64_t t);
 
-/* Readings. They want no instant and change nothing. Where the answer isn't 0 nothing is written. */
+/* ---- Text. */
+
+/* Obeys a line of a script (docs/FORMATS.md), at the instant that it has, and gives the lines that `sfcmon replay` prints for
+ * it, with their ends. 0 or a refusal's number: the command was answered so, and the lines are there. Else it hasn't happened:
+ * SFC_SHORT, SFC_MEMORY, SFC_NO_LINE where it is no command or more than one, SFC_UNKNOWN where the condition behind WHEN is
+ * none of the opening's. A line without a command answers 0 and gives nothing. */
+int32_t sfc_command(sfc_handle_t *plc, const uint8_t *line, size_t line_len, uint8_t *into, size_t into_len, size_t *needed);
+/* A line for each variable, as `sfcmon replay` prints them at its end. SFC_SHORT, SFC_MEMORY. */
+int32_t sfc_image_text(sfc_handle_t *plc, uint8_t *into, size_t into_len, size_t *needed);
+/* What a fault or a refusal of this number means, with its usual cause and an example: the page of `sfcmon explain`.
+ * SFC_UNKNOWN where there is none, SFC_SHORT, SFC_MEMORY. */
+int32_t sfc_explain(uint8_t number, uint8_t *into, size_t into_len, size_t *needed);
+
+/* ---- Readers. They want no instant and change nothing. Where the answer isn't 0 nothing is written. */
 
 /* What the variable reads: BOOL as 0 or 1, a TIME in microseconds. */
 int32_t sfc_value(sfc_handle_t *plc, uint16_t var, int64_t *into);
 /* 1 where the variable is forced, 0 where it isn't, or a code below 0. */
 int32_t sfc_forced(sfc_handle_t *plc, uint16_t var);
+/* All variables at once, by their numbers. SFC_SHORT where there are more than into_len. What lies behind them stays. */
+int32_t sfc_image(sfc_handle_t *plc, sfc_variable_state_t *into, size_t into_len);
 int32_t sfc_status(sfc_handle_t *plc, sfc_status_t *into);
+int32_t sfc_task_state(sfc_handle_t *plc, uint8_t task, sfc_task_state_t *into);
 int32_t sfc_program_state(sfc_handle_t *plc, uint8_t program, sfc_program_state_t *into);
 int32_t sfc_point_state(sfc_handle_t *plc, uint8_t program, uint8_t kind, uint16_t number, sfc_point_state_t *into);
 
 #if defined(__STDC_VERSION__) && __STDC_VERSION__ >= 201112L
 _Static_assert(sizeof(sfc_handle_t) == 8, "sfc_handle_t");
+_Static_assert(sizeof(sfc_text_fault_t) == 8 && offsetof(sfc_text_fault_t, limit) == 4, "sfc_text_fault_t");
 _Static_assert(sizeof(sfc_reply_t) == 56 && offsetof(sfc_reply_t, next) == 32 && offsetof(sfc_reply_t, value) == 40
                && offsetof(sfc_reply_t, first) == 48 && offsetof(sfc_reply_t, hit) == 52, "sfc_reply_t");
 _Static_assert(sizeof(sfc_status_t) == 24 && offsetof(sfc_status_t, mode) == 16, "sfc_status_t");
+_Static_assert(sizeof(sfc_variable_state_t) == 16 && offsetof(sfc_variable_state_t, forced) == 8, "sfc_variable_state_t");
+_Static_assert(sizeof(sfc_task_state_t) == 16 && offsetof(sfc_task_state_t, overruns) == 8, "sfc_task_state_t");
 _Static_assert(sizeof(sfc_program_state_t) == 16 && offsetof(sfc_program_state_t, fault) == 8, "sfc_program_state_t");
 _Static_assert(sizeof(sfc_point_state_t) == 16 && offsetof(sfc_point_state_t, active) == 8, "sfc_point_state_t");
 #endif

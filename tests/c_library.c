@@ -1,4 +1,5 @@
-/* Tries the C library: misuse, fields, damaged texts, threads, openings. The exit status is 1 where something isn't so. */
+/* Tries the C library: misuse, names, texts, fields, damaged texts, threads, openings; and plays a script. The exit status is 1 where
+ * something isn't so. */
 #include "sfc.h"
 #include <pthread.h>
 #include <stdio.h>
@@ -14,6 +15,14 @@ static int named(int32_t (*find)(sfc_handle_t *, const uint8_t *, size_t), sfc_h
     return find(plc, (const uint8_t *)name, strlen(name));
 }
 
+static int point_named(sfc_handle_t *plc, uint8_t program, uint8_t kind, const char *name) {
+    return sfc_point(plc, program, kind, (const uint8_t *)name, strlen(name));
+}
+
+static int said(sfc_handle_t *plc, const char *line, uint8_t *into, size_t room, size_t *needed) {
+    return sfc_command(plc, (const uint8_t *)line, strlen(line), into, room, needed);
+}
+
 /* each call on a closed handle, and each number that nothing has */
 static void misuse(void) {
     sfc_handle_t plc = SFC_NONE;
@@ -22,6 +31,10 @@ static void misuse(void) {
     sfc_program_state_t program = {0};
     sfc_point_state_t point = {0};
     int64_t value = 7;
+    sfc_task_state_t task = {0};
+    sfc_variable_state_t image[6] = {{7, 7}, {7, 7}, {7, 7}, {7, 7}, {7, 7}, {7, 7}};
+    uint8_t out[64] = {0};
+    size_t needed = 7;
     const uint8_t *name = (const uint8_t *)"Start";
     sfc_close(&plc);
     WANT(sfc_scan(&plc, 0, 0, &reply) == SFC_CLOSED && sfc_single(&plc, 0, 0, 0, &reply) == SFC_CLOSED);
@@ -32,19 +45,38 @@ static void misuse(void) {
     WANT(sfc_value(&plc, 0, &value) == SFC_CLOSED && value == 7 && sfc_forced(&plc, 0) == SFC_CLOSED);
     WANT(sfc_status(&plc, &status) == SFC_CLOSED && sfc_program_state(&plc, 0, &program) == SFC_CLOSED);
     WANT(sfc_point_state(&plc, 0, SFC_STEP, 0, &point) == SFC_CLOSED);
-    WANT(sfc_variable(&plc, name, 5) == SFC_CLOSED && sfc_local(&plc, 0, name, 5) == SFC_CLOSED && sfc_task(&plc, name, 5) == SFC_CLOSED);
-    WANT(sfc_program(&plc, name, 5) == SFC_CLOSED && sfc_step(&plc, 0, name, 5) == SFC_CLOSED);
-    WANT(sfc_transition(&plc, 0, name, 5) == SFC_CLOSED);
+    WANT(sfc_variable(&plc, name, 5) == SFC_CLOSED && sfc_task(&plc, name, 5) == SFC_CLOSED && sfc_program(&plc, name, 5) == SFC_CLOSED);
+    WANT(sfc_point(&plc, 0, SFC_STEP, name, 5) == SFC_CLOSED && sfc_count(&plc, SFC_TASK, 0) == SFC_CLOSED);
+    WANT(sfc_name(&plc, SFC_TASK, 0, 0, out, sizeof out, &needed) == SFC_CLOSED && needed == 0);
+    WANT(sfc_command(&plc, name, 5, out, sizeof out, &needed) == SFC_CLOSED && needed == 0);
+    WANT(sfc_image_text(&plc, out, sizeof out, &needed) == SFC_CLOSED && needed == 0);
+    WANT(sfc_image(&plc, image, 6) == SFC_CLOSED && image[0].value == 7 && sfc_task_state(&plc, 0, &task) == SFC_CLOSED);
+    WANT(out[0] == 0);
 
     WANT(sfc_open(text, 0, &plc) == 4 && sfc_open(text, length / 2, &plc) == 4 && sfc_status(&plc, &status) == SFC_CLOSED);
+    WANT(sfc_open_with(text, length, name, 5, &plc) == SFC_NO_LINE && sfc_open_with(text, 1, name, 0, &plc) == 4 && plc.at == NULL);
     WANT(sfc_open(text, length, &plc) == 0);
-    WANT(sfc_open(name, 5, &plc) == 4 && sfc_status(&plc, &status) == 0);
+    WANT(sfc_open(name, 5, &plc) == 4 && sfc_open_with(text, length, name, 5, &plc) == SFC_NO_LINE && sfc_status(&plc, &status) == 0);
     int start = named(sfc_variable, &plc, "start"), pump = named(sfc_variable, &plc, "Pump");
     WANT(start >= 0 && pump >= 0 && named(sfc_variable, &plc, "Absent") == SFC_UNKNOWN && sfc_variable(&plc, name, 0) == SFC_UNKNOWN);
     WANT(named(sfc_task, &plc, "Absent") == SFC_UNKNOWN && named(sfc_program, &plc, "Absent") == SFC_UNKNOWN);
-    WANT(sfc_local(&plc, 0, name, 5) == SFC_UNKNOWN && sfc_local(&plc, 255, name, 5) == SFC_UNKNOWN);
-    WANT(sfc_step(&plc, 0, (const uint8_t *)"idle", 4) == 0 && sfc_step(&plc, 9, (const uint8_t *)"idle", 4) == SFC_UNKNOWN);
-    WANT(sfc_transition(&plc, 0, name, 5) == SFC_UNKNOWN);
+    WANT(named(sfc_variable, &plc, "Pump1.Start") == SFC_UNKNOWN && named(sfc_variable, &plc, "Absent.Start") == SFC_UNKNOWN);
+    WANT(named(sfc_variable, &plc, "%IX9") == SFC_UNKNOWN && named(sfc_variable, &plc, "%") == SFC_UNKNOWN);
+    WANT(point_named(&plc, 0, SFC_STEP, "idle") == 0 && point_named(&plc, 9, SFC_STEP, "idle") == SFC_UNKNOWN && point_named(&plc, 0, 3, "idle") == SFC_UNKNOWN);
+    WANT(point_named(&plc, 0, SFC_TRANSITION, "Start") == SFC_UNKNOWN && point_named(&plc, 0, SFC_ACTION, "Start") == SFC_UNKNOWN);
+    WANT(sfc_count(&plc, 6, 0) == SFC_UNKNOWN && sfc_count(&plc, SFC_STEP, 9) == SFC_UNKNOWN && sfc_count(&plc, SFC_TASK, 9) == 1);
+    WANT(sfc_name(&plc, 6, 0, 0, out, sizeof out, &needed) == SFC_UNKNOWN && sfc_name(&plc, SFC_STEP, 0, 3, out, sizeof out, &needed) == SFC_UNKNOWN);
+    WANT(sfc_name(&plc, SFC_STEP, 9, 0, out, sizeof out, &needed) == SFC_UNKNOWN && needed == 0 && out[0] == 0);
+    WANT(sfc_name(&plc, SFC_STEP, 0, 0, out, 3, &needed) == SFC_SHORT && needed == 4 && out[0] == 0);
+    WANT(sfc_image(&plc, image, 4) == SFC_SHORT && image[0].value == 7 && sfc_task_state(&plc, 1, &task) == SFC_UNKNOWN && task.next == 0);
+    WANT(sfc_image_text(&plc, out, 3, &needed) == SFC_SHORT && needed > 3 && out[0] == 0);
+    WANT(said(&plc, "T#0s SCAN", out, sizeof out, &needed) == SFC_NO_LINE && said(&plc, "SCAN Main", out, sizeof out, &needed) == SFC_NO_LINE);
+    WANT(said(&plc, "T#0s STOP\nT#0s GO", out, sizeof out, &needed) == SFC_NO_LINE && needed == 0 && out[0] == 0);
+    WANT(said(&plc, "T#0s BREAK Pump1 STEP Idle WHEN Start", out, sizeof out, &needed) == SFC_UNKNOWN && needed == 0 && out[0] == 0);
+    WANT(said(&plc, "T#0s SCAN Main", out, 9, &needed) == SFC_SHORT && needed == 75 && out[0] == 0);
+    WANT(said(&plc, "; nothing", out, sizeof out, &needed) == 0 && needed == 0 && said(&plc, "", out, sizeof out, &needed) == 0);
+    WANT(sfc_explain(0, out, sizeof out, &needed) == SFC_UNKNOWN && sfc_explain(43, out, sizeof out, &needed) == SFC_UNKNOWN && needed == 0);
+    WANT(sfc_explain(29, out, sizeof out, &needed) == SFC_SHORT && needed > sizeof out && out[0] == 0);
     WANT(sfc_input(&plc, (uint16_t)start, 2, 0) == SFC_NO_VALUE && sfc_force(&plc, (uint16_t)start, -1, 0) == SFC_NO_VALUE);
     WANT(sfc_input(&plc, 65535, 0, 0) == 24 && sfc_input(&plc, (uint16_t)pump, 1, 0) == 26 && sfc_release(&plc, (uint16_t)pump, 0) == 27);
     WANT(sfc_scan(&plc, 255, 0, &reply) == 31 && sfc_reset(&plc, 255, 0) == 32 && sfc_scan(&plc, 0, -1, &reply) == 33);
@@ -92,6 +124,68 @@ static void fields(void) {
     sfc_close(&plc);
 }
 
+/* names, counts and texts of the pump, as its chart has them */
+static void texts(void) {
+    static const char *const variables[] = {"Start", "Stop", "Pump", "IdleLamp", "RunOnLamp"};
+    sfc_handle_t plc = SFC_NONE;
+    sfc_text_fault_t fault = {7, 7};
+    sfc_task_state_t task = {0};
+    sfc_variable_state_t image[6] = {{0}};
+    uint8_t out[4096];
+    size_t needed = 0;
+    WANT(sfc_check(text, length, &fault) == 0 && fault.line == 0 && fault.limit == 0);
+    WANT(sfc_check((const uint8_t *)"(*\n*)\n;", 7, &fault) == 4 && fault.line == 3 && fault.limit == 0);
+    const char *script = "T#0s BREAK Pump1 STEP Pumping WHEN Stop\nT#0s BREAK Pump1 ACTION Pump WHEN Start AND NOT Stop\n";
+    WANT(sfc_open_with(text, length, (const uint8_t *)script, strlen(script), &plc) == 0);
+    WANT(sfc_count(&plc, SFC_STEP, 0) == 3 && sfc_count(&plc, SFC_TRANSITION, 0) == 4 && sfc_count(&plc, SFC_ACTION, 0) == 3);
+    WANT(sfc_count(&plc, SFC_VARIABLE, 0) == 5 && sfc_count(&plc, SFC_TASK, 0) == 1 && sfc_count(&plc, SFC_PROGRAM, 0) == 1);
+    for (int k = 0; k < 5; k++) {
+        WANT(sfc_name(&plc, SFC_VARIABLE, 0, (uint16_t)k, out, sizeof out, &needed) == 0 && needed == strlen(variables[k]));
+        WANT(!memcmp(out, variables[k], needed) && named(sfc_variable, &plc, variables[k]) == k);
+    }
+    WANT(sfc_name(&plc, SFC_STEP, 0, 1, out, 7, &needed) == 0 && needed == 7 && !memcmp(out, "Pumping", 7));
+    WANT(sfc_name(&plc, SFC_TRANSITION, 0, 0, out, 0, &needed) == 0 && needed == 0);
+    WANT(sfc_name(&plc, SFC_TASK, 0, 0, out, 4, &needed) == 0 && !memcmp(out, "Main", 4));
+    WANT(sfc_name(&plc, SFC_PROGRAM, 0, 0, out, 5, &needed) == 0 && !memcmp(out, "Pump1", 5));
+    WANT(named(sfc_variable, &plc, "%IX0.1") == 1 && named(sfc_variable, &plc, "%i0.1") == 1 && named(sfc_variable, &plc, "%QX0.2") == 4);
+    WANT(point_named(&plc, 0, SFC_ACTION, "pump") == 1 && point_named(&plc, 0, SFC_STEP, "runningon") == 2);
+    WANT(sfc_task_state(&plc, 0, &task) == 0 && task.next == 200000 && task.overruns == 0);
+    WANT(said(&plc, "T#0s SCAN Main", out, 75, &needed) == 0 && needed == 75);
+    WANT(!memcmp(out, "T#0s SCAN Main overruns 0\n  Pump1 1 steps Idle=T#0s cleared - run IdleLamp\n", 75));
+    WANT(said(&plc, "T#1ms SCAN Main", out, sizeof out, &needed) == SFC_NOT_DUE && !memcmp(out, "refused 29 NotDue T#200ms\n", needed));
+    WANT(said(&plc, "T#1ms BREAK Pump1 ACTION Pump WHEN Start AND NOT Stop", out, sizeof out, &needed) == 0);
+    WANT(said(&plc, "T#1ms BREAK Pump1 ACTION Pump WHEN NOT Stop", out, sizeof out, &needed) == SFC_UNKNOWN);
+    WANT(sfc_break(&plc, 0, SFC_STEP, 1, 0, 1000) == 0 && sfc_break(&plc, 0, SFC_STEP, 1, 2, 1000) == 42);
+    WANT(said(&plc, "T#1ms INPUT Start TRUE", out, sizeof out, &needed) == 0 && said(&plc, "T#500ms SCAN Main", out, 9, &needed) == SFC_SHORT);
+    WANT(sfc_task_state(&plc, 0, &task) == 0 && task.next == 200000 && task.overruns == 0);
+    WANT(said(&plc, "T#500ms SCAN Main", out, sizeof out, &needed) == 0 && !memcmp(out, "T#500ms SCAN Main overruns 1 hit\n", 33));
+    WANT(sfc_task_state(&plc, 0, &task) == 0 && task.next == 600000 && task.overruns == 1);
+    WANT(sfc_image(&plc, image, 6) == 0 && image[0].value == 1 && image[2].value == 1 && image[3].value == 0 && image[5].value == 0);
+    WANT(sfc_force(&plc, 1, 1, 500000) == 0 && sfc_image(&plc, image, 5) == 0 && image[1].value == 1 && image[1].forced == 1);
+    WANT(sfc_image_text(&plc, out, sizeof out, &needed) == 0 && !memcmp(out, "image Start TRUE\nimage Stop TRUE forced\nimage Pump TRUE\n", 56));
+    WANT(sfc_explain(29, out, sizeof out, &needed) == 0 && !memcmp(out, "29 NotDue\n", 10));
+    sfc_close(&plc);
+}
+
+/* plays a script line by line, and prints what replay prints */
+static void play(const char *path) {
+    static uint8_t script[1 << 20], out[1 << 16];
+    FILE *file = fopen(path, "rb");
+    WANT(file);
+    size_t size = fread(script, 1, sizeof script, file), needed = 0;
+    fclose(file);
+    sfc_handle_t plc = SFC_NONE;
+    WANT(sfc_open_with(text, length, script, size, &plc) == 0);
+    for (size_t at = 0, end; at < size; at = end + 1) {
+        for (end = at; end < size && script[end] != '\n';) end++;
+        WANT(sfc_command(&plc, script + at, end - at, out, sizeof out, &needed) >= 0);
+        fwrite(out, 1, needed, stdout);
+    }
+    WANT(sfc_image_text(&plc, out, sizeof out, &needed) == 0);
+    fwrite(out, 1, needed, stdout);
+    sfc_close(&plc);
+}
+
 static void opens(long count) {
     sfc_handle_t plc = SFC_NONE;
     for (long k = 0; k < count; k++) {
@@ -119,7 +213,9 @@ static void damaged(long count) {
         }
         sfc_handle_t plc = SFC_NONE;
         int32_t code = sfc_open(other, n, &plc);
-        WANT(code >= 0 && code <= 23 && (code == 0) == (plc.at != NULL));
+        sfc_text_fault_t fault = {0};
+        WANT(code >= 0 && code <= 22 && (code == 0) == (plc.at != NULL) && sfc_check(other, n, &fault) == code);
+        WANT((fault.line > 0) == (code >= 1 && code <= 7) && (fault.limit > 0) == (code == 22));
         opened += code == 0;
         if (code == 0) WANT(sfc_scan(&plc, 0, 0, &reply) == 0 || reply.ran == 0);
         sfc_close(&plc);
@@ -153,6 +249,8 @@ int main(int argc, char **argv) {
     fclose(file);
     if (!strcmp(argv[1], "misuse")) misuse();
     else if (!strcmp(argv[1], "fields")) fields();
+    else if (!strcmp(argv[1], "texts")) texts();
+    else if (!strcmp(argv[1], "play") && argc == 4) play(argv[3]);
     else if (!strcmp(argv[1], "threads")) threads();
     else if (!strcmp(argv[1], "damaged") && argc == 4) damaged(atol(argv[3]));
     else if (!strcmp(argv[1], "opens") && argc == 4) opens(atol(argv[3]));

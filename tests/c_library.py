@@ -1,9 +1,12 @@
-"""Plays NAME.script on each NAME.chart through sfc.py, and compares what can be read with NAME.expect: each line but the names
-of refusals and of actions. Scripts with conditions of breakpoints are passed over. The exit status is 1 where something differs."""
+"""Plays NAME.script on each NAME.chart through sfc.py, in two ways. Line by line with Plc.command: the lines are those of NAME.expect, to
+the byte. And call by call: what each call and each reader answers is what the lines of NAME.expect tell. The exit status is 1 where
+something differs."""
 
 import re
 import sys
-from sfc import Plc, Refused
+from itertools import count
+
+from sfc import Plc, Refused, explain
 
 UNITS = {"d": 86_400_000_000, "h": 3_600_000_000, "m": 60_000_000, "s": 1_000_000, "ms": 1000}
 
@@ -24,7 +27,7 @@ def point(words):
     return program, kind.lower(), int(name) - 1 if name.isdigit() else name
 
 
-def obey(plc, words):
+def obey(plc, words, conditions):
     """What one command answers: the words behind its instant and name, as far as they can be read."""
     t, verb, *rest = words
     t = time(t)
@@ -37,6 +40,8 @@ def obey(plc, words):
         (plc.input if verb == "INPUT" else plc.force)(rest[0], value(rest[1]), t)
     elif verb in ("RELEASE", "RESET"):
         (plc.release if verb == "RELEASE" else plc.reset)(rest[0], t)
+    elif verb == "BREAK" and "WHEN" in rest:
+        plc.set_break(*point(rest[:3]), t, condition=next(conditions))
     elif verb in ("BREAK", "UNBREAK"):
         (plc.set_break if verb == "BREAK" else plc.unbreak)(*point(rest), t)
     else:
@@ -71,52 +76,64 @@ def check_program(plc, line):
     assert sum(state.active for _, state in states(plc, program, "step")) == len(wanted), line
     did = [str(k + 1) for k, state in states(plc, program, "transition") if state.happened]
     assert (",".join(did) or "-") == cleared, (line, did)
-    done = sum(state.happened for _, state in states(plc, program, "action"))
-    assert done == (0 if actions == "-" else len(actions.split(","))), line
+    names = plc.names("action", program)
+    done = [names[k] for k, state in states(plc, program, "action") if state.happened]
+    assert (",".join(done) or "-") == actions, (line, done)
 
 
-def compare(plc, words, line):
+def compare(plc, words, conditions, line):
     """One command, and the line that it is to give."""
     wanted = line.split()
     try:
-        told = obey(plc, words)
+        told = obey(plc, words, conditions)
     except Refused as it:
-        assert wanted[:2] == ["refused", str(it.code)], (line, it.code)
+        assert wanted[:3] == ["refused", str(it.code), type(it).__name__], (line, it)
+        assert explain(it.code).split()[:2] == wanted[1:3], line
         if it.code == 29:
             assert it.reply.next == (-1 if wanted[3] == "none" else time(wanted[3])), (line, it.reply.next)
+        if it.code == 30:
+            assert plc.names("task")[it.reply.first] == wanted[3], line
         return
     assert wanted[0] != "refused", line
     assert plc.status().instant == time(wanted[0]), (line, plc.status().instant)
     if words[1] == "READ":
         assert told == [value(wanted[-1])], (line, told)
+    elif "WHEN" in words:
+        assert wanted[1:6] == words[1:6], line
     else:
         assert wanted[1:] == words[1:] + told, (line, told)
 
 
-def play(base):
-    said = [it.split() for it in open(f"{base}.script") if it.split() and not it.split()[0].startswith(";")]
-    if any("WHEN" in words for words in said):
-        return None
+def play_calls(base, script):
+    """Call by call: how many lines were compared."""
+    said = [it.split() for it in script.splitlines() if it.split() and not it.split()[0].startswith(";")]
     lines = open(f"{base}.expect").read().splitlines()
-    at = count = 0
-    with Plc(open(f"{base}.chart", "rb").read()) as plc:
+    at, conditions = 0, count()
+    with Plc.of(f"{base}.chart", script.encode()) as plc:
         for words in said:
-            compare(plc, words, lines[at])
-            at, count = at + 1, count + 1
+            compare(plc, words, conditions, lines[at])
+            at += 1
             while at < len(lines) and lines[at].startswith("  "):
                 check_program(plc, lines[at])
-                at, count = at + 1, count + 1
+                at += 1
+        image = plc.image()
+        assert len(image) == len(lines) - at, base
         for line in lines[at:]:
             _, name, text, *forced = line.split()
-            assert plc[name] == value(text) and plc.forced(name) == bool(forced), (line, plc[name])
-            count += 1
-    assert count == len(lines), (base, count)
-    return count
+            assert plc[name] == image[name] == value(text) and plc.forced(name) == bool(forced), (line, plc[name])
+    return len(lines)
 
 
-played = 0
+def play_lines(base, script):
+    """Line by line, to the byte."""
+    with Plc.of(f"{base}.chart", script.encode()) as plc:
+        told = "".join(plc.command(line) for line in script.splitlines()) + plc.image_text()
+    assert told == open(f"{base}.expect").read(), base
+
+
 for chart in sys.argv[1:]:
-    lines = play(chart.removesuffix(".chart"))
-    print(chart, "passed over" if lines is None else f"{lines} lines")
-    played += lines or 0
-sys.exit(0 if played else 1)
+    base = chart.removesuffix(".chart")
+    script = open(f"{base}.script").read()
+    play_lines(base, script)
+    print(chart, play_calls(base, script), "lines")
+sys.exit(0 if sys.argv[1:] else 1)

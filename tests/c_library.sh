@@ -1,6 +1,6 @@
 #!/usr/bin/env bash
-# Proves and builds the C library (tools/c-library), and tries it: the header, the loop and the bench, the scripts of examples/
-# that have no condition, misuse, damaged texts, two threads, and valgrind where it is there. The last line is 'N passed, M failed'.
+# Proves and builds the C library (tools/c-library), and tries it: the header, the loop and the bench, the scripts of examples/ by C and by
+# Python, misuse, damaged texts, two threads, and valgrind where it is there. The last line is 'N passed, M failed'.
 set -u
 here=$(cd "$(dirname "${BASH_SOURCE[0]}")" && pwd)
 top=$(dirname "$here")
@@ -23,6 +23,11 @@ cc -O1 -Wall -Wextra -Werror -pedantic -std=c11 -I "$build" "$here/c_library.c" 
 note $? "c_library.c"
 "$work/try" misuse "$top/examples/pump.chart"; note $? "misuse"
 "$work/try" fields "$top/examples/pump.chart"; note $? "each field of the structs"
+"$work/try" texts "$top/examples/pump.chart"; note $? "names, counts and texts"
+for chart in "$top"/examples/*.chart; do
+  "$work/try" play "$chart" "${chart%.chart}.script" >"$work/played" && cmp -s "$work/played" "${chart%.chart}.expect"
+  note $? "the script of $(basename "$chart") by C, to the byte"
+done
 "$work/try" damaged "$top/examples/mixing.chart" 10000; note $? "10000 damaged texts"
 "$work/try" threads "$top/examples/pump.chart"; note $? "two handles in two threads"
 if command -v valgrind >/dev/null; then
@@ -31,7 +36,7 @@ if command -v valgrind >/dev/null; then
 fi
 [ "$("$build/bench" "$top/examples/pump.chart" Main 200000 1000000 2>/dev/null)" = "1000000 scans, 0 overruns" ]; note $? "the bench"
 printf '' | timeout 20 "$build/loop" "$top/examples/pump.chart" >"$work/loop"; note $? "the loop"
-grep -q '^0 us: pump off, 0 overruns$' "$work/loop"; note $? "what the loop prints"
+grep -q '^[0-9]* us: pump off, 0 overruns$' "$work/loop"; note $? "what the loop prints"
 export PYTHONPATH=$build
 python3 "$top/examples/python/test_mixing.py" >/dev/null; note $? "the tests of the mixing station"
 python3 "$here/c_library.py" "$top"/examples/*.chart; note $? "the scripts of examples/ by Python"

@@ -1,14 +1,28 @@
-"""A chart that runs, from Python, by libsfc.so (include/sfc.h). Instants and TIME values are microseconds."""
+"""A chart that runs, from Python, by libsfc.so (include/sfc.h). Instants and TIME values are microseconds.
+
+    with Plc.of("pump.chart") as plc:
+        plc.scan("Main", 0)
+        plc.input("Start", True, 140_000)
+        plc.run("Main", 200_000)
+        assert plc["Pump"]
+"""
 
 import ctypes as c
 import os
 
 NO_CONDITION = 65535
-KINDS = {"step": 0, "transition": 1, "action": 2}
+KINDS = {"step": 0, "transition": 1, "action": 2, "variable": 3, "task": 4, "program": 5}
+MODES = ["running", "halted", "ended"]
+SCAN_FAULTS = [None, "DivZero", "Range", "TwoTimed", "SdWhileSl", "SlWhileSd"]
+LIMITS = [None, "Steps", "Transitions", "Associations", "Variables", "Instances", "Tasks"]
 
 
 class Handle(c.Structure):
     _fields_ = [("at", c.c_void_p)]
+
+
+class TextFault(c.Structure):
+    _fields_ = [("line", c.c_uint32), ("limit", c.c_int32)]
 
 
 class Reply(c.Structure):
@@ -20,6 +34,14 @@ class Status(c.Structure):
     _fields_ = [("instant", c.c_int64), ("accepted", c.c_uint64), ("mode", c.c_int32)]
 
 
+class VariableState(c.Structure):
+    _fields_ = [("value", c.c_int64), ("forced", c.c_int32)]
+
+
+class TaskState(c.Structure):
+    _fields_ = [("next", c.c_int64), ("overruns", c.c_uint64)]
+
+
 class ProgramState(c.Structure):
     _fields_ = [("scans", c.c_uint64), ("fault", c.c_int32)]
 
@@ -29,25 +51,52 @@ class PointState(c.Structure):
 
 
 class Refused(Exception):
-    """A call was refused: `code` by sfc.h, and the reply, where there is one."""
+    """A call was refused, and changed nothing: `code` by sfc.h, and the reply, where there is one. Each code of a command and of the
+    library has a class of its own below."""
 
     def __init__(self, code, reply=None):
-        super().__init__(f"refused {code}")
+        super().__init__(f"{code} {type(self).__name__}")
         self.code, self.reply = code, reply
 
 
-def load(path=None):
-    """The library, by its path, or by the variable SFC_LIBRARY, or else libsfc.so beside this file."""
-    library = c.CDLL(path or os.environ.get("SFC_LIBRARY") or os.path.join(os.path.dirname(os.path.abspath(__file__)), "libsfc.so"))
-    plc, text, t = c.POINTER(Handle), [c.c_char_p, c.c_size_t], c.c_int64
+class ChartRefused(Refused):
+    """The text is no chart: `code` by docs/FORMATS.md, with the reader's line, or what there is too much of; else None."""
+
+    def __init__(self, code, line=None, limit=None):
+        super().__init__(code)
+        self.line, self.limit = line, limit
+
+
+def _named(*names):
+    return [type(name, (Refused,), {"__doc__": "A refusal of this name."}) for name in names]
+
+
+Closed, NoValue, NotFound, OutOfMemory, NoLine, Short = _LIBRARY = _named(
+    "Closed", "NoValue", "NotFound", "OutOfMemory", "NoLine", "Short")
+(UnknownVar, ValueType, NotInput, NotForced, ClockBack, NotDue, Yield, UnknownTask, UnknownProgram, InstantRange, Stopped, NotRunning,
+ NotStopped, NoSuchPoint, TooManyPoints, HistoryFull, Ended, AuditMismatch, NoSuchCondition) = _COMMANDS = _named(
+    "UnknownVar", "ValueType", "NotInput", "NotForced", "ClockBack", "NotDue", "Yield", "UnknownTask", "UnknownProgram", "InstantRange",
+    "Stopped", "NotRunning", "NotStopped", "NoSuchPoint", "TooManyPoints", "HistoryFull", "Ended", "AuditMismatch", "NoSuchCondition")
+_CLASSES = {-1 - k: it for k, it in enumerate(_LIBRARY)} | {24 + k: it for k, it in enumerate(_COMMANDS)}
+SHORT = -6
+
+
+def _load():
+    """The library, by the variable SFC_LIBRARY, or else libsfc.so beside this file."""
+    path = os.environ.get("SFC_LIBRARY") or os.path.join(os.path.dirname(os.path.abspath(__file__)), "libsfc.so")
+    library = c.CDLL(path)
+    plc, text, out, t = c.POINTER(Handle), [c.c_char_p, c.c_size_t], [c.c_char_p, c.c_size_t, c.POINTER(c.c_size_t)], c.c_int64
     var, byte, reply = c.c_uint16, c.c_uint8, c.POINTER(Reply)
     kinds = {
-        "open": [*text, plc], "close": [plc], "variable": [plc, *text], "local": [plc, byte, *text], "task": [plc, *text],
-        "program": [plc, *text], "step": [plc, byte, *text], "transition": [plc, byte, *text], "scan": [plc, byte, t, reply],
-        "single": [plc, byte, t, t, reply], "input": [plc, var, t, t], "force": [plc, var, t, t], "release": [plc, var, t],
-        "reset": [plc, byte, t], "read": [plc, var, t, reply], "break": [plc, byte, byte, var, var, t],
+        "open": [*text, plc], "open_with": [*text, *text, plc], "check": [*text, c.POINTER(TextFault)], "close": [plc],
+        "variable": [plc, *text], "task": [plc, *text], "program": [plc, *text], "point": [plc, byte, byte, *text],
+        "count": [plc, byte, byte], "name": [plc, byte, byte, var, *out],
+        "scan": [plc, byte, t, reply], "single": [plc, byte, t, t, reply], "input": [plc, var, t, t], "force": [plc, var, t, t],
+        "release": [plc, var, t], "reset": [plc, byte, t], "read": [plc, var, t, reply], "break": [plc, byte, byte, var, var, t],
         "unbreak": [plc, byte, byte, var, t], "stop": [plc, t], "go": [plc, t], "end": [plc, t],
-        "value": [plc, var, c.POINTER(t)], "forced": [plc, var], "status": [plc, c.POINTER(Status)],
+        "command": [plc, *text, *out], "image_text": [plc, *out], "explain": [byte, *out],
+        "value": [plc, var, c.POINTER(t)], "forced": [plc, var], "image": [plc, c.POINTER(VariableState), c.c_size_t],
+        "status": [plc, c.POINTER(Status)], "task_state": [plc, byte, c.POINTER(TaskState)],
         "program_state": [plc, byte, c.POINTER(ProgramState)], "point_state": [plc, byte, byte, var, c.POINTER(PointState)],
     }
     for name, types in kinds.items():
@@ -56,12 +105,74 @@ def load(path=None):
     return library
 
 
-class Plc:
-    """A chart that runs. A call that is refused raises Refused, and changes nothing."""
+_LIB = _load()
 
-    def __init__(self, text, library=None):
-        self.lib, self.handle = library or load(), Handle()
-        self._done(self.lib.sfc_open(text, len(text), self.handle))
+
+def _done(code, reply=None):
+    if code:
+        raise _CLASSES.get(code, Refused)(code, reply)
+    return reply
+
+
+def _found(number):
+    if number < 0:
+        raise _CLASSES[number](number)
+    return number
+
+
+def _text(call, *given):
+    """The code of a call that gives a text, and the text."""
+    needed, room = c.c_size_t(), 4096
+    while True:
+        into = c.create_string_buffer(room)
+        code = call(*given, into, room, needed)
+        if code != SHORT:
+            return code, into.raw[:needed.value].decode("latin-1")
+        room = needed.value
+
+
+def check(text):
+    """The first fault of a text, as a ChartRefused; None where it is a chart."""
+    fault = TextFault()
+    code = _LIB.sfc_check(text, len(text), fault)
+    return ChartRefused(code, fault.line or None, LIMITS[fault.limit]) if code else None
+
+
+def explain(number):
+    """What a fault of a chart or a refusal of a command means."""
+    code, text = _text(_LIB.sfc_explain, number)
+    _done(code)
+    return text
+
+
+def fixture(path, script=b""):
+    """For pytest: with `plc = sfc.fixture("mixing.chart")` each test that has an argument `plc` gets that chart, newly opened."""
+    def opened():
+        with Plc.of(path, script) as plc:
+            yield plc
+    try:
+        from pytest import fixture as make
+    except ImportError:
+        return opened
+    return make(opened)
+
+
+class Plc:
+    """A chart that runs. A call that is refused raises a Refused, and changes nothing."""
+
+    def __init__(self, text, script=b""):
+        """Opens the chart, with the conditions behind WHEN in the script, which breakpoints may wait for."""
+        self.handle, self.raw = Handle(), 0
+        code = _LIB.sfc_open_with(text, len(text), script, len(script), self.handle)
+        if code > 0:
+            raise check(text)
+        _done(code)
+
+    @classmethod
+    def of(cls, path, script=b""):
+        """Opens the chart of a file."""
+        with open(path, "rb") as file:
+            return cls(file.read(), script)
 
     def __enter__(self):
         return self
@@ -70,96 +181,129 @@ class Plc:
         self.close()
 
     def close(self):
-        self.lib.sfc_close(self.handle)
+        _LIB.sfc_close(self.handle)
 
-    @staticmethod
-    def _done(code, reply=None):
-        if code:
-            raise Refused(code, reply)
-        return reply
-
-    @staticmethod
-    def _found(number):
-        if number < 0:
-            raise Refused(number)
-        return number
-
-    def task(self, name):
-        return self._found(self.lib.sfc_task(self.handle, name.encode(), len(name.encode())))
-
-    def program(self, name):
-        return self._found(self.lib.sfc_program(self.handle, name.encode(), len(name.encode())))
+    # -- names
 
     def variable(self, name):
-        """The number of NAME, a global variable, or of PROGRAM.NAME."""
-        program, dot, local = name.partition(".")
-        if not dot:
-            return self._found(self.lib.sfc_variable(self.handle, name.encode(), len(name.encode())))
-        return self._found(self.lib.sfc_local(self.handle, self.program(program), local.encode(), len(local.encode())))
+        """The number of NAME, of PROGRAM.NAME, or of what lies at a location, as %IX0.0."""
+        return _found(_LIB.sfc_variable(self.handle, name.encode(), len(name.encode())))
+
+    def task(self, name):
+        return _found(_LIB.sfc_task(self.handle, name.encode(), len(name.encode())))
+
+    def program(self, name):
+        return _found(_LIB.sfc_program(self.handle, name.encode(), len(name.encode())))
 
     def point(self, program, kind, name):
-        """The numbers of a program and of its step or transition with this name; or of a point by its number."""
-        p = self.program(program)
-        if isinstance(name, int):
-            return p, KINDS[kind], name
-        find = {"step": self.lib.sfc_step, "transition": self.lib.sfc_transition}[kind]
-        return p, KINDS[kind], self._found(find(self.handle, p, name.encode(), len(name.encode())))
+        """The numbers of a program, of a kind ("step", "transition", "action"), and of its point with this name; or its number itself."""
+        p, k = self.program(program), KINDS[kind]
+        return p, k, name if isinstance(name, int) else _found(_LIB.sfc_point(self.handle, p, k, name.encode(), len(name.encode())))
+
+    def names(self, kind, program=None):
+        """The names of all of a kind, in the order of their numbers; of points with the program. A transition may have none."""
+        k, p = KINDS[kind], 0 if program is None else self.program(program)
+        found = [_text(_LIB.sfc_name, self.handle, k, p, n) for n in range(_found(_LIB.sfc_count(self.handle, k, p)))]
+        return [name for code, name in found if _done(code) is None]
+
+    # -- commands, each at an instant
+
+    def _command(self, call, *given, reply=None):
+        t = given[-1]
+        _done(call(self.handle, *given, *([] if reply is None else [reply])), reply)
+        self.raw = t
+        return reply
 
     def scan(self, task, t):
-        reply = Reply()
-        return self._done(self.lib.sfc_scan(self.handle, self.task(task), t, reply), reply)
+        return self._command(_LIB.sfc_scan, self.task(task), t, reply=Reply())
 
     def single(self, task, delta, t):
-        reply = Reply()
-        return self._done(self.lib.sfc_single(self.handle, self.task(task), delta, t, reply), reply)
+        return self._command(_LIB.sfc_single, self.task(task), delta, t, reply=Reply())
 
     def input(self, name, value, t):
-        self._done(self.lib.sfc_input(self.handle, self.variable(name), value, t))
+        self._command(_LIB.sfc_input, self.variable(name), value, t)
 
     def force(self, name, value, t):
-        self._done(self.lib.sfc_force(self.handle, self.variable(name), value, t))
+        self._command(_LIB.sfc_force, self.variable(name), value, t)
 
     def release(self, name, t):
-        self._done(self.lib.sfc_release(self.handle, self.variable(name), t))
+        self._command(_LIB.sfc_release, self.variable(name), t)
 
     def reset(self, program, t):
-        self._done(self.lib.sfc_reset(self.handle, self.program(program), t))
+        self._command(_LIB.sfc_reset, self.program(program), t)
 
     def read(self, name, t):
-        reply = Reply()
-        return self._done(self.lib.sfc_read(self.handle, self.variable(name), t, reply), reply).value
+        return self._command(_LIB.sfc_read, self.variable(name), t, reply=Reply()).value
 
-    def set_break(self, program, kind, name, t):
-        self._done(self.lib.sfc_break(self.handle, *self.point(program, kind, name), NO_CONDITION, t))
+    def set_break(self, program, kind, name, t, condition=NO_CONDITION):
+        self._command(getattr(_LIB, "sfc_break"), *self.point(program, kind, name), condition, t)
 
     def unbreak(self, program, kind, name, t):
-        self._done(self.lib.sfc_unbreak(self.handle, *self.point(program, kind, name), t))
+        self._command(_LIB.sfc_unbreak, *self.point(program, kind, name), t)
 
     def stop(self, t):
-        self._done(self.lib.sfc_stop(self.handle, t))
+        self._command(_LIB.sfc_stop, t)
 
     def go(self, t):
-        self._done(self.lib.sfc_go(self.handle, t))
+        self._command(_LIB.sfc_go, t)
 
     def end(self, t):
-        self._done(self.lib.sfc_end(self.handle, t))
+        self._command(_LIB.sfc_end, t)
+
+    def command(self, line):
+        """Obeys a line of a script: the lines that `sfcmon replay` prints for it, also for a refusal."""
+        code, text = _text(_LIB.sfc_command, self.handle, line.encode(), len(line.encode()))
+        if code < 0:
+            _done(code)
+        return text
+
+    def run(self, task, until):
+        """Scans the task at each release by its interval from now on up to this instant, while the resource runs."""
+        while self.status().mode == 0:
+            wait = self.task_state(task).next - self.status().instant
+            if wait <= 0 or self.raw + wait > until:
+                return
+            self.scan(task, self.raw + wait)
+
+    # -- readers
 
     def __getitem__(self, name):
         into = c.c_int64()
-        self._done(self.lib.sfc_value(self.handle, self.variable(name), into))
+        _done(_LIB.sfc_value(self.handle, self.variable(name), into))
         return into.value
 
     def forced(self, name):
-        return bool(self._found(self.lib.sfc_forced(self.handle, self.variable(name))))
+        return bool(_found(_LIB.sfc_forced(self.handle, self.variable(name))))
+
+    def image(self):
+        """What each variable reads, by its name."""
+        names = self.names("variable")
+        states = (VariableState * max(1, len(names)))()
+        _done(_LIB.sfc_image(self.handle, states, len(names)))
+        return {name: state.value for name, state in zip(names, states)}
+
+    def image_text(self):
+        """A line for each variable, as `sfcmon replay` prints them at its end."""
+        code, text = _text(_LIB.sfc_image_text, self.handle)
+        _done(code)
+        return text
 
     def status(self):
         status = Status()
-        return self._done(self.lib.sfc_status(self.handle, status), status)
+        return _done(_LIB.sfc_status(self.handle, status), status)
+
+    def task_state(self, task):
+        state = TaskState()
+        return _done(_LIB.sfc_task_state(self.handle, self.task(task), state), state)
 
     def state(self, program, kind=None, name=None):
         """How a program stands, or one of its points."""
         if kind is None:
             state = ProgramState()
-            return self._done(self.lib.sfc_program_state(self.handle, self.program(program), state), state)
+            return _done(_LIB.sfc_program_state(self.handle, self.program(program), state), state)
         state = PointState()
-        return self._done(self.lib.sfc_point_state(self.handle, *self.point(program, kind, name), state), state)
+        return _done(_LIB.sfc_point_state(self.handle, *self.point(program, kind, name), state), state)
+
+    def active(self, program):
+        """The names of the program's active steps."""
+        return [name for name in self.names("step", program) if self.state(program, "step", name).active]

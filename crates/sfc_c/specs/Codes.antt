@@ -22,6 +22,32 @@ use Rattle.sfc_debug.specs.declared.mode.Mode.{Mode}
 use Rattle.sfc_debug.specs.declared.mode.Mode.TheVariants as mode
 use Rattle.sfc_c.specs.declared.reply.Reply.{Reply}
 
+-- ---- the library's own codes
+
+-- the handle holds no resource
+abbrev pub closed : ℤ
+closed = negsuc 0
+
+-- the number is no value of the variable's type
+abbrev pub no_value : ℤ
+no_value = negsuc 1
+
+-- there is nothing with this number or name
+abbrev pub unknown : ℤ
+unknown = negsuc 2
+
+-- memory was refused
+abbrev pub no_memory : ℤ
+no_memory = negsuc 3
+
+-- it is no line of a script with one command at most
+abbrev pub no_line : ℤ
+no_line = negsuc 4
+
+-- the caller's array is too short
+abbrev pub too_short : ℤ
+too_short = negsuc 5
+
 -- ---- answers
 
 -- 0, or the number of the refusal

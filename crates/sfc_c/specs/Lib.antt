@@ -2,11 +2,21 @@
 
 -- what a handle owns
 pub mod Held
--- what C reads of answers, values and points
+-- what C reads of answers, values and points; the library's own codes
 pub mod Codes
 -- what a handle's calls answer
 pub mod Handles
+-- why a text is not opened
+pub mod Faults
 -- what is read without a command
 pub mod Readings
 -- the numbers of what names stand for
 pub mod Found
+-- what has a name: counts, names and numbers
+pub mod Names
+-- texts that are given to a caller's buffer
+pub mod Texts
+-- lines of scripts, and the lines that are told of them
+pub mod Lines
+-- explanations by number
+pub mod Explanations

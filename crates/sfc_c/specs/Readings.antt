@@ -1,7 +1,10 @@
 -- What is read without a command: what the rules say of the commands that were accepted.
-use Rattle.std.specs.Prelude.{◌≡◌, ℕ, nat_lt, cond, is_some, length, ℤ, pos, negsuc, Option, Some, None}
+use Rattle.std.specs.Prelude.{◌≡◌, ℕ, nat_lt, cond, is_some, List, length, map, take, drop, MatchBool, ℤ, pos, negsuc, Option, Some, None}
+use Rattle.std.specs.List.{range_with_len}
 use Rattle.sfc_base.specs.declared.ids.ProgId.{ProgId}
+use Rattle.sfc_base.specs.declared.ids.TaskId.{TaskId}
 use Rattle.sfc_base.specs.declared.ids.VarId.{VarId}
+use Rattle.sfc_plant.specs.Plants.{PlantData}
 use Rattle.sfc_plant.specs.Finding.{chart_of}
 use Rattle.sfc_tables.specs.Tables.{Tabled, tables_of}
 use Rattle.sfc_expr.specs.declared.fault.Fault.TheVariants.{DivZero, Range}
@@ -14,14 +17,21 @@ use Rattle.sfc_instance.specs.Answers.{scan_count, is_step_active, step_elapsed,
 use Rattle.sfc_instance.specs.Answers.{action_q, is_action_executed}
 use Rattle.sfc_events.specs.declared.command.Point.{Point}
 use Rattle.sfc_events.specs.declared.command.Point.TheVariants as points
-use Rattle.sfc_core.specs.Answers.{value_of, forced_of, instance_state_of}
+use Rattle.sfc_events.specs.History.{History}
+use Rattle.sfc_tasks.specs.Calls.{single_of}
+use Rattle.sfc_tasks.specs.Multiples.{next_release}
+use Rattle.sfc_tasks.specs.Releases.{interval_of}
+use Rattle.sfc_core.specs.Answers.{value_of, forced_of, instance_state_of, overruns_of}
+use Rattle.sfc_core.specs.Due.{singles_of}
 use Rattle.sfc_debug.specs.Histories.{CommandHistory}
 use Rattle.sfc_debug.specs.States.{state_of}
 use Rattle.sfc_output.specs.Steered.{Steered}
 use Rattle.sfc_c.specs.declared.reading.Status.{Status}
 use Rattle.sfc_c.specs.declared.reading.ProgramState.{ProgramState}
+use Rattle.sfc_c.specs.declared.image.VariableState.{VariableState}
+use Rattle.sfc_c.specs.declared.tasks.TaskState.{TaskState}
 use Rattle.sfc_c.specs.declared.showing.PointState.{PointState}
-use Rattle.sfc_c.specs.Codes.{told, flag, mode_number}
+use Rattle.sfc_c.specs.Codes.{told, flag, mode_number, instant_or_none, too_short}
 use Rattle.sfc_c.specs.Handles.{events_of}
 
 -- what is there is given, with 0; where nothing is there, -3 is answered and nothing given
@@ -34,6 +44,22 @@ Gives (Some x) old new result = (result ≡ pos 0) × (new ≡ x)
 -- what the variable reads
 abbrev pub told_value : Steered → CommandHistory → VarId → Option ℤ
 told_value s h id = cond (nat_lt id.0 (variable_count s.plant)) (Some (told (value_of s.plant (events_of s h) id))) None
+
+-- what it reads, and whether it is forced
+abbrev pub variable_state : PlantData → History → ℕ → VariableState
+variable_state plant h k =
+    record { value = told (value_of plant h (record { 0 = k })); forced = flag (is_some (forced_of plant h (record { 0 = k }))) }
+
+-- the first n places have the states of the variables, and the others what they had
+pub record HasStates (plant : PlantData) (h : History) (n : ℕ) (old new : List VariableState) : Type 0 where
+  pub states : take n new ≡ map (variable_state plant h) (range_with_len 0 n)
+  pub others : drop n new ≡ drop n old
+
+-- all of them, where there is room; else nothing
+abbrev pub GivesImage : Steered → CommandHistory → List VariableState → List VariableState → ℤ → Type 0
+GivesImage s h old new result = MatchBool (nat_lt (length old) (variable_count s.plant))
+    ((result ≡ too_short) × (new ≡ old))
+    ((result ≡ pos 0) × HasStates s.plant (events_of s h) (variable_count s.plant) old new)
 
 -- whether it is forced: 1 or 0, and -3 where there is no such variable
 abbrev pub told_forced : Steered → CommandHistory → VarId → ℤ
@@ -48,6 +74,23 @@ status_of s h = record {
   accepted = length h;
   mode = mode_number (state_of s.plant s.table h).clock.mode;
 }
+
+-- ---- tasks
+
+-- the next release by the interval behind t, or -1 (2.7.2)
+abbrev pub next_of : PlantData → History → TaskId → ℤ → ℤ
+next_of plant h task t =
+    instant_or_none (next_release (interval_of plant.tasks task.0) (single_of (singles_of plant h) task.0) t)
+
+-- that behind the run instant, and the overruns since the opening
+abbrev pub task_in : Steered → CommandHistory → TaskId → TaskState
+task_in s h task = record {
+  next = next_of s.plant (events_of s h) task (state_of s.plant s.table h).clock.instant;
+  overruns = overruns_of s.plant (events_of s h) task;
+}
+
+abbrev pub task_state : Steered → CommandHistory → TaskId → Option TaskState
+task_state s h task = cond (nat_lt task.0 (length s.plant.tasks)) (Some (task_in s h task)) None
 
 -- ---- program instances
 

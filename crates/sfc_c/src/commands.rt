@@ -1,11 +1,13 @@
 //! Commands by number: events, breakpoints, halts, single scans.
 
-ghost use Rattle.std.specs.Prelude.{◌≡◌, None, Some, is_some, true, negsuc};
+ghost use Rattle.std.specs.Prelude.{◌≡◌, None, Some, is_some, true};
 ghost use Rattle.sfc_base.specs.declared.value.Value.{Value as ValueData};
 ghost use Rattle.sfc_events.specs.declared.command.Command.TheVariants as commands;
 ghost use Rattle.sfc_events.specs.declared.command.Point.{Point as PointData};
+ghost use Rattle.sfc_debug.specs.Agreement.{Agrees, plant_of, table_of};
 ghost use Rattle.sfc_debug.specs.Histories.{CommandHistory};
-ghost use Rattle.sfc_output.specs.Steered.{Steered};
+ghost use Rattle.sfc_debug.specs.Verdict.{after, verdict};
+ghost use Rattle.sfc_output.specs.Steered.{Steered, steered_by};
 ghost use Rattle.sfc_c.specs.Codes as codes;
 ghost use Rattle.sfc_c.specs.Handles.{Answers, Follows, Holds, Replies};
 
@@ -18,23 +20,34 @@ use sfc_base::ids::{ProgId, TaskId, VarId};
 use sfc_base::ticks::Ticks;
 use sfc_base::value::Value;
 use sfc_base::var_type::VarType;
-use sfc_events::command::Command;
+use sfc_debug::debugger::Debugger;
+use sfc_events::command::{Answer, Command};
+use sfc_events::refusal::Refusal;
 use sfc_plant::plant::Plant;
 use std::alloc::Global;
 
 // One command at the raw instant t, in microseconds.
+fn obey(debugger: &mut Debugger, command: Command, t: i64) -> Result<Answer, Refusal>
+    ensures answer { (h : CommandHistory) → Agrees debugger.old h →
+        result ≡ verdict (plant_of debugger.old) (table_of debugger.old) h command t }
+    ensures steered { steered_by debugger.new ≡ steered_by debugger.old }
+    ensures agrees { (h : CommandHistory) → Agrees debugger.old h →
+        Agrees debugger.new (after (plant_of debugger.old) (table_of debugger.old) h (command, t)) }
+{
+    let mut ticks = Ticks::new();
+    debugger.command(command, t, &mut ticks)
+}
+
+// The same with the debugger that a handle holds.
 fn tell(alloc: Global, plc: &mut Handle, command: Command, t: i64, into: &mut Reply) -> i32
     ensures code { Answers plc.old.value command t result }
     ensures reply { Replies plc.old.value command t into.new }
     ensures kept { Follows plc.old.value plc.new.value command t }
-    ensures closed { plc.old.value ≡ None → result ≡ negsuc 0 }
+    ensures closed { plc.old.value ≡ None → result ≡ codes.closed }
 {
-    match plc.take(alloc) {
+    match plc.change(alloc, |debugger| obey(debugger, command, t)) {
         None => CLOSED,
-        Some(mut debugger) => {
-            let mut ticks = Ticks::new();
-            let answered = debugger.command(command, t, &mut ticks);
-            plc.put(debugger, alloc);
+        Some(answered) => {
             *into = telling(answered);
             code(answered)
         }
@@ -45,7 +58,7 @@ fn tell(alloc: Global, plc: &mut Handle, command: Command, t: i64, into: &mut Re
 fn order(alloc: Global, plc: &mut Handle, command: Command, t: i64) -> i32
     ensures code { Answers plc.old.value command t result }
     ensures kept { Follows plc.old.value plc.new.value command t }
-    ensures closed { plc.old.value ≡ None → result ≡ negsuc 0 }
+    ensures closed { plc.old.value ≡ None → result ≡ codes.closed }
 {
     let mut into = NOTHING;
     tell(alloc, plc, command, t, &mut into)
@@ -60,19 +73,22 @@ fn type_of(plant: &Plant, id: VarId) -> Option<VarType>
 }
 
 // The value of the variable's type that the number is told as, if there is one.
+fn value_in(debugger: &Debugger, id: VarId, n: i64) -> Option<Value>
+    ensures { result ≡ codes.value_of_number (codes.type_of (plant_of debugger.now) id) n }
+{
+    value_of_number(type_of(debugger.resource().plant(), id), n)
+}
+
+// The same of the debugger that a handle holds; any value where it holds none.
 fn value_at(alloc: Global, plc: &mut Handle, id: VarId, n: i64) -> Option<Value>
     ensures value { (s : Steered) (h : CommandHistory) → Holds plc.old.value s h →
         result ≡ codes.value_of_number (codes.type_of s.plant id) n }
     ensures kept { plc.new.value ≡ plc.old.value }
     ensures closed { plc.old.value ≡ None → is_some result ≡ true }
 {
-    match plc.take(alloc) {
+    match plc.read(alloc, |debugger| value_in(debugger, id, n)) {
         None => Some(Value::Bool(false)),
-        Some(debugger) => {
-            let value = value_of_number(type_of(debugger.resource().plant(), id), n);
-            plc.put(debugger, alloc);
-            value
-        }
+        Some(value) => value,
     }
 }
 
@@ -88,7 +104,7 @@ pub extern "C" fn sfc_scan(
     ensures code { Answers plc.old.value (commands.Scan (record { 0 = task })) t result }
     ensures reply { Replies plc.old.value (commands.Scan (record { 0 = task })) t into.new }
     ensures kept { Follows plc.old.value plc.new.value (commands.Scan (record { 0 = task })) t }
-    ensures closed { plc.old.value ≡ None → result ≡ negsuc 0 }
+    ensures closed { plc.old.value ≡ None → result ≡ codes.closed }
 {
     tell(alloc, plc, Command::Scan(TaskId(task)), t, into)
 }
@@ -106,7 +122,7 @@ pub extern "C" fn sfc_single(
     ensures code { Answers plc.old.value (commands.Single (record { 0 = task }) delta) t result }
     ensures reply { Replies plc.old.value (commands.Single (record { 0 = task }) delta) t into.new }
     ensures kept { Follows plc.old.value plc.new.value (commands.Single (record { 0 = task }) delta) t }
-    ensures closed { plc.old.value ≡ None → result ≡ negsuc 0 }
+    ensures closed { plc.old.value ≡ None → result ≡ codes.closed }
 {
     tell(alloc, plc, Command::Single(TaskId(task), delta), t, into)
 }
@@ -122,8 +138,8 @@ pub extern "C" fn sfc_input(alloc: Global, plc: &mut Handle, var: u16, value: i6
         Follows plc.old.value plc.new.value (commands.Input (record { 0 = var }) v) t }
     ensures no_value { (s : Steered) (h : CommandHistory) → Holds plc.old.value s h →
         codes.value_of_number (codes.type_of s.plant (record { 0 = var })) value ≡ None →
-        (result ≡ negsuc 1) × (plc.new.value ≡ plc.old.value) }
-    ensures closed { plc.old.value ≡ None → result ≡ negsuc 0 }
+        (result ≡ codes.no_value) × (plc.new.value ≡ plc.old.value) }
+    ensures closed { plc.old.value ≡ None → result ≡ codes.closed }
 {
     match value_at(alloc, plc, VarId(var), value) {
         None => NO_VALUE,
@@ -142,8 +158,8 @@ pub extern "C" fn sfc_force(alloc: Global, plc: &mut Handle, var: u16, value: i6
         Follows plc.old.value plc.new.value (commands.Force (record { 0 = var }) v) t }
     ensures no_value { (s : Steered) (h : CommandHistory) → Holds plc.old.value s h →
         codes.value_of_number (codes.type_of s.plant (record { 0 = var })) value ≡ None →
-        (result ≡ negsuc 1) × (plc.new.value ≡ plc.old.value) }
-    ensures closed { plc.old.value ≡ None → result ≡ negsuc 0 }
+        (result ≡ codes.no_value) × (plc.new.value ≡ plc.old.value) }
+    ensures closed { plc.old.value ≡ None → result ≡ codes.closed }
 {
     match value_at(alloc, plc, VarId(var), value) {
         None => NO_VALUE,
@@ -156,7 +172,7 @@ pub extern "C" fn sfc_force(alloc: Global, plc: &mut Handle, var: u16, value: i6
 pub extern "C" fn sfc_release(alloc: Global, plc: &mut Handle, var: u16, t: i64) -> i32
     ensures code { Answers plc.old.value (commands.Release (record { 0 = var })) t result }
     ensures kept { Follows plc.old.value plc.new.value (commands.Release (record { 0 = var })) t }
-    ensures closed { plc.old.value ≡ None → result ≡ negsuc 0 }
+    ensures closed { plc.old.value ≡ None → result ≡ codes.closed }
 {
     order(alloc, plc, Command::Release(VarId(var)), t)
 }
@@ -166,7 +182,7 @@ pub extern "C" fn sfc_release(alloc: Global, plc: &mut Handle, var: u16, t: i64)
 pub extern "C" fn sfc_reset(alloc: Global, plc: &mut Handle, program: u8, t: i64) -> i32
     ensures code { Answers plc.old.value (commands.Reset (record { 0 = program })) t result }
     ensures kept { Follows plc.old.value plc.new.value (commands.Reset (record { 0 = program })) t }
-    ensures closed { plc.old.value ≡ None → result ≡ negsuc 0 }
+    ensures closed { plc.old.value ≡ None → result ≡ codes.closed }
 {
     order(alloc, plc, Command::Reset(ProgId(program)), t)
 }
@@ -183,7 +199,7 @@ pub extern "C" fn sfc_read(
     ensures code { Answers plc.old.value (commands.Read (record { 0 = var })) t result }
     ensures reply { Replies plc.old.value (commands.Read (record { 0 = var })) t into.new }
     ensures kept { Follows plc.old.value plc.new.value (commands.Read (record { 0 = var })) t }
-    ensures closed { plc.old.value ≡ None → result ≡ negsuc 0 }
+    ensures closed { plc.old.value ≡ None → result ≡ codes.closed }
 {
     tell(alloc, plc, Command::Read(VarId(var)), t, into)
 }
@@ -204,8 +220,8 @@ pub extern "C" fn sfc_break(
         Answers plc.old.value (codes.break_of (record { 0 = program }) point condition) t result }
     ensures kept { (point : PointData) → codes.point_of kind number ≡ Some point →
         Follows plc.old.value plc.new.value (codes.break_of (record { 0 = program }) point condition) t }
-    ensures unknown { codes.point_of kind number ≡ None → (result ≡ negsuc 2) × (plc.new.value ≡ plc.old.value) }
-    ensures closed { (point : PointData) → codes.point_of kind number ≡ Some point → plc.old.value ≡ None → result ≡ negsuc 0 }
+    ensures unknown { codes.point_of kind number ≡ None → (result ≡ codes.unknown) × (plc.new.value ≡ plc.old.value) }
+    ensures closed { (point : PointData) → codes.point_of kind number ≡ Some point → plc.old.value ≡ None → result ≡ codes.closed }
 {
     match point_of(kind, number) {
         None => UNKNOWN,
@@ -227,8 +243,8 @@ pub extern "C" fn sfc_unbreak(
         Answers plc.old.value (commands.Unbreak (record { 0 = program }) point) t result }
     ensures kept { (point : PointData) → codes.point_of kind number ≡ Some point →
         Follows plc.old.value plc.new.value (commands.Unbreak (record { 0 = program }) point) t }
-    ensures unknown { codes.point_of kind number ≡ None → (result ≡ negsuc 2) × (plc.new.value ≡ plc.old.value) }
-    ensures closed { (point : PointData) → codes.point_of kind number ≡ Some point → plc.old.value ≡ None → result ≡ negsuc 0 }
+    ensures unknown { codes.point_of kind number ≡ None → (result ≡ codes.unknown) × (plc.new.value ≡ plc.old.value) }
+    ensures closed { (point : PointData) → codes.point_of kind number ≡ Some point → plc.old.value ≡ None → result ≡ codes.closed }
 {
     match point_of(kind, number) {
         None => UNKNOWN,
@@ -241,7 +257,7 @@ pub extern "C" fn sfc_unbreak(
 pub extern "C" fn sfc_stop(alloc: Global, plc: &mut Handle, t: i64) -> i32
     ensures code { Answers plc.old.value commands.Stop t result }
     ensures kept { Follows plc.old.value plc.new.value commands.Stop t }
-    ensures closed { plc.old.value ≡ None → result ≡ negsuc 0 }
+    ensures closed { plc.old.value ≡ None → result ≡ codes.closed }
 {
     order(alloc, plc, Command::Stop, t)
 }
@@ -251,7 +267,7 @@ pub extern "C" fn sfc_stop(alloc: Global, plc: &mut Handle, t: i64) -> i32
 pub extern "C" fn sfc_go(alloc: Global, plc: &mut Handle, t: i64) -> i32
     ensures code { Answers plc.old.value commands.Go t result }
     ensures kept { Follows plc.old.value plc.new.value commands.Go t }
-    ensures closed { plc.old.value ≡ None → result ≡ negsuc 0 }
+    ensures closed { plc.old.value ≡ None → result ≡ codes.closed }
 {
     order(alloc, plc, Command::Go, t)
 }
@@ -261,7 +277,7 @@ pub extern "C" fn sfc_go(alloc: Global, plc: &mut Handle, t: i64) -> i32
 pub extern "C" fn sfc_end(alloc: Global, plc: &mut Handle, t: i64) -> i32
     ensures code { Answers plc.old.value commands.End t result }
     ensures kept { Follows plc.old.value plc.new.value commands.End t }
-    ensures closed { plc.old.value ≡ None → result ≡ negsuc 0 }
+    ensures closed { plc.old.value ≡ None → result ≡ codes.closed }
 {
     order(alloc, plc, Command::End, t)
 }

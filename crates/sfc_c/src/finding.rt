@@ -1,82 +1,68 @@
 //! Numbers by names; case is not significant (2.1.2).
 
-ghost use Rattle.std.specs.Prelude.{◌≡◌, None, negsuc, MatchOption};
-ghost use Rattle.sfc_plant.specs.Finding.{variable_named, local_named, task_named, instance_named, chart_of, chart_in};
+ghost use Rattle.std.specs.Prelude.{◌≡◌, ◌<◌, None, length, IfSome};
+ghost use Rattle.sfc_base.specs.Case.{same_word};
+ghost use Rattle.sfc_plant.specs.Finding.{task_named, instance_named, chart_of};
 ghost use Rattle.sfc_plant.specs.ElementNames.{step_place, transition_place};
+ghost use Rattle.sfc_core.specs.Agreement as core;
+ghost use Rattle.sfc_debug.specs.Agreement.{plant_of};
 ghost use Rattle.sfc_debug.specs.Histories.{CommandHistory};
 ghost use Rattle.sfc_output.specs.Steered.{Steered};
+ghost use Rattle.sfc_script.specs.Names as script;
+ghost use Rattle.sfc_script.specs.Points as points;
+ghost use Rattle.sfc_script.specs.Points.{action_from};
+ghost use Rattle.sfc_c.specs.Codes as codes;
 ghost use Rattle.sfc_c.specs.Handles.{Holds};
-ghost use Rattle.sfc_c.specs.Found.{number_of_place, number_of_variable, number_of_task, number_of_program, local_in};
+ghost use Rattle.sfc_c.specs.Found.{number_of_place, number_of_task, number_of_program};
+ghost use Rattle.sfc_c.specs.Names as names;
 
+use crate::charts::{names_of, type_of_instance};
 use crate::handle::Handle;
-use crate::status::{CLOSED, UNKNOWN};
-use sfc_base::ids::{ProgId, TaskId, VarId};
+use crate::kind::{Kind, kind_of};
+use crate::locating::{begins_location, number_of_location};
+use crate::number::{place_number, program_number, task_number, variable_number};
+use crate::status::CLOSED;
+use sfc_base::case::is_same_word;
+use sfc_base::ids::{ActionNumber, ProgId, TaskId, VarId};
+use sfc_core::resource::Resource;
+use sfc_debug::debugger::Debugger;
+use sfc_plant::association::Target;
+use sfc_plant::names::Names;
 use sfc_plant::plant::Plant;
-use sfc_plant::program_type::ProgramType;
+use sfc_tables::tables::Tables;
 use std::alloc::Global;
 
-// The number of a variable that was found.
-fn variable_number(found: Option<VarId>) -> i32
-    ensures { result ≡ number_of_variable found }
+// Where the first dot stands, if there is one.
+fn first_dot(word: &[u8]) -> Option<usize>
+    ensures place { result ≡ script.first_dot word.now }
+    ensures within { IfSome result (λ dot. dot < length word.now) }
 {
-    match found {
-        Some(id) => i32::from(id.0),
-        None => UNKNOWN,
-    }
+    word.iter().position(|byte| *byte == b'.')
 }
 
-// The number of a task that was found.
-fn task_number(found: Option<TaskId>) -> i32
-    ensures { result ≡ number_of_task found }
+// The variable that is called so: a local one of a program instance where the name has a dot.
+fn variable_called(plant: &Plant, name: &[u8]) -> Option<VarId>
+    ensures { result ≡ names.variable_called plant.now name.now }
 {
-    match found {
-        Some(task) => i32::from(task.0),
-        None => UNKNOWN,
-    }
+    let Some(dot) = first_dot(name) else {
+        return plant.find_variable(name);
+    };
+    let instance = plant.find_instance(&name[..dot])?;
+    plant.find_local(instance, &name[dot + 1..])
 }
 
-// The number of a program instance that was found.
-fn program_number(found: Option<ProgId>) -> i32
-    ensures { result ≡ number_of_program found }
+// The number of the variable that is called so, or lies there.
+fn variable_in(alloc: Global, debugger: &Debugger, text: &[u8]) -> i32
+    ensures { names.VariableFinds (plant_of debugger.now) text.now result }
 {
-    match found {
-        Some(program) => i32::from(program.0),
-        None => UNKNOWN,
+    if begins_location(text) {
+        return number_of_location(alloc, debugger.resource(), text);
     }
-}
-
-// The number of what was found at a place of a chart.
-fn place_number(found: Option<usize>) -> i32
-    ensures { result ≡ number_of_place found }
-{
-    match found {
-        Some(place) if place < 65_536 => place as i32,
-        _ => UNKNOWN,
-    }
-}
-
-// The local variable of a program instance, if both are there.
-fn find_local(plant: &Plant, program: ProgId, name: &[u8]) -> Option<VarId>
-    ensures { result ≡ local_in plant.now program name.now }
-{
-    if (program.0 as usize) < plant.instances().len() {
-        plant.find_local(program, name)
-    } else {
-        None
-    }
-}
-
-// The program type of an instance, if it is there.
-fn type_of_instance(plant: &Plant, program: ProgId) -> Option<&ProgramType>
-    ensures { MatchOption result (chart_of plant.now program ≡ chart_in None)
-        (λ program_type. chart_of plant.now program ≡ program_type.now.chart) }
-{
-    let instance = plant.instances().get(program.0 as usize)?;
-    plant.types().get(instance.program.0)
+    variable_number(variable_called(debugger.resource().plant(), text))
 }
 
 // The place of a step in the chart of a program instance, if there is one with this name.
-fn find_step(plant: &Plant, program: ProgId, name: &[u8]) -> Option<usize>
+fn step_in(plant: &Plant, program: ProgId, name: &[u8]) -> Option<usize>
     ensures { result ≡ step_place (chart_of plant.now program) name.now }
 {
     match type_of_instance(plant, program) {
@@ -86,7 +72,7 @@ fn find_step(plant: &Plant, program: ProgId, name: &[u8]) -> Option<usize>
 }
 
 // The place of a transition in the chart of a program instance, if there is one with this name.
-fn find_transition(plant: &Plant, program: ProgId, name: &[u8]) -> Option<usize>
+fn transition_in(plant: &Plant, program: ProgId, name: &[u8]) -> Option<usize>
     ensures { result ≡ transition_place (chart_of plant.now program) name.now }
 {
     match type_of_instance(plant, program) {
@@ -95,122 +81,133 @@ fn find_transition(plant: &Plant, program: ProgId, name: &[u8]) -> Option<usize>
     }
 }
 
-/// The number of the global variable with this name.
+// Whether this action has the name.
+fn is_named(names: &Names<'_>, target: Target, name: &[u8]) -> bool
+    ensures { result ≡ same_word name.now (points.target_name names.now target) }
+{
+    match target {
+        Target::Boolean(variable) => is_same_word(name, names.variable(variable)),
+        Target::Declared(id) => is_same_word(name, names.action(id)),
+    }
+}
+
+// The number of the first of the actions that has the name.
+fn action_among(names: &Names<'_>, tables: &Tables, name: &[u8]) -> Option<usize>
+    ensures { result ≡ action_from names.now name.now 0 tables.now.actions }
+{
+    'actions: for a in 0..tables.actions() {
+        if is_named(names, tables.target(ActionNumber(a)), name) {
+            return Some(a);
+        }
+    }
+    None
+}
+
+// The number of the first action of a program instance with this name, if there is one.
+fn action_in(resource: &Resource, program: ProgId, name: &[u8]) -> Option<usize>
+    ensures { result ≡ names.point_called (core.plant_of resource.now) program Kind.Action name.now }
+{
+    let plant = resource.plant();
+    if program.0 as usize >= plant.instances().len() {
+        return None;
+    }
+    action_among(
+        &names_of(plant, program),
+        resource.program(program).tables(),
+        name,
+    )
+}
+
+// The number of a point of a program instance's chart, if there is one of the kind with this name.
+fn point_in(debugger: &Debugger, program: ProgId, kind: Option<Kind>, name: &[u8]) -> Option<usize>
+    ensures { result ≡ names.point_named (plant_of debugger.now) program kind name.now }
+{
+    let resource = debugger.resource();
+    match kind {
+        Some(Kind::Step) => step_in(resource.plant(), program, name),
+        Some(Kind::Transition) => transition_in(resource.plant(), program, name),
+        Some(Kind::Action) => action_in(resource, program, name),
+        _ => None,
+    }
+}
+
+/// The number of a variable: `NAME` of a global one, `INST.NAME` of one that the program instance declares for itself, or its location,
+/// as `%IX0.0`; -3 where there is none. -4 where memory was refused, which only a location asks for.
 #[unsafe(no_mangle)]
 pub extern "C" fn sfc_variable(alloc: Global, plc: &mut Handle, name: &[u8]) -> i32
     ensures number { (s : Steered) (h : CommandHistory) → Holds plc.old.value s h →
-        result ≡ number_of_variable (variable_named s.plant name.now) }
+        names.VariableFinds s.plant name.now result }
     ensures kept { plc.new.value ≡ plc.old.value }
-    ensures closed { plc.old.value ≡ None → result ≡ negsuc 0 }
+    ensures closed { plc.old.value ≡ None → result ≡ codes.closed }
 {
-    match plc.take(alloc) {
+    match plc.read(alloc, |debugger| variable_in(alloc, debugger, name)) {
         None => CLOSED,
-        Some(debugger) => {
-            let number = variable_number(debugger.resource().plant().find_variable(name));
-            plc.put(debugger, alloc);
-            number
-        }
+        Some(number) => number,
     }
 }
 
-/// The number of the variable with this name that the program instance declares for itself.
-#[unsafe(no_mangle)]
-pub extern "C" fn sfc_local(alloc: Global, plc: &mut Handle, program: u8, name: &[u8]) -> i32
-    ensures number { (s : Steered) (h : CommandHistory) → Holds plc.old.value s h →
-        result ≡ number_of_variable (local_in s.plant (record { 0 = program }) name.now) }
-    ensures kept { plc.new.value ≡ plc.old.value }
-    ensures closed { plc.old.value ≡ None → result ≡ negsuc 0 }
+// The task with this name, if there is one.
+fn task_in(debugger: &Debugger, name: &[u8]) -> Option<TaskId>
+    ensures { result ≡ task_named (plant_of debugger.now) name.now }
 {
-    match plc.take(alloc) {
-        None => CLOSED,
-        Some(debugger) => {
-            let number = variable_number(find_local(
-                debugger.resource().plant(),
-                ProgId(program),
-                name,
-            ));
-            plc.put(debugger, alloc);
-            number
-        }
-    }
+    debugger.resource().plant().find_task(name)
 }
 
-/// The number of the task with this name.
+/// The number of the task with this name; -3 where there is none.
 #[unsafe(no_mangle)]
 pub extern "C" fn sfc_task(alloc: Global, plc: &mut Handle, name: &[u8]) -> i32
     ensures number { (s : Steered) (h : CommandHistory) → Holds plc.old.value s h →
         result ≡ number_of_task (task_named s.plant name.now) }
     ensures kept { plc.new.value ≡ plc.old.value }
-    ensures closed { plc.old.value ≡ None → result ≡ negsuc 0 }
+    ensures closed { plc.old.value ≡ None → result ≡ codes.closed }
 {
-    match plc.take(alloc) {
+    match plc.read(alloc, |debugger| task_in(debugger, name)) {
         None => CLOSED,
-        Some(debugger) => {
-            let number = task_number(debugger.resource().plant().find_task(name));
-            plc.put(debugger, alloc);
-            number
-        }
+        Some(found) => task_number(found),
     }
 }
 
-/// The number of the program instance with this name.
+// The program instance with this name, if there is one.
+fn program_in(debugger: &Debugger, name: &[u8]) -> Option<ProgId>
+    ensures { result ≡ instance_named (plant_of debugger.now) name.now }
+{
+    debugger.resource().plant().find_instance(name)
+}
+
+/// The number of the program instance with this name; -3 where there is none.
 #[unsafe(no_mangle)]
 pub extern "C" fn sfc_program(alloc: Global, plc: &mut Handle, name: &[u8]) -> i32
     ensures number { (s : Steered) (h : CommandHistory) → Holds plc.old.value s h →
         result ≡ number_of_program (instance_named s.plant name.now) }
     ensures kept { plc.new.value ≡ plc.old.value }
-    ensures closed { plc.old.value ≡ None → result ≡ negsuc 0 }
+    ensures closed { plc.old.value ≡ None → result ≡ codes.closed }
 {
-    match plc.take(alloc) {
+    match plc.read(alloc, |debugger| program_in(debugger, name)) {
         None => CLOSED,
-        Some(debugger) => {
-            let number = program_number(debugger.resource().plant().find_instance(name));
-            plc.put(debugger, alloc);
-            number
-        }
+        Some(found) => program_number(found),
     }
 }
 
-/// The number of the step with this name in the chart of a program instance.
+/// The number of the step, the transition or the first action with this name in the chart of a program instance, by its kind; -3 where
+/// there is none.
 #[unsafe(no_mangle)]
-pub extern "C" fn sfc_step(alloc: Global, plc: &mut Handle, program: u8, name: &[u8]) -> i32
+pub extern "C" fn sfc_point(
+    alloc: Global,
+    plc: &mut Handle,
+    program: u8,
+    kind: u8,
+    name: &[u8],
+) -> i32
     ensures number { (s : Steered) (h : CommandHistory) → Holds plc.old.value s h →
-        result ≡ number_of_place (step_place (chart_of s.plant (record { 0 = program })) name.now) }
+        result ≡ number_of_place (names.point_named s.plant (record { 0 = program }) (names.kind_of kind) name.now) }
     ensures kept { plc.new.value ≡ plc.old.value }
-    ensures closed { plc.old.value ≡ None → result ≡ negsuc 0 }
+    ensures closed { plc.old.value ≡ None → result ≡ codes.closed }
 {
-    match plc.take(alloc) {
+    match plc.read(
+        alloc,
+        |debugger| point_in(debugger, ProgId(program), kind_of(kind), name),
+    ) {
         None => CLOSED,
-        Some(debugger) => {
-            let number = place_number(find_step(
-                debugger.resource().plant(),
-                ProgId(program),
-                name,
-            ));
-            plc.put(debugger, alloc);
-            number
-        }
-    }
-}
-
-/// The number of the transition with this name in the chart of a program instance.
-#[unsafe(no_mangle)]
-pub extern "C" fn sfc_transition(alloc: Global, plc: &mut Handle, program: u8, name: &[u8]) -> i32
-    ensures number { (s : Steered) (h : CommandHistory) → Holds plc.old.value s h →
-        result ≡ number_of_place (transition_place (chart_of s.plant (record { 0 = program })) name.now) }
-    ensures kept { plc.new.value ≡ plc.old.value }
-    ensures closed { plc.old.value ≡ None → result ≡ negsuc 0 }
-{
-    match plc.take(alloc) {
-        None => CLOSED,
-        Some(debugger) => {
-            let number = place_number(find_transition(
-                debugger.resource().plant(),
-                ProgId(program),
-                name,
-            ));
-            plc.put(debugger, alloc);
-            number
-        }
+        Some(found) => place_number(found),
     }
 }

@@ -32,6 +32,7 @@ impl Model for Handle {
 }
 
 impl Handle {
+    ghost use Rattle.std.specs.Fn.{FnOnceReturnsAt, FnOnceReturnsAtMut};
     ghost use Rattle.std.specs.Option.{MatchOption};
 
     fn closed() -> Handle
@@ -81,5 +82,31 @@ impl Handle {
         if let Some(old) = replace(self, Handle::of(Loose::of(debugger))).into_loose(alloc) {
             drop(old.into_box());
         }
+    }
+
+    /// What is read of the debugger, if there is one; it stays as it is.
+    pub fn read<R, F: FnOnce(&Debugger) -> R>(&mut self, alloc: Global, f: F) -> Option<R>
+        requires { F.IsAlwaysCallable f }
+        ensures kept { self.new.value ≡ self.old.value }
+        ensures read { MatchOption result (self.old.value ≡ None) (λ r.
+            (debugger : DebuggerData) × (self.old.value ≡ Some debugger) × FnOnceReturnsAt F.FnOnce f debugger r) }
+    {
+        let debugger = self.take(alloc)?;
+        let r = f(&debugger);
+        self.put(debugger, alloc);
+        Some(r)
+    }
+
+    /// What is done with the debugger, if there is one.
+    pub fn change<R, F: FnOnce(&mut Debugger) -> R>(&mut self, alloc: Global, f: F) -> Option<R>
+        requires { F.IsAlwaysCallable f }
+        ensures { MatchOption result ((self.old.value ≡ None) × (self.new.value ≡ None)) (λ r.
+            (old : DebuggerData) × (new : DebuggerData) × (self.old.value ≡ Some old) × (self.new.value ≡ Some new)
+            × FnOnceReturnsAtMut F.FnOnce f old r new) }
+    {
+        let mut debugger = self.take(alloc)?;
+        let r = f(&mut debugger);
+        self.put(debugger, alloc);
+        Some(r)
     }
 }

@@ -1,23 +1,39 @@
 //! The runtime as a C library; `include/sfc.h` has each function for C.
 //!
-//! - `life`: opening and closing.
-//! - `commands`: commands by number.
-//! - `finding`: numbers by names.
-//! - `reading`: what is read without a command; `showing`: steps, transitions and actions.
+//! - `life`: opening, closing and checking; `opening`, `fault`: texts to debuggers, and why a text is none.
+//! - `commands`: commands by number; `reply`, `point`: what C reads of answers and points.
+//! - `scripting`: lines of scripts, and the image as text; `asked`: what a line asks; `obeying`: what is done for it; `telling`: the lines
+//!   that are told; `same`: expressions that are the same.
+//! - `finding`: numbers by names; `locating`: variables by locations; `naming`: counts and names; `kind`, `charts`: what has a name.
+//! - `reading`: what is read without a command; `showing`: steps, transitions and actions; `image`: all variables; `tasks`: tasks.
+//! - `explaining`: what numbers mean.
 //! - `handle`: a debugger on the heap, as one word that C keeps; `loose`: a box as its pointer.
-//! - `opening`: texts to debuggers.
-//! - `reply`, `number`, `point`, `status`: what C reads of answers, values, points and calls.
+//! - `number`, `status`, `giving`: what C reads of values and calls, and texts for a caller's buffer.
 #![tactic(auto)]
 
+mod asked;
+mod charts;
 pub mod commands;
+pub mod explaining;
+pub mod fault;
 pub mod finding;
+mod giving;
 pub mod handle;
+pub mod image;
+mod kind;
 pub mod life;
+mod locating;
 mod loose;
+pub mod naming;
 mod number;
+mod obeying;
 mod opening;
 mod point;
 pub mod reading;
 pub mod reply;
+mod same;
+pub mod scripting;
 pub mod showing;
 mod status;
+pub mod tasks;
+mod telling;

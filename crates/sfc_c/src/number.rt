@@ -1,8 +1,11 @@
-//! Values as the numbers that C has for them.
+//! Values, and what is found, as the numbers that C has for them.
 
 ghost use Rattle.std.specs.Prelude.{◌≡◌};
 ghost use Rattle.sfc_c.specs.Codes as codes;
+ghost use Rattle.sfc_c.specs.Found.{number_of_place, number_of_program, number_of_task, number_of_variable};
 
+use crate::status::UNKNOWN;
+use sfc_base::ids::{ProgId, TaskId, VarId};
 use sfc_base::value::Value;
 use sfc_base::var_type::VarType;
 
@@ -56,5 +59,45 @@ pub fn value_of_number(var_type: Option<VarType>, n: i64) -> Option<Value>
             }
             Some(Value::Time(n))
         }
+    }
+}
+
+/// The number of a variable that was found; -3 for none.
+pub fn variable_number(found: Option<VarId>) -> i32
+    ensures { result ≡ number_of_variable found }
+{
+    match found {
+        Some(id) => i32::from(id.0),
+        None => UNKNOWN,
+    }
+}
+
+/// The number of a task that was found; -3 for none.
+pub fn task_number(found: Option<TaskId>) -> i32
+    ensures { result ≡ number_of_task found }
+{
+    match found {
+        Some(task) => i32::from(task.0),
+        None => UNKNOWN,
+    }
+}
+
+/// The number of a program instance that was found; -3 for none.
+pub fn program_number(found: Option<ProgId>) -> i32
+    ensures { result ≡ number_of_program found }
+{
+    match found {
+        Some(program) => i32::from(program.0),
+        None => UNKNOWN,
+    }
+}
+
+/// The number of a place that was found; -3 for none, and for one above 65,535.
+pub fn place_number(found: Option<usize>) -> i32
+    ensures { result ≡ number_of_place found }
+{
+    match found {
+        Some(place) if place < 65_536 => place as i32,
+        _ => UNKNOWN,
     }
 }

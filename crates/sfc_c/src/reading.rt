@@ -1,6 +1,6 @@
 //! What is read without a command: nothing changes, and no instant is wanted.
 
-ghost use Rattle.std.specs.Prelude.{◌≡◌, None, pos, negsuc};
+ghost use Rattle.std.specs.Prelude.{◌≡◌, None, pos};
 ghost use Rattle.sfc_debug.specs.Agreement.{Agrees};
 ghost use Rattle.sfc_debug.specs.Histories.{CommandHistory};
 ghost use Rattle.sfc_output.specs.Steered.{Steered, steered_by};
@@ -58,20 +58,14 @@ pub extern "C" fn sfc_value(alloc: Global, plc: &mut Handle, var: u16, into: &mu
     ensures value { (s : Steered) (h : CommandHistory) → Holds plc.old.value s h →
         readings.Gives (readings.told_value s h (record { 0 = var })) into.old into.new result }
     ensures kept { plc.new.value ≡ plc.old.value }
-    ensures closed { plc.old.value ≡ None → result ≡ negsuc 0 }
+    ensures closed { plc.old.value ≡ None → result ≡ codes.closed }
 {
-    match plc.take(alloc) {
+    match plc.read(alloc, |debugger| value_in(debugger, VarId(var))) {
         None => CLOSED,
-        Some(debugger) => {
-            let value = value_in(&debugger, VarId(var));
-            plc.put(debugger, alloc);
-            match value {
-                None => UNKNOWN,
-                Some(n) => {
-                    *into = n;
-                    0
-                }
-            }
+        Some(None) => UNKNOWN,
+        Some(Some(n)) => {
+            *into = n;
+            0
         }
     }
 }
@@ -93,15 +87,11 @@ pub extern "C" fn sfc_forced(alloc: Global, plc: &mut Handle, var: u16) -> i32
     ensures forced { (s : Steered) (h : CommandHistory) → Holds plc.old.value s h →
         result ≡ readings.told_forced s h (record { 0 = var }) }
     ensures kept { plc.new.value ≡ plc.old.value }
-    ensures closed { plc.old.value ≡ None → result ≡ negsuc 0 }
+    ensures closed { plc.old.value ≡ None → result ≡ codes.closed }
 {
-    match plc.take(alloc) {
+    match plc.read(alloc, |debugger| forced_in(debugger, VarId(var))) {
         None => CLOSED,
-        Some(debugger) => {
-            let forced = forced_in(&debugger, VarId(var));
-            plc.put(debugger, alloc);
-            forced
-        }
+        Some(forced) => forced,
     }
 }
 
@@ -133,13 +123,12 @@ pub extern "C" fn sfc_status(alloc: Global, plc: &mut Handle, into: &mut Status)
     ensures status { (s : Steered) (h : CommandHistory) → Holds plc.old.value s h →
         (result ≡ pos 0) × (into.new ≡ readings.status_of s h) }
     ensures kept { plc.new.value ≡ plc.old.value }
-    ensures closed { plc.old.value ≡ None → result ≡ negsuc 0 }
+    ensures closed { plc.old.value ≡ None → result ≡ codes.closed }
 {
-    match plc.take(alloc) {
+    match plc.read(alloc, |debugger| status_of(debugger)) {
         None => CLOSED,
-        Some(debugger) => {
-            *into = status_of(&debugger);
-            plc.put(debugger, alloc);
+        Some(status) => {
+            *into = status;
             0
         }
     }
@@ -185,20 +174,14 @@ pub extern "C" fn sfc_program_state(
     ensures state { (s : Steered) (h : CommandHistory) → Holds plc.old.value s h →
         readings.Gives (readings.program_state s h (record { 0 = program })) into.old into.new result }
     ensures kept { plc.new.value ≡ plc.old.value }
-    ensures closed { plc.old.value ≡ None → result ≡ negsuc 0 }
+    ensures closed { plc.old.value ≡ None → result ≡ codes.closed }
 {
-    match plc.take(alloc) {
+    match plc.read(alloc, |debugger| program_in(debugger, ProgId(program))) {
         None => CLOSED,
-        Some(debugger) => {
-            let state = program_in(&debugger, ProgId(program));
-            plc.put(debugger, alloc);
-            match state {
-                None => UNKNOWN,
-                Some(state) => {
-                    *into = state;
-                    0
-                }
-            }
+        Some(None) => UNKNOWN,
+        Some(Some(state)) => {
+            *into = state;
+            0
         }
     }
 }

@@ -1,6 +1,6 @@
 //! Steps, transitions and actions after the latest scan.
 
-ghost use Rattle.std.specs.Prelude.{◌≡◌, List, None, negsuc};
+ghost use Rattle.std.specs.Prelude.{◌≡◌, List, None};
 ghost use Rattle.sfc_image.specs.Changes.{Change};
 ghost use Rattle.sfc_instance.specs.Life.{InstanceState};
 ghost use Rattle.sfc_instance.specs.Views.{Shows, tables_in};
@@ -86,20 +86,15 @@ pub extern "C" fn sfc_point_state(
     ensures state { (s : Steered) (h : CommandHistory) → Holds plc.old.value s h →
         readings.Gives (readings.point_state s h (record { 0 = program }) (codes.point_of kind number)) into.old into.new result }
     ensures kept { plc.new.value ≡ plc.old.value }
-    ensures closed { plc.old.value ≡ None → result ≡ negsuc 0 }
+    ensures closed { plc.old.value ≡ None → result ≡ codes.closed }
 {
-    match plc.take(alloc) {
+    let point = point_of(kind, number);
+    match plc.read(alloc, |debugger| point_in(debugger, ProgId(program), point)) {
         None => CLOSED,
-        Some(debugger) => {
-            let state = point_in(&debugger, ProgId(program), point_of(kind, number));
-            plc.put(debugger, alloc);
-            match state {
-                None => UNKNOWN,
-                Some(state) => {
-                    *into = state;
-                    0
-                }
-            }
+        Some(None) => UNKNOWN,
+        Some(Some(state)) => {
+            *into = state;
+            0
         }
     }
 }

@@ -10,4 +10,10 @@ pub const NO_VALUE: i32 = -2;
 pub const UNKNOWN: i32 = -3;
 
 /// Memory was refused, and nothing was done.
-pub const MEMORY: u8 = 8;
+pub const NO_MEMORY: i32 = -4;
+
+/// It is no line of a script with one command at most.
+pub const NO_LINE: i32 = -5;
+
+/// The caller's array is too short, and nothing was done.
+pub const TOO_SHORT: i32 = -6;

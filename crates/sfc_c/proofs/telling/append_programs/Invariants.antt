@@ -1,0 +1,14 @@
+use Rattle.std.proofs.Common.{◌≡◌, ◌-◌, ◌++◌, length, ℕ}
+use Rattle.std.specs.List.{flat_map, range_with_len}
+use Rattle.sfc_events.specs.History.{History}
+use Rattle.sfc_core.specs.Agreement.{Agrees, plant_of}
+use Rattle.sfc_core.specs.PlantState.{state_of}
+use Rattle.sfc_output.specs.Commands.{scan_end_in, written_line}
+use Rattle.sfc_c.proofs.telling.append_programs.Given as goal
+
+abbrev pub invariant-loop-k : goal.invariant-loop-k
+invariant-loop-k l = (h : History) → Agrees l.resource h →
+    let plant = plant_of l.resource in
+    let n = length plant.instances in
+    let line = λ (k : ℕ). written_line plant (state_of plant h).instance_state k (scan_end_in l.answer k) in
+    l.initial.out.items ++ flat_map line (range_with_len 0 n) ≡ l.out.items ++ flat_map line (range_with_len l.k (n - l.k))
