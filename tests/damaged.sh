@@ -2,13 +2,14 @@
 # damaged.sh N SEED       N damaged charts and scripts, one for each seed from SEED on; `damaged.sh 1 17` is the one of seed 17
 # damaged.sh bytes        every prefix of a chart, and the chart with each of its bytes replaced in turn by each of five others
 # damaged.sh limits       a chart or a script at each limit, and one beyond it
+# damaged.sh why N SEED   asks `why` of N damaged charts and scripts, as with N and SEED alone
 # damaged.sh files FOLDER inputs of a folder, in which a line `====` parts chart and script, as a fuzzer leaves them (tests/fuzz)
 #
 # Each is checked and replayed by the built program. It has to answer within a second of processor time, with status 0 or 1, nothing on
 # standard error or exactly one stated text, and as the second reading of the rules (tests/reading) answers: the same refusal and line,
 # and where the script has at most 250 commands on a plant that isn't large, the same output. A chart without fault is listed, and the
 # listing lists and plays the same. What differs is kept in a folder `damaged` among the temporary files, and told with the command that
-# runs it again. Before the last line, how many inputs had which answer; the last line is 'N passed, M failed'.
+# runs it again. What `why` tells has to be what check and replay refuse the texts for, at a place that lies in them. Before the last line, how many inputs had which answer; the last line is 'N passed, M failed'.
 # SFCMON, where it is set, is the program that is run; else it is the proved one of this clone.
 set -u
 here=$(cd "$(dirname "${BASH_SOURCE[0]}")" && pwd)

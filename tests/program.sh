@@ -132,6 +132,55 @@ if [ -e /dev/full ]; then
   note $? "a fault text that can't be written"
 fi
 
+# ---- why
+
+for example in "$examples"/*.chart "$work/press.chart"; do
+  run why "$example"
+  ends 0 && [ "$(cat "$work/out")" = "no fault" ] && says ""
+  note $? "$(basename "$example"), asked why"
+done
+for example in "$examples"/*.chart; do
+  run why "$example" "${example%.chart}.script"
+  ends 0 && [ "$(cat "$work/out")" = "no fault" ] && says ""
+  note $? "$(basename "$example") and its script, asked why"
+done
+# tells TITLE FIRST WORD..: the first line is this one, standard error is empty, and the status is 1
+tells() { local title=$1 first=$2; shift 2; run why "$@"; ends 1 && says "" && [ "$(head -1 "$work/out")" = "$first" ]; note $? "$title"; }
+tells "why the reader refuses a chart" "$work/faulty.chart:2:1: 4 Syntax: 1" "$work/faulty.chart"
+tells "why the loader refuses a chart" "$work/dark.chart:2:9: 14 NoInitial: Mix" "$work/dark.chart"
+tells "why a script is refused" "$work/faulty.script:2:6: script line 2: JUMP" "$chart" "$work/faulty.script"
+tells "why a chart is refused, before its script" "$work/dark.chart:2:9: 14 NoInitial: Mix" "$work/dark.chart" "$work/faulty.script"
+# the report that docs/FORMATS.md shows
+sed 's/:= Stop;/:= Stpo AND Start;/' "$examples/pump.chart" >"$work/bad.chart"
+awk '/^## Why/ { seen = 1 } seen && /^```/ { if (++fence == 2) exit; next } fence == 1' "$top/docs/FORMATS.md" >"$work/shown"
+run why "$work/bad.chart"
+ends 1 && says "" && sed "s|^$work/||" "$work/out" | cmp -s - "$work/shown"
+note $? "the report that is shown"
+# the meaning and the usual cause are those of explain
+run explain 9
+grep -E '^  (meaning|usual cause): ' "$work/out" | cmp -s - <(grep -E '^  (meaning|usual cause): ' "$work/shown")
+note $? "the meaning and the cause are those of explain"
+run why --help
+ends 0 && mentions "Exit status:" out && mentions "docs/FORMATS.md" out && mentions "Examples:" out && says ""
+note $? "the help on why"
+run check --help
+mentions "sfcmon why" out
+note $? "the help on check names why"
+run explain --help
+mentions "sfcmon why" out
+note $? "the help on explain names why"
+usage "no file to ask why" "<FILE>" why
+usage "a third file to ask why" "unexpected argument" why "$chart" "$script" "$script"
+fails "a chart to ask why that isn't there" 3 "read fault" why "$work/no.chart"
+fails "a script to ask why that isn't there" 3 "read fault" why "$work/dark.chart" "$work/no.script"
+fails "a folder to ask why" 3 "read fault" why "$work"
+if [ -e /dev/full ]; then
+  "$program" why "$work/dark.chart" >/dev/full 2>"$work/err"
+  status=$?
+  ends 3 && says "write fault"
+  note $? "a report that can't be written"
+fi
+
 # ---- explain
 
 unknown() { fails "$1" 2 "error: no refusal or fault is called '$2'; 'sfcmon explain' lists all" explain "${@:3}"; }

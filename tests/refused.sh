@@ -16,12 +16,12 @@ work=$(mktemp -d)
 trap 'rm -rf "$work"' EXIT
 cc -O1 -shared -fPIC -o "$work/refuse.so" "$here/refuse.c" -ldl || exit 1
 data=$top/crates/conformance/data
-passed=0 failed=0
+passed=0 failed=0 ends=0
 
 # run SETTING..: the program with these settings on the words of the sweep; leaves out, err and status
 run() { env "$@" LD_PRELOAD="$work/refuse.so" "$program" "${words[@]}" >"$work/out" 2>"$work/err"; status=$?; }
 is_front() { cmp -s -n "$(stat -c %s "$work/out")" "$work/out" "$whole"; }
-is_whole() { [ "$status" = 0 ] && cmp -s "$work/out" "$whole" && [ ! -s "$work/err" ]; }
+is_whole() { [ "$status" = "$ends" ] && cmp -s "$work/out" "$whole" && [ ! -s "$work/err" ]; }
 says() { [ "$(cat "$work/err")" = "$1" ]; }
 note() { if [ "$1" = 0 ]; then passed=$((passed + 1)); else failed=$((failed + 1)); echo "not as it should be: ${words[0]}, $2 (status $status)"; fi; }
 
@@ -76,6 +76,26 @@ echo ok >"$work/ok"
 sweep "$work/ok" check "$data/listed_mix.chart"
 awk '/^## Refusals/ { seen = 1 } seen && /^```/ { if (++fence == 2) exit; next } fence == 1' "$top/docs/FORMATS.md" >"$work/shown"
 sweep "$work/shown" explain 14
+
+# What is told where there is no fault; of a chart that can't be read, of one that can't be loaded, and of a script, each with status 1.
+echo 'no fault' >"$work/none"
+sweep "$work/none" why "$top/examples/lamp.chart" "$top/examples/lamp.script"
+ends=1
+# told WORD..: the sweep of `why` on these files
+told() { "$program" why "$@" >"$work/told"; sweep "$work/told" why "$@"; }
+sed 's/Lamp(N);/Lamp(N)/' "$top/examples/lamp.chart" >"$work/cut.chart"
+told "$work/cut.chart"
+printf 'PROGRAM Mix\n  VAR a__b : INT; END_VAR\n' >"$work/token.chart"
+told "$work/token.chart"
+sed 's/Lamp(N)/Lmap(N)/' "$top/examples/lamp.chart" >"$work/name.chart"
+told "$work/name.chart"
+sed 's/INITIAL_STEP/STEP/' "$top/examples/lamp.chart" >"$work/dark.chart"
+told "$work/dark.chart"
+printf 'T#0s BREAK P STEP S WHEN Lmap\n' >"$work/name.script"
+told "$top/examples/lamp.chart" "$work/name.script"
+printf 'T#0s JUMP\n' >"$work/jump.script"
+told "$top/examples/lamp.chart" "$work/jump.script"
+ends=0
 
 # A run whose task is never due, with a session: each allocation that is refused is told as want of memory, or the run is undisturbed.
 sed 's/TASK Main(.*PRIORITY := 1)/TASK Main(SINGLE := Go, PRIORITY := 1)/; s/VAR_GLOBAL/VAR_GLOBAL Go AT %IX0.7 : BOOL;/' \

@@ -12,6 +12,7 @@ import corpus
 import damages
 import limits
 from trial import Trial
+from why import WhyTrial
 
 MARK = b"\n====\n"
 BYTES = [0x00, ord("("), ord("{"), ord("#"), 0xFF]
@@ -46,6 +47,8 @@ def file_inputs(folder: str):
 
 def inputs(given):
     """The inputs that the words of the command line ask for."""
+    if given.what == "why":
+        return random_inputs(int(given.more or 1), int(given.seed or 1))
     if given.what == "bytes":
         return byte_inputs()
     if given.what == "limits":
@@ -55,31 +58,33 @@ def inputs(given):
     return random_inputs(int(given.what), int(given.more or 1))
 
 
-def keep(folder: Path, title: str, chart: bytes, script: bytes, why: str, program: str):
+def keep(folder: Path, title: str, chart: bytes, script: bytes, why: str, program: str, command: str):
     """Keeps an input, and tells what is wrong and how it is run again."""
     folder.mkdir(parents=True, exist_ok=True)
     files = [folder / f"{title}.chart", folder / f"{title}.script"]
     files[0].write_bytes(chart)
     files[1].write_bytes(script)
-    print(f"not as it should be: {title}: {why}\n  again: {program} replay {files[0]} {files[1]}", flush=True)
+    print(f"not as it should be: {title}: {why}\n  again: {program} {command} {files[0]} {files[1]}", flush=True)
 
 
 def main() -> int:
     """Tries all inputs; gives the exit status."""
     parser = argparse.ArgumentParser(prog="damaged.sh")
     parser.add_argument("program")
-    parser.add_argument("what", help="how many, or bytes, limits or files")
-    parser.add_argument("more", nargs="?", help="the first seed, or the folder of files")
+    parser.add_argument("what", help="how many, or bytes, limits, files or why")
+    parser.add_argument("more", nargs="?", help="the first seed, or the folder of files; behind why how many")
+    parser.add_argument("seed", nargs="?", help="behind why the first seed")
     given = parser.parse_args()
     kept, answers, failed = Path(tempfile.gettempdir()) / "damaged", Counter(), 0
     with tempfile.TemporaryDirectory(prefix="damaged-") as work:
-        trial = Trial(given.program, Path(work))
+        asks_why = given.what == "why"
+        trial = (WhyTrial if asks_why else Trial)(given.program, Path(work))
         for title, chart, script in inputs(given):
             why, answer = trial.fault(chart, script)
             answers[answer] += 1
             failed += bool(why)
             if why:
-                keep(kept, title, chart, script, why, given.program)
+                keep(kept, title, chart, script, why, given.program, "why" if asks_why else "replay")
     for answer, count in sorted(answers.items()):
         print(f"{count} {answer}")
     print(f"{answers.total() - failed} passed, {failed} failed")

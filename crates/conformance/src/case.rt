@@ -5,6 +5,11 @@ use crate::frame::Frame;
 use anyhow::{Result, bail};
 use sfc_monitor::check::{check_chart, list_chart};
 use sfc_monitor::replay::replay;
+use sfc_plant::plant::Plant;
+use sfc_why::chart::{Told, explain_chart};
+use sfc_why::page::{explanation_of, put_report};
+use sfc_why::report::Report;
+use sfc_why::script::explain_script;
 use std::alloc::{AllocError, Global};
 
 /// A command of `sfcmon`.
@@ -16,6 +21,8 @@ enum Command {
     List,
     /// A script is played on a chart.
     Replay,
+    /// The first fault of a chart, or else of a script, is told.
+    Why,
 }
 
 /// What is run, and how it is to end. The chart is the whole of `chart`, or where there is none that of `frame`.
@@ -54,6 +61,24 @@ fn add_to(alloc: Global, text: &mut Option<Vec<u8>>, bytes: &[u8]) -> Result<(),
     Ok(())
 }
 
+// Adds a report of a fault of this file to the output.
+fn tell(ending: &mut Ending, file: &[u8], report: &Report) -> Result<(), AllocError> {
+    ending.status = 1;
+    let explanation = explanation_of(report.refusal);
+    match put_report(file, report, explanation, &mut ending.output) {
+        Ok(()) => Ok(()),
+        Err(_) => Err(AllocError),
+    }
+}
+
+// Adds a report of a script's fault to the output, if it has one.
+fn tell_script(ending: &mut Ending, report: &Option<Report>) -> Result<(), AllocError> {
+    match report {
+        Some(report) => tell(ending, b"script", report),
+        None => ending.output.extend_from_slice(b"no fault\n"),
+    }
+}
+
 impl Case {
     /// A case with this title, of which nothing else is said: a replay of an empty frame and an empty script that is to
     /// write nothing and to leave status 0.
@@ -82,6 +107,7 @@ impl Case {
             "check" => self.command = Command::Check,
             "list" => self.command = Command::List,
             "replay" => self.command = Command::Replay,
+            "why" => self.command = Command::Why,
             _ => bail!("there is no command {name}"),
         }
         Ok(())
@@ -145,12 +171,35 @@ impl Case {
         Ok(ending)
     }
 
+    // Tells the first fault of the script on the plant that the chart is.
+    fn explain_script(
+        &self,
+        alloc: Global,
+        chart: &[u8],
+        plant: Plant,
+        ending: &mut Ending,
+    ) -> Result<(), AllocError> {
+        let report = explain_script(alloc, chart, plant, &self.script)?;
+        tell_script(ending, &report)
+    }
+
+    // Tells the first fault of the chart, or else of the script.
+    fn explained(&self, alloc: Global, chart: &[u8]) -> Result<Ending, AllocError> {
+        let mut ending = Ending::new(alloc);
+        match explain_chart(alloc, chart)? {
+            Told::Fault(report) => tell(&mut ending, b"chart", &report)?,
+            Told::NoFault(plant) => self.explain_script(alloc, chart, plant, &mut ending)?,
+        }
+        Ok(ending)
+    }
+
     // Runs the command on a chart. A listing that doesn't list the same again is told as a fault.
     fn ending_on(&self, alloc: Global, chart: &[u8]) -> Result<Ending, AllocError> {
         let mut ending = match self.command {
             Command::Check => self.checked(alloc, chart)?,
             Command::List => self.listed(alloc, chart)?,
             Command::Replay => self.replayed(alloc, chart)?,
+            Command::Why => self.explained(alloc, chart)?,
         };
         if !self.lists_alike(alloc, chart)? {
             ending

@@ -20,6 +20,15 @@ pub struct Playing {
     pub strict: bool,
 }
 
+/// A chart, and maybe a script, whose first fault is to be told.
+#[derive(Drop)]
+pub struct Asking {
+    /// The name of the chart's file.
+    pub chart: String,
+    /// The name of the script's file, if there is one.
+    pub script: Option<String>,
+}
+
 /// A chart to be run in real time.
 #[derive(Drop)]
 pub struct Running {
@@ -58,6 +67,8 @@ pub enum Request {
     Check { chart: String },
     /// A chart to be listed, by the name of its file.
     List { chart: String },
+    /// Where the first fault of a chart is, or of a script, and what was meant.
+    Why(Asking),
     /// A script to be played on a chart.
     Replay(Playing),
     /// A chart to be run in real time, with a session on standard input.
@@ -132,7 +143,8 @@ docs/FORMATS.md says what each line is.";
 // What stands at the end of the help on the program.
 const NOTES: &str = "\
 'sfcmon COMMAND --help' tells the exit statuses, an example, and where the formats are described.
-'sfcmon explain' lists all refusals and faults, and 'sfcmon explain 14' tells what the one with this number means.";
+'sfcmon why FILE' tells where the first fault of a chart is. 'sfcmon explain' lists all refusals and faults, and 'sfcmon explain 14' tells
+what the one with this number means.";
 
 // What stands at the end of the help on `check`.
 const CHECK_NOTES: &str = "\
@@ -146,8 +158,26 @@ Exit status:
 Example:
   sfcmon check examples/lamp.chart
 
-'sfcmon explain NUMBER' tells what a fault means.
+'sfcmon why FILE' tells where a fault is and what may be meant, 'sfcmon explain NUMBER' what it means.
 docs/LANGUAGE.md describes the text of charts and what is checked, docs/FORMATS.md the faults.";
+
+// What stands at the end of the help on `why`.
+const WHY_NOTES: &str = "\
+The first line is FILE:LINE:COLUMN: NUMBER NAME: WORD, as editors and CI jobs read it. Below it stand the line with a mark, the element, what
+could stand there or may be meant, what the refusal means, and what usually leads to it. Without a fault it is 'no fault'.
+
+Exit status:
+  0  the chart has no fault, nor has the script
+  1  the chart or the script is refused: its first fault is told
+  2  the words of the command line are wrong
+  3  a file can't be read, or the output can't be written
+  4  memory was refused
+
+Examples:
+  sfcmon why examples/lamp.chart
+  sfcmon why examples/lamp.chart examples/lamp.script
+
+docs/FORMATS.md says what each line is, docs/LANGUAGE.md describes the text of charts. 'editors' has files for VS Code and Vim.";
 
 // What stands at the end of the help on `list`.
 const LIST_NOTES: &str = "\
@@ -213,6 +243,7 @@ Examples:
   sfcmon explain NoInitial
   sfcmon explain out of memory
 
+'sfcmon why FILE' tells where the fault of a chart is, and what may be meant.
 docs/FORMATS.md has them all in one table.";
 
 // The argument that names the file of a chart.
@@ -344,6 +375,17 @@ fn with_command<'a>(
     command.subcommand(more?)
 }
 
+fn why_command<'a>(alloc: Global) -> Result<Command<'a>, AllocError> {
+    let script = Arg::new(alloc, "SCRIPT").help("The script, where its first fault is asked for");
+    Command::new(alloc, "why")
+        .about(
+            "Tells where the first fault of a chart, or else of a script, is, and what may be meant",
+        )
+        .after_help(WHY_NOTES)
+        .arg(chart_argument(alloc))?
+        .arg(script)
+}
+
 // The program without its commands.
 fn bare_command<'a>(alloc: Global) -> Result<Command<'a>, AllocError> {
     let command = Command::new(alloc, "sfcmon").bin_name("sfcmon")?;
@@ -362,7 +404,8 @@ fn bare_command<'a>(alloc: Global) -> Result<Command<'a>, AllocError> {
 // With the commands that take a chart alone.
 fn with_chart_commands<'a>(alloc: Global, command: Command<'a>) -> Result<Command<'a>, AllocError> {
     let command = with_command(command, check_command(alloc))?;
-    with_command(command, list_command(alloc))
+    let command = with_command(command, list_command(alloc))?;
+    with_command(command, why_command(alloc))
 }
 
 // With the commands whose output other tools show.
@@ -444,6 +487,19 @@ fn replay_request(alloc: Global, matches: &ArgMatches) -> Result<Request, AllocE
     }
 }
 
+// A chart whose fault is asked for, where one is named.
+fn why_request(alloc: Global, matches: &ArgMatches) -> Result<Request, AllocError> {
+    let Some(chart) = matches.get_str("FILE") else {
+        return Ok(Request::Answered(2));
+    };
+    let chart = String::from_str(alloc, chart)?;
+    let script = match matches.get_str("SCRIPT") {
+        Some(script) => Some(String::from_str(alloc, script)?),
+        None => None,
+    };
+    Ok(Request::Why(Asking { chart, script }))
+}
+
 // A chart to be run, where one is named.
 fn run_request(alloc: Global, matches: &ArgMatches) -> Result<Request, AllocError> {
     match (matches.get_str("FILE"), matches.get_one::<u8>("trace")) {
@@ -515,6 +571,9 @@ fn request_of(alloc: Global, matches: &ArgMatches) -> Result<Request, AllocError
     }
     if let Some(list) = matches.subcommand_matches("list") {
         return list_request(alloc, list);
+    }
+    if let Some(why) = matches.subcommand_matches("why") {
+        return why_request(alloc, why);
     }
     if let Some(replay) = matches.subcommand_matches("replay") {
         return replay_request(alloc, replay);

@@ -5,14 +5,16 @@
 //! - `explain`: what refusals and faults mean.
 //! - `files`: charts and scripts in files, standard output and exit status.
 //! - `pictures`: charts and runs as pictures.
+//! - `why`: where the first fault of a chart or a script is.
 #![tactic(auto)]
 
 mod arguments;
 mod explain;
 mod files;
 mod pictures;
+mod why;
 
-use arguments::{Playing, Request, read_words, refuse_words};
+use arguments::{Asking, Playing, Request, read_words, refuse_words};
 use files::Streams;
 use sfc_monitor::monitor_error::MonitorError;
 use std::process::ExitCode;
@@ -38,6 +40,15 @@ fn replay<R: Print + Eprint + Files + AllocGlobal>(rt: &R, playing: &Playing) ->
     )
 }
 
+// Tells where the first fault is: the exit status.
+fn explain_fault<R: Print + Eprint + Files + AllocGlobal>(rt: &R, asking: &Asking) -> u8 {
+    let chart = asking.chart.as_str();
+    match &asking.script {
+        Some(script) => why::why_files(rt, chart, script.as_str()),
+        None => why::why_file(rt, chart),
+    }
+}
+
 // Does what is asked for: the exit status.
 fn serve<R>(rt: &R, streams: Streams, request: &Request) -> u8
 where
@@ -46,6 +57,7 @@ where
     match request {
         Request::Check { chart } => files::check_file(rt, chart.as_str()),
         Request::List { chart } => files::list_file(rt, chart.as_str()),
+        Request::Why(asking) => explain_fault(rt, asking),
         Request::Replay(playing) => replay(rt, playing),
         Request::Run(running) => files::run_file(rt, streams, running.chart.as_str(), running.mask),
         Request::Draw(drawing) => pictures::draw_file(rt, drawing),

@@ -1,0 +1,195 @@
+//! What is told of a fault beside its place: near names, the first one of a name, types, numbers.
+
+use crate::candidates::candidates;
+use crate::describe::{add_declared, add_element, add_part};
+use crate::near::nearest;
+use crate::writing::{add_joint, add_line, add_number};
+use sfc_base::location::Size;
+use sfc_base::var_type::VarType;
+use sfc_places::chart_text::ChartText;
+use sfc_places::declared::Declared;
+use sfc_places::finding::{Detail, Element, Finding, Part, Sort, Types};
+use sfc_places::marks::{line_at, spelling_at};
+use sfc_tokens::token::Token;
+use std::alloc::{AllocError, Global};
+
+/// Adds a line with what a fault is in. The one error is that memory was refused.
+pub fn add_in(
+    told: &mut Vec<u8>,
+    tokens: &[Token],
+    element: Element,
+    part: Part,
+) -> Result<(), AllocError> {
+    told.extend_from_slice(b"  in: ")?;
+    add_element(told, tokens, element)?;
+    add_part(told, part)?;
+    told.extend_from_slice(b"\n")
+}
+
+// Adds a line with the declared names that are near to one that isn't found, if there are any.
+fn add_near(
+    alloc: Global,
+    told: &mut Vec<u8>,
+    tokens: &[Token],
+    wanted: &[u8],
+    sort: Sort,
+) -> Result<(), AllocError> {
+    let names = candidates(alloc, tokens, sort)?;
+    let found = nearest(alloc, tokens, wanted, &names)?;
+    if found.is_empty() {
+        return Ok(());
+    }
+    told.extend_from_slice(b"  declared nearby: ")?;
+    let mut place = 0usize;
+    for near in found.as_slice() {
+        add_joint(told, place, 0)?;
+        add_declared(
+            told,
+            tokens,
+            near.declared,
+            line_at(tokens, near.declared.token),
+        )?;
+        place = place.saturating_add(1);
+    }
+    told.extend_from_slice(b"\n")
+}
+
+// Adds a line with the first one of a name.
+fn add_first(told: &mut Vec<u8>, tokens: &[Token], first: Declared) -> Result<(), AllocError> {
+    told.extend_from_slice(b"  first: ")?;
+    add_declared(told, tokens, first, line_at(tokens, first.token))?;
+    told.extend_from_slice(b"\n")
+}
+
+// Adds a line with the first one in a list of steps.
+fn add_first_in_list(told: &mut Vec<u8>, tokens: &[Token], first: usize) -> Result<(), AllocError> {
+    told.extend_from_slice(b"  first: ")?;
+    told.extend_from_slice(spelling_at(tokens, first))?;
+    told.extend_from_slice(b" (line ")?;
+    add_number(told, u64::from(line_at(tokens, first)))?;
+    add_line(told, b")")
+}
+
+// The reserved word of a type.
+fn type_text(var_type: VarType) -> &'static [u8] {
+    match var_type {
+        VarType::Bool => b"BOOL",
+        VarType::Int => b"INT",
+        VarType::Dint => b"DINT",
+        VarType::Time => b"TIME",
+    }
+}
+
+// Types in words.
+fn types_text(types: Types) -> &'static [u8] {
+    match types {
+        Types::One(var_type) => type_text(var_type),
+        Types::Integers => b"INT or DINT",
+        Types::Numbers => b"INT, DINT or TIME",
+        Types::Untyped => b"an integer without a type",
+    }
+}
+
+// Adds a line of what is wanted, and one of what is there.
+fn add_wanted(told: &mut Vec<u8>, wanted: &[u8], found: &[u8]) -> Result<(), AllocError> {
+    told.extend_from_slice(b"  wanted: ")?;
+    add_line(told, wanted)?;
+    told.extend_from_slice(b"  found: ")?;
+    add_line(told, found)
+}
+
+// The letter of a size.
+fn size_text(size: Size) -> &'static [u8] {
+    match size {
+        Size::Bit => b"size X",
+        Size::Byte => b"size B",
+        Size::Word => b"size W",
+        Size::DoubleWord => b"size D",
+        Size::LongWord => b"size L",
+    }
+}
+
+// The locations that a variable of the type may have.
+fn location_text(var_type: VarType) -> &'static [u8] {
+    match var_type {
+        VarType::Bool => b"a location of size X, for BOOL",
+        VarType::Int => b"a location of size W, for INT",
+        VarType::Dint => b"a location of size D, for DINT",
+        VarType::Time => b"no location, for TIME",
+    }
+}
+
+// The numbers of a type.
+fn range_text(var_type: VarType) -> &'static [u8] {
+    match var_type {
+        VarType::Bool => b"BOOL, 0 or 1",
+        VarType::Int => b"INT, from -32768 to 32767",
+        VarType::Dint => b"DINT, from -2147483648 to 2147483647",
+        VarType::Time => b"TIME",
+    }
+}
+
+// Adds a line of the numbers of a type, and one of the number that is there.
+fn add_range(told: &mut Vec<u8>, wanted: VarType, found: i64) -> Result<(), AllocError> {
+    told.extend_from_slice(b"  wanted: ")?;
+    add_line(told, range_text(wanted))?;
+    told.extend_from_slice(b"  found: ")?;
+    if found < 0 {
+        told.extend_from_slice(b"-")?;
+    }
+    add_number(told, found.unsigned_abs())?;
+    told.extend_from_slice(b"\n")
+}
+
+// Adds a line of how many there are, and one of how many there may be.
+fn add_count(told: &mut Vec<u8>, found: usize, most: usize) -> Result<(), AllocError> {
+    told.extend_from_slice(b"  there are: ")?;
+    add_number(told, found as u64)?;
+    told.extend_from_slice(b"\n  there may be: ")?;
+    add_number(told, most as u64)?;
+    told.extend_from_slice(b"\n")
+}
+
+/// Adds lines with the details of a fault at a word; the tokens are those of the chart. The one error is that memory was refused.
+pub fn add_detail(
+    alloc: Global,
+    told: &mut Vec<u8>,
+    tokens: &[Token],
+    word: &[u8],
+    detail: Detail,
+) -> Result<(), AllocError> {
+    match detail {
+        Detail::Nothing => Ok(()),
+        Detail::Missing(sort) => add_near(alloc, told, tokens, word, sort),
+        Detail::MissingPart => add_line(told, b"  expected: X, T or Q"),
+        Detail::OutsideAction => add_line(told, b"  wanted: the action in whose body it stands"),
+        Detail::NoWith => add_line(told, b"  expected: WITH and the name of a task"),
+        Detail::First(first) => add_first(told, tokens, first),
+        Detail::FirstInList(first) => add_first_in_list(told, tokens, first),
+        Detail::Types { wanted, found } => {
+            add_wanted(told, types_text(wanted), types_text(found))
+        }
+        Detail::Sizes { var_type, found } => {
+            add_wanted(told, location_text(var_type), size_text(found))
+        }
+        Detail::Range { wanted, found } => add_range(told, wanted, found),
+        Detail::NegativeInterval => add_wanted(told, b"T#0s or more", word),
+        Detail::Count { found, most } => add_count(told, found, most),
+    }
+}
+
+/// Adds lines with all that is told of a fault that loading finds: what it is in, and its details. The one error is that
+/// memory was refused.
+pub fn add_finding(
+    alloc: Global,
+    told: &mut Vec<u8>,
+    chart: &ChartText<'_>,
+    finding: Finding,
+) -> Result<(), AllocError> {
+    add_in(told, chart.tokens, finding.element, finding.part)?;
+    let word = match chart.spans.get(finding.token) {
+        Some(span) => chart.text.get(span.from..span.to).unwrap_or(b""),
+        None => b"",
+    };
+    add_detail(alloc, told, chart.tokens, word, finding.detail)
+}

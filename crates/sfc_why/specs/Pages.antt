@@ -1,0 +1,94 @@
+-- A report as text (our choice).
+use Rattle.std.specs.Prelude.{◌≡◌, ℕ, List, [], ◌++◌, Option, Some, None, true, codes}
+use Rattle.std.specs.Fmt.{decimal}
+use Rattle.sfc_explain.specs.declared.explanation.Explanation.{Explanation}
+use Rattle.sfc_explain.specs.Finding.{is_numbered, is_named}
+use Rattle.sfc_tokens.specs.ReadErrors as reading
+use Rattle.sfc_variables.specs.declared.load_error.Limit.{Limit as LimitKind}
+use Rattle.sfc_variables.specs.declared.load_error.LoadError.{LoadError}
+use Rattle.sfc_variables.specs.declared.load_error.LoadError.TheVariants.{Limit}
+use Rattle.sfc_variables.specs.LoadErrors as loading
+use Rattle.sfc_why.specs.declared.page.Piece.{Piece}
+use Rattle.sfc_why.specs.declared.page.Piece.TheVariants.{Blank, Colon, Behind, LineEnd, ScriptLine, Meaning, Cause}
+use Rattle.sfc_why.specs.declared.position.Position.{Position}
+use Rattle.sfc_why.specs.declared.report.Refusal.{Refusal}
+use Rattle.sfc_why.specs.declared.report.Refusal.TheVariants.{Reading, Loading, Script}
+use Rattle.sfc_why.specs.declared.report.Report.{Report}
+
+-- what stands between parts
+unfoldable pub piece_text : Piece → List ℕ
+piece_text Blank = codes " "
+piece_text Colon = codes ":"
+piece_text Behind = codes ": "
+piece_text LineEnd = codes "\n"
+piece_text ScriptLine = codes "script line "
+piece_text Meaning = codes "  meaning: "
+piece_text Cause = codes "  usual cause: "
+
+-- a number and a name
+unfoldable pub numbered : ℕ → List ℕ → List ℕ
+numbered n name = decimal n ++ (piece_text Blank ++ name)
+
+-- which limit it is
+unfoldable pub which : LimitKind → List ℕ
+which limit = piece_text Blank ++ loading.name_of_limit limit
+
+abbrev pub limit_text : LoadError → List ℕ
+limit_text (Limit limit) = which limit
+limit_text _ = []
+
+-- the line of a script
+unfoldable pub script_text : ℕ → List ℕ
+script_text line = piece_text ScriptLine ++ decimal line
+
+-- a number and a name by which the loader refuses
+unfoldable pub loading_text : LoadError → List ℕ
+loading_text error = numbered (loading.number_of error) (loading.name_of error) ++ limit_text error
+
+-- what is refused: by number and name, a script by its line
+abbrev pub refusal_text : Refusal → List ℕ
+refusal_text (Reading kind) = numbered (reading.number_of kind) (reading.name_of kind)
+refusal_text (Loading error) = loading_text error
+refusal_text (Script line) = script_text line
+
+-- a colon and a number; a line and a column
+unfoldable pub counted : ℕ → List ℕ
+counted n = piece_text Colon ++ decimal n
+
+unfoldable pub position_text : Position → List ℕ
+position_text position = counted position.line ++ counted position.column
+
+-- what is refused, and the word, behind a place
+unfoldable pub refused : Refusal → List ℕ
+refused refusal = piece_text Behind ++ refusal_text refusal
+
+unfoldable pub word_text : List ℕ → List ℕ
+word_text word = piece_text Behind ++ (word ++ piece_text LineEnd)
+
+unfoldable pub told_text : Report → List ℕ
+told_text report = refused report.refusal ++ word_text report.word.items
+
+-- the first line
+unfoldable pub heading : List ℕ → Report → List ℕ
+heading file report = file ++ (position_text report.position ++ told_text report)
+
+-- what the refusal means, and what usually leads to it
+unfoldable pub meaning_text : Explanation → List ℕ
+meaning_text explanation = piece_text Meaning ++ (explanation.meaning.now ++ piece_text LineEnd)
+
+unfoldable pub cause_text : Explanation → List ℕ
+cause_text explanation = piece_text Cause ++ (explanation.cause.now ++ piece_text LineEnd)
+
+abbrev pub sense : Option Explanation → List ℕ
+sense None = []
+sense (Some explanation) = meaning_text explanation ++ cause_text explanation
+
+-- a report, whole
+abbrev pub page : List ℕ → Report → Option Explanation → List ℕ
+page file report explanation = heading file report ++ (report.lines.items ++ sense explanation)
+
+-- the explanation is that of the refusal: by its number, of a script by its name
+abbrev pub IsExplainedBy : Refusal → Explanation → Type 0
+IsExplainedBy (Reading kind) explanation = is_numbered (reading.number_of kind) explanation ≡ true
+IsExplainedBy (Loading error) explanation = is_numbered (loading.number_of error) explanation ≡ true
+IsExplainedBy (Script line) explanation = is_named (codes "script line") explanation ≡ true

@@ -1,0 +1,160 @@
+//! Why a chart is refused.
+
+ghost use Rattle.std.specs.Prelude.{◌≡◌, ◌≢◌, IfOk, Ok, Err};
+ghost use Rattle.sfc_text.specs.Reads.{TextReads};
+ghost use Rattle.sfc_tokens.specs.Texts.{TextLexes};
+ghost use Rattle.sfc_tokens.specs.Tokens.{kinds};
+ghost use Rattle.sfc_why.specs.Places.{IsPlaceOf};
+ghost use Rattle.sfc_why.specs.Telling.{Explains, IsReportFor};
+ghost use Rattle.sfc_tokens.specs.declared.read_error.ReadErrorKind.TheVariants.{TooLong, Memory};
+ghost use Rattle.sfc_variables.specs.declared.load_error.LoadError.TheVariants as load;
+ghost use Rattle.sfc_why.specs.declared.report.Refusal.TheVariants.{Reading, Loading};
+
+use crate::place::{Place, token_place};
+use crate::reading::reading_fault;
+use crate::report::{Refusal, Report, report_at};
+use sfc_hints::notes::add_finding;
+use sfc_hints::trial::Goal;
+use sfc_load::load::load;
+use sfc_places::chart_text::ChartText;
+use sfc_places::finding::Finding;
+use sfc_places::span::find_spans;
+use sfc_places::walk::first_fault;
+use sfc_plant::plant::Plant;
+use sfc_text::read::read;
+use sfc_tokens::lex::tokens;
+use sfc_tokens::read_error::{ReadError, ReadErrorKind};
+use sfc_variables::load_error::LoadError;
+use std::alloc::{AllocError, Global};
+
+/// What is told of a chart.
+#[derive(Drop)]
+pub enum Told {
+    /// It has no fault: the plant that it is.
+    NoFault(Plant),
+    /// Its first fault.
+    Fault(Report),
+}
+
+// A fault of a text that is too long.
+fn too_long(alloc: Global, text: &[u8]) -> Result<Report, AllocError>
+    ensures { IfOk result (IsReportFor text.now (Reading TooLong)) }
+{
+    let refusal = Refusal::Reading(ReadErrorKind::TooLong);
+    let lines = b"  there may be: 1048576 bytes\n";
+    report_at(alloc, text, refusal, Place::Whole, lines)
+}
+
+// A fault of a text that the reader refuses for another reason.
+fn refused_by_reader(alloc: Global, text: &[u8], error: ReadError) -> Result<Report, AllocError>
+    ensures { IfOk result (IsReportFor text.now (Reading error.kind)) }
+{
+    let spans = find_spans(alloc, text)?;
+    let fault = reading_fault(alloc, Goal::Chart, text, &spans, error)?;
+    let refusal = Refusal::Reading(error.kind);
+    report_at(alloc, text, refusal, fault.place, &fault.lines)
+}
+
+// A fault of a text that the reader refuses.
+fn refused_reading(alloc: Global, text: &[u8], error: ReadError) -> Result<Report, AllocError>
+    ensures report { IfOk result (IsReportFor text.now (Reading error.kind)) }
+    ensures memory { IfOk result (λ report. error.kind ≢ Memory) }
+{
+    match error.kind {
+        ReadErrorKind::Memory => Err(AllocError),
+        ReadErrorKind::TooLong => too_long(alloc, text),
+        _ => refused_by_reader(alloc, text, error),
+    }
+}
+
+// The place of what the walk has found, and what is told of it.
+fn found_at(
+    alloc: Global,
+    chart: &ChartText<'_>,
+    finding: Finding,
+    lines: &mut Vec<u8>,
+) -> Result<Place, AllocError>
+    requires { TextLexes chart.now.text.now (Ok (kinds chart.now.tokens.now)) }
+    ensures { IfOk result (IsPlaceOf chart.now.text.now) }
+{
+    let Some(span) = chart.spans.get(finding.token) else {
+        return Ok(Place::Whole);
+    };
+    add_finding(alloc, lines, chart, finding)?;
+    token_place(alloc, chart.text, chart.tokens, finding.token, *span)
+}
+
+// The place of a fault that loading finds, and what is told of it: that of the walk, where it has found the same one.
+fn loading_fault(
+    alloc: Global,
+    chart: &ChartText<'_>,
+    error: LoadError,
+    lines: &mut Vec<u8>,
+) -> Result<Place, AllocError>
+    requires { TextLexes chart.now.text.now (Ok (kinds chart.now.tokens.now)) }
+    ensures { IfOk result (IsPlaceOf chart.now.text.now) }
+{
+    match first_fault(alloc, chart)? {
+        Some(finding) if finding.error == error => found_at(alloc, chart, finding, lines),
+        _ => Ok(Place::Whole),
+    }
+}
+
+// The place of a fault of a text that loading refuses, and what is told of it.
+fn loading_place(
+    alloc: Global,
+    text: &[u8],
+    error: LoadError,
+    lines: &mut Vec<u8>,
+) -> Result<Place, AllocError>
+    ensures { IfOk result (IsPlaceOf text.now) }
+{
+    let spans = find_spans(alloc, text)?;
+    match tokens(alloc, text) {
+        Ok(found) => {
+            let chart = ChartText {
+                text,
+                tokens: found.as_slice(),
+                spans: spans.tokens.as_slice(),
+            };
+            loading_fault(alloc, &chart, error, lines)
+        }
+        Err(error) if error.kind == ReadErrorKind::Memory => Err(AllocError),
+        Err(_) => Ok(Place::Whole),
+    }
+}
+
+// A fault of a text that loading refuses.
+fn refused_by_loader(alloc: Global, text: &[u8], error: LoadError) -> Result<Report, AllocError>
+    ensures { IfOk result (IsReportFor text.now (Loading error)) }
+{
+    let mut lines = Vec::new(alloc);
+    let place = loading_place(alloc, text, error, &mut lines)?;
+    report_at(alloc, text, Refusal::Loading(error), place, &lines)
+}
+
+// A fault of a text that loading refuses, unless memory was refused.
+fn refused_loading(alloc: Global, text: &[u8], error: LoadError) -> Result<Report, AllocError>
+    ensures report { IfOk result (IsReportFor text.now (Loading error)) }
+    ensures memory { IfOk result (λ report. error ≢ load.Memory) }
+{
+    match error {
+        LoadError::Memory => Err(AllocError),
+        _ => refused_by_loader(alloc, text, error),
+    }
+}
+
+/// What is told of the text of a chart: the plant that it is, or its first fault, which is that of `read` or of `load`. The one
+/// error is that memory was refused.
+pub fn explain_chart(alloc: Global, text: &[u8]) -> Result<Told, AllocError>
+    ensures { IfOk result (Explains text.now) }
+{
+    let source = match read(alloc, text) {
+        Ok(source) => source,
+        Err(error) => return Ok(Told::Fault(refused_reading(alloc, text, error)?)),
+    };
+    match load(alloc, &source) {
+        Ok(plant) => Ok(Told::NoFault(plant)),
+        Err(error) => Ok(Told::Fault(refused_loading(alloc, text, error)?)),
+    }
+}

@@ -1,0 +1,106 @@
+//! What is told of a fault.
+
+ghost use Rattle.std.specs.Prelude.{IfOk};
+ghost use Rattle.sfc_why.specs.Telling.{IsReportAt};
+
+use crate::place::{Place, front_of};
+use crate::position::{Position, position_behind};
+use crate::source_line::{add_source_line, told_word};
+use sfc_tokens::read_error::ReadErrorKind;
+use sfc_variables::load_error::LoadError;
+use std::alloc::{AllocError, Global};
+
+/// Why a chart or a script is refused.
+#[derive(Clone, Copy)]
+pub enum Refusal {
+    /// A chart, by the reader.
+    Reading(ReadErrorKind),
+    /// A chart, by the loader.
+    Loading(LoadError),
+    /// A script, at this line, counted from 1, or for its length at 0.
+    Script(usize),
+}
+
+/// What is told of the first fault of a chart or a script.
+pub struct Report {
+    pub refusal: Refusal,
+    /// The token at fault, or where else the fault is.
+    pub place: Place,
+    /// Its line and column.
+    pub position: Position,
+    /// The token, or in words what there is in its stead.
+    pub word: Vec<u8>,
+    /// The source line with marks, the element, and what else is told, in lines.
+    pub lines: Vec<u8>,
+}
+
+// By hand, so that a caller that drops one proves one call.
+impl Drop for Report {
+    fn drop(self) {
+        let Report {
+            refusal: _,
+            place: _,
+            position: _,
+            word: _,
+            lines: _,
+        } = self;
+    }
+}
+
+// What is told in place of a token.
+fn word_of(alloc: Global, text: &[u8], place: Place) -> Result<Vec<u8>, AllocError> {
+    let span = place.span(text);
+    match place {
+        Place::End => Vec::from_slice(alloc, b"end of the text"),
+        Place::Whole => Vec::from_slice(alloc, b"the text"),
+        Place::Word { length: 0, .. } => Vec::from_slice(alloc, b"end of the line"),
+        Place::Token { .. } | Place::Byte { .. } | Place::Word { .. } => {
+            told_word(alloc, text.get(span.from..span.to).unwrap_or(b""))
+        }
+    }
+}
+
+// The lines that show the place.
+fn shown(
+    alloc: Global,
+    text: &[u8],
+    place: Place,
+    position: Position,
+) -> Result<Vec<u8>, AllocError> {
+    let mut lines = Vec::new(alloc);
+    if let Place::Whole = place {
+        return Ok(lines);
+    }
+    add_source_line(
+        alloc,
+        text,
+        place.span(text),
+        position.line as u64,
+        &mut lines,
+    )?;
+    Ok(lines)
+}
+
+/// A report of a fault at a place of a text; these lines are told behind the source line. The one error is that memory was
+/// refused.
+pub fn report_at(
+    alloc: Global,
+    text: &[u8],
+    refusal: Refusal,
+    place: Place,
+    more: &[u8],
+) -> Result<Report, AllocError>
+    ensures { IfOk result (IsReportAt text.now refusal place) }
+{
+    let position = position_behind(front_of(text, place));
+    let word = word_of(alloc, text, place)?;
+    let mut lines = shown(alloc, text, place, position)?;
+    lines.extend_from_slice(more)?;
+    Ok(Report {
+        refusal,
+        place,
+        position,
+        word,
+        lines,
+    })
+}
