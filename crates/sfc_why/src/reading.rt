@@ -286,6 +286,7 @@ pub fn reading_fault(
             };
             syntax_fault(alloc, goal, &chart, error)
         }
+        Err(error) if error.kind == ReadErrorKind::Memory => Err(AllocError),
         Err(_) => lexical_fault(alloc, goal, text, spans),
     }
 }

@@ -166,8 +166,8 @@ fn fault_in(
     let Some(own) = space_of(alloc, chart.tokens, program, globals)? else {
         return Ok(None);
     };
-    let end = condition.text;
-    match read_expr(alloc, end) {
+    match read_expr(alloc, condition.text) {
+        Err(error) if error.kind == ReadErrorKind::Memory => Err(AllocError),
         Err(_) => Ok(None),
         Ok(expression) => {
             let names = Names::new(globals, &own, behind(program.from, 1));
