@@ -12,6 +12,12 @@ returns-clause-entered g c =
     let locked = c.deref_mut.result.now in
     let book = locked.book in
     let legal = subst (λ (p : PlantData). IsLegal p g.L.Session.table (accepted book)) locked.plant
-    (subst (λ (t : List BreakCondition). IsLegal (plant book) t (accepted book)) locked.table book.legal) in
-    (c.now-raw.result, first book, accepted book, c.now-raw.ensures, legal, (c.enter.ensures.audit, simp (to_z-of_z, fits) at c.enter.ensures.answer),
-    met_by c.enter.result c.args.command c.args.self.now.first c.enter.new.self.first (first book) (first (c.enter.new.locked.book)) c.enter.ensures.held c.enter.ensures.first)
+    (subst (λ (t : List BreakCondition). IsLegal (plant book) t (accepted book)) locked.table book.legal) in (
+      c.now-raw.result,
+      first book,
+      accepted book,
+      c.now-raw.ensures,
+      legal,
+      (c.enter.ensures.audit, simp (to_z-of_z, fits) at c.enter.ensures.answer),
+      met_by c.enter.result c.args.command c.args.self.now.first c.enter.new.self.first (first book) (first (c.enter.new.locked.book)) c.enter.ensures.held c.enter.ensures.first,
+    )
