@@ -176,11 +176,11 @@ fn append_instances(
 
 // How a picture begins.
 fn append_head(out: &mut Vec<u8>, plant: &Plant) -> Result<(), AllocError> {
-    append(out, b"digraph ")?;
+    append(out, b"digraph \"")?;
     append(out, plant.configuration().spelling())?;
     append(
         out,
-        b" {\n  graph [fontname=\"Helvetica\" fontsize=12 ranksep=0.25 nodesep=0.4 style=rounded color=\"#9e9e9e\"]\n",
+        b"\" {\n  graph [fontname=\"Helvetica\" fontsize=12 ranksep=0.25 nodesep=0.4 style=rounded color=\"#9e9e9e\"]\n",
     )?;
     append(
         out,

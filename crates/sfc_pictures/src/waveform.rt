@@ -100,17 +100,24 @@ impl Waveform {
         Ok(())
     }
 
-    // Puts what a signal reads, where that is something else than before.
-    fn put(&mut self, instant: i64, number: usize, bits: u64) -> Result<(), AllocError> {
+    // Puts what a signal reads from now on. It stands apart from the loops that look for changes, which are short so.
+    #[inline(never)]
+    fn change(&mut self, instant: i64, number: usize, bits: u64) -> Result<(), AllocError> {
         let Some(shown) = self.signals.shown.get_mut(number) else {
             return Ok(());
         };
-        if shown.last == bits {
-            return Ok(());
-        }
         shown.last = bits;
         let now = *shown;
         append_at(&mut self.text, &mut self.instant, instant, number, now)
+    }
+
+    // Puts what a signal reads, where that is something else than before.
+    #[inline(always)]
+    fn put(&mut self, instant: i64, number: usize, bits: u64) -> Result<(), AllocError> {
+        match self.signals.shown.get(number) {
+            Some(shown) if shown.last != bits => self.change(instant, number, bits),
+            _ => Ok(()),
+        }
     }
 
     // Puts what a signal reads, where that is something else than before; not of a scan, whose signal is raised and lowered.
