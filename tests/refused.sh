@@ -115,11 +115,35 @@ for ((n = 1; n <= allocations + 5; n++)); do
   note $? "allocation $n of $allocations of a run refused"
 done
 
-for ((k = 0; k < 11; k++)); do
-  live SFC_REFUSE=write:$k
-  [ "$status" = 3 ] && [ "$(tail -n 1 "$work/err")" = "write fault" ] && [ "$(cat "$work/out")" = "$(printf 'audit ok 4' | head -c "$k")" ]
-  note $? "the last line of a run, whose writes fail after $k bytes"
+for kind in write full; do
+  for ((k = 0; k < 11; k++)); do
+    live SFC_REFUSE=$kind:$k
+    [ "$status" = 3 ] && [ "$(tail -n 1 "$work/err")" = "write fault" ] && [ "$(cat "$work/out")" = "$(printf 'audit ok 4' | head -c "$k")" ]
+    note $? "the last line of a run, whose output has room for $k bytes ($kind)"
+  done
 done
+live SFC_SHORT=1
+[ "$status" = 0 ] && [ "$(cat "$work/out")" = "audit ok 4" ] && cmp -s "$work/err" "$work/told"
+note $? "a run whose reads and writes are of one byte"
+
+# The run's chart and session fail after each number of bytes: the chart's fault is a read fault, and a session that fails goes as one
+# that ends there, with the fault told behind the rest.
+front=$(stat -c %s "$work/edge.chart") back=$(stat -c %s "$work/session")
+cp "$work/session" "$work/all"
+for ((k = 0; k < front + back; k++)); do
+  cp "$work/all" "$work/session"
+  live SFC_REFUSE=take:$k
+  if ((k <= front)); then
+    [ "$status" = 3 ] && says "read fault" && [ ! -s "$work/out" ]
+  else
+    mv "$work/out" "$work/out-k" && mv "$work/err" "$work/err-k" && told=$status
+    head -c $((k - front)) "$work/all" >"$work/session"
+    live SFC_SHORT=1
+    [ "$told" = 3 ] && [ "$status" = 0 ] && cmp -s "$work/out" "$work/out-k" && echo "read fault" | cat "$work/err" - | cmp -s - "$work/err-k"
+  fi
+  note $? "a run whose chart and session fail after $k of $((front + back)) bytes"
+done
+cp "$work/all" "$work/session"
 
 # A chart that is refused, with a script that fails after each number of bytes: the chart's refusal is told.
 sed 's/INITIAL_STEP/STEP/' "$top/examples/lamp.chart" >"$work/dark.chart"
