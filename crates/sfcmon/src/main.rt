@@ -1,5 +1,5 @@
-//! `sfcmon`: checks and lists Sequential Function Charts, plays scripts on them and prints what happens, runs them in real time, and
-//! tells what a refusal or a fault means.
+//! `sfcmon`: checks, lists and draws Sequential Function Charts, says where a fault is, plays scripts on them and prints what happens or how
+//! the signals go, runs them in real time, and tells what a refusal or a fault means.
 //!
 //! - `arguments`: the command line.
 //! - `explain`: what refusals and faults mean.
