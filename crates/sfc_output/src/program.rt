@@ -1,21 +1,21 @@
 //! The line of a program after a scan.
 
-ghost use Rattle.std.specs.Prelude.{◌≡◌, ◌<◌, ◌≤◌, ◌++◌, ℕ, List, length, OnOk, IfOk};
+ghost use Rattle.std.specs.Prelude.{◌≡◌, ◌<◌, ◌^◌, ◌++◌, List, length, OnOk};
 ghost use Rattle.sfc_image.specs.Changes.{Change};
 ghost use Rattle.sfc_instance.specs.Life.{InstanceState};
 ghost use Rattle.sfc_instance.specs.Views.{plant_in, instance_in, tables_in, Shows};
-ghost use Rattle.sfc_instance.specs.Answers.{is_step_active, is_transition_cleared, is_action_executed};
-ghost use Rattle.sfc_output.specs.Lists.{listed, wanted};
+ghost use Rattle.sfc_output.specs.Lists.{listed};
 ghost use Rattle.sfc_output.specs.Names.{numbered_action};
 ghost use Rattle.sfc_output.specs.Programs as output;
-ghost use Rattle.sfc_output.specs.Private.ListParts.{continued, separator};
+ghost use Rattle.sfc_output.specs.Private.ListParts.{separator};
 
 use crate::append::{append, append_number, append_time};
 use crate::list::{append_end, append_separator};
 use crate::naming::{names_of, program_name, target_name};
 use sfc_action::fault::ControlFault;
-use sfc_base::ids::{ActionNumber, TransitionId};
+use sfc_base::ids::ActionNumber;
 use sfc_base::references::StepId;
+use sfc_base::ticks::Ticks;
 use sfc_expr::fault::Fault;
 use sfc_instance::program_view::ProgramView;
 use sfc_instance::scan_end::ScanEnd;
@@ -23,9 +23,9 @@ use sfc_instance::scan_fault::ScanFault;
 use sfc_plant::names::Names;
 use std::alloc::AllocError;
 
-// Puts an active step with its time at the end. It stands apart from the loop that looks for active ones, which is short so.
+// Puts a step with its time behind others.
 #[inline(never)]
-fn append_active(
+fn append_step(
     out: &mut Vec<u8>,
     view: &ProgramView<'_>,
     names: &Names<'_>,
@@ -43,27 +43,6 @@ fn append_active(
     append_time(out, view.elapsed(step))
 }
 
-// Puts a step with its time at the end, if it is active; it answers whether the list is still empty.
-fn append_step(
-    out: &mut Vec<u8>,
-    view: &ProgramView<'_>,
-    names: &Names<'_>,
-    step: StepId,
-    is_first: bool,
-) -> Result<bool, AllocError>
-    requires { step.0 < length (tables_in view.now).initial }
-    ensures { (changes : List Change) (instance_state : InstanceState) (texts : List (List ℕ)) → Shows view.now changes instance_state →
-        IfOk result (λ first. out.new.items ++ continued first texts ≡ out.old.items ++ continued is_first
-        (wanted (is_step_active (tables_in view.now) instance_state step.0)
-        (output.step_text names.now (tables_in view.now) instance_state step.0) ++ texts)) }
-{
-    if !view.active(step) {
-        return Ok(is_first);
-    }
-    append_active(out, view, names, step, is_first)?;
-    Ok(false)
-}
-
 // The active steps with their times.
 fn append_steps(
     out: &mut Vec<u8>,
@@ -73,31 +52,26 @@ fn append_steps(
     ensures { (changes : List Change) (instance_state : InstanceState) → Shows view.now changes instance_state →
         OnOk result (out.new.items ≡ out.old.items ++ listed (output.step_texts names.now (tables_in view.now) instance_state)) }
 {
+    let _steps = view.tables().steps();
+    let active = view.active_flags();
+    let mut ticks = Ticks::new();
     let mut is_first = true;
-    for s in 0..view.tables().steps() {
-        is_first = append_step(out, view, names, StepId(s as u16), is_first)?;
+    let mut from = 0;
+    'places: while let Some(s) = active.next_set(from, &mut ticks) {
+        append_step(out, view, names, StepId(s as u16), is_first)?;
+        is_first = false;
+        from = s + 1;
     }
     append_end(out, is_first)
 }
 
-// Puts the number of a transition at the end, if it was cleared; it answers whether the list is still empty.
-fn append_transition(
-    out: &mut Vec<u8>,
-    view: &ProgramView<'_>,
-    transition: TransitionId,
-    is_first: bool,
-) -> Result<bool, AllocError>
-    requires { transition.0 < length (tables_in view.now).sides }
-    ensures { (changes : List Change) (instance_state : InstanceState) (texts : List (List ℕ)) → Shows view.now changes instance_state →
-        IfOk result (λ first. out.new.items ++ continued first texts ≡ out.old.items ++ continued is_first
-        (wanted (is_transition_cleared (tables_in view.now) instance_state transition.0) (output.transition_text transition.0) ++ texts)) }
+// Puts the number of a transition behind others.
+fn append_transition(out: &mut Vec<u8>, transition: usize, is_first: bool) -> Result<(), AllocError>
+    ensures { transition < 2 ^ 63 → OnOk result (out.new.items ≡
+        out.old.items ++ separator is_first ++ output.transition_text transition) }
 {
-    if !view.cleared(transition) {
-        return Ok(is_first);
-    }
     append_separator(out, is_first)?;
-    append_number(out, u64::from(transition.0) + 1)?;
-    Ok(false)
+    append_number(out, (transition as u64).saturating_add(1))
 }
 
 // The numbers of the cleared transitions.
@@ -105,16 +79,22 @@ fn append_cleared(out: &mut Vec<u8>, view: &ProgramView<'_>) -> Result<(), Alloc
     ensures { (changes : List Change) (instance_state : InstanceState) → Shows view.now changes instance_state →
         OnOk result (out.new.items ≡ out.old.items ++ listed (output.cleared_texts (tables_in view.now) instance_state)) }
 {
+    let _transitions = view.tables().transitions();
+    let cleared = view.cleared_flags();
+    let mut ticks = Ticks::new();
     let mut is_first = true;
-    for tr in 0..view.tables().transitions() {
-        is_first = append_transition(out, view, TransitionId(tr as u16), is_first)?;
+    let mut from = 0;
+    'places: while let Some(tr) = cleared.next_set(from, &mut ticks) {
+        append_transition(out, tr, is_first)?;
+        is_first = false;
+        from = tr + 1;
     }
     append_end(out, is_first)
 }
 
-// Puts the name of an action at the end. It stands apart from the loop, as above.
+// Puts the name of an action behind others.
 #[inline(never)]
-fn append_target(
+fn append_action(
     out: &mut Vec<u8>,
     view: &ProgramView<'_>,
     names: &Names<'_>,
@@ -129,27 +109,6 @@ fn append_target(
     append(out, target_name(names, view.tables().target(action)))
 }
 
-// Puts the name of an action at the end, if it was executed; it answers whether the list is still empty.
-fn append_action(
-    out: &mut Vec<u8>,
-    view: &ProgramView<'_>,
-    names: &Names<'_>,
-    action: ActionNumber,
-    is_first: bool,
-) -> Result<bool, AllocError>
-    requires { action.0 < length (tables_in view.now).actions }
-    ensures { (changes : List Change) (instance_state : InstanceState) (texts : List (List ℕ)) → Shows view.now changes instance_state →
-        IfOk result (λ first. out.new.items ++ continued first texts ≡ out.old.items ++ continued is_first
-        (wanted (is_action_executed (tables_in view.now) instance_state action.0)
-        (numbered_action names.now (tables_in view.now) action.0) ++ texts)) }
-{
-    if !view.executed(action) {
-        return Ok(is_first);
-    }
-    append_target(out, view, names, action, is_first)?;
-    Ok(false)
-}
-
 // The names of the executed actions.
 fn append_executed(
     out: &mut Vec<u8>,
@@ -159,9 +118,14 @@ fn append_executed(
     ensures { (changes : List Change) (instance_state : InstanceState) → Shows view.now changes instance_state →
         OnOk result (out.new.items ≡ out.old.items ++ listed (output.executed_texts names.now (tables_in view.now) instance_state)) }
 {
+    let executed = view.executed_flags();
+    let mut ticks = Ticks::new();
     let mut is_first = true;
-    for action in 0..view.tables().actions() {
-        is_first = append_action(out, view, names, ActionNumber(action), is_first)?;
+    let mut from = 0;
+    'places: while let Some(action) = executed.next_set(from, &mut ticks) {
+        append_action(out, view, names, ActionNumber(action), is_first)?;
+        is_first = false;
+        from = action + 1;
     }
     append_end(out, is_first)
 }

@@ -1,36 +1,32 @@
-use Rattle.std.proofs.Common.{◌≡◌, ◌<◌, ◌≤◌, ◌+◌, ◌-◌, ◌++◌, ℕ, List, length, arith, sym, ap, ◌∙◌}
+use Rattle.std.proofs.Common.{◌≡◌, ◌<◌, ◌∙◌, ap, length, arith}
 use Rattle.std.proofs.lemmas.Result.{on_ok_weaker}
-use Rattle.sfc_instance.specs.Answers.{is_transition_cleared}
 use Rattle.sfc_tables.specs.Tables.{Tabled}
+use Rattle.sfc_instance.specs.Answers.{is_transition_cleared}
 use Rattle.sfc_instance.specs.Views.{tables_in}
-use Rattle.sfc_output.specs.Programs.{transition_text, texts_from}
-use Rattle.sfc_output.specs.Private.ListParts.{continued}
-use Rattle.sfc_output.proofs.Texts.{texts_end, texts_head}
+use Rattle.sfc_output.specs.Programs.{transition_text}
+use Rattle.sfc_output.proofs.Texts.{placed, all_placed}
 use Rattle.sfc_output.proofs.program.append_cleared.Goals as goal
 
-pub loop-tr-preserved : goal.loop-tr-preserved
-loop-tr-preserved c changes instance_state agrees =
-    let k = c.loop-tr.tr in
-    let tables = tables_in c.args.view.now in
-    let n = length tables.sides in
-    let text = transition_text in
-    let is_in = is_transition_cleared tables instance_state in
-    let whole : length c.tables.result.now.sides ≡ n = ap (λ (t : Tabled). length t.sides) c.tables.ensures in
-    let lt : k < n = omega (arith, whole, c.loop-tr-test.true, c.transitions-tr-end.ensures.count) in
-    let rest = texts_from is_in text (k + 1) (n - (k + 1)) in
-    c.loop-tr.invariant changes instance_state agrees
-    ∙ ap (λ (xs : List (List ℕ)). c.loop-tr.out.items ++ continued c.loop-tr.is_first xs) (texts_head is_in text k n lt)
-    ∙ sym (c.in_ok-is_first.ensures changes instance_state rest agrees)
+pub places-preserved : goal.places-preserved
+places-preserved c =
+    let found = c.in-Some.ensures.some in
+    let whole : length c.tables.result.now.sides ≡ length (tables_in c.args.view.now).sides =
+    ap (λ (t : Tabled). length t.sides) c.tables.ensures in
+    let small : c.in-Some.tr < 9223372036854775808 =
+    omega (arith, whole, found.1, c.cleared_flags-cleared.ensures.len, c.transitions-transitions.ensures.limit, c.transitions-transitions.ensures.count) in
+    record {
+      within = omega (arith, found.1);
+      rest =
+          placed transition_text c.cleared_flags-cleared.result.now c.places.from c.in-Some.tr c.places.is_first _ c.places.out.items
+          c.append_transition.new.out.items found.2 (c.in_ok-append_transition.ensures small) c.places.invariant.rest;
+    }
 
 pub returns : goal.returns
-returns c changes instance_state agrees =
-    let k = c.loop-tr.tr in
+returns c changes instance_state shows =
     let tables = tables_in c.args.view.now in
-    let n = length tables.sides in
-    let text = transition_text in
-    let is_in = is_transition_cleared tables instance_state in
-    let whole : length c.tables.result.now.sides ≡ n = ap (λ (t : Tabled). length t.sides) c.tables.ensures in
-    let le : n ≤ k = omega (arith, whole, c.loop-tr-test.false, c.transitions-tr-end.ensures.count) in
-    let all = c.loop-tr.invariant changes instance_state agrees
-    ∙ ap (λ (xs : List (List ℕ)). c.loop-tr.out.items ++ continued c.loop-tr.is_first xs) (texts_end is_in text k n le) in
-    on_ok_weaker c.append_end.result (λ e. e ∙ sym all) c.append_end.ensures
+    on_ok_weaker c.append_end.result
+    (λ e. e ∙ all_placed (is_transition_cleared tables instance_state) transition_text c.cleared_flags-cleared.result.now
+    _ c.places.from c.places.is_first c.args.out.now.items c.places.out.items c.cleared_flags-cleared.ensures.len
+    (λ j lt. c.cleared_flags-cleared.ensures.each changes instance_state j lt shows) (c.next_set.ensures.none c.in_default.is)
+    c.places.invariant.rest)
+    c.append_end.ensures

@@ -1,36 +1,29 @@
-use Rattle.std.proofs.Common.{◌≡◌, ◌<◌, ◌≤◌, ◌+◌, ◌-◌, ◌++◌, ℕ, List, length, arith, sym, ap, ◌∙◌}
+use Rattle.std.proofs.Common.{◌∙◌, arith}
 use Rattle.std.proofs.lemmas.Result.{on_ok_weaker}
 use Rattle.sfc_instance.specs.Answers.{is_step_active}
-use Rattle.sfc_tables.specs.Tables.{Tabled}
 use Rattle.sfc_instance.specs.Views.{tables_in}
-use Rattle.sfc_output.specs.Programs.{step_text, texts_from}
-use Rattle.sfc_output.specs.Private.ListParts.{continued}
-use Rattle.sfc_output.proofs.Texts.{texts_end, texts_head}
+use Rattle.sfc_output.specs.Programs.{step_text}
+use Rattle.sfc_output.proofs.Texts.{placed, all_placed}
 use Rattle.sfc_output.proofs.program.append_steps.Goals as goal
 
-pub loop-s-preserved : goal.loop-s-preserved
-loop-s-preserved c changes instance_state agrees =
-    let k = c.loop-s.s in
-    let tables = tables_in c.args.view.now in
-    let n = length tables.initial in
-    let text = step_text c.args.names.now tables instance_state in
-    let is_in = is_step_active tables instance_state in
-    let whole : length c.tables.result.now.initial ≡ n = ap (λ (t : Tabled). length t.initial) c.tables.ensures in
-    let lt : k < n = omega (arith, whole, c.loop-s-test.true, c.steps-s-end.ensures.count) in
-    let rest = texts_from is_in text (k + 1) (n - (k + 1)) in
-    c.loop-s.invariant changes instance_state agrees
-    ∙ ap (λ (xs : List (List ℕ)). c.loop-s.out.items ++ continued c.loop-s.is_first xs) (texts_head is_in text k n lt)
-    ∙ sym (c.in_ok-is_first.ensures changes instance_state rest agrees)
+pub places-preserved : goal.places-preserved
+places-preserved c =
+    let found = c.in-Some.ensures.some in
+    record {
+      within = omega (arith, found.1);
+      rest = λ changes instance_state shows.
+          placed (step_text c.args.names.now (tables_in c.args.view.now) instance_state) c.active_flags-active.result.now c.places.from
+          c.in-Some.s c.places.is_first _ c.places.out.items c.append_step.new.out.items found.2
+          (c.in_ok-append_step.ensures changes instance_state shows) (c.places.invariant.rest changes instance_state shows);
+    }
 
 pub returns : goal.returns
-returns c changes instance_state agrees =
-    let k = c.loop-s.s in
+returns c changes instance_state shows =
     let tables = tables_in c.args.view.now in
-    let n = length tables.initial in
-    let text = step_text c.args.names.now tables instance_state in
-    let is_in = is_step_active tables instance_state in
-    let whole : length c.tables.result.now.initial ≡ n = ap (λ (t : Tabled). length t.initial) c.tables.ensures in
-    let le : n ≤ k = omega (arith, whole, c.loop-s-test.false, c.steps-s-end.ensures.count) in
-    let all = c.loop-s.invariant changes instance_state agrees
-    ∙ ap (λ (xs : List (List ℕ)). c.loop-s.out.items ++ continued c.loop-s.is_first xs) (texts_end is_in text k n le) in
-    on_ok_weaker c.append_end.result (λ e. e ∙ sym all) c.append_end.ensures
+    on_ok_weaker c.append_end.result
+    (λ e. e ∙ all_placed (is_step_active tables instance_state) (step_text c.args.names.now tables instance_state)
+    c.active_flags-active.result.now _ c.places.from c.places.is_first c.args.out.now.items c.places.out.items
+    c.active_flags-active.ensures.len
+    (λ j lt. c.active_flags-active.ensures.each changes instance_state j lt shows) (c.next_set.ensures.none c.in_default.is)
+    (c.places.invariant.rest changes instance_state shows))
+    c.append_end.ensures
