@@ -193,6 +193,9 @@ impl Debugger {
             (plant_state.state_of (core.plant_of self.now.resource) h) }
         ensures ticks { Within (hits_work self.now.conditions.items self.now.points command) ticks.old ticks.new }
     {
+        if self.points.as_slice().is_empty() {
+            return false;
+        }
         match (command, outcome) {
             (Command::Scan(_), Outcome::Scanned { ran, .. }) => any_hit(
                 &self.resource,
@@ -305,13 +308,15 @@ impl Debugger {
         self.points.follow(command);
         self.clock = self.clock.after(command, raw, t, tells_hit(answer));
         self.accepted += 1;
-        self.trace.note(TraceRow {
-            number: self.accepted,
-            raw,
-            t,
-            command,
-            answer,
-        });
+        if self.trace.wants(command) {
+            self.trace.note(TraceRow {
+                number: self.accepted,
+                raw,
+                t,
+                command,
+                answer,
+            });
+        }
     }
 
     /// One command at the raw instant, in microseconds: what it is refused for, else what it answers. After a refusal the

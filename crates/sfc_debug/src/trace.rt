@@ -7,7 +7,7 @@ ghost use Rattle.sfc_debug.specs.Tracing as tracing;
 
 use crate::trace_mask::TraceMask;
 use circular_buffer::HeapCircularBuffer;
-use sfc_events::command::TraceRow;
+use sfc_events::command::{Command, TraceRow};
 use std::alloc::{AllocError, Global};
 
 /// The newest rows of the commands whose kind is wanted, the newest first.
@@ -39,6 +39,13 @@ impl Trace {
         ensures { result ≡ self.now.mask }
     {
         self.mask
+    }
+
+    /// Whether rows of the command are wanted.
+    pub fn wants(&self, command: Command) -> bool
+        ensures { result ≡ tracing.is_wanted self.now.mask command }
+    {
+        self.mask.wants(command)
     }
 
     /// One more row, if its kind is wanted. It takes no memory.
