@@ -1,0 +1,3 @@
+-- What private clauses cite.
+-- which events are given
+pub mod Given

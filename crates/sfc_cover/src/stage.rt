@@ -1,0 +1,149 @@
+//! A stage on which the executed bodies of a scan are gone through once more.
+
+use sfc_image::image::Image;
+
+/// The variables as they stood before the scan of an instance, and room for the times of its steps after it.
+pub struct Stage {
+    image: Image,
+    times: Vec<i64>,
+}
+
+// By hand, so that a caller that drops one proves one call.
+impl Drop for Stage {
+    fn drop(self) {
+        let Stage { image: _, times: _ } = self;
+    }
+}
+
+ghost use Rattle.std.specs.Prelude.{◌<◌, IfOk, length};
+ghost use Rattle.sfc_image.specs.Agreement.{IsAsLarge, instance_total};
+ghost use Rattle.sfc_instance.specs.Views.{instance_in, plant_in, tables_in};
+ghost use Rattle.sfc_instances.specs.Agreement.{AreInstancesOf};
+ghost use Rattle.sfc_cover.specs.Stages.{IsStageOf};
+
+use crate::arms::Arms;
+use crate::walk::{Acting, walk_statements};
+use sfc_base::ids::ActionNumber;
+use sfc_base::limits::STEPS;
+use sfc_base::references::StepId;
+use sfc_base::ticks::Ticks;
+use sfc_expr::fault::Fault;
+use sfc_image::step_readings::StepReadings;
+use sfc_instance::program_view::ProgramView;
+use sfc_instances::instances::Instances;
+use sfc_plant::association::Target;
+use sfc_plant::chart::Chart;
+use sfc_plant::plant::Plant;
+use sfc_tables::tables::Tables;
+use std::alloc::{AllocError, Global};
+
+/// An instance behind a scan that ran: its window and its chart, and the branches of its IFs.
+#[derive(Clone, Copy)]
+pub struct Scanned<'a> {
+    pub view: ProgramView<'a>,
+    pub chart: &'a Chart,
+    pub arms: &'a Arms,
+}
+
+// The times of the steps after the scan, by number.
+fn measure(times: &mut [i64], view: &ProgramView<'_>) {
+    for number in 0..view.tables().steps() {
+        let elapsed = view.elapsed(StepId(number as u16));
+        if let Some(time) = times.get_mut(number) {
+            *time = elapsed;
+        }
+    }
+}
+
+// The body of an action, where it has one and was executed.
+fn walk_action(
+    image: &mut Image,
+    marks: &mut [bool],
+    scanned: Scanned<'_>,
+    times: &[i64],
+    action: ActionNumber,
+) -> Result<(), Fault>
+    requires instance { (instance_in scanned.view).0 < instance_total image.old }
+    requires action { action.0 < length (tables_in scanned.view).actions }
+    ensures { IsAsLarge image.old image.new }
+{
+    let view = scanned.view;
+    if !view.executed(action) {
+        return Ok(());
+    }
+    let Target::Declared(id) = view.tables().target(action) else {
+        return Ok(());
+    };
+    let Some(declared) = scanned.chart.actions.as_slice().get(id.0) else {
+        return Ok(());
+    };
+    let acting = Acting {
+        instance: view.instance(),
+        arms: scanned.arms,
+        readings: StepReadings {
+            active: view.active_flags(),
+            times,
+        },
+        q: view.q(action),
+    };
+    walk_statements(
+        image,
+        marks,
+        acting,
+        declared.body.as_slice(),
+        scanned.arms.start(id),
+    )
+}
+
+// The bodies of the executed actions, one after the other, up to the first fault.
+fn walk_actions(
+    image: &mut Image,
+    marks: &mut [bool],
+    scanned: Scanned<'_>,
+    times: &[i64],
+) -> Result<(), Fault>
+    requires { (instance_in scanned.view).0 < instance_total image.old }
+    ensures { IsAsLarge image.old image.new }
+{
+    for number in 0..scanned.view.tables().actions() {
+        walk_action(image, marks, scanned, times, ActionNumber(number))?;
+    }
+    Ok(())
+}
+
+impl Stage {
+    /// One for a plant. The one error is that memory was refused.
+    pub fn new(alloc: Global, plant: &Plant, tables: &[Tables]) -> Result<Stage, AllocError>
+        ensures { IfOk result (λ stage. IsStageOf plant.now stage) }
+    {
+        Ok(Stage {
+            image: Image::new(alloc, plant, tables)?,
+            times: vec![in alloc; 0; STEPS]?,
+        })
+    }
+
+    /// Takes over the variables as they stand.
+    pub fn set(&mut self, plant: &Plant, instances: &Instances)
+        requires stage { IsStageOf plant.now self.old }
+        requires sizes { AreInstancesOf plant.now instances.now }
+        ensures { IsStageOf plant.now self.new }
+    {
+        self.image.copy_from(instances.image(), &mut Ticks::new());
+    }
+
+    /// Goes through the bodies that the scan executed, over the variables as they were taken over and the outputs of the scan, and marks the
+    /// branches of IFs that are taken.
+    pub fn act(&mut self, scanned: Scanned<'_>, marks: &mut [bool])
+        requires { IsStageOf (plant_in scanned.view) self.old }
+        ensures { IsStageOf (plant_in scanned.entry.view) self.new }
+    {
+        let view = scanned.view;
+        measure(&mut self.times, &view);
+        let ticks = &mut Ticks::new();
+        self.image.begin();
+        self.image
+            .assign_outputs(view.instance(), view.tables(), view.q_flags(), ticks);
+        let _ended = walk_actions(&mut self.image, marks, scanned, &self.times);
+        self.image.undo(ticks);
+    }
+}
