@@ -1,6 +1,6 @@
 //! The text of a Value Change Dump (IEEE 1364-2001, 18.2).
 
-ghost use Rattle.std.specs.Prelude.{◌<◌};
+ghost use Rattle.std.specs.Prelude.{◌<◌, ◌≤◌};
 
 use sfc_output::append::{append, append_number};
 use std::alloc::AllocError;
@@ -27,7 +27,7 @@ fn character(digit: usize) -> u8 {
 pub fn append_code(out: &mut Vec<u8>, number: usize) -> Result<(), AllocError> {
     let mut rest = number;
     for _ in 0..LONGEST {
-        append(out, &[character(rest)])?;
+        out.push(character(rest))?;
         rest /= CHARACTERS;
         if rest == 0 {
             break;
@@ -43,16 +43,29 @@ fn is_set(bits: u64, place: u32) -> bool
     (bits >> place) & 1 == 1
 }
 
+// How many digits a number has: from the highest that is set, and one of 0.
+fn digits_of(bits: u64) -> u32
+    ensures { result ≤ 64 }
+{
+    (BITS - bits.leading_zeros()).max(1)
+}
+
+// The lowest bits of a number, so many as it has.
+fn within(width: u32, bits: u64) -> u64 {
+    if width < BITS {
+        bits & ((1u64 << width) - 1)
+    } else {
+        bits
+    }
+}
+
 // The bits of a number from the highest that is set.
 fn append_bits(out: &mut Vec<u8>, width: u32, bits: u64) -> Result<(), AllocError> {
-    let width = width.min(BITS);
-    let mut is_empty = true;
-    for k in 0..width {
-        let digit = is_set(bits, width - 1 - k);
-        if digit || !is_empty || k + 1 == width {
-            append(out, if digit { b"1" } else { b"0" })?;
-            is_empty = false;
-        }
+    let bits = within(width, bits);
+    let digits = digits_of(bits);
+    for k in 0..digits {
+        let digit = is_set(bits, digits - 1 - k);
+        out.push(if digit { b'1' } else { b'0' })?;
     }
     Ok(())
 }
@@ -66,14 +79,15 @@ pub fn append_change(
     bits: u64,
 ) -> Result<(), AllocError> {
     if width == 1 {
-        append(out, if bits == 0 { b"0" } else { b"1" })?;
+        out.push(if bits == 0 { b'0' } else { b'1' })?;
     } else {
-        append(out, b"b")?;
+        out.push(b'b')?;
         append_bits(out, width, bits)?;
-        append(out, b" ")?;
+        out.push(b' ')?;
     }
     append_code(out, number)?;
-    append(out, b"\n")
+    out.push(b'\n')?;
+    Ok(())
 }
 
 /// Puts the mark of an instant, in microseconds. The one error is that memory was refused; then a front of it may stand there.
