@@ -1,0 +1,4 @@
+-- what an accepted command gives to instances beside the debugger
+pub mod Following
+-- a scan of a task, instance by instance
+pub mod TaskScans

@@ -56,14 +56,6 @@ fn kind_at(branch: &Branch, place: usize) -> ArmKind {
     }
 }
 
-// The statements of a branch.
-fn body_of(branch: &Branch) -> &[Statement] {
-    match branch {
-        Branch::When(_, body) => body,
-        Branch::Otherwise(body) => body,
-    }
-}
-
 // Whether an ELSE was written.
 fn has_else(branches: &[Branch]) -> bool {
     matches!(branches.last(), Some(Branch::Otherwise(_)))
@@ -141,7 +133,10 @@ fn push_if(
     let mut place = first;
     for branch in branches {
         let inside = list.len();
-        count = push_statements(list, action, body_of(branch), count)?;
+        count = match branch {
+            Branch::When(_, body) => push_statements(list, action, body, count)?,
+            Branch::Otherwise(body) => push_statements(list, action, body, count)?,
+        };
         if let Some(arm) = list.get_mut(place) {
             arm.inside = inside;
         }

@@ -1,10 +1,12 @@
 //! Program instances beside a debugger: what it is told, they are told too.
 
-ghost use Rattle.std.specs.Prelude.{◌≡◌, [], IfOk};
-ghost use Rattle.sfc_instances.specs.Agreement.{AreInstancesOf};
+ghost use Rattle.std.specs.Prelude.{◌≡◌, ◌∷◌, [], ℤ, IfOk, IsOk};
+ghost use Rattle.sfc_instances.specs.Agreement.{AreInstancesOf, InstancesAgree};
+ghost use Rattle.sfc_core.specs.PlantState.{state_of};
 ghost use Rattle.sfc_debug.specs.Agreement.{Agrees, plant_of, table_of};
 ghost use Rattle.sfc_debug.specs.Histories.{CommandHistory};
-ghost use Rattle.sfc_debug.specs.Verdict.{after, after_all};
+ghost use Rattle.sfc_debug.specs.States.{erasure};
+ghost use Rattle.sfc_debug.specs.Verdict.{after, after_all, verdict};
 ghost use Rattle.sfc_cover.specs.Beside.{StandBeside};
 ghost use Rattle.sfc_cover.specs.Stages.{IsWatchOf};
 
@@ -22,6 +24,24 @@ pub fn open_beside(alloc: Global, debugger: &Debugger) -> Result<Instances, Allo
     ensures beside { Agrees debugger.now [] → IfOk result (λ instances. StandBeside debugger.now instances []) }
 {
     Instances::new(alloc, debugger.resource().plant())
+}
+
+// Tells the instances the event of the command that the debugger accepted last, if it is one.
+fn tell(debugger: &Debugger, instances: &mut Instances, command: Command, watch: &mut Watch)
+    requires sizes { AreInstancesOf (plant_of debugger.now) instances.old }
+    requires watch { IsWatchOf (plant_of debugger.now) watch.old }
+    ensures sizes { AreInstancesOf (plant_of debugger.now) instances.new }
+    ensures watch { IsWatchOf (plant_of debugger.now) watch.new }
+    ensures agrees { (h : CommandHistory) (raw : ℤ) → Agrees debugger.now ((command, raw) ∷ h) →
+        IsOk (verdict (plant_of debugger.now) (table_of debugger.now) h command raw) →
+        InstancesAgree (plant_of debugger.now) instances.old (state_of (plant_of debugger.now) (erasure (plant_of debugger.now) (table_of debugger.now) h)) →
+        InstancesAgree (plant_of debugger.now) instances.new
+        (state_of (plant_of debugger.now) (erasure (plant_of debugger.now) (table_of debugger.now) ((command, raw) ∷ h))) }
+{
+    let t = debugger.run_instant();
+    if let Some(event) = command.event() {
+        follow_event(instances, debugger.resource().plant(), event, t, watch);
+    }
 }
 
 /// Gives a command to a debugger at its raw instant, in microseconds. Where it is accepted the instances beside it are told its event at its
@@ -44,12 +64,7 @@ pub fn follow(
     let (command, raw) = timed;
     match debugger.command(command, raw, &mut Ticks::new()) {
         Err(_) => {}
-        Ok(_) => {
-            if let Some(event) = command.event() {
-                let t = debugger.run_instant();
-                follow_event(instances, debugger.resource().plant(), event, t, watch);
-            }
-        }
+        Ok(_) => tell(debugger, instances, command, watch),
     }
 }
 

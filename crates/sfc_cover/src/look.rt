@@ -23,8 +23,8 @@ pub fn program_of(view: &ProgramView<'_>) -> Option<usize> {
     Some(instance.program.0)
 }
 
-// The chart of an instance.
-fn chart_of<'a>(view: &ProgramView<'a>) -> Option<&'a Chart> {
+/// The chart of an instance, if there is such an instance.
+pub fn chart_of<'a>(view: &ProgramView<'a>) -> Option<&'a Chart> {
     let program = view.plant().types().get(program_of(view)?)?;
     Some(&program.chart)
 }

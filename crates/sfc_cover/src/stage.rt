@@ -15,13 +15,14 @@ impl Drop for Stage {
     }
 }
 
-ghost use Rattle.std.specs.Prelude.{◌<◌, IfOk, length};
-ghost use Rattle.sfc_image.specs.Agreement.{IsAsLarge, instance_total};
+ghost use Rattle.std.specs.Prelude.{◌≡◌, ◌<◌, IfOk, length};
+ghost use Rattle.sfc_image.specs.Agreement.{IsAsLarge, instance_total, is_open};
 ghost use Rattle.sfc_instance.specs.Views.{instance_in, plant_in, tables_in};
 ghost use Rattle.sfc_instances.specs.Agreement.{AreInstancesOf};
 ghost use Rattle.sfc_cover.specs.Stages.{IsStageOf};
 
 use crate::arms::Arms;
+use crate::look::chart_of;
 use crate::walk::{Acting, walk_statements};
 use sfc_base::ids::ActionNumber;
 use sfc_base::limits::STEPS;
@@ -37,12 +38,12 @@ use sfc_plant::plant::Plant;
 use sfc_tables::tables::Tables;
 use std::alloc::{AllocError, Global};
 
-/// An instance behind a scan that ran: its window and its chart, and the branches of its IFs.
+/// The bodies of an instance: its chart, the branches of its IFs, and the times of its steps after the scan.
 #[derive(Clone, Copy)]
-pub struct Scanned<'a> {
-    pub view: ProgramView<'a>,
-    pub chart: &'a Chart,
-    pub arms: &'a Arms,
+struct Bodies<'a> {
+    chart: &'a Chart,
+    arms: &'a Arms,
+    times: &'a [i64],
 }
 
 // The times of the steps after the scan, by number.
@@ -59,54 +60,50 @@ fn measure(times: &mut [i64], view: &ProgramView<'_>) {
 fn walk_action(
     image: &mut Image,
     marks: &mut [bool],
-    scanned: Scanned<'_>,
-    times: &[i64],
+    view: &ProgramView<'_>,
+    bodies: Bodies<'_>,
     action: ActionNumber,
 ) -> Result<(), Fault>
-    requires instance { (instance_in scanned.view).0 < instance_total image.old }
-    requires action { action.0 < length (tables_in scanned.view).actions }
-    ensures { IsAsLarge image.old image.new }
+    requires instance { (instance_in view.now).0 < instance_total image.old }
+    requires action { action.0 < length (tables_in view.now).actions }
+    ensures large { IsAsLarge image.old image.new }
+    ensures open { is_open image.new ≡ is_open image.old }
 {
-    let view = scanned.view;
     if !view.executed(action) {
         return Ok(());
     }
     let Target::Declared(id) = view.tables().target(action) else {
         return Ok(());
     };
-    let Some(declared) = scanned.chart.actions.as_slice().get(id.0) else {
+    let Some(declared) = bodies.chart.actions.as_slice().get(id.0) else {
         return Ok(());
     };
     let acting = Acting {
         instance: view.instance(),
-        arms: scanned.arms,
+        arms: bodies.arms,
         readings: StepReadings {
             active: view.active_flags(),
-            times,
+            times: bodies.times,
         },
         q: view.q(action),
     };
-    walk_statements(
-        image,
-        marks,
-        acting,
-        declared.body.as_slice(),
-        scanned.arms.start(id),
-    )
+    let place = bodies.arms.start(id);
+    walk_statements(image, marks, acting, declared.body.as_slice(), place)
 }
 
 // The bodies of the executed actions, one after the other, up to the first fault.
 fn walk_actions(
     image: &mut Image,
     marks: &mut [bool],
-    scanned: Scanned<'_>,
-    times: &[i64],
+    view: &ProgramView<'_>,
+    bodies: Bodies<'_>,
 ) -> Result<(), Fault>
-    requires { (instance_in scanned.view).0 < instance_total image.old }
-    ensures { IsAsLarge image.old image.new }
+    requires { (instance_in view.now).0 < instance_total image.old }
+    ensures large { IsAsLarge image.old image.new }
+    ensures open { is_open image.new ≡ is_open image.old }
 {
-    for number in 0..scanned.view.tables().actions() {
-        walk_action(image, marks, scanned, times, ActionNumber(number))?;
+    for number in 0..view.tables().actions() {
+        walk_action(image, marks, view, bodies, ActionNumber(number))?;
     }
     Ok(())
 }
@@ -133,17 +130,24 @@ impl Stage {
 
     /// Goes through the bodies that the scan executed, over the variables as they were taken over and the outputs of the scan, and marks the
     /// branches of IFs that are taken.
-    pub fn act(&mut self, scanned: Scanned<'_>, marks: &mut [bool])
-        requires { IsStageOf (plant_in scanned.view) self.old }
-        ensures { IsStageOf (plant_in scanned.entry.view) self.new }
+    pub fn act(&mut self, view: &ProgramView<'_>, arms: &Arms, marks: &mut [bool])
+        requires { IsStageOf (plant_in view.now) self.old }
+        ensures { IsStageOf (plant_in view.now) self.new }
     {
-        let view = scanned.view;
-        measure(&mut self.times, &view);
+        let Some(chart) = chart_of(view) else {
+            return;
+        };
+        measure(&mut self.times, view);
         let ticks = &mut Ticks::new();
         self.image.begin();
         self.image
             .assign_outputs(view.instance(), view.tables(), view.q_flags(), ticks);
-        let _ended = walk_actions(&mut self.image, marks, scanned, &self.times);
+        let bodies = Bodies {
+            chart,
+            arms,
+            times: &self.times,
+        };
+        let _ended = walk_actions(&mut self.image, marks, view, bodies);
         self.image.undo(ticks);
     }
 }

@@ -1,7 +1,7 @@
 //! Which branches of IFs an executed body takes (3.3.2.3).
 
-ghost use Rattle.std.specs.Prelude.{◌<◌};
-ghost use Rattle.sfc_image.specs.Agreement.{IsAsLarge, instance_total};
+ghost use Rattle.std.specs.Prelude.{◌≡◌, ◌<◌};
+ghost use Rattle.sfc_image.specs.Agreement.{IsAsLarge, instance_total, is_open};
 
 use crate::arms::Arms;
 use crate::reach::mark;
@@ -44,7 +44,8 @@ pub fn walk_statements(
     place: usize,
 ) -> Result<(), Fault>
     requires { acting.instance.0 < instance_total image.old }
-    ensures { IsAsLarge image.old image.new }
+    ensures large { IsAsLarge image.old image.new }
+    ensures open { is_open image.new ≡ is_open image.old }
 {
     let mut place = place;
     for statement in statements {
@@ -63,7 +64,8 @@ fn walk_statement(
     place: usize,
 ) -> Result<usize, Fault>
     requires { acting.instance.0 < instance_total image.old }
-    ensures { IsAsLarge image.old image.new }
+    ensures large { IsAsLarge image.old image.new }
+    ensures open { is_open image.new ≡ is_open image.old }
 {
     match statement {
         Statement::Assign {
@@ -97,7 +99,8 @@ fn walk_branches(
     place: usize,
 ) -> Result<(), Fault>
     requires { acting.instance.0 < instance_total image.old }
-    ensures { IsAsLarge image.old image.new }
+    ensures large { IsAsLarge image.old image.new }
+    ensures open { is_open image.new ≡ is_open image.old }
 {
     let mut place = place;
     for branch in branches {

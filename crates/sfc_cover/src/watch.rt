@@ -22,13 +22,12 @@ impl Drop for Watch {
     }
 }
 
-ghost use Rattle.std.specs.Prelude.{◌≡◌, ◌<◌, ◌≤ℤ◌, ◌^◌, pos, length, IfOk, IfSome};
+ghost use Rattle.std.specs.Prelude.{◌<◌, ◌≤ℤ◌, ◌^◌, pos, length, IfOk};
 ghost use Rattle.sfc_instance.specs.Views.{plant_in};
 ghost use Rattle.sfc_instances.specs.Agreement.{AreInstancesOf};
 ghost use Rattle.sfc_cover.specs.Stages.{IsWatchOf};
 
 use crate::look::{look_before, note_after, program_of};
-use crate::stage::Scanned;
 use sfc_base::ids::ProgId;
 use sfc_instance::program_view::ProgramView;
 use sfc_instance::scan_end::ScanEnd;
@@ -48,20 +47,6 @@ fn unreached(
         reaches.push(Reach::none(alloc, elements, instance.program.0)?)?;
     }
     Ok(reaches)
-}
-
-// The instance of a window with its chart and the branches of its IFs.
-fn scanned_of<'a>(elements: &'a Elements, view: &ProgramView<'a>) -> Option<Scanned<'a>>
-    ensures { IfSome result (λ scanned. scanned.view ≡ view.now) }
-{
-    let program = program_of(view)?;
-    let chart = &view.plant().types().get(program)?.chart;
-    let arms = elements.arms_at(program)?;
-    Some(Scanned {
-        view: *view,
-        chart,
-        arms,
-    })
 }
 
 impl Watch {
@@ -152,13 +137,19 @@ impl Watch {
         if reach.arms.is_empty() {
             return;
         }
-        if let Some(scanned) = scanned_of(&self.elements, view) {
-            self.stage.act(scanned, &mut reach.arms);
+        let Some(program) = program_of(view) else {
+            return;
+        };
+        if let Some(arms) = self.elements.arms_at(program) {
+            self.stage.act(view, arms, &mut reach.arms);
         }
     }
 
     // The fault that ended a scan.
-    fn note_fault(&mut self, view: &ProgramView<'_>) {
+    fn note_fault(&mut self, view: &ProgramView<'_>)
+        requires { IsWatchOf (plant_in view.now) self.old }
+        ensures { IsWatchOf (plant_in view.now) self.new }
+    {
         if let (Some(reach), Some(fault)) = (
             self.reaches.get_mut(usize::from(view.instance().0)),
             view.fault(),
