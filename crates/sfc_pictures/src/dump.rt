@@ -16,24 +16,13 @@ const LONGEST: usize = 10;
 /// How many bits a number has at the most.
 const BITS: u32 = 64;
 
+/// How many bytes a line has at the most: more than a number of 64 bits with its code wants.
+const ROOM: usize = 128;
+
 // A digit of a code.
 fn character(digit: usize) -> u8 {
     let digit = (digit % CHARACTERS) as u8;
     FIRST + digit
-}
-
-/// Puts the code of a signal: its number by the printing characters, the lowest digit first. The one error is that memory was refused; then a
-/// front of it may stand there.
-pub fn append_code(out: &mut Vec<u8>, number: usize) -> Result<(), AllocError> {
-    let mut rest = number;
-    for _ in 0..LONGEST {
-        out.push(character(rest))?;
-        rest /= CHARACTERS;
-        if rest == 0 {
-            break;
-        }
-    }
-    Ok(())
 }
 
 // The bit of a number at a place.
@@ -59,15 +48,68 @@ fn within(width: u32, bits: u64) -> u64 {
     }
 }
 
-// The bits of a number from the highest that is set.
-fn append_bits(out: &mut Vec<u8>, width: u32, bits: u64) -> Result<(), AllocError> {
-    let bits = within(width, bits);
-    let digits = digits_of(bits);
-    for k in 0..digits {
-        let digit = is_set(bits, digits - 1 - k);
-        out.push(if digit { b'1' } else { b'0' })?;
+// A line that is put together, without what is over its room.
+struct Line {
+    bytes: [u8; ROOM],
+    count: usize,
+    ghost within: { count ≤ 128 },
+}
+
+impl Line {
+    // Nothing.
+    fn new() -> Line {
+        Line {
+            bytes: [0; ROOM],
+            count: 0,
+        }
     }
-    Ok(())
+
+    // One byte more.
+    #[inline(always)]
+    fn push(&mut self, byte: u8) {
+        if self.count < ROOM {
+            self.bytes[self.count] = byte;
+            self.count += 1;
+        }
+    }
+
+    // The code of a signal.
+    fn push_code(&mut self, number: usize) {
+        let mut rest = number;
+        for _ in 0..LONGEST {
+            self.push(character(rest));
+            rest /= CHARACTERS;
+            if rest == 0 {
+                break;
+            }
+        }
+    }
+
+    // The bits of a number from the highest that is set.
+    fn push_bits(&mut self, width: u32, bits: u64) {
+        let bits = within(width, bits);
+        let digits = digits_of(bits);
+        for k in 0..digits {
+            self.push(if is_set(bits, digits - 1 - k) {
+                b'1'
+            } else {
+                b'0'
+            });
+        }
+    }
+
+    // Puts it at the end.
+    fn append(&self, out: &mut Vec<u8>) -> Result<(), AllocError> {
+        append(out, &self.bytes[..self.count])
+    }
+}
+
+/// Puts the code of a signal: its number by the printing characters, the lowest digit first. The one error is that memory was refused; then a
+/// front of it may stand there.
+pub fn append_code(out: &mut Vec<u8>, number: usize) -> Result<(), AllocError> {
+    let mut line = Line::new();
+    line.push_code(number);
+    line.append(out)
 }
 
 /// Puts what a signal of so many bits reads from now on, on a line. The one error is that memory was refused; then a front of it may stand
@@ -78,16 +120,17 @@ pub fn append_change(
     width: u32,
     bits: u64,
 ) -> Result<(), AllocError> {
+    let mut line = Line::new();
     if width == 1 {
-        out.push(if bits == 0 { b'0' } else { b'1' })?;
+        line.push(if bits == 0 { b'0' } else { b'1' });
     } else {
-        out.push(b'b')?;
-        append_bits(out, width, bits)?;
-        out.push(b' ')?;
+        line.push(b'b');
+        line.push_bits(width, bits);
+        line.push(b' ');
     }
-    append_code(out, number)?;
-    out.push(b'\n')?;
-    Ok(())
+    line.push_code(number);
+    line.push(b'\n');
+    line.append(out)
 }
 
 /// Puts the mark of an instant, in microseconds. The one error is that memory was refused; then a front of it may stand there.

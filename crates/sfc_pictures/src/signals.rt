@@ -23,8 +23,14 @@ pub struct Group {
 
 impl Group {
     /// The number behind the last variable.
-    pub fn end(&self) -> usize {
+    pub fn end(self) -> usize {
         self.variable.saturating_add(self.count)
+    }
+
+    /// The signal of the value of a variable, which is one of the group.
+    pub fn value_of(self, variable: usize) -> usize {
+        let place = variable.saturating_sub(self.variable);
+        self.signal.saturating_add(place.saturating_mul(2))
     }
 }
 
@@ -177,7 +183,7 @@ impl Signals {
     /// Where the signals of the steps of an instance begin, two for each.
     pub fn steps_of(&self, instance: usize) -> usize {
         match self.groups.get(instance.saturating_add(1)) {
-            Some(group) => group.signal.saturating_add(group.count.saturating_mul(2)),
+            Some(group) => group.value_of(group.end()),
             None => self.list.len(),
         }
     }

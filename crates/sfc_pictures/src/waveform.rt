@@ -4,7 +4,7 @@ use crate::declared::append_declarations;
 use crate::dump::{append_change, append_instant};
 use crate::sets::Sets;
 use crate::signal::{Signal, bit, bits_of, overruns_of};
-use crate::signals::Signals;
+use crate::signals::{Group, Signals};
 use sfc_base::ids::{ActionNumber, ProgId, TaskId, VarId};
 use sfc_base::references::StepId;
 use sfc_core::resource::Resource;
@@ -60,6 +60,25 @@ fn scanned_task(command: Command) -> Option<TaskId> {
 // The number of the signal of a task's scans.
 fn scan_of(task: TaskId) -> usize {
     FIRST_SCAN + STRIDE * usize::from(task.0)
+}
+
+// The next variable of a group from this one on that reads something else than was shown last, and the bits that it reads.
+fn next_value(
+    resource: &Resource,
+    last: &[u64],
+    group: Group,
+    from: usize,
+) -> Option<(usize, u64)> {
+    let end = group.end().min(resource.variables());
+    let mut signal = group.value_of(from);
+    for variable in from..end {
+        let bits = bits_of(resource.value(VarId(variable as u16)));
+        if last.get(signal).copied() != Some(bits) {
+            return Some((variable, bits));
+        }
+        signal = signal.saturating_add(2);
+    }
+    None
 }
 
 // Of each instance what it shows.
@@ -188,12 +207,15 @@ impl Waveform {
         let Some(group) = self.signals.groups.get(number) else {
             return Ok(());
         };
-        let mut signal = group.signal;
-        let end = group.end().min(resource.variables());
-        for variable in group.variable..end {
-            let bits = bits_of(resource.value(VarId(variable as u16)));
-            self.put(instant, signal, bits)?;
-            signal = signal.saturating_add(2);
+        let group = *group;
+        let mut from = group.variable;
+        for _ in 0..group.count {
+            let Some((variable, bits)) = next_value(resource, &self.signals.last, group, from)
+            else {
+                break;
+            };
+            self.change(instant, group.value_of(variable), bits)?;
+            from = variable.saturating_add(1);
         }
         Ok(())
     }
