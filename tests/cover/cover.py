@@ -143,6 +143,54 @@ def check_cases(checks: Checks):
                 check(checks, case.title, case.chart(), scripts)
 
 
+LINES = [  # words, exit status, the text on standard error (a part of it), whether the report is printed
+    ("--help", 0, "", None),
+    ("", 2, "FILE", False),
+    ("good", 2, "SCRIPT", False),
+    ("--min 101 good first", 2, "101", False),
+    ("--min -1 good first", 2, "", False),
+    ("--min ten good first", 2, "ten", False),
+    ("good first", 0, "", True),
+    ("good first second first", 0, "", True),
+    ("--min 0 good first", 0, "", True),
+    ("--min 25 good first", 0, "", True),
+    ("--min 26 good first", 1, "", True),
+    ("good first --min 26", 1, "", True),
+    ("--min 100 good first second", 0, "", True),
+    ("bad first", 1, "refused 9 Unknown\n", False),
+    ("good faulty", 1, "faulty: script line 2\n", False),
+    ("good first faulty", 1, "faulty: script line 2\n", False),
+    ("bad faulty", 1, "refused 9 Unknown\n", False),
+    ("nothing first", 3, "read fault\n", False),
+    ("good nothing", 3, "nothing: read fault\n", False),
+    ("bad first nothing", 3, "nothing: read fault\n", False),
+    ("good .", 3, ".: read fault\n", False),
+]
+
+
+def check_lines(checks: Checks):
+    """Command lines: exit status, what standard error says, and whether the report is printed."""
+    chart = ("PROGRAM P INITIAL_STEP A: END_STEP STEP B: END_STEP TRANSITION FROM A TO B := {}; END_TRANSITION "
+             "TRANSITION FROM B TO A := TRUE; END_TRANSITION END_PROGRAM CONFIGURATION C RESOURCE R ON Plc "
+             "VAR_GLOBAL Go AT %IX0.0 : BOOL; END_VAR TASK T(INTERVAL := T#10ms, PRIORITY := 1); PROGRAM I WITH T : P; "
+             "END_RESOURCE END_CONFIGURATION")
+    first = "T#0s SCAN T\n"
+    second = first + "T#5ms FORCE Go TRUE\nT#10ms SCAN T\nT#20ms SCAN T\n"
+    files = {"good": chart.format("Go"), "bad": chart.format("Gone"), "first": first, "second": second, "faulty": "\nSCAN T\n"}
+    with tempfile.TemporaryDirectory() as folder:
+        for name, text in files.items():
+            (Path(folder) / name).write_text(text)
+        program = str(Path(checks.program).resolve())
+        for words, status, error, is_told in LINES:
+            done = subprocess.run([program, "cover", *words.split()], cwd=folder, capture_output=True, text=True, timeout=60, check=False)
+            told = done.stderr == error if error.endswith("\n") or (status == 0 and not error) else error in done.stderr
+            holds = done.returncode == status and told and (is_told is None or done.stdout.startswith("total ") == is_told)
+            checks.note(holds, f"cover {words}: status {done.returncode}, {done.stderr!r}, {done.stdout!r}")
+        with open("/dev/full", "w", encoding="ascii") as full:
+            done = subprocess.run([program, "cover", "good", "first"], cwd=folder, stdout=full, stderr=subprocess.PIPE, text=True, check=False)
+        checks.note((done.returncode, done.stderr) == (3, "write fault\n"), "cover to a full device")
+
+
 def is_playable(chart: bytes, script: bytes) -> bool:
     """Whether neither is refused."""
     try:
@@ -165,6 +213,7 @@ def main() -> int:
     """Checks all; gives the exit status."""
     checks = Checks(sys.argv[1])
     count, seed = (int(word) for word in (sys.argv[2:] + ["40", "1"][len(sys.argv) - 2:])[:2])
+    check_lines(checks)
     check_examples(checks)
     check_cases(checks)
     check_random(checks, count, seed)
