@@ -2,3 +2,5 @@
 pub mod Following
 -- a scan of a task, instance by instance
 pub mod TaskScans
+-- instances beside a debugger, command by command
+pub mod Playing

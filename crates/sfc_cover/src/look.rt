@@ -5,11 +5,12 @@ ghost use Rattle.sfc_instance.specs.Views.{tables_in};
 
 use crate::reach::{Reach, mark};
 use crate::reached::Reached;
-use sfc_base::ids::{ActionNumber, TransitionId};
+use sfc_base::ids::TransitionId;
 use sfc_base::references::StepId;
 use sfc_base::ticks::Ticks;
 use sfc_expr::eval::eval;
 use sfc_expr::view::View;
+use sfc_flags::flags::Flags;
 use sfc_instance::program_moment::ProgramMoment;
 use sfc_instance::program_view::ProgramView;
 use sfc_plant::chart::{Chart, Transition};
@@ -73,21 +74,16 @@ pub fn look_before(reach: &mut Reach, view: &ProgramView<'_>, t: i64)
     }
 }
 
-// Marks the active steps.
-fn mark_steps(reach: &mut Reach, view: &ProgramView<'_>) {
-    for number in 0..view.tables().steps() {
-        if view.active(StepId(number as u16)) {
-            mark(&mut reach.steps, number);
-        }
-    }
-}
-
-// Marks the executed actions.
-fn mark_actions(reach: &mut Reach, view: &ProgramView<'_>) {
-    for number in 0..view.tables().actions() {
-        if view.executed(ActionNumber(number)) {
-            mark(&mut reach.actions, number);
-        }
+// Marks what is in a set, by number.
+fn mark_all(marks: &mut [bool], set: &Flags) {
+    let ticks = &mut Ticks::new();
+    let mut from = 0usize;
+    for _ in 0..set.count() {
+        let Some(number) = set.next_set(from, ticks) else {
+            break;
+        };
+        mark(marks, number);
+        from = number.saturating_add(1);
     }
 }
 
@@ -138,7 +134,7 @@ fn note_transitions(reach: &mut Reach, view: &ProgramView<'_>) {
 /// actions.
 pub fn note_after(reach: &mut Reach, view: &ProgramView<'_>) {
     reach.scans = reach.scans.saturating_add(1);
-    mark_steps(reach, view);
+    mark_all(&mut reach.steps, view.active_flags());
     note_transitions(reach, view);
-    mark_actions(reach, view);
+    mark_all(&mut reach.actions, view.executed_flags());
 }

@@ -49,6 +49,7 @@ fn within(width: u32, bits: u64) -> u64 {
 }
 
 // A line that is put together, without what is over its room.
+#[derive(Drop)]
 struct Line {
     bytes: [u8; ROOM],
     count: usize,
