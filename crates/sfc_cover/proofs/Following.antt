@@ -1,16 +1,14 @@
 -- What an accepted command gives to program instances that stand as the resource does.
-use Rattle.std.proofs.Common.{◌≡◌, ◌^◌, ℕ, ◌<◌, ◌≤ℤ◌, ◌||◌, ◌∷◌, Bool, true, false, not, ℤ, pos, int_lt, List, length, Option, Some, None, Result, Ok, Err, refl, sym, ap, subst, arith, rules}
+use Rattle.std.proofs.Common.{◌≡◌, ◌^◌, ℕ, ◌<◌, ◌≤ℤ◌, ◌||◌, ◌∷◌, Bool, true, false, ℤ, pos, int_lt, List, length, Option, Some, None, Result, Ok, Err, refl, sym, ap, subst, arith, rules}
 use Rattle.std.specs.Prelude.{IsOk, nat_lt}
 use Rattle.std.proofs.lemmas.Int.{ints}
 use Rattle.std.proofs.lemmas.Bool.Decides.{nat_tests}
-use Rattle.sfc_base.specs.declared.ids.ProgId.{ProgId}
 use Rattle.sfc_plant.specs.Plants.{PlantData}
 use Rattle.sfc_image.specs.Changes.{Change}
 use Rattle.sfc_instances.specs.Agreement.{InstancesAgree}
 use Rattle.sfc_instances.specs.declared.instances.Instances.{Instances}
 use Rattle.sfc_instances.specs.PlantState.{PlantState}
 use Rattle.sfc_events.specs.Commands.{event_of}
-use Rattle.sfc_events.specs.declared.command.Answer.{Answer}
 use Rattle.sfc_events.specs.declared.command.Command.{Command}
 use Rattle.sfc_events.specs.declared.event.Event.{Event}
 use Rattle.sfc_events.specs.declared.event.Event.TheVariants.{Scan, ForcedScan, Input, Force, Release, Reset}
@@ -27,7 +25,7 @@ use Rattle.sfc_debug.specs.declared.break_condition.BreakCondition.{BreakConditi
 use Rattle.sfc_debug.specs.Histories.{CommandHistory}
 use Rattle.sfc_debug.specs.RunClock.{run_instant}
 use Rattle.sfc_debug.specs.States.{DebugState, state_of, erasure, hits, with_event}
-use Rattle.sfc_debug.specs.Verdict.{verdict, verdict_at, answer_by, after, history_by}
+use Rattle.sfc_debug.specs.Verdict.{verdict, verdict_at, answer_by}
 use Rattle.sfc_debug.proofs.Accepting.{neither, not_refused, by_itself}
 use Rattle.sfc_cover.specs.Private.Given.{IsGiven}
 

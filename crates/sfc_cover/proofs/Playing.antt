@@ -1,5 +1,5 @@
 -- Instances beside a debugger, command by command.
-use Rattle.std.proofs.Common.{◌≡◌, ◌∙◌, ℤ, List, [], ◌∷◌, Result, Ok, Err, refl, sym, ap, subst}
+use Rattle.std.proofs.Common.{◌≡◌, ℤ, List, [], ◌∷◌, Result, Ok, Err, refl, sym, ap, subst}
 use Rattle.std.specs.Prelude.{IfOk, IsOk}
 use Rattle.std.specs.declared.alloc.AllocError.{AllocError}
 use Rattle.sfc_plant.specs.Plants.{PlantData}
@@ -13,11 +13,10 @@ use Rattle.sfc_core.specs.PlantState as core
 use Rattle.sfc_debug.specs.declared.break_condition.BreakCondition.{BreakCondition}
 use Rattle.sfc_debug.specs.declared.debugger.Debugger.{Debugger}
 use Rattle.sfc_debug.specs.Agreement.{Agrees, plant_of, table_of}
-use Rattle.sfc_debug.specs.Histories.{CommandHistory, TimedCommand}
+use Rattle.sfc_debug.specs.Histories.{CommandHistory}
 use Rattle.sfc_debug.specs.States.{state_of, erasure}
-use Rattle.sfc_debug.specs.Verdict.{verdict, after, after_all, history_by}
+use Rattle.sfc_debug.specs.Verdict.{verdict, after, history_by}
 use Rattle.sfc_cover.specs.Beside.{StandBeside}
-use Rattle.sfc_cover.specs.Private.Playing.{IsUnderWay}
 
 -- before any command
 pub opened_beside : (debugger : Debugger) (plant : PlantData) (r : Result Instances AllocError) → plant ≡ plant_of debugger
@@ -61,24 +60,3 @@ refused_beside old new instances h command raw refusal same is beside =
     subst (λ (x : CommandHistory). StandBeside new instances x)
     (sym (ap (λ (v : Result Answer Refusal). history_by v (command, raw) h) is))
     (subst (λ (d : Debugger). StandBeside d instances h) (sym same) beside)
-
--- one command more
-pub one_more : (start old new : Debugger) (before told : Instances) (h : CommandHistory) (commands rest behind : List TimedCommand)
-    (timed : TimedCommand) → rest ≡ timed ∷ behind → plant_of old ≡ plant_of start → table_of old ≡ table_of start
-    → ((now : CommandHistory) → StandBeside old before now → StandBeside new told (after (plant_of old) (table_of old) now timed))
-    → IsUnderWay start h commands rest old before → IsUnderWay start h commands behind new told
-one_more start old new before told h commands rest behind timed parts same alike follows u = record {
-  now = after (plant_of start) (table_of start) u.now timed;
-  beside =
-      subst (λ (p : PlantData). StandBeside new told (after p (table_of start) u.now timed)) same
-      (subst (λ (t : List BreakCondition). StandBeside new told (after (plant_of old) t u.now timed)) alike (follows u.now u.beside));
-  same = sym (ap (after_all (plant_of start) (table_of start) u.now) parts) ∙ u.same;
-}
-
--- no command is left
-pub all_told : (start debugger : Debugger) (instances : Instances) (h : CommandHistory) (commands rest : List TimedCommand) → rest ≡ []
-    → IsUnderWay start h commands rest debugger instances
-    → StandBeside debugger instances (after_all (plant_of start) (table_of start) h commands)
-all_told start debugger instances h commands rest none u =
-    subst (λ (x : CommandHistory). StandBeside debugger instances x)
-    (sym (ap (after_all (plant_of start) (table_of start) u.now) none) ∙ u.same) u.beside
