@@ -108,6 +108,15 @@ fn walk_actions(
     Ok(())
 }
 
+// Whether the scan executed an action with a body; these stand behind the Boolean ones.
+fn executes_body(view: &ProgramView<'_>, chart: &Chart) -> bool {
+    let first = view
+        .actions()
+        .saturating_sub(chart.actions.as_slice().len());
+    let executed = view.executed_flags();
+    executed.next_set(first, &mut Ticks::new()).is_some()
+}
+
 impl Stage {
     /// One for a plant. The one error is that memory was refused.
     pub fn new(alloc: Global, plant: &Plant, tables: &[Tables]) -> Result<Stage, AllocError>
@@ -137,6 +146,9 @@ impl Stage {
         let Some(chart) = chart_of(view) else {
             return;
         };
+        if !executes_body(view, chart) {
+            return;
+        }
         measure(&mut self.times, view);
         let ticks = &mut Ticks::new();
         self.image.begin();

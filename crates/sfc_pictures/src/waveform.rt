@@ -73,8 +73,9 @@ fn next_value(
     let mut signal = group.value_of(from);
     for variable in from..end {
         let bits = bits_of(resource.value(VarId(variable as u16)));
-        if last.get(signal).copied() != Some(bits) {
-            return Some((variable, bits));
+        match last.get(signal) {
+            Some(shown) if *shown == bits => {}
+            _ => return Some((variable, bits)),
         }
         signal = signal.saturating_add(2);
     }
