@@ -15,18 +15,18 @@
 //! - `watch`: what is kept of the instances while they are watched.
 #![tactic(auto)]
 
-pub mod arms;
+mod arms;
 pub mod cover;
-pub mod elements;
-pub mod fault_counts;
+mod elements;
+mod fault_counts;
 pub mod follow;
 mod look;
 mod page;
-pub mod reach;
-pub mod reached;
+mod reach;
+mod reached;
 mod shadow;
 pub mod share;
 mod sheet;
-pub mod stage;
+mod stage;
 mod walk;
 pub mod watch;

@@ -73,17 +73,17 @@ impl Watch {
     }
 
     /// What there is to be reached.
-    pub fn elements(&self) -> &Elements {
+    pub(crate) fn elements(&self) -> &Elements {
         &self.elements
     }
 
     /// What was reached of each instance, by number.
-    pub fn reaches(&self) -> &[Reach] {
+    pub(crate) fn reaches(&self) -> &[Reach] {
         self.reaches.as_slice()
     }
 
     /// Looks at an instance before its scan at t, from 0 to 2^62 microseconds. One that is passed over isn't looked at.
-    pub fn look(&mut self, instances: &Instances, plant: &Plant, instance: ProgId, t: i64)
+    pub(crate) fn look(&mut self, instances: &Instances, plant: &Plant, instance: ProgId, t: i64)
         requires sizes { AreInstancesOf plant.now instances.now }
         requires watch { IsWatchOf plant.now self.old }
         requires instance { instance.0 < length plant.now.instances }
@@ -105,7 +105,7 @@ impl Watch {
     }
 
     /// Notes what the scan of an instance did that ended so.
-    pub fn note(
+    pub(crate) fn note(
         &mut self,
         instances: &Instances,
         plant: &Plant,
