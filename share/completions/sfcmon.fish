@@ -1,6 +1,6 @@
 # Completes the words of sfcmon in fish. Put this file into ~/.config/fish/completions.
 
-set -l commands check list why replay run draw wave explain help
+set -l commands check list why replay run draw wave cover explain help
 set -l names TooLong NotAscii BadToken Syntax TooDeep BadDuration BadNumber Memory \
     Unknown WrongType LiteralRange NotAssignable Duplicate NoInitial UnknownStep UnknownAction NotBool NotTime NoTask \
     UnknownType SameLocation Limit \
@@ -18,13 +18,15 @@ complete -c sfcmon -n __fish_use_subcommand -a replay -d 'play a script on a cha
 complete -c sfcmon -n __fish_use_subcommand -a run -d 'run a chart in real time, with a session on standard input'
 complete -c sfcmon -n __fish_use_subcommand -a draw -d 'draw a chart, for dot of Graphviz'
 complete -c sfcmon -n __fish_use_subcommand -a wave -d 'print the signals of a script on a chart, for viewers of waveforms'
+complete -c sfcmon -n __fish_use_subcommand -a cover -d 'tell what scripts on a chart never reach'
 complete -c sfcmon -n __fish_use_subcommand -a explain -d 'tell what a refusal or a fault means'
 complete -c sfcmon -n __fish_use_subcommand -a help -d 'print help on a command'
-complete -c sfcmon -n '__fish_seen_subcommand_from check list why replay run draw wave' -F
+complete -c sfcmon -n '__fish_seen_subcommand_from check list why replay run draw wave cover' -F
 complete -c sfcmon -n '__fish_seen_subcommand_from replay' -l strict -d 'end with status 1 after a refused command or a fault'
 complete -c sfcmon -n '__fish_seen_subcommand_from run' -l trace -x -d 'which commands have lines, a sum from 0 to 127'
 complete -c sfcmon -n '__fish_seen_subcommand_from draw' -l program -x -d 'draw this program type alone'
 complete -c sfcmon -n '__fish_seen_subcommand_from draw' -l after -r -d 'draw the instances behind a script'
 complete -c sfcmon -n '__fish_seen_subcommand_from wave' -l raw -d 'show the instants of the script'
+complete -c sfcmon -n '__fish_seen_subcommand_from cover' -l min -x -d 'end with status 1 where less was reached, in percent'
 complete -c sfcmon -n '__fish_seen_subcommand_from explain' -a "$names"
 complete -c sfcmon -n '__fish_seen_subcommand_from help' -a "$commands"

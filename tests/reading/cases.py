@@ -1,8 +1,8 @@
 #!/usr/bin/env python3
 """Runs files of cases through the reading: `cases.py FOLDER`. Their form is told in crates/conformance/README.md.
 
-Listings are passed over: the reading writes none. A case that doesn't end as it is to is shown; the last line is
-`N passed, M failed, K passed over`.
+Listings are passed over, since the reading writes none, and so is what scripts reach together. A case that doesn't end as it is to is
+shown; the last line is `N passed, M failed, K passed over`.
 """
 
 import re
@@ -11,7 +11,7 @@ from pathlib import Path
 
 from reading import Ended, plant_of, replayed
 
-TEXTS = ("chart", "globals", "body", "task", "script", "output")
+TEXTS = ("chart", "globals", "body", "task", "script", "second", "output")
 TASK = b"TASK Main(INTERVAL := T#10ms, PRIORITY := 1); PROGRAM P WITH Main : Mix;"
 LINE = re.compile(r"([a-z]+)(?:\*([0-9]+)|(<))?(?: (.*))?\Z", re.DOTALL)
 ESCAPE = re.compile(r"\\(?:([nrt])|x([0-9a-f]{2})|(#)|(\Z))")
@@ -39,7 +39,7 @@ class Case:
 
     def __init__(self, title: str, group=None):
         self.title = title
-        self.words = dict(group.words) if group else {"command": "replay", "status": "0", "stderr": ""}
+        self.words = dict(group.words) if group else {"command": "replay", "status": "0", "stderr": "", "min": "0"}
         self.texts = {word: list(lines) for word, lines in group.texts.items()} if group else {word: [] for word in TEXTS}
 
     def add(self, line: str, folder: Path):
@@ -94,8 +94,8 @@ def case_of(path: Path) -> Case:
 
 
 def is_played(case: Case) -> bool:
-    """Whether the reading answers the case: all but a listing."""
-    return case.words["command"] != "list" or case.words["stderr"] != ""
+    """Whether the reading answers the case: all but a listing, and what scripts reach together (`tests/cover.sh` has these)."""
+    return case.words["command"] != "cover" and (case.words["command"] != "list" or case.words["stderr"] != "")
 
 
 def answered(case: Case) -> str:

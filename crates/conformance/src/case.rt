@@ -1,5 +1,6 @@
 //! A case: what is run, and how it is to end.
 
+use crate::covering::{Scripts, covered};
 use crate::ending::Ending;
 use crate::frame::Frame;
 use anyhow::{Result, bail};
@@ -23,9 +24,12 @@ enum Command {
     Replay,
     /// The first fault of a chart, or else of a script, is told.
     Why,
+    /// What scripts on a chart reach together is told.
+    Cover,
 }
 
-/// What is run, and how it is to end. The chart is the whole of `chart`, or where there is none that of `frame`.
+/// What is run, and how it is to end. The chart is the whole of `chart`, or where there is none that of `frame`. `second` and `least` are for
+/// what scripts reach together: a second script, and how many percents are wanted.
 #[derive(Clone)]
 pub struct Case {
     pub title: String,
@@ -33,6 +37,8 @@ pub struct Case {
     chart: Option<Vec<u8>>,
     frame: Frame,
     script: Vec<u8>,
+    second: Option<Vec<u8>>,
+    pub least: u8,
     pub wanted: Ending,
 }
 
@@ -45,6 +51,8 @@ impl Drop for Case {
             chart: _,
             frame: _,
             script: _,
+            second: _,
+            least: _,
             wanted: _,
         } = self;
     }
@@ -89,6 +97,8 @@ impl Case {
             chart: None,
             frame: Frame::new(alloc),
             script: Vec::new(alloc),
+            second: None,
+            least: 0,
             wanted: Ending::new(alloc),
         })
     }
@@ -108,6 +118,7 @@ impl Case {
             "list" => self.command = Command::List,
             "replay" => self.command = Command::Replay,
             "why" => self.command = Command::Why,
+            "cover" => self.command = Command::Cover,
             _ => bail!("there is no command {name}"),
         }
         Ok(())
@@ -121,6 +132,7 @@ impl Case {
             "body" => self.frame.body.extend_from_slice(bytes)?,
             "task" => self.frame.task.extend_from_slice(bytes)?,
             "script" => self.script.extend_from_slice(bytes)?,
+            "second" => add_to(alloc, &mut self.second, bytes)?,
             "output" => self.wanted.output.extend_from_slice(bytes)?,
             _ => bail!("a case has no text {text}"),
         }
@@ -193,6 +205,21 @@ impl Case {
         Ok(ending)
     }
 
+    // What the scripts reach on the chart.
+    fn covered(&self, alloc: Global, chart: &[u8]) -> Result<Ending, AllocError> {
+        let scripts = Scripts {
+            first: self.script.as_slice(),
+            second: match &self.second {
+                Some(second) => Some(second.as_slice()),
+                None => None,
+            },
+            least: self.least,
+        };
+        let mut ending = Ending::new(alloc);
+        covered(alloc, chart, scripts, &mut ending)?;
+        Ok(ending)
+    }
+
     // Runs the command on a chart. A listing that doesn't list the same again is told as a fault.
     fn ending_on(&self, alloc: Global, chart: &[u8]) -> Result<Ending, AllocError> {
         let mut ending = match self.command {
@@ -200,6 +227,7 @@ impl Case {
             Command::List => self.listed(alloc, chart)?,
             Command::Replay => self.replayed(alloc, chart)?,
             Command::Why => self.explained(alloc, chart)?,
+            Command::Cover => self.covered(alloc, chart)?,
         };
         if !self.lists_alike(alloc, chart)? {
             ending

@@ -44,6 +44,7 @@ fn take_line<R: Files + AllocGlobal>(rt: &R, case: &mut Case, key: &str, text: &
     match key {
         "command" => case.set_command(text)?,
         "status" => case.wanted.status = text.parse::<u8>()?,
+        "min" => case.least = text.parse::<u8>()?,
         "stderr" => case.wanted.fault = String::from_str(rt.alloc(), text)?,
         _ => add_text(rt, case, key, text)?,
     }

@@ -83,9 +83,9 @@ fn append_begin(out: &mut Vec<u8>, number: usize, signal: Signal) -> Result<(), 
 // The signals of the resource.
 fn append_resource(out: &mut Vec<u8>, plant: &Plant, signals: &Signals) -> Result<(), AllocError> {
     let mut number = 0usize;
-    for shown in signals.shown.iter().take(signals.begin_of(0)) {
-        append_begin(out, number, shown.signal)?;
-        append_name(out, plant, shown.signal)?;
+    for signal in signals.list.iter().take(signals.begin_of(0)) {
+        append_begin(out, number, *signal)?;
+        append_name(out, plant, *signal)?;
         append(out, b" $end\n")?;
         number = number.saturating_add(1);
     }
@@ -102,9 +102,9 @@ fn append_signals(
 ) -> Result<(), AllocError> {
     let end = signals.begin_of(instance.saturating_add(1));
     for number in signals.begin_of(instance)..end {
-        if let Some(shown) = signals.shown.get(number) {
-            append_begin(out, number, shown.signal)?;
-            append_name_in(out, view, names, shown.signal)?;
+        if let Some(signal) = signals.list.get(number) {
+            append_begin(out, number, *signal)?;
+            append_name_in(out, view, names, *signal)?;
             append(out, b" $end\n")?;
         }
     }

@@ -9,6 +9,7 @@
 //! - `label`: pieces of text in labels of Graphviz.
 //! - `picture_error`: why there is no picture.
 //! - `quiet`: a report that writes nothing.
+//! - `sets`: what an instance showed last, as sets of its steps and actions.
 //! - `sheet`: what one drawing is made from.
 //! - `signal`, `signals`: what a waveform shows.
 //! - `step`: steps with their action blocks.
@@ -25,6 +26,7 @@ mod dump;
 mod label;
 pub mod picture_error;
 mod quiet;
+mod sets;
 mod sheet;
 mod signal;
 mod signals;

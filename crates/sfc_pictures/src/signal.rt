@@ -37,16 +37,16 @@ pub fn bit(is_set: bool) -> u64 {
     if is_set { 1 } else { 0 }
 }
 
-// The bits of a value, a negative number as its two's complement.
-fn bits_of(value: Value) -> u64 {
+/// The bits of a value, a negative number as its two's complement.
+pub fn bits_of(value: Value) -> u64 {
     match value {
         Value::Bool(is_set) => bit(is_set),
         number => number.number().cast_unsigned(),
     }
 }
 
-/// The bits of what a variable reads.
-pub fn variable_bits(resource: &Resource, variable: VarId) -> u64 {
+// The bits of what a variable reads.
+fn variable_bits(resource: &Resource, variable: VarId) -> u64 {
     if usize::from(variable.0) < resource.variables() {
         bits_of(resource.value(variable))
     } else {

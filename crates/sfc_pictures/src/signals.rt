@@ -10,15 +10,6 @@ use sfc_plant::image_variable::ImageVariable;
 use sfc_plant::plant::Plant;
 use std::alloc::{AllocError, Global};
 
-/// A signal, and what it read last.
-#[derive(Clone, Copy, Debug)]
-pub struct Shown {
-    /// The signal.
-    pub signal: Signal,
-    /// Its bits.
-    pub last: u64,
-}
-
 /// Where the signals of a group begin, and with them its variables: for each a signal of its value, and one of its force.
 #[derive(Clone, Copy, Debug)]
 pub struct Group {
@@ -30,11 +21,26 @@ pub struct Group {
     pub count: usize,
 }
 
+impl Group {
+    /// The number behind the last variable.
+    pub fn end(self) -> usize {
+        self.variable.saturating_add(self.count)
+    }
+
+    /// The signal of the value of a variable, which is one of the group.
+    pub fn value_of(self, variable: usize) -> usize {
+        let place = variable.saturating_sub(self.variable);
+        self.signal.saturating_add(place.saturating_mul(2))
+    }
+}
+
 /// The signals that are declared: those of the resource, of global variables, and of each instance its local variables, steps and actions.
 #[derive(Drop)]
 pub struct Signals {
     /// All of them.
-    pub shown: Vec<Shown>,
+    pub list: Vec<Signal>,
+    /// Their bits as they were shown last, by the number of the signal.
+    pub last: Vec<u64>,
     /// Global variables, and each instance.
     pub groups: Vec<Group>,
 }
@@ -60,7 +66,8 @@ fn end_of(resource: &Resource, owner: Option<ProgId>, from: usize) -> usize {
 impl Signals {
     // One signal more.
     fn push(&mut self, signal: Signal) -> Result<(), AllocError> {
-        self.shown.push(Shown { signal, last: 0 })?;
+        self.list.push(signal)?;
+        self.last.push(0)?;
         Ok(())
     }
 
@@ -95,7 +102,7 @@ impl Signals {
     ) -> Result<usize, AllocError> {
         let end = end_of(resource, owner, from);
         self.groups.push(Group {
-            signal: self.shown.len(),
+            signal: self.list.len(),
             variable: from,
             count: end.saturating_sub(from),
         })?;
@@ -155,7 +162,8 @@ impl Signals {
     /// Those of a resource. The one error is that memory was refused.
     pub fn of_resource(alloc: Global, resource: &Resource) -> Result<Signals, AllocError> {
         let mut signals = Signals {
-            shown: Vec::new(alloc),
+            list: Vec::new(alloc),
+            last: Vec::new(alloc),
             groups: Vec::new(alloc),
         };
         signals.push_tasks(resource.plant())?;
@@ -168,7 +176,15 @@ impl Signals {
     pub fn end_of_tasks(&self) -> usize {
         match self.groups.first() {
             Some(group) => group.signal,
-            None => self.shown.len(),
+            None => self.list.len(),
+        }
+    }
+
+    /// Where the signals of the steps of an instance begin, two for each.
+    pub fn steps_of(&self, instance: usize) -> usize {
+        match self.groups.get(instance.saturating_add(1)) {
+            Some(group) => group.value_of(group.end()),
+            None => self.list.len(),
         }
     }
 
@@ -176,7 +192,7 @@ impl Signals {
     pub fn begin_of(&self, instance: usize) -> usize {
         match self.groups.get(instance.saturating_add(1)) {
             Some(group) => group.signal,
-            None => self.shown.len(),
+            None => self.list.len(),
         }
     }
 }

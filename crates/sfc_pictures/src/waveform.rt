@@ -2,8 +2,9 @@
 
 use crate::declared::append_declarations;
 use crate::dump::{append_change, append_instant};
-use crate::signal::{Signal, bit, overruns_of, variable_bits};
-use crate::signals::{Shown, Signals};
+use crate::sets::Sets;
+use crate::signal::{Signal, bit, bits_of, overruns_of};
+use crate::signals::{Group, Signals};
 use sfc_base::ids::{ActionNumber, ProgId, TaskId, VarId};
 use sfc_base::references::StepId;
 use sfc_core::resource::Resource;
@@ -22,9 +23,10 @@ const STRIDE: usize = 2;
 const TASKS: usize = 16;
 
 /// A waveform, whose text waits to be written.
-#[derive(Drop)]
 pub struct Waveform {
     signals: Signals,
+    // Of each instance what was shown last.
+    sets: Vec<Sets>,
     // The instant of the last mark.
     instant: i64,
     // Whether a scan's signal is up.
@@ -33,19 +35,17 @@ pub struct Waveform {
     pub text: Vec<u8>,
 }
 
-// Puts what a signal reads from now on, behind the mark of the instant where that is a later one than before.
-fn append_at(
-    text: &mut Vec<u8>,
-    last: &mut i64,
-    instant: i64,
-    number: usize,
-    shown: Shown,
-) -> Result<(), AllocError> {
-    if instant > *last {
-        append_instant(text, instant)?;
-        *last = instant;
+// By hand, so that a caller that drops one proves one call.
+impl Drop for Waveform {
+    fn drop(self) {
+        let Waveform {
+            signals: _,
+            sets: _,
+            instant: _,
+            is_raised: _,
+            text: _,
+        } = self;
     }
-    append_change(text, number, shown.signal.width(), shown.last)
 }
 
 // The task that a command scans.
@@ -62,60 +62,99 @@ fn scan_of(task: TaskId) -> usize {
     FIRST_SCAN + STRIDE * usize::from(task.0)
 }
 
-impl Waveform {
-    ghost use Rattle.std.specs.Prelude.{◌<◌, length};
-    ghost use Rattle.sfc_instance.specs.Views.{tables_in};
+// The next variable of a group from this one on that reads something else than was shown last, and the bits that it reads.
+fn next_value(
+    resource: &Resource,
+    last: &[u64],
+    group: Group,
+    from: usize,
+) -> Option<(usize, u64)> {
+    let end = group.end().min(resource.variables());
+    let mut signal = group.value_of(from);
+    for variable in from..end {
+        let bits = bits_of(resource.value(VarId(variable as u16)));
+        match last.get(signal) {
+            Some(shown) if *shown == bits => {}
+            _ => return Some((variable, bits)),
+        }
+        signal = signal.saturating_add(2);
+    }
+    None
+}
 
+// Of each instance what it shows.
+fn sets_of(alloc: Global, resource: &Resource) -> Result<Vec<Sets>, AllocError> {
+    let mut sets = Vec::new(alloc);
+    for number in 0..resource.plant().instances().len() {
+        sets.push(Sets::of_view(alloc, &resource.program(ProgId(number as u8)))?)?;
+    }
+    Ok(sets)
+}
+
+impl Waveform {
     /// That of a debugger, with its declarations, and what each signal reads at instant 0. The one error is that memory was refused.
     pub fn new(alloc: Global, debugger: &Debugger) -> Result<Waveform, AllocError> {
         let signals = Signals::of_resource(alloc, debugger.resource())?;
+        let sets = sets_of(alloc, debugger.resource())?;
         let mut waveform = Waveform {
             signals,
+            sets,
             instant: 0,
             is_raised: false,
             text: Vec::new(alloc),
         };
-        append_declarations(&mut waveform.text, debugger.resource(), &waveform.signals)?;
-        append(&mut waveform.text, b"#0\n$dumpvars\n")?;
-        waveform.put_all_first(debugger)?;
-        append(&mut waveform.text, b"$end\n")?;
+        waveform.begin(debugger)?;
         Ok(waveform)
+    }
+
+    // Puts the declarations and what each signal reads.
+    fn begin(&mut self, debugger: &Debugger) -> Result<(), AllocError> {
+        append_declarations(&mut self.text, debugger.resource(), &self.signals)?;
+        append(&mut self.text, b"#0\n$dumpvars\n")?;
+        for number in 0..self.signals.list.len() {
+            self.put_first(debugger, number)?;
+        }
+        append(&mut self.text, b"$end\n")
     }
 
     // Puts what a signal reads, whatever it read before.
     fn put_first(&mut self, debugger: &Debugger, number: usize) -> Result<(), AllocError> {
-        let Some(shown) = self.signals.shown.get_mut(number) else {
-            return Ok(());
-        };
-        shown.last = shown.signal.bits(debugger);
-        let now = *shown;
-        append_change(&mut self.text, number, now.signal.width(), now.last)
-    }
-
-    // Puts what each signal reads.
-    fn put_all_first(&mut self, debugger: &Debugger) -> Result<(), AllocError> {
-        for number in 0..self.signals.shown.len() {
-            self.put_first(debugger, number)?;
+        match self.signals.list.get(number) {
+            Some(signal) => {
+                let bits = signal.bits(debugger);
+                self.show(number, bits)
+            }
+            None => Ok(()),
         }
-        Ok(())
     }
 
-    // Puts what a signal reads from now on. It stands apart from the loops that look for changes, which are short so.
+    // Puts what a signal reads.
+    fn show(&mut self, number: usize, bits: u64) -> Result<(), AllocError> {
+        if let Some(last) = self.signals.last.get_mut(number) {
+            *last = bits;
+        }
+        match self.signals.list.get(number) {
+            Some(signal) => append_change(&mut self.text, number, signal.width(), bits),
+            None => Ok(()),
+        }
+    }
+
+    // Puts what a signal reads from now on, behind the mark of the instant where that is a later one than before. It stands apart from the
+    // loops that look for changes, which are short so.
     #[inline(never)]
     fn change(&mut self, instant: i64, number: usize, bits: u64) -> Result<(), AllocError> {
-        let Some(shown) = self.signals.shown.get_mut(number) else {
-            return Ok(());
-        };
-        shown.last = bits;
-        let now = *shown;
-        append_at(&mut self.text, &mut self.instant, instant, number, now)
+        if instant > self.instant {
+            append_instant(&mut self.text, instant)?;
+            self.instant = instant;
+        }
+        self.show(number, bits)
     }
 
     // Puts what a signal reads, where that is something else than before.
     #[inline(always)]
     fn put(&mut self, instant: i64, number: usize, bits: u64) -> Result<(), AllocError> {
-        match self.signals.shown.get(number) {
-            Some(shown) if shown.last != bits => self.change(instant, number, bits),
+        match self.signals.last.get(number) {
+            Some(last) if *last != bits => self.change(instant, number, bits),
             _ => Ok(()),
         }
     }
@@ -127,16 +166,10 @@ impl Waveform {
         instant: i64,
         number: usize,
     ) -> Result<(), AllocError> {
-        match self.signals.shown.get(number) {
-            None
-            | Some(
-                Shown {
-                    signal: Signal::Scan(_),
-                    ..
-                },
-            ) => Ok(()),
-            Some(shown) => {
-                let bits = shown.signal.bits(debugger);
+        match self.signals.list.get(number) {
+            None | Some(Signal::Scan(_)) => Ok(()),
+            Some(signal) => {
+                let bits = signal.bits(debugger);
                 self.put(instant, number, bits)
             }
         }
@@ -144,53 +177,73 @@ impl Waveform {
 
     // Puts each signal that reads something else than before.
     fn put_signals(&mut self, debugger: &Debugger, instant: i64) -> Result<(), AllocError> {
-        for number in 0..self.signals.shown.len() {
+        for number in 0..self.signals.list.len() {
             self.put_signal(debugger, instant, number)?;
         }
+        self.keep_all(debugger.resource());
         Ok(())
     }
 
-    // Puts the values of a group's variables. It answers where its variables' signals end.
+    // All instances are shown as they stand.
+    fn keep_all(&mut self, resource: &Resource) {
+        for number in 0..resource.plant().instances().len() {
+            self.keep(&resource.program(ProgId(number as u8)), number);
+        }
+    }
+
+    // An instance is shown as it stands.
+    fn keep(&mut self, view: &ProgramView<'_>, number: usize) {
+        if let Some(sets) = self.sets.get_mut(number) {
+            sets.keep(view);
+        }
+    }
+
+    // Puts the values of a group's variables.
     fn put_values(
         &mut self,
         resource: &Resource,
         instant: i64,
         number: usize,
-    ) -> Result<usize, AllocError> {
+    ) -> Result<(), AllocError> {
         let Some(group) = self.signals.groups.get(number) else {
-            return Ok(self.signals.shown.len());
+            return Ok(());
         };
         let group = *group;
-        let mut signal = group.signal;
-        for k in 0..group.count {
-            let Ok(variable) = u16::try_from(group.variable.saturating_add(k)) else {
+        let mut from = group.variable;
+        for _ in 0..group.count {
+            let Some((variable, bits)) = next_value(resource, &self.signals.last, group, from)
+            else {
                 break;
             };
-            self.put(instant, signal, variable_bits(resource, VarId(variable)))?;
-            signal = signal.saturating_add(2);
+            self.change(instant, group.value_of(variable), bits)?;
+            from = variable.saturating_add(1);
         }
-        Ok(signal)
+        Ok(())
     }
 
-    // Puts X and T of a step. T goes on while the step is active, and at the scan that leaves it.
+    // The next step of an instance from this one on that is active, or was.
+    fn next_step(&self, view: &ProgramView<'_>, number: usize, from: usize) -> Option<usize> {
+        self.sets.get(number)?.next_step(view, from)
+    }
+
+    // The next action of an instance from this one on whose Q or A changed.
+    fn next_action(&self, view: &ProgramView<'_>, number: usize, from: usize) -> Option<usize> {
+        self.sets.get(number)?.next_action(view, from)
+    }
+
+    // Puts X and T of a step, if there is such a step.
     fn put_step(
         &mut self,
         view: &ProgramView<'_>,
         instant: i64,
         signal: usize,
-        step: StepId,
-    ) -> Result<(), AllocError>
-        requires { step.0 < length (tables_in view.now).initial }
-    {
-        let is_active = view.active(step);
-        let was_active = match self.signals.shown.get(signal) {
-            Some(shown) => shown.last == 1,
-            None => false,
-        };
-        if !is_active && !was_active {
+        step: usize,
+    ) -> Result<(), AllocError> {
+        if step >= view.tables().steps() {
             return Ok(());
         }
-        self.put(instant, signal, bit(is_active))?;
+        let step = StepId(step as u16);
+        self.put(instant, signal, bit(view.active(step)))?;
         self.put(
             instant,
             signal.saturating_add(1),
@@ -198,38 +251,63 @@ impl Waveform {
         )
     }
 
-    // Puts the steps of an instance, whose signals begin here. It answers where they end.
+    // Puts the steps of an instance. T goes on while a step is active, and at the scan that leaves it.
     fn put_steps(
         &mut self,
         view: &ProgramView<'_>,
         instant: i64,
-        from: usize,
-    ) -> Result<usize, AllocError> {
-        let mut signal = from;
-        for number in 0..view.tables().steps() {
-            self.put_step(view, instant, signal, StepId(number as u16))?;
-            signal = signal.saturating_add(2);
+        number: usize,
+    ) -> Result<(), AllocError> {
+        let first = self.signals.steps_of(number);
+        let mut from = 0;
+        for _ in 0..view.steps() {
+            let Some(step) = self.next_step(view, number, from) else {
+                break;
+            };
+            let signal = first.saturating_add(step.saturating_mul(2));
+            self.put_step(view, instant, signal, step)?;
+            from = step.saturating_add(1);
         }
-        Ok(signal)
+        Ok(())
     }
 
-    // Puts the actions of an instance, whose signals begin here.
+    // Puts Q and A of an action, if there is such an action.
+    fn put_action(
+        &mut self,
+        view: &ProgramView<'_>,
+        instant: i64,
+        signal: usize,
+        action: usize,
+    ) -> Result<(), AllocError> {
+        if action >= view.actions() {
+            return Ok(());
+        }
+        let action = ActionNumber(action);
+        self.put(instant, signal, bit(view.q(action)))?;
+        self.put(
+            instant,
+            signal.saturating_add(1),
+            bit(view.executed(action)),
+        )
+    }
+
+    // Puts the actions of an instance.
     fn put_actions(
         &mut self,
         view: &ProgramView<'_>,
         instant: i64,
-        from: usize,
+        number: usize,
     ) -> Result<(), AllocError> {
-        let mut signal = from;
-        for number in 0..view.tables().actions() {
-            let action = ActionNumber(number);
-            self.put(instant, signal, bit(view.q(action)))?;
-            self.put(
-                instant,
-                signal.saturating_add(1),
-                bit(view.executed(action)),
-            )?;
-            signal = signal.saturating_add(2);
+        let steps = self.signals.steps_of(number);
+        let first = steps.saturating_add(view.steps().saturating_mul(2));
+        let mut from = 0;
+        for _ in 0..view.actions() {
+            let Some(action) = self.next_action(view, number, from) else {
+                break;
+            };
+            let signal = first.saturating_add(action.saturating_mul(2));
+            self.put_action(view, instant, signal, action)?;
+            from = action.saturating_add(1);
         }
         Ok(())
     }
@@ -245,9 +323,11 @@ impl Waveform {
             return Ok(());
         }
         let view = resource.program(ProgId(number as u8));
-        let steps = self.put_values(resource, instant, number.saturating_add(1))?;
-        let actions = self.put_steps(&view, instant, steps)?;
-        self.put_actions(&view, instant, actions)
+        self.put_values(resource, instant, number.saturating_add(1))?;
+        self.put_steps(&view, instant, number)?;
+        self.put_actions(&view, instant, number)?;
+        self.keep(&view, number);
+        Ok(())
     }
 
     // Puts the instances whose bits are set.

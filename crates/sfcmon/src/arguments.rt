@@ -60,6 +60,17 @@ pub struct Waving {
     pub instants: Instants,
 }
 
+/// Scripts on a chart of which is asked what they reach together.
+#[derive(Drop)]
+pub struct Covering {
+    /// The name of the chart's file.
+    pub chart: String,
+    /// The names of the scripts' files.
+    pub scripts: Vec<String>,
+    /// How many percents are wanted at the least.
+    pub least: u8,
+}
+
 /// What the words ask for.
 #[derive(Drop)]
 pub enum Request {
@@ -77,6 +88,8 @@ pub enum Request {
     Draw(Drawing),
     /// A script on a chart whose signals are to be shown.
     Wave(Waving),
+    /// Scripts on a chart of which is asked what they reach together.
+    Cover(Covering),
     /// What a refusal or a fault means, by its number or its name.
     Explain { word: String },
     /// The numbers and names of all refusals and faults.
@@ -229,6 +242,26 @@ Examples:
 
 GTKWave and PulseView show such files.";
 
+// What stands at the end of the help on `cover`.
+const COVER_NOTES: &str = "\
+Each script is played on the chart as it is loaded, and what they reach is put together. Told are shares, of each program instance and of each
+program type that has several instances or none, and what was never reached: steps that were never active; transitions that were never
+enabled, never TRUE, or never cleared, with the transition that took their token; actions that were never executed; branches of IF statements
+that were never taken.
+
+Exit status:
+  0  all scripts were played; what was refused is passed over
+  1  the chart or a script is refused; with --min also: less was reached than is wanted
+  2  the words of the command line are wrong
+  3  a file can't be read, or the output can't be written
+  4  memory was refused
+
+Examples:
+  sfcmon cover examples/pump.chart examples/pump.script
+  sfcmon cover --min 90 examples/mixing.chart examples/mixing.script
+
+docs/FORMATS.md says what each line is.";
+
 // What stands at the end of the help on `explain`.
 const EXPLAIN_NOTES: &str = "\
 Exit status:
@@ -355,6 +388,29 @@ fn wave_command<'a>(alloc: Global) -> Result<Command<'a>, AllocError> {
         .arg(script_argument(alloc))
 }
 
+// The argument that says how much is wanted.
+fn min_argument<'a>(alloc: Global) -> Arg<'a> {
+    Arg::new(alloc, "min")
+        .long("min")
+        .value_name("PERCENT")
+        .value_parser(ValueParser::Unsigned(0, 100))
+        .default_value("0")
+        .help("Ends with status 1 where less than this was reached in total, 0 to 100")
+}
+
+fn cover_command<'a>(alloc: Global) -> Result<Command<'a>, AllocError> {
+    let scripts = Arg::new(alloc, "SCRIPT")
+        .required(true)
+        .num_args(1..)
+        .help("The scripts");
+    Command::new(alloc, "cover")
+        .about("Plays scripts on a chart and prints what of it they never reached together")
+        .after_help(COVER_NOTES)
+        .arg(min_argument(alloc))?
+        .arg(chart_argument(alloc))?
+        .arg(scripts)
+}
+
 fn explain_command<'a>(alloc: Global) -> Result<Command<'a>, AllocError> {
     let name = Arg::new(alloc, "NAME").num_args(1..).help(
         "A number such as 14 or a name such as NoInitial, whatever the case of its letters",
@@ -422,6 +478,7 @@ fn sfcmon_command<'a>(alloc: Global) -> Result<Command<'a>, AllocError> {
     let command = with_command(command, replay_command(alloc))?;
     let command = with_command(command, run_command(alloc))?;
     let command = with_picture_commands(alloc, command)?;
+    let command = with_command(command, cover_command(alloc))?;
     with_command(command, explain_command(alloc))
 }
 
@@ -564,6 +621,31 @@ fn wave_request(alloc: Global, matches: &ArgMatches) -> Result<Request, AllocErr
     }
 }
 
+// The words as texts of their own.
+fn owned(alloc: Global, words: &[&str]) -> Result<Vec<String>, AllocError> {
+    let mut texts = Vec::new(alloc);
+    for word in words {
+        texts.push(String::from_str(alloc, word)?)?;
+    }
+    Ok(texts)
+}
+
+// Scripts on a chart, where both are named.
+fn cover_request(alloc: Global, matches: &ArgMatches) -> Result<Request, AllocError> {
+    match (
+        matches.get_str("FILE"),
+        matches.get_strs("SCRIPT"),
+        matches.get_one::<u8>("min"),
+    ) {
+        (Some(chart), Some(scripts), Some(least)) => Ok(Request::Cover(Covering {
+            chart: String::from_str(alloc, chart)?,
+            scripts: owned(alloc, scripts)?,
+            least,
+        })),
+        _ => Ok(Request::Answered(2)),
+    }
+}
+
 // What the words that matched ask for.
 fn request_of(alloc: Global, matches: &ArgMatches) -> Result<Request, AllocError> {
     if let Some(check) = matches.subcommand_matches("check") {
@@ -586,6 +668,9 @@ fn request_of(alloc: Global, matches: &ArgMatches) -> Result<Request, AllocError
     }
     if let Some(wave) = matches.subcommand_matches("wave") {
         return wave_request(alloc, wave);
+    }
+    if let Some(cover) = matches.subcommand_matches("cover") {
+        return cover_request(alloc, cover);
     }
     if let Some(explain) = matches.subcommand_matches("explain") {
         return explain_request(alloc, explain.get_strs("NAME"));

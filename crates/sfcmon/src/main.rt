@@ -1,7 +1,8 @@
-//! `sfcmon`: checks, lists and draws Sequential Function Charts, says where a fault is, plays scripts on them and prints what happens or how
-//! the signals go, runs them in real time, and tells what a refusal or a fault means.
+//! `sfcmon`: checks, lists and draws Sequential Function Charts, says where a fault is, plays scripts on them and prints what happens, how
+//! the signals go or what they never reach, runs them in real time, and tells what a refusal or a fault means.
 //!
 //! - `arguments`: the command line.
+//! - `cover`: what scripts on a chart reach together.
 //! - `explain`: what refusals and faults mean.
 //! - `files`: charts and scripts in files, standard output and exit status.
 //! - `pictures`: charts and runs as pictures.
@@ -9,6 +10,7 @@
 #![tactic(auto)]
 
 mod arguments;
+mod cover;
 mod explain;
 mod files;
 mod pictures;
@@ -62,6 +64,7 @@ where
         Request::Run(running) => files::run_file(rt, streams, running.chart.as_str(), running.mask),
         Request::Draw(drawing) => pictures::draw_file(rt, drawing),
         Request::Wave(waving) => pictures::wave_files(rt, waving),
+        Request::Cover(covering) => cover::cover_files(rt, covering),
         Request::Explain { word } => explain::explain_word(rt, word.as_str()),
         Request::ListExplanations => explain::list_explanations(rt),
         Request::Answered(status) => *status,

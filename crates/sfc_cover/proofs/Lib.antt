@@ -1,0 +1,6 @@
+-- what an accepted command gives to instances beside the debugger
+pub mod Following
+-- a scan of a task, instance by instance
+pub mod TaskScans
+-- instances beside a debugger, command by command
+pub mod Playing

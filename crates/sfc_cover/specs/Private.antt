@@ -1,0 +1,8 @@
+-- What private clauses cite.
+
+-- which events are given
+pub mod Given
+-- a scan of a task, instance by instance
+pub mod Scanning
+-- the commands that are left
+pub mod Playing

@@ -1,0 +1,165 @@
+//! A stage on which the executed bodies of a scan are gone through once more.
+
+use sfc_image::image::Image;
+
+/// The variables as they stood before the scan of an instance, and room for the times of its steps after it.
+pub struct Stage {
+    image: Image,
+    times: Vec<i64>,
+}
+
+// By hand, so that a caller that drops one proves one call.
+impl Drop for Stage {
+    fn drop(self) {
+        let Stage { image: _, times: _ } = self;
+    }
+}
+
+ghost use Rattle.std.specs.Prelude.{◌≡◌, ◌<◌, IfOk, length};
+ghost use Rattle.sfc_image.specs.Agreement.{IsAsLarge, instance_total, is_open};
+ghost use Rattle.sfc_instance.specs.Views.{instance_in, plant_in, tables_in};
+ghost use Rattle.sfc_instances.specs.Agreement.{AreInstancesOf};
+ghost use Rattle.sfc_cover.specs.Stages.{IsStageOf};
+
+use crate::arms::Arms;
+use crate::look::chart_of;
+use crate::walk::{Acting, walk_statements};
+use sfc_base::ids::ActionNumber;
+use sfc_base::limits::STEPS;
+use sfc_base::references::StepId;
+use sfc_base::ticks::Ticks;
+use sfc_expr::fault::Fault;
+use sfc_image::step_readings::StepReadings;
+use sfc_instance::program_view::ProgramView;
+use sfc_instances::instances::Instances;
+use sfc_plant::association::Target;
+use sfc_plant::chart::Chart;
+use sfc_plant::plant::Plant;
+use sfc_tables::tables::Tables;
+use std::alloc::{AllocError, Global};
+
+/// The bodies of an instance: its chart, the branches of its IFs, and the times of its steps after the scan.
+#[derive(Clone, Copy)]
+struct Bodies<'a> {
+    chart: &'a Chart,
+    arms: &'a Arms,
+    times: &'a [i64],
+}
+
+// The times of the steps after the scan, by number.
+fn measure(times: &mut [i64], view: &ProgramView<'_>) {
+    for number in 0..view.tables().steps() {
+        let elapsed = view.elapsed(StepId(number as u16));
+        if let Some(time) = times.get_mut(number) {
+            *time = elapsed;
+        }
+    }
+}
+
+// The body of an action, where it has one and was executed.
+fn walk_action(
+    image: &mut Image,
+    marks: &mut [bool],
+    view: &ProgramView<'_>,
+    bodies: Bodies<'_>,
+    action: ActionNumber,
+) -> Result<(), Fault>
+    requires instance { (instance_in view.now).0 < instance_total image.old }
+    requires action { action.0 < length (tables_in view.now).actions }
+    ensures large { IsAsLarge image.old image.new }
+    ensures open { is_open image.new ≡ is_open image.old }
+{
+    if !view.executed(action) {
+        return Ok(());
+    }
+    let Target::Declared(id) = view.tables().target(action) else {
+        return Ok(());
+    };
+    let Some(declared) = bodies.chart.actions.as_slice().get(id.0) else {
+        return Ok(());
+    };
+    let acting = Acting {
+        instance: view.instance(),
+        arms: bodies.arms,
+        readings: StepReadings {
+            active: view.active_flags(),
+            times: bodies.times,
+        },
+        q: view.q(action),
+    };
+    let place = bodies.arms.start(id);
+    walk_statements(image, marks, acting, declared.body.as_slice(), place)
+}
+
+// The bodies of the executed actions, one after the other, up to the first fault.
+fn walk_actions(
+    image: &mut Image,
+    marks: &mut [bool],
+    view: &ProgramView<'_>,
+    bodies: Bodies<'_>,
+) -> Result<(), Fault>
+    requires { (instance_in view.now).0 < instance_total image.old }
+    ensures large { IsAsLarge image.old image.new }
+    ensures open { is_open image.new ≡ is_open image.old }
+{
+    for number in 0..view.tables().actions() {
+        walk_action(image, marks, view, bodies, ActionNumber(number))?;
+    }
+    Ok(())
+}
+
+// Whether the scan executed an action with a body; these stand behind the Boolean ones.
+fn executes_body(view: &ProgramView<'_>, chart: &Chart) -> bool {
+    let first = view
+        .actions()
+        .saturating_sub(chart.actions.as_slice().len());
+    let executed = view.executed_flags();
+    executed.next_set(first, &mut Ticks::new()).is_some()
+}
+
+impl Stage {
+    /// One for a plant. The one error is that memory was refused.
+    pub fn new(alloc: Global, plant: &Plant, tables: &[Tables]) -> Result<Stage, AllocError>
+        ensures { IfOk result (λ stage. IsStageOf plant.now stage) }
+    {
+        Ok(Stage {
+            image: Image::new(alloc, plant, tables)?,
+            times: vec![in alloc; 0; STEPS]?,
+        })
+    }
+
+    /// Takes over the variables as they stand.
+    pub fn set(&mut self, plant: &Plant, instances: &Instances)
+        requires stage { IsStageOf plant.now self.old }
+        requires sizes { AreInstancesOf plant.now instances.now }
+        ensures { IsStageOf plant.now self.new }
+    {
+        self.image.copy_from(instances.image(), &mut Ticks::new());
+    }
+
+    /// Goes through the bodies that the scan executed, over the variables as they were taken over and the outputs of the scan, and marks the
+    /// branches of IFs that are taken.
+    pub fn act(&mut self, view: &ProgramView<'_>, arms: &Arms, marks: &mut [bool])
+        requires { IsStageOf (plant_in view.now) self.old }
+        ensures { IsStageOf (plant_in view.now) self.new }
+    {
+        let Some(chart) = chart_of(view) else {
+            return;
+        };
+        if !executes_body(view, chart) {
+            return;
+        }
+        measure(&mut self.times, view);
+        let ticks = &mut Ticks::new();
+        self.image.begin();
+        self.image
+            .assign_outputs(view.instance(), view.tables(), view.q_flags(), ticks);
+        let bodies = Bodies {
+            chart,
+            arms,
+            times: &self.times,
+        };
+        let _ended = walk_actions(&mut self.image, marks, view, bodies);
+        self.image.undo(ticks);
+    }
+}

@@ -1,0 +1,87 @@
+//! What scripts on a chart reach together, from files to standard output.
+
+use crate::arguments::Covering;
+use crate::files::end_with;
+use sfc_cover::cover::Cover;
+use sfc_monitor::monitor_error::MonitorError;
+use std::io::Read;
+use std::rt::Files;
+use std::{fs, io};
+
+// Prints the text of an error of a script behind the name of its file; the exit status.
+fn end_with_script<R: Eprint>(rt: &R, script: &str, error: MonitorError) -> u8 {
+    let _ = eprintln!(rt; "{script}: {error}");
+    error.status()
+}
+
+// The files of the scripts, all of which are opened before one is read; or the exit status.
+fn open_scripts<R: Eprint + Files + AllocGlobal>(
+    rt: &R,
+    names: &[String],
+) -> Result<Vec<R::File>, u8> {
+    let mut files = Vec::new(rt.alloc());
+    for name in names {
+        let Ok(file) = fs::open(rt, name.as_str()) else {
+            return Err(end_with_script(rt, name.as_str(), MonitorError::Read));
+        };
+        if files.push(file).is_err() {
+            return Err(end_with(rt, MonitorError::Memory));
+        }
+    }
+    Ok(files)
+}
+
+// Plays the scripts; or the exit status of the first that is refused.
+fn play_all<R: Eprint + AllocGlobal, S: Read>(
+    rt: &R,
+    cover: &mut Cover,
+    scripts: &mut [S],
+    names: &[String],
+) -> Result<(), u8> {
+    for (script, name) in scripts.iter_mut().zip(names) {
+        if let Err(error) = cover.play(rt.alloc(), script) {
+            return Err(end_with_script(rt, name.as_str(), error));
+        }
+    }
+    Ok(())
+}
+
+// Prints the report; the exit status.
+fn print_report<R: Print + Eprint + AllocGlobal>(rt: &R, cover: &Cover, least: u8) -> u8 {
+    let mut out = io::writer(rt);
+    match cover.put_report(rt.alloc(), &mut out) {
+        Err(error) => end_with(rt, error),
+        Ok(()) if cover.total().is_below(least) => 1,
+        Ok(()) => 0,
+    }
+}
+
+// Plays the scripts on the chart, and prints what they reach: the exit status.
+fn cover_opened<R: Print + Eprint + AllocGlobal, C: Read, S: Read>(
+    rt: &R,
+    chart: &mut C,
+    scripts: &mut [S],
+    covering: &Covering,
+) -> u8 {
+    let mut cover = match Cover::of_chart(rt.alloc(), chart) {
+        Ok(cover) => cover,
+        Err(error) => return end_with(rt, error),
+    };
+    match play_all(rt, &mut cover, scripts, &covering.scripts) {
+        Ok(()) => print_report(rt, &cover, covering.least),
+        Err(status) => status,
+    }
+}
+
+/// Plays the scripts of files on the chart of another, and prints on standard output what they reach together: the exit status, which is 1
+/// also where that is less than the percents that are wanted. All files are opened before one is read; one that can't be opened is a read
+/// fault. What is wrong with a script is told behind the name of its file.
+pub fn cover_files<R: Print + Eprint + Files + AllocGlobal>(rt: &R, covering: &Covering) -> u8 {
+    let Ok(mut chart) = fs::open(rt, covering.chart.as_str()) else {
+        return end_with(rt, MonitorError::Read);
+    };
+    match open_scripts(rt, &covering.scripts) {
+        Ok(mut scripts) => cover_opened(rt, &mut chart, &mut scripts, covering),
+        Err(status) => status,
+    }
+}
