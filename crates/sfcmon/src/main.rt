@@ -2,6 +2,7 @@
 //! the signals go, runs them in real time, and tells what a refusal or a fault means.
 //!
 //! - `arguments`: the command line.
+//! - `debug`: a chart that is stepped by hand.
 //! - `explain`: what refusals and faults mean.
 //! - `files`: charts and scripts in files, standard output and exit status.
 //! - `pictures`: charts and runs as pictures.
@@ -9,6 +10,7 @@
 #![tactic(auto)]
 
 mod arguments;
+mod debug;
 mod explain;
 mod files;
 mod pictures;
@@ -60,6 +62,7 @@ where
         Request::Why(asking) => explain_fault(rt, asking),
         Request::Replay(playing) => replay(rt, playing),
         Request::Run(running) => files::run_file(rt, streams, running.chart.as_str(), running.mask),
+        Request::Debug { chart } => debug::debug_file(rt, streams, chart.as_str()),
         Request::Draw(drawing) => pictures::draw_file(rt, drawing),
         Request::Wave(waving) => pictures::wave_files(rt, waving),
         Request::Explain { word } => explain::explain_word(rt, word.as_str()),
