@@ -1,5 +1,6 @@
 //! A case: what is run, and how it is to end.
 
+use crate::debugged::debugged;
 use crate::ending::Ending;
 use crate::frame::Frame;
 use anyhow::{Result, bail};
@@ -23,6 +24,8 @@ enum Command {
     Replay,
     /// The first fault of a chart, or else of a script, is told.
     Why,
+    /// A chart is stepped by hand, by the lines of the script.
+    Debug,
 }
 
 /// What is run, and how it is to end. The chart is the whole of `chart`, or where there is none that of `frame`.
@@ -108,6 +111,7 @@ impl Case {
             "list" => self.command = Command::List,
             "replay" => self.command = Command::Replay,
             "why" => self.command = Command::Why,
+            "debug" => self.command = Command::Debug,
             _ => bail!("there is no command {name}"),
         }
         Ok(())
@@ -200,6 +204,7 @@ impl Case {
             Command::List => self.listed(alloc, chart)?,
             Command::Replay => self.replayed(alloc, chart)?,
             Command::Why => self.explained(alloc, chart)?,
+            Command::Debug => debugged(alloc, chart, &self.script)?,
         };
         if !self.lists_alike(alloc, chart)? {
             ending
