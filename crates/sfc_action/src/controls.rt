@@ -149,6 +149,15 @@ impl Controls {
         self.state.executed.get(action.0)
     }
 
+    /// Which actions the newest scan executed, by number.
+    pub fn executed_flags(&self) -> &Flags
+        ensures len { length result.now ≡ action_total self.now }
+        ensures each { (tables : Tabled) (h : List Scan) (action : ℕ) → action < action_total self.now →
+            ControlsAgree tables self.now h → flag result.now action ≡ executed tables action h }
+    {
+        &self.state.executed
+    }
+
     /// Takes over what the other keeps, which was made from the same tables. It takes no memory.
     pub fn copy_from(&mut self, tables: &Tables, other: &Controls, ticks: &mut Ticks)
         requires own { IsFor tables.now self.old }

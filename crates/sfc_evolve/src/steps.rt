@@ -231,6 +231,15 @@ impl Steps {
         self.cleared.get(transition.0 as usize)
     }
 
+    /// Which transitions the latest scan cleared, by number.
+    pub fn cleared_flags(&self) -> &Flags
+        ensures len { length result.now ≡ transition_total self.now }
+        ensures each { (tables : Tabled) (scans : List Scan) (tr : ℕ) → tr < transition_total self.now →
+            StepsAgree tables self.now scans → flag result.now tr ≡ was_cleared (rows_of tables scans) tr }
+    {
+        &self.cleared
+    }
+
     /// Takes over what the other keeps, which was made from tables of the same size. It takes no memory.
     pub fn copy_from(&mut self, other: &Steps, ticks: &mut Ticks)
         requires steps { step_total other.now ≡ step_total self.old }

@@ -1,5 +1,6 @@
 -- How a scan ends.
-use Rattle.std.proofs.Common.{◌≡◌, ◌∷◌, true, false, List, ℤ, Option, Some, None, is_some, Result, Ok, Err, is_ok, refl, sym, ap, subst, ◌∙◌}
+use Rattle.std.proofs.Common.{◌≡◌, ◌∷◌, true, false, List, ℤ, Option, Some, None, is_some, Result, Ok, Err, refl, sym, ap, subst, ◌∙◌}
+use Rattle.std.specs.Result.{is_err}
 use Rattle.sfc_expr.specs.declared.fault.Fault.{Fault}
 use Rattle.sfc_expr.specs.Environment.{Environment}
 use Rattle.sfc_plant.specs.declared.chart.Chart.{Chart}
@@ -28,13 +29,13 @@ use Rattle.sfc_instance.proofs.Readings.{tables_is}
 
 -- ---- the steps and the action control
 
-pub moved_ok : (tables : Tabled) (life : Life) (answer : Result (Unit {0}) Fault) (old new : State) → is_ok answer ≡ true
+pub moved_ok : (tables : Tabled) (life : Life) (answer : Result (Unit {0}) Fault) (old new : State) → is_err answer ≡ false
     → StateAgrees tables new life → Moves tables life answer old new
 unfolding Moves
 moved_ok tables life (Ok u) old new on h = h
 moved_ok tables life (Err f) old new on h = absurd cc
 
-pub moved_err : (tables : Tabled) (life : Life) (answer : Result (Unit {0}) Fault) (old new : State) → is_ok answer ≡ false
+pub moved_err : (tables : Tabled) (life : Life) (answer : Result (Unit {0}) Fault) (old new : State) → is_err answer ≡ true
     → new ≡ old → Moves tables life answer old new
 unfolding Moves
 moved_err tables life (Ok u) old new off h = absurd cc

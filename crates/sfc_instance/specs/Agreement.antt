@@ -38,6 +38,10 @@ action_total program = action.action_total program.run.now.controls
 unfoldable pub shown_elapsed : Program → ℕ → ℤ
 shown_elapsed program s = evolve.shown_time program.run.now.steps program.at s
 
+-- the time of a step at an instant, as it is answered
+unfoldable pub elapsed_at : Program → ℤ → ℕ → ℤ
+elapsed_at program t s = evolve.shown_time program.run.now.steps t s
+
 -- it is large enough for what these tables show, and the times that no scan has to read
 pub record AreBuffersFor (tables : Tabled) (buffers : ScanBuffers) : Type 0 where
   pub conditions : length buffers.conditions.items ≡ length tables.sides

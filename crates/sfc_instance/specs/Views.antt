@@ -1,5 +1,6 @@
--- What a `ProgramView` shows: an instance of a plant, its tables, its steps and action control, and the variables.
-use Rattle.std.specs.Prelude.{◌≡◌, cond, nat_lt, false, List, [], pos}
+-- What a `ProgramView` shows: an instance of a plant, its tables, its steps and action control, and the variables; and what a
+-- `ProgramMoment` reads over one.
+use Rattle.std.specs.Prelude.{◌≡◌, cond, nat_lt, false, List, [], ℤ, pos}
 use Rattle.sfc_expr.specs.Environment.{Environment}
 use Rattle.sfc_base.specs.declared.ids.ProgId.{ProgId}
 use Rattle.sfc_plant.specs.Plants.{PlantData}
@@ -9,9 +10,10 @@ use Rattle.sfc_evolve.specs.Evolution.{active_steps}
 use Rattle.sfc_image.specs.Agreement as image
 use Rattle.sfc_image.specs.Changes.{Change}
 use Rattle.sfc_image.specs.Environments.{environment_of}
+use Rattle.sfc_instance.specs.declared.program_moment.ProgramMoment.{ProgramMoment}
 use Rattle.sfc_instance.specs.declared.program_view.ProgramView.{ProgramView}
 use Rattle.sfc_instance.specs.Life.{InstanceState, evolution_rows}
-use Rattle.sfc_instance.specs.Agreement.{ProgramAgrees, step_total, shown_elapsed}
+use Rattle.sfc_instance.specs.Agreement.{ProgramAgrees, step_total, shown_elapsed, elapsed_at}
 
 -- the plant, and which of its instances is shown
 unfoldable pub plant_in : ProgramView → PlantData
@@ -28,6 +30,20 @@ tables_in view = tables_of (chart_of (plant_in view) (instance_in view))
 unfoldable pub environment_in : ProgramView → Environment
 environment_in view = record (image.environment_in view.variables) {
   time_of = λ step. cond (nat_lt step.0 (step_total view.program.now)) (shown_elapsed view.program.now step.0) (pos 0);
+}
+
+-- the window of a moment, and its instant
+unfoldable pub view_of : ProgramMoment → ProgramView
+view_of moment = moment.view
+
+unfoldable pub instant_of : ProgramMoment → ℤ
+instant_of moment = moment.t
+
+-- What a condition reads that is evaluated at its instant (`laws::moment`).
+unfoldable pub environment_at : ProgramMoment → Environment
+environment_at moment = record (environment_in moment.view) {
+  time_of = λ step.
+      cond (nat_lt step.0 (step_total moment.view.program.now)) (elapsed_at moment.view.program.now moment.t step.0) (pos 0);
 }
 
 -- the steps and action control are those of an instance that stands so, and the variables those after these changes

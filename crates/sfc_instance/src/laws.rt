@@ -8,8 +8,9 @@ ghost use Rattle.sfc_plant.specs.Finding.{chart_of};
 ghost use Rattle.sfc_plant.specs.Sound.{IsPlant};
 ghost use Rattle.sfc_image.specs.Past.{image_past};
 ghost use Rattle.sfc_instance.specs.declared.program.Program.{Program};
+ghost use Rattle.sfc_instance.specs.declared.program_moment.ProgramMoment.{ProgramMoment};
 ghost use Rattle.sfc_instance.specs.declared.program_view.ProgramView.{ProgramView};
-ghost use Rattle.sfc_instance.specs.Views.{Shows, plant_in, instance_in, environment_in};
+ghost use Rattle.sfc_instance.specs.Views.{Shows, plant_in, instance_in, environment_in, view_of, instant_of, environment_at};
 ghost use Rattle.sfc_evolve.specs.Clearing.{step_count};
 ghost use Rattle.sfc_instance.specs.Agreement.{ProgramAgrees};
 ghost use Rattle.sfc_instance.specs.Answers.{scan_count, is_step_active, step_elapsed, is_step_activated};
@@ -63,6 +64,14 @@ pub fn window()
     ensures { (view : ProgramView) (changes : List Change) (instance_state : InstanceState) → Shows view changes instance_state →
         environment_in view ≡ environment (plant_in view) (instance_in view) instance_state.life changes
         (latest_instant instance_state.life) false }
+{}
+
+/// What a condition reads at a moment is what it reads before a scan at its instant (2.6.2, 3.3.1).
+pub fn moment()
+    ensures { (moment : ProgramMoment) (changes : List Change) (instance_state : InstanceState) →
+        Shows (view_of moment) changes instance_state →
+        environment_at moment ≡ environment (plant_in (view_of moment)) (instance_in (view_of moment)) instance_state.life changes
+        (instant_of moment) false }
 {}
 
 /// What is kept is the past of how the instance stands: all that later answers need, and for all that stand with this past

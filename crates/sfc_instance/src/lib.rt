@@ -5,7 +5,8 @@
 //! - `conditions`: the conditions of transitions.
 //! - `scan_end`: how a scan ended.
 //! - `laws`: what the definitions mean.
-//! - `program`: a program instance, in running form; `program_view`: a window on one.
+//! - `program`: a program instance, in running form; `program_view`: a window on one;
+//!   `program_moment`: what its conditions read at an instant.
 //! - `reading`: the times of associations.
 //! - `scan_buffers`: the buffers of a scan.
 //! - `scan_fault`: what ended a scan without a row.
@@ -19,6 +20,7 @@ mod conditions;
 pub mod laws;
 pub mod program;
 pub mod program_context;
+pub mod program_moment;
 pub mod program_view;
 mod reading;
 mod scan_buffers;

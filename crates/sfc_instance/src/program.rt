@@ -43,8 +43,9 @@ impl Drop for Program {
 
 #[tactic(auto, unfolding(crate::specs::Agreement::IsFor, crate::specs::Agreement::ProgramAgrees, crate::specs::Agreement::StateAgrees))]
 impl Program {
-    ghost use Rattle.std.specs.Prelude.{◌≡◌, ◌<◌, ◌≤ℤ◌, ◌^◌, pos, false, List, length, IfOk};
+    ghost use Rattle.std.specs.Prelude.{◌≡◌, ◌<◌, ◌≤ℤ◌, ◌^◌, ℕ, pos, false, List, length, IfOk};
     ghost use Rattle.sfc_base.specs.Ticks.{Within};
+    ghost use Rattle.sfc_flags.specs.Flags.{flag};
     ghost use Rattle.sfc_tables.specs.Tables.{Tabled, tables_of};
     ghost use Rattle.sfc_plant.specs.Plants.{PlantData};
     ghost use Rattle.sfc_image.specs.Changes.{Change, settled};
@@ -55,7 +56,7 @@ impl Program {
     ghost use Rattle.sfc_instance.specs.ProgramScan.{after_scan};
     ghost use Rattle.sfc_instance.specs.Work.{scan_work, copy_work};
     ghost use Rattle.sfc_instance.specs.Answers as answers;
-    ghost use Rattle.sfc_instance.specs.Agreement.{IsFor, ProgramAgrees, step_total, transition_total, action_total, shown_elapsed};
+    ghost use Rattle.sfc_instance.specs.Agreement.{IsFor, ProgramAgrees, step_total, transition_total, action_total, shown_elapsed, elapsed_at};
 
     /// Before the first scan of a life. All memory that scans need is taken here; the one error is that memory was
     /// refused.
@@ -158,6 +159,34 @@ impl Program {
         self.run.now.steps.active_flags()
     }
 
+    /// Which transitions the latest scan cleared, by number (2.6.5).
+    pub(crate) fn cleared_flags(&self) -> &Flags
+        ensures len { length result.now ≡ transition_total self.now }
+        ensures each { (tables : Tabled) (instance_state : InstanceState) (tr : ℕ) → tr < transition_total self.now →
+            ProgramAgrees tables self.now instance_state → flag result.now tr ≡ answers.is_transition_cleared tables instance_state tr }
+    {
+        self.run.now.steps.cleared_flags()
+    }
+
+    /// Which actions have Q after the latest scan, by number (2.6.4.5).
+    pub(crate) fn q_flags(&self) -> &Flags
+        ensures len { length result.now ≡ action_total self.now }
+        ensures each { (tables : Tabled) (instance_state : InstanceState) (action : ℕ) → action < action_total self.now →
+            ProgramAgrees tables self.now instance_state → flag result.now action ≡ answers.action_q tables instance_state action }
+    {
+        self.run.now.controls.q_flags()
+    }
+
+    /// Which actions the latest scan executed, by number: their A (2.6.4.5).
+    pub(crate) fn executed_flags(&self) -> &Flags
+        ensures len { length result.now ≡ action_total self.now }
+        ensures each { (tables : Tabled) (instance_state : InstanceState) (action : ℕ) → action < action_total self.now →
+            ProgramAgrees tables self.now instance_state →
+            flag result.now action ≡ answers.is_action_executed tables instance_state action }
+    {
+        self.run.now.controls.executed_flags()
+    }
+
     /// How many scans its life has had; at most 2^64 - 1, where the count stays.
     pub(crate) fn scans(&self) -> u64
         ensures { (tables : Tabled) (instance_state : InstanceState) → ProgramAgrees tables self.now instance_state →
@@ -191,6 +220,17 @@ impl Program {
             result ≡ answers.step_elapsed tables instance_state step.0 }
     {
         self.run.now.steps.elapsed(step, self.at)
+    }
+
+    /// The step's time at t, from 0 to 2^62 microseconds; what it kept, if it is not active (2.6.2).
+    #[tactic(auto, unfolding(crate::specs::Agreement::elapsed_at))]
+    pub(crate) fn elapsed_at(&self, step: StepId, t: i64) -> i64
+        requires step { step.0 < step_total self.now }
+        requires low { pos 0 ≤ℤ t }
+        requires high { t ≤ℤ pos (2 ^ 62) }
+        ensures { result ≡ elapsed_at self.now t step.0 }
+    {
+        self.run.now.steps.elapsed(step, t)
     }
 
     /// Whether the latest scan activated the step, also if it was active before.

@@ -11,6 +11,7 @@ use sfc_base::ids::{ActionNumber, ProgId, TransitionId};
 use sfc_base::references::{StepId, Variable};
 use sfc_base::value::Value;
 use sfc_expr::view::View;
+use sfc_flags::flags::Flags;
 use sfc_image::image::Image;
 use sfc_image::step_readings::StepReadings;
 use sfc_image::view::ImageView;
@@ -35,12 +36,13 @@ pub struct ProgramView<'a> {
 
 #[tactic(auto, unfolding(crate::specs::Views::plant_in, crate::specs::Views::instance_in, crate::specs::Views::Shows))]
 impl<'a> ProgramView<'a> {
-    ghost use Rattle.std.specs.Prelude.{◌≡◌, ◌<◌, List, length};
+    ghost use Rattle.std.specs.Prelude.{◌≡◌, ◌<◌, ◌≤ℤ◌, ◌^◌, cond, nat_lt, ℕ, pos, List, length};
+    ghost use Rattle.sfc_flags.specs.Flags.{flag};
     ghost use Rattle.sfc_plant.specs.Finding.{chart_of};
     ghost use Rattle.sfc_tables.specs.Tables.{tables_of};
     ghost use Rattle.sfc_image.specs.Agreement.{ImageAgrees, instance_total};
     ghost use Rattle.sfc_image.specs.Changes.{Change, settled};
-    ghost use Rattle.sfc_instance.specs.Agreement.{IsFor, ProgramAgrees};
+    ghost use Rattle.sfc_instance.specs.Agreement.{IsFor, ProgramAgrees, step_total, elapsed_at};
     ghost use Rattle.sfc_instance.specs.Answers as answers;
     ghost use Rattle.sfc_instance.specs.Life.{InstanceState};
     ghost use Rattle.sfc_instance.specs.Views.{plant_in, instance_in, tables_in, Shows};
@@ -119,6 +121,44 @@ impl<'a> ProgramView<'a> {
         self.tables.actions()
     }
 
+    /// Which steps are active, by number (2.6.2).
+    pub fn active_flags(&self) -> &'a Flags
+        ensures len { length result.now ≡ length (tables_in self.now).initial }
+        ensures each { (changes : List Change) (instance_state : InstanceState) (s : ℕ) → s < length (tables_in self.now).initial →
+            Shows self.now changes instance_state → flag result.now s ≡ answers.is_step_active (tables_in self.now) instance_state s }
+    {
+        self.program.active_flags()
+    }
+
+    /// Which transitions the latest scan cleared, by number (2.6.5).
+    pub fn cleared_flags(&self) -> &'a Flags
+        ensures len { length result.now ≡ length (tables_in self.now).sides }
+        ensures each { (changes : List Change) (instance_state : InstanceState) (tr : ℕ) → tr < length (tables_in self.now).sides →
+            Shows self.now changes instance_state →
+            flag result.now tr ≡ answers.is_transition_cleared (tables_in self.now) instance_state tr }
+    {
+        self.program.cleared_flags()
+    }
+
+    /// Which actions have Q after the latest scan, by number (2.6.4.5).
+    pub fn q_flags(&self) -> &'a Flags
+        ensures len { length result.now ≡ length (tables_in self.now).actions }
+        ensures each { (changes : List Change) (instance_state : InstanceState) (action : ℕ) → action < length (tables_in self.now).actions →
+            Shows self.now changes instance_state → flag result.now action ≡ answers.action_q (tables_in self.now) instance_state action }
+    {
+        self.program.q_flags()
+    }
+
+    /// Which actions the latest scan executed, by number: their A (2.6.4.5).
+    pub fn executed_flags(&self) -> &'a Flags
+        ensures len { length result.now ≡ length (tables_in self.now).actions }
+        ensures each { (changes : List Change) (instance_state : InstanceState) (action : ℕ) → action < length (tables_in self.now).actions →
+            Shows self.now changes instance_state →
+            flag result.now action ≡ answers.is_action_executed (tables_in self.now) instance_state action }
+    {
+        self.program.executed_flags()
+    }
+
     /// How many scans its life has had; at most 2^64 - 1, where the count stays.
     pub fn scans(&self) -> u64
         ensures { (changes : List Change) (instance_state : InstanceState) → Shows self.now changes instance_state →
@@ -152,6 +192,21 @@ impl<'a> ProgramView<'a> {
             result ≡ answers.step_elapsed (tables_in self.now) instance_state step.0 }
     {
         self.program.elapsed(step)
+    }
+
+    /// The step's time at t, from 0 to 2^62 microseconds, as a scan then reads it (2.6.2); 0 of a step that is none of its
+    /// chart's.
+    #[tactic(auto, unfolding(crate::specs::Views::plant_in, crate::specs::Views::instance_in))]
+    pub(crate) fn time_at(&self, step: StepId, t: i64) -> i64
+        requires low { pos 0 ≤ℤ t }
+        requires high { t ≤ℤ pos (2 ^ 62) }
+        ensures { result ≡ cond (nat_lt step.0 (step_total self.now.program.now)) (elapsed_at self.now.program.now t step.0) (pos 0) }
+    {
+        if (step.0 as usize) < self.program.active_flags().count() {
+            self.program.elapsed_at(step, t)
+        } else {
+            0
+        }
     }
 
     /// Whether the latest scan activated the step, also if it was active before. The step is one of its chart's.

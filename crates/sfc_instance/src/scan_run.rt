@@ -4,7 +4,7 @@ use crate::acting::act_or_undo;
 use crate::scan_buffers::ScanBuffers;
 use crate::state::State;
 
-/// The steps and the action control after the latest scan, and those on which the next one is tried.
+/// The steps and the action control after the latest scan, and what they were before it, which a fault brings back.
 pub struct ScanRun {
     pub now: State,
     pub spare: State,
@@ -57,8 +57,8 @@ impl ScanRun {
         })
     }
 
-    // What the actions do after the scan of the spare steps and action control, which then are those after the latest scan;
-    // or the fault of a body.
+    // What the actions do after the scan of the steps and action control, or the fault of a body; then these are again what the spare
+    // ones are.
     fn finish(
         &mut self,
         context: ProgramContext<'_>,
@@ -75,19 +75,19 @@ impl ScanRun {
         ensures sizes { IsScanRunFor context.entry.tables.now self.new }
         ensures large { IsAsLarge image.old image.new }
         ensures closed { is_open image.new ≡ false }
-        ensures now { (life : Life) → StateAgrees context.entry.tables.now self.old.spare life →
-            Moves context.entry.tables.now life result self.old.now self.new.now }
+        ensures now { (life : Life) → StateAgrees context.entry.tables.now self.old.now life →
+            Moves context.entry.tables.now life result self.old.spare self.new.now }
         ensures agrees { (plant : PlantData) (life : Life) (changes : List Change) → IsContextOf plant context.entry →
-            StateAgrees context.entry.tables.now self.old.spare life → ImageAgrees plant image.old (settled changes) →
+            StateAgrees context.entry.tables.now self.old.now life → ImageAgrees plant image.old (settled changes) →
             HasActed plant changes image.new result
             (after_actions plant context.entry.instance life t 0 context.entry.tables.now.actions changes) }
         ensures ticks { Within (length context.entry.tables.now.initial
             + actions_work context.entry.chart.now context.entry.tables.now.actions
             + variable_total image.old) ticks.old ticks.new }
     {
-        self.spare.measure(context.tables, t, ticks);
-        let answer = act_or_undo(context, &self.spare, image, ticks);
-        if answer.is_ok() {
+        self.now.measure(context.tables, t, ticks);
+        let answer = act_or_undo(context, &self.now, image, ticks);
+        if answer.is_err() {
             std::mem::swap(&mut self.now, &mut self.spare);
         }
         answer
@@ -117,14 +117,17 @@ impl ScanRun {
         ensures ticks { Within (go_work context.entry.tables.now context.entry.chart.now (variable_total image.old)) ticks.old ticks.new }
     {
         self.spare.copy_from(context.tables, &self.now, ticks);
-        match self.spare.advance(
+        match self.now.advance(
             context.tables,
             &self.buffers.conditions,
             &self.buffers.times,
             t,
             ticks,
         ) {
-            Err(fault) => Err(ScanFault::Control(fault)),
+            Err(fault) => {
+                std::mem::swap(&mut self.now, &mut self.spare);
+                Err(ScanFault::Control(fault))
+            }
             Ok(()) => match self.finish(context, image, t, ticks) {
                 Err(fault) => Err(ScanFault::Expression(fault)),
                 Ok(()) => Ok(()),

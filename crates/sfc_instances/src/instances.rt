@@ -25,13 +25,13 @@ impl Drop for Instances {
     }
 }
 
-ghost use Rattle.std.specs.Prelude.{◌≡◌, ◌<◌, ◌≤◌, ◌≤ℤ◌, ◌^◌, ℕ, pos, All, length, map, IfOk, OnOk, OnErr};
+ghost use Rattle.std.specs.Prelude.{◌≡◌, ◌<◌, ◌≤◌, ◌≤ℤ◌, ◌^◌, ℕ, pos, false, All, length, map, IfOk, OnOk, OnErr};
 ghost use Rattle.sfc_base.specs.Ticks.{Within};
 ghost use Rattle.sfc_tables.specs.Tables.{tables_of};
 ghost use Rattle.sfc_plant.specs.Plants.{PlantData};
 ghost use Rattle.sfc_plant.specs.Sound.{IsProgram, IsSingle};
 ghost use Rattle.sfc_image.specs.Changes as changes;
-ghost use Rattle.sfc_image.specs.Agreement.{ImageAgrees, variable_total as image_total};
+ghost use Rattle.sfc_image.specs.Agreement.{ImageAgrees, variable_total as image_total, instance_total as image_instances, is_open};
 ghost use Rattle.sfc_image.specs.Changes.{settled};
 ghost use Rattle.sfc_image.specs.Answers as answers;
 ghost use Rattle.sfc_plant.specs.Finding.{chart_of};
@@ -152,6 +152,8 @@ impl Instances {
     /// The variables.
     pub fn image(&self) -> &Image
         ensures total { image_total result.now ≡ variable_total self.now }
+        ensures instances { (plant : PlantData) → AreInstancesOf plant self.now → image_instances result.now ≡ length plant.instances }
+        ensures closed { (plant : PlantData) → AreInstancesOf plant self.now → is_open result.now ≡ false }
         ensures agrees { (plant : PlantData) (state : PlantState) → InstancesAgree plant self.now state →
             ImageAgrees plant result.now (settled state.changes) }
     {
@@ -258,8 +260,9 @@ impl Instances {
         self.image.release(id, ticks)
     }
 
-    // A scan of one instance.
-    fn scan_program(
+    /// A scan of one instance at t, in microseconds from 0 to 2^62, as one of its task's; it tells how it ended. After a fault nothing
+    /// but that fault has changed, and the instance is passed over until its reset (our choice). The instance is one of the plant's.
+    pub fn scan_program(
         &mut self,
         plant: &Plant,
         instance: ProgId,

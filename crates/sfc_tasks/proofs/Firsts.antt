@@ -5,7 +5,8 @@ use Rattle.std.proofs.lemmas.Int.{ints}
 use borrow.Author.Count.{below_more}
 use Rattle.sfc_tasks.specs.declared.task_slot.TaskSlot.{TaskSlot}
 use Rattle.sfc_tasks.specs.Pick.{Rank, RanksBefore}
-use Rattle.sfc_tasks.specs.Private.Keeping.{slot_at, rank_at, IsFirst, FirstOf}
+use Rattle.sfc_tasks.specs.declared.ranking.Waiting.{Waiting}
+use Rattle.sfc_tasks.specs.Private.Keeping.{slot_at, rank_at, IsFirst, FirstOf, IsBest, BestOf}
 
 some_same : (s u : ℤ) (o : Option ℤ) → o ≡ Some s → o ≡ Some u → s ≡ u
 some_same s u o e f = cc
@@ -116,6 +117,47 @@ stays slots i k s b h e f before =
     subst (λ (x : ℤ). RanksBefore (rank_at slots k b) (rank_at slots i x)) equal
     (ranks_by_number (rank_at slots k b) (rank_at slots i s) before h.number))
 
-pub first_of_some : (slots : List TaskSlot) (i : ℕ) (best : Option ℕ) (k : ℕ) → best ≡ Some k → FirstOf slots i best
-    → IsFirst slots i k
-first_of_some slots i best k e h = subst (λ (x : Option ℕ). FirstOf slots i x) e h
+-- ---- with what is known of it
+
+best_of_some : (slots : List TaskSlot) (i : ℕ) (best : Option Waiting) (b : Waiting) → best ≡ Some b → BestOf slots i best
+    → IsBest slots i b
+best_of_some slots i best b e h = subst (λ (x : Option Waiting). BestOf slots i x) e h
+
+pub best_stays_with : (slots : List TaskSlot) (i : ℕ) (best : Option Waiting) → BestOf slots i best → (slot_at slots i).since ≡ None
+    → BestOf slots (i + 1) best
+best_stays_with slots i None h e = stays_with slots i None h e
+best_stays_with slots i (Some b) h e =
+    record { first = stays_with slots i (Some b.number) h.first e; since = h.since; priority = h.priority }
+
+pub best_begins : (slots : List TaskSlot) (i : ℕ) (best : Option Waiting) (this : Waiting) → best ≡ None → this.number ≡ i
+    → (slot_at slots i).since ≡ Some this.since → (slot_at slots i).priority ≡ this.priority → BestOf slots i best
+    → IsBest slots (i + 1) this
+best_begins slots i best this none same e f h =
+    let before : FirstOf slots i None = subst (λ (x : Option Waiting). BestOf slots i x) none h in
+    record {
+      first = subst (λ (x : ℕ). IsFirst slots (i + 1) x) (sym same) (begins slots i this.since before e);
+      since = ap (λ (x : ℕ). (slot_at slots x).since) same ∙ e;
+      priority = ap (λ (x : ℕ). (slot_at slots x).priority) same ∙ f;
+    }
+
+pub best_overtakes : (slots : List TaskSlot) (i : ℕ) (best : Option Waiting) (this b : Waiting) → best ≡ Some b → this.number ≡ i
+    → (slot_at slots i).since ≡ Some this.since → (slot_at slots i).priority ≡ this.priority → BestOf slots i best
+    → (this.priority ≤ b.priority) × (this.priority ≡ b.priority → this.since <ℤ b.since) → IsBest slots (i + 1) this
+best_overtakes slots i best this b is same e f h before =
+    let was = best_of_some slots i best b is h in
+    let over = overtakes slots i b.number this.since b.since was.first e was.since
+    (omega (arith, f, was.priority, before.0), λ equal. before.1 (sym f ∙ equal ∙ was.priority)) in
+    record {
+      first = subst (λ (x : ℕ). IsFirst slots (i + 1) x) (sym same) over;
+      since = ap (λ (x : ℕ). (slot_at slots x).since) same ∙ e;
+      priority = ap (λ (x : ℕ). (slot_at slots x).priority) same ∙ f;
+    }
+
+pub best_stays : (slots : List TaskSlot) (i : ℕ) (best : Option Waiting) (b : Waiting) (since : ℤ) (priority : ℕ) → best ≡ Some b
+    → (slot_at slots i).since ≡ Some since → (slot_at slots i).priority ≡ priority → BestOf slots i best
+    → (b.priority ≤ priority) × (b.priority ≡ priority → b.since ≤ℤ since) → IsBest slots (i + 1) b
+best_stays slots i best b since priority is e f h before =
+    let was = best_of_some slots i best b is h in
+    let first = stays slots i b.number since b.since was.first e was.since
+    (omega (arith, f, was.priority, before.0), λ equal. before.1 (sym was.priority ∙ equal ∙ f)) in
+    record { first = first; since = was.since; priority = was.priority }

@@ -1,5 +1,5 @@
 -- The task that goes first, found by tests.
-use Rattle.std.proofs.Common.{◌≡◌, ◌≢◌, ◌⊎◌, inl, inr, ⊎_elim, ℕ, zero, suc, ◌+◌, ◌<◌, ◌≤◌, arith, List, length, find, map, ℤ, pos, ◌≤ℤ◌, ◌<ℤ◌, int_lt}
+use Rattle.std.proofs.Common.{◌≡◌, ◌≢◌, ◌⊎◌, inl, inr, ⊎_elim, ℕ, zero, suc, ◌+◌, ◌<◌, ◌≤◌, arith, List, length, find, ℤ, pos, ◌≤ℤ◌, ◌<ℤ◌, int_lt}
 use Rattle.std.proofs.Common.{Bool, true, false, cond, ◌&&◌, ◌||◌, Option, Some, None, option_map, Decides, slice_get, refl, sym, ◌∙◌, ap, subst}
 use Rattle.std.specs.List.{list_all, range_with_len}
 use Rattle.std.proofs.lemmas.Bool.Decides.{Decides-and, Decides-or, Decides-like, Decides-ltb, Decides-eqb, Decides-int_eq, eqb_tells}
@@ -11,7 +11,8 @@ use Rattle.sfc_tasks.specs.declared.task_slot.TaskSlot.{TaskSlot}
 use Rattle.sfc_tasks.specs.Calls.{Call}
 use Rattle.sfc_tasks.specs.Releases.{waits_since}
 use Rattle.sfc_tasks.specs.Pick.{Rank, RanksBefore, ranks_before, priority_in, rank_of, is_before_task, is_before_all, goes_first_since, goes_first, picked, IsPicked, NoneWaits}
-use Rattle.sfc_tasks.specs.Private.Keeping.{slot_at, empty_slot, rank_at, IsFirst, FirstOf}
+use Rattle.sfc_tasks.specs.declared.ranking.Waiting.{Waiting}
+use Rattle.sfc_tasks.specs.Private.Keeping.{slot_at, empty_slot, rank_at, IsFirst, FirstOf, IsBest, slot_by, slots_of}
 use Rattle.sfc_tasks.proofs.Firsts.{stays_with, begins, overtakes, stays, one_before}
 
 -- ---- the order as a test
@@ -209,31 +210,19 @@ best_of slots (suc n) =
     subst (λ (m : ℕ). (best : Option ℕ) × FirstOf slots m best) one
     (next_best slots n h.0 h.1 (slot_at slots n).since refl)
 
--- a slot with what the calls give task k
-made_of : List Task → List Call → ℕ → TaskSlot
-made_of tasks calls k = record {
-  interval = pos 0;
-  priority = priority_in (slice_get tasks k);
-  since = waits_since tasks calls k;
-  more = 0;
-  overruns = 0;
-}
-
 module _ (tasks : List Task) (calls : List Call) where
-  made : List TaskSlot
-  made = map (made_of tasks calls) (range_with_len 0 (length tasks))
+  abbrev made : List TaskSlot
+  made = slots_of tasks calls
 
-  made_at : (k : ℕ) → k < length tasks → slot_at made k ≡ made_of tasks calls k
-  unfolding made
+  made_at : (k : ℕ) → k < length tasks → slot_at made k ≡ slot_by tasks calls k
+  unfolding slots_of
   made_at k lt =
-      get_or-map-range_with_len (made_of tasks calls) 0 (length tasks) k k (empty_slot (pos 0) 0) lt (omega arith)
+      get_or-map-range_with_len (slot_by tasks calls) 0 (length tasks) k k (empty_slot (pos 0) 0) lt (omega arith)
 
-  made_since : (k : ℕ) → k < length tasks → (slot_at made k).since ≡ waits_since tasks calls k
-  unfolding made_of
+  pub made_since : (k : ℕ) → k < length tasks → (slot_at made k).since ≡ waits_since tasks calls k
   made_since k lt = ap (λ (p : TaskSlot). p.since) (made_at k lt)
 
-  made_priority : (k : ℕ) → k < length tasks → (slot_at made k).priority ≡ priority_in (slice_get tasks k)
-  unfolding made_of
+  pub made_priority : (k : ℕ) → k < length tasks → (slot_at made k).priority ≡ priority_in (slice_get tasks k)
   made_priority k lt = ap (λ (p : TaskSlot). p.priority) (made_at k lt)
 
   first_made : (k : ℕ) → IsFirst made (length tasks) k → IsPicked tasks calls k
@@ -251,6 +240,13 @@ module _ (tasks : List Task) (calls : List Call) where
   by_best : (best : Option ℕ) → FirstOf made (length tasks) best → ((k : ℕ) × IsPicked tasks calls k) ⊎ NoneWaits tasks calls
   by_best None h = inr (λ k lt. sym (made_since k lt) ∙ h k lt)
   by_best (Some k) h = inl (k, first_made k h)
+
+  -- what is picked where this is the best
+  pub best_is_picked : (n : ℕ) (b : Waiting) → n ≡ length tasks → IsBest made n b → IsPicked tasks calls b.number
+  best_is_picked n b e h = first_made b.number (subst (λ (m : ℕ). IsFirst made m b.number) e h.first)
+
+  pub none_best : (n : ℕ) → n ≡ length tasks → FirstOf made n None → NoneWaits tasks calls
+  none_best n e h k lt = sym (made_since k lt) ∙ h k (omega (arith, e, lt))
 
   one_or_none : ((k : ℕ) × IsPicked tasks calls k) ⊎ NoneWaits tasks calls
   one_or_none = let best = best_of made (length tasks) in by_best best.0 best.1

@@ -1,5 +1,5 @@
 -- What a table keeps of one call more.
-use Rattle.std.proofs.Common.{◌≡◌, ◌≢◌, ℕ, ◌+◌, ◌<◌, ◌==◌, arith, List, [], ◌∷◌, ◌++◌, length, ℤ, None, Bool, true, false, cond, refl, sym, ◌∙◌, ap, subst, append-nil, inl, inr, add-zero, slice_set, pos}
+use Rattle.std.proofs.Common.{◌≡◌, ◌≢◌, ℕ, ◌+◌, ◌<◌, ◌==◌, arith, List, [], ◌∷◌, ◌++◌, length, ℤ, Bool, true, false, cond, refl, sym, ◌∙◌, ap, subst, append-nil, inl, inr, add-zero, slice_set, pos}
 use Rattle.std.proofs.lemmas.List.{get_or-set_same, get_or-set_other}
 use borrow.Author.Count.{below_more}
 use Rattle.std.proofs.lemmas.Bool.Decides.{eqb_tells}
@@ -9,8 +9,7 @@ use Rattle.sfc_tasks.specs.declared.task_slot.TaskSlot.{TaskSlot}
 use Rattle.sfc_tasks.specs.declared.table.TaskTable.{TaskTable}
 use Rattle.sfc_tasks.specs.Calls.{Call, Elapsed, Rose, single_of, last_instant}
 use Rattle.sfc_tasks.specs.Releases.{interval_of, waiting, overruns, capped}
-use Rattle.sfc_tasks.specs.Pick.{RanksBefore, rank_of, IsPicked, NoneWaits}
-use Rattle.sfc_tasks.specs.Private.Keeping.{slot_at, empty_slot, rank_at, IsFirst, FirstOf, HoldsReleases, Gains, elapsed_releases}
+use Rattle.sfc_tasks.specs.Private.Keeping.{slot_at, empty_slot, HoldsReleases, Gains, elapsed_releases}
 use Rattle.sfc_tasks.specs.Agreement.{SlotAgrees, Keeps}
 
 -- a call that releases `us` for task k, and does not serve it
@@ -26,6 +25,19 @@ slot_gains tasks calls k old new us agrees gains call waits late = record {
   overruns = gains.same.overruns ∙ agrees.overruns ∙ sym late;
 }
 
+-- of one task, where time went on
+pub elapsed_slot : (tasks : List Task) (old : TaskTable) (t : ℤ) (singles : List Bool) (calls : List Call) (k : ℕ) (new : TaskSlot)
+    → k < length tasks
+    → Gains (elapsed_releases (slot_at old.slots k).interval old.last t (single_of singles k)) (slot_at old.slots k) new
+    → Keeps tasks old calls → SlotAgrees tasks (Elapsed t singles ∷ calls) k new
+elapsed_slot tasks old t singles calls k new lt gains agrees =
+    let us : List ℤ = elapsed_releases (interval_of tasks k) (last_instant calls) t (single_of singles k) in
+    let same : elapsed_releases (slot_at old.slots k).interval old.last t (single_of singles k) ≡ us =
+    ap (λ (x : ℤ). elapsed_releases x old.last t (single_of singles k)) (agrees.each k lt).interval
+    ∙ ap (λ (x : ℤ). elapsed_releases (interval_of tasks k) x t (single_of singles k)) agrees.last in
+    slot_gains tasks calls k (slot_at old.slots k) new us (agrees.each k lt)
+    (subst (λ (x : List ℤ). Gains x (slot_at old.slots k) new) same gains) (Elapsed t singles) refl (ap capped (add-zero _))
+
 pub elapse_agrees : (tasks : List Task) (old new : TaskTable) (t : ℤ) (singles : List Bool) (calls : List Call)
     → new.count ≡ old.count → new.last ≡ t → length singles ≡ old.count
     → ((k : ℕ) → k < length singles → Gains
@@ -36,15 +48,7 @@ elapse_agrees tasks old new t singles calls count last len gains agrees = record
   size = count ∙ agrees.size;
   last = last;
   each = λ k lt.
-      let us : List ℤ = elapsed_releases (interval_of tasks k) (last_instant calls) t (single_of singles k) in
-      let same : elapsed_releases (slot_at old.slots k).interval old.last t (single_of singles k) ≡ us =
-      ap (λ (x : ℤ). elapsed_releases x old.last t (single_of singles k)) (agrees.each k lt).interval
-      ∙ ap (λ (x : ℤ). elapsed_releases (interval_of tasks k) x t (single_of singles k)) agrees.last in
-      let more : Gains us (slot_at old.slots k) (slot_at new.slots k) =
-      subst (λ (x : List ℤ). Gains x (slot_at old.slots k) (slot_at new.slots k)) same
-      (gains k (omega (arith, len, agrees.size, lt))) in
-      slot_gains tasks calls k (slot_at old.slots k) (slot_at new.slots k) us (agrees.each k lt) more (Elapsed t singles)
-      refl (ap capped (add-zero _));
+      elapsed_slot tasks old t singles calls k (slot_at new.slots k) lt (gains k (omega (arith, len, agrees.size, lt))) agrees;
 }
 
 rise_here : (us : List ℤ) (t : ℤ) (b : Bool) → b ≡ true → us ++ cond b (t ∷ []) [] ≡ us ++ t ∷ []
@@ -91,29 +95,6 @@ rise_agrees tasks old new task t p calls count last slots fits gains agrees = re
             }
       ];
 }
-
--- the first of the slots is the task that is picked
-pub picked : (tasks : List Task) (table : TaskTable) (calls : List Call) (k : ℕ) → Keeps tasks table calls
-    → IsFirst table.slots table.count k → IsPicked tasks calls k
-picked tasks table calls k agrees first =
-    let lt : k < length tasks = omega (arith, first.number, agrees.size) in
-    let h = agrees.each k lt in
-    record {
-      number = lt;
-      since = first.since;
-      waits = sym h.releases.since ∙ first.waits;
-      first = λ j other jlt ne e.
-          let i = agrees.each j jlt in
-          subst (λ (x : ℕ). RanksBefore (record { priority = x; since = first.since; number = k }) (rank_of tasks j other))
-          h.priority
-          (subst (λ (x : ℕ). RanksBefore (rank_at table.slots k first.since) (record { priority = x; since = other; number = j }))
-          i.priority (first.first j other (omega (arith, jlt, agrees.size)) ne (i.releases.since ∙ e)));
-    }
-
-pub none_waits : (tasks : List Task) (table : TaskTable) (calls : List Call) → Keeps tasks table calls
-    → FirstOf table.slots table.count None → NoneWaits tasks calls
-none_waits tasks table calls agrees none k lt =
-    let h = agrees.each k lt in sym h.releases.since ∙ none k (omega (arith, lt, agrees.size))
 
 -- a slot more is done
 module _ (P : ℕ → TaskSlot → Type 0) where

@@ -1,12 +1,19 @@
 //! The order among tasks that wait (2.7.2).
 
-ghost use Rattle.std.specs.Prelude.{◌≡◌, ◌+◌, ◌<◌, ◌≤◌, ◌<ℤ◌, ◌≤ℤ◌, length};
+ghost use Rattle.std.specs.Prelude.{◌≡◌, ◌+◌, ◌<◌, ◌≤◌, ◌<ℤ◌, ◌≤ℤ◌, List, IfSome};
 ghost use Rattle.std.specs.Bool.{OnTrue, OnFalse};
-ghost use Rattle.sfc_base.specs.Ticks.{Within};
-ghost use Rattle.sfc_tasks.specs.Private.Keeping.{FirstOf};
+ghost use Rattle.sfc_tasks.specs.Private.Keeping.{BestOf, slot_at};
+ghost use Rattle.sfc_tasks.specs.declared.task_slot.TaskSlot.{TaskSlot};
 
 use crate::task_slot::TaskSlot;
-use sfc_base::ticks::Ticks;
+
+/// A task that waits: its number, its priority, and since when it waits.
+#[derive(Clone, Copy)]
+pub struct Waiting {
+    pub number: usize,
+    pub priority: u32,
+    pub since: i64,
+}
 
 // Whether a task of this priority that waits since `since` goes before the other one. The other has the lower number.
 fn goes_before(priority: u32, since: i64, other: u32, before: i64) -> bool
@@ -16,41 +23,28 @@ fn goes_before(priority: u32, since: i64, other: u32, before: i64) -> bool
     priority < other || (priority == other && since < before)
 }
 
-// Which goes first: task `best`, which is the first of the first i tasks, or task i.
-#[tactic(auto, using(crate::proofs::Firsts::stays_with, crate::proofs::Firsts::begins, crate::proofs::Firsts::overtakes, crate::proofs::Firsts::stays))]
-fn first_with(slots: &[TaskSlot], best: Option<usize>, i: usize) -> Option<usize>
-    requires slot { i < length slots.now }
-    requires best { FirstOf slots.now i best }
-    ensures { FirstOf slots.now (i + 1) result }
+// Which goes first: the first of the first i tasks, or task i, which has this slot.
+#[tactic(auto, using(crate::proofs::Firsts::best_stays_with, crate::proofs::Firsts::best_begins, crate::proofs::Firsts::best_overtakes, crate::proofs::Firsts::best_stays))]
+pub fn first_with(slot: TaskSlot, best: Option<Waiting>, i: usize) -> Option<Waiting>
+    ensures first { (slots : List TaskSlot) → (slot_at slots i).since ≡ slot.since → (slot_at slots i).priority ≡ slot.priority →
+        BestOf slots i best → BestOf slots (i + 1) result }
+    ensures number { IfSome best (λ b. b.number < i) → IfSome result (λ r. r.number < i + 1) }
 {
-    let slot = slots[i];
     let Some(since) = slot.since else {
         return best;
     };
-    let Some(k) = best else {
-        return Some(i);
+    let priority = slot.priority;
+    let this = Waiting {
+        number: i,
+        priority,
+        since,
     };
-    let other = slots[k];
-    let Some(before) = other.since else {
-        return Some(i);
+    let Some(first) = best else {
+        return Some(this);
     };
-    if goes_before(slot.priority, since, other.priority, before) {
-        Some(i)
+    if goes_before(priority, since, first.priority, first.since) {
+        Some(this)
     } else {
-        Some(k)
+        Some(first)
     }
-}
-
-/// Which of the first `count` tasks goes first, if one of them waits.
-pub fn first_of(slots: &[TaskSlot], count: usize, ticks: &mut Ticks) -> Option<usize>
-    requires { count ≤ length slots.now }
-    ensures first { FirstOf slots.now count result }
-    ensures ticks { Within count ticks.old ticks.new }
-{
-    let mut best = None;
-    for i in 0..count {
-        ticks.tick();
-        best = first_with(slots, best, i);
-    }
-    best
 }

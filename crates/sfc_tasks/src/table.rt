@@ -9,7 +9,7 @@ ghost use Rattle.sfc_tasks.specs.Pick.{priority_in};
 ghost use Rattle.sfc_tasks.specs.Private.Keeping.{Gains, elapsed_releases, empty_slot, slot_at};
 
 use crate::multiples::next_multiple;
-use crate::ranking::first_of;
+use crate::ranking::{Waiting, first_with};
 use crate::task_slot::{TaskSlot, after_rise, after_scan, after_time, no_slot, slot_of};
 use sfc_base::ids::TaskId;
 use sfc_base::limits::TASKS;
@@ -56,7 +56,7 @@ fn fill_slots(slots: &mut [TaskSlot], tasks: &[Task])
 
 #[tactic(auto, unfolding(crate::specs::Agreement::TasksAgree), using(crate::proofs::Tables::elapse_agrees, crate::proofs::Tables::rise_agrees))]
 impl TaskTable {
-    ghost use Rattle.std.specs.Prelude.{◌≡◌, ◌<◌, ◌≤ℤ◌, ◌^◌, ◌∷◌, [], List, ℕ, pos, length, is_some};
+    ghost use Rattle.std.specs.Prelude.{◌≡◌, ◌<◌, ◌≤ℤ◌, ◌^◌, ◌∷◌, [], List, ℕ, pos, length, is_some, IfSome};
     ghost use Rattle.sfc_base.specs.Ticks.{Within};
     ghost use Rattle.sfc_plant.specs.declared.task.Task.{Task};
     ghost use Rattle.sfc_tasks.specs.Multiples.{next_release};
@@ -64,6 +64,7 @@ impl TaskTable {
     ghost use Rattle.sfc_tasks.specs.Releases.{interval_of, waits_since, overruns};
     ghost use Rattle.sfc_tasks.specs.Pick.{picked};
     ghost use Rattle.sfc_tasks.specs.Agreement.{TasksAgree, task_total};
+    ghost use Rattle.sfc_tasks.specs.Private.Keeping.{BestOf, slots_of};
 
     /// The tasks of the plant, none of which was told anything. It takes no memory.
     pub fn new(plant: &Plant) -> TaskTable
@@ -110,15 +111,37 @@ impl TaskTable {
         self.slots[k] = after_rise(self.slots[k], t);
     }
 
-    /// Of the tasks that wait, the one that goes first: that with the lowest priority number, then the one that waits longest,
-    /// then the first in the table (2.7.2). `None` where no task waits.
-    pub fn pick(&self, ticks: &mut Ticks) -> Option<TaskId>
-        ensures value { (tasks : List Task) (calls : List Call) → TasksAgree tasks self.now calls →
-            result ≡ picked tasks calls }
+    // Of the tasks that wait at t, the one that goes first.
+    fn best(&self, t: i64, singles: &[bool], ticks: &mut Ticks) -> Option<Waiting>
+        requires singles { length singles.now ≡ task_total self.now }
+        requires low { pos 0 ≤ℤ t }
+        requires high { t ≤ℤ pos (2 ^ 62) }
+        ensures first { (tasks : List Task) (calls : List Call) → TasksAgree tasks self.now calls →
+            BestOf (slots_of tasks (Elapsed t singles.now ∷ calls)) (task_total self.now) result }
+        ensures number { IfSome result (λ first. first.number < task_total self.now) }
         ensures ticks { Within (task_total self.now) ticks.old ticks.new }
     {
-        match first_of(&self.slots, self.count, ticks) {
-            Some(k) => Some(TaskId(k as u8)),
+        let mut best = None;
+        for i in 0..self.count {
+            ticks.tick();
+            best = first_with(after_time(self.slots[i], self.last, t, singles[i]), best, i);
+        }
+        best
+    }
+
+    /// Of the tasks that wait at t, in microseconds from 0 to 2^62, the one that goes first: that with the lowest priority number, then
+    /// the one that waits longest, then the first in the table (2.7.2). `None` where no task waits. Time doesn't go on; `singles` is as
+    /// for `elapse`.
+    pub fn pick(&self, t: i64, singles: &[bool], ticks: &mut Ticks) -> Option<TaskId>
+        requires singles { length singles.now ≡ task_total self.now }
+        requires low { pos 0 ≤ℤ t }
+        requires high { t ≤ℤ pos (2 ^ 62) }
+        ensures value { (tasks : List Task) (calls : List Call) → TasksAgree tasks self.now calls →
+            result ≡ picked tasks (Elapsed t singles.now ∷ calls) }
+        ensures ticks { Within (task_total self.now) ticks.old ticks.new }
+    {
+        match self.best(t, singles, ticks) {
+            Some(first) => Some(TaskId(first.number as u8)),
             None => None,
         }
     }
@@ -154,15 +177,21 @@ impl TaskTable {
         self.slots[k] = after_scan(self.slots[k]);
     }
 
-    /// Whether a release of the task waits.
-    pub fn waits(&self, task: TaskId, ticks: &mut Ticks) -> bool
-        requires { task.0 < task_total self.now }
+    /// Whether a release of the task waits at t, in microseconds from 0 to 2^62. Time doesn't go on; `singles` is as for `elapse`.
+    pub fn waits(&self, task: TaskId, t: i64, singles: &[bool], ticks: &mut Ticks) -> bool
+        requires task { task.0 < task_total self.now }
+        requires singles { length singles.now ≡ task_total self.now }
+        requires low { pos 0 ≤ℤ t }
+        requires high { t ≤ℤ pos (2 ^ 62) }
         ensures value { (tasks : List Task) (calls : List Call) → TasksAgree tasks self.now calls →
-            result ≡ is_some (waits_since tasks calls task.0) }
+            result ≡ is_some (waits_since tasks (Elapsed t singles.now ∷ calls) task.0) }
         ensures ticks { Within 1 ticks.old ticks.new }
     {
         ticks.tick();
-        self.slots[task.0 as usize].since.is_some()
+        let k = task.0 as usize;
+        after_time(self.slots[k], self.last, t, singles[k])
+            .since
+            .is_some()
     }
 
     /// The overruns of the task, up to 2^64 - 1, where the count stays.
@@ -174,21 +203,6 @@ impl TaskTable {
     {
         ticks.tick();
         self.slots[task.0 as usize].overruns
-    }
-
-    /// The same table once more. It takes no memory.
-    pub fn copy(&self, ticks: &mut Ticks) -> TaskTable
-        ensures size { task_total result ≡ task_total self.now }
-        ensures agrees { (tasks : List Task) (calls : List Call) → TasksAgree tasks self.now calls →
-            TasksAgree tasks result calls }
-        ensures ticks { Within (task_total self.now) ticks.old ticks.new }
-    {
-        ticks.tick_all(self.count);
-        TaskTable {
-            count: self.count,
-            last: self.last,
-            slots: self.slots,
-        }
     }
 
     /// Takes over what the other was told. It takes no memory.

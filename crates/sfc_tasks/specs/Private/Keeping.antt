@@ -1,9 +1,13 @@
 -- What is kept of a task in place of its releases.
-use Rattle.std.specs.Prelude.{ℕ, ◌≡◌, ◌≢◌, ◌<◌, Bool, cond, List, [], ◌++◌, ℤ, pos, Option, Some, None, slice_index_or}
+use Rattle.std.specs.Prelude.{ℕ, ◌≡◌, ◌≢◌, ◌<◌, Bool, cond, List, [], ◌++◌, length, map, ℤ, pos, Option, Some, None, slice_get, slice_index_or}
+use Rattle.std.specs.List.{range_with_len}
+use Rattle.sfc_plant.specs.declared.task.Task.{Task}
+use Rattle.sfc_tasks.specs.declared.ranking.Waiting.{Waiting}
 use Rattle.sfc_tasks.specs.declared.task_slot.TaskSlot.{TaskSlot}
 use Rattle.sfc_tasks.specs.Multiples.{multiples_between}
-use Rattle.sfc_tasks.specs.Releases.{first_of, beyond_first, capped}
-use Rattle.sfc_tasks.specs.Pick.{Rank, RanksBefore}
+use Rattle.sfc_tasks.specs.Calls.{Call}
+use Rattle.sfc_tasks.specs.Releases.{first_of, beyond_first, capped, waits_since}
+use Rattle.sfc_tasks.specs.Pick.{Rank, RanksBefore, priority_in}
 
 -- of a task with which nothing was done yet
 abbrev pub empty_slot : ℤ → ℕ → TaskSlot
@@ -48,3 +52,26 @@ pub record IsFirst (slots : List TaskSlot) (n k : ℕ) : Type 0 where
 abbrev pub FirstOf : List TaskSlot → ℕ → Option ℕ → Type 0
 FirstOf slots n None = (j : ℕ) → j < n → (slot_at slots j).since ≡ None
 FirstOf slots n (Some k) = IsFirst slots n k
+
+-- it is that one, and waits so
+pub record IsBest (slots : List TaskSlot) (n : ℕ) (best : Waiting) : Type 0 where
+  pub first : IsFirst slots n best.number
+  pub since : (slot_at slots best.number).since ≡ Some best.since
+  pub priority : (slot_at slots best.number).priority ≡ best.priority
+
+abbrev pub BestOf : List TaskSlot → ℕ → Option Waiting → Type 0
+BestOf slots n None = FirstOf slots n None
+BestOf slots n (Some best) = IsBest slots n best
+
+-- a slot with what the calls give task k, and such slots of all tasks
+abbrev pub slot_by : List Task → List Call → ℕ → TaskSlot
+slot_by tasks calls k = record {
+  interval = pos 0;
+  priority = priority_in (slice_get tasks k);
+  since = waits_since tasks calls k;
+  more = 0;
+  overruns = 0;
+}
+
+unfoldable pub slots_of : List Task → List Call → List TaskSlot
+slots_of tasks calls = map (slot_by tasks calls) (range_with_len 0 (length tasks))

@@ -1,25 +1,23 @@
-use Rattle.std.proofs.Common.{refl, sym, subst, ◌∙◌, to_z-of_z}
-use Rattle.sfc_instance.specs.declared.state.State.{State}
-use Rattle.sfc_instance.specs.Agreement.{StateAgrees}
+use Rattle.std.proofs.Common.{sym, ◌∙◌, to_z-of_z}
 use Rattle.sfc_instance.proofs.Scanned.{moved_ok, moved_err}
 use Rattle.sfc_instance.proofs.scan_run.ScanRun.finish.Goals as goal
 
-pub returns-then-is_ok-clause-now : goal.returns-then-is_ok-clause-now
-returns-then-is_ok-clause-now c life h =
-    moved_ok c.args.context.tables.now life c.act_or_undo-answer.result c.args.self.now.now c.swap.new.x (sym c.is_ok.ensures.value ∙ c.if-is_ok.true)
-    (subst (λ (x : State). StateAgrees c.args.context.tables.now x life) (sym c.swap.ensures.x_after) (c.measure.ensures.agrees life h))
+pub returns-then-is_err-clause-now : goal.returns-then-is_err-clause-now
+returns-then-is_err-clause-now c life h =
+    moved_err c.args.context.tables.now life c.act_or_undo-answer.result c.args.self.now.spare c.swap.new.x
+    (sym c.is_err.ensures.value ∙ c.if-is_err.true) c.swap.ensures.x_after
 
-pub returns-else-is_ok-clause-now : goal.returns-else-is_ok-clause-now
-returns-else-is_ok-clause-now c life h =
-    moved_err c.args.context.tables.now life c.act_or_undo-answer.result c.args.self.now.now c.args.self.now.now
-    (sym c.is_ok.ensures.value ∙ c.if-is_ok.false) refl
+pub returns-else-is_err-clause-now : goal.returns-else-is_err-clause-now
+returns-else-is_err-clause-now c life h =
+    moved_ok c.args.context.tables.now life c.act_or_undo-answer.result c.args.self.now.spare c.measure.new.self
+    (sym c.is_err.ensures.value ∙ c.if-is_err.false) (c.measure.ensures.agrees life h)
 
-pub returns-then-is_ok-clause-agrees : goal.returns-then-is_ok-clause-agrees
-returns-then-is_ok-clause-agrees c plant life changes context state h =
+pub returns-then-is_err-clause-agrees : goal.returns-then-is_err-clause-agrees
+returns-then-is_err-clause-agrees c plant life changes context state h =
     c.act_or_undo-answer.ensures.agrees plant life c.args.t changes context (c.measure.ensures.agrees life state)
     (simp (to_z-of_z, c.ranges.t) at c.measure.ensures.measured) h
 
-pub returns-else-is_ok-clause-agrees : goal.returns-else-is_ok-clause-agrees
-returns-else-is_ok-clause-agrees c plant life changes context state h =
+pub returns-else-is_err-clause-agrees : goal.returns-else-is_err-clause-agrees
+returns-else-is_err-clause-agrees c plant life changes context state h =
     c.act_or_undo-answer.ensures.agrees plant life c.args.t changes context (c.measure.ensures.agrees life state)
     (simp (to_z-of_z, c.ranges.t) at c.measure.ensures.measured) h
