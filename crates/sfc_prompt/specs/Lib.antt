@@ -4,3 +4,5 @@
 pub mod Sessions
 -- where a scan goes on to that has no instant
 pub mod Scanning
+-- what a session writes
+pub mod Transcripts

@@ -1,10 +1,10 @@
 -- A session: commands one after the other, each answered with the lines that a replay writes for it.
-use Rattle.std.specs.Prelude.{◌≡◌, ℕ, List, [], ◌∷◌, ◌++◌, ℤ, pos, Result, Ok, Err, codes}
+use Rattle.std.specs.Prelude.{◌≡◌, ℕ, List, [], ◌∷◌, ◌++◌, length, ℤ, pos, Result, Ok, Err, codes}
 use Rattle.sfc_base.specs.TimeText.{time_text}
-use Rattle.sfc_debug.specs.declared.break_condition.BreakCondition.{BreakCondition}
 use Rattle.sfc_debug.specs.declared.debugger.Debugger.{Debugger}
 use Rattle.sfc_debug.specs.Agreement.{Agrees}
-use Rattle.sfc_debug.specs.Histories.{CommandHistory, TimedCommand}
+use Rattle.sfc_debug.specs.Histories.{CommandHistory}
+use Rattle.sfc_debug.specs.Meaning.{IsAccepted}
 use Rattle.sfc_output.specs.Steered.{Steered, steered_by}
 use Rattle.sfc_monitor.specs.Output.{Verdict, command_lines, debugger_of, text_of}
 use Rattle.sfc_prompt.specs.declared.session.Session.{Session}
@@ -46,7 +46,9 @@ history_lines steered (timed ∷ h) = history_lines steered h ++ command_lines (
 -- The session has accepted these commands, the newest first, and its lines of them are those of a replay.
 pub record HasSaid (session : Session) (h : CommandHistory) (lines : List ℕ) : Type 0 where
   pub agrees : Agrees (debugger_in session) h
+  pub accepted : IsAccepted (steered_in session).plant (steered_in session).table h
   pub instant : instant_in session ≡ last_instant h
+  pub count : count_in session ≡ length (steered_in session).table
   pub lines : lines ≡ history_lines (steered_in session) h
 
 -- the lines of what was accepted, with those of one command more

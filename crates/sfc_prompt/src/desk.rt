@@ -3,10 +3,11 @@
 ghost use Rattle.std.specs.Prelude.{◌≡◌, ◌≤◌, ◌-◌, length, drop, IfOk};
 
 use crate::archive::Archive;
+use crate::course::MOST;
 use crate::prompt::{Flow, Prompt};
 use crate::session::Session;
-use crate::sheet::Sheet;
 use sfc_asking::note::append_note;
+use sfc_base::write_fault::put_all;
 use sfc_monitor::chart::plant_of_text;
 use sfc_monitor::input::read_to_end;
 use sfc_monitor::monitor_error::MonitorError;
@@ -36,7 +37,9 @@ pub struct Desk<W: Write, A: Archive> {
 #[derive(Drop)]
 struct Held<W: Write, A: Archive> {
     prompt: Prompt,
-    sheet: Sheet<W>,
+    w: W,
+    // What waits to be written.
+    text: Vec<u8>,
     archive: A,
     is_terminal: bool,
     // Whether the front of a line was passed over, since it is too long.
@@ -44,25 +47,53 @@ struct Held<W: Write, A: Archive> {
 }
 
 impl<W: Write, A: Archive> Held<W, A> {
+    // Writes what waits, and flushes the writer.
+    fn pass(&mut self) -> Result<(), MonitorError> {
+        put_all(&mut self.w, &self.text)?;
+        self.text.clear();
+        match self.w.flush() {
+            Ok(()) => Ok(()),
+            Err(_) => Err(MonitorError::Write),
+        }
+    }
+
+    // Takes the steps that are under way, each answer written at once.
+    fn go_on(&mut self) -> Result<(), MonitorError> {
+        'steps: for _ in 0..=MOST {
+            if !self.prompt.go_on(&mut self.text)? {
+                break;
+            }
+            self.pass()?;
+        }
+        self.pass()
+    }
+
+    // Obeys a line.
+    fn obey(&mut self, line: &[u8]) -> Result<Flow, MonitorError> {
+        let flow = self
+            .prompt
+            .obey(line, &mut self.archive, &mut self.text)?;
+        self.pass()?;
+        self.go_on()?;
+        Ok(flow)
+    }
+
     // Obeys a line, or tells that it is too long.
     fn take(&mut self, line: &[u8]) -> Result<Flow, MonitorError> {
         if self.is_cut || line.len() > LONGEST {
             self.is_cut = false;
-            append_note(
-                &mut self.sheet.text,
-                b"the line has more than 1048576 bytes",
-            )?;
-            self.sheet.pass()?;
+            append_note(&mut self.text, b"the line has more than 1048576 bytes")?;
+            self.pass()?;
             return Ok(Flow::GoesOn);
         }
-        self.prompt.obey(line, &mut self.sheet, &mut self.archive)
+        self.obey(line)
     }
 
     // Shows where to write, where somebody sits there.
     fn invite(&mut self) -> Result<(), MonitorError> {
         if self.is_terminal {
-            append(&mut self.sheet.text, b"sfc> ")?;
-            self.sheet.pass()?;
+            append(&mut self.text, b"sfc> ")?;
+            self.pass()?;
         }
         Ok(())
     }
@@ -99,8 +130,8 @@ impl<W: Write, A: Archive> Held<W, A> {
             let _ = self.take(waiting)?;
         }
         if self.is_terminal {
-            append(&mut self.sheet.text, b"\n")?;
-            self.sheet.pass()?;
+            append(&mut self.text, b"\n")?;
+            self.pass()?;
         }
         Ok(())
     }
@@ -160,10 +191,8 @@ pub fn hold<C: Read, S: Read, W: Write + Drop, A: Archive + Drop>(
     } = desk;
     let mut held = Held {
         prompt: Prompt::new(alloc, session),
-        sheet: Sheet {
-            w: answers,
-            text: Vec::new(alloc),
-        },
+        w: answers,
+        text: Vec::new(alloc),
         archive,
         is_terminal,
         is_cut: false,

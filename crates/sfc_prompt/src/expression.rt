@@ -5,6 +5,7 @@ use sfc_check::type_error::TypeError;
 use sfc_conditions::condition_error::ConditionError;
 use sfc_conditions::conditions::condition_of;
 use sfc_debug::break_condition::BreakCondition;
+use sfc_output::append::{append, append_number};
 use sfc_plant::plant::Plant;
 use sfc_text::read_expr::read_expr;
 use sfc_tokens::read_error::ReadErrorKind;
@@ -85,4 +86,13 @@ pub fn read_condition(
         Ok(condition) => Ok(Ok(condition)),
         Err(error) => Ok(Err(condition_fault(error)?)),
     }
+}
+
+/// Puts at the end why a text is no condition. The one error is that memory was refused.
+pub fn append_fault(out: &mut Vec<u8>, fault: Fault) -> Result<(), AllocError> {
+    append(out, b"; no condition: ")?;
+    append_number(out, u64::from(fault.number))?;
+    append(out, b" ")?;
+    append(out, fault.name.as_bytes())?;
+    append(out, b"\n")
 }

@@ -8,13 +8,13 @@
 //! - `line`, `words`: what a line says.
 //! - `prompt`: lines that are obeyed one by one.
 //! - `releases`: when tasks are scanned next.
-//! - `scanning`: scans that have no instant; `step`: scans that may be done again; `until`: many scans.
+//! - `scanning`: scans that have no instant; `step`: scans that may be done again; `course`: many of them.
 //! - `session`: commands one after the other, and the script that they are; `saved`: the lines of that script.
-//! - `sheet`: what is answered, and where it goes.
 //! - `showing`: the words that change nothing.
 #![tactic(auto)]
 
 pub mod archive;
+mod course;
 pub mod desk;
 mod expression;
 pub mod laws;
@@ -24,10 +24,8 @@ mod releases;
 mod saved;
 pub mod scanning;
 pub mod session;
-pub mod sheet;
 mod showing;
 mod step;
-mod until;
 mod words;
 
 #[cfg(test)]

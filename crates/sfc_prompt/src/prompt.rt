@@ -1,21 +1,19 @@
 //! Lines that are obeyed one by one.
 
 use crate::archive::Archive;
-use crate::expression::read_condition;
+use crate::course::{Course, MOST, Wanted, wanted};
+use crate::expression::{append_fault, read_condition};
 use crate::line::{Line, Word, read_line};
 use crate::scanning::{scan, scan_first};
 use crate::session::Session;
-use crate::sheet::Sheet;
-use crate::showing::{append_shown, only_number};
-use crate::step::{Step, step_of};
-use crate::until::{MOST, append_fault, repeat, until};
-use crate::words::{from_word, is_empty, is_word};
+use crate::showing::{only_number, shown};
+use crate::step::{Step, ends_steps, step_of, take};
+use crate::words::{is_empty, is_word};
 use sfc_asking::note::{append_named, append_note};
 use sfc_events::command::{Command, CondId};
-use sfc_monitor::monitor_error::MonitorError;
+use sfc_output::append::append;
 use sfc_script::command::{Conditional, read_command, read_conditional};
 use std::alloc::{AllocError, Global};
-use std::io::Write;
 
 /// Whether more lines are obeyed.
 #[derive(Clone, Copy, Debug, PartialEq, Eq)]
@@ -26,11 +24,12 @@ pub enum Flow {
     Ends,
 }
 
-/// A session, and the step that was last taken in it.
+/// A session, the step that was last taken in it, and the steps that are under way.
 pub struct Prompt {
     alloc: Global,
     session: Session,
     last: Option<Step>,
+    course: Option<Course>,
 }
 
 // By hand, so that a caller that drops one proves one call.
@@ -40,6 +39,7 @@ impl Drop for Prompt {
             alloc: _,
             session: _,
             last: _,
+            course: _,
         } = self;
     }
 }
@@ -63,6 +63,7 @@ impl Prompt {
             alloc,
             session,
             last: None,
+            course: None,
         }
     }
 
@@ -168,66 +169,117 @@ impl Prompt {
         }
     }
 
+    // The last step again, so often.
+    fn repeat(&mut self, count: u64, out: &mut Vec<u8>) -> Result<(), AllocError> {
+        match self.last {
+            Some(step) => {
+                self.course = Some(Course::of_steps(step, count));
+                Ok(())
+            }
+            None => append_note(out, b"there was no SCAN or SINGLE yet"),
+        }
+    }
+
     // The last step again, so often as the text says, or once.
-    fn again<W: Write>(&mut self, text: &[u8], sheet: &mut Sheet<W>) -> Result<(), MonitorError> {
+    fn again(&mut self, text: &[u8], out: &mut Vec<u8>) -> Result<(), AllocError> {
         let count = if is_empty(text) {
             Some(1)
         } else {
             only_number(text)
         };
         match count {
-            Some(count) if count <= MOST => {
-                repeat(self.alloc, &mut self.session, self.last, count, sheet)
-            }
-            _ => Ok(append_note(
-                &mut sheet.text,
-                b"AGAIN, or AGAIN and a number from 1 to 100000",
-            )?),
+            Some(count) if count <= MOST => self.repeat(count, out),
+            _ => append_note(out, b"AGAIN, or AGAIN and a number from 1 to 100000"),
         }
     }
 
+    // Scans until a condition is TRUE.
+    fn until(&mut self, text: &[u8], out: &mut Vec<u8>) -> Result<(), AllocError> {
+        let plant = self.session.debugger().resource().plant();
+        match wanted(self.alloc, plant, text)? {
+            Wanted::Until(condition) => {
+                self.course = Some(Course::until(condition));
+                Ok(())
+            }
+            Wanted::Several => append_note(
+                out,
+                b"there are several program instances: UNTIL IN program condition",
+            ),
+            Wanted::Faulty(fault) => append_fault(out, fault),
+        }
+    }
+
+    // A word that shows how all stands.
+    fn show(&mut self, word: Word, text: &[u8], out: &mut Vec<u8>) -> Result<(), AllocError> {
+        let told = shown(self.alloc, &mut self.session, word, text)?;
+        append(out, &told)
+    }
+
     // A word of the prompt's own.
-    fn ask<W: Write, A: Archive>(
+    fn ask<A: Archive>(
         &mut self,
         word: Word,
         text: &[u8],
-        sheet: &mut Sheet<W>,
         archive: &mut A,
-    ) -> Result<Flow, MonitorError> {
+        out: &mut Vec<u8>,
+    ) -> Result<Flow, AllocError> {
         match word {
             Word::Quit => return Ok(Flow::Ends),
-            Word::Until => until(self.alloc, &mut self.session, text, sheet)?,
-            Word::Again => self.again(text, sheet)?,
-            Word::Save => self.save(text, archive, &mut sheet.text)?,
-            _ => append_shown(self.alloc, &mut self.session, word, text, &mut sheet.text)?,
+            Word::Until => self.until(text, out)?,
+            Word::Again => self.again(text, out)?,
+            Word::Save => self.save(text, archive, out)?,
+            _ => self.show(word, text, out)?,
         }
         Ok(Flow::GoesOn)
     }
 
     /// Obeys a line, which stands here without its end: a command of a script, with an instant or without one, or a word of the prompt's own.
-    /// What is answered is written and flushed; of an accepted command the lines that a replay writes for it, of a refused one its
-    /// refusal. What is wrong with a line is told behind a semicolon.
-    ///
-    /// `Write` is answered where the writer failed or took no byte, `Memory` where memory was refused; then the session is of no more use.
-    pub fn obey<W: Write, A: Archive>(
+    /// What is answered is put at the end of `out`: of an accepted command the lines that a replay writes for it, of a refused one its
+    /// refusal; what is wrong with a line is told behind a semicolon. Steps that are to be taken again, or until a condition is TRUE,
+    /// are under way then. The one error is that memory was refused; then the prompt is of no more use.
+    pub fn obey<A: Archive>(
         &mut self,
         line: &[u8],
-        sheet: &mut Sheet<W>,
         archive: &mut A,
-    ) -> Result<Flow, MonitorError> {
-        let flow = match read_line(line) {
-            Line::Comment => Flow::GoesOn,
+        out: &mut Vec<u8>,
+    ) -> Result<Flow, AllocError> {
+        match read_line(line) {
+            Line::Comment => Ok(Flow::GoesOn),
             Line::Empty => {
-                repeat(self.alloc, &mut self.session, self.last, 1, sheet)?;
-                Flow::GoesOn
+                self.repeat(1, out)?;
+                Ok(Flow::GoesOn)
             }
             Line::Says(instant, text) => {
-                self.say(instant, without_end(text), &mut sheet.text)?;
-                Flow::GoesOn
+                self.say(instant, without_end(text), out)?;
+                Ok(Flow::GoesOn)
             }
-            Line::Asks(word, text) => self.ask(word, without_end(text), sheet, archive)?,
+            Line::Asks(word, text) => self.ask(word, without_end(text), archive, out),
+        }
+    }
+
+    // A step of a course, and the course behind it.
+    fn take_step(&mut self, course: Course, out: &mut Vec<u8>) -> Result<(), AllocError> {
+        let answer = take(self.alloc, &mut self.session, course.step, out)?;
+        let course = course.behind_step(answer.is_ok());
+        if ends_steps(answer) {
+            return course.append_end(out, &self.session);
+        }
+        self.course = Some(course);
+        Ok(())
+    }
+
+    /// Takes the next of the steps that are under way, and puts its answer at the end of `out`; how it ended, where it ends: a step was
+    /// refused, hit a breakpoint, or ended a program's scan with a fault; the condition is TRUE; or no step is left. Whether more
+    /// are under way. The one error is that memory was refused; then the prompt is of no more use.
+    pub fn go_on(&mut self, out: &mut Vec<u8>) -> Result<bool, AllocError> {
+        let Some(course) = self.course.take() else {
+            return Ok(false);
         };
-        sheet.pass()?;
-        Ok(flow)
+        if course.left == 0 || course.is_met(&self.session) {
+            course.append_end(out, &self.session)?;
+            return Ok(false);
+        }
+        self.take_step(course, out)?;
+        Ok(self.course.is_some())
     }
 }

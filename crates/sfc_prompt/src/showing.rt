@@ -72,9 +72,21 @@ fn why(alloc: Global, session: &Session, text: &[u8], out: &mut Vec<u8>) -> Resu
     }
 }
 
-/// Puts at the end what a word tells that shows how all stands, with this text behind it, which has no blank at its end; nothing for any
-/// other word. Nothing of the session changes. The one error is that memory was refused.
-pub fn append_shown(
+/// What a word tells that shows how all stands, with this text behind it, which has no blank at its end; nothing for any other word. Nothing
+/// of the session changes. The one error is that memory was refused.
+pub fn shown(
+    alloc: Global,
+    session: &mut Session,
+    word: Word,
+    text: &[u8],
+) -> Result<Vec<u8>, AllocError> {
+    let mut out = Vec::new(alloc);
+    append_shown(alloc, session, word, text, &mut out)?;
+    Ok(out)
+}
+
+// Puts what the word tells at the end.
+fn append_shown(
     alloc: Global,
     session: &mut Session,
     word: Word,
