@@ -6,7 +6,7 @@ use Rattle.sfc_image.specs.declared.image_error.ImageError.TheVariants as image
 use Rattle.sfc_image.specs.Answers.{value_fault, release_fault}
 use Rattle.sfc_image.specs.Changes.{Change}
 use Rattle.sfc_tasks.specs.Agreement.{TasksAgree}
-use Rattle.sfc_tasks.specs.Calls.{Call}
+use Rattle.sfc_tasks.specs.Calls.{Call, Elapsed}
 use Rattle.sfc_tasks.specs.declared.table.TaskTable.{TaskTable}
 use Rattle.sfc_events.specs.declared.event.Event.{Event}
 use Rattle.sfc_events.specs.declared.event.Event.TheVariants.{Scan, ForcedScan, Input, Force, Release, Reset}
@@ -21,7 +21,6 @@ use Rattle.sfc_instances.specs.Agreement.{InstancesAgree}
 use Rattle.sfc_instances.specs.Ends.{AreBits}
 use Rattle.sfc_instances.specs.Singles.{singles_in}
 use Rattle.sfc_instances.specs.PlantState.{PlantState}
-use Rattle.sfc_core.specs.declared.due.Due.{Due}
 use Rattle.sfc_core.specs.declared.singles.Singles.{Singles}
 use Rattle.sfc_core.specs.PlantState.{after_event, state_of}
 use Rattle.sfc_core.specs.Due.{singles_of, calls_of, calls_at, with_rises, with_service}
@@ -56,16 +55,18 @@ taken plant changes (Reset p) e = tt
 
 -- ---- what is kept of it
 
-module _ (plant : PlantData) (event : Event) (t : ℤ) (old new : Instances) (due served risen : Due) (after : Singles) (tasks : TaskTable)
+module _ (plant : PlantData) (event : Event) (t : ℤ) (old new : Instances) (before after : Singles)
+    (tasks elapsed served risen : TaskTable)
     (changed : (state : PlantState) → InstancesAgree plant old state → IsTaken plant state.changes event
     → InstancesAgree plant new (after_event plant event t state))
     (read : (state : PlantState) → InstancesAgree plant new state → flags_of after ≡ singles_in plant state.changes)
-    (same : served.singles ≡ due.singles)
-    (serves : (calls : List Call) → TasksAgree plant.tasks due.tasks calls → TasksAgree plant.tasks served.tasks (with_service event calls))
-    (rises : (calls : List Call) → TasksAgree plant.tasks served.tasks calls
-    → TasksAgree plant.tasks risen.tasks (with_rises t 0 (flags_of served.singles) (flags_of after) calls))
-    (copied : (calls : List Call) → TasksAgree plant.tasks risen.tasks calls → TasksAgree plant.tasks tasks calls) (h : History)
-    (agrees : InstancesAgree plant old (state_of plant h)) (ready : IsReady plant h event t due) where
+    (elapses : (calls : List Call) → TasksAgree plant.tasks tasks calls
+    → TasksAgree plant.tasks elapsed (Elapsed t (flags_of before) ∷ calls))
+    (serves : (calls : List Call) → TasksAgree plant.tasks elapsed calls → TasksAgree plant.tasks served (with_service event calls))
+    (rises : (calls : List Call) → TasksAgree plant.tasks served calls
+    → TasksAgree plant.tasks risen (with_rises t 0 (flags_of before) (flags_of after) calls))
+    (h : History) (agrees : InstancesAgree plant old (state_of plant h)) (tasked : TasksAgree plant.tasks tasks (calls_of plant h))
+    (ready : IsReady plant h event before) where
   instances_after : InstancesAgree plant new (state_of plant ((event, t) ∷ h))
   unfolding state_of
   instances_after = changed (state_of plant h) agrees (taken plant (state_of plant h).changes event ready.named)
@@ -74,24 +75,19 @@ module _ (plant : PlantData) (event : Event) (t : ℤ) (old new : Instances) (du
   unfolding singles_of
   read_after = read (state_of plant ((event, t) ∷ h)) instances_after
 
-  read_before : flags_of served.singles ≡ singles_of plant h
-  read_before = ap flags_of same ∙ ready.is_due.singles
-
-  calls_are : with_rises t 0 (flags_of served.singles) (flags_of after) (with_service event (calls_at plant h t))
+  calls_are : with_rises t 0 (flags_of before) (flags_of after) (with_service event (Elapsed t (flags_of before) ∷ calls_of plant h))
       ≡ calls_of plant ((event, t) ∷ h)
   unfolding calls_of
   calls_are =
-      ap (λ (xs : List Bool). with_rises t 0 xs (flags_of after) (with_service event (calls_at plant h t))) read_before
+      ap (λ (xs : List Bool). with_rises t 0 xs (flags_of after) (with_service event (Elapsed t xs ∷ calls_of plant h))) ready.told
       ∙ ap (λ (ys : List Bool). with_rises t 0 (singles_of plant h) ys (with_service event (calls_at plant h t))) read_after
 
   -- the event is the latest of the history
-  pub kept_after : Keeps plant new tasks t ((event, t) ∷ h)
+  pub kept_after : Keeps plant new risen t ((event, t) ∷ h)
   kept_after = record {
     instant = refl;
     instances_agree = instances_after;
-    tasked =
-        subst (λ (calls : List Call). TasksAgree plant.tasks tasks calls) calls_are
-        (copied _ (rises _ (serves (calls_at plant h t) ready.is_due.tasks)));
+    tasked = subst (λ (calls : List Call). TasksAgree plant.tasks risen calls) calls_are (rises _ (serves _ (elapses _ tasked)));
   }
 
 -- ---- what it answers

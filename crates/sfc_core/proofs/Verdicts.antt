@@ -1,18 +1,17 @@
 -- The first refusal, by parts.
-use Rattle.std.proofs.Common.{◌≡◌, ◌∙◌, List, ◌∷◌, Bool, Option, Some, None, Ok, Err, ℤ, refl, sym, ap, subst}
+use Rattle.std.proofs.Common.{◌≡◌, ◌∙◌, List, ◌∷◌, Bool, Option, Some, None, Ok, Err, ℤ, refl, sym, ap}
 use Rattle.sfc_plant.specs.Plants.{PlantData}
-use Rattle.sfc_tasks.specs.Agreement.{TasksAgree}
 use Rattle.sfc_tasks.specs.Calls.{Elapsed}
 use Rattle.sfc_events.specs.declared.event.Event.{Event}
 use Rattle.sfc_events.specs.declared.event.Outcome.{Outcome}
 use Rattle.sfc_events.specs.declared.refusal.Refusal.{Refusal}
 use Rattle.sfc_events.specs.History.{History, last_instant}
 use Rattle.sfc_instances.specs.Singles.{singles_in}
-use Rattle.sfc_core.specs.declared.due.Due.{Due}
+use Rattle.sfc_core.specs.declared.singles.Singles.{Singles}
 use Rattle.sfc_core.specs.PlantState.{state_of}
 use Rattle.sfc_core.specs.Due.{singles_of, calls_of, calls_at}
 use Rattle.sfc_core.specs.Verdict.{or_then, instant_refusal, event_refusal, turn_refusal, first_refusal, answer, verdict, verdict_by}
-use Rattle.sfc_core.specs.Private.Ready.{flags_of, IsDueAt, IsReady}
+use Rattle.sfc_core.specs.Private.Ready.{flags_of, IsReady}
 
 or_then_assoc : (a b d : Option Refusal) → or_then a (or_then b d) ≡ or_then (or_then a b) d
 or_then_assoc (Some x) b d = refl
@@ -27,14 +26,11 @@ pub none_of : {A : Type 0} (o : Option A) → ((x : A) → o ≡ Some x → ⊥)
 none_of (Some x) other = absurd (other x refl)
 none_of None other = refl
 
--- what is due at the instant of an event
-pub due_there : (plant : PlantData) (h : History) (t : ℤ) (due : Due) → flags_of due.singles ≡ singles_in plant (state_of plant h).changes
-    → TasksAgree plant.tasks due.tasks (Elapsed t (flags_of due.singles) ∷ calls_of plant h) → IsDueAt plant h t due
+-- what the SINGLE of each task reads
+pub singles_there : (plant : PlantData) (h : History) (singles : Singles)
+    → flags_of singles ≡ singles_in plant (state_of plant h).changes → flags_of singles ≡ singles_of plant h
 unfolding singles_of
-due_there plant h t due e agrees = record {
-  singles = e;
-  tasks = subst (λ (singles : List Bool). TasksAgree plant.tasks due.tasks (Elapsed t singles ∷ calls_of plant h)) e agrees;
-}
+singles_there plant h singles e = e
 
 module _ (plant : PlantData) (h : History) (event : Event) (t : ℤ) (named : Option Refusal)
     (e : named ≡ or_then (instant_refusal (last_instant h) t) (event_refusal plant (state_of plant h).changes event)) where
@@ -51,12 +47,12 @@ module _ (plant : PlantData) (h : History) (event : Event) (t : ℤ) (named : Op
       sym (ap (λ (o : Option Refusal). verdict_by o (answer plant h event t))
       (by_parts ∙ ap (λ (o : Option Refusal). or_then o (turn_refusal plant.tasks (singles_of plant h) (calls_at plant h t) event t)) is))
 
-  module _ (none : named ≡ None) (due : Due) (there : IsDueAt plant h t due) (turn : Option Refusal)
-      (f : turn ≡ turn_refusal plant.tasks (flags_of due.singles) (calls_at plant h t) event t) where
+  module _ (none : named ≡ None) (singles : List Bool) (there : singles ≡ singles_of plant h) (turn : Option Refusal)
+      (f : turn ≡ turn_refusal plant.tasks singles (Elapsed t singles ∷ calls_of plant h) event t) where
     by_turn : first_refusal plant h event t ≡ turn
     by_turn =
         by_parts ∙ ap (λ (o : Option Refusal). or_then o (turn_refusal plant.tasks (singles_of plant h) (calls_at plant h t) event t)) none
-        ∙ sym (f ∙ ap (λ (singles : List Bool). turn_refusal plant.tasks singles (calls_at plant h t) event t) there.singles)
+        ∙ sym (f ∙ ap (λ (xs : List Bool). turn_refusal plant.tasks xs (Elapsed t xs ∷ calls_of plant h) event t) there)
 
     -- it is not its turn
     pub refused_turn : (refusal : Refusal) → turn ≡ Some refusal → Err refusal ≡ verdict plant h event t
@@ -67,9 +63,9 @@ module _ (plant : PlantData) (h : History) (event : Event) (t : ℤ) (named : Op
     granted outcome is says =
         sym (ap (λ (o : Option Refusal). verdict_by o (answer plant h event t)) (by_turn ∙ is) ∙ ap Ok (sym says))
 
-  pub ready_there : named ≡ None → (due : Due) → IsDueAt plant h t due → IsReady plant h event t due
-  ready_there none due there = record {
-    is_due = there;
+  pub ready_there : named ≡ None → (singles : Singles) → flags_of singles ≡ singles_of plant h → IsReady plant h event singles
+  ready_there none singles there = record {
+    told = there;
     named =
         second_none (instant_refusal (last_instant h) t) (event_refusal plant (state_of plant h).changes event) (sym e ∙ none);
   }

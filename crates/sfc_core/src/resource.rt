@@ -9,7 +9,7 @@ ghost use Rattle.sfc_instances.proofs.OfOnePlant.{instances_prop};
 ghost use Rattle.sfc_core.specs.Keeping.{Keeps};
 
 use crate::changing::{change, outcome};
-use crate::due::Due;
+use crate::due::{refuse_turn, serve, tell_rises};
 use crate::opening::Opening;
 use crate::refusing::{refuse_event, refuse_instant};
 use crate::singles::Singles;
@@ -66,7 +66,7 @@ impl Resource {
     ghost use Rattle.sfc_core.specs.Past.{history_past};
     ghost use Rattle.sfc_core.specs.Openings.{IsOpeningFor, past_of};
     ghost use Rattle.sfc_core.specs.Private.Naming.{IsKnown};
-    ghost use Rattle.sfc_core.specs.Private.Ready.{IsDueOf, IsReady};
+    ghost use Rattle.sfc_core.specs.Private.Ready.{AreSinglesOf, IsReady};
 
     /// A resource that has seen no event: each variable has its initial value, none is forced, and no instance was
     /// scanned. All memory that events need is taken here; the one error is that memory was refused.
@@ -98,23 +98,29 @@ impl Resource {
         }
     }
 
-    // An event that is not refused.
-    fn accept(&mut self, mut due: Due, event: Event, t: i64, ticks: &mut Ticks) -> Outcome
+    // An event that is not refused, where the SINGLE of each task read so before it.
+    fn accept(&mut self, before: &Singles, event: Event, t: i64, ticks: &mut Ticks) -> Outcome
         requires low { pos 0 ≤ℤ t }
         requires high { t ≤ℤ pos (2 ^ 62) }
         requires known { IsKnown (plant_of self.old) event }
-        requires sizes { IsDueOf (plant_of self.old) due }
-        requires ready { (h : History) → Agrees self.old h → IsReady (plant_of self.old) h event t due }
+        requires sizes { AreSinglesOf (plant_of self.old) before.now }
+        requires ready { (h : History) → Agrees self.old h → IsReady (plant_of self.old) h event before.now }
         ensures plant { plant_of self.new ≡ plant_of self.old }
         ensures value { (h : History) → Agrees self.old h → result ≡ answer (plant_of self.old) h event t }
         ensures agrees { (h : History) → Agrees self.old h → Agrees self.new ((event, t) ∷ h) }
         ensures ticks { Within (instances_work (plant_of self.old) event + 3 * length (plant_of self.old).tasks + 2) ticks.old ticks.new }
     {
-        due.serve(event, ticks);
+        self.tasks.elapse(t, before.as_slice(), ticks);
+        serve(&mut self.tasks, event, ticks);
         let bits = change(&mut self.instances, &self.plant, event, t, ticks);
         let after = Singles::read(&self.instances, &self.plant, ticks);
-        due.rise(&after, t, ticks);
-        self.tasks.copy_from(&due.tasks, ticks);
+        tell_rises(
+            &mut self.tasks,
+            t,
+            before.as_slice(),
+            after.as_slice(),
+            ticks,
+        );
         self.last = t;
         outcome(event, bits, &self.tasks, ticks)
     }
@@ -137,10 +143,10 @@ impl Resource {
         if let Some(refusal) = self.refuse_named(event, t) {
             return Err(refusal);
         }
-        let due = Due::at(&self.plant, &self.instances, &self.tasks, t, ticks);
-        match due.refuse_turn(event, t, ticks) {
+        let singles = Singles::read(&self.instances, &self.plant, ticks);
+        match refuse_turn(&self.tasks, singles.as_slice(), event, t, ticks) {
             Some(refusal) => Err(refusal),
-            None => Ok(self.accept(due, event, t, ticks)),
+            None => Ok(self.accept(&singles, event, t, ticks)),
         }
     }
 

@@ -1,6 +1,5 @@
 -- What a debugger keeps is the past of its commands.
-use Rattle.std.proofs.Common.{◌≡◌, ℕ, length, ap}
-use Rattle.sfc_core.specs.Past.{history_past}
+use Rattle.std.proofs.Common.{◌≡◌, ap}
 use Rattle.sfc_core.proofs.Pasts as core
 use Rattle.sfc_debug.specs.Agreement.{Agrees, plant_of, table_of}
 use Rattle.sfc_debug.specs.Histories.{CommandHistory}

@@ -24,6 +24,8 @@ pub mod Latest
 pub mod Keeping
 -- what goes by the past of the commands
 pub mod Pasts
+-- what a longer table of conditions changes: nothing
+pub mod Longer
 -- ---- what the definitions give at single moments of small plants, worked out by hand
 
 -- how commands are written

@@ -14,6 +14,8 @@ pub mod Hits
 pub mod States
 -- what a command is refused for, and what it answers
 pub mod Verdict
+-- which conditions a history names, and a longer table
+pub mod Longer
 -- the rows of the trace
 pub mod Tracing
 -- how much a command handles

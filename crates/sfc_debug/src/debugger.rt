@@ -1,15 +1,17 @@
 //! A resource that is steered by commands.
 
-ghost use Rattle.std.specs.Prelude.{◌≡◌, ◌≤ℤ◌, ◌<◌, ◌≤◌, ◌+◌, ◌-◌, ◌∷◌, ◌^◌, [], ℤ, None, Some, List, length, pos, option_map, slice_get, IfOk, IsOk, OnOk, OnErr};
+ghost use Rattle.std.specs.Prelude.{◌≡◌, ◌≤ℤ◌, ◌<◌, ◌≤◌, ◌+◌, ◌-◌, ◌∷◌, ◌^◌, [], ℤ, None, Some, Err, List, length, take, pos, option_map, slice_get, IfOk, IsOk, OnOk, OnErr};
 ghost use Rattle.sfc_base.specs.Ticks.{Within};
 ghost use Rattle.sfc_expr.specs.Trees.{expression_of};
 ghost use Rattle.sfc_events.specs.Commands.{event_of};
 ghost use Rattle.sfc_events.specs.History.{History};
 ghost use Rattle.sfc_events.specs.declared.command.TraceRow.{TraceRow};
+ghost use Rattle.sfc_events.specs.declared.refusal.Refusal.TheVariants.{NoSuchCondition};
 ghost use Rattle.sfc_core.specs.Agreement as core;
 ghost use Rattle.sfc_core.specs.PlantState as plant_state;
 ghost use Rattle.sfc_core.specs.Verdict as events;
 ghost use Rattle.sfc_core.specs.Work.{event_work};
+ghost use Rattle.sfc_debug.specs.declared.break_condition.BreakCondition.{BreakCondition};
 ghost use Rattle.sfc_debug.specs.Hits.{shown_condition};
 ghost use Rattle.sfc_debug.specs.States.{clock_after, erasure, hits, state_of, with_event};
 ghost use Rattle.sfc_debug.specs.Points.{points_after};
@@ -33,7 +35,7 @@ use crate::trace_mask::TraceMask;
 use sfc_base::ids::ProgId;
 use sfc_base::ticks::Ticks;
 use sfc_core::resource::Resource;
-use sfc_events::command::{Answer, Command, CondId, TraceRow};
+use sfc_events::command::{Answer, Command, CondId, Point, TraceRow};
 use sfc_events::event::{Event, Outcome};
 use sfc_events::refusal::Refusal;
 use sfc_expr::expr::Expr;
@@ -103,6 +105,7 @@ fn tells_hit(answer: Answer) -> bool
 impl Debugger {
     ghost use Rattle.sfc_debug.specs.Agreement.{Agrees, Traces, plant_of, table_of, mask_of, capacity_of};
     ghost use Rattle.sfc_debug.specs.Histories.{CommandHistory};
+    ghost use Rattle.sfc_debug.specs.Longer.{NamesWithin, with_condition, break_when};
     ghost use Rattle.sfc_debug.specs.Openings.{IsOpeningFor, past_of};
     ghost use Rattle.sfc_debug.specs.Past.{debug_past};
 
@@ -345,6 +348,83 @@ impl Debugger {
         let t = self.at(command, raw)?;
         let answer = self.answer(command, t, ticks)?;
         self.keep(command, raw, t, answer);
+        Ok(answer)
+    }
+
+    // One more condition in the table, behind all others.
+    fn add_condition(&mut self, condition: BreakCondition) -> Result<(), AllocError>
+        ensures plant { plant_of self.new ≡ plant_of self.old }
+        ensures mask { mask_of self.new ≡ mask_of self.old }
+        ensures capacity { capacity_of self.new ≡ capacity_of self.old }
+        ensures table { OnOk result (table_of self.new ≡ with_condition (table_of self.old) condition) }
+        ensures err_table { OnErr result (table_of self.new ≡ table_of self.old) }
+        ensures agrees { (h : CommandHistory) → NamesWithin (length (table_of self.old)) h → Agrees self.old h →
+            OnOk result (Agrees self.new h) }
+        ensures err_agrees { (h : CommandHistory) → Agrees self.old h → OnErr result (Agrees self.new h) }
+        ensures traces { (rows : List TraceRow) → Traces self.old rows → Traces self.new rows }
+    {
+        self.conditions.push(condition)?;
+        Ok(())
+    }
+
+    // The first conditions of the table alone, so many of them.
+    fn keep_conditions(&mut self, count: usize)
+        ensures plant { plant_of self.new ≡ plant_of self.old }
+        ensures mask { mask_of self.new ≡ mask_of self.old }
+        ensures capacity { capacity_of self.new ≡ capacity_of self.old }
+        ensures table { table_of self.new ≡ take count (table_of self.old) }
+        ensures agrees { (h : CommandHistory) → NamesWithin (length (table_of self.new)) h → Agrees self.old h → Agrees self.new h }
+        ensures traces { (rows : List TraceRow) → Traces self.old rows → Traces self.new rows }
+    {
+        self.conditions.truncate(count);
+    }
+
+    /// Sets a breakpoint that waits for a condition: the command `BreakIf` of this condition, which joins the table behind all others.
+    /// What is refused, as by `command`, leaves the debugger as it was, and the condition is given up; so does a table of 65,536
+    /// conditions, beyond which none has a number, with `NoSuchCondition`. The one error is that memory was refused.
+    ///
+    /// Of the accepted commands none names a condition that the table doesn't have, as it is where each came by `command` and was
+    /// accepted. Then nothing that was answered would have been answered otherwise with the longer table (`laws::longer_table`).
+    pub fn break_when(
+        &mut self,
+        point: Point,
+        condition: BreakCondition,
+        raw: i64,
+        ticks: &mut Ticks,
+    ) -> Result<Result<Answer, Refusal>, AllocError>
+        ensures plant { plant_of self.new ≡ plant_of self.old }
+        ensures mask { mask_of self.new ≡ mask_of self.old }
+        ensures capacity { capacity_of self.new ≡ capacity_of self.old }
+        ensures full { 2 ^ 16 ≤ length (table_of self.old) → IfOk result (λ answer. answer ≡ Err NoSuchCondition) }
+        ensures answer { (h : CommandHistory) → length (table_of self.old) < 2 ^ 16 → NamesWithin (length (table_of self.old)) h →
+            Agrees self.old h → IfOk result (λ answer. answer ≡ verdict.verdict (plant_of self.old)
+            (with_condition (table_of self.old) condition) h (break_when (table_of self.old) point condition) raw) }
+        ensures table { IfOk result (λ answer. OnOk answer (table_of self.new ≡ with_condition (table_of self.old) condition)) }
+        ensures refused_table { IfOk result (λ answer. OnErr answer (table_of self.new ≡ table_of self.old)) }
+        ensures ok { (h : CommandHistory) → NamesWithin (length (table_of self.old)) h → Agrees self.old h →
+            IfOk result (λ answer. OnOk answer (Agrees self.new ((break_when (table_of self.old) point condition, raw) ∷ h))) }
+        ensures refused { (h : CommandHistory) → NamesWithin (length (table_of self.old)) h → Agrees self.old h →
+            IfOk result (λ answer. OnErr answer (Agrees self.new h)) }
+        ensures traces { (h : CommandHistory) (rows : List TraceRow) → NamesWithin (length (table_of self.old)) h → Agrees self.old h →
+            Traces self.old rows → IfOk result (λ answer. IfOk answer (λ given. Traces self.new (with_row (mask_of self.old)
+            (row_of (plant_of self.old) (with_condition (table_of self.old) condition) h (break_when (table_of self.old) point condition) raw
+            given) rows))) }
+        ensures refused_traces { (rows : List TraceRow) → Traces self.old rows →
+            IfOk result (λ answer. OnErr answer (Traces self.new rows)) }
+        ensures err_table { OnErr result (table_of self.new ≡ table_of self.old) }
+        ensures err { (h : CommandHistory) → Agrees self.old h → OnErr result (Agrees self.new h) }
+        ensures err_traces { (rows : List TraceRow) → Traces self.old rows → OnErr result (Traces self.new rows) }
+    {
+        let place = self.conditions.len();
+        if place > u16::MAX as usize {
+            return Ok(Err(Refusal::NoSuchCondition));
+        }
+        let command = Command::BreakIf(condition.program, point, CondId(place as u16));
+        self.add_condition(condition)?;
+        let answer = self.command(command, raw, ticks);
+        if answer.is_err() {
+            self.keep_conditions(place);
+        }
         Ok(answer)
     }
 

@@ -9,6 +9,7 @@ ghost use Rattle.sfc_base.specs.declared.ids.VarId.{VarId};
 ghost use Rattle.sfc_plant.specs.Plants.{PlantData};
 ghost use Rattle.sfc_plant.specs.Sound.{IsPlant};
 ghost use Rattle.sfc_debug.specs.Histories.{TimedCommand, CommandHistory};
+ghost use Rattle.sfc_debug.specs.Longer.{IsNamedWithin, NamesWithin};
 ghost use Rattle.sfc_debug.specs.Modes.{mode_after};
 ghost use Rattle.sfc_debug.specs.Meaning.{halts, IsAccepted, IsInTime, stands_in, breakpoint_at, latest_at, hits_at};
 ghost use Rattle.sfc_debug.specs.Meaning.{paused, later_by, IsFrom, IsPause, plain, answers_of, event_answers};
@@ -182,3 +183,13 @@ pub fn cut()
     past_answers();
     next_past();
 }
+
+/// A longer table of conditions changes nothing for what names only the first ones: after a history that names only conditions of
+/// the table everything stands as with more of them behind, and a command that names none but these has the same verdict.
+pub fn longer_table()
+    ensures stands { (plant : PlantData) (table more : List BreakCondition) (h : CommandHistory) → NamesWithin (length table) h →
+        state_of plant (table ++ more) h ≡ state_of plant table h }
+    ensures verdict { (plant : PlantData) (table more : List BreakCondition) (h : CommandHistory) (command : Command) (raw : ℤ) →
+        NamesWithin (length table) h → IsNamedWithin (length table) command →
+        verdict plant (table ++ more) h command raw ≡ verdict plant table h command raw }
+{}

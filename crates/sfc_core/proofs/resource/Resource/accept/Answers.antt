@@ -13,18 +13,19 @@ invariant_of-self c =
     let s = c.args.self.now in
     let fits : SFits w64 c.args.t = c.ranges.t in
     let after =
-    kept_after s.plant c.args.event c.args.t s.instances c.change-bits.new.instances c.args.due c.serve.new.self c.rise.new.self
-    c.read-after.result c.copy_from.new.self (simp (to_z-of_z, fits) at c.change-bits.ensures.agrees) c.read-after.ensures.value
-    c.serve.ensures.singles (c.serve.ensures.agrees s.plant.tasks) (simp (to_z-of_z, fits) at (c.rise.ensures.agrees s.plant.tasks))
-    (c.copy_from.ensures.agrees s.plant.tasks) in
+    kept_after s.plant c.args.event c.args.t s.instances c.change-bits.new.instances c.args.before.now c.read-after.result
+    s.tasks c.elapse.new.self c.serve.new.tasks c.tell_rises.new.tasks
+    (simp (to_z-of_z, fits) at c.change-bits.ensures.agrees) c.read-after.ensures.value
+    (simp (to_z-of_z, fits, c.as_slice.ensures) at (c.elapse.ensures.agrees s.plant.tasks)) (c.serve.ensures.agrees s.plant.tasks)
+    (simp (to_z-of_z, fits, c.as_slice-2.ensures, c.as_slice-3.ensures) at (c.tell_rises.ensures.agrees s.plant.tasks)) in
     record {
       whole = c.change-bits.ensures.sizes;
-      tasks_sized = c.copy_from.ensures.size ∙ c.rise.ensures.size ∙ c.serve.ensures.size ∙ c.requires.sizes.tasks;
+      tasks_sized = c.tell_rises.ensures.size ∙ c.serve.ensures.size ∙ c.elapse.ensures.size ∙ s.tasks_sized;
       last_low = omega (arith, ints);
       last_high = omega (arith, ints);
       agrees =
           ∥∥₁_map s.agrees
-          (λ x. ((c.args.event, c.args.t) ∷ x.0, simp (to_z-of_z, fits) (after x.0 x.1.instances_agree (c.requires.ready x.0 x.1))));
+          (λ x. ((c.args.event, c.args.t) ∷ x.0, simp (to_z-of_z, fits) (after x.0 x.1.instances_agree x.1.tasked (c.requires.ready x.0 x.1))));
     }
 
 pub returns-clause-value : goal.returns-clause-value
@@ -33,11 +34,12 @@ returns-clause-value c h a =
     let s = c.args.self.now in
     let fits : SFits w64 c.args.t = c.ranges.t in
     let after =
-    kept_after s.plant c.args.event c.args.t s.instances c.change-bits.new.instances c.args.due c.serve.new.self c.rise.new.self
-    c.read-after.result c.copy_from.new.self (simp (to_z-of_z, fits) at c.change-bits.ensures.agrees) c.read-after.ensures.value
-    c.serve.ensures.singles (c.serve.ensures.agrees s.plant.tasks) (simp (to_z-of_z, fits) at (c.rise.ensures.agrees s.plant.tasks))
-    (c.copy_from.ensures.agrees s.plant.tasks) in
-    c.outcome.ensures.value s.plant.tasks _ (after h a.instances_agree (c.requires.ready h a)).tasked
+    kept_after s.plant c.args.event c.args.t s.instances c.change-bits.new.instances c.args.before.now c.read-after.result
+    s.tasks c.elapse.new.self c.serve.new.tasks c.tell_rises.new.tasks
+    (simp (to_z-of_z, fits) at c.change-bits.ensures.agrees) c.read-after.ensures.value
+    (simp (to_z-of_z, fits, c.as_slice.ensures) at (c.elapse.ensures.agrees s.plant.tasks)) (c.serve.ensures.agrees s.plant.tasks)
+    (simp (to_z-of_z, fits, c.as_slice-2.ensures, c.as_slice-3.ensures) at (c.tell_rises.ensures.agrees s.plant.tasks)) in
+    c.outcome.ensures.value s.plant.tasks _ (after h a.instances_agree a.tasked (c.requires.ready h a)).tasked
     ∙ answered s.plant h c.args.event c.args.t c.change-bits.result
     (simp (to_z-of_z, fits) at (c.change-bits.ensures.bits (state_of s.plant h) a.instances_agree))
 
@@ -47,21 +49,23 @@ returns-clause-agrees c h a =
     let s = c.args.self.now in
     let fits : SFits w64 c.args.t = c.ranges.t in
     let after =
-    kept_after s.plant c.args.event c.args.t s.instances c.change-bits.new.instances c.args.due c.serve.new.self c.rise.new.self
-    c.read-after.result c.copy_from.new.self (simp (to_z-of_z, fits) at c.change-bits.ensures.agrees) c.read-after.ensures.value
-    c.serve.ensures.singles (c.serve.ensures.agrees s.plant.tasks) (simp (to_z-of_z, fits) at (c.rise.ensures.agrees s.plant.tasks))
-    (c.copy_from.ensures.agrees s.plant.tasks) in
-    simp (to_z-of_z, fits) (after h a.instances_agree (c.requires.ready h a))
+    kept_after s.plant c.args.event c.args.t s.instances c.change-bits.new.instances c.args.before.now c.read-after.result
+    s.tasks c.elapse.new.self c.serve.new.tasks c.tell_rises.new.tasks
+    (simp (to_z-of_z, fits) at c.change-bits.ensures.agrees) c.read-after.ensures.value
+    (simp (to_z-of_z, fits, c.as_slice.ensures) at (c.elapse.ensures.agrees s.plant.tasks)) (c.serve.ensures.agrees s.plant.tasks)
+    (simp (to_z-of_z, fits, c.as_slice-2.ensures, c.as_slice-3.ensures) at (c.tell_rises.ensures.agrees s.plant.tasks)) in
+    simp (to_z-of_z, fits) (after h a.instances_agree a.tasked (c.requires.ready h a))
 
 pub returns-clause-ticks : goal.returns-clause-ticks
 unfolding Agrees plant_of
 returns-clause-ticks c =
     let s = c.args.self.now in
-    let sizes = c.requires.sizes.tasks in
+    let sized = s.tasks_sized in
+    let elapsed = c.elapse.ensures.size in
     let served = c.serve.ensures.size in
     ∥∥₁_elim s.agrees (×_prop le_prop le_prop)
     (λ x.
     let changed = c.change-bits.ensures.ticks (state_of s.plant x.0) x.1.instances_agree in (
-      omega (arith, changed.0, c.serve.ensures.ticks.0, c.read-after.ensures.ticks.0, c.rise.ensures.ticks.0, c.copy_from.ensures.ticks.0, c.outcome.ensures.ticks.0),
-      omega (arith, changed.1, c.serve.ensures.ticks.1, c.read-after.ensures.ticks.1, c.rise.ensures.ticks.1, c.copy_from.ensures.ticks.1, c.outcome.ensures.ticks.1, c.rise.ensures.size, sizes, served),
+      omega (arith, c.elapse.ensures.ticks.0, changed.0, c.serve.ensures.ticks.0, c.read-after.ensures.ticks.0, c.tell_rises.ensures.ticks.0, c.outcome.ensures.ticks.0),
+      omega (arith, c.elapse.ensures.ticks.1, changed.1, c.serve.ensures.ticks.1, c.read-after.ensures.ticks.1, c.tell_rises.ensures.ticks.1, c.outcome.ensures.ticks.1, sized, elapsed, served),
     ))

@@ -1,8 +1,9 @@
 use Rattle.std.proofs.Common.{w64, SFits, to_z-of_z}
 use Rattle.sfc_core.specs.Agreement.{Agrees, plant_of}
-use Rattle.sfc_core.specs.Due.{calls_at, calls_of}
+use Rattle.sfc_core.specs.Due.{calls_of}
+use Rattle.sfc_core.specs.Private.Ready.{flags_of}
 use Rattle.sfc_core.specs.PlantState.{state_of}
-use Rattle.sfc_core.proofs.Verdicts.{none_of, due_there, refused_named, refused_turn, granted, ready_there}
+use Rattle.sfc_core.proofs.Verdicts.{none_of, singles_there, refused_named, refused_turn, granted, ready_there}
 use Rattle.sfc_core.proofs.resource.Resource.apply.Goals as goal
 
 pub accept-requires-clause-ready : goal.accept-requires-clause-ready
@@ -10,12 +11,9 @@ unfolding Agrees plant_of
 accept-requires-clause-ready c h a =
     let plant = c.args.self.now.plant in
     let fits : SFits w64 c.args.t = c.ranges.t in
-    let there =
-    due_there plant h c.args.t c.at-due.result (c.at-due.ensures.singles (state_of plant h) a.instances_agree)
-    (simp (to_z-of_z, fits) at (c.at-due.ensures.tasks (calls_of plant h) a.tasked)) in
-    simp (to_z-of_z, fits)
-    (ready_there plant h c.args.event c.args.t c.refuse_named.result (simp (to_z-of_z, fits) at (c.refuse_named.ensures.value h a))
-    (none_of c.refuse_named.result c.in_default.not-Some) c.at-due.result there)
+    let there = singles_there plant h c.read-singles.result (c.read-singles.ensures.value (state_of plant h) a.instances_agree) in
+    ready_there plant h c.args.event c.args.t c.refuse_named.result (simp (to_z-of_z, fits) at (c.refuse_named.ensures.value h a))
+    (none_of c.refuse_named.result c.in_default.not-Some) c.read-singles.result there
 
 pub returns-in-Some-clause-answer : goal.returns-in-Some-clause-answer
 unfolding Agrees plant_of
@@ -29,12 +27,10 @@ unfolding Agrees plant_of
 returns-in-Some-refuse_turn-clause-answer c h a =
     let plant = c.args.self.now.plant in
     let fits : SFits w64 c.args.t = c.ranges.t in
-    let there =
-    due_there plant h c.args.t c.at-due.result (c.at-due.ensures.singles (state_of plant h) a.instances_agree)
-    (simp (to_z-of_z, fits) at (c.at-due.ensures.tasks (calls_of plant h) a.tasked)) in
+    let there = singles_there plant h c.read-singles.result (c.read-singles.ensures.value (state_of plant h) a.instances_agree) in
     refused_turn plant h c.args.event c.args.t c.refuse_named.result (simp (to_z-of_z, fits) at (c.refuse_named.ensures.value h a))
-    (none_of c.refuse_named.result c.in_default.not-Some) c.at-due.result there c.refuse_turn.result
-    (simp (to_z-of_z, fits) at (c.refuse_turn.ensures.value plant.tasks (calls_at plant h c.args.t) there.tasks))
+    (none_of c.refuse_named.result c.in_default.not-Some) (flags_of c.read-singles.result) there c.refuse_turn.result
+    (simp (to_z-of_z, fits, c.as_slice.ensures) at (c.refuse_turn.ensures.value plant.tasks (calls_of plant h) a.tasked))
     c.in-Some-refuse_turn.refusal c.in-Some-refuse_turn.is
 
 pub returns-in-None-clause-answer : goal.returns-in-None-clause-answer
@@ -42,10 +38,8 @@ unfolding Agrees plant_of
 returns-in-None-clause-answer c h a =
     let plant = c.args.self.now.plant in
     let fits : SFits w64 c.args.t = c.ranges.t in
-    let there =
-    due_there plant h c.args.t c.at-due.result (c.at-due.ensures.singles (state_of plant h) a.instances_agree)
-    (simp (to_z-of_z, fits) at (c.at-due.ensures.tasks (calls_of plant h) a.tasked)) in
+    let there = singles_there plant h c.read-singles.result (c.read-singles.ensures.value (state_of plant h) a.instances_agree) in
     granted plant h c.args.event c.args.t c.refuse_named.result (simp (to_z-of_z, fits) at (c.refuse_named.ensures.value h a))
-    (none_of c.refuse_named.result c.in_default.not-Some) c.at-due.result there c.refuse_turn.result
-    (simp (to_z-of_z, fits) at (c.refuse_turn.ensures.value plant.tasks (calls_at plant h c.args.t) there.tasks))
+    (none_of c.refuse_named.result c.in_default.not-Some) (flags_of c.read-singles.result) there c.refuse_turn.result
+    (simp (to_z-of_z, fits, c.as_slice.ensures) at (c.refuse_turn.ensures.value plant.tasks (calls_of plant h) a.tasked))
     c.accept.result c.in-None.is (simp (to_z-of_z, fits) at (c.accept.ensures.value h a))

@@ -1,4 +1,4 @@
-use Rattle.std.proofs.Common.{◌≡◌, ◌∙◌, Ok, Err, sym, length, w64, SFits, to_z-of_z}
+use Rattle.std.proofs.Common.{◌≡◌, ◌∙◌, Ok, Err, length, w64, SFits, to_z-of_z}
 use Rattle.sfc_events.specs.Commands.{event_of}
 use Rattle.sfc_events.specs.declared.command.Command.TheVariants.{Epoch}
 use Rattle.sfc_core.specs.Verdict.{or_then}
