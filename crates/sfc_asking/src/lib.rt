@@ -24,9 +24,3 @@ pub mod release;
 pub mod show;
 pub mod trace;
 pub mod why;
-
-#[cfg(test)]
-mod tests {
-    #[test]
-    fn compiles() {}
-}

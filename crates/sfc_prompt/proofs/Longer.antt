@@ -74,7 +74,7 @@ module _ (plant : PlantData) (table more : List BreakCondition) where
   accepted_longer [] accepted = tt
   accepted_longer (timed ∷ h) accepted =
       let same = verdict_same plant table more h timed.0 timed.1 (named plant table h accepted.1)
-          (named_one plant table h timed.0 timed.1 accepted.0) in
+      (named_one plant table h timed.0 timed.1 accepted.0) in
       (subst IsOk (sym same) accepted.0, accepted_longer h accepted.1)
 
   -- ---- lines

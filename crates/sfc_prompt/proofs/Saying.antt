@@ -76,14 +76,14 @@ module _ (old new : Session) (timed : TimedCommand) (h : CommandHistory) (lines 
     accepted = subst (λ (s : Steered). IsAccepted s.plant s.table (timed ∷ h)) (sym same) (ap is_ok is, said.accepted);
     instant = later;
     count = counted;
-    lines = ap (λ text. text ++ more) said.lines ∙ ap (λ (s : Steered). history_lines s (timed ∷ h)) (sym same);
+    text = ap (λ l. l ++ more) said.text ∙ ap (λ (s : Steered). history_lines s (timed ∷ h)) (sym same);
   }
   said_by (Err refusal) is agrees later stays = record {
     agrees = agrees;
     accepted = subst (λ (s : Steered). IsAccepted s.plant s.table h) (sym same) said.accepted;
     instant = stays ∙ said.instant;
     count = counted;
-    lines = said.lines ∙ ap (λ (s : Steered). history_lines s h) (sym same);
+    text = said.text ∙ ap (λ (s : Steered). history_lines s h) (sym same);
   }
 
   pub goes_on : (answer : Verdict) → answer ≡ verdict st.plant st.table h timed.0 timed.1

@@ -31,10 +31,10 @@ goes_then : (d : Session) (h : CommandHistory) (lines first second : List ℕ) (
     → HasGoneOn (history_after h one.pieces) (lines ++ said one.pieces) second d → HasGoneOn h lines (first ++ second) d
 goes_then d h lines first second b one two =
     let lines_same : (lines ++ said one.pieces) ++ said two.pieces ≡ lines ++ said (one.pieces ++ two.pieces) =
-        append_assoc lines (said one.pieces) (said two.pieces) ∙ ap (λ l. lines ++ l) (sym (said-append one.pieces two.pieces)) in
+    append_assoc lines (said one.pieces) (said two.pieces) ∙ ap (λ l. lines ++ l) (sym (said-append one.pieces two.pieces)) in
     record {
       pieces = one.pieces ++ two.pieces;
-      text = (λ i. one.text i ++ two.text i) ∙ sym (written-append one.pieces two.pieces);
+      whole = (λ i. one.whole i ++ two.whole i) ∙ sym (written-append one.pieces two.pieces);
       said = subst (λ (g : CommandHistory). HasSaid d g (lines ++ said (one.pieces ++ two.pieces)))
           (sym (history-append h one.pieces two.pieces))
           (subst (λ (l : List ℕ). HasSaid d (history_after (history_after h one.pieces) two.pieces) l) lines_same two.said);
@@ -45,12 +45,12 @@ pub goes_by : (new : Session) (timed : TimedCommand) (v : Verdict) (h : CommandH
     → HasSaid new (history_by v timed h) (with_lines v lines more) → HasGoneOn h lines more new
 goes_by new timed (Ok answer) h lines more has = record {
   pieces = Accepted timed more ∷ [];
-  text = sym (append-nil more);
+  whole = sym (append-nil more);
   said = subst (λ (l : List ℕ). HasSaid new (timed ∷ h) l) (ap (λ l. lines ++ l) (sym (append-nil more))) has;
 }
 goes_by new timed (Err refusal) h lines more has = record {
   pieces = Other more ∷ [];
-  text = sym (append-nil more);
+  whole = sym (append-nil more);
   said = subst (λ (l : List ℕ). HasSaid new h l) (sym (append-nil lines)) has;
 }
 
@@ -63,17 +63,25 @@ puts_then a b d x y z first second h lines has =
     (one.0 ++ two.0, two.1 ∙ ap (λ t. t ++ two.0) one.1 ∙ append_assoc x one.0 two.0, goes_then d h lines one.0 two.0 b one.2 two.2)
 
 pub puts_nothing : (session : Session) (x : List ℕ) → Puts session session x x
-puts_nothing session x h lines has = ([], sym (append-nil x), record {
-  pieces = [];
-  text = refl;
-  said = subst (λ (l : List ℕ). HasSaid session h l) (sym (append-nil lines)) has;
-})
+puts_nothing session x h lines has = (
+  [],
+  sym (append-nil x),
+  record {
+    pieces = [];
+    whole = refl;
+    said = subst (λ (l : List ℕ). HasSaid session h l) (sym (append-nil lines)) has;
+  },
+)
 
 -- what was said so far stays, and another text was put beside it
 pub puts_other : (old new : Session) (x y text : List ℕ) → y ≡ x ++ text
     → ((h : CommandHistory) (lines : List ℕ) → HasSaid old h lines → HasSaid new h lines) → Puts old new x y
-puts_other old new x y text is stays h lines has = (text, is, record {
-  pieces = Other text ∷ [];
-  text = sym (append-nil text);
-  said = subst (λ (l : List ℕ). HasSaid new h l) (sym (append-nil lines)) (stays h lines has);
-})
+puts_other old new x y text is stays h lines has = (
+  text,
+  is,
+  record {
+    pieces = Other text ∷ [];
+    whole = sym (append-nil text);
+    said = subst (λ (l : List ℕ). HasSaid new h l) (sym (append-nil lines)) (stays h lines has);
+  },
+)

@@ -49,7 +49,7 @@ pub record HasSaid (session : Session) (h : CommandHistory) (lines : List ℕ) :
   pub accepted : IsAccepted (steered_in session).plant (steered_in session).table h
   pub instant : instant_in session ≡ last_instant h
   pub count : count_in session ≡ length (steered_in session).table
-  pub lines : lines ≡ history_lines (steered_in session) h
+  pub text : lines ≡ history_lines (steered_in session) h
 
 -- the lines of what was accepted, with those of one command more
 abbrev pub with_lines : Verdict → List ℕ → List ℕ → List ℕ

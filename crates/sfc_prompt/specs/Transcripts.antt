@@ -35,7 +35,7 @@ said (Other text ∷ pieces) = said pieces
 -- A session that has said this of these commands has gone on, and in between the text was written.
 pub record HasGoneOn (h : CommandHistory) (lines : List ℕ) (text : List ℕ) (session : Session) : Type 0 where
   pub pieces : List Piece
-  pub text : text ≡ written pieces
+  pub whole : text ≡ written pieces
   pub said : HasSaid session (history_after h pieces) (lines ++ said pieces)
 
 -- From one session to a later one a text was put behind another: what it has in it of accepted commands is what a replay writes of them.

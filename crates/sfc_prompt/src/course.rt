@@ -166,7 +166,7 @@ pub enum Wanted {
 
 /// The condition that stands behind UNTIL: in the program instance that is named behind `IN`, or in the one that there is. The error is that
 /// memory was refused.
-pub fn wanted(alloc: Global, plant: &Plant, text: &[u8]) -> Result<Wanted, AllocError> {
+pub fn read_wanted(alloc: Global, plant: &Plant, text: &[u8]) -> Result<Wanted, AllocError> {
     let Some(asked) = find_asked(plant, text) else {
         return Ok(Wanted::Several);
     };

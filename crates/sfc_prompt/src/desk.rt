@@ -70,9 +70,7 @@ impl<W: Write, A: Archive> Held<W, A> {
 
     // Obeys a line.
     fn obey(&mut self, line: &[u8]) -> Result<Flow, MonitorError> {
-        let flow = self
-            .prompt
-            .obey(line, &mut self.archive, &mut self.text)?;
+        let flow = self.prompt.obey(line, &mut self.archive, &mut self.text)?;
         self.pass()?;
         self.go_on()?;
         Ok(flow)

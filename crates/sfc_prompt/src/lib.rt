@@ -27,9 +27,3 @@ pub mod session;
 mod showing;
 mod step;
 mod words;
-
-#[cfg(test)]
-mod tests {
-    #[test]
-    fn compiles() {}
-}

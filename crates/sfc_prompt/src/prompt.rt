@@ -1,7 +1,7 @@
 //! Lines that are obeyed one by one.
 
 use crate::archive::Archive;
-use crate::course::{Course, MOST, Wanted, wanted};
+use crate::course::{Course, MOST, Wanted, read_wanted};
 use crate::expression::{append_fault, read_condition};
 use crate::line::{Line, Word, read_line};
 use crate::scanning::{scan, scan_first};
@@ -196,7 +196,7 @@ impl Prompt {
     // Scans until a condition is TRUE.
     fn until(&mut self, text: &[u8], out: &mut Vec<u8>) -> Result<(), AllocError> {
         let plant = self.session.debugger().resource().plant();
-        match wanted(self.alloc, plant, text)? {
+        match read_wanted(self.alloc, plant, text)? {
             Wanted::Until(condition) => {
                 self.course = Some(Course::until(condition));
                 Ok(())

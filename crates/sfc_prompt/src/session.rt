@@ -94,6 +94,7 @@ impl Session {
         words: &[u8],
     ) -> Result<(), AllocError>
         ensures debugger { debugger_in self.new ≡ debugger_in self.old }
+        ensures count { count_in self.new ≡ count_in self.old }
         ensures instant { instant_in self.new ≡ timed.1 }
         ensures script { OnOk result (script_in self.new ≡ script_in self.old ++ script_line timed.1 words.now) }
     {
@@ -117,8 +118,9 @@ impl Session {
         words: &[u8],
     ) -> Result<(), AllocError>
         ensures debugger { debugger_in self.new ≡ debugger_in self.old }
+        ensures count { count_in self.new ≡ count_in self.old }
         ensures instant { IfOk answer (λ _. instant_in self.new ≡ timed.1) }
-        ensures same { OnErr answer (self.new ≡ self.old) }
+        ensures stays { OnErr answer (instant_in self.new ≡ instant_in self.old) }
         ensures script { OnOk result (script_in self.new ≡ script_after answer (script_in self.old) timed.1 words.now) }
     {
         match answer {
@@ -154,9 +156,7 @@ impl Session {
     }
 
     // A breakpoint that waits for the condition which the table would have next.
-    fn next_break(&self, program: ProgId, point: Point) -> Command
-        ensures { result ≡ BreakIf program point (record { 0 = min (count_in self.now) 65535 }) }
-    {
+    fn next_break(&self, program: ProgId, point: Point) -> Command {
         let place = self.conditions.min(65_535);
         Command::BreakIf(program, point, CondId(place as u16))
     }
