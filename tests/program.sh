@@ -570,5 +570,89 @@ else
   echo "not asked, python3 isn't there: runs at a terminal"
 fi
 
+# ---- debug
+
+# typed SESSION CHART: debug with this session, from a pipe; leaves out, err and status
+typed() { printf '%s' "$1" | "$program" debug "$2" >"$work/out" 2>"$work/err"; status=${PIPESTATUS[1]}; }
+# the scripts of the examples, line by line, are answered as a replay of them; so is what the session saves, but for what was refused
+for example in "$examples"/*.chart; do
+  { cat "${example%.chart}.script"; printf '\nIMAGE\nSAVE %s\n' "$work/saved.script"; } | sed '/^ *$/d' >"$work/session"
+  "$program" debug "$example" <"$work/session" >"$work/out" 2>"$work/err"
+  status=$?
+  ends 0 && says "" && last "; saved to $work/saved.script" && sed '$d' "$work/out" | cmp -s - "${example%.chart}.expect"
+  note $? "$(basename "$example"), by hand"
+  run replay "$example" "$work/saved.script"
+  ends 0 && says "" && grep -v '^refused' "${example%.chart}.expect" | cmp -s - "$work/out"
+  note $? "$(basename "$example"), by hand and saved"
+done
+# sessions whose lines have no instants are saved as scripts that a replay answers alike, but for refusals, notes and what is shown
+while read -r name session; do
+  # shellcheck disable=SC2059 # its line ends
+  { printf "$session"; printf 'IMAGE\nSAVE %s\n' "$work/saved.script"; } >"$work/session"
+  "$program" debug "$examples/$name.chart" <"$work/session" 2>"$work/err" | grep -v '^[;r]' >"$work/played"
+  run replay "$examples/$name.chart" "$work/saved.script"
+  ends 0 && says "" && [ -s "$work/saved.script" ] && cmp -s "$work/played" "$work/out"
+  note $? "a session with $name.chart, saved"
+done <<'SESSIONS'
+mixing SCAN\nINPUT Start TRUE\nINPUT Full TRUE\nUNTIL Mixing.X\nSTOP\nSINGLE Main T#70ms\n\n\nGO\nAGAIN 7\nSCAN Main\n
+pump BREAK Pump1 STEP Pumping WHEN Start\nINPUT Start TRUE\nAGAIN\nUNTIL FALSE\nGO\nEPOCH\nINPUT Stop TRUE\nAGAIN 3\nT#1h SCAN Main\nSCAN\n
+press break press1 step Open when TRUE (* at once *)\nbreak press1 step Open when not TRUE\nSCAN\nGO\nFOO\nEND\nSCAN\n
+commissioning SCAN\nAGAIN 20\nT#1m READ nothing\n\n\n
+SESSIONS
+typed $'SCAN\nSAVE /nowhere/at/all\nREAD Lamp' "$chart"
+ends 0 && says "" && mentions "; can't be saved to /nowhere/at/all" out && last "T#0s READ Lamp TRUE"
+note $? "a script that can't be saved, and a session that goes on"
+typed $'SAVE caf\xe9\n' "$chart"
+ends 0 && says "" && last $'; can\'t be saved to caf\xe9'
+note $? "a name of a file that isn't UTF-8"
+typed '' "$chart"
+ends 0 && is_silent && says ""
+note $? "a session without lines"
+fails "a chart that is refused, by hand" 1 "refused 14 NoInitial" debug "$work/dark.chart"
+fails "no such chart, by hand" 3 "read fault" debug "$work/no.chart"
+usage "no file to step" "<FILE>" debug
+usage "a second file to step" "unexpected argument" debug "$chart" "$script"
+"$program" debug "$chart" <"$work" >"$work/out" 2>"$work/err"
+status=$?
+ends 3 && is_silent && says "read fault"
+note $? "lines that can't be read"
+run debug --help
+ends 0 && mentions "Exit status:" out && mentions "docs/FORMATS.md" out && mentions "UNTIL" out && says ""
+note $? "the help on debug"
+# what docs/FORMATS.md shows of it: a command, and what it prints
+awk '/^## Debug/ { seen = 1 } seen && /^```/ { if (++fence == 2) exit; next } fence == 1' "$top/docs/FORMATS.md" >"$work/shown"
+# shellcheck disable=SC2016 # the mark of a command
+(cd "$top" && PATH=$work/bin:$PATH bash -c "$(sed -n '1s/^\$ //p' "$work/shown")") >"$work/out" 2>"$work/err"
+status=$?
+ends 0 && says "" && tail -n +2 "$work/shown" | cmp -s - "$work/out"
+note $? "the session that docs/FORMATS.md shows"
+if [ -e /dev/full ]; then
+  printf 'SCAN\n' | "$program" debug "$chart" >/dev/full 2>"$work/err"
+  status=${PIPESTATUS[1]}
+  ends 3 && says "write fault"
+  note $? "answers that can't be written"
+fi
+{ echo SCAN; sleep 0.3; echo SCAN; sleep 0.3; echo SCAN; } | "$program" debug "$chart" 2>"$work/err" | head -n 1 >"$work/out"
+status=${PIPESTATUS[1]}
+ends 3 && says "write fault" && last "T#0s SCAN Main overruns 0"
+note $? "a pipe that is closed ends a session"
+yes SCAN | head -n 20000 | "$program" debug "$chart" >"$work/out" 2>"$work/err"
+status=${PIPESTATUS[2]}
+ends 0 && says "" && [ "$(wc -l <"$work/out")" = 40000 ]
+note $? "a session of many lines"
+# at a terminal of its own
+if command -v python3 >"$work/which"; then
+  python3 "$here/prompt.py" "$program" "$chart" "$work" >"$work/out" 2>"$work/err"
+  status=$?
+  if [[ $(tail -n 1 "$work/out") =~ ^([0-9]+)\ passed,\ ([0-9]+)\ failed$ ]]; then
+    passed=$((passed + BASH_REMATCH[1])) failed=$((failed + BASH_REMATCH[2]))
+    sed '$d' "$work/out"
+  else
+    note 1 "a prompt at a terminal"
+  fi
+else
+  echo "not asked, python3 isn't there: a prompt at a terminal"
+fi
+
 echo "$passed passed, $failed failed"
 [ "$failed" = 0 ]

@@ -2,7 +2,7 @@
 # ~/.local/share/bash-completion/completions.
 
 _sfcmon() {
-  local commands='check list why replay run draw wave cover explain help'
+  local commands='check list why replay run debug draw wave cover explain help'
   local names='TooLong NotAscii BadToken Syntax TooDeep BadDuration BadNumber Memory
     Unknown WrongType LiteralRange NotAssignable Duplicate NoInitial UnknownStep UnknownAction NotBool NotTime NoTask
     UnknownType SameLocation Limit
@@ -28,7 +28,7 @@ _sfcmon() {
     cover:-*) mapfile -t COMPREPLY < <(compgen -W '-h --help --min' -- "$word") ;;
     *:-*) mapfile -t COMPREPLY < <(compgen -W '-h --help' -- "$word") ;;
     explain:*) mapfile -t COMPREPLY < <(compgen -W "$names" -- "$word") ;;
-    check:* | list:* | why:* | replay:* | run:* | draw:* | wave:* | cover:*)
+    check:* | list:* | why:* | replay:* | run:* | debug:* | draw:* | wave:* | cover:*)
       mapfile -t COMPREPLY < <(compgen -f -- "$word")
       compopt -o filenames 2>/dev/null
       ;;

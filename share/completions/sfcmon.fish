@@ -1,6 +1,6 @@
 # Completes the words of sfcmon in fish. Put this file into ~/.config/fish/completions.
 
-set -l commands check list why replay run draw wave cover explain help
+set -l commands check list why replay run debug draw wave cover explain help
 set -l names TooLong NotAscii BadToken Syntax TooDeep BadDuration BadNumber Memory \
     Unknown WrongType LiteralRange NotAssignable Duplicate NoInitial UnknownStep UnknownAction NotBool NotTime NoTask \
     UnknownType SameLocation Limit \
@@ -16,12 +16,13 @@ complete -c sfcmon -n __fish_use_subcommand -a list -d 'print the text of a char
 complete -c sfcmon -n __fish_use_subcommand -a why -d 'tell where the first fault of a chart or a script is'
 complete -c sfcmon -n __fish_use_subcommand -a replay -d 'play a script on a chart and print what each command answers'
 complete -c sfcmon -n __fish_use_subcommand -a run -d 'run a chart in real time, with a session on standard input'
+complete -c sfcmon -n __fish_use_subcommand -a debug -d 'step a chart by hand in virtual time'
 complete -c sfcmon -n __fish_use_subcommand -a draw -d 'draw a chart, for dot of Graphviz'
 complete -c sfcmon -n __fish_use_subcommand -a wave -d 'print the signals of a script on a chart, for viewers of waveforms'
 complete -c sfcmon -n __fish_use_subcommand -a cover -d 'tell what scripts on a chart never reach'
 complete -c sfcmon -n __fish_use_subcommand -a explain -d 'tell what a refusal or a fault means'
 complete -c sfcmon -n __fish_use_subcommand -a help -d 'print help on a command'
-complete -c sfcmon -n '__fish_seen_subcommand_from check list why replay run draw wave cover' -F
+complete -c sfcmon -n '__fish_seen_subcommand_from check list why replay run debug draw wave cover' -F
 complete -c sfcmon -n '__fish_seen_subcommand_from replay' -l strict -d 'end with status 1 after a refused command or a fault'
 complete -c sfcmon -n '__fish_seen_subcommand_from run' -l trace -x -d 'which commands have lines, a sum from 0 to 127'
 complete -c sfcmon -n '__fish_seen_subcommand_from draw' -l program -x -d 'draw this program type alone'

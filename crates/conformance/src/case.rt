@@ -1,6 +1,7 @@
 //! A case: what is run, and how it is to end.
 
 use crate::covering::{Scripts, covered};
+use crate::debugged::debugged;
 use crate::ending::Ending;
 use crate::frame::Frame;
 use anyhow::{Result, bail};
@@ -26,6 +27,8 @@ enum Command {
     Why,
     /// What scripts on a chart reach together is told.
     Cover,
+    /// A chart is stepped by hand, by the lines of the script.
+    Debug,
 }
 
 /// What is run, and how it is to end. The chart is the whole of `chart`, or where there is none that of `frame`. `second` and `least` are for
@@ -119,6 +122,7 @@ impl Case {
             "replay" => self.command = Command::Replay,
             "why" => self.command = Command::Why,
             "cover" => self.command = Command::Cover,
+            "debug" => self.command = Command::Debug,
             _ => bail!("there is no command {name}"),
         }
         Ok(())
@@ -228,6 +232,7 @@ impl Case {
             Command::Replay => self.replayed(alloc, chart)?,
             Command::Why => self.explained(alloc, chart)?,
             Command::Cover => self.covered(alloc, chart)?,
+            Command::Debug => debugged(alloc, chart, &self.script)?,
         };
         if !self.lists_alike(alloc, chart)? {
             ending

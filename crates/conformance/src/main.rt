@@ -3,6 +3,7 @@
 //! - `case`: what is run, and how it is to end; `ending`: how a command ends.
 //! - `case_file`, `folder`: the files with cases; `recipe`: the text that a line of a case stands for.
 //! - `covering`: what scripts on a chart reach together.
+//! - `debugged`: sessions in which a chart is stepped by hand.
 //! - `frame`: a chart of which only some parts are given.
 //! - `report`: what is printed of a case.
 #![tactic(auto)]
@@ -10,6 +11,7 @@
 mod case;
 mod case_file;
 mod covering;
+mod debugged;
 mod ending;
 mod folder;
 mod frame;

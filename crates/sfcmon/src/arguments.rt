@@ -84,6 +84,8 @@ pub enum Request {
     Replay(Playing),
     /// A chart to be run in real time, with a session on standard input.
     Run(Running),
+    /// A chart to be stepped by hand, by the name of its file.
+    Debug { chart: String },
     /// A chart to be drawn.
     Draw(Drawing),
     /// A script on a chart whose signals are to be shown.
@@ -152,6 +154,32 @@ Examples:
   sfcmon run --trace 126 examples/pump.chart
 
 docs/FORMATS.md says what each line is.";
+
+// What stands at the end of the help on `debug`.
+const DEBUG_NOTES: &str = "\
+Each line is a command of a script, with its instant in front or without one, or one of these words:
+  SCAN                            scans the task that goes first, at its release; SCAN TASK goes on to the next release of the task
+  AGAIN [N]                       the last SCAN or SINGLE again; an empty line does it once
+  UNTIL [IN PROGRAM] CONDITION    scans until the condition is TRUE
+  SHOW, IMAGE [VARIABLE], POINTS, TRACE [N], LIST [NAME]
+  WHY [PROGRAM [TRANSITION]]      why transitions aren't cleared
+  EXPLAIN NUMBER, HELP [WORD]
+  SAVE FILE                       the accepted commands as a script for 'replay'
+  QUIT                            the end, as at the end of input, at a terminal Ctrl-D
+Each line is answered at once, a command with the lines of 'replay'. What is wrong with a line is told behind a semicolon.
+
+Exit status:
+  0  the session has ended; what was refused in it leaves it so
+  1  the chart is refused
+  2  the words of the command line are wrong
+  3  the file or standard input can't be read, or standard output can't be written
+  4  memory was refused
+
+Examples:
+  sfcmon debug examples/mixing.chart
+  printf 'SCAN\\nWHY\\n' | sfcmon debug examples/mixing.chart
+
+docs/FORMATS.md says what each word tells.";
 
 // What stands at the end of the help on the program.
 const NOTES: &str = "\
@@ -319,6 +347,13 @@ fn replay_command<'a>(alloc: Global) -> Result<Command<'a>, AllocError> {
         .arg(script_argument(alloc))
 }
 
+fn debug_command<'a>(alloc: Global) -> Result<Command<'a>, AllocError> {
+    Command::new(alloc, "debug")
+        .about("Steps a chart by hand in virtual time, with a session on standard input")
+        .after_help(DEBUG_NOTES)
+        .arg(chart_argument(alloc))
+}
+
 // The argument that says which commands have lines.
 fn trace_argument<'a>(alloc: Global) -> Arg<'a> {
     Arg::new(alloc, "trace")
@@ -477,6 +512,7 @@ fn sfcmon_command<'a>(alloc: Global) -> Result<Command<'a>, AllocError> {
     let command = with_chart_commands(alloc, bare_command(alloc)?)?;
     let command = with_command(command, replay_command(alloc))?;
     let command = with_command(command, run_command(alloc))?;
+    let command = with_command(command, debug_command(alloc))?;
     let command = with_picture_commands(alloc, command)?;
     let command = with_command(command, cover_command(alloc))?;
     with_command(command, explain_command(alloc))
@@ -571,6 +607,17 @@ fn run_request(alloc: Global, matches: &ArgMatches) -> Result<Request, AllocErro
     }
 }
 
+// A chart to be stepped by hand, where one is named.
+fn debug_request(alloc: Global, matches: &ArgMatches) -> Result<Request, AllocError> {
+    match matches.get_str("FILE") {
+        Some(chart) => {
+            let chart = String::from_str(alloc, chart)?;
+            Ok(Request::Debug { chart })
+        }
+        None => Ok(Request::Answered(2)),
+    }
+}
+
 // The value of an option, where it was given.
 fn option_of(
     alloc: Global,
@@ -662,6 +709,9 @@ fn request_of(alloc: Global, matches: &ArgMatches) -> Result<Request, AllocError
     }
     if let Some(run) = matches.subcommand_matches("run") {
         return run_request(alloc, run);
+    }
+    if let Some(debug) = matches.subcommand_matches("debug") {
+        return debug_request(alloc, debug);
     }
     if let Some(draw) = matches.subcommand_matches("draw") {
         return draw_request(alloc, draw);

@@ -3,6 +3,7 @@
 //!
 //! - `arguments`: the command line.
 //! - `cover`: what scripts on a chart reach together.
+//! - `debug`: a chart that is stepped by hand.
 //! - `explain`: what refusals and faults mean.
 //! - `files`: charts and scripts in files, standard output and exit status.
 //! - `pictures`: charts and runs as pictures.
@@ -11,6 +12,7 @@
 
 mod arguments;
 mod cover;
+mod debug;
 mod explain;
 mod files;
 mod pictures;
@@ -62,6 +64,7 @@ where
         Request::Why(asking) => explain_fault(rt, asking),
         Request::Replay(playing) => replay(rt, playing),
         Request::Run(running) => files::run_file(rt, streams, running.chart.as_str(), running.mask),
+        Request::Debug { chart } => debug::debug_file(rt, streams, chart.as_str()),
         Request::Draw(drawing) => pictures::draw_file(rt, drawing),
         Request::Wave(waving) => pictures::wave_files(rt, waving),
         Request::Cover(covering) => cover::cover_files(rt, covering),

@@ -1,0 +1,273 @@
+//! Why transitions aren't cleared.
+
+use crate::naming::{find_program, find_transition};
+use crate::note::{append_named, append_note};
+use crate::operands::append_operands;
+use sfc_base::ids::{ProgId, TransitionId};
+use sfc_base::references::StepId;
+use sfc_base::ticks::Ticks;
+use sfc_core::resource::Resource;
+use sfc_expr::eval::eval;
+use sfc_expr::expr::Expr;
+use sfc_expr::fault::Fault;
+use sfc_instance::program_view::ProgramView;
+use sfc_list::list_expr::list_expr;
+use sfc_output::append::{append, append_number};
+use sfc_plant::chart::Transition;
+use sfc_plant::names::{Names, instance_name};
+use sfc_plant::program_type::ProgramType;
+use std::alloc::{AllocError, Global};
+
+/// A program instance whose transitions are asked for.
+struct Asked<'a> {
+    alloc: Global,
+    resource: &'a Resource,
+    program: ProgId,
+    program_type: &'a ProgramType,
+    names: Names<'a>,
+    view: ProgramView<'a>,
+}
+
+// By hand, so that a caller that drops one proves one call.
+impl Drop for Asked<'_> {
+    fn drop(self) {
+        let Asked {
+            alloc: _,
+            resource: _,
+            program: _,
+            program_type: _,
+            names: _,
+            view: _,
+        } = self;
+    }
+}
+
+// A program instance that is asked for, where it is there.
+fn find_asked(alloc: Global, resource: &Resource, program: ProgId) -> Option<Asked<'_>> {
+    let plant = resource.plant();
+    if usize::from(program.0) >= plant.instances().len() {
+        return None;
+    }
+    let instance = plant.instances().get(usize::from(program.0))?;
+    let program_type = plant.types().get(instance.program.0)?;
+    Some(Asked {
+        alloc,
+        resource,
+        program,
+        program_type,
+        names: Names::new(plant.globals(), program_type),
+        view: resource.program(program),
+    })
+}
+
+// Whether a step is active.
+fn is_active(view: &ProgramView<'_>, step: StepId) -> bool {
+    usize::from(step.0) < view.steps() && view.active(step)
+}
+
+// The name of a fault.
+fn fault_word(fault: Fault) -> &'static [u8] {
+    match fault {
+        Fault::DivZero => b"DivZero",
+        Fault::Range => b"Range",
+    }
+}
+
+// What a condition evaluates to.
+fn value_word(view: &ProgramView<'_>, expr: &Expr) -> &'static [u8] {
+    let mut ticks = Ticks::new();
+    match eval(expr, view, &mut ticks) {
+        Ok(value) if value.is_true() => b"TRUE",
+        Ok(_) => b"FALSE",
+        Err(fault) => fault_word(fault),
+    }
+}
+
+// Whether all steps before a transition are active.
+fn is_enabled(view: &ProgramView<'_>, transition: &Transition) -> bool {
+    for step in transition.preceding.as_slice() {
+        if !is_active(view, *step) {
+            return false;
+        }
+    }
+    true
+}
+
+// Whether one of the steps before a transition is active.
+fn is_near(view: &ProgramView<'_>, transition: &Transition) -> bool {
+    for step in transition.preceding.as_slice() {
+        if is_active(view, *step) {
+            return true;
+        }
+    }
+    false
+}
+
+// The name of a transition, behind a blank, where it has one.
+fn append_name(out: &mut Vec<u8>, transition: &Transition) -> Result<(), AllocError> {
+    match &transition.name {
+        Some(name) => {
+            append(out, b" ")?;
+            append(out, name.spelling())
+        }
+        None => Ok(()),
+    }
+}
+
+// A line for each step before a transition.
+fn append_steps(
+    out: &mut Vec<u8>,
+    asked: &Asked<'_>,
+    transition: &Transition,
+) -> Result<(), AllocError> {
+    for step in transition.preceding.as_slice() {
+        append(out, b"  step ")?;
+        append(out, asked.names.step(*step))?;
+        if is_active(&asked.view, *step) {
+            append(out, b" is active\n")?;
+        } else {
+            append(out, b" isn't active\n")?;
+        }
+    }
+    Ok(())
+}
+
+// The condition, what it evaluates to, and what it reads.
+fn append_condition(
+    out: &mut Vec<u8>,
+    asked: &Asked<'_>,
+    transition: &Transition,
+) -> Result<(), AllocError> {
+    let expr = transition.condition.expr();
+    append(out, b"  condition ")?;
+    append(out, value_word(&asked.view, expr))?;
+    append(out, b": ")?;
+    let plant = asked.resource.plant();
+    if usize::from(asked.program.0) < plant.instances().len()
+        && list_expr(plant, asked.program, expr, out).is_err()
+    {
+        return Err(AllocError);
+    }
+    append(out, b"\n")?;
+    append_operands(asked.alloc, out, &asked.names, &asked.view, expr)
+}
+
+// What the first line says at its end.
+fn state_word(view: &ProgramView<'_>, transition: &Transition) -> &'static [u8] {
+    if is_enabled(view, transition) {
+        b" enabled\n"
+    } else {
+        b" not enabled\n"
+    }
+}
+
+// The lines of a transition with this number, from 0.
+fn append_transition(
+    out: &mut Vec<u8>,
+    asked: &Asked<'_>,
+    number: usize,
+    transition: &Transition,
+) -> Result<(), AllocError> {
+    let instances = asked.resource.plant().instances();
+    append(out, instance_name(instances, usize::from(asked.program.0)))?;
+    append(out, b" TRANSITION ")?;
+    append_number(out, (number as u64).saturating_add(1))?;
+    append_name(out, transition)?;
+    append(out, state_word(&asked.view, transition))?;
+    append_steps(out, asked, transition)?;
+    append_condition(out, asked, transition)
+}
+
+// The lines of each transition behind an active step; how many there are.
+fn append_near(out: &mut Vec<u8>, asked: &Asked<'_>) -> Result<usize, AllocError> {
+    let transitions = asked.program_type.chart.transitions.as_slice();
+    let mut count: usize = 0;
+    for (number, transition) in transitions.iter().enumerate() {
+        if is_near(&asked.view, transition) {
+            append_transition(out, asked, number, transition)?;
+            count = count.saturating_add(1);
+        }
+    }
+    Ok(count)
+}
+
+// The lines of each transition behind an active step of an instance.
+fn append_program(
+    alloc: Global,
+    out: &mut Vec<u8>,
+    resource: &Resource,
+    program: ProgId,
+) -> Result<(), AllocError> {
+    let Some(asked) = find_asked(alloc, resource, program) else {
+        return Ok(());
+    };
+    let count = append_near(out, &asked)?;
+    if count == 0 {
+        let instances = resource.plant().instances();
+        let name = instance_name(instances, usize::from(program.0));
+        append_named(out, b"no transition is behind an active step of ", name)?;
+    }
+    Ok(())
+}
+
+// The lines of each transition behind an active step of any instance.
+fn append_all(alloc: Global, out: &mut Vec<u8>, resource: &Resource) -> Result<(), AllocError> {
+    for number in 0..resource.plant().instances().len() {
+        if let Ok(number) = u8::try_from(number) {
+            append_program(alloc, out, resource, ProgId(number))?;
+        }
+    }
+    Ok(())
+}
+
+// The lines of one transition of an instance.
+fn append_one(
+    alloc: Global,
+    out: &mut Vec<u8>,
+    resource: &Resource,
+    program: ProgId,
+    transition: TransitionId,
+) -> Result<bool, AllocError> {
+    let Some(asked) = find_asked(alloc, resource, program) else {
+        return Ok(false);
+    };
+    let number = usize::from(transition.0);
+    let transitions = asked.program_type.chart.transitions.as_slice();
+    match transitions.get(number) {
+        Some(transition) => {
+            append_transition(out, &asked, number, transition)?;
+            Ok(true)
+        }
+        None => Ok(false),
+    }
+}
+
+/// Puts at the end why transitions aren't cleared: of one of a program instance, by its name or number, or where none is given of each that has
+/// an active step before it, of one instance or of all. Of each it tells which steps before it are active, its condition, what that evaluates
+/// to, and what it reads, with the times of steps as of the latest scan. The one error is that memory was refused.
+pub fn append_why(
+    alloc: Global,
+    out: &mut Vec<u8>,
+    resource: &Resource,
+    program: &[u8],
+    transition: &[u8],
+) -> Result<(), AllocError> {
+    if program.is_empty() {
+        return append_all(alloc, out, resource);
+    }
+    let Some(instance) = find_program(resource, program) else {
+        return append_named(out, b"no program instance ", program);
+    };
+    if transition.is_empty() {
+        return append_program(alloc, out, resource, instance);
+    }
+    let told = match find_transition(alloc, resource, program, transition)? {
+        Some(found) => append_one(alloc, out, resource, instance, found)?,
+        None => false,
+    };
+    if told {
+        Ok(())
+    } else {
+        append_named(out, b"no transition ", transition)
+    }
+}

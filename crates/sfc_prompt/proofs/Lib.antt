@@ -1,0 +1,6 @@
+-- what a longer table of conditions changes of lines: nothing
+pub mod Longer
+-- a session that goes on, and what a replay writes of it
+pub mod Saying
+-- what a session writes, piece by piece
+pub mod Telling

@@ -1,0 +1,68 @@
+-- A session: commands one after the other, each answered with the lines that a replay writes for it.
+use Rattle.std.specs.Prelude.{◌≡◌, ℕ, List, [], ◌∷◌, ◌++◌, length, ℤ, pos, Result, Ok, Err, codes}
+use Rattle.sfc_base.specs.TimeText.{time_text}
+use Rattle.sfc_debug.specs.declared.debugger.Debugger.{Debugger}
+use Rattle.sfc_debug.specs.Agreement.{Agrees}
+use Rattle.sfc_debug.specs.Histories.{CommandHistory}
+use Rattle.sfc_debug.specs.Meaning.{IsAccepted}
+use Rattle.sfc_output.specs.Steered.{Steered, steered_by}
+use Rattle.sfc_monitor.specs.Output.{Verdict, command_lines, debugger_of, text_of}
+use Rattle.sfc_prompt.specs.declared.session.Session.{Session}
+
+-- ---- what a session holds
+
+-- the debugger to which its commands are given
+unfoldable pub debugger_in : Session → Debugger
+debugger_in session = session.debugger
+
+-- the raw instant of its last accepted command, 0 before the first
+unfoldable pub instant_in : Session → ℤ
+instant_in session = session.instant
+
+-- its accepted commands as a script
+unfoldable pub script_in : Session → List ℕ
+script_in session = session.script.items
+
+-- how many conditions its table has
+unfoldable pub count_in : Session → ℕ
+count_in session = session.conditions
+
+-- the plant that it steers, and the conditions that its breakpoints wait for
+abbrev pub steered_in : Session → Steered
+steered_in session = steered_by (debugger_in session)
+
+-- ---- what it has said
+
+-- the raw instant of the last of these commands, of which the newest is the first; 0 before the first
+abbrev pub last_instant : CommandHistory → ℤ
+last_instant [] = pos 0
+last_instant (timed ∷ h) = timed.1
+
+-- what a replay writes for these commands, of which the newest is the first
+abbrev pub history_lines : Steered → CommandHistory → List ℕ
+history_lines steered [] = []
+history_lines steered (timed ∷ h) = history_lines steered h ++ command_lines (debugger_of steered) (text_of steered) h timed
+
+-- The session has accepted these commands, the newest first, and its lines of them are those of a replay.
+pub record HasSaid (session : Session) (h : CommandHistory) (lines : List ℕ) : Type 0 where
+  pub agrees : Agrees (debugger_in session) h
+  pub accepted : IsAccepted (steered_in session).plant (steered_in session).table h
+  pub instant : instant_in session ≡ last_instant h
+  pub count : count_in session ≡ length (steered_in session).table
+  pub text : lines ≡ history_lines (steered_in session) h
+
+-- the lines of what was accepted, with those of one command more
+abbrev pub with_lines : Verdict → List ℕ → List ℕ → List ℕ
+with_lines (Ok answer) lines more = lines ++ more
+with_lines (Err refusal) lines more = lines
+
+-- ---- its script
+
+-- the line of a command: its raw instant, and its words
+abbrev pub script_line : ℤ → List ℕ → List ℕ
+script_line raw words = time_text raw ++ codes " " ++ words ++ codes "\n"
+
+-- Where the command was accepted, its line stands behind those of the others.
+abbrev pub script_after : Verdict → List ℕ → ℤ → List ℕ → List ℕ
+script_after (Ok answer) script raw words = script ++ script_line raw words
+script_after (Err refusal) script raw words = script

@@ -1,0 +1,29 @@
+//! A prompt at which a chart is stepped by hand in virtual time: lines as they come, each a command of a script or a word that shows how
+//! all stands, each answered at once.
+//!
+//! - `archive`: where scripts are kept.
+//! - `desk`: lines as they come from a reader.
+//! - `expression`: conditions by their texts.
+//! - `laws`: what holds of a session.
+//! - `line`, `words`: what a line says.
+//! - `prompt`: lines that are obeyed one by one.
+//! - `releases`: when tasks are scanned next.
+//! - `scanning`: scans that have no instant; `step`: scans that may be done again; `course`: many of them.
+//! - `session`: commands one after the other, and the script that they are; `saved`: the lines of that script.
+//! - `showing`: the words that change nothing.
+#![tactic(auto)]
+
+pub mod archive;
+mod course;
+pub mod desk;
+mod expression;
+pub mod laws;
+mod line;
+pub mod prompt;
+mod releases;
+mod saved;
+pub mod scanning;
+pub mod session;
+mod showing;
+mod step;
+mod words;
