@@ -1,5 +1,7 @@
 -- what a longer table of conditions changes of lines: nothing
 pub mod Longer
+-- a breakpoint with a condition that joins the table
+pub mod Waiting
 -- a session that goes on, and what a replay writes of it
 pub mod Saying
 -- what a session writes, piece by piece

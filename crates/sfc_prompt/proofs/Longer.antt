@@ -1,6 +1,6 @@
 -- A longer table of conditions changes no line of what was accepted with the shorter one.
 use Rattle.std.proofs.Common.{◌≡◌, ◌∙◌, refl, sym, ap, subst, ℕ, true, ◌<◌, List, [], ◌∷◌, ◌++◌, length, Option, Some, None, Ok, Err, ℤ, codes, rules}
-use Rattle.std.specs.Prelude.{Bool, false, IsOk, is_ok, not, slice_get}
+use Rattle.std.specs.Prelude.{IsOk, slice_get}
 use Rattle.std.proofs.lemmas.Option.{slice_get_within}
 use Rattle.circular_buffer.proofs.Places.{slice_get-append_left}
 use Rattle.sfc_base.specs.TimeText.{time_text}

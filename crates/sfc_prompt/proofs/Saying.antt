@@ -1,5 +1,5 @@
 -- A session that goes on, and what a replay writes of it.
-use Rattle.std.proofs.Common.{◌≡◌, ◌∙◌, refl, sym, ap, subst, ℕ, List, [], ◌∷◌, ◌++◌, length, append_assoc, Result, Ok, Err, ℤ, rules}
+use Rattle.std.proofs.Common.{◌≡◌, ◌∙◌, refl, sym, ap, subst, ℕ, List, [], ◌∷◌, ◌++◌, length, append_assoc, Ok, Err, rules}
 use Rattle.std.specs.Prelude.{IsOk, is_ok, reverse, IfOk, OnErr}
 use Rattle.std.proofs.lemmas.List.{append-nil, reverse-append}
 use Rattle.sfc_debug.specs.Agreement.{Agrees}
@@ -9,7 +9,7 @@ use Rattle.sfc_debug.specs.Verdict.{verdict, history_by}
 use Rattle.sfc_output.specs.Steered.{Steered}
 use Rattle.sfc_monitor.specs.Output.{Verdict, command_lines, commands_lines, debugger_of, session_after, text_of}
 use Rattle.sfc_prompt.specs.declared.session.Session.{Session}
-use Rattle.sfc_prompt.specs.Sessions.{HasSaid, count_in, debugger_in, history_lines, instant_in, last_instant, steered_in, with_lines}
+use Rattle.sfc_prompt.specs.Sessions.{HasSaid, count_in, debugger_in, history_lines, instant_in, steered_in, with_lines}
 
 -- ---- a replay of what was accepted
 

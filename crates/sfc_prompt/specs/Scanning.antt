@@ -1,5 +1,5 @@
 -- Where a scan that has no instant goes on to.
-use Rattle.std.specs.Prelude.{ℤ, ◌+ℤ◌, ◌-ℤ◌, Result, Ok, Err, Option, Some, None}
+use Rattle.std.specs.Prelude.{ℤ, ◌+ℤ◌, ◌-ℤ◌, Err, Some}
 use Rattle.std.specs.Int.{saturate_signed, w64}
 use Rattle.sfc_base.specs.declared.ids.TaskId.{TaskId}
 use Rattle.sfc_events.specs.declared.command.Command.TheVariants.{Scan}

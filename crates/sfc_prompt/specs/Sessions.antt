@@ -1,10 +1,15 @@
 -- A session: commands one after the other, each answered with the lines that a replay writes for it.
-use Rattle.std.specs.Prelude.{◌≡◌, ℕ, List, [], ◌∷◌, ◌++◌, length, ℤ, pos, Result, Ok, Err, codes}
+use Rattle.std.specs.Prelude.{◌≡◌, ℕ, ◌^◌, nat_lt, cond, List, [], ◌∷◌, ◌++◌, length, ℤ, pos, Ok, Err, codes}
 use Rattle.sfc_base.specs.TimeText.{time_text}
+use Rattle.sfc_events.specs.declared.command.Point.{Point}
+use Rattle.sfc_events.specs.declared.refusal.Refusal.TheVariants.{NoSuchCondition}
+use Rattle.sfc_debug.specs.declared.break_condition.BreakCondition.{BreakCondition}
 use Rattle.sfc_debug.specs.declared.debugger.Debugger.{Debugger}
 use Rattle.sfc_debug.specs.Agreement.{Agrees}
-use Rattle.sfc_debug.specs.Histories.{CommandHistory}
+use Rattle.sfc_debug.specs.Histories.{CommandHistory, TimedCommand}
+use Rattle.sfc_debug.specs.Longer.{break_when, with_condition}
 use Rattle.sfc_debug.specs.Meaning.{IsAccepted}
+use Rattle.sfc_debug.specs.Verdict.{history_by}
 use Rattle.sfc_output.specs.Steered.{Steered, steered_by}
 use Rattle.sfc_monitor.specs.Output.{Verdict, command_lines, debugger_of, text_of}
 use Rattle.sfc_prompt.specs.declared.session.Session.{Session}
@@ -55,6 +60,32 @@ pub record HasSaid (session : Session) (h : CommandHistory) (lines : List ℕ) :
 abbrev pub with_lines : Verdict → List ℕ → List ℕ → List ℕ
 with_lines (Ok answer) lines more = lines ++ more
 with_lines (Err refusal) lines more = lines
+
+-- ---- a breakpoint with a condition
+
+-- with this condition behind all others
+abbrev pub with_one_more : Steered → BreakCondition → Steered
+with_one_more steered condition = record { plant = steered.plant; table = with_condition steered.table condition }
+
+-- the breakpoint at a point that waits for it, at a raw instant
+abbrev pub waiting : Steered → Point × ℤ → BreakCondition → TimedCommand
+waiting steered placed condition = (break_when steered.table placed.0 condition, placed.1)
+
+-- What it is answered with the longer table. A table of 65,536 conditions takes no more of them.
+abbrev pub waiting_verdict : Steered → CommandHistory → Point × ℤ → BreakCondition → Verdict
+waiting_verdict steered h placed condition =
+    cond (nat_lt (length steered.table) (2 ^ 16))
+    ((debugger_of (with_one_more steered condition)).verdict h (waiting steered placed condition))
+    (Err NoSuchCondition)
+
+-- Where it was accepted the condition has joined the table, else it is given up.
+abbrev pub steered_after : Verdict → Steered → BreakCondition → Steered
+steered_after (Ok answer) steered condition = with_one_more steered condition
+steered_after (Err refusal) steered condition = steered
+
+-- what a replay writes of a command that was answered so
+abbrev pub lines_by : Verdict → Steered → CommandHistory → TimedCommand → List ℕ
+lines_by answer steered h timed = (text_of steered).command ((debugger_of steered).state (history_by answer timed h)) timed answer
 
 -- ---- its script
 

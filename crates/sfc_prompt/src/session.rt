@@ -1,10 +1,14 @@
 //! Commands one after the other, and the script that they are.
 
-ghost use Rattle.std.specs.Prelude.{◌≡◌, ◌++◌, [], pos, IfOk, OnOk, OnErr};
+ghost use Rattle.std.specs.Prelude.{◌≡◌, ◌++◌, ◌<◌, ◌+◌, ◌^◌, [], pos, length, IfOk, OnOk, OnErr};
 ghost use Rattle.sfc_debug.specs.Agreement.{Agrees};
 ghost use Rattle.sfc_debug.specs.Histories.{CommandHistory};
+ghost use Rattle.sfc_debug.specs.Meaning.{IsAccepted};
+ghost use Rattle.sfc_debug.specs.Verdict.{history_by};
+ghost use Rattle.sfc_events.specs.declared.command.Command.TheVariants.{BreakIf};
 ghost use Rattle.sfc_monitor.specs.Output.{debugger_of};
 ghost use Rattle.sfc_output.specs.Steered.{steered_by};
+ghost use Rattle.sfc_prompt.specs.Sessions.{steered_after, waiting, waiting_verdict};
 
 use crate::saved::append_line;
 use sfc_base::ids::ProgId;
@@ -60,14 +64,34 @@ fn obey(debugger: &mut Debugger, timed: (Command, i64)) -> Result<Answer, Refusa
     debugger.command(command, raw, &mut ticks)
 }
 
+// A breakpoint with a condition, at a point and a raw instant.
+fn obey_break(
+    debugger: &mut Debugger,
+    placed: (Point, i64),
+    condition: BreakCondition,
+) -> Result<Result<Answer, Refusal>, AllocError>
+    ensures steered { IfOk result (λ answer. steered_by debugger.new ≡ steered_after answer (steered_by debugger.old) condition) }
+    ensures answer { (h : CommandHistory) → IsAccepted (steered_by debugger.old).plant (steered_by debugger.old).table h →
+        Agrees debugger.old h → IfOk result (λ answer. answer ≡ waiting_verdict (steered_by debugger.old) h placed condition) }
+    ensures agrees { (h : CommandHistory) → IsAccepted (steered_by debugger.old).plant (steered_by debugger.old).table h →
+        Agrees debugger.old h → IfOk result (λ answer. Agrees debugger.new
+        (history_by answer (waiting (steered_by debugger.old) placed condition) h)) }
+{
+    let (point, raw) = placed;
+    let mut ticks = Ticks::new();
+    debugger.break_when(point, condition, raw, &mut ticks)
+}
+
 #[tactic(auto, unfolding(crate::specs::Sessions::debugger_in, crate::specs::Sessions::instant_in, crate::specs::Sessions::script_in, crate::specs::Sessions::count_in))]
 impl Session {
     ghost use Rattle.std.specs.Prelude.{List, ℕ};
     ghost use Rattle.sfc_debug.specs.Histories.{CommandHistory};
+    ghost use Rattle.sfc_debug.specs.Verdict.{history_by};
     ghost use Rattle.sfc_monitor.specs.Output.{command_lines, debugger_of, text_of};
     ghost use Rattle.sfc_prompt.specs.Scanning as scanning;
     ghost use Rattle.sfc_prompt.specs.Sessions.{HasSaid, debugger_in, instant_in, script_in, steered_in};
     ghost use Rattle.sfc_prompt.specs.Sessions.{count_in, last_instant, with_lines, script_after, script_line};
+    ghost use Rattle.sfc_prompt.specs.Sessions.{lines_by, steered_after, waiting, waiting_verdict, with_one_more};
 
     /// A session that has accepted nothing. The one error is that memory was refused, and then the plant is given up.
     pub fn open(alloc: Global, plant: Plant) -> Result<Session, AllocError>
@@ -156,13 +180,29 @@ impl Session {
     }
 
     // A breakpoint that waits for the condition which the table would have next.
-    fn next_break(&self, program: ProgId, point: Point) -> Command {
+    fn next_break(&self, program: ProgId, point: Point) -> Command
+        ensures { count_in self.now < 2 ^ 16 → result ≡ BreakIf program point (record { 0 = count_in self.now }) }
+    {
         let place = self.conditions.min(65_535);
         Command::BreakIf(program, point, CondId(place as u16))
     }
 
+    // One condition more, where it was accepted.
+    fn count_if(&mut self, answer: Result<Answer, Refusal>)
+        ensures debugger { debugger_in self.new ≡ debugger_in self.old }
+        ensures instant { instant_in self.new ≡ instant_in self.old }
+        ensures script { script_in self.new ≡ script_in self.old }
+        ensures count { count_in self.old < 2 ^ 16 → OnOk answer (count_in self.new ≡ count_in self.old + 1) }
+        ensures stays { OnErr answer (count_in self.new ≡ count_in self.old) }
+    {
+        if answer.is_ok() {
+            self.conditions = self.conditions.saturating_add(1);
+        }
+    }
+
     /// A breakpoint with a condition, at a point and a raw instant in microseconds: as `command` of `BreakIf` and this condition, which
-    /// joins the table behind all others where it is accepted, and is given up where it is refused.
+    /// joins the table behind all others where it is accepted, and is given up where it is refused. A table of 65,536 conditions takes
+    /// no more: `NoSuchCondition`.
     pub fn break_when(
         &mut self,
         alloc: Global,
@@ -170,15 +210,25 @@ impl Session {
         condition: BreakCondition,
         words: &[u8],
         out: &mut Vec<u8>,
-    ) -> Result<Result<Answer, Refusal>, AllocError> {
+    ) -> Result<Result<Answer, Refusal>, AllocError>
+        ensures steered { IfOk result (λ answer. steered_in self.new ≡ steered_after answer (steered_in self.old) condition) }
+        ensures answer { (h : CommandHistory) (lines : List ℕ) → HasSaid self.old h lines →
+            IfOk result (λ answer. answer ≡ waiting_verdict (steered_in self.old) h placed condition) }
+        ensures written { (h : CommandHistory) (lines : List ℕ) → HasSaid self.old h lines → OnOk result (out.new.items ≡ out.old.items
+            ++ lines_by (waiting_verdict (steered_in self.old) h placed condition) (with_one_more (steered_in self.old) condition) h
+            (waiting (steered_in self.old) placed condition)) }
+        ensures said { (h : CommandHistory) (lines : List ℕ) → HasSaid self.old h lines → OnOk result (HasSaid self.new
+            (history_by (waiting_verdict (steered_in self.old) h placed condition) (waiting (steered_in self.old) placed condition) h)
+            (with_lines (waiting_verdict (steered_in self.old) h placed condition) lines
+            (lines_by (waiting_verdict (steered_in self.old) h placed condition) (with_one_more (steered_in self.old) condition) h
+            (waiting (steered_in self.old) placed condition)))) }
+        ensures script { IfOk result (λ answer. script_in self.new ≡ script_after answer (script_in self.old) placed.1 words.now) }
+    {
         let (point, raw) = placed;
         let timed = (self.next_break(condition.program, point), raw);
-        let mut ticks = Ticks::new();
-        let answer = self.debugger.break_when(point, condition, raw, &mut ticks)?;
+        let answer = obey_break(&mut self.debugger, placed, condition)?;
         Text.append_answer(alloc, out, &self.debugger, timed, answer)?;
-        if answer.is_ok() {
-            self.conditions = self.conditions.saturating_add(1);
-        }
+        self.count_if(answer);
         self.keep_if(timed, answer, words)?;
         Ok(answer)
     }

@@ -3,7 +3,7 @@ use Rattle.sfc_debug.specs.declared.debugger.Debugger.{Debugger}
 use Rattle.sfc_debug.specs.Agreement.{Agrees}
 use Rattle.sfc_output.specs.Steered.{steered_by}
 use Rattle.sfc_monitor.specs.Output.{debugger_of}
-use Rattle.sfc_prompt.specs.Sessions.{HasSaid, count_in, debugger_in, instant_in, steered_in}
+use Rattle.sfc_prompt.specs.Sessions.{count_in, debugger_in, instant_in, steered_in}
 use Rattle.sfc_prompt.proofs.Saying.{goes_on}
 use Rattle.sfc_prompt.proofs.session.Session.command.Goals as goal
 
