@@ -133,6 +133,7 @@ impl Resource {
     /// `ValueType` where the value is not of the variable's type, `NotInput` where the variable is not located at %I,
     /// `NotForced`, `NotDue` where no release of the task waits, with the next one by its interval, and `Yield` where
     /// another task goes first. A forced scan is never refused for these last two.
+    #[inline(never)]
     pub fn apply(&mut self, event: Event, t: i64, ticks: &mut Ticks) -> Result<Outcome, Refusal>
         ensures plant { plant_of self.new ≡ plant_of self.old }
         ensures answer { (h : History) → Agrees self.old h → result ≡ verdict (plant_of self.old) h event t }
