@@ -1,7 +1,11 @@
 //! Scans that have no instant of their own.
 
-ghost use Rattle.std.specs.Prelude.{◌≡◌};
-ghost use Rattle.sfc_prompt.specs.Sessions.{steered_in};
+ghost use Rattle.std.specs.Prelude.{◌≡◌, ◌++◌, List, ℕ, OnOk, IfOk};
+ghost use Rattle.sfc_debug.specs.Histories.{CommandHistory};
+ghost use Rattle.sfc_monitor.specs.Output.{command_lines, debugger_of, text_of};
+ghost use Rattle.sfc_prompt.specs.Scanning as scanning;
+ghost use Rattle.sfc_prompt.specs.Scanning.{scan_after};
+ghost use Rattle.sfc_prompt.specs.Sessions.{HasSaid, steered_in, with_lines};
 
 use crate::session::Session;
 use sfc_base::ids::TaskId;
@@ -20,6 +24,16 @@ fn scan_words(alloc: Global, session: &Session, task: TaskId) -> Result<Vec<u8>,
     Ok(words)
 }
 
+// The next release of a task whose scan was refused since it isn't due, a run instant, if there is one.
+fn release_in(answer: Result<Answer, Refusal>) -> Option<i64>
+    ensures { result ≡ scanning.release_in answer }
+{
+    match answer {
+        Err(Refusal::NotDue(next)) => next,
+        _ => None,
+    }
+}
+
 /// Scans a task: at the instant of the last accepted command, or where it isn't due then, at its next release. What it answers or is refused
 /// for there is put at the end of `out` as by `Session::command`, and nothing is told of the first try. The one error is that memory was
 /// refused; then the session is of no more use.
@@ -29,13 +43,21 @@ pub fn scan(
     task: TaskId,
     out: &mut Vec<u8>,
 ) -> Result<Result<Answer, Refusal>, AllocError>
-    ensures { steered_in session.new ≡ steered_in session.old }
+    ensures steered { steered_in session.new ≡ steered_in session.old }
+    ensures answer { (h : CommandHistory) (lines : List ℕ) → HasSaid session.old h lines → IfOk result (λ answer.
+        answer ≡ (debugger_of (steered_in session.old)).verdict h (scan_after (steered_in session.old) h task)) }
+    ensures written { (h : CommandHistory) (lines : List ℕ) → HasSaid session.old h lines → OnOk result (out.new.items ≡ out.old.items
+        ++ command_lines (debugger_of (steered_in session.old)) (text_of (steered_in session.old)) h (scan_after (steered_in session.old) h task)) }
+    ensures said { (h : CommandHistory) (lines : List ℕ) → HasSaid session.old h lines → OnOk result (HasSaid session.new
+        ((debugger_of (steered_in session.old)).after h (scan_after (steered_in session.old) h task))
+        (with_lines ((debugger_of (steered_in session.old)).verdict h (scan_after (steered_in session.old) h task)) lines
+        (command_lines (debugger_of (steered_in session.old)) (text_of (steered_in session.old)) h (scan_after (steered_in session.old) h task)))) }
 {
     let words = scan_words(alloc, session, task)?;
     let begin = out.len();
     let first = (Command::Scan(task), session.instant());
     let answer = session.command(alloc, first, &words, out)?;
-    let Err(Refusal::NotDue(Some(next))) = answer else {
+    let Some(next) = release_in(answer) else {
         return Ok(answer);
     };
     out.truncate(begin);
