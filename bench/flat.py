@@ -1,6 +1,6 @@
 #!/usr/bin/env python3
-"""`flat.py STEPS FILE` writes the ring of ring.py as flat C, as a PLC compiler emits a chart: unrolled, a variable for each flag, clock and
-flip-flop, and straight-line code for each transition, step, action and body.
+"""`flat.py STEPS FILE` writes the ring of ring.py as flat C, as a PLC compiler emits a chart: unrolled, a variable for each flag, clock
+and flip-flop, and straight-line code for each transition, step, action and body.
 
 The program that it is compiled to does so many scans as its argument says, 10 ms apart, and prints the values of all variables as the
 last lines of `sfcmon replay` have them. A scan is one call that leaves all its variables in memory, where inputs and outputs are copied.

@@ -1,7 +1,8 @@
 #!/usr/bin/env bash
-# flat.sh [STEPS ..]: what a scan of the ring of ring.py takes as flat C (flat.py, `cc -O2`), and what it takes in `sfcmon replay` and `sfcmon
-# wave`, for rings of so many steps (8, 64 and 512 where none is said). Instructions are those of callgrind: 1,100 scans less those of 100, by
-# the scan. At the end of 1,100 scans both have to have the same values, and that is said too: where they differ, the status is 1.
+# flat.sh [STEPS ..]: what a scan of the ring of ring.py takes as flat C (flat.py, `cc -O2`), and what it takes in `sfcmon replay` and
+# `sfcmon wave`, for rings of so many steps (8, 64 and 512 where none is said). Instructions are those of callgrind: 1,100 scans less those
+# of 100, by the scan. At the end of 1,100 scans flat C and `replay` have to have the same values, and that is said too: where they differ,
+# the status is 1.
 # SFCMON, where it is set, is the program that is run; else it is the proved one of this clone. It wants python3, cc and valgrind.
 set -eu
 here=$(cd "$(dirname "${BASH_SOURCE[0]}")" && pwd)

@@ -1,6 +1,6 @@
 #!/usr/bin/env python3
-"""lateness.py PROGRAM: how late the scans of `sfcmon run` are, over 2,000 releases of a task of 1 ms, and how much of a processor an idle run
-takes, over 20 seconds of a task of 200 ms. The machine is to be idle."""
+"""lateness.py PROGRAM: how late the scans of `sfcmon run` are, over 2,000 releases of a task of 1 ms, and how much of a processor an
+idle run takes, over 20 seconds of a task of 200 ms. The machine is to be idle."""
 import os
 import re
 import resource
@@ -43,6 +43,7 @@ for release in range(0, 2_000_000, 1_000):
         at += 1
     late.append(scans[at] - release)
 overruns = int(re.findall(r"SCAN Main overruns (\d+)", text)[-1])
-print(f"2,000 releases of 1 ms: greatest lateness {max(late)} microseconds, median {sorted(late)[1000]}, {overruns} overruns in {len(scans)} scans")
+print(f"2,000 releases of 1 ms: greatest lateness {max(late)} microseconds, median {sorted(late)[1000]}, "
+      f"{overruns} overruns in {len(scans)} scans")
 _, used = run("T#200ms", 20, "--trace", "0")
 print(f"an idle run: {used / 20 * 100:.1f} % of one processor")

@@ -1,9 +1,10 @@
 #!/usr/bin/env python3
-"""`opening.py STEPS TRANSITIONS INSTANCES CHART` writes a chart that is opened: a program type of so many steps (2 to 1,024) and transitions
-(STEPS to 2,048), and so many instances of it (1 to 64).
+"""`opening.py STEPS TRANSITIONS INSTANCES CHART` writes a chart that is opened: a program type of so many steps (2 to 1,024) and
+transitions (STEPS to 2,048), and so many instances of it (1 to 64).
 
-The steps are a ring, and the transitions beyond it lead from each step in turn to the one that is three behind it. Each step has an action by
-N and one by S: BOOL variables of the program, 32 in all, that the steps have in turn. A condition reads one of them and the time of its step.
+The steps are a ring, and the transitions beyond it lead from each step in turn to the one that is three behind it. Each step has an
+action by N and one by S: BOOL variables of the program, 32 in all, that the steps have in turn. A condition reads one of them and the
+time of its step.
 """
 
 import sys

@@ -1,7 +1,8 @@
 #!/usr/bin/env bash
-# opening.sh: what it takes to load a chart (`sfcmon check`) and to open it (`sfcmon replay` with an empty script, less that), for the charts of
-# opening.py at several sizes: each row but the first of its group has something twice as large as the row before, and behind its figures by
-# how much they are larger. Opening has the lines of the image at the end too, 32 for each instance. Instructions are those of callgrind.
+# opening.sh: what it takes to load a chart (`sfcmon check`) and to open it (`sfcmon replay` with an empty script, less that), for the
+# charts of opening.py at several sizes: each row but the first of its group has something twice as large as the row before, and behind its
+# figures by how much they are larger. Opening has the lines of the image at the end too, 32 for each instance. Instructions are those of
+# callgrind.
 # SFCMON, where it is set, is the program that is run; else it is the proved one of this clone. It wants python3 and valgrind.
 set -eu
 here=$(cd "$(dirname "${BASH_SOURCE[0]}")" && pwd)
