@@ -69,12 +69,17 @@ class Wave:
         return {name: bits for when, name, bits in self.changes if when <= instant}
 
 
+def lines_of(script: Path) -> list:
+    """The lines of a script that say something."""
+    return [line for line in script.read_text().splitlines() if line.strip() and not line.strip().startswith(";")]
+
+
 class Replay:
     """A script with its output: what each accepted command leaves."""
 
     def __init__(self, program: str, chart: Path, script: Path):
         self.output = run(program, "replay", chart, script).stdout
-        said = [line for line in script.read_text().splitlines() if line.strip() and not line.strip().startswith(";")]
+        said = lines_of(script)
         self.commands, rest = [], self.output.splitlines()
         for line in said:
             answer = rest.pop(0)
@@ -188,6 +193,24 @@ def check_wave(checks: Checks, title: str, program: str, chart: Path, script: Pa
     checks.note(rising == sorted(rising), f"{title}: instants rise")
     checks.note(wave.initial.keys() == wave.widths.keys(), f"{title}: each signal has a first value")
     return done.stdout
+
+
+def check_images(checks: Checks, title: str, program: str, chart: Path, script: Path):
+    """Holds the variables of a waveform to the image behind each front of the script that ends where time goes on."""
+    wave, said = Wave(run(program, "wave", chart, script).stdout), lines_of(script)
+    instants = [None if answer.startswith("refused") else micros(answer.split()[0])
+                for _, answer, _ in Replay(program, chart, script).commands]
+    with tempfile.NamedTemporaryFile("w", suffix=".script") as front:
+        for place, instant in enumerate(instants):
+            front.write(said[place] + "\n")
+            front.flush()
+            behind = next((it for it in instants[place + 1:] if it is not None), None)
+            if instant is None or behind == instant:
+                continue
+            read = wave.at(instant)
+            for words in Replay(program, chart, Path(front.name)).image:
+                wanted = bits_of(words[2], wave.widths[words[1]]), int(words[-1] == "forced")
+                checks.note((read[words[1]], read[f"{words[1]}.forced"]) == wanted, f"{title}: behind {said[place]!r}: {words}")
 
 
 def check_by_tool(checks: Checks, title: str, words: list, text: str):
@@ -349,6 +372,7 @@ def main() -> int:
             script, title = chart.with_suffix(".script"), chart.stem
             wave = check_wave(checks, f"{title}, wave", program, chart, script, False)
             check_wave(checks, f"{title}, wave --raw", program, chart, script, True)
+            check_images(checks, f"{title}, variables", program, chart, script)
             drawings = [check_types(checks, f"{title}, draw", program, chart),
                         check_after(checks, f"{title}, draw --after", program, chart, script)]
             check_tools(checks, title, wave, drawings, Path(folder))
