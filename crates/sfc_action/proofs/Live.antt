@@ -187,32 +187,6 @@ gathered_all blocks sets at le idle =
     sym (gathered_idle blocks sets at n (omega arith) (λ k d ge less. idle k d ge (omega arith)))
     ∙ ap (λ k. gathered (take k blocks) sets) same ∙ ap (λ xs. gathered xs sets) (take_all (length blocks) blocks (omega arith))
 
--- ---- places of actions
-
-module _ (lists : List (List ℕ)) (action place : ℕ) (own mine : List ℕ) (lt : action < length lists) (was : get_or lists action [] ≡ own)
-    (more : mine ≡ own ++ place ∷ []) where
-  here : get_or (slice_set lists action mine) action [] ≡ own ++ place ∷ []
-  here = get_or-set_same lists action mine [] lt ∙ more
-
-  any_here : (p : ℕ → Bool) → list_any p (own ++ place ∷ []) ≡ (list_any p own || (p place || false))
-  any_here p = list_any-append p own (place ∷ [])
-
-  pub place_kept : (a k : ℕ) → has_place lists a k ≡ true → has_place (slice_set lists action mine) a k ≡ true
-  place_kept a k among = elim (cases_eq a action) [
-    | inl same ↦ (
-        let old : list_any (λ p. p == k) own ≡ true =
-        ap (list_any (λ p. p == k)) (sym was) ∙ ap (λ b. has_place lists b k) (sym same) ∙ among in
-        ap (λ b. has_place (slice_set lists action mine) b k) same ∙ ap (list_any (λ p. p == k)) here ∙ any_here (λ p. p == k)
-        ∙ or_before (list_any (λ p. p == k) own) ((place == k) || false) old)
-    | inr apart ↦ ap (list_any (λ p. p == k)) (get_or-set_other lists action a mine [] apart) ∙ among
-  ]
-
-  pub place_added : has_place (slice_set lists action mine) action place ≡ true
-  place_added =
-      let there : (place == place) ≡ true = grind (arith, nat_tests) in
-      ap (list_any (λ p. p == place)) here ∙ any_here (λ p. p == place)
-      ∙ or_behind (list_any (λ p. p == place) own) ((place == place) || false) (or_before (place == place) false there)
-
 -- the same on-delays are of the same actions
 pub same_actions : (xs ys : List Block) → map delay_of xs ≡ map delay_of ys → (k : ℕ) (d : Block)
     → (get_or xs k d).action.0 ≡ (get_or ys k d).action.0

@@ -1,8 +1,8 @@
 //! The on-delays of a program instance (2.5.2.3.4).
 
 use crate::blocks::Block;
-use crate::places::Places;
 use sfc_flags::flags::Flags;
+use sfc_tables::grouped_places::GroupedPlaces;
 use std::marker::Model;
 
 /// The on-delays of all actions. A scan handles those that run and those that have their input. Clauses see all of them.
@@ -10,7 +10,7 @@ pub struct Delays {
     blocks: Vec<Block>,
     // The places of those that a scan handles, whatever its inputs are: those that aren't idle.
     live: Flags,
-    places: Places,
+    places: GroupedPlaces,
 }
 
 // By hand, so that a caller that drops one proves one call.
@@ -38,6 +38,7 @@ impl Model for Delays {
 
 use crate::blocks::{DelayCall, step_live};
 use crate::control_scan::ControlScan;
+use crate::places::list_places;
 use crate::waking::{copy_live, wake};
 use sfc_base::ticks::Ticks;
 use std::alloc::{AllocError, Global};
@@ -58,7 +59,7 @@ impl Delays {
         requires fresh { All IsNew blocks.items }
         ensures { IfOk result (λ delays. delays ≡ blocks.items) }
     {
-        let places = Places::list(alloc, actions, &blocks)?;
+        let places = list_places(alloc, actions, &blocks)?;
         let live = Flags::new(alloc, blocks.len())?;
         Ok(Delays {
             blocks,

@@ -6,9 +6,9 @@ ghost use Rattle.sfc_base.specs.Ticks.{Within};
 ghost use Rattle.sfc_flags.specs.Flags.{flag};
 ghost use Rattle.sfc_action.specs.Private.Live.{has_place};
 
-use crate::places::Places;
 use sfc_base::ticks::Ticks;
 use sfc_flags::flags::Flags;
+use sfc_tables::grouped_places::GroupedPlaces;
 
 // These places get their flags.
 fn set_all(live: &mut Flags, places: &[usize])
@@ -24,7 +24,7 @@ fn set_all(live: &mut Flags, places: &[usize])
 }
 
 /// The on-delays of the actions that are called become live. Each is counted where it is handled.
-pub fn wake(live: &mut Flags, places: &Places, called: &Flags, ticks: &mut Ticks)
+pub fn wake(live: &mut Flags, places: &GroupedPlaces, called: &Flags, ticks: &mut Ticks)
     ensures size { length live.new ≡ length live.old }
     ensures kept { (k : ℕ) → flag live.old k ≡ true → flag live.new k ≡ true }
     ensures awake { (a k : ℕ) → k < length live.old → flag called.now a ≡ true → has_place places.now a k ≡ true → flag live.new k ≡ true }
@@ -32,7 +32,7 @@ pub fn wake(live: &mut Flags, places: &Places, called: &Flags, ticks: &mut Ticks
 {
     let mut at = 0;
     'called: while let Some(action) = called.next_set(at, ticks) {
-        set_all(live, places.of_action(action));
+        set_all(live, places.of_group(action));
         at = action + 1;
     }
 }

@@ -27,7 +27,7 @@ called-preserved c =
         | inr behind ↦ (
             let there : a ≡ j = omega (arith, less, behind) in
             put.set k (omega (arith, lt, was.size))
-            (ap (λ (xs : List ℕ). list_any (λ p. p == k) xs) c.of_action.ensures
+            (ap (λ (xs : List ℕ). list_any (λ p. p == k) xs) c.of_group.ensures
             ∙ subst (λ i. has_place c.args.places.now i k ≡ true) there among))
       ];
       within = omega (arith, found);
