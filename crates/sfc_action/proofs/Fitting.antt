@@ -1,9 +1,10 @@
 -- What fits tables.
 use denote.Struct.Props.{props}
 use Rattle.std.proofs.Common.{◌≡◌, length, ◌∙◌, ap, sym}
+use Rattle.std.specs.Prelude.{map}
 use Rattle.sfc_tables.specs.Tables.{Tabled}
 use Rattle.sfc_action.specs.declared.control_state.ControlState.{ControlState}
-use Rattle.sfc_action.specs.Private.Keeping.{AreFor}
+use Rattle.sfc_action.specs.Private.Keeping.{AreFor, delay_of}
 use Rattle.sfc_action.specs.Agreement.{IsFor, HasDelays, action_total}
 
 pub is_for : (tables : Tabled) (state : ControlState) → AreFor tables state → IsFor tables state
@@ -25,8 +26,8 @@ pub same_actions : (tables : Tabled) (one other : ControlState) → IsFor tables
 same_actions tables one other h g = h.same_actions ∙ sym g.same_actions
 
 pub same_delays : (tables : Tabled) (one other : ControlState) → IsFor tables one → IsFor tables other
-    → length one.blocks.items ≡ length other.blocks.items
-same_delays tables one other h g = (are_for tables one h).count ∙ sym (are_for tables other g).count
+    → map delay_of one.blocks ≡ map delay_of other.blocks
+same_delays tables one other h g = (are_for tables one h).delays ∙ sym (are_for tables other g).delays
 
 -- it has the on-delays in one way at most
 pub delays_prop : (tables : Tabled) (state : ControlState) → IsProp (HasDelays tables state)

@@ -1,9 +1,11 @@
+pub mod Calls
 pub mod Choices
 pub mod DelayLists
 pub mod Elapsed
 pub mod Elements
 pub mod Failures
 pub mod Fitting
+pub mod Live
 pub mod Moments
 pub mod Next
 pub mod Pasts

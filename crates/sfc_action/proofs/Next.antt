@@ -28,7 +28,7 @@ use Rattle.sfc_action.specs.Private.Marking.{cleared, marked_at, presets_at, IsW
 use Rattle.sfc_action.specs.Private.Storing.{AreNext}
 use Rattle.sfc_action.specs.Private.Delays.{input_of, preset_of, IsStepped, gathered}
 use Rattle.sfc_action.specs.Private.Failing.{fault_at}
-use Rattle.sfc_action.specs.Private.Keeping.{AreFor, IsStateAfter, IsActed, BlockAgrees, IsCovered, called, readings, has_block, is_of, IsStateSized}
+use Rattle.sfc_action.specs.Private.Keeping.{AreFor, IsStateAfter, IsActed, BlockAgrees, IsCovered, called, readings, delay_of, has_block, is_of, IsStateSized}
 use Rattle.sfc_action.specs.Private.DelayLists.{same_timed}
 use Rattle.sfc_action.proofs.Choices.{executions}
 use Rattle.sfc_action.proofs.Elapsed.{bool_cases, is_on_next, elapsed_are}
@@ -183,20 +183,36 @@ module _ (tables : Tabled) (state new : ControlState) (i : Inputs) (ps : List �
       (λ k d lt. qualifiers (suc k) d (omega arith)) in
       (λ k. (((first k).0 == a) && same_timed p (second k)) || rest k)
 
-  same_block : (a : ℕ) (p : Qualifier) → has_block new.blocks.items a p ≡ has_block state.blocks.items a p
+  same_delays : (xs ys : List Block) → length ys ≡ length xs
+      → ((k : ℕ) (d : Block) → k < length xs → (slice_index_or ys k d).action ≡ (slice_index_or xs k d).action)
+      → ((k : ℕ) (d : Block) → k < length xs → (slice_index_or ys k d).qualifier ≡ (slice_index_or xs k d).qualifier)
+      → map delay_of ys ≡ map delay_of xs
+  same_delays [] [] e actions qualifiers = refl
+  same_delays [] (y ∷ ys) e actions qualifiers = absurd (omega arith)
+  same_delays (x ∷ xs) [] e actions qualifiers = absurd (omega arith)
+  same_delays (x ∷ xs) (y ∷ ys) e actions qualifiers =
+      let first = actions 0 x (omega arith) in
+      let second = qualifiers 0 x (omega arith) in
+      let rest = same_delays xs ys (omega arith) (λ k d lt. actions (suc k) d (omega arith))
+      (λ k d lt. qualifiers (suc k) d (omega arith)) in
+      (λ k. record { action = (first k).0; qualifier = second k } ∷ rest k)
+
+  same_block : (a : ℕ) (p : Qualifier) → has_block new.blocks a p ≡ has_block state.blocks a p
   same_block a (qualifier.Timed p time) =
-      same_any a p state.blocks.items new.blocks.items acted.same_blocks (λ k d lt. (acted.blocks k d lt).action)
+      same_any a p state.blocks new.blocks acted.same_blocks (λ k d lt. (acted.blocks k d lt).action)
       (λ k d lt. (acted.blocks k d lt).qualifier)
   same_block a _ = refl
 
-  covered : All (IsCovered new.blocks.items) tables.associations
+  covered : All (IsCovered new.blocks) tables.associations
   covered = λ k d lt. same_block (slice_index_or tables.associations k d).action.0 (slice_index_or tables.associations k d).qualifier
       ∙ size.covered k d lt
 
   pub next_size : AreFor tables new
   next_size = record {
     sized = subst (λ n. IsStateSized n new) size.sized.q acted.sized;
-    count = acted.same_blocks ∙ size.count;
+    delays = same_delays state.blocks new.blocks acted.same_blocks (λ k d lt. (acted.blocks k d lt).action)
+        (λ k d lt. (acted.blocks k d lt).qualifier)
+        ∙ size.delays;
     few = let e = acted.same_blocks in let few = size.few in omega arith;
     covered = covered;
   }
@@ -235,12 +251,12 @@ module _ (tables : Tabled) (state new : ControlState) (scan : Scan) (h : List Sc
         elapsed = stepped.answer col agrees.delay ∙ ap has_elapsed is;
       }
 
-  blocks_agree : All (BlockAgrees tables now) new.blocks.items
+  blocks_agree : All (BlockAgrees tables now) new.blocks
   blocks_agree = λ k d lt.
-      let within : k < length state.blocks.items = let e = acted.same_blocks in omega arith in
-      let old = slice_index_or state.blocks.items k d in
+      let within : k < length state.blocks = let e = acted.same_blocks in omega arith in
+      let old = slice_index_or state.blocks k d in
       let lt_action : old.action.0 < m = size.sized.blocks k d within in
-      one_agrees old (slice_index_or new.blocks.items k d) (flag (input_of old.qualifier i next) old.action.0)
+      one_agrees old (slice_index_or new.blocks k d) (flag (input_of old.qualifier i next) old.action.0)
       (preset_of i ps old.action.0) (each.blocks k d within) (acted.blocks k d within)
       (called_is old.qualifier old.action.0 lt_action)
       (scan_input.times old.action.0 (few_times tables scan i ps next scan_input faultless old.action.0))
@@ -248,10 +264,10 @@ module _ (tables : Tabled) (state new : ControlState) (scan : Scan) (h : List Sc
   -- ---- outputs
 
   abbrev elapsed : Timed
-  elapsed = gathered new.blocks.items (none (length state.q))
+  elapsed = gathered new.blocks (none (length state.q))
 
   elapsed_is : (p : TimedQualifier) (a : ℕ) → flag (by p elapsed) a ≡ on_delay tables a (called tables a p) now
-  elapsed_is p a = elapsed_are tables scan h (length state.q) new.blocks.items p a acted.sized.blocks blocks_agree
+  elapsed_is p a = elapsed_are tables scan h (length state.q) new.blocks p a acted.sized.blocks blocks_agree
       (covered tables state new i ps next scan.at size acted)
 
   delayed_stored_is : (a : ℕ) → a < m → flag new.delayed_stored a ≡ delayed_then_stored tables a DS now

@@ -64,7 +64,7 @@ same_past tables state h other k e =
         q = λ a lt. each.q a lt ∙ ap (λ p. p.q) (by a lt);
         executed = λ a lt. each.executed a lt ∙ ap (λ p. p.executed) (by a lt);
         blocks = λ j d lt.
-            let block = slice_index_or state.blocks.items j d in
+            let block = slice_index_or state.blocks j d in
             block_same tables h other block (each.blocks j d lt)
             (ap (λ p. p.delay block.qualifier) (by block.action.0 (k.size.sized.blocks j d lt)));
       };
@@ -136,7 +136,7 @@ keeps_past tables state h k = mapped (action_in state) (action_past tables h) (l
       delayed_stored = each.delayed_stored a lt i;
       q = each.q a lt i;
       executed = each.executed a lt i;
-      delay = λ p. delay_kept tables h a p state.blocks.items each.blocks k.size.covered i;
+      delay = λ p. delay_kept tables h a p state.blocks each.blocks k.size.covered i;
     }))
 
 -- ---- one scan more

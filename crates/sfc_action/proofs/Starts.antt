@@ -1,6 +1,6 @@
 -- Before the first scan, and copies.
 use Rattle.std.proofs.Common.{◌≡◌, ℕ, suc, ◌<◌, ◌==◌, Bool, false, ◌&&◌, ◌||◌, List, [], ◌∷◌, length, arith, refl, sym, subst, ◌∙◌, ap}
-use Rattle.std.specs.Prelude.{All, slice_index_or, replicate}
+use Rattle.std.specs.Prelude.{All, map, replicate}
 use Rattle.std.specs.List.{list_any}
 use Rattle.std.proofs.lemmas.List.{length-replicate, length-map}
 use Rattle.sfc_base.specs.declared.qualifier.TimedQualifier.{TimedQualifier}
@@ -19,7 +19,6 @@ use Rattle.sfc_action.specs.ActionControl.{Scan}
 use Rattle.sfc_action.specs.Private.TimedSets.{none}
 use Rattle.sfc_action.specs.Private.Storing.{AreStores}
 use Rattle.sfc_action.specs.Private.Delays.{AreOf}
-use Rattle.sfc_action.specs.Private.Copies.{AreCopied}
 use Rattle.sfc_action.specs.Private.Keeping.{IsStateSized, IsFresh, IsCopy, AreFor, IsStateAfter, BlockAgrees, IsCovered, has_block, is_of, delay_of, readings}
 use Rattle.sfc_action.specs.Private.DelayLists.{same_timed, with_delays}
 use Rattle.sfc_action.specs.Private.Listing.{IsNew, IsList}
@@ -57,9 +56,7 @@ pub fresh_for : (tables : Tabled) (n : ℕ) (associations : List StepAction) (bl
     → AreFor tables state
 fresh_for tables n associations blocks state en ea fresh listed = record {
   sized = subst (λ k. IsStateSized k state) en (fresh_sized n blocks state fresh listed.actions);
-  count =
-      ap length fresh.blocks ∙ sym (length-map blocks delay_of) ∙ ap length listed.delays
-      ∙ ap (λ (xs : List StepAction). length (with_delays [] xs)) ea;
+  delays = ap (map delay_of) fresh.blocks ∙ listed.delays ∙ ap (with_delays []) ea;
   few = let e = ap length fresh.blocks in let same = ap length ea in let few = listed.few in omega arith;
   covered = subst (λ (xs : List Block). All (IsCovered xs) tables.associations) (sym fresh.blocks)
       (subst (λ (xs : List StepAction). All (IsCovered blocks) xs) ea listed.covered);
@@ -92,36 +89,15 @@ copied_sized n from to copy sized = record {
   delayed_stored = ap length copy.delayed_stored ∙ sized.delayed_stored;
   q = ap length copy.q ∙ sized.q;
   executed = ap length copy.executed ∙ sized.executed;
-  blocks = λ k d lt.
-      let within : k < length from.blocks.items = let e = copy.same_blocks in omega arith in
-      let below = sized.blocks k d within in
-      let same = ap (λ x. x.0) (copy.blocks k d within).action in
-      omega (arith, below, same);
+  blocks = subst (AreOf n) (sym copy.blocks) sized.blocks;
 }
-
-same_any : (a : ℕ) (p : TimedQualifier) (xs ys : List Block) → length ys ≡ length xs → AreCopied xs ys
-    → list_any (is_of a p) ys ≡ list_any (is_of a p) xs
-same_any a p [] [] e copied = refl
-same_any a p [] (y ∷ ys) e copied = absurd (omega arith)
-same_any a p (x ∷ xs) [] e copied = absurd (omega arith)
-same_any a p (x ∷ xs) (y ∷ ys) e copied =
-    let first = copied 0 x (omega arith) in
-    let rest = same_any a p xs ys (omega arith) (λ k d lt. copied (suc k) d (omega arith)) in
-    (λ k. (((first.action k).0 == a) && same_timed p (first.qualifier k)) || rest k)
-
-same_block : (from to : ControlState) → IsCopy from to → (a : ℕ) (p : Qualifier)
-    → has_block to.blocks.items a p ≡ has_block from.blocks.items a p
-same_block from to copy a (qualifier.Timed p time) = same_any a p from.blocks.items to.blocks.items copy.same_blocks copy.blocks
-same_block from to copy a _ = refl
 
 pub copied_for : (tables : Tabled) (from to : ControlState) → IsCopy from to → AreFor tables from → AreFor tables to
 copied_for tables from to copy for = record {
   sized = copied_sized (length tables.actions) from to copy for.sized;
-  count = copy.same_blocks ∙ for.count;
-  few = let e = copy.same_blocks in let few = for.few in omega arith;
-  covered = λ k d lt.
-      same_block from to copy (slice_index_or tables.associations k d).action.0 (slice_index_or tables.associations k d).qualifier
-      ∙ for.covered k d lt;
+  delays = ap (map delay_of) copy.blocks ∙ for.delays;
+  few = let e = ap length copy.blocks in let few = for.few in omega arith;
+  covered = subst (λ (xs : List Block). All (IsCovered xs) tables.associations) (sym copy.blocks) for.covered;
 }
 
 pub copied_state : (tables : Tabled) (from to : ControlState) (h : List Scan) → IsCopy from to → IsStateAfter tables from h → IsStateAfter tables to h
@@ -135,16 +111,5 @@ copied_state tables from to h copy each = record {
   delayed_stored = λ a lt. ap (λ xs. flag xs a) copy.delayed_stored ∙ each.delayed_stored a lt;
   q = λ a lt. ap (λ xs. flag xs a) copy.q ∙ each.q a lt;
   executed = λ a lt. ap (λ xs. flag xs a) copy.executed ∙ each.executed a lt;
-  blocks = λ k d lt.
-      let within : k < length from.blocks.items = let e = copy.same_blocks in omega arith in
-      let was = each.blocks k d within in
-      let one = copy.blocks k d within in
-      let now = slice_index_or to.blocks.items k d in
-      let old = slice_index_or from.blocks.items k d in
-      let same : readings tables now.action.0 now.qualifier h ≡ readings tables old.action.0 old.qualifier h =
-      (λ j. readings tables (one.action j).0 (one.qualifier j) h) in
-      record {
-        delay = subst (OnDelayAgrees now.delay) (sym same) (one.delay (readings tables old.action.0 old.qualifier h) was.delay);
-        elapsed = one.elapsed ∙ was.elapsed ∙ sym (ap has_elapsed same);
-      };
+  blocks = subst (λ (xs : List Block). All (BlockAgrees tables h) xs) (sym copy.blocks) each.blocks;
 }

@@ -71,7 +71,7 @@ action_in state a = record {
   delayed_stored = flag state.delayed_stored a;
   q = flag state.q a;
   executed = flag state.executed a;
-  delay = λ qualifier. delay_in (find (is_of a qualifier) state.blocks.items);
+  delay = λ qualifier. delay_in (find (is_of a qualifier) state.blocks);
 }
 
 unfoldable pub past_in : Tabled → ControlState → List ActionPast

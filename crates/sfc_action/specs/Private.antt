@@ -7,7 +7,8 @@ pub mod DelayLists
 pub mod Failing
 pub mod ControlScans
 pub mod Outputs
-pub mod Copies
 pub mod Rows
+pub mod Live
+pub mod Calling
 pub mod Keeping
 pub mod Listing

@@ -1,13 +1,15 @@
 //! On-delays of actions.
 
-ghost use Rattle.std.specs.Prelude.{◌≡◌, ◌<◌, ◌*◌, ◌^◌, ◌≤ℤ◌, pos, All, length};
+ghost use Rattle.std.specs.Prelude.{◌≡◌, ◌<◌, ◌*◌, ◌||◌, ◌^◌, ◌≤ℤ◌, pos, cond, length, slice_set, is_some};
 ghost use Rattle.sfc_base.specs.Ticks.{Within};
 ghost use Rattle.sfc_flags.specs.Flags.{flag};
-ghost use Rattle.sfc_action.specs.Private.TimedSets.{AreAll};
+ghost use Rattle.sfc_timers.specs.Past.{on_delay_in};
+ghost use Rattle.sfc_action.specs.Private.TimedSets.{AreAll, with_action};
 ghost use Rattle.sfc_action.specs.Private.Marking.{AreSized};
 ghost use Rattle.sfc_action.specs.Private.Storing.{AreStores};
 ghost use Rattle.sfc_action.specs.Private.Delays.{input_of, preset_of, IsStepped, AreStepped, gathered, AreOf};
-ghost use Rattle.sfc_action.specs.Private.Copies.{IsCopied, AreCopied};
+ghost use Rattle.sfc_action.specs.Private.Live.{AreIdle};
+ghost use Rattle.sfc_action.specs.Private.Calling.{AreAwake};
 
 use crate::inputs::Inputs;
 use crate::stores::Stores;
@@ -15,15 +17,25 @@ use crate::timed::Timed;
 use sfc_base::ids::ActionNumber;
 use sfc_base::qualifier::TimedQualifier;
 use sfc_base::ticks::Ticks;
+use sfc_flags::flags::Flags;
 use sfc_timers::OnDelay;
 
 /// The on-delay of an action by one of its qualifiers with a time, and whether it has elapsed at the newest scan.
-#[derive(Drop)]
+#[derive(Clone, Copy)]
 pub struct Block {
     pub action: ActionNumber,
     pub qualifier: TimedQualifier,
     pub delay: OnDelay,
     pub elapsed: bool,
+}
+
+/// What on-delays are told in a scan at t: the inputs, the flip-flops after it, and the times, by action.
+#[derive(Clone, Copy)]
+pub struct DelayCall<'a> {
+    pub inputs: &'a Inputs,
+    pub stores: &'a Stores,
+    pub presets: &'a [i64],
+    pub t: i64,
 }
 
 // Whether the on-delay of the action by this qualifier has its input: that of the block, or what it stores.
@@ -55,87 +67,67 @@ fn preset(action: usize, inputs: &Inputs, presets: &[i64]) -> i64
     }
 }
 
-// One scan of an on-delay at t.
-fn step_block(
-    block: &mut Block,
-    inputs: &Inputs,
-    stores: &Stores,
-    presets: &[i64],
-    t: i64,
-    ticks: &mut Ticks,
-)
-    requires inputs { AreSized (length presets.now) inputs.now }
-    requires stores { AreStores (length presets.now) stores.now }
-    requires action { block.old.action.0 < length presets.now }
-    requires low { pos 0 ≤ℤ t }
-    requires high { t ≤ℤ pos (2 ^ 62) }
-    ensures stepped { IsStepped (flag (input_of block.old.qualifier inputs.now stores.now) block.old.action.0)
-        (preset_of inputs.now presets.now block.old.action.0) t block.old block.new }
+// One scan of an on-delay.
+fn step_block(block: &mut Block, call: DelayCall<'_>, ticks: &mut Ticks)
+    requires inputs { AreSized (length call.presets.now) call.inputs.now }
+    requires stores { AreStores (length call.presets.now) call.stores.now }
+    requires action { block.old.action.0 < length call.presets.now }
+    requires low { pos 0 ≤ℤ call.t }
+    requires high { call.t ≤ℤ pos (2 ^ 62) }
+    ensures stepped { IsStepped (flag (input_of block.old.qualifier call.entry.inputs.now call.entry.stores.now) block.old.action.0)
+        (preset_of call.entry.inputs.now call.entry.presets.now block.old.action.0) call.entry.t block.old block.new }
     ensures ticks { Within 1 ticks.old ticks.new }
 {
     let action = block.action.0;
-    let input = is_called(block.qualifier, action, inputs, stores);
-    let pt = preset(action, inputs, presets);
-    block.elapsed = block.delay.step(input, pt, t, ticks);
+    let input = is_called(block.qualifier, action, call.inputs, call.stores);
+    let pt = preset(action, call.inputs, call.presets);
+    block.elapsed = block.delay.step(input, pt, call.t, ticks);
 }
 
-/// One scan of all on-delays at t.
-pub fn step_blocks(
+// The on-delay of this place is live if it runs or has elapsed; and where it has, its action is added to the set of its qualifier.
+fn note(live: &mut Flags, elapsed: &mut Timed, place: usize, block: &Block)
+    requires place { place < length live.old }
+    requires sized { AreAll (length elapsed.old.limited) elapsed.old }
+    requires action { block.now.action.0 < length elapsed.old.limited }
+    ensures live { live.new ≡ slice_set live.old place (is_some (on_delay_in block.now.delay) || block.now.elapsed) }
+    ensures elapsed { elapsed.new
+        ≡ cond block.now.elapsed (with_action block.now.qualifier block.now.action.0 elapsed.old) elapsed.old }
+{
+    live.set(place, block.delay.is_running() || block.elapsed);
+    if block.elapsed {
+        elapsed.add(block.qualifier, block.action.0);
+    }
+}
+
+/// One scan of the live on-delays, which are those that have their input and those that aren't idle; the others stay as they are.
+/// The actions of those that have elapsed are added to the sets of their qualifiers.
+pub fn step_live(
     blocks: &mut [Block],
-    inputs: &Inputs,
-    stores: &Stores,
-    presets: &[i64],
-    t: i64,
+    live: &mut Flags,
+    elapsed: &mut Timed,
+    call: DelayCall<'_>,
     ticks: &mut Ticks,
 )
-    requires inputs { AreSized (length presets.now) inputs.now }
-    requires stores { AreStores (length presets.now) stores.now }
-    requires actions { AreOf (length presets.now) blocks.old }
-    requires low { pos 0 ≤ℤ t }
-    requires high { t ≤ℤ pos (2 ^ 62) }
-    ensures stepped { AreStepped inputs.now stores.now presets.now t blocks.old blocks.new }
-    ensures ticks { Within (length blocks.old) ticks.old ticks.new }
+    requires inputs { AreSized (length call.presets.now) call.inputs.now }
+    requires stores { AreStores (length call.presets.now) call.stores.now }
+    requires elapsed { AreAll (length call.presets.now) elapsed.old }
+    requires actions { AreOf (length call.presets.now) blocks.old }
+    requires size { length live.old ≡ length blocks.old }
+    requires idle { AreIdle blocks.old live.old }
+    requires awake { AreAwake call.inputs.now call.stores.now blocks.old live.old }
+    requires low { pos 0 ≤ℤ call.t }
+    requires high { call.t ≤ℤ pos (2 ^ 62) }
+    ensures stepped { AreStepped call.entry.inputs.now call.entry.stores.now call.entry.presets.now call.entry.t blocks.old blocks.new }
+    ensures size { length live.new ≡ length live.old }
+    ensures idle { AreIdle blocks.new live.new }
+    ensures sized { AreAll (length call.entry.presets.now) elapsed.new }
+    ensures sets { elapsed.new ≡ gathered blocks.new elapsed.old }
+    ensures ticks { Within (2 * length blocks.old) ticks.old ticks.new }
 {
-    for place in 0..blocks.len() {
-        step_block(&mut blocks[place], inputs, stores, presets, t, ticks);
-    }
-}
-
-/// Adds the actions whose on-delays have elapsed to the sets of their qualifiers.
-#[tactic(auto, using(crate::proofs::Sizes::all_added))]
-pub fn gather(elapsed: &mut Timed, blocks: &[Block], ticks: &mut Ticks)
-    requires sized { AreAll (length elapsed.old.limited) elapsed.old }
-    requires actions { AreOf (length elapsed.old.limited) blocks.now }
-    ensures sized { AreAll (length elapsed.old.limited) elapsed.new }
-    ensures sets { elapsed.new ≡ gathered blocks.now elapsed.old }
-    ensures ticks { Within (length blocks.now) ticks.old ticks.new }
-{
-    for block in blocks {
-        ticks.tick();
-        if block.elapsed {
-            elapsed.add(block.qualifier, block.action.0);
-        }
-    }
-}
-
-// Takes over what the other has seen.
-fn copy_block(block: &mut Block, from: &Block)
-    ensures { IsCopied from.now block.new }
-{
-    block.action = from.action;
-    block.qualifier = from.qualifier;
-    block.elapsed = from.elapsed;
-    block.delay.copy_from(&from.delay);
-}
-
-/// Takes over what the others have seen.
-pub fn copy_blocks(blocks: &mut [Block], from: &[Block], ticks: &mut Ticks)
-    requires { length from.now ≡ length blocks.old }
-    ensures copied { AreCopied from.now blocks.new }
-    ensures ticks { Within (length blocks.old) ticks.old ticks.new }
-{
-    for place in 0..blocks.len() {
-        ticks.tick();
-        copy_block(&mut blocks[place], &from[place]);
+    let mut at = 0;
+    'live: while let Some(place) = live.next_set(at, ticks) {
+        step_block(&mut blocks[place], call, ticks);
+        note(live, elapsed, place, &blocks[place]);
+        at = place + 1;
     }
 }

@@ -5,17 +5,19 @@ use crate::marking::mark_active;
 use crate::scan_words::ScanWords;
 use crate::stores::Stores;
 use crate::timed::Timed;
+use crate::timed_words::TimedWords;
 use sfc_base::ticks::Ticks;
 use sfc_flags::flags::Flags;
 use sfc_tables::tables::Tables;
 use std::alloc::{AllocError, Global};
 
-/// The inputs and times of a scan, the flip-flops after it, and the on-delays that have elapsed. Each scan writes all
-/// anew.
+/// The inputs and times of a scan, the flip-flops after it, the actions with an on-delay that has its input, and the on-delays that
+/// have elapsed. Each scan writes all anew.
 pub struct ControlScan {
     pub inputs: Inputs,
     pub presets: Vec<i64>,
     pub stores: Stores,
+    pub called: Flags,
     pub elapsed: Timed,
 }
 
@@ -26,6 +28,7 @@ impl Drop for ControlScan {
             inputs: _,
             presets: _,
             stores: _,
+            called: _,
             elapsed: _,
         } = self;
     }
@@ -34,6 +37,11 @@ impl Drop for ControlScan {
 impl ControlScan {
     ghost use Rattle.std.specs.Prelude.{◌≡◌, ◌<◌, ◌+◌, ◌*◌, ℕ, length, IfOk};
     ghost use Rattle.std.specs.Int.{div_ceil};
+    ghost use Rattle.sfc_flags.specs.Flags.{flag};
+    ghost use Rattle.sfc_flags.specs.Words.{word_count, ArePut};
+    ghost use Rattle.sfc_action.specs.Private.TimedSets.{none};
+    ghost use Rattle.sfc_action.specs.Private.Calling.{called_of, AreCalled};
+    ghost use Rattle.sfc_action.specs.Private.Rows.{stores_after, no_times};
     ghost use Rattle.sfc_base.specs.Ticks.{Within};
     ghost use Rattle.sfc_flags.specs.Flags.{places_from};
     ghost use Rattle.sfc_flags.specs.Words.{word_of};
@@ -51,11 +59,52 @@ impl ControlScan {
             inputs: Inputs::new(alloc, actions)?,
             presets: vec![in alloc; 0; actions]?,
             stores: Stores::new(alloc, actions)?,
+            called: Flags::new(alloc, actions)?,
             elapsed: Timed::new(alloc, actions)?,
         })
     }
 
-    /// Reads the input of a scan: the inputs of all blocks, the times, and what the flip-flops become.
+    // Of the 64 actions of this word what the flip-flops become and which are called; no on-delay has elapsed yet.
+    fn settle_word(&mut self, stored: &Stores, number: usize)
+        requires sized { IsControlScan (length self.old.called) self.old }
+        requires stored { AreStores (length self.old.called) stored.now }
+        requires number { number < word_count self.old.called }
+        ensures sized { IsControlScan (length self.old.called) self.new }
+        ensures inputs { self.new.inputs ≡ self.old.inputs }
+        ensures presets { self.new.presets ≡ self.old.presets }
+        ensures stores { ArePut number (λ a. stores_after (input_row self.old.inputs a) (store_row stored.now a))
+            (store_row self.old.stores) (store_row self.new.stores) }
+        ensures called { ArePut number (λ a. called_of (input_row self.old.inputs a)
+            (stores_after (input_row self.old.inputs a) (store_row stored.now a))) (flag self.old.called) (flag self.new.called) }
+        ensures elapsed { ArePut number (λ a. no_times) (timed_row self.old.elapsed) (timed_row self.new.elapsed) }
+    {
+        let inputs = self.inputs.words(number);
+        let stores = stored.words(number).after(inputs);
+        self.stores.put(number, stores);
+        self.called.put_word(number, inputs.called(stores));
+        self.elapsed.put(number, TimedWords::none());
+    }
+
+    // What the flip-flops become and which actions are called; no on-delay has elapsed yet.
+    fn settle(&mut self, stored: &Stores, ticks: &mut Ticks)
+        requires sized { IsControlScan (length self.old.called) self.old }
+        requires stored { AreStores (length self.old.called) stored.now }
+        ensures sized { IsControlScan (length self.old.called) self.new }
+        ensures inputs { self.new.inputs ≡ self.old.inputs }
+        ensures presets { self.new.presets ≡ self.old.presets }
+        ensures next { AreNext stored.now self.new.inputs self.new.stores }
+        ensures called { AreCalled self.new.inputs self.new.stores self.new.called }
+        ensures elapsed { self.new.elapsed ≡ none (length self.old.called) }
+        ensures ticks { Within (length self.old.called) ticks.old ticks.new }
+    {
+        for number in 0..self.called.words() {
+            ticks.tick();
+            self.settle_word(stored, number);
+        }
+    }
+
+    /// Reads the input of a scan: the inputs of all blocks, the times, what the flip-flops become, and which actions are called; no
+    /// on-delay has elapsed yet.
     pub fn read(
         &mut self,
         stored: &Stores,
@@ -75,6 +124,8 @@ impl ControlScan {
         ensures presets { self.new.presets.items
             ≡ presets_at times.now tables.now.associations (places_from active.now 0) self.old.presets.items }
         ensures next { AreNext stored.now self.new.inputs self.new.stores }
+        ensures called { AreCalled self.new.inputs self.new.stores self.new.called }
+        ensures elapsed { self.new.elapsed ≡ none (length tables.now.actions) }
         ensures ticks { Within (2 * length tables.now.actions + length active.now + length tables.now.associations)
             ticks.old ticks.new }
     {
@@ -87,7 +138,7 @@ impl ControlScan {
             times,
             ticks,
         );
-        self.stores.update(stored, &self.inputs, ticks);
+        self.settle(stored, ticks);
     }
 
     /// Of the 64 actions of this word the inputs, the flip-flops and the elapsed on-delays.

@@ -1,8 +1,8 @@
 //! The state of action control, from scan to scan.
 
-use crate::blocks::{Block, copy_blocks};
+use crate::blocks::Block;
 use crate::control_scan::ControlScan;
-use crate::delays::step_delays;
+use crate::delays::Delays;
 use crate::state_words::StateWords;
 use crate::stores::Stores;
 use sfc_base::ticks::Ticks;
@@ -20,7 +20,7 @@ pub struct ControlState {
     pub delayed_stored: Flags,
     pub q: Flags,
     pub executed: Flags,
-    pub blocks: Vec<Block>,
+    pub blocks: Delays,
 }
 
 // By hand, so that a caller that drops one proves one call.
@@ -40,17 +40,24 @@ impl Drop for ControlState {
 }
 
 impl ControlState {
-    ghost use Rattle.std.specs.Prelude.{◌≡◌, ◌<◌, ◌≤◌, ◌+◌, ◌*◌, ◌^◌, ◌≤ℤ◌, ℕ, pos, length, IfOk};
+    ghost use Rattle.std.specs.Prelude.{◌≡◌, ◌<◌, ◌≤◌, ◌+◌, ◌*◌, ◌^◌, ◌≤ℤ◌, ℕ, pos, length, map, All, IfOk};
     ghost use Rattle.sfc_base.specs.Ticks.{Within};
     ghost use Rattle.sfc_flags.specs.Words.{word_count, word_of, ArePut};
     ghost use Rattle.sfc_action.specs.Private.ControlScans.{IsControlScan};
-    ghost use Rattle.sfc_action.specs.Private.Keeping.{IsStateSized, IsFresh, IsActed, IsCopy};
+    ghost use Rattle.sfc_action.specs.Private.TimedSets.{none};
+    ghost use Rattle.sfc_action.specs.Private.Delays.{AreOf};
+    ghost use Rattle.sfc_action.specs.Private.Listing.{IsNew};
+    ghost use Rattle.sfc_action.specs.Private.Calling.{AreCalled};
+    ghost use Rattle.sfc_action.specs.Private.Keeping.{IsStateSized, IsFresh, IsActed, IsCopy, delay_of};
     ghost use Rattle.sfc_action.specs.Private.Rows.{state_in, state_row, nothing, state_row_after};
 
     /// Before the first scan of a life, with these on-delays. The one error is that memory was refused.
     pub fn new(alloc: Global, actions: usize, blocks: Vec<Block>) -> Result<Self, AllocError>
+        requires actions { AreOf actions blocks.items }
+        requires fresh { All IsNew blocks.items }
         ensures { IfOk result (λ state. IsFresh actions blocks.items state) }
     {
+        let blocks = Delays::new(alloc, actions, blocks)?;
         let stores = Stores::new(alloc, actions)?;
         let (delayed_stored, q, executed) = three_sets(alloc, actions)?;
         let (pulse, rising_pulse, falling_pulse) = three_sets(alloc, actions)?;
@@ -133,13 +140,15 @@ impl ControlState {
     pub fn act(&mut self, control_scan: &mut ControlScan, t: i64, ticks: &mut Ticks)
         requires sized { IsStateSized (length self.old.q) self.old }
         requires control_scan { IsControlScan (length self.old.q) control_scan.old }
+        requires called { AreCalled control_scan.old.inputs control_scan.old.stores control_scan.old.called }
+        requires elapsed { control_scan.old.elapsed ≡ none (length self.old.q) }
         requires low { pos 0 ≤ℤ t }
         requires high { t ≤ℤ pos (2 ^ 62) }
         ensures control_scan { IsControlScan (length self.old.q) control_scan.new }
         ensures acted { IsActed control_scan.old.inputs control_scan.old.stores control_scan.old.presets.items t self.old self.new }
-        ensures ticks { Within (2 * length self.old.q + 2 * length self.old.blocks.items) ticks.old ticks.new }
+        ensures ticks { Within (2 * length self.old.q + 2 * length self.old.blocks) ticks.old ticks.new }
     {
-        step_delays(&mut self.blocks, control_scan, t, ticks);
+        self.blocks.step(control_scan, t, ticks);
         self.act_all(control_scan, ticks);
     }
 
@@ -162,11 +171,11 @@ impl ControlState {
     pub fn copy_from(&mut self, other: &ControlState, ticks: &mut Ticks)
         requires sized { IsStateSized (length self.old.q) self.old }
         requires other { IsStateSized (length self.old.q) other.now }
-        requires blocks { length other.now.blocks.items ≡ length self.old.blocks.items }
+        requires blocks { map delay_of other.now.blocks ≡ map delay_of self.old.blocks }
         ensures copy { IsCopy other.now self.new }
-        ensures ticks { Within (length self.old.q + length self.old.blocks.items) ticks.old ticks.new }
+        ensures ticks { Within (length self.old.q + length self.old.blocks) ticks.old ticks.new }
     {
         self.copy_all(other, ticks);
-        copy_blocks(&mut self.blocks, &other.blocks, ticks);
+        self.blocks.copy_from(&other.blocks, ticks);
     }
 }

@@ -1,35 +1,113 @@
-//! On-delays of a scan.
+//! The on-delays of a program instance (2.5.2.3.4).
 
-ghost use Rattle.std.specs.Prelude.{◌≡◌, ◌+◌, ◌*◌, ◌^◌, ◌≤ℤ◌, pos, length};
-ghost use Rattle.sfc_base.specs.Ticks.{Within};
-ghost use Rattle.sfc_action.specs.Private.TimedSets.{none};
-ghost use Rattle.sfc_action.specs.Private.Delays.{AreStepped, AreOf, gathered};
-ghost use Rattle.sfc_action.specs.Private.ControlScans.{IsControlScan};
+use crate::blocks::Block;
+use sfc_flags::flags::Flags;
+use sfc_tables::grouped_places::GroupedPlaces;
+use std::marker::Model;
 
-use crate::blocks::{Block, gather, step_blocks};
+/// The on-delays of all actions. A scan handles those that run and those that have their input. Clauses see all of them.
+pub struct Delays {
+    blocks: Vec<Block>,
+    // The places of those that a scan handles, whatever its inputs are: those that aren't idle.
+    live: Flags,
+    places: GroupedPlaces,
+}
+
+// By hand, so that a caller that drops one proves one call.
+impl Drop for Delays {
+    fn drop(self) {
+        let Delays {
+            blocks: _,
+            live: _,
+            places: _,
+        } = self;
+    }
+}
+
+impl Model for Delays {
+    ghost use Rattle.std.specs.Prelude.{List};
+    ghost use Rattle.sfc_action.specs.declared.blocks.Block.{Block};
+    ghost use Rattle.sfc_action.specs.Private.Live.{AreKept};
+
+    ghost Value = { List Block };
+
+    ghost view = { λ delays. delays.blocks.items };
+
+    ghost invariant = { λ delays. AreKept delays.blocks.items delays.live delays.places };
+}
+
+use crate::blocks::{DelayCall, step_live};
 use crate::control_scan::ControlScan;
+use crate::places::list_places;
+use crate::waking::{copy_live, wake};
 use sfc_base::ticks::Ticks;
+use std::alloc::{AllocError, Global};
 
-/// One scan of all on-delays at t; those that have elapsed are noted.
-pub fn step_delays(blocks: &mut [Block], control_scan: &mut ControlScan, t: i64, ticks: &mut Ticks)
-    requires sized { IsControlScan (length control_scan.old.presets.items) control_scan.old }
-    requires actions { AreOf (length control_scan.old.presets.items) blocks.old }
-    requires low { pos 0 ≤ℤ t }
-    requires high { t ≤ℤ pos (2 ^ 62) }
-    ensures sized { IsControlScan (length control_scan.old.presets.items) control_scan.new }
-    ensures stepped { AreStepped control_scan.old.inputs control_scan.old.stores control_scan.old.presets.items t blocks.old blocks.new }
-    ensures control_scan { control_scan.new
-        ≡ record control_scan.old { elapsed = gathered blocks.new (none (length control_scan.old.presets.items)) } }
-    ensures ticks { Within (length control_scan.old.presets.items + 2 * length blocks.old) ticks.old ticks.new }
-{
-    step_blocks(
-        blocks,
-        &control_scan.inputs,
-        &control_scan.stores,
-        &control_scan.presets,
-        t,
-        ticks,
-    );
-    control_scan.elapsed.clear(ticks);
-    gather(&mut control_scan.elapsed, blocks, ticks);
+impl Delays {
+    ghost use Rattle.std.specs.Prelude.{◌≡◌, ◌≤ℤ◌, ◌^◌, ◌+◌, ◌*◌, pos, length, map, All, IfOk};
+    ghost use Rattle.sfc_base.specs.Ticks.{Within};
+    ghost use Rattle.sfc_action.specs.Private.ControlScans.{IsControlScan};
+    ghost use Rattle.sfc_action.specs.Private.TimedSets.{none};
+    ghost use Rattle.sfc_action.specs.Private.Delays.{AreOf, AreStepped, gathered};
+    ghost use Rattle.sfc_action.specs.Private.Keeping.{delay_of};
+    ghost use Rattle.sfc_action.specs.Private.Listing.{IsNew};
+    ghost use Rattle.sfc_action.specs.Private.Calling.{AreCalled};
+
+    /// These on-delays, which are of so many actions and have seen no call. The one error is that memory was refused.
+    pub fn new(alloc: Global, actions: usize, blocks: Vec<Block>) -> Result<Delays, AllocError>
+        requires actions { AreOf actions blocks.items }
+        requires fresh { All IsNew blocks.items }
+        ensures { IfOk result (λ delays. delays ≡ blocks.items) }
+    {
+        let places = list_places(alloc, actions, &blocks)?;
+        let live = Flags::new(alloc, blocks.len())?;
+        Ok(Delays {
+            blocks,
+            live,
+            places,
+        })
+    }
+
+    /// One scan of all on-delays at t, with the inputs, the flip-flops and the times of the control scan, which gets the sets of those
+    /// that have elapsed.
+    pub fn step(&mut self, control_scan: &mut ControlScan, t: i64, ticks: &mut Ticks)
+        requires sized { IsControlScan (length control_scan.old.presets.items) control_scan.old }
+        requires actions { AreOf (length control_scan.old.presets.items) self.old }
+        requires called { AreCalled control_scan.old.inputs control_scan.old.stores control_scan.old.called }
+        requires elapsed { control_scan.old.elapsed ≡ none (length control_scan.old.presets.items) }
+        requires low { pos 0 ≤ℤ t }
+        requires high { t ≤ℤ pos (2 ^ 62) }
+        ensures sized { IsControlScan (length control_scan.old.presets.items) control_scan.new }
+        ensures len { length self.new ≡ length self.old }
+        ensures stepped { AreStepped control_scan.old.inputs control_scan.old.stores control_scan.old.presets.items t self.old self.new }
+        ensures control_scan { control_scan.new
+            ≡ record control_scan.old { elapsed = gathered self.new (none (length control_scan.old.presets.items)) } }
+        ensures ticks { Within (length control_scan.old.presets.items + 2 * length self.old) ticks.old ticks.new }
+    {
+        wake(&mut self.live, &self.places, &control_scan.called, ticks);
+        let call = DelayCall {
+            inputs: &control_scan.inputs,
+            stores: &control_scan.stores,
+            presets: &control_scan.presets,
+            t,
+        };
+        step_live(
+            &mut self.blocks,
+            &mut self.live,
+            &mut control_scan.elapsed,
+            call,
+            ticks,
+        );
+    }
+
+    /// Takes over what the other has seen, which has the same on-delays.
+    pub fn copy_from(&mut self, other: &Delays, ticks: &mut Ticks)
+        requires { map delay_of other.now ≡ map delay_of self.old }
+        ensures copy { self.new ≡ other.now }
+        ensures ticks { Within (length self.old) ticks.old ticks.new }
+    {
+        self.blocks.copy_from_slice(&other.blocks);
+        copy_live(&mut self.live, &other.live);
+        ticks.tick_all(self.blocks.len());
+    }
 }

@@ -1,7 +1,9 @@
 //! Of 64 actions the inputs of their blocks in one scan.
 
 ghost use Rattle.std.specs.Prelude.{◌≡◌, ℕ, true, false};
+ghost use Rattle.sfc_flags.specs.Words.{has};
 ghost use Rattle.sfc_action.specs.Private.Rows.{inputs_in, stores_in, has_fault};
+ghost use Rattle.sfc_action.specs.Private.Calling.{called_of};
 
 use crate::store_words::StoreWords;
 use crate::timed_words::TimedWords;
@@ -32,5 +34,17 @@ impl InputWords {
             .or(stored_delayed)
             .or(stored_limited)
             .is_none()
+    }
+
+    /// The actions with an on-delay that has its input, with these flip-flops.
+    pub fn called(self, stores: StoreWords) -> Word
+        ensures { (a : ℕ) → has result a ≡ called_of (inputs_in self a) (stores_in stores a) }
+    {
+        self.timed
+            .limited
+            .or(self.timed.delayed)
+            .or(self.timed.delayed_stored)
+            .or(stores.stored_delayed)
+            .or(stores.stored_limited)
     }
 }

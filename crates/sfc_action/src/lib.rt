@@ -11,6 +11,7 @@
 //! - `state_words`: the same of 64 actions.
 //! - `laws`: what holds of the definitions themselves.
 //! - `listing`: which on-delays there are.
+//! - `places`: where the on-delays of each action stand.
 //! - `marking`: what the active steps give as inputs.
 //! - `scan_words`: of 64 actions the inputs of a scan, its flip-flops and its on-delays.
 //! - `control_scan`: one scan of action control.
@@ -18,6 +19,7 @@
 //! - `stores`: flip-flops of actions.
 //! - `timed`: sets of actions by the qualifiers with a time.
 //! - `timed_words`: the same of 64 actions.
+//! - `waking`: which on-delays a scan handles.
 #![tactic(auto)]
 
 mod blocks;
@@ -32,9 +34,11 @@ mod inputs;
 pub mod laws;
 mod listing;
 mod marking;
+mod places;
 mod scan_words;
 mod state_words;
 mod store_words;
 mod stores;
 mod timed;
 mod timed_words;
+mod waking;

@@ -1,8 +1,6 @@
 //! Flip-flops of actions.
 
-use crate::inputs::Inputs;
 use crate::store_words::StoreWords;
-use sfc_base::ticks::Ticks;
 use sfc_evolve::new_sets::three_sets;
 use sfc_flags::flags::Flags;
 use std::alloc::{AllocError, Global};
@@ -27,11 +25,9 @@ impl Drop for Stores {
 
 impl Stores {
     ghost use Rattle.std.specs.Prelude.{◌≡◌, ◌<◌, ◌≤◌, ℕ, length, IfOk};
-    ghost use Rattle.sfc_base.specs.Ticks.{Within};
     ghost use Rattle.sfc_flags.specs.Words.{word_count, word_of, ArePut};
-    ghost use Rattle.sfc_action.specs.Private.Marking.{AreSized};
-    ghost use Rattle.sfc_action.specs.Private.Storing.{AreStores, no_stores, AreNext};
-    ghost use Rattle.sfc_action.specs.Private.Rows.{stores_in, store_row, input_row, no_store, stores_after};
+    ghost use Rattle.sfc_action.specs.Private.Storing.{AreStores, no_stores};
+    ghost use Rattle.sfc_action.specs.Private.Rows.{stores_in, store_row, no_store};
 
     /// None is set. The one error is that memory was refused.
     pub fn new(alloc: Global, actions: usize) -> Result<Self, AllocError>
@@ -69,34 +65,5 @@ impl Stores {
         self.set.put_word(number, words.set);
         self.stored_delayed.put_word(number, words.stored_delayed);
         self.stored_limited.put_word(number, words.stored_limited);
-    }
-
-    // The same as `update`, of the 64 actions of one word.
-    fn update_word(&mut self, stored: &Stores, inputs: &Inputs, number: usize)
-        requires sized { AreStores (length self.old.set) self.old }
-        requires stored { AreStores (length self.old.set) stored.now }
-        requires inputs { AreSized (length self.old.set) inputs.now }
-        requires number { number < word_count self.old.set }
-        ensures sized { AreStores (length self.old.set) self.new }
-        ensures put { ArePut number (λ a. stores_after (input_row inputs.now a) (store_row stored.now a))
-            (store_row self.old) (store_row self.new) }
-    {
-        let words = stored.words(number).after(inputs.words(number));
-        self.put(number, words);
-    }
-
-    /// Becomes what these inputs make of what was stored.
-    pub fn update(&mut self, stored: &Stores, inputs: &Inputs, ticks: &mut Ticks)
-        requires sized { AreStores (length self.old.set) self.old }
-        requires stored { AreStores (length self.old.set) stored.now }
-        requires inputs { AreSized (length self.old.set) inputs.now }
-        ensures sized { AreStores (length self.old.set) self.new }
-        ensures next { AreNext stored.now inputs.now self.new }
-        ensures ticks { Within (length self.old.set) ticks.old ticks.new }
-    {
-        for number in 0..self.set.words() {
-            ticks.tick();
-            self.update_word(stored, inputs, number);
-        }
     }
 }

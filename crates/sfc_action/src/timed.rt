@@ -2,7 +2,6 @@
 
 use crate::timed_words::TimedWords;
 use sfc_base::qualifier::TimedQualifier;
-use sfc_base::ticks::Ticks;
 use sfc_evolve::new_sets::{three_sets, two_sets};
 use sfc_flags::flags::Flags;
 use std::alloc::{AllocError, Global};
@@ -31,7 +30,6 @@ impl Drop for Timed {
 
 impl Timed {
     ghost use Rattle.std.specs.Prelude.{◌≡◌, ◌<◌, ◌≤◌, ℕ, length, IfOk};
-    ghost use Rattle.sfc_base.specs.Ticks.{Within};
     ghost use Rattle.sfc_flags.specs.Flags.{flag};
     ghost use Rattle.sfc_flags.specs.Words.{word_count, word_of, ArePut};
     ghost use Rattle.sfc_action.specs.Private.TimedSets.{AreAll, none, with_action, by};
@@ -80,18 +78,6 @@ impl Timed {
         self.stored_delayed.put_word(number, words.stored_delayed);
         self.delayed_stored.put_word(number, words.delayed_stored);
         self.stored_limited.put_word(number, words.stored_limited);
-    }
-
-    /// No action is in any.
-    pub fn clear(&mut self, ticks: &mut Ticks)
-        requires { AreAll (length self.old.limited) self.old }
-        ensures sets { self.new ≡ none (length self.old.limited) }
-        ensures ticks { Within (length self.old.limited) ticks.old ticks.new }
-    {
-        for number in 0..self.limited.words() {
-            ticks.tick();
-            self.put(number, TimedWords::none());
-        }
     }
 
     /// Puts the action in the set of this qualifier.

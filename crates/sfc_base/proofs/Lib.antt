@@ -5,5 +5,6 @@ pub mod Runs
 pub mod Words
 pub mod Written
 pub mod TimeTexts
+pub mod Decimals
 pub mod ByPlace
 pub mod NamePlaces

@@ -1,6 +1,6 @@
 //! The text of a TIME value (B.1.2.3.1).
 
-ghost use Rattle.std.specs.Prelude.{◌≡◌, ◌<◌, ◌^◌, ◌∷◌, []};
+ghost use Rattle.std.specs.Prelude.{◌≡◌, ◌<◌, ◌^◌, ◌/◌, ◌%◌, ◌∷◌, []};
 ghost use Rattle.std.specs.Fmt.{decimal};
 ghost use Rattle.sfc_base.specs.TimeText as text;
 ghost use Rattle.sfc_base.specs.Writing.{Writes};
@@ -12,24 +12,50 @@ use std::io::Write;
 /// The units above milliseconds, falling.
 const UNITS: [Unit; 4] = [Unit::Day, Unit::Hour, Unit::Minute, Unit::Second];
 
-// Writes a digit.
-fn put_digit<W: Write>(digit: u64, writer: &mut W) -> Result<(), WriteFault>
-    requires { digit < 10 }
-    ensures { Writes (W.contents writer.old) (W.contents writer.new) result (text.digit digit ∷ []) }
+// The digit of ones, of tens and of hundreds.
+fn digit(number: u64) -> u8
+    ensures { result ≡ text.digit (number % 10) }
 {
-    let byte = b'0' + digit as u8;
-    put_all(writer, &[byte])
+    b'0' + (number % 10) as u8
+}
+
+// Writes a number of at most three digits.
+#[tactic(auto, using(crate::proofs::Decimals::two_digits, crate::proofs::Decimals::three_digits, std::proofs::lemmas::Fmt::decimal_digit))]
+fn put_short<W: Write>(number: u64, writer: &mut W) -> Result<(), WriteFault>
+    requires { number < 1000 }
+    ensures { Writes (W.contents writer.old) (W.contents writer.new) result (decimal number) }
+{
+    let ones = digit(number);
+    if number < 10 {
+        return put_all(writer, &[ones]);
+    }
+    let tens = digit(number / 10);
+    if number < 100 {
+        return put_all(writer, &[tens, ones]);
+    }
+    put_all(writer, &[digit(number / 100), tens, ones])
+}
+
+// Writes the last three digits of a number.
+fn put_group<W: Write>(number: u64, writer: &mut W) -> Result<(), WriteFault>
+    ensures { Writes (W.contents writer.old) (W.contents writer.new) result
+        (text.digit (number / 100 % 10) ∷ text.digit (number / 10 % 10) ∷ text.digit (number % 10) ∷ []) }
+{
+    put_all(
+        writer,
+        &[digit(number / 100), digit(number / 10), digit(number)],
+    )
 }
 
 /// Writes a number in decimal digits. It takes no memory. After a fault a front of them was written.
 pub fn put_decimal<W: Write>(number: u64, writer: &mut W) -> Result<(), WriteFault>
     ensures { Writes (W.contents writer.old) (W.contents writer.new) result (decimal number) }
 {
-    if number < 10 {
-        return put_digit(number, writer);
+    if number < 1000 {
+        return put_short(number, writer);
     }
-    put_decimal(number / 10, writer)?;
-    put_digit(number % 10, writer)
+    put_decimal(number / 1000, writer)?;
+    put_group(number, writer)
 }
 
 // Writes the unit of the milliseconds, with thousandths before it as a fraction without zeros at its end.
@@ -63,16 +89,22 @@ fn put_milliseconds<W: Write>(micros: u64, writer: &mut W) -> Result<(), WriteFa
     put_thousandths(micros % 1000, writer)
 }
 
-// Writes the unit, and `_` where more follows.
-#[tactic(auto, using(crate::proofs::Written::then_writes, crate::proofs::Written::front_first))]
-fn put_unit<W: Write>(unit: Unit, is_last: bool, writer: &mut W) -> Result<(), WriteFault>
-    ensures { Writes (W.contents writer.old) (W.contents writer.new) result (text.unit_text unit is_last) }
+// The unit, and `_` where more follows.
+fn unit_bytes(unit: Unit, is_last: bool) -> &'static [u8]
+    ensures { result.now ≡ text.unit_text unit is_last }
 {
-    put_all(writer, unit.spelling())?;
-    if is_last {
-        return Ok(());
+    match (unit, is_last) {
+        (Unit::Day, true) => b"d",
+        (Unit::Day, false) => b"d_",
+        (Unit::Hour, true) => b"h",
+        (Unit::Hour, false) => b"h_",
+        (Unit::Minute, true) => b"m",
+        (Unit::Minute, false) => b"m_",
+        (Unit::Second, true) => b"s",
+        (Unit::Second, false) => b"s_",
+        (Unit::Millisecond, true) => b"ms",
+        (Unit::Millisecond, false) => b"ms_",
     }
-    put_all(writer, b"_")
 }
 
 // Writes one part, and `_` where more follows; nothing of zero.
@@ -89,7 +121,7 @@ fn put_part<W: Write>(
         return Ok(());
     }
     put_decimal(count, writer)?;
-    put_unit(unit, is_last, writer)
+    put_all(writer, unit_bytes(unit, is_last))
 }
 
 // Writes the nonzero parts of the units and of milliseconds, joined by `_`.
@@ -107,11 +139,15 @@ fn put_parts<W: Write>(units: &[Unit], micros: u64, writer: &mut W) -> Result<()
 }
 
 // Writes the parts without their sign.
+#[tactic(auto, using(crate::proofs::TimeTexts::short_parts))]
 fn put_magnitude<W: Write>(micros: u64, writer: &mut W) -> Result<(), WriteFault>
     ensures { Writes (W.contents writer.old) (W.contents writer.new) result (text.magnitude_text micros) }
 {
     if micros == 0 {
         return put_all(writer, b"0s");
+    }
+    if micros < 1_000_000 {
+        return put_milliseconds(micros, writer);
     }
     put_parts(&UNITS, micros, writer)
 }

@@ -13,7 +13,8 @@ use Rattle.sfc_base.specs.declared.references.StepId.{StepId}
 use Rattle.sfc_flags.specs.Flags.{flag, places_from}
 use Rattle.sfc_base.specs.declared.ids.TransitionId.{TransitionId}
 use Rattle.sfc_tables.specs.Tables.{Tabled, AreTables, sides_at}
-use Rattle.sfc_tables.specs.Departures.{first_of, first_steps, first_step, places_of, departures}
+use Rattle.sfc_tables.specs.Places.{places_of}
+use Rattle.sfc_tables.specs.Departures.{first_of, first_steps, first_step, departures}
 use Rattle.sfc_evolve.specs.Clearing.{of_rank, transition_count, preceding_of, is_enabled}
 use Rattle.sfc_evolve.specs.Private.Keeping.{AreInstants, number, set_at, FieldsAgree}
 use Rattle.sfc_evolve.specs.Private.Proposing.{proposed_by, AreProposed}
@@ -37,7 +38,7 @@ or_true : (b : Bool) → (b || true) ≡ true
 or_true true = refl
 or_true false = refl
 
-filter_has : (p : ℕ → Bool) (xs : List ℕ) (j : ℕ) → p j ≡ true → list_any (λ x. x == j) xs ≡ true
+pub filter_has : (p : ℕ → Bool) (xs : List ℕ) (j : ℕ) → p j ≡ true → list_any (λ x. x == j) xs ≡ true
     → list_any (λ x. x == j) (filter p xs) ≡ true
 filter_has p [] j on e = e
 filter_has p (x ∷ xs) j on e = elim (bool_cases (x == j)) [
@@ -54,7 +55,7 @@ filter_has p (x ∷ xs) j on e = elim (bool_cases (x == j)) [
     by true rest = ap (λ b. (x == j) || b) rest ∙ or_true (x == j)
     by false rest = rest
 
-range_has : (a n j : ℕ) → a ≤ j → j < a + n → list_any (λ x. x == j) (range_with_len a n) ≡ true
+pub range_has : (a n j : ℕ) → a ≤ j → j < a + n → list_any (λ x. x == j) (range_with_len a n) ≡ true
 range_has a zero j le lt = absurd (omega arith)
 range_has a (suc n) j le lt = by (a == j) refl (λ more. range_has (a + 1) n j more (omega arith))
   where

@@ -1,8 +1,8 @@
 -- The transitions that a step is the first to precede (2.6.3, 2.6.5).
-use Rattle.std.specs.Prelude.{ℕ, ◌==◌, List, [], ◌∷◌, length, map, filter, slice_index_or}
-use Rattle.std.specs.List.{range_with_len}
+use Rattle.std.specs.Prelude.{ℕ, List, [], ◌∷◌, map, slice_index_or}
 use Rattle.sfc_base.specs.declared.references.StepId.{StepId}
 use Rattle.sfc_base.specs.declared.ids.TransitionId.{TransitionId}
+use Rattle.sfc_tables.specs.Places.{places_of}
 use Rattle.sfc_tables.specs.Tables.{Sides, Tabled, sides_at}
 
 -- the first of these steps
@@ -17,10 +17,6 @@ first_steps sides ranked = map (λ tr. first_of (sides_at sides tr).preceding) r
 -- the first of the steps before the transition at this place in rank order
 abbrev pub first_step : Tabled → ℕ → ℕ
 first_step tables j = slice_index_or (first_steps tables.sides tables.ranked) j 0
-
--- the places of this step among these
-abbrev pub places_of : List ℕ → ℕ → List ℕ
-places_of firsts s = filter (λ j. slice_index_or firsts j 0 == s) (range_with_len 0 (length firsts))
 
 -- the places in rank order of the transitions whose first preceding step is this one
 abbrev pub departures : Tabled → ℕ → List ℕ

@@ -7,6 +7,7 @@ pub mod Actions
 -- the tables of a chart
 pub mod Tables
 -- the transitions that a step is the first to precede
+pub mod Places
 pub mod Departures
 -- What private clauses cite.
 pub mod Private

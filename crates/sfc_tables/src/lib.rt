@@ -3,6 +3,7 @@
 //! - `action_blocks`: the associations of steps with actions.
 //! - `action_key`: keys by which Boolean actions are found; `action_list`: all actions by number.
 //! - `departures`: the transitions that a step is the first to precede.
+//! - `grouped_places`: the places of a list by their groups.
 //! - `groups`: associations in groups of one step or one action.
 //! - `laws`: what holds of the definitions themselves.
 //! - `links`: the steps before and after each transition.
@@ -15,6 +16,7 @@ mod action_blocks;
 mod action_key;
 mod action_list;
 mod departures;
+pub mod grouped_places;
 mod groups;
 pub mod laws;
 mod links;

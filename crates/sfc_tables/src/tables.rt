@@ -1,7 +1,7 @@
 //! The tables of a chart.
 
 use crate::action_blocks::ActionBlocks;
-use crate::departures::Departures;
+use crate::grouped_places::GroupedPlaces;
 use crate::links::Links;
 use sfc_base::ids::TransitionId;
 use sfc_base::limits::{ASSOCIATIONS, TRANSITIONS};
@@ -14,7 +14,7 @@ pub struct Tables {
     links: Links,
     ranked: Vec<TransitionId>,
     blocks: ActionBlocks,
-    departures: Departures,
+    departures: GroupedPlaces,
 }
 
 // By hand, so that a caller that drops one proves one call.
@@ -49,6 +49,7 @@ ghost use Rattle.sfc_plant.specs.Chart.{Counts, IsChart};
 ghost use Rattle.sfc_tables.specs.Departures.{departures};
 ghost use Rattle.sfc_tables.specs.Tables.{sides_at, tables_of, IsTablesOf, AreTables};
 
+use crate::departures::list_departures;
 use crate::rank;
 use crate::step_action::StepAction;
 use sfc_base::ids::ActionNumber;
@@ -75,7 +76,7 @@ impl Tables {
         let links = Links::build(alloc, chart.transitions.as_slice())?;
         let ranked = rank::rank_order(alloc, chart.transitions.as_slice())?;
         let blocks = ActionBlocks::build(alloc, chart)?;
-        let departures = Departures::build(alloc, initial.len(), &links, &ranked)?;
+        let departures = list_departures(alloc, initial.len(), &links, &ranked)?;
         Ok(Tables {
             initial,
             links,
@@ -154,7 +155,7 @@ impl Tables {
         requires { step.0 < length self.now.initial }
         ensures { result.now ≡ departures self.now step.0 }
     {
-        self.departures.of_step(step)
+        self.departures.of_group(step.0 as usize)
     }
 
     /// The action of this number (2.6.4.1).

@@ -6,7 +6,7 @@ use sfc_base::ticks::Ticks;
 
 /// Is on when its input has been TRUE for the time PT that it took as the input rose. A PT of 0 or less ends at once
 /// (our choice), and a change of PT while the input is TRUE has no effect (our choice).
-#[derive(Drop)]
+#[derive(Clone, Copy)]
 pub struct OnDelay {
     is_running: bool,
     start: i64,
@@ -17,10 +17,11 @@ pub struct OnDelay {
 
 #[tactic(auto, unfolding(crate::specs::Agreement::OnDelayAgrees))]
 impl OnDelay {
-    ghost use Rattle.std.specs.Prelude.{◌≡◌, ◌^◌, List, [], ◌∷◌, pos, ◌≤ℤ◌};
+    ghost use Rattle.std.specs.Prelude.{◌≡◌, ◌^◌, List, [], ◌∷◌, pos, ◌≤ℤ◌, is_some};
     ghost use Rattle.sfc_base.specs.Ticks.{Within};
     ghost use Rattle.sfc_timers.specs.Timers.{Reading, has_elapsed};
     ghost use Rattle.sfc_timers.specs.Agreement.{OnDelayAgrees};
+    ghost use Rattle.sfc_timers.specs.Past.{on_delay_in};
 
     /// A timer that has seen no call.
     pub fn new() -> Self
@@ -53,6 +54,14 @@ impl OnDelay {
             self.preset = pt;
         }
         has_waited(self.start, self.preset, t)
+    }
+
+    /// Whether the input of the newest call was TRUE: its time runs, or has elapsed. FALSE before the first call.
+    #[tactic(auto, unfolding(crate::specs::Past::on_delay_in))]
+    pub fn is_running(&self) -> bool
+        ensures { result ≡ is_some (on_delay_in self.now) }
+    {
+        self.is_running
     }
 
     /// Takes over what the other has seen.

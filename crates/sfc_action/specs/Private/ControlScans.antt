@@ -10,4 +10,5 @@ pub record IsControlScan (n : ℕ) (control_scan : ControlScan) : Type 0 where
   pub inputs : AreSized n control_scan.inputs
   pub presets : length control_scan.presets.items ≡ n
   pub stores : AreStores n control_scan.stores
+  pub called : length control_scan.called ≡ n
   pub elapsed : AreAll n control_scan.elapsed

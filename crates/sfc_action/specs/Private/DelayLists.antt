@@ -1,5 +1,5 @@
 -- Which on-delays the control blocks have: one for each action and each of its qualifiers with a time.
-use Rattle.std.specs.Prelude.{ℕ, ◌==◌, Bool, true, false, cond, ◌&&◌, List, [], ◌∷◌, ◌++◌, length}
+use Rattle.std.specs.Prelude.{ℕ, ◌==◌, Bool, true, false, cond, ◌&&◌, List, [], ◌∷◌, ◌++◌}
 use Rattle.std.specs.List.{list_any}
 use Rattle.sfc_base.specs.declared.qualifier.TimedQualifier.{TimedQualifier}
 use Rattle.sfc_base.specs.declared.qualifier.TimedQualifier.TheVariants.{Limited, Delayed, StoredDelayed}
@@ -7,7 +7,6 @@ use Rattle.sfc_base.specs.declared.qualifier.TimedQualifier.TheVariants.{Delayed
 use Rattle.sfc_plant.specs.declared.association.Qualifier.{Qualifier}
 use Rattle.sfc_plant.specs.declared.association.Qualifier.TheVariants.{Timed}
 use Rattle.sfc_tables.specs.declared.step_action.StepAction.{StepAction}
-use Rattle.sfc_tables.specs.Tables.{Tabled}
 
 abbrev pub same_timed : TimedQualifier → TimedQualifier → Bool
 same_timed Limited Limited = true
@@ -35,6 +34,3 @@ with_delay delays a _ = delays
 abbrev pub with_delays : List Delay → List StepAction → List Delay
 with_delays delays [] = delays
 with_delays delays (x ∷ xs) = with_delays (with_delay delays x.action.0 x.qualifier) xs
-
-abbrev pub delay_count : Tabled → ℕ
-delay_count tables = length (with_delays [] tables.associations)

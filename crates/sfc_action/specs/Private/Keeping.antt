@@ -1,6 +1,6 @@
 -- What is kept of the scans of a life, in place of their rows.
 use Rattle.std.specs.Prelude.{ℕ, ◌≡◌, ◌<◌, ◌≤◌, Bool, true, false}
-use Rattle.std.specs.Prelude.{not, ◌&&◌, ◌||◌, List, length, replicate, All, ℤ}
+use Rattle.std.specs.Prelude.{not, ◌&&◌, ◌||◌, List, [], length, map, replicate, All, ℤ}
 use Rattle.std.specs.List.{list_any}
 use Rattle.sfc_base.specs.declared.qualifier.TimedQualifier.{TimedQualifier}
 use Rattle.sfc_base.specs.declared.qualifier.TimedQualifier.TheVariants.{Limited, Delayed, StoredDelayed}
@@ -19,11 +19,10 @@ use Rattle.sfc_action.specs.declared.control_state.ControlState.{ControlState}
 use Rattle.sfc_action.specs.declared.control_scan.ControlScan.{ControlScan}
 use Rattle.sfc_action.specs.ActionControl.{Scan, S, L, D, P, SD, DS, SL, P1, P0}
 use Rattle.sfc_action.specs.ActionControl.{input, stored, delayed_then_stored, reading, column, q, executed}
-use Rattle.sfc_action.specs.Private.DelayLists.{Delay, is_delay, delay_count}
+use Rattle.sfc_action.specs.Private.DelayLists.{Delay, is_delay, with_delays}
 use Rattle.sfc_action.specs.Private.TimedSets.{none}
 use Rattle.sfc_action.specs.Private.Storing.{AreStores, no_stores, IsNext}
 use Rattle.sfc_action.specs.Private.Delays.{AreStepped, AreOf, gathered}
-use Rattle.sfc_action.specs.Private.Copies.{AreCopied}
 use Rattle.sfc_action.specs.Private.ControlScans.{IsControlScan}
 use Rattle.sfc_action.specs.Private.Outputs.{q_at}
 
@@ -36,7 +35,7 @@ pub record IsStateSized (n : ℕ) (state : ControlState) : Type 0 where
   pub delayed_stored : length state.delayed_stored ≡ n
   pub q : length state.q ≡ n
   pub executed : length state.executed ≡ n
-  pub blocks : AreOf n state.blocks.items
+  pub blocks : AreOf n state.blocks
 
 -- and a scan of as many
 pub record AreOfOneSize (state : ControlState) (control_scan : ControlScan) : Type 0 where
@@ -52,17 +51,17 @@ pub record IsFresh (n : ℕ) (delays : List Block) (state : ControlState) : Type
   pub delayed_stored : state.delayed_stored ≡ replicate n false
   pub q : state.q ≡ replicate n false
   pub executed : state.executed ≡ replicate n false
-  pub blocks : state.blocks.items ≡ delays
+  pub blocks : state.blocks ≡ delays
 
 -- what a scan at t made of all, with these inputs, flip-flops and times
 pub record IsActed (inputs : Inputs) (next : Stores) (presets : List ℤ) (t : ℤ) (old new : ControlState) : Type 0 where
   pub sized : IsStateSized (length old.q) new
-  pub same_blocks : length new.blocks.items ≡ length old.blocks.items
-  pub blocks : AreStepped inputs next presets t old.blocks.items new.blocks.items
-  pub delayed_stored : IsNext old.delayed_stored (gathered new.blocks.items (none (length old.q))).delayed_stored
+  pub same_blocks : length new.blocks ≡ length old.blocks
+  pub blocks : AreStepped inputs next presets t old.blocks new.blocks
+  pub delayed_stored : IsNext old.delayed_stored (gathered new.blocks (none (length old.q))).delayed_stored
       inputs.reset new.delayed_stored
   pub outputs : (a : ℕ) → flag new.q a
-      ≡ q_at inputs next (gathered new.blocks.items (none (length old.q))) old.pulse new.delayed_stored a
+      ≡ q_at inputs next (gathered new.blocks (none (length old.q))) old.pulse new.delayed_stored a
   pub executions : (a : ℕ) → flag new.executed a
       ≡ (((flag old.q a || flag new.q a) || (flag inputs.rising_pulse a && not (flag old.rising_pulse a)))
       || (flag old.falling_pulse a && not (flag inputs.falling_pulse a)))
@@ -79,8 +78,7 @@ pub record IsCopy (from to : ControlState) : Type 0 where
   pub delayed_stored : to.delayed_stored ≡ from.delayed_stored
   pub q : to.q ≡ from.q
   pub executed : to.executed ≡ from.executed
-  pub same_blocks : length to.blocks.items ≡ length from.blocks.items
-  pub blocks : AreCopied from.blocks.items to.blocks.items
+  pub blocks : to.blocks ≡ from.blocks
 
 -- ---- which on-delays there are
 
@@ -101,9 +99,9 @@ IsCovered blocks x = has_block blocks x.action.0 x.qualifier ≡ true
 -- for the actions of these tables, with an on-delay for each qualifier with a time that an action has
 pub record AreFor (tables : Tabled) (state : ControlState) : Type 0 where
   pub sized : IsStateSized (length tables.actions) state
-  pub count : length state.blocks.items ≡ delay_count tables
-  pub few : length state.blocks.items ≤ length tables.associations
-  pub covered : All (IsCovered state.blocks.items) tables.associations
+  pub delays : map delay_of state.blocks ≡ with_delays [] tables.associations
+  pub few : length state.blocks ≤ length tables.associations
+  pub covered : All (IsCovered state.blocks) tables.associations
 
 -- ---- what is kept after these scans
 
@@ -136,4 +134,4 @@ pub record IsStateAfter (tables : Tabled) (state : ControlState) (h : List Scan)
   pub delayed_stored : AreEach (length tables.actions) state.delayed_stored (λ a. delayed_then_stored tables a DS h)
   pub q : AreEach (length tables.actions) state.q (λ a. q tables a h)
   pub executed : AreEach (length tables.actions) state.executed (λ a. executed tables a h)
-  pub blocks : All (BlockAgrees tables h) state.blocks.items
+  pub blocks : All (BlockAgrees tables h) state.blocks

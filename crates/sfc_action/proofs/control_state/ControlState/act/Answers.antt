@@ -1,6 +1,5 @@
-use Rattle.std.proofs.Common.{◌≡◌, ℕ, ◌∙◌, ap, sym, subst, length, arith, SFits, w64, to_z, of_z, List}
+use Rattle.std.proofs.Common.{◌≡◌, ℕ, ◌∙◌, ap, sym, subst, length, SFits, w64, to_z, of_z, List}
 use Rattle.std.proofs.lemmas.Int.{to_z-of_z}
-use Rattle.std.proofs.lemmas.List.{with_items_is}
 use Rattle.sfc_action.specs.declared.blocks.Block.{Block}
 use Rattle.sfc_action.specs.declared.control_scan.ControlScan.{ControlScan}
 use Rattle.sfc_action.specs.Private.TimedSets.{none}
@@ -13,24 +12,21 @@ use Rattle.sfc_action.proofs.Rows.{same_stores}
 use Rattle.sfc_action.proofs.Sizes.{still_of}
 use Rattle.sfc_action.proofs.control_state.ControlState.act.Goals as goal
 
-pub step_delays-requires-clause-sized : goal.step_delays-requires-clause-sized
-step_delays-requires-clause-sized c =
+pub step-requires-clause-sized : goal.step-requires-clause-sized
+step-requires-clause-sized c =
     subst (λ (n : ℕ). IsControlScan n c.args.control_scan.now) (sym c.requires.control_scan.presets) c.requires.control_scan
 
-pub step_delays-requires-clause-actions : goal.step_delays-requires-clause-actions
-step_delays-requires-clause-actions c =
-    subst (λ (n : ℕ). AreOf n c.deref_mut.result.now) (sym c.requires.control_scan.presets)
-    (subst (AreOf (length c.args.self.now.q)) (sym c.deref_mut.ensures.value) c.requires.sized.blocks)
+pub step-requires-clause-actions : goal.step-requires-clause-actions
+step-requires-clause-actions c =
+    subst (λ (n : ℕ). AreOf n c.args.self.now.blocks) (sym c.requires.control_scan.presets) c.requires.sized.blocks
+
+pub step-requires-clause-elapsed : goal.step-requires-clause-elapsed
+step-requires-clause-elapsed c = c.requires.elapsed ∙ ap none (sym c.requires.control_scan.presets)
 
 pub act_all-requires-clause-sized : goal.act_all-requires-clause-sized
 act_all-requires-clause-sized c =
     let n = length c.args.self.now.q in
     let sized = c.requires.sized in
-    let was = c.deref_mut.ensures.value in
-    let delays = c.step_delays.new.blocks in
-    let of : AreOf n delays =
-    still_of n c.deref_mut.result.now delays c.step_delays.auto.blocks (λ k d lt. (c.step_delays.ensures.stepped k d lt).action)
-    (subst (AreOf n) (sym was) sized.blocks) in
     record {
       pulse = sized.pulse;
       rising_pulse = sized.rising_pulse;
@@ -39,16 +35,17 @@ act_all-requires-clause-sized c =
       delayed_stored = sized.delayed_stored;
       q = sized.q;
       executed = sized.executed;
-      blocks = subst (AreOf n) (sym (with_items_is c.args.self.now.blocks delays (omega arith))) of;
+      blocks = still_of n c.args.self.now.blocks c.step.new.self c.step.ensures.len (λ k d lt. (c.step.ensures.stepped k d lt).action)
+          sized.blocks;
     }
 
 pub act_all-requires-clause-control_scan : goal.act_all-requires-clause-control_scan
 act_all-requires-clause-control_scan c =
-    subst (λ (n : ℕ). IsControlScan n c.step_delays.new.control_scan) c.requires.control_scan.presets c.step_delays.ensures.sized
+    subst (λ (n : ℕ). IsControlScan n c.step.new.control_scan) c.requires.control_scan.presets c.step.ensures.sized
 
 pub returns-clause-control_scan : goal.returns-clause-control_scan
 returns-clause-control_scan c =
-    subst (λ (n : ℕ). IsControlScan n c.step_delays.new.control_scan) c.requires.control_scan.presets c.step_delays.ensures.sized
+    subst (λ (n : ℕ). IsControlScan n c.step.new.control_scan) c.requires.control_scan.presets c.step.ensures.sized
 
 pub returns-clause-acted : goal.returns-clause-acted
 returns-clause-acted c =
@@ -56,26 +53,21 @@ returns-clause-acted c =
     let s = c.args.control_scan.now in
     let n = length old.q in
     let presets_len : length s.presets.items ≡ n = c.requires.control_scan.presets in
-    let delays = c.step_delays.new in
+    let scan = c.step.new.control_scan in
     let new = c.act_all.new.self in
-    let was : c.deref_mut.result.now ≡ old.blocks.items = c.deref_mut.ensures.value in
-    let same_length : length delays.blocks ≡ length old.blocks.items = omega (arith, ap length was) in
-    let items : new.blocks.items ≡ delays.blocks =
-    ap (λ b. b.items) c.act_all.ensures.blocks ∙ with_items_is old.blocks delays.blocks (omega arith) in
-    let elapsed : delays.control_scan.elapsed ≡ gathered new.blocks.items (none n) =
-    ap (λ (x : ControlScan). x.elapsed) c.step_delays.ensures.control_scan ∙ (λ i. gathered (sym items i) (none (presets_len i))) in
-    let inputs : delays.control_scan.inputs ≡ s.inputs = ap (λ (x : ControlScan). x.inputs) c.step_delays.ensures.control_scan in
-    let stores : delays.control_scan.stores ≡ s.stores = ap (λ (x : ControlScan). x.stores) c.step_delays.ensures.control_scan in
-    let stepped : AreStepped s.inputs s.stores s.presets.items (to_z w64 (of_z w64 c.args.t)) old.blocks.items new.blocks.items =
-    subst (λ (xs : List Block). AreStepped s.inputs s.stores s.presets.items (to_z w64 (of_z w64 c.args.t)) old.blocks.items xs)
-    (sym items)
-    (subst (λ (xs : List Block). AreStepped s.inputs s.stores s.presets.items (to_z w64 (of_z w64 c.args.t)) xs delays.blocks)
-    was c.step_delays.ensures.stepped) in
+    let items : new.blocks ≡ c.step.new.self = c.act_all.ensures.blocks in
+    let elapsed : scan.elapsed ≡ gathered new.blocks (none n) =
+    ap (λ (x : ControlScan). x.elapsed) c.step.ensures.control_scan ∙ (λ i. gathered (sym items i) (none (presets_len i))) in
+    let inputs : scan.inputs ≡ s.inputs = ap (λ (x : ControlScan). x.inputs) c.step.ensures.control_scan in
+    let stores : scan.stores ≡ s.stores = ap (λ (x : ControlScan). x.stores) c.step.ensures.control_scan in
+    let stepped : AreStepped s.inputs s.stores s.presets.items (to_z w64 (of_z w64 c.args.t)) old.blocks new.blocks =
+    subst (λ (xs : List Block). AreStepped s.inputs s.stores s.presets.items (to_z w64 (of_z w64 c.args.t)) old.blocks xs)
+    (sym items) c.step.ensures.stepped in
     let fits : SFits w64 c.args.t = c.ranges.t in
-    let stepped_at : AreStepped s.inputs s.stores s.presets.items c.args.t old.blocks.items new.blocks.items =
-    simp to_z-of_z at stepped in
-    let same_blocks : length new.blocks.items ≡ length old.blocks.items = ap length items ∙ same_length in
-    let rows : (a : ℕ) → state_row new a ≡ state_after (input_row s.inputs a) (store_row s.stores a) (timed_row (gathered new.blocks.items (none n)) a) (state_row old a) =
+    let stepped_at : AreStepped s.inputs s.stores s.presets.items c.args.t old.blocks new.blocks = simp to_z-of_z at stepped in
+    let same_blocks : length new.blocks ≡ length old.blocks = ap length items ∙ c.step.ensures.len in
+    let rows : (a : ℕ) → state_row new a ≡ state_after (input_row s.inputs a) (store_row s.stores a)
+    (timed_row (gathered new.blocks (none n)) a) (state_row old a) =
     λ a. c.act_all.ensures.rows a
     ∙ (λ i. state_after (input_row (inputs i) a) (store_row (stores i) a) (timed_row (elapsed i) a) (state_row old a)) in
     let sized = c.act_all.ensures.sized in
@@ -85,7 +77,7 @@ returns-clause-acted c =
       blocks = stepped_at;
       delayed_stored = λ a. ap (λ r. r.delayed_stored) (rows a);
       outputs = λ a. ap (λ r. r.q) (rows a)
-          ∙ ap (q_of (input_row s.inputs a) (store_row s.stores a) (timed_row (gathered new.blocks.items (none n)) a) (flag old.pulse a))
+          ∙ ap (q_of (input_row s.inputs a) (store_row s.stores a) (timed_row (gathered new.blocks (none n)) a) (flag old.pulse a))
           (sym (ap (λ r. r.delayed_stored) (rows a)));
       executions = λ a. ap (λ r. r.executed) (rows a)
           ∙ ap (executed_of (input_row s.inputs a) (state_row old a)) (sym (ap (λ r. r.q) (rows a)));

@@ -1,8 +1,4 @@
-use Rattle.std.proofs.Common.{◌≡◌, ap, length, subst, sym, List, arith}
-use Rattle.std.specs.Vec.{with_items}
-use Rattle.std.proofs.lemmas.List.{with_items_is}
-use Rattle.sfc_action.specs.declared.blocks.Block.{Block}
-use Rattle.sfc_action.specs.Private.Copies.{AreCopied}
+use Rattle.std.proofs.Common.{ap, length}
 use Rattle.sfc_flags.proofs.Wordwise.{same_flags}
 use Rattle.sfc_action.proofs.Rows.{same_stores}
 use Rattle.sfc_action.proofs.control_state.ControlState.copy_from.Goals as goal
@@ -12,10 +8,6 @@ returns-clause-copy c =
     let n = length c.args.self.now.q in
     let x = c.copy_all.new.self in let y = c.args.other.now in
     let hx = c.copy_all.ensures.sized in let hy = c.requires.other in let rows = c.copy_all.ensures.rows in
-    let was : c.deref_mut.result.now ≡ x.blocks.items = c.deref_mut.ensures.value in
-    let items : (with_items x.blocks c.copy_blocks.new.blocks).items ≡ c.copy_blocks.new.blocks =
-    with_items_is x.blocks c.copy_blocks.new.blocks (omega (arith, ap length was)) in
-    let from : c.deref.result.now ≡ y.blocks.items = c.deref.ensures.value in
     record {
       pulse = same_flags n x.pulse y.pulse hx.pulse hy.pulse (λ a. ap (λ r. r.pulse) (rows a));
       rising_pulse = same_flags n x.rising_pulse y.rising_pulse hx.rising_pulse hy.rising_pulse (λ a. ap (λ r. r.rising_pulse) (rows a));
@@ -24,7 +16,5 @@ returns-clause-copy c =
       delayed_stored = same_flags n x.delayed_stored y.delayed_stored hx.delayed_stored hy.delayed_stored (λ a. ap (λ r. r.delayed_stored) (rows a));
       q = same_flags n x.q y.q hx.q hy.q (λ a. ap (λ r. r.q) (rows a));
       executed = same_flags n x.executed y.executed hx.executed hy.executed (λ a. ap (λ r. r.executed) (rows a));
-      same_blocks = omega (arith, ap length items, ap length was, ap length from, c.requires.blocks, ap (λ b. length b.items) c.copy_all.ensures.blocks);
-      blocks = subst (λ (xs : List Block). AreCopied y.blocks.items xs) (sym items)
-          (subst (λ (ys : List Block). AreCopied ys c.copy_blocks.new.blocks) from c.copy_blocks.ensures.copied);
+      blocks = c.copy_from.ensures.copy;
     }

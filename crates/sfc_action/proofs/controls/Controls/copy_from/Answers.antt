@@ -1,6 +1,7 @@
 use Rattle.std.proofs.Common.{ℕ, ◌∙◌, ap, length, subst, sym}
+use Rattle.std.specs.Prelude.{map}
 use Rattle.sfc_action.specs.declared.control_state.ControlState.{ControlState}
-use Rattle.sfc_action.specs.Private.Keeping.{IsCopy, IsStateSized}
+use Rattle.sfc_action.specs.Private.Keeping.{IsCopy, IsStateSized, delay_of}
 use Rattle.sfc_action.specs.Agreement.{ControlsAgree}
 use Rattle.sfc_action.proofs.Fitting.{is_for, are_for, same_actions, same_delays}
 use Rattle.sfc_action.proofs.Starts.{copied_for, copied_state}
@@ -8,9 +9,9 @@ use Rattle.sfc_action.proofs.controls.Controls.copy_from.Goals as goal
 
 pub copy_from-requires-clause-blocks : goal.copy_from-requires-clause-blocks
 copy_from-requires-clause-blocks c =
-    ap (λ (k : ControlState). length k.blocks.items) c.other.view_is
+    ap (λ (k : ControlState). map delay_of k.blocks) c.other.view_is
     ∙ same_delays c.args.tables.now c.args.other.now c.args.self.now c.requires.others c.requires.own
-    ∙ sym (ap (λ (k : ControlState). length k.blocks.items) c.self.view_is)
+    ∙ sym (ap (λ (k : ControlState). map delay_of k.blocks) c.self.view_is)
 
 pub copy_from-requires-clause-other : goal.copy_from-requires-clause-other
 copy_from-requires-clause-other c =

@@ -5,7 +5,8 @@ use Rattle.sfc_plant.specs.declared.chart.Chart.{Chart}
 use Rattle.sfc_plant.specs.declared.chart.Step.{Step}
 use Rattle.sfc_plant.specs.declared.chart.Transition.{Transition}
 use Rattle.std.specs.List.{range_with_len}
-use Rattle.sfc_tables.specs.Departures.{first_steps, places_of}
+use Rattle.sfc_tables.specs.Places.{places_of}
+use Rattle.sfc_tables.specs.Departures.{first_steps}
 use Rattle.sfc_tables.specs.Ranks.{priorities_of, IsRankOrder}
 use Rattle.sfc_tables.specs.Tables.{Tabled, sides_of, tables_of, IsTablesOf, AreTables}
 use Rattle.sfc_tables.specs.Private.Blocks.{tabled}
@@ -13,13 +14,14 @@ use Rattle.sfc_tables.proofs.RankOrders.{ranked_is}
 use Rattle.sfc_tables.proofs.Sound.{tables_sound}
 use Rattle.sfc_tables.proofs.Departing.{ranked_within}
 use Rattle.sfc_tables.proofs.tables.Tables.build.Goals as goal
+use Rattle.sfc_tables.proofs.tables.Tables.build.Goals.{After-deref}
 
 tables_are : (chart : Chart) (tables : Tabled) → IsTablesOf chart tables → tables ≡ tables_of chart
 tables_are chart tables made =
     let ranked = ranked_is (priorities_of chart.transitions) tables.ranked made.ranked in
     rw (← made.associations, ← made.actions, ← ranked, ← made.sides, ← made.initial) refl
 
-made_before : (c : goal.After-deref)
+made_before : (c : After-deref)
     → IsTablesOf c.args.chart.now
     (tabled c.in_ok-initial.initial.items c.in_ok-links.links c.in_ok-ranked.ranked.items c.in_ok-blocks.blocks)
 made_before c = record {
@@ -31,7 +33,7 @@ made_before c = record {
   associations = ap (λ blocks. blocks.associations) c.in_ok-blocks.ensures;
 }
 
-sound_before : (c : goal.After-deref)
+sound_before : (c : After-deref)
     → AreTables (tabled c.in_ok-initial.initial.items c.in_ok-links.links c.in_ok-ranked.ranked.items c.in_ok-blocks.blocks)
 sound_before c =
     tables_sound c.requires.chart.0 c.args.chart.now c.requires.chart.1
@@ -68,8 +70,8 @@ invariant_of-result c = record {
       ∙ (λ i. map (places_of (first_steps c.in_ok-links.links (c.deref.ensures.value i))) (range_with_len 0 (long i))));
 }
 
-pub build-requires-3 : goal.build-requires-3
-build-requires-3 c =
+pub list_departures-requires : goal.list_departures-requires
+list_departures-requires c =
     record {
       within = rw c.deref.ensures.value
           (ranked_within

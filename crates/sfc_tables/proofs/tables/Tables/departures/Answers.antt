@@ -7,22 +7,13 @@ use Rattle.sfc_tables.specs.Tables.{Tabled}
 use Rattle.sfc_tables.specs.Private.Blocks.{tabled}
 use Rattle.sfc_tables.proofs.tables.Tables.departures.Goals as goal
 
-pub of_step-requires : goal.of_step-requires
-of_step-requires c =
-    let tables : Tabled = tabled c.self.inside.initial.items c.self.inside.links c.self.inside.ranked.items c.self.inside.blocks in
-    let long : length c.self.inside.departures ≡ length (map (departures tables) (range_with_len 0 (length tables.initial))) =
-    ap length c.self.invariant.places in
-    let all = length-map-range_with_len (departures tables) 0 (length tables.initial) in
-    let same = ap (λ (t : Tabled). length t.initial) c.self.view_is in
-    omega (arith, long, all, same, c.requires)
-
 pub returns : goal.returns
 returns c =
     let s = c.args.step.0 in
     let tables : Tabled = tabled c.self.inside.initial.items c.self.inside.links c.self.inside.ranked.items c.self.inside.blocks in
     let same = ap (λ (t : Tabled). length t.initial) c.self.view_is in
     let lt : s < length tables.initial = omega (arith, same, c.requires) in
-    c.of_step.ensures
+    c.of_group.ensures
     ∙ ap (λ (lists : List (List ℕ)). slice_index_or lists s []) c.self.invariant.places
     ∙ get_or-map-range_with_len (departures tables) 0 (length tables.initial) s s [] lt (omega arith)
     ∙ ap (λ (t : Tabled). departures t s) c.self.view_is

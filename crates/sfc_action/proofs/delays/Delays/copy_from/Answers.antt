@@ -1,0 +1,26 @@
+use Rattle.std.proofs.Common.{◌≡◌, ◌∙◌, ◌<◌, ℕ, List, true, length, ap, sym, subst, arith}
+use Rattle.std.specs.Prelude.{map}
+use Rattle.std.proofs.lemmas.List.{length-map}
+use Rattle.sfc_action.specs.declared.blocks.Block.{Block}
+use Rattle.sfc_action.specs.Private.Keeping.{delay_of}
+use Rattle.sfc_action.specs.Private.Live.{AreKept, has_place}
+use Rattle.sfc_action.proofs.Live.{same_actions}
+use Rattle.sfc_action.proofs.delays.Delays.copy_from.Goals as goal
+
+pub invariant_of-self : goal.invariant_of-self
+invariant_of-self c =
+    let own = c.self.inside.blocks.items in
+    let from = c.other.inside.blocks.items in
+    let same : map delay_of from ≡ map delay_of own =
+    ap (map delay_of) c.other.view_is ∙ c.requires ∙ ap (map delay_of) (sym c.self.view_is) in
+    let long : length from ≡ length own = sym (length-map from delay_of) ∙ ap length same ∙ length-map own delay_of in
+    let items : c.copy_from_slice.new.self.items ≡ from = c.copy_from_slice.ensures.items ∙ c.deref.ensures.value in
+    let kept : AreKept from c.other.inside.live c.self.inside.places = record {
+      size = c.other.invariant.size;
+      idle = c.other.invariant.idle;
+      listed = λ k d lt.
+          ap (λ a. has_place c.self.inside.places a k) (same_actions from own same k d)
+          ∙ c.self.invariant.listed k d (omega (arith, lt, long));
+    } in
+    subst (λ (xs : List Block). AreKept xs c.copy_live.new.live c.self.inside.places) (sym items)
+    (subst (λ live. AreKept from live c.self.inside.places) (sym c.copy_live.ensures) kept)
