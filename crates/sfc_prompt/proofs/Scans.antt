@@ -1,26 +1,23 @@
--- A scan that goes on to the next release.
-use Rattle.std.proofs.Common.{◌≡◌, ◌∙◌, refl, sym, ap, ℕ, List, ◌++◌, length, take, Option, Some, None, Ok, Err, ℤ, rules}
+-- Scans that go on to a next release.
+use Rattle.std.proofs.Common.{◌≡◌, ◌∙◌, refl, sym, ap, ℕ, List, ◌++◌, length, take, Option, Some, None, ℤ}
 use Rattle.std.proofs.Math.Seq.{take-append_seam}
-use Rattle.sfc_debug.specs.Histories.{CommandHistory, TimedCommand}
-use Rattle.sfc_debug.specs.Verdict.{history_by}
 use Rattle.sfc_base.specs.declared.ids.TaskId.{TaskId}
 use Rattle.sfc_events.specs.declared.command.Command.TheVariants.{Scan}
+use Rattle.sfc_debug.specs.Histories.{CommandHistory}
 use Rattle.sfc_output.specs.Steered.{Steered}
 use Rattle.sfc_monitor.specs.Output.{Verdict, debugger_of}
-use Rattle.sfc_prompt.specs.Scanning.{goes_on, raw_of, release_in, scan_after}
-use Rattle.sfc_prompt.specs.Sessions.{last_instant, with_lines}
+use Rattle.sfc_prompt.specs.Scanning.{goes_on, next_among, raw_of, release_in, scan_after, first_scan_after, scan_at, tasks_of, turn_among, turn_instant, turn_scan}
+use Rattle.sfc_prompt.specs.Sessions.{last_instant}
 
--- what tells a release was refused, and so changed nothing
-pub history_stays : (v : Verdict) (next : ℤ) (timed : TimedCommand) (h : CommandHistory) → release_in v ≡ Some next → history_by v timed h ≡ h
-history_stays (Ok answer) next timed h e = search rules
-history_stays (Err refusal) next timed h e = refl
-
-pub lines_stay : (v : Verdict) (next : ℤ) (lines more : List ℕ) → release_in v ≡ Some next → with_lines v lines more ≡ lines
-lines_stay (Ok answer) next lines more e = search rules
-lines_stay (Err refusal) next lines more e = refl
-
+-- what stands in front of a text that is cut off
 pub front : (n : ℕ) (xs ys : List ℕ) → n ≡ length xs → take n (xs ++ ys) ≡ xs
 front n xs ys e = ap (λ m. take m (xs ++ ys)) e ∙ take-append_seam xs ys
+
+pub none_if : (o : Option ℤ) → ((x : ℤ) → o ≡ Some x → ⊥) → o ≡ None
+none_if None never = refl
+none_if (Some x) never = absurd (never x refl)
+
+-- ---- of a task
 
 -- where the first try went
 module _ (st : Steered) (h : CommandHistory) (task : TaskId) (at : ℤ) (v : Verdict) (last : at ≡ last_instant h)
@@ -37,6 +34,30 @@ module _ (st : Steered) (h : CommandHistory) (task : TaskId) (at : ℤ) (v : Ver
   pub there : (next : ℤ) → release_in v ≡ Some next → (Scan task, raw_of (last_instant h) run next) ≡ scan_after st h task
   there next e = ap (λ o. (Scan task, goes_on o (last_instant h) run)) (tried (Some next) e)
 
-pub none_if : (o : Option ℤ) → ((x : ℤ) → o ≡ Some x → ⊥) → o ≡ None
-none_if None never = refl
-none_if (Some x) never = absurd (never x refl)
+-- ---- of the task that goes first
+
+module _ (st : Steered) (h : CommandHistory) (at : ℤ) (last : at ≡ last_instant h) where
+  abbrev clock : ℤ
+  clock = ((debugger_of st).state h).clock.instant
+
+  abbrev turn : ℤ → Option ℕ
+  turn raw = turn_among st h raw (tasks_of st)
+
+  abbrev next : ℤ → Option ℤ
+  next raw = next_among st h raw None (tasks_of st)
+
+  -- it is this task's turn at the instant of the last command
+  pub first_here : (task : ℕ) → turn at ≡ Some task → (Scan (record { 0 = task }), at) ≡ first_scan_after st h
+  first_here task is =
+      let at_last : turn (last_instant h) ≡ Some task = sym (ap turn last) ∙ is in
+      ap (λ r. (Scan (record { 0 = task }), r)) last
+      ∙ ap (λ o. turn_scan o (last_instant h)) (sym at_last)
+      ∙ ap (λ o. scan_at st h (turn_instant o (next (last_instant h)) (last_instant h) clock)) (sym at_last)
+
+  -- it is no task's turn there
+  pub first_later : (o : Option ℤ) → turn at ≡ None → next at ≡ o → scan_at st h (goes_on o (last_instant h) clock) ≡ first_scan_after st h
+  first_later o none found =
+      let at_last : turn (last_instant h) ≡ None = sym (ap turn last) ∙ none in
+      let next_last : next (last_instant h) ≡ o = sym (ap next last) ∙ found in
+      ap (λ n. scan_at st h (turn_instant None n (last_instant h) clock)) (sym next_last)
+      ∙ ap (λ t. scan_at st h (turn_instant t (next (last_instant h)) (last_instant h) clock)) (sym at_last)

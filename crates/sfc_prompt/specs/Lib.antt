@@ -2,7 +2,21 @@
 
 -- a session: what it has accepted, what it has said of it, and its script
 pub mod Sessions
--- where a scan goes on to that has no instant
+-- which scan it is that has no instant, or that names no task
 pub mod Scanning
+-- scans that are tried
+pub mod Trying
+-- text that is put behind other text; what a text is as a condition
+pub mod Notes
+pub mod Conditions
+-- the words of a line, and what it says
+pub mod Words
+pub mod Lines
+-- what a line tells the session to do, and what becomes of it
+pub mod Orders
+-- what a prompt holds
+pub mod Prompts
 -- what a session writes
 pub mod Transcripts
+-- what it writes to a device
+pub mod Desks

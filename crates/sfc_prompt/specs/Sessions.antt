@@ -1,6 +1,7 @@
 -- A session: commands one after the other, each answered with the lines that a replay writes for it.
 use Rattle.std.specs.Prelude.{◌≡◌, ℕ, ◌^◌, nat_lt, cond, List, [], ◌∷◌, ◌++◌, length, ℤ, pos, Ok, Err, codes}
 use Rattle.sfc_base.specs.TimeText.{time_text}
+use Rattle.sfc_events.specs.declared.command.Command.{Command}
 use Rattle.sfc_events.specs.declared.command.Point.{Point}
 use Rattle.sfc_events.specs.declared.refusal.Refusal.TheVariants.{NoSuchCondition}
 use Rattle.sfc_debug.specs.declared.break_condition.BreakCondition.{BreakCondition}
@@ -10,6 +11,7 @@ use Rattle.sfc_debug.specs.Histories.{CommandHistory, TimedCommand}
 use Rattle.sfc_debug.specs.Longer.{break_when, with_condition}
 use Rattle.sfc_debug.specs.Meaning.{IsAccepted}
 use Rattle.sfc_debug.specs.Verdict.{history_by}
+use Rattle.sfc_output.specs.Commands.{command_text}
 use Rattle.sfc_output.specs.Steered.{Steered, steered_by}
 use Rattle.sfc_monitor.specs.Output.{Verdict, command_lines, debugger_of, text_of}
 use Rattle.sfc_prompt.specs.declared.session.Session.{Session}
@@ -97,3 +99,47 @@ script_line raw words = time_text raw ++ codes " " ++ words ++ codes "\n"
 abbrev pub script_after : Verdict → List ℕ → ℤ → List ℕ → List ℕ
 script_after (Ok answer) script raw words = script ++ script_line raw words
 script_after (Err refusal) script raw words = script
+
+-- the words of a command as a replay writes them, without the blank in front
+abbrev pub behind_blank : List ℕ → List ℕ
+behind_blank [] = []
+behind_blank (blank ∷ words) = words
+
+abbrev pub words_of : Steered → Command → List ℕ
+words_of steered command = behind_blank (command_text steered command)
+
+-- ---- from one session to the next
+
+-- A command that these words say was given behind those that were accepted. It is answered by the verdict, and its lines, which are put behind
+-- other text, are those of a replay. Where it was accepted it is a line of the script.
+pub record IsGiven (old new : Session) (before behind : List ℕ) (told : Verdict) (h : CommandHistory) (lines : List ℕ) (timed : TimedCommand)
+    (words : List ℕ) : Type 0 where
+  pub steered : steered_in new ≡ steered_in old
+  pub answer : told ≡ (debugger_of (steered_in old)).verdict h timed
+  pub written : behind ≡ before ++ command_lines (debugger_of (steered_in old)) (text_of (steered_in old)) h timed
+  pub said : HasSaid new ((debugger_of (steered_in old)).after h timed) (with_lines ((debugger_of (steered_in old)).verdict h timed) lines
+      (command_lines (debugger_of (steered_in old)) (text_of (steered_in old)) h timed))
+  pub script : script_in new ≡ script_after told (script_in old) timed.1 words
+
+-- the same of a command in the words of a replay
+abbrev pub IsTaken : Session → Session → List ℕ → List ℕ → Verdict → CommandHistory → List ℕ → TimedCommand → Type 0
+IsTaken old new before behind told h lines timed =
+    IsGiven old new before behind told h lines timed (words_of (steered_in old) timed.0)
+
+-- A breakpoint with a condition, which these words say, was set or refused behind those commands: the same with the longer table.
+pub record IsWaiting (old new : Session) (before behind : List ℕ) (told : Verdict) (h : CommandHistory) (lines : List ℕ) (placed : Point × ℤ)
+    (condition : BreakCondition) (words : List ℕ) : Type 0 where
+  pub steered : steered_in new ≡ steered_after told (steered_in old) condition
+  pub answer : told ≡ waiting_verdict (steered_in old) h placed condition
+  pub written : behind ≡ before ++ lines_by (waiting_verdict (steered_in old) h placed condition) (with_one_more (steered_in old) condition) h
+      (waiting (steered_in old) placed condition)
+  pub said : HasSaid new (history_by (waiting_verdict (steered_in old) h placed condition) (waiting (steered_in old) placed condition) h)
+      (with_lines (waiting_verdict (steered_in old) h placed condition) lines (lines_by (waiting_verdict (steered_in old) h placed condition)
+      (with_one_more (steered_in old) condition) h (waiting (steered_in old) placed condition)))
+  pub script : script_in new ≡ script_after told (script_in old) placed.1 words
+
+-- Nothing more was accepted.
+pub record Stays (old new : Session) (h : CommandHistory) (lines : List ℕ) : Type 0 where
+  pub steered : steered_in new ≡ steered_in old
+  pub said : HasSaid new h lines
+  pub script : script_in new ≡ script_in old

@@ -1,6 +1,9 @@
 //! Steps that are taken one after the other: until a condition is TRUE, or so often.
 
-use crate::expression::{Fault, read_condition};
+ghost use Rattle.std.specs.Prelude.{◌≡◌, IsFalse, None, OnOk};
+ghost use Rattle.sfc_prompt.specs.Notes.{Adds};
+
+use crate::expression::{Fault, Found, UNKNOWN_PROGRAM, read_condition};
 use crate::session::Session;
 use crate::step::Step;
 use crate::words::{first_word, from_word};
@@ -62,7 +65,9 @@ impl Course {
     }
 
     /// Whether its condition is TRUE as the session stands. One that ends with a fault isn't.
-    pub fn is_met(&self, session: &Session) -> bool {
+    pub fn is_met(&self, session: &Session) -> bool
+        ensures { self.now.condition ≡ None → IsFalse result }
+    {
         match &self.condition {
             Some(condition) => holds(session, condition),
             None => false,
@@ -70,7 +75,10 @@ impl Course {
     }
 
     /// With one step more behind it.
-    pub fn behind_step(self, is_taken: bool) -> Course {
+    pub fn behind_step(self, is_taken: bool) -> Course
+        ensures step { result.step ≡ self.step }
+        ensures condition { result.condition ≡ self.condition }
+    {
         let Course {
             step,
             condition,
@@ -86,7 +94,10 @@ impl Course {
     }
 
     /// Puts at the end how it ended, where it had a condition. The one error is that memory was refused.
-    pub fn append_end(&self, out: &mut Vec<u8>, session: &Session) -> Result<(), AllocError> {
+    pub fn append_end(&self, out: &mut Vec<u8>, session: &Session) -> Result<(), AllocError>
+        ensures adds { OnOk result (Adds out.old.items out.new.items) }
+        ensures nothing { self.now.condition ≡ None → OnOk result (out.new.items ≡ out.old.items) }
+    {
         if self.condition.is_none() {
             return Ok(());
         }
@@ -171,7 +182,8 @@ pub fn read_wanted(alloc: Global, plant: &Plant, text: &[u8]) -> Result<Wanted, 
         return Ok(Wanted::Several);
     };
     match read_condition(alloc, plant, asked.program, asked.text)? {
-        Ok(condition) => Ok(Wanted::Until(condition)),
-        Err(fault) => Ok(Wanted::Faulty(fault)),
+        Found::Condition(condition) => Ok(Wanted::Until(condition)),
+        Found::NoProgram => Ok(Wanted::Faulty(UNKNOWN_PROGRAM)),
+        Found::Faulty(fault) => Ok(Wanted::Faulty(fault)),
     }
 }

@@ -1,12 +1,14 @@
 //! Lines as they come from a reader.
 
-ghost use Rattle.std.specs.Prelude.{◌≡◌, ◌≤◌, ◌-◌, length, drop, IfOk};
+ghost use Rattle.std.specs.Prelude.{◌≡◌, ◌≤◌, [], length, IfOk, OnOk};
+ghost use Rattle.sfc_base.specs.Writing.{Writes};
+ghost use Rattle.sfc_prompt.specs.Desks.{Tells};
+ghost use Rattle.sfc_prompt.specs.Prompts.{session_in};
 
 use crate::archive::Archive;
 use crate::course::MOST;
 use crate::prompt::{Flow, Prompt};
 use crate::session::Session;
-use sfc_asking::note::append_note;
 use sfc_base::write_fault::put_all;
 use sfc_monitor::chart::plant_of_text;
 use sfc_monitor::input::read_to_end;
@@ -48,7 +50,11 @@ struct Held<W: Write, A: Archive> {
 
 impl<W: Write, A: Archive> Held<W, A> {
     // Writes what waits, and flushes the writer.
-    fn pass(&mut self) -> Result<(), MonitorError> {
+    fn pass(&mut self) -> Result<(), MonitorError>
+        ensures session { session_in self.new.prompt ≡ session_in self.old.prompt }
+        ensures empty { OnOk result (self.new.text.items ≡ []) }
+        ensures written { Writes (W.contents self.old.w) (W.contents self.new.w) result self.old.text.items }
+    {
         put_all(&mut self.w, &self.text)?;
         self.text.clear();
         match self.w.flush() {
@@ -57,48 +63,95 @@ impl<W: Write, A: Archive> Held<W, A> {
         }
     }
 
+    // Takes the next of the steps that are under way, and writes its answer; whether more are under way.
+    fn step(&mut self) -> Result<bool, MonitorError>
+        requires { self.old.text.items ≡ [] }
+        ensures empty { OnOk result (self.new.text.items ≡ []) }
+        ensures tells { Tells (session_in self.old.prompt) (session_in self.new.prompt) (W.contents self.old.w) (W.contents self.new.w) result }
+    {
+        let goes_on = self.prompt.go_on(&mut self.text)?;
+        self.pass()?;
+        Ok(goes_on)
+    }
+
     // Takes the steps that are under way, each answer written at once.
-    fn go_on(&mut self) -> Result<(), MonitorError> {
+    fn go_on(&mut self) -> Result<(), MonitorError>
+        requires { self.old.text.items ≡ [] }
+        ensures empty { OnOk result (self.new.text.items ≡ []) }
+        ensures tells { Tells (session_in self.old.prompt) (session_in self.new.prompt) (W.contents self.old.w) (W.contents self.new.w) result }
+    {
         'steps: for _ in 0..=MOST {
-            if !self.prompt.go_on(&mut self.text)? {
-                break;
+            if !self.step()? {
+                return Ok(());
             }
-            self.pass()?;
         }
-        self.pass()
+        Ok(())
+    }
+
+    // Answers a line.
+    fn answer(&mut self, line: &[u8]) -> Result<Flow, MonitorError>
+        requires { self.old.text.items ≡ [] }
+        ensures empty { OnOk result (self.new.text.items ≡ []) }
+        ensures tells { Tells (session_in self.old.prompt) (session_in self.new.prompt) (W.contents self.old.w) (W.contents self.new.w) result }
+    {
+        let flow = self.prompt.obey(line, &mut self.archive, &mut self.text)?;
+        self.pass()?;
+        Ok(flow)
     }
 
     // Obeys a line.
-    fn obey(&mut self, line: &[u8]) -> Result<Flow, MonitorError> {
-        let flow = self.prompt.obey(line, &mut self.archive, &mut self.text)?;
-        self.pass()?;
+    fn obey(&mut self, line: &[u8]) -> Result<Flow, MonitorError>
+        requires { self.old.text.items ≡ [] }
+        ensures empty { OnOk result (self.new.text.items ≡ []) }
+        ensures tells { Tells (session_in self.old.prompt) (session_in self.new.prompt) (W.contents self.old.w) (W.contents self.new.w) result }
+    {
+        let flow = self.answer(line)?;
         self.go_on()?;
         Ok(flow)
     }
 
+    // Writes a text that answers nothing.
+    fn tell(&mut self, text: &[u8]) -> Result<(), MonitorError>
+        requires { self.old.text.items ≡ [] }
+        ensures empty { OnOk result (self.new.text.items ≡ []) }
+        ensures tells { Tells (session_in self.old.prompt) (session_in self.new.prompt) (W.contents self.old.w) (W.contents self.new.w) result }
+    {
+        append(&mut self.text, text)?;
+        self.pass()
+    }
+
     // Obeys a line, or tells that it is too long.
-    fn take(&mut self, line: &[u8]) -> Result<Flow, MonitorError> {
+    fn take(&mut self, line: &[u8]) -> Result<Flow, MonitorError>
+        requires { self.old.text.items ≡ [] }
+        ensures empty { OnOk result (self.new.text.items ≡ []) }
+        ensures tells { Tells (session_in self.old.prompt) (session_in self.new.prompt) (W.contents self.old.w) (W.contents self.new.w) result }
+    {
         if self.is_cut || line.len() > LONGEST {
             self.is_cut = false;
-            append_note(&mut self.text, b"the line has more than 1048576 bytes")?;
-            self.pass()?;
+            self.tell(b"; the line has more than 1048576 bytes\n")?;
             return Ok(Flow::GoesOn);
         }
         self.obey(line)
     }
 
     // Shows where to write, where somebody sits there.
-    fn invite(&mut self) -> Result<(), MonitorError> {
-        if self.is_terminal {
-            append(&mut self.text, b"sfc> ")?;
-            self.pass()?;
+    fn invite(&mut self) -> Result<(), MonitorError>
+        requires { self.old.text.items ≡ [] }
+        ensures empty { OnOk result (self.new.text.items ≡ []) }
+        ensures tells { Tells (session_in self.old.prompt) (session_in self.new.prompt) (W.contents self.old.w) (W.contents self.new.w) result }
+    {
+        if !self.is_terminal {
+            return Ok(());
         }
-        Ok(())
+        self.tell(b"sfc> ")
     }
 
     // Obeys each line that has its end, until the session ends; how many bytes are left behind these, and whether it goes on.
     fn take_lines(&mut self, bytes: &[u8]) -> Result<(usize, Flow), MonitorError>
-        ensures { IfOk result (λ r. r.0 ≤ length bytes.now) }
+        requires { self.old.text.items ≡ [] }
+        ensures left { IfOk result (λ r. r.0 ≤ length bytes.now) }
+        ensures empty { OnOk result (self.new.text.items ≡ []) }
+        ensures tells { Tells (session_in self.old.prompt) (session_in self.new.prompt) (W.contents self.old.w) (W.contents self.new.w) result }
     {
         let mut rest = bytes;
         'lines: while let Some((line, behind)) = ended_line(rest) {
@@ -111,7 +164,11 @@ impl<W: Write, A: Archive> Held<W, A> {
     }
 
     // Obeys each line that a piece ends behind what waits.
-    fn take_piece(&mut self, waiting: &mut Vec<u8>, piece: &[u8]) -> Result<Flow, MonitorError> {
+    fn take_piece(&mut self, waiting: &mut Vec<u8>, piece: &[u8]) -> Result<Flow, MonitorError>
+        requires { self.old.text.items ≡ [] }
+        ensures empty { OnOk result (self.new.text.items ≡ []) }
+        ensures tells { Tells (session_in self.old.prompt) (session_in self.new.prompt) (W.contents self.old.w) (W.contents self.new.w) result }
+    {
         waiting.extend_from_slice(piece)?;
         let (left, flow) = self.take_lines(waiting)?;
         keep_last(waiting, left);
@@ -123,15 +180,38 @@ impl<W: Write, A: Archive> Held<W, A> {
     }
 
     // Obeys the last line, where it has no end.
-    fn take_last(&mut self, waiting: &[u8]) -> Result<(), MonitorError> {
-        if !waiting.is_empty() || self.is_cut {
-            let _ = self.take(waiting)?;
+    fn take_rest(&mut self, waiting: &[u8]) -> Result<(), MonitorError>
+        requires { self.old.text.items ≡ [] }
+        ensures empty { OnOk result (self.new.text.items ≡ []) }
+        ensures tells { Tells (session_in self.old.prompt) (session_in self.new.prompt) (W.contents self.old.w) (W.contents self.new.w) result }
+    {
+        if waiting.is_empty() && !self.is_cut {
+            return Ok(());
         }
-        if self.is_terminal {
-            append(&mut self.text, b"\n")?;
-            self.pass()?;
-        }
+        let _ = self.take(waiting)?;
         Ok(())
+    }
+
+    // Ends the line on which somebody was shown where to write.
+    fn leave(&mut self) -> Result<(), MonitorError>
+        requires { self.old.text.items ≡ [] }
+        ensures empty { OnOk result (self.new.text.items ≡ []) }
+        ensures tells { Tells (session_in self.old.prompt) (session_in self.new.prompt) (W.contents self.old.w) (W.contents self.new.w) result }
+    {
+        if !self.is_terminal {
+            return Ok(());
+        }
+        self.tell(b"\n")
+    }
+
+    // Obeys the last line, and leaves.
+    fn take_last(&mut self, waiting: &[u8]) -> Result<(), MonitorError>
+        requires { self.old.text.items ≡ [] }
+        ensures empty { OnOk result (self.new.text.items ≡ []) }
+        ensures tells { Tells (session_in self.old.prompt) (session_in self.new.prompt) (W.contents self.old.w) (W.contents self.new.w) result }
+    {
+        self.take_rest(waiting)?;
+        self.leave()
     }
 }
 
@@ -149,7 +229,10 @@ fn obey_pieces<S: Read, W: Write, A: Archive>(
     alloc: Global,
     held: &mut Held<W, A>,
     lines: &mut S,
-) -> Result<(), MonitorError> {
+) -> Result<(), MonitorError>
+    requires { held.old.text.items ≡ [] }
+    ensures { Tells (session_in held.old.prompt) (session_in held.new.prompt) (W.contents held.old.w) (W.contents held.new.w) result }
+{
     let mut waiting = Vec::new(alloc);
     let mut piece = [0u8; PIECE];
     'pieces: for _ in 0..u64::MAX {
@@ -158,7 +241,7 @@ fn obey_pieces<S: Read, W: Write, A: Archive>(
             return Err(MonitorError::Read);
         };
         if count == 0 {
-            break;
+            return held.take_last(&waiting);
         }
         if held.take_piece(&mut waiting, &piece[..count])? == Flow::Ends {
             return Ok(());

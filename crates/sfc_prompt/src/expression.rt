@@ -1,5 +1,11 @@
 //! Conditions by their texts.
 
+ghost use Rattle.std.specs.Prelude.{◌≢◌, OnOk, IfOk};
+ghost use Rattle.sfc_prompt.specs.Conditions.{IsFound, added_by};
+ghost use Rattle.sfc_prompt.specs.Notes.{Adds};
+ghost use Rattle.sfc_script.specs.Scripts.{ConditionReads};
+ghost use Rattle.sfc_tokens.specs.declared.read_error.ReadErrorKind.TheVariants.{Memory};
+
 use sfc_base::ids::ProgId;
 use sfc_check::type_error::TypeError;
 use sfc_conditions::condition_error::ConditionError;
@@ -27,8 +33,20 @@ pub const UNKNOWN_PROGRAM: Fault = Fault {
     name: "UnknownProgram",
 };
 
+/// What a text is as a condition in a program instance.
+pub enum Found {
+    /// This condition.
+    Condition(BreakCondition),
+    /// It can be read, but there is no such program instance.
+    NoProgram,
+    /// No condition, for this.
+    Faulty(Fault),
+}
+
 // The fault of a text that is no expression. The error is that memory was refused.
-fn reading_fault(kind: ReadErrorKind) -> Result<Fault, AllocError> {
+fn reading_fault(kind: ReadErrorKind) -> Result<Fault, AllocError>
+    ensures { OnOk result (kind ≢ Memory) }
+{
     match kind {
         ReadErrorKind::Memory => Err(AllocError),
         _ => Ok(Fault {
@@ -61,12 +79,15 @@ fn type_fault(error: TypeError) -> Result<Fault, AllocError> {
     }
 }
 
-// The fault of an expression that is no condition. The error is that memory was refused.
-fn condition_fault(error: ConditionError) -> Result<Fault, AllocError> {
-    match error {
-        ConditionError::UnknownProgram(_) => Ok(UNKNOWN_PROGRAM),
-        ConditionError::Wrong(_, error) => type_fault(error),
-        ConditionError::Memory => Err(AllocError),
+// What an expression is that was checked. The error is that memory was refused.
+fn of_checked(checked: Result<BreakCondition, ConditionError>) -> Result<Found, AllocError>
+    ensures { IfOk result (λ found. IsFound checked found) }
+{
+    match checked {
+        Ok(condition) => Ok(Found::Condition(condition)),
+        Err(ConditionError::UnknownProgram(_)) => Ok(Found::NoProgram),
+        Err(ConditionError::Wrong(_, error)) => Ok(Found::Faulty(type_fault(error)?)),
+        Err(ConditionError::Memory) => Err(AllocError),
     }
 }
 
@@ -77,19 +98,19 @@ pub fn read_condition(
     plant: &Plant,
     program: ProgId,
     text: &[u8],
-) -> Result<Result<BreakCondition, Fault>, AllocError> {
-    let expression = match read_expr(alloc, text) {
-        Ok(expression) => expression,
-        Err(error) => return Ok(Err(reading_fault(error.kind)?)),
-    };
-    match condition_of(alloc, plant, 0, program, &expression) {
-        Ok(condition) => Ok(Ok(condition)),
-        Err(error) => Ok(Err(condition_fault(error)?)),
+) -> Result<Found, AllocError>
+    ensures { IfOk result (λ found. ConditionReads plant.now 0 program text.now (added_by found)) }
+{
+    match read_expr(alloc, text) {
+        Ok(expression) => of_checked(condition_of(alloc, plant, 0, program, &expression)),
+        Err(error) => Ok(Found::Faulty(reading_fault(error.kind)?)),
     }
 }
 
 /// Puts at the end why a text is no condition. The one error is that memory was refused.
-pub fn append_fault(out: &mut Vec<u8>, fault: Fault) -> Result<(), AllocError> {
+pub fn append_fault(out: &mut Vec<u8>, fault: Fault) -> Result<(), AllocError>
+    ensures { OnOk result (Adds out.old.items out.new.items) }
+{
     append(out, b"; no condition: ")?;
     append_number(out, u64::from(fault.number))?;
     append(out, b" ")?;

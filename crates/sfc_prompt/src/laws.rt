@@ -5,6 +5,7 @@ ghost use Rattle.sfc_debug.specs.Histories.{CommandHistory};
 ghost use Rattle.sfc_monitor.specs.Output.{commands_lines, debugger_of, session_after, text_of};
 ghost use Rattle.sfc_prompt.specs.declared.session.Session.{Session};
 ghost use Rattle.sfc_prompt.specs.Sessions.{HasSaid, steered_in};
+ghost use Rattle.sfc_prompt.specs.Transcripts.{HasGoneOn, IsTranscript};
 
 /// What a session has written of its accepted commands is what a replay writes for them, in their order, over the conditions that the
 /// session has at the end; and the replay accepts all of them.
@@ -19,4 +20,10 @@ pub fn said_as_replayed()
 pub fn one_text()
     ensures { (session : Session) (h : CommandHistory) (some others : List ℕ) → HasSaid session h some → HasSaid session h others →
         some ≡ others }
+{}
+
+/// What a session has written since its opening is a transcript: pieces of which those of accepted commands are, together, what a replay
+/// writes for them.
+pub fn transcript()
+    ensures { (session : Session) (text : List ℕ) → HasGoneOn [] [] [] text session → IsTranscript session text }
 {}

@@ -11,6 +11,7 @@
 //! - `scanning`: scans that have no instant; `step`: scans that may be done again; `course`: many of them.
 //! - `session`: commands one after the other, and the script that they are; `saved`: the lines of that script.
 //! - `showing`: the words that change nothing.
+//! - `spoken`: texts that should be commands of a script.
 #![tactic(auto)]
 
 pub mod archive;
@@ -25,5 +26,6 @@ mod saved;
 pub mod scanning;
 pub mod session;
 mod showing;
+mod spoken;
 mod step;
 mod words;

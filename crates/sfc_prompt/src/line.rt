@@ -1,6 +1,12 @@
 //! What a line says.
 
-use crate::words::{first_word, from_word};
+ghost use Rattle.std.specs.Prelude.{◌≡◌};
+ghost use Rattle.sfc_prompt.specs.Lines as lines;
+ghost use Rattle.sfc_prompt.specs.Lines.{as_said, line_said};
+ghost use Rattle.sfc_script.specs.Commands as commands;
+ghost use Rattle.sfc_tokens.specs.Lexing.DurationWords.{duration_value};
+
+use crate::words::{first_word, trimmed};
 use sfc_base::case::is_same_word;
 use sfc_tokens::duration::duration;
 
@@ -47,7 +53,9 @@ pub enum Line<'a> {
 }
 
 // The word that shows how something stands, in any case of its letters.
-fn showing_word(word: &[u8]) -> Option<Word> {
+fn showing_word(word: &[u8]) -> Option<Word>
+    ensures { result ≡ lines.showing_word word.now }
+{
     if is_same_word(word, b"SHOW") {
         Some(Word::Show)
     } else if is_same_word(word, b"IMAGE") {
@@ -65,46 +73,79 @@ fn showing_word(word: &[u8]) -> Option<Word> {
     }
 }
 
-// Any other word of the prompt's own, in any case of its letters.
-fn other_word(word: &[u8]) -> Option<Word> {
-    if is_same_word(word, b"EXPLAIN") {
-        Some(Word::Explain)
-    } else if is_same_word(word, b"HELP") || is_same_word(word, b"?") {
-        Some(Word::Help)
-    } else if is_same_word(word, b"UNTIL") {
+// The word that scans on, saves or ends.
+fn doing_word(word: &[u8]) -> Option<Word>
+    ensures { result ≡ lines.doing_word word.now }
+{
+    if is_same_word(word, b"UNTIL") {
         Some(Word::Until)
     } else if is_same_word(word, b"AGAIN") {
         Some(Word::Again)
     } else if is_same_word(word, b"SAVE") {
         Some(Word::Save)
-    } else if is_same_word(word, b"QUIT") || is_same_word(word, b"EXIT") {
+    } else if is_same_word(word, b"QUIT") {
+        Some(Word::Quit)
+    } else if is_same_word(word, b"EXIT") {
         Some(Word::Quit)
     } else {
         None
     }
 }
 
+// The word that explains.
+fn telling_word(word: &[u8]) -> Option<Word>
+    ensures { result ≡ lines.telling_word word.now }
+{
+    if is_same_word(word, b"EXPLAIN") {
+        Some(Word::Explain)
+    } else if is_same_word(word, b"HELP") {
+        Some(Word::Help)
+    } else if is_same_word(word, b"?") {
+        Some(Word::Help)
+    } else {
+        None
+    }
+}
+
+// The word of the prompt's own.
+fn own_word(word: &[u8]) -> Option<Word>
+    ensures { result ≡ lines.own_word word.now }
+{
+    showing_word(word).or(doing_word(word).or(telling_word(word)))
+}
+
 // Whether the word begins a comment.
-fn begins_comment(word: &[u8]) -> bool {
+fn begins_comment(word: &[u8]) -> bool
+    ensures { result ≡ commands.begins_comment word.now }
+{
     match word.first() {
         Some(byte) => *byte == b';',
         None => false,
     }
 }
 
-/// What a line says, which stands here without its end. It takes no memory.
-pub fn read_line(line: &[u8]) -> Line<'_> {
+// What a line says whose first word this is, with what stands behind it.
+fn read_behind<'a>(line: &'a [u8], word: &'a [u8], rest: &'a [u8]) -> Line<'a>
+    ensures { as_said result ≡ lines.said_by line.now rest.now (duration_value word.now) (lines.own_word word.now) }
+{
+    if let Some(instant) = duration(word) {
+        return Line::Says(Some(instant), trimmed(rest));
+    }
+    match own_word(word) {
+        Some(asked) => Line::Asks(asked, trimmed(rest)),
+        None => Line::Says(None, trimmed(line)),
+    }
+}
+
+/// What a line says, which stands here without its end. Texts have no blanks around them. It takes no memory.
+pub fn read_line(line: &[u8]) -> Line<'_>
+    ensures { as_said result ≡ line_said line.now }
+{
     let Some((word, rest)) = first_word(line) else {
         return Line::Empty;
     };
     if begins_comment(word) {
         return Line::Comment;
     }
-    if let Some(instant) = duration(word) {
-        return Line::Says(Some(instant), from_word(rest));
-    }
-    match showing_word(word).or(other_word(word)) {
-        Some(asked) => Line::Asks(asked, from_word(rest)),
-        None => Line::Says(None, from_word(line)),
-    }
+    read_behind(line, word, rest)
 }

@@ -1,18 +1,20 @@
 //! Lines that are obeyed one by one.
 
+ghost use Rattle.std.specs.Prelude.{◌≡◌, ◌<◌, OnOk, IfOk, Some, None};
+ghost use Rattle.sfc_prompt.specs.Lines.{as_said};
+ghost use Rattle.sfc_prompt.specs.Prompts as prompts;
+
 use crate::archive::Archive;
 use crate::course::{Course, MOST, Wanted, read_wanted};
-use crate::expression::{append_fault, read_condition};
+use crate::expression::append_fault;
 use crate::line::{Line, Word, read_line};
-use crate::scanning::{scan, scan_first};
+use crate::spoken::{Spoken, say};
 use crate::session::Session;
 use crate::showing::{only_number, shown};
-use crate::step::{Step, ends_steps, step_of, take};
-use crate::words::{is_empty, is_word};
+use crate::step::{Step, ends_steps, take};
+use crate::words::is_empty;
 use sfc_asking::note::{append_named, append_note};
-use sfc_events::command::{Command, CondId};
 use sfc_output::append::append;
-use sfc_script::command::{Conditional, read_command, read_conditional};
 use std::alloc::{AllocError, Global};
 
 /// Whether more lines are obeyed.
@@ -22,6 +24,16 @@ pub enum Flow {
     GoesOn,
     /// The session has ended.
     Ends,
+}
+
+// Whether more lines are obeyed behind this one.
+fn flow_of(line: Line<'_>) -> Flow
+    ensures { result ≡ prompts.flow_of (as_said line.entry) }
+{
+    match line {
+        Line::Asks(Word::Quit, _) => Flow::Ends,
+        _ => Flow::GoesOn,
+    }
 }
 
 /// A session, the step that was last taken in it, and the steps that are under way.
@@ -44,21 +56,23 @@ impl Drop for Prompt {
     }
 }
 
-// The text without the blanks at its end.
-fn without_end(text: &[u8]) -> &[u8] {
-    let mut rest = text;
-    'blanks: while let Some((byte, front)) = rest.split_last() {
-        if *byte != b' ' && *byte != b'\t' {
-            break;
-        }
-        rest = front;
-    }
-    rest
-}
-
+#[tactic(auto, unfolding(crate::specs::Prompts::session_in, crate::specs::Prompts::course_in))]
 impl Prompt {
+    ghost use Rattle.std.specs.Prelude.{List, ℕ};
+    ghost use Rattle.sfc_debug.specs.Histories.{CommandHistory};
+    ghost use Rattle.sfc_prompt.specs.declared.course.Course.{Course};
+    ghost use Rattle.sfc_prompt.specs.Lines.{as_said, line_said};
+    ghost use Rattle.sfc_prompt.specs.Notes.{Adds};
+    ghost use Rattle.sfc_prompt.specs.Orders.{IsShown, Obeys, Takes, order_of, text_order};
+    ghost use Rattle.sfc_prompt.specs.Prompts.{course_in, session_in};
+    ghost use Rattle.sfc_prompt.specs.Sessions.{HasSaid, steered_in};
+    ghost use Rattle.sfc_prompt.specs.Transcripts.{Puts};
+
     /// A prompt at which nothing was said.
-    pub fn new(alloc: Global, session: Session) -> Prompt {
+    pub fn new(alloc: Global, session: Session) -> Prompt
+        ensures session { session_in result ≡ session }
+        ensures course { course_in result ≡ None }
+    {
         Prompt {
             alloc,
             session,
@@ -67,85 +81,15 @@ impl Prompt {
         }
     }
 
-    // A command of a script, at its instant, or from the last accepted command on.
-    fn give(
-        &mut self,
-        command: Command,
-        instant: Option<i64>,
-        words: &[u8],
-        out: &mut Vec<u8>,
-    ) -> Result<(), AllocError> {
-        if let Some(step) = step_of(command) {
-            self.last = Some(step);
-        }
-        let _ = match (command, instant) {
-            (Command::Scan(task), None) => scan(self.alloc, &mut self.session, task, out)?,
-            (_, instant) => {
-                let raw = instant.unwrap_or(self.session.instant());
-                self.session
-                    .command(self.alloc, (command, raw), words, out)?
-            }
-        };
-        Ok(())
-    }
-
-    // A breakpoint with a condition.
-    fn break_when(
-        &mut self,
-        conditional: Conditional<'_>,
-        instant: Option<i64>,
-        words: &[u8],
-        out: &mut Vec<u8>,
-    ) -> Result<(), AllocError> {
-        let plant = self.session.debugger().resource().plant();
-        let place = conditional.place;
-        let raw = instant.unwrap_or(self.session.instant());
-        match read_condition(self.alloc, plant, place.program, conditional.text)? {
-            Ok(condition) => {
-                let placed = (place.point, raw);
-                let _ = self
-                    .session
-                    .break_when(self.alloc, placed, condition, words, out)?;
-                Ok(())
-            }
-            Err(fault) if fault.number == 32 => {
-                let command = Command::BreakIf(place.program, place.point, CondId(0));
-                self.give(command, Some(raw), words, out)
-            }
-            Err(fault) => append_fault(out, fault),
-        }
-    }
-
-    // What is no command of a script and no word of the prompt's own, but maybe SCAN alone.
-    fn say_other(
-        &mut self,
-        instant: Option<i64>,
-        text: &[u8],
-        out: &mut Vec<u8>,
-    ) -> Result<(), AllocError> {
-        if instant.is_none() && is_word(text, b"SCAN") {
-            self.last = Some(Step::First);
-            let _ = scan_first(self.alloc, &mut self.session, out)?;
-            return Ok(());
-        }
-        append_note(out, b"no command; HELP lists what may be said")
-    }
-
     // What should be a command of a script.
-    fn say(
-        &mut self,
-        instant: Option<i64>,
-        text: &[u8],
-        out: &mut Vec<u8>,
-    ) -> Result<(), AllocError> {
-        let resource = self.session.debugger().resource();
-        if let Some(command) = read_command(resource, text) {
-            return self.give(command, instant, text, out);
-        }
-        match read_conditional(resource, text) {
-            Some(conditional) => self.break_when(conditional, instant, text, out),
-            None => self.say_other(instant, text, out),
-        }
+    fn say(&mut self, spoken: Spoken<'_>, out: &mut Vec<u8>) -> Result<(), AllocError>
+        ensures { (h : CommandHistory) (lines : List ℕ) → HasSaid (session_in self.old) h lines → OnOk result
+            (Obeys (session_in self.old) (session_in self.new) out.old.items out.new.items h lines
+            (text_order (steered_in (session_in self.old)) h spoken.entry.instant spoken.entry.text.now)) }
+    {
+        let step = say(self.alloc, &mut self.session, spoken, out)?;
+        self.last = step.or(self.last);
+        Ok(())
     }
 
     // The accepted commands go to a file of this name.
@@ -154,7 +98,9 @@ impl Prompt {
         name: &[u8],
         archive: &mut A,
         out: &mut Vec<u8>,
-    ) -> Result<(), AllocError> {
+    ) -> Result<(), AllocError>
+        ensures { OnOk result (Adds out.old.items out.new.items) }
+    {
         if name.is_empty() {
             return append_note(out, b"SAVE and the name of a file");
         }
@@ -170,7 +116,10 @@ impl Prompt {
     }
 
     // The last step again, so often.
-    fn repeat(&mut self, count: u64, out: &mut Vec<u8>) -> Result<(), AllocError> {
+    fn repeat(&mut self, count: u64, out: &mut Vec<u8>) -> Result<(), AllocError>
+        ensures session { session_in self.new ≡ session_in self.old }
+        ensures adds { OnOk result (Adds out.old.items out.new.items) }
+    {
         match self.last {
             Some(step) => {
                 self.course = Some(Course::of_steps(step, count));
@@ -181,7 +130,10 @@ impl Prompt {
     }
 
     // The last step again, so often as the text says, or once.
-    fn again(&mut self, text: &[u8], out: &mut Vec<u8>) -> Result<(), AllocError> {
+    fn again(&mut self, text: &[u8], out: &mut Vec<u8>) -> Result<(), AllocError>
+        ensures session { session_in self.new ≡ session_in self.old }
+        ensures adds { OnOk result (Adds out.old.items out.new.items) }
+    {
         let count = if is_empty(text) {
             Some(1)
         } else {
@@ -194,7 +146,10 @@ impl Prompt {
     }
 
     // Scans until a condition is TRUE.
-    fn until(&mut self, text: &[u8], out: &mut Vec<u8>) -> Result<(), AllocError> {
+    fn until(&mut self, text: &[u8], out: &mut Vec<u8>) -> Result<(), AllocError>
+        ensures session { session_in self.new ≡ session_in self.old }
+        ensures adds { OnOk result (Adds out.old.items out.new.items) }
+    {
         let plant = self.session.debugger().resource().plant();
         match read_wanted(self.alloc, plant, text)? {
             Wanted::Until(condition) => {
@@ -210,27 +165,51 @@ impl Prompt {
     }
 
     // A word that shows how all stands.
-    fn show(&mut self, word: Word, text: &[u8], out: &mut Vec<u8>) -> Result<(), AllocError> {
+    fn show(&mut self, word: Word, text: &[u8], out: &mut Vec<u8>) -> Result<(), AllocError>
+        ensures { (h : CommandHistory) (lines : List ℕ) → HasSaid (session_in self.old) h lines → OnOk result
+            (IsShown (session_in self.old) (session_in self.new) out.old.items out.new.items h lines) }
+    {
         let told = shown(self.alloc, &mut self.session, word, text)?;
         append(out, &told)
     }
 
-    // A word of the prompt's own.
+    // A word of the prompt's own that scans on, saves, or ends the session.
     fn ask<A: Archive>(
         &mut self,
         word: Word,
         text: &[u8],
         archive: &mut A,
         out: &mut Vec<u8>,
-    ) -> Result<Flow, AllocError> {
+    ) -> Result<(), AllocError>
+        ensures { (h : CommandHistory) (lines : List ℕ) → HasSaid (session_in self.old) h lines → OnOk result
+            (IsShown (session_in self.old) (session_in self.new) out.old.items out.new.items h lines) }
+    {
         match word {
-            Word::Quit => return Ok(Flow::Ends),
-            Word::Until => self.until(text, out)?,
-            Word::Again => self.again(text, out)?,
-            Word::Save => self.save(text, archive, out)?,
-            _ => self.show(word, text, out)?,
+            Word::Quit => Ok(()),
+            Word::Until => self.until(text, out),
+            Word::Again => self.again(text, out),
+            Word::Save => self.save(text, archive, out),
+            _ => self.show(word, text, out),
         }
-        Ok(Flow::GoesOn)
+    }
+
+    // What a line says.
+    fn obey_line<A: Archive>(
+        &mut self,
+        line: Line<'_>,
+        archive: &mut A,
+        out: &mut Vec<u8>,
+    ) -> Result<(), AllocError>
+        ensures { (h : CommandHistory) (lines : List ℕ) → HasSaid (session_in self.old) h lines → OnOk result
+            (Obeys (session_in self.old) (session_in self.new) out.old.items out.new.items h lines
+            (order_of (steered_in (session_in self.old)) h (as_said line.entry))) }
+    {
+        match line {
+            Line::Comment => Ok(()),
+            Line::Empty => self.repeat(1, out),
+            Line::Says(instant, text) => self.say(Spoken { instant, text }, out),
+            Line::Asks(word, text) => self.ask(word, text, archive, out),
+        }
     }
 
     /// Obeys a line, which stands here without its end: a command of a script, with an instant or without one, or a word of the prompt's own.
@@ -242,23 +221,24 @@ impl Prompt {
         line: &[u8],
         archive: &mut A,
         out: &mut Vec<u8>,
-    ) -> Result<Flow, AllocError> {
-        match read_line(line) {
-            Line::Comment => Ok(Flow::GoesOn),
-            Line::Empty => {
-                self.repeat(1, out)?;
-                Ok(Flow::GoesOn)
-            }
-            Line::Says(instant, text) => {
-                self.say(instant, without_end(text), out)?;
-                Ok(Flow::GoesOn)
-            }
-            Line::Asks(word, text) => self.ask(word, without_end(text), archive, out),
-        }
+    ) -> Result<Flow, AllocError>
+        ensures obeys { (h : CommandHistory) (lines : List ℕ) → HasSaid (session_in self.old) h lines → OnOk result
+            (Obeys (session_in self.old) (session_in self.new) out.old.items out.new.items h lines
+            (order_of (steered_in (session_in self.old)) h (line_said line.now))) }
+        ensures puts { OnOk result (Puts (session_in self.old) (session_in self.new) out.old.items out.new.items) }
+        ensures flow { IfOk result (λ flow. flow ≡ prompts.flow_of (line_said line.now)) }
+    {
+        let said = read_line(line);
+        self.obey_line(said, archive, out)?;
+        Ok(flow_of(said))
     }
 
     // A step of a course, and the course behind it.
-    fn take_step(&mut self, course: Course, out: &mut Vec<u8>) -> Result<(), AllocError> {
+    fn take_step(&mut self, course: Course, out: &mut Vec<u8>) -> Result<(), AllocError>
+        ensures puts { OnOk result (Puts (session_in self.old) (session_in self.new) out.old.items out.new.items) }
+        ensures taken { (h : CommandHistory) (lines : List ℕ) → HasSaid (session_in self.old) h lines → course.condition ≡ None → OnOk result
+            (Takes (session_in self.old) (session_in self.new) out.old.items out.new.items h lines course.step) }
+    {
         let answer = take(self.alloc, &mut self.session, course.step, out)?;
         let course = course.behind_step(answer.is_ok());
         if ends_steps(answer) {
@@ -271,7 +251,12 @@ impl Prompt {
     /// Takes the next of the steps that are under way, and puts its answer at the end of `out`; how it ended, where it ends: a step was
     /// refused, hit a breakpoint, or ended a program's scan with a fault; the condition is TRUE; or no step is left. Whether more
     /// are under way. The one error is that memory was refused; then the prompt is of no more use.
-    pub fn go_on(&mut self, out: &mut Vec<u8>) -> Result<bool, AllocError> {
+    pub fn go_on(&mut self, out: &mut Vec<u8>) -> Result<bool, AllocError>
+        ensures puts { OnOk result (Puts (session_in self.old) (session_in self.new) out.old.items out.new.items) }
+        ensures taken { (h : CommandHistory) (lines : List ℕ) (course : Course) → HasSaid (session_in self.old) h lines →
+            course_in self.old ≡ Some course → course.condition ≡ None → 0 < course.left → OnOk result
+            (Takes (session_in self.old) (session_in self.new) out.old.items out.new.items h lines course.step) }
+    {
         let Some(course) = self.course.take() else {
             return Ok(false);
         };

@@ -1,5 +1,9 @@
 //! When tasks are scanned next.
 
+ghost use Rattle.std.specs.Prelude.{List, ℕ};
+ghost use Rattle.sfc_debug.specs.Histories.{CommandHistory};
+ghost use Rattle.sfc_prompt.specs.Sessions.{HasSaid, Stays};
+
 use crate::session::Session;
 use sfc_asking::release::Release;
 use sfc_base::ids::TaskId;
@@ -21,7 +25,9 @@ fn release_by(answer: Result<Answer, Refusal>) -> Release {
 
 /// When each task is scanned next: of a halted resource, once it goes on. Nothing of the session changes. The one error is that memory was
 /// refused.
-pub fn releases(alloc: Global, session: &mut Session) -> Result<Vec<Release>, AllocError> {
+pub fn releases(alloc: Global, session: &mut Session) -> Result<Vec<Release>, AllocError>
+    ensures { (h : CommandHistory) (lines : List ℕ) → HasSaid session.old h lines → Stays session.old session.new h lines }
+{
     let first = match session.debugger().mode() {
         Mode::Stopped => Some(Command::Go),
         Mode::Running | Mode::Ended => None,

@@ -257,6 +257,13 @@ impl Session {
         &self.debugger
     }
 
+    /// The plant.
+    pub fn plant(&self) -> &Plant
+        ensures { result.now ≡ (steered_in self.now).plant }
+    {
+        self.debugger.resource().plant()
+    }
+
     /// The accepted commands as a script: of each its raw instant and its words, a line each.
     pub fn script(&self) -> &[u8]
         ensures { result.now ≡ script_in self.now }

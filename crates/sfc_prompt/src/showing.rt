@@ -1,5 +1,9 @@
 //! The words that change nothing.
 
+ghost use Rattle.std.specs.Prelude.{List, ℕ};
+ghost use Rattle.sfc_debug.specs.Histories.{CommandHistory};
+ghost use Rattle.sfc_prompt.specs.Sessions.{HasSaid, Stays};
+
 use crate::line::Word;
 use crate::releases::releases;
 use crate::session::Session;
@@ -19,7 +23,9 @@ use std::alloc::{AllocError, Global};
 const ROWS: u64 = 10;
 
 // How all stands.
-fn show(alloc: Global, session: &mut Session, out: &mut Vec<u8>) -> Result<(), AllocError> {
+fn show(alloc: Global, session: &mut Session, out: &mut Vec<u8>) -> Result<(), AllocError>
+    ensures { (h : CommandHistory) (lines : List ℕ) → HasSaid session.old h lines → Stays session.old session.new h lines }
+{
     let releases = releases(alloc, session)?;
     append_show(out, session.debugger(), session.instant(), &releases)
 }
@@ -79,7 +85,9 @@ pub fn shown(
     session: &mut Session,
     word: Word,
     text: &[u8],
-) -> Result<Vec<u8>, AllocError> {
+) -> Result<Vec<u8>, AllocError>
+    ensures { (h : CommandHistory) (lines : List ℕ) → HasSaid session.old h lines → Stays session.old session.new h lines }
+{
     let mut out = Vec::new(alloc);
     append_shown(alloc, session, word, text, &mut out)?;
     Ok(out)
@@ -92,7 +100,9 @@ fn append_shown(
     word: Word,
     text: &[u8],
     out: &mut Vec<u8>,
-) -> Result<(), AllocError> {
+) -> Result<(), AllocError>
+    ensures { (h : CommandHistory) (lines : List ℕ) → HasSaid session.old h lines → Stays session.old session.new h lines }
+{
     match word {
         Word::Show => show(alloc, session, out),
         Word::Image => append_image(alloc, out, session.debugger().resource(), text),

@@ -1,5 +1,12 @@
 //! Steps, which may be done again.
 
+ghost use Rattle.std.specs.Prelude.{◌≡◌, List, ℕ, IfOk};
+ghost use Rattle.sfc_debug.specs.Histories.{CommandHistory};
+ghost use Rattle.sfc_events.specs.declared.command.Command.TheVariants.{Single};
+ghost use Rattle.sfc_prompt.specs.Scanning as scanning;
+ghost use Rattle.sfc_prompt.specs.Scanning.{step_after};
+ghost use Rattle.sfc_prompt.specs.Sessions.{HasSaid, IsTaken, last_instant, steered_in, words_of};
+
 use crate::scanning::{scan, scan_first};
 use crate::session::Session;
 use sfc_base::ids::TaskId;
@@ -21,7 +28,9 @@ pub enum Step {
 }
 
 /// The step that a command is, if it is one.
-pub fn step_of(command: Command) -> Option<Step> {
+pub fn step_of(command: Command) -> Option<Step>
+    ensures { result ≡ scanning.step_of command }
+{
     match command {
         Command::Scan(task) => Some(Step::Task(task)),
         Command::Single(task, micros) => Some(Step::Single(task, micros)),
@@ -38,6 +47,24 @@ pub fn ends_steps(answer: Result<Answer, Refusal>) -> bool {
     }
 }
 
+// The words of a single scan.
+fn single_words(
+    alloc: Global,
+    session: &Session,
+    task: TaskId,
+    micros: i64,
+) -> Result<Vec<u8>, AllocError>
+    ensures { IfOk result (λ words. words.items ≡ words_of (steered_in session.now) (Single task micros)) }
+{
+    let tasks = session.plant().tasks();
+    let mut words = Vec::new(alloc);
+    append(&mut words, b"SINGLE ")?;
+    append(&mut words, task_name(tasks, usize::from(task.0)))?;
+    append(&mut words, b" ")?;
+    append_time(&mut words, micros)?;
+    Ok(words)
+}
+
 // A single scan of a task, at the instant of the last accepted command.
 fn single(
     alloc: Global,
@@ -45,13 +72,12 @@ fn single(
     task: TaskId,
     micros: i64,
     out: &mut Vec<u8>,
-) -> Result<Result<Answer, Refusal>, AllocError> {
-    let mut words = Vec::new(alloc);
-    append(&mut words, b"SINGLE ")?;
-    let tasks = session.debugger().resource().plant().tasks();
-    append(&mut words, task_name(tasks, usize::from(task.0)))?;
-    append(&mut words, b" ")?;
-    append_time(&mut words, micros)?;
+) -> Result<Result<Answer, Refusal>, AllocError>
+    ensures steered { steered_in session.new ≡ steered_in session.old }
+    ensures taken { (h : CommandHistory) (lines : List ℕ) → HasSaid session.old h lines → IfOk result (λ answer.
+        IsTaken session.old session.new out.old.items out.new.items answer h lines (Single task micros, last_instant h)) }
+{
+    let words = single_words(alloc, session, task, micros)?;
     let timed = (Command::Single(task, micros), session.instant());
     session.command(alloc, timed, &words, out)
 }
@@ -63,7 +89,11 @@ pub fn take(
     session: &mut Session,
     step: Step,
     out: &mut Vec<u8>,
-) -> Result<Result<Answer, Refusal>, AllocError> {
+) -> Result<Result<Answer, Refusal>, AllocError>
+    ensures steered { steered_in session.new ≡ steered_in session.old }
+    ensures taken { (h : CommandHistory) (lines : List ℕ) → HasSaid session.old h lines → IfOk result (λ answer. IsTaken session.old session.new
+        out.old.items out.new.items answer h lines (step_after (steered_in session.old) h step)) }
+{
     match step {
         Step::First => scan_first(alloc, session, out),
         Step::Task(task) => scan(alloc, session, task, out),

@@ -1,0 +1,7 @@
+use Rattle.std.proofs.Common.{ℕ, List}
+use Rattle.sfc_debug.specs.Histories.{CommandHistory}
+use Rattle.sfc_prompt.specs.Sessions.{HasSaid, Stays}
+use Rattle.sfc_prompt.proofs.releases.releases.Given as goal
+
+abbrev pub invariant-tasks : goal.invariant-tasks
+invariant-tasks l = (h : CommandHistory) (lines : List ℕ) → HasSaid l.initial.session h lines → Stays l.initial.session l.session h lines

@@ -1,0 +1,109 @@
+-- What a line tells the session to do, and what becomes of it.
+use Rattle.std.specs.Prelude.{◌≡◌, ℕ, Bool, false, if◌then◌else◌, List, [], ◌∷◌, ◌++◌, codes, ℤ, Option, Some, None, unwrap_or}
+use Rattle.sfc_base.specs.declared.ids.TaskId.{TaskId}
+use Rattle.sfc_plant.specs.Plants.{PlantData}
+use Rattle.sfc_events.specs.declared.command.Command.{Command}
+use Rattle.sfc_events.specs.declared.command.Command.TheVariants.{BreakIf, Scan}
+use Rattle.sfc_debug.specs.declared.break_condition.BreakCondition.{BreakCondition}
+use Rattle.sfc_debug.specs.Histories.{CommandHistory, TimedCommand}
+use Rattle.sfc_output.specs.Steered.{Steered}
+use Rattle.sfc_script.specs.Commands.{Conditional, command_of, conditional_of}
+use Rattle.sfc_script.specs.Scripts.{ConditionReads}
+use Rattle.sfc_monitor.specs.Output.{Verdict}
+use Rattle.sfc_prompt.specs.declared.session.Session.{Session}
+use Rattle.sfc_prompt.specs.declared.step.Step.{Step}
+use Rattle.sfc_prompt.specs.declared.step.Step.TheVariants as steps
+use Rattle.sfc_prompt.specs.Lines.{Said, Nothing, Remark, Says, Asks}
+use Rattle.sfc_prompt.specs.Scanning.{first_scan_after, scan_after, step_after, step_of}
+use Rattle.sfc_prompt.specs.Sessions.{IsGiven, IsTaken, IsWaiting, Stays, last_instant, steered_in, words_of}
+use Rattle.sfc_prompt.specs.Words.{is_word}
+
+-- ---- orders
+
+-- What a line tells the session to do.
+pub data Order : Type 0 where
+  -- to give this command, which these words say
+  Gives : TimedCommand → List ℕ → Order
+  -- to set a breakpoint with a condition, at this raw instant, which these words say
+  Waits : Conditional → ℤ → List ℕ → Order
+  -- nothing
+  Shows : Order
+
+-- the command in the words of a replay
+abbrev pub takes : Steered → TimedCommand → Order
+takes steered timed = Gives timed (words_of steered timed.0)
+
+-- the task, where the command is a scan without an instant
+abbrev pub free_scan : Option ℤ → Command → Option TaskId
+free_scan None (Scan task) = Some task
+free_scan _ command = None
+
+-- A scan without an instant goes on to the task's release. Any other command is given at its instant, or at that of the last one.
+abbrev pub command_order : Steered → CommandHistory → Option ℤ → List ℕ → Command → Option TaskId → Order
+command_order steered h instant text command (Some task) = takes steered (scan_after steered h task)
+command_order steered h instant text command None = Gives (command, unwrap_or instant (last_instant h)) text
+
+-- SCAN alone, without an instant
+abbrev pub is_scan_alone : Option ℤ → List ℕ → Bool
+is_scan_alone None text = is_word text (codes "SCAN")
+is_scan_alone (Some instant) text = false
+
+-- a command without a condition, or else a breakpoint with one, or else SCAN alone
+abbrev pub order_by : Steered → CommandHistory → Option ℤ → List ℕ → Option Command → Option Conditional → Order
+order_by steered h instant text (Some command) conditional = command_order steered h instant text command (free_scan instant command)
+order_by steered h instant text None (Some conditional) = Waits conditional (unwrap_or instant (last_instant h)) text
+order_by steered h instant text None None = if is_scan_alone instant text then takes steered (first_scan_after steered h) else Shows
+
+-- of a text that should be a command of a script, with an instant or without one
+abbrev pub text_order : Steered → CommandHistory → Option ℤ → List ℕ → Order
+text_order steered h instant text = order_by steered h instant text (command_of steered.plant text) (conditional_of steered.plant text)
+
+-- the step that such a text is, if it is one
+abbrev pub other_step : Option ℤ → List ℕ → Option Step
+other_step instant text = if is_scan_alone instant text then Some steps.First else None
+
+abbrev pub step_by : Option ℤ → List ℕ → Option Command → Option Conditional → Option Step
+step_by instant text (Some command) conditional = step_of command
+step_by instant text None (Some conditional) = None
+step_by instant text None None = other_step instant text
+
+abbrev pub text_step : PlantData → Option ℤ → List ℕ → Option Step
+text_step plant instant text = step_by instant text (command_of plant text) (conditional_of plant text)
+
+-- Words of the prompt's own tell the session nothing.
+abbrev pub order_of : Steered → CommandHistory → Said → Order
+order_of steered h (Says instant text) = text_order steered h instant text
+order_of steered h (Asks word text) = Shows
+order_of steered h Remark = Shows
+order_of steered h Nothing = Shows
+
+-- ---- what becomes of an order
+
+-- Nothing more was accepted, and a text was put.
+abbrev pub IsShown : Session → Session → List ℕ → List ℕ → CommandHistory → List ℕ → Type 0
+IsShown old new before behind h lines = (text : List ℕ) × (behind ≡ before ++ text) × Stays old new h lines
+
+-- A breakpoint whose text was read so: it waits for the condition; or its program instance isn't there, and it is given as one that waits for
+-- the first condition; or the text is no condition, which is told.
+abbrev pub BreaksBy : Session → Session → List ℕ → List ℕ → CommandHistory → List ℕ → Conditional → ℤ → List ℕ
+    → Option (List BreakCondition) → Type 0
+BreaksBy old new before behind h lines conditional raw words (Some (condition ∷ conditions)) =
+    (told : Verdict) × IsWaiting old new before behind told h lines (conditional.place.point, raw) condition words
+BreaksBy old new before behind h lines conditional raw words (Some []) =
+    (told : Verdict) × IsGiven old new before behind told h lines
+    (BreakIf conditional.place.program conditional.place.point (record { 0 = 0 }), raw) words
+BreaksBy old new before behind h lines conditional raw words None = IsShown old new before behind h lines
+
+-- The order was obeyed.
+abbrev pub Obeys : Session → Session → List ℕ → List ℕ → CommandHistory → List ℕ → Order → Type 0
+Obeys old new before behind h lines (Gives timed words) = (told : Verdict) × IsGiven old new before behind told h lines timed words
+Obeys old new before behind h lines (Waits conditional raw words) =
+    (read : Option (List BreakCondition))
+    × ConditionReads (steered_in old).plant 0 conditional.place.program conditional.text read
+    × BreaksBy old new before behind h lines conditional raw words read
+Obeys old new before behind h lines Shows = IsShown old new before behind h lines
+
+-- The step was taken, in the words of a replay, and nothing else was put.
+abbrev pub Takes : Session → Session → List ℕ → List ℕ → CommandHistory → List ℕ → Step → Type 0
+Takes old new before behind h lines step =
+    (told : Verdict) × IsTaken old new before behind told h lines (step_after (steered_in old) h step)

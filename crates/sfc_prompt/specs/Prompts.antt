@@ -1,0 +1,22 @@
+-- What a prompt holds, and whether it goes on.
+use Rattle.std.specs.Prelude.{Option}
+use Rattle.sfc_prompt.specs.declared.course.Course.{Course}
+use Rattle.sfc_prompt.specs.declared.line.Word.TheVariants.{Quit}
+use Rattle.sfc_prompt.specs.declared.prompt.Flow.{Flow}
+use Rattle.sfc_prompt.specs.declared.prompt.Flow.TheVariants.{GoesOn, Ends}
+use Rattle.sfc_prompt.specs.declared.prompt.Prompt.{Prompt}
+use Rattle.sfc_prompt.specs.declared.session.Session.{Session}
+use Rattle.sfc_prompt.specs.Lines.{Said, Asks}
+
+-- its session
+unfoldable pub session_in : Prompt → Session
+session_in prompt = prompt.session
+
+-- the steps that are under way, if there are any
+unfoldable pub course_in : Prompt → Option Course
+course_in prompt = prompt.course
+
+-- it ends at QUIT
+abbrev pub flow_of : Said → Flow
+flow_of (Asks Quit text) = Ends
+flow_of _ = GoesOn

@@ -1,0 +1,26 @@
+-- Words of a line (our choice of format).
+use Rattle.std.specs.Prelude.{ℕ, Bool, false, if◌then◌else◌, List, [], ◌∷◌, reverse, Option, Some, None}
+use Rattle.sfc_base.specs.Case.{same_word}
+use Rattle.sfc_script.specs.Lines.{is_blank, only_word}
+
+-- what stands from the first word on
+abbrev pub from_word : List ℕ → List ℕ
+from_word [] = []
+from_word (b ∷ text) = if is_blank b then from_word text else b ∷ text
+
+-- what stands up to the end of the last word
+abbrev pub without_end : List ℕ → List ℕ
+without_end text = reverse (from_word (reverse text))
+
+-- without the blanks around it
+abbrev pub trimmed : List ℕ → List ℕ
+trimmed text = without_end (from_word text)
+
+-- one word but for case, where there is one
+abbrev pub is_same : Option (List ℕ) → List ℕ → Bool
+is_same None word = false
+is_same (Some only) word = same_word only word
+
+-- the text is this word alone
+abbrev pub is_word : List ℕ → List ℕ → Bool
+is_word text word = is_same (only_word text) word

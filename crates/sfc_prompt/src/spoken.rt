@@ -1,0 +1,159 @@
+//! Texts that should be commands of a script.
+
+ghost use Rattle.std.specs.Prelude.{◌≡◌, List, ℕ, IfOk, OnOk, unwrap_or};
+ghost use Rattle.sfc_debug.specs.Histories.{CommandHistory};
+ghost use Rattle.sfc_prompt.specs.Orders as orders;
+ghost use Rattle.sfc_prompt.specs.Orders.{Obeys, Waits, command_order, order_by, text_order, text_step};
+ghost use Rattle.sfc_prompt.specs.Sessions.{HasSaid, last_instant, steered_in};
+ghost use Rattle.sfc_script.specs.Private.Reading.{as_conditional};
+
+use crate::expression::{Found, append_fault, read_condition};
+use crate::scanning::{scan, scan_first};
+use crate::session::Session;
+use crate::step::{Step, step_of};
+use crate::words::is_word;
+use sfc_asking::note::append_note;
+use sfc_base::ids::TaskId;
+use sfc_events::command::{Command, CondId};
+use sfc_script::command::{Conditional, read_command, read_conditional};
+use std::alloc::{AllocError, Global};
+
+/// A text that should be a command of a script, and the instant in front of it, in microseconds, if there is one.
+#[derive(Clone, Copy)]
+pub struct Spoken<'a> {
+    /// The instant.
+    pub instant: Option<i64>,
+    /// The text, without blanks around it.
+    pub text: &'a [u8],
+}
+
+// The task, where the command is a scan without an instant.
+fn free_scan(command: Command, instant: Option<i64>) -> Option<TaskId>
+    ensures { result ≡ orders.free_scan instant command }
+{
+    match (instant, command) {
+        (None, Command::Scan(task)) => Some(task),
+        _ => None,
+    }
+}
+
+// The instant that is said, or else that of the last accepted command.
+fn instant_or_last(session: &Session, instant: Option<i64>) -> i64
+    ensures { (h : CommandHistory) (lines : List ℕ) → HasSaid session.now h lines → result ≡ unwrap_or instant (last_instant h) }
+{
+    match instant {
+        Some(instant) => instant,
+        None => session.instant(),
+    }
+}
+
+// A command of a script, at its instant, or from the last accepted command on.
+fn give(
+    alloc: Global,
+    session: &mut Session,
+    command: Command,
+    spoken: Spoken<'_>,
+    out: &mut Vec<u8>,
+) -> Result<(), AllocError>
+    ensures { (h : CommandHistory) (lines : List ℕ) → HasSaid session.old h lines → OnOk result
+        (Obeys session.old session.new out.old.items out.new.items h lines
+        (command_order (steered_in session.old) h spoken.entry.instant spoken.entry.text.now command (orders.free_scan spoken.entry.instant command))) }
+{
+    match free_scan(command, spoken.instant) {
+        Some(task) => {
+            let _ = scan(alloc, session, task, out)?;
+            Ok(())
+        }
+        None => {
+            let raw = instant_or_last(session, spoken.instant);
+            let _ = session.command(alloc, (command, raw), spoken.text, out)?;
+            Ok(())
+        }
+    }
+}
+
+// A breakpoint with a condition, at its instant, or at that of the last accepted command.
+fn place(
+    alloc: Global,
+    session: &mut Session,
+    conditional: Conditional<'_>,
+    spoken: Spoken<'_>,
+    out: &mut Vec<u8>,
+) -> Result<(), AllocError>
+    ensures { (h : CommandHistory) (lines : List ℕ) → HasSaid session.old h lines → OnOk result
+        (Obeys session.old session.new out.old.items out.new.items h lines
+        (Waits (as_conditional conditional.entry) (unwrap_or spoken.entry.instant (last_instant h)) spoken.entry.text.now)) }
+{
+    let place = conditional.place;
+    let raw = instant_or_last(session, spoken.instant);
+    match read_condition(alloc, session.plant(), place.program, conditional.text)? {
+        Found::Condition(condition) => {
+            let _ = session.break_when(alloc, (place.point, raw), condition, spoken.text, out)?;
+            Ok(())
+        }
+        Found::NoProgram => {
+            let command = Command::BreakIf(place.program, place.point, CondId(0));
+            let _ = session.command(alloc, (command, raw), spoken.text, out)?;
+            Ok(())
+        }
+        Found::Faulty(fault) => append_fault(out, fault),
+    }
+}
+
+// Whether it is SCAN alone, without an instant.
+fn is_scan_alone(spoken: Spoken<'_>) -> bool
+    ensures { result ≡ orders.is_scan_alone spoken.entry.instant spoken.entry.text.now }
+{
+    match spoken.instant {
+        Some(_) => false,
+        None => is_word(spoken.text, b"SCAN"),
+    }
+}
+
+// What is no command of a script, but maybe SCAN alone.
+fn say_other(
+    alloc: Global,
+    session: &mut Session,
+    spoken: Spoken<'_>,
+    out: &mut Vec<u8>,
+) -> Result<Option<Step>, AllocError>
+    ensures step { IfOk result (λ step. step ≡ orders.other_step spoken.entry.instant spoken.entry.text.now) }
+    ensures obeys { (h : CommandHistory) (lines : List ℕ) → HasSaid session.old h lines → OnOk result
+        (Obeys session.old session.new out.old.items out.new.items h lines
+        (order_by (steered_in session.old) h spoken.entry.instant spoken.entry.text.now None None)) }
+{
+    if is_scan_alone(spoken) {
+        let _ = scan_first(alloc, session, out)?;
+        return Ok(Some(Step::First));
+    }
+    append_note(out, b"no command; HELP lists what may be said")?;
+    Ok(None)
+}
+
+/// Obeys a text that should be a command of a script: one with its instant there, one without an instant at that of the last accepted command,
+/// or a scan at its task's next release. What is answered is put at the end of `out`. The step that it is, if it is one. The one error is that
+/// memory was refused; then the session is of no more use.
+pub fn say(
+    alloc: Global,
+    session: &mut Session,
+    spoken: Spoken<'_>,
+    out: &mut Vec<u8>,
+) -> Result<Option<Step>, AllocError>
+    ensures step { IfOk result (λ step. step ≡ text_step (steered_in session.old).plant spoken.entry.instant spoken.entry.text.now) }
+    ensures obeys { (h : CommandHistory) (lines : List ℕ) → HasSaid session.old h lines → OnOk result
+        (Obeys session.old session.new out.old.items out.new.items h lines
+        (text_order (steered_in session.old) h spoken.entry.instant spoken.entry.text.now)) }
+{
+    let resource = session.debugger().resource();
+    if let Some(command) = read_command(resource, spoken.text) {
+        give(alloc, session, command, spoken, out)?;
+        return Ok(step_of(command));
+    }
+    match read_conditional(resource, spoken.text) {
+        Some(conditional) => {
+            place(alloc, session, conditional, spoken, out)?;
+            Ok(None)
+        }
+        None => say_other(alloc, session, spoken, out),
+    }
+}
