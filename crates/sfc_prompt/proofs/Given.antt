@@ -1,5 +1,5 @@
 -- Commands that were given, and what stays where they are refused.
-use Rattle.std.proofs.Common.{◌≡◌, ◌∙◌, refl, sym, ap, subst, true, false, ℕ, List, ◌++◌, Option, Some, None, Result, Ok, Err, ℤ}
+use Rattle.std.proofs.Common.{◌≡◌, ◌∙◌, refl, sym, ap, subst, true, false, ℕ, List, ◌++◌, Some, None, Result, Ok, Err, ℤ}
 use Rattle.std.specs.Prelude.{IfOk, OnOk}
 use Rattle.sfc_events.specs.declared.refusal.Refusal.{Refusal}
 use Rattle.sfc_debug.specs.Histories.{CommandHistory, TimedCommand}

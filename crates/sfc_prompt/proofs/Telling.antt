@@ -2,7 +2,6 @@
 use Rattle.std.proofs.Common.{◌≡◌, ◌∙◌, refl, sym, ap, subst, ℕ, List, [], ◌∷◌, ◌++◌, append_assoc, Option, Some, None, Result, Ok, Err, ℤ}
 use Rattle.std.specs.Prelude.{OnOk}
 use Rattle.std.proofs.lemmas.List.{append-nil}
-use Rattle.sfc_base.specs.declared.ids.ProgId.{ProgId}
 use Rattle.sfc_events.specs.declared.command.Command.TheVariants.{BreakIf}
 use Rattle.sfc_events.specs.declared.command.Point.{Point}
 use Rattle.sfc_debug.specs.declared.break_condition.BreakCondition.{BreakCondition}
@@ -13,7 +12,7 @@ use Rattle.sfc_script.specs.Commands.{Conditional}
 use Rattle.sfc_monitor.specs.Output.{Verdict, command_lines, debugger_of, text_of}
 use Rattle.sfc_prompt.specs.declared.session.Session.{Session}
 use Rattle.sfc_prompt.specs.Orders.{BreaksBy, IsShown, Obeys, Order, Gives, Waits, Shows}
-use Rattle.sfc_prompt.specs.Sessions.{HasSaid, IsGiven, IsTaken, IsWaiting, Stays, lines_by, script_after, script_in, script_line, steered_in, waiting}
+use Rattle.sfc_prompt.specs.Sessions.{HasSaid, IsGiven, IsTaken, IsWaiting, lines_by, script_after, script_in, script_line, steered_in, waiting}
 use Rattle.sfc_prompt.specs.Sessions.{waiting_verdict, with_lines, with_one_more, words_of}
 use Rattle.sfc_prompt.specs.Transcripts.{Piece, Accepted, Other, piece_text, written, history_after, said, saved, HasGoneOn, GoesOn, Puts}
 

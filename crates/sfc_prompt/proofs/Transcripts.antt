@@ -1,13 +1,13 @@
 -- What a session has written since its opening.
-use Rattle.std.proofs.Common.{◌≡◌, ◌∙◌, refl, sym, ap, subst, ℕ, List, [], ◌∷◌, ◌++◌, append_assoc}
+use Rattle.std.proofs.Common.{◌≡◌, ◌∙◌, refl, sym, ap, ℕ, List, [], ◌∷◌, ◌++◌, append_assoc}
 use Rattle.std.specs.Prelude.{reverse}
 use Rattle.std.proofs.lemmas.List.{append-nil, reverse-append, reverse-reverse}
 use Rattle.sfc_debug.specs.Histories.{CommandHistory, TimedCommand}
 use Rattle.sfc_output.specs.Steered.{Steered}
 use Rattle.sfc_monitor.specs.Output.{commands_lines, debugger_of, session_after, text_of}
 use Rattle.sfc_prompt.specs.declared.session.Session.{Session}
-use Rattle.sfc_prompt.specs.Sessions.{HasSaid, steered_in}
-use Rattle.sfc_prompt.specs.Transcripts.{Piece, Accepted, Other, HasGoneOn, IsTranscript, commands, history_after, said}
+use Rattle.sfc_prompt.specs.Sessions.{steered_in}
+use Rattle.sfc_prompt.specs.Transcripts.{Piece, Accepted, Other, HasGoneOn, IsTranscript, commands, history_after}
 use Rattle.sfc_prompt.proofs.Saying.{replayed, written}
 
 turned : (pieces : List Piece) (h : CommandHistory) → history_after h pieces ≡ reverse (commands pieces) ++ h

@@ -1,12 +1,11 @@
 use Rattle.std.proofs.Common.{rules, ◌≡◌, ◌∙◌, refl, sym, ap, ℕ, ℤ, List, Some, w64, SFits, to_z, of_z, to_z-of_z, take, length}
 use Rattle.sfc_events.specs.declared.command.Command.TheVariants.{Scan}
-use Rattle.sfc_debug.specs.Histories.{TimedCommand}
 use Rattle.sfc_output.specs.Steered.{Steered}
 use Rattle.sfc_monitor.specs.Output.{Verdict, command_lines, debugger_of, text_of}
 use Rattle.sfc_prompt.specs.declared.session.Session.{Session}
 use Rattle.sfc_prompt.specs.Scanning.{raw_of, scan_after}
 use Rattle.sfc_prompt.specs.Scanning as scanning
-use Rattle.sfc_prompt.specs.Sessions.{HasSaid, IsTaken, Stays, last_instant, steered_in, words_of}
+use Rattle.sfc_prompt.specs.Sessions.{Stays, last_instant, steered_in, words_of}
 use Rattle.sfc_prompt.proofs.Given.{not_due, ok_behind, taken_from}
 use Rattle.sfc_prompt.proofs.Scans.{here, there, none_if, front}
 use Rattle.sfc_prompt.proofs.scanning.scan.Goals as goal

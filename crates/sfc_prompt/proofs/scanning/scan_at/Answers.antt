@@ -1,9 +1,9 @@
-use Rattle.std.proofs.Common.{rules, ◌≡◌, ◌∙◌, sym, ap, subst, ℕ, ℤ, List, Option, w64, SFits, to_z, of_z, to_z-of_z}
+use Rattle.std.proofs.Common.{rules, ◌∙◌, sym, ap, subst, ℕ, ℤ, List, Option, w64, SFits, to_z, of_z, to_z-of_z}
 use Rattle.sfc_events.specs.declared.command.Command.TheVariants.{Scan}
 use Rattle.sfc_monitor.specs.Output.{Verdict}
 use Rattle.sfc_output.specs.Steered.{Steered}
 use Rattle.sfc_prompt.specs.declared.scanning.Tried.{Tried}
-use Rattle.sfc_prompt.specs.declared.scanning.Tried.TheVariants.{Answered, NoTurn}
+use Rattle.sfc_prompt.specs.declared.scanning.Tried.TheVariants.{NoTurn}
 use Rattle.sfc_prompt.specs.declared.session.Session.{Session}
 use Rattle.sfc_prompt.specs.Scanning.{scan_at, turn_scan}
 use Rattle.sfc_prompt.specs.Sessions.{IsTaken, steered_in}

@@ -1,4 +1,4 @@
-use Rattle.std.proofs.Common.{rules, ◌≡◌, ◌∙◌, refl, sym, ap, subst, ℕ, ℤ, List, w64, SFits, to_z, of_z, to_z-of_z, take, length}
+use Rattle.std.proofs.Common.{rules, ◌≡◌, ◌∙◌, sym, ap, subst, ℕ, ℤ, List, w64, SFits, to_z, of_z, to_z-of_z, take, length}
 use Rattle.sfc_events.specs.declared.command.Command.TheVariants.{Scan}
 use Rattle.sfc_output.specs.Steered.{Steered}
 use Rattle.sfc_monitor.specs.Output.{command_lines, debugger_of, text_of}

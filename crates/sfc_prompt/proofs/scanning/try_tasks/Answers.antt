@@ -1,11 +1,11 @@
-use Rattle.std.proofs.Common.{rules, ◌≡◌, ◌∙◌, sym, ap, subst, true, ℕ, ◌+◌, ◌<◌, ◌≤◌, ℤ, List, Option, w64, SFits, to_z, of_z, to_z-of_z, length}
+use Rattle.std.proofs.Common.{rules, ◌≡◌, ◌∙◌, sym, ap, subst, ℕ, ◌+◌, ◌<◌, ◌≤◌, ℤ, List, Option, w64, SFits, to_z, of_z, to_z-of_z, length}
 use Rattle.sfc_plant.specs.Plants.{PlantData}
 use Rattle.sfc_plant.specs.declared.task.Task.{Task}
 use Rattle.sfc_debug.specs.Histories.{CommandHistory}
 use Rattle.sfc_monitor.specs.Output.{Verdict}
 use Rattle.sfc_prompt.specs.declared.scanning.Tried.TheVariants.{Answered, NoTurn}
 use Rattle.sfc_prompt.specs.declared.session.Session.{Session}
-use Rattle.sfc_prompt.specs.Scanning.{earlier, is_out_of_turn, release_in}
+use Rattle.sfc_prompt.specs.Scanning.{earlier, release_in}
 use Rattle.sfc_prompt.specs.Sessions.{HasSaid, steered_in}
 use Rattle.sfc_prompt.specs.Trying.{TriesAll}
 use Rattle.sfc_prompt.proofs.Trying.{GoesThrough, through_all, through_here, through_more}

@@ -1,4 +1,4 @@
-use Rattle.std.proofs.Common.{◌≡◌, ◌∙◌, sym, ap, subst, ℕ, ℤ, List, Option, w64, SFits, to_z, of_z, to_z-of_z, rules}
+use Rattle.std.proofs.Common.{◌≡◌, ◌∙◌, sym, ap, subst, ℤ, Option, w64, SFits, to_z, of_z, to_z-of_z, rules}
 use Rattle.std.specs.Prelude.{unwrap_or}
 use Rattle.sfc_base.specs.declared.ids.TaskId.{TaskId}
 use Rattle.sfc_debug.specs.Histories.{TimedCommand}

@@ -1,13 +1,12 @@
-use Rattle.std.proofs.Common.{◌≡◌, ◌∙◌, sym, ap, subst, ℕ, ℤ, List, [], ◌∷◌, Option, Some, w64, SFits, to_z, of_z, to_z-of_z, rules}
+use Rattle.std.proofs.Common.{◌≡◌, ◌∙◌, ap, subst, ℤ, [], ◌∷◌, Some, w64, SFits, to_z, of_z, to_z-of_z, rules}
 use Rattle.std.specs.Prelude.{unwrap_or}
 use Rattle.sfc_plant.specs.Plants.{PlantData}
 use Rattle.sfc_events.specs.declared.command.Command.TheVariants.{BreakIf}
-use Rattle.sfc_debug.specs.Histories.{TimedCommand}
 use Rattle.sfc_script.specs.Scripts.{ConditionReads}
 use Rattle.sfc_prompt.specs.declared.expression.Found.{Found}
 use Rattle.sfc_prompt.specs.declared.session.Session.{Session}
 use Rattle.sfc_prompt.specs.Conditions.{added_by}
-use Rattle.sfc_prompt.specs.Sessions.{IsWaiting, last_instant, steered_in}
+use Rattle.sfc_prompt.specs.Sessions.{IsWaiting, last_instant}
 use Rattle.sfc_prompt.proofs.Given.{given_at}
 use Rattle.sfc_prompt.proofs.spoken.place.Goals as goal
 

@@ -1,4 +1,3 @@
-use Rattle.std.proofs.Common.{◌≡◌}
 use Rattle.std.proofs.lemmas.Result.{err_from_is_err_and}
 use Rattle.sfc_prompt.specs.Prompts.{session_in}
 use Rattle.sfc_prompt.proofs.Writing.{breaks_then, told_then}

@@ -1,4 +1,3 @@
-use Rattle.std.proofs.Common.{◌≡◌, ◌∙◌, ap, ℕ, List, ◌++◌}
 use Rattle.std.proofs.lemmas.Result.{err_from_is_err_and}
 use Rattle.sfc_prompt.specs.Prompts.{session_in}
 use Rattle.sfc_prompt.proofs.Telling.{puts_text}

@@ -1,4 +1,4 @@
-use Rattle.std.proofs.Common.{◌≡◌, ◌∙◌, sym, ap, subst, ℕ, List, Option, Some, None}
+use Rattle.std.proofs.Common.{◌≡◌, ◌∙◌, sym, ap, subst, Some}
 use Rattle.sfc_prompt.specs.declared.course.Course.{Course}
 use Rattle.sfc_prompt.specs.declared.session.Session.{Session}
 use Rattle.sfc_prompt.specs.declared.step.Step.{Step}

@@ -1,4 +1,4 @@
-use Rattle.std.proofs.Common.{◌≡◌, ◌∙◌, ap, ℕ, List, ◌++◌}
+use Rattle.std.proofs.Common.{◌≡◌, ℕ, List, ◌++◌}
 use Rattle.sfc_prompt.specs.declared.session.Session.{Session}
 use Rattle.sfc_prompt.specs.Orders.{IsShown}
 use Rattle.sfc_prompt.specs.Prompts.{session_in}
