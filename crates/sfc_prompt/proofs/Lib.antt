@@ -16,3 +16,5 @@ pub mod Telling
 pub mod Transcripts
 -- a session whose answers are written one after the other
 pub mod Writing
+-- conditions until which steps are taken
+pub mod Courses

@@ -9,6 +9,8 @@ pub mod Trying
 -- text that is put behind other text; what a text is as a condition
 pub mod Notes
 pub mod Conditions
+-- the conditions until which steps are taken
+pub mod Courses
 -- the words of a line, and what it says
 pub mod Words
 pub mod Lines

@@ -107,3 +107,8 @@ Obeys old new before behind h lines Shows = IsShown old new before behind h line
 abbrev pub Takes : Session → Session → List ℕ → List ℕ → CommandHistory → List ℕ → Step → Type 0
 Takes old new before behind h lines step =
     (told : Verdict) × IsTaken old new before behind told h lines (step_after (steered_in old) h step)
+
+-- The step was taken, and a text was put behind its answer.
+abbrev pub TakesFirst : Session → Session → List ℕ → List ℕ → CommandHistory → List ℕ → Step → Type 0
+TakesFirst old new before behind h lines step =
+    (middle : List ℕ) × Takes old new before middle h lines step × (text : List ℕ) × (behind ≡ middle ++ text)

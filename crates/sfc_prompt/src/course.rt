@@ -1,7 +1,12 @@
 //! Steps that are taken one after the other: until a condition is TRUE, or so often.
 
-ghost use Rattle.std.specs.Prelude.{◌≡◌, IsFalse, None, OnOk};
+ghost use Rattle.std.specs.Prelude.{◌≡◌, ◌<◌, true, IsFalse, IsTrue, List, ℕ, None, OnOk, Some};
+ghost use Rattle.sfc_debug.specs.Histories.{CommandHistory};
+ghost use Rattle.sfc_debug.specs.Hits.{is_met};
+ghost use Rattle.sfc_instance.specs.Views.{environment_in};
+ghost use Rattle.sfc_prompt.specs.Courses.{holds_after, is_met_after};
 ghost use Rattle.sfc_prompt.specs.Notes.{Adds};
+ghost use Rattle.sfc_prompt.specs.Sessions.{HasSaid, steered_in};
 
 use crate::expression::{Fault, Found, UNKNOWN_PROGRAM, read_condition};
 use crate::session::Session;
@@ -10,8 +15,11 @@ use crate::words::{first_word, from_word};
 use sfc_base::case::is_same_word;
 use sfc_base::ids::ProgId;
 use sfc_base::ticks::Ticks;
+use sfc_base::value::Value;
 use sfc_debug::break_condition::BreakCondition;
 use sfc_expr::eval::eval;
+use sfc_instance::laws::window;
+use sfc_instance::program_view::ProgramView;
 use sfc_output::append::{append, append_number};
 use sfc_plant::plant::Plant;
 use std::alloc::{AllocError, Global};
@@ -66,12 +74,28 @@ impl Course {
 
     /// Whether its condition is TRUE as the session stands. One that ends with a fault isn't.
     pub fn is_met(&self, session: &Session) -> bool
-        ensures { self.now.condition ≡ None → IsFalse result }
+        ensures none { self.now.condition ≡ None → IsFalse result }
+        ensures value { (h : CommandHistory) (lines : List ℕ) → HasSaid session.now h lines →
+            result ≡ is_met_after (steered_in session.now) h self.now.condition }
     {
         match &self.condition {
             Some(condition) => holds(session, condition),
             None => false,
         }
+    }
+
+    /// Whether no step of it is taken any more as the session stands: none is left, or its condition is TRUE.
+    pub fn is_over(&self, session: &Session) -> bool
+        ensures none { self.now.condition ≡ None → 0 < self.now.left → IsFalse result }
+        ensures left { 0 < self.now.left → (h : CommandHistory) (lines : List ℕ) → HasSaid session.now h lines →
+            result ≡ is_met_after (steered_in session.now) h self.now.condition }
+        ensures met { (h : CommandHistory) (lines : List ℕ) → HasSaid session.now h lines →
+            is_met_after (steered_in session.now) h self.now.condition ≡ true → IsTrue result }
+    {
+        if self.left == 0 {
+            return true;
+        }
+        self.is_met(session)
     }
 
     /// With one step more behind it.
@@ -115,18 +139,29 @@ impl Course {
     }
 }
 
+// Whether a condition is TRUE over a window. A fault of it is not told.
+fn reads_true(condition: &BreakCondition, view: &ProgramView<'_>) -> bool
+    ensures { result ≡ is_met (environment_in view.now) (Some condition.now) }
+{
+    let mut ticks = Ticks::new();
+    match eval(condition.condition.expr(), view, &mut ticks) {
+        Ok(Value::Bool(value)) => value,
+        _ => false,
+    }
+}
+
 // Whether a condition is TRUE now.
-fn holds(session: &Session, condition: &BreakCondition) -> bool {
+fn holds(session: &Session, condition: &BreakCondition) -> bool
+    ensures { (h : CommandHistory) (lines : List ℕ) → HasSaid session.now h lines →
+        result ≡ holds_after (steered_in session.now) h condition.now }
+{
     let resource = session.debugger().resource();
-    if usize::from(condition.program.0) >= resource.plant().instances().len() {
+    if usize::from(condition.program.0) >= session.plant().instances().len() {
         return false;
     }
-    let mut ticks = Ticks::new();
+    window();
     let view = resource.program(condition.program);
-    match eval(condition.condition.expr(), &view, &mut ticks) {
-        Ok(value) => value.is_true(),
-        Err(_) => false,
-    }
+    reads_true(condition, &view)
 }
 
 /// A program instance, and the text of a condition in it.

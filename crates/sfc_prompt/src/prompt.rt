@@ -1,6 +1,6 @@
 //! Lines that are obeyed one by one.
 
-ghost use Rattle.std.specs.Prelude.{◌≡◌, ◌<◌, OnOk, IfOk, Some, None};
+ghost use Rattle.std.specs.Prelude.{◌≡◌, ◌<◌, true, false, OnOk, IfOk, Some, None};
 ghost use Rattle.sfc_prompt.specs.Lines.{as_said};
 ghost use Rattle.sfc_prompt.specs.Prompts as prompts;
 
@@ -61,9 +61,10 @@ impl Prompt {
     ghost use Rattle.std.specs.Prelude.{List, ℕ};
     ghost use Rattle.sfc_debug.specs.Histories.{CommandHistory};
     ghost use Rattle.sfc_prompt.specs.declared.course.Course.{Course};
+    ghost use Rattle.sfc_prompt.specs.Courses.{is_met_after};
     ghost use Rattle.sfc_prompt.specs.Lines.{as_said, line_said};
     ghost use Rattle.sfc_prompt.specs.Notes.{Adds};
-    ghost use Rattle.sfc_prompt.specs.Orders.{IsShown, Obeys, Takes, order_of, text_order};
+    ghost use Rattle.sfc_prompt.specs.Orders.{IsShown, Obeys, Takes, TakesFirst, order_of, text_order};
     ghost use Rattle.sfc_prompt.specs.Prompts.{course_in, session_in};
     ghost use Rattle.sfc_prompt.specs.Sessions.{HasSaid, steered_in};
     ghost use Rattle.sfc_prompt.specs.Transcripts.{Puts};
@@ -238,6 +239,8 @@ impl Prompt {
         ensures puts { OnOk result (Puts (session_in self.old) (session_in self.new) out.old.items out.new.items) }
         ensures taken { (h : CommandHistory) (lines : List ℕ) → HasSaid (session_in self.old) h lines → course.condition ≡ None → OnOk result
             (Takes (session_in self.old) (session_in self.new) out.old.items out.new.items h lines course.step) }
+        ensures first { (h : CommandHistory) (lines : List ℕ) → HasSaid (session_in self.old) h lines → OnOk result
+            (TakesFirst (session_in self.old) (session_in self.new) out.old.items out.new.items h lines course.step) }
     {
         let answer = take(self.alloc, &mut self.session, course.step, out)?;
         let course = course.behind_step(answer.is_ok());
@@ -256,11 +259,17 @@ impl Prompt {
         ensures taken { (h : CommandHistory) (lines : List ℕ) (course : Course) → HasSaid (session_in self.old) h lines →
             course_in self.old ≡ Some course → course.condition ≡ None → 0 < course.left → OnOk result
             (Takes (session_in self.old) (session_in self.new) out.old.items out.new.items h lines course.step) }
+        ensures first { (h : CommandHistory) (lines : List ℕ) (course : Course) → HasSaid (session_in self.old) h lines →
+            course_in self.old ≡ Some course → 0 < course.left → is_met_after (steered_in (session_in self.old)) h course.condition ≡ false →
+            OnOk result (TakesFirst (session_in self.old) (session_in self.new) out.old.items out.new.items h lines course.step) }
+        ensures met { (h : CommandHistory) (lines : List ℕ) (course : Course) → HasSaid (session_in self.old) h lines →
+            course_in self.old ≡ Some course → is_met_after (steered_in (session_in self.old)) h course.condition ≡ true →
+            OnOk result (IsShown (session_in self.old) (session_in self.new) out.old.items out.new.items h lines) }
     {
         let Some(course) = self.course.take() else {
             return Ok(false);
         };
-        if course.left == 0 || course.is_met(&self.session) {
+        if course.is_over(&self.session) {
             course.append_end(out, &self.session)?;
             return Ok(false);
         }

@@ -1,8 +1,10 @@
-use Rattle.std.proofs.Common.{◌≡◌, ◌∙◌, sym, subst, ℕ, List}
+use Rattle.std.proofs.Common.{◌≡◌, ◌∙◌, sym, subst, ℕ, List, [], None}
+use Rattle.std.proofs.lemmas.List.{append-nil}
+use Rattle.sfc_debug.specs.Histories.{CommandHistory}
 use Rattle.sfc_monitor.specs.Output.{Verdict}
 use Rattle.sfc_prompt.specs.declared.session.Session.{Session}
 use Rattle.sfc_prompt.specs.Notes.{Adds}
-use Rattle.sfc_prompt.specs.Orders.{Takes}
+use Rattle.sfc_prompt.specs.Orders.{Takes, TakesFirst}
 use Rattle.sfc_prompt.specs.Prompts.{session_in}
 use Rattle.sfc_prompt.specs.Scanning.{step_after}
 use Rattle.sfc_prompt.specs.Sessions.{IsTaken, steered_in}
@@ -50,3 +52,20 @@ returns-clause-puts c =
 pub returns-clause-taken : goal.returns-clause-taken
 unfolding session_in
 returns-clause-taken c h lines said none = (c.in_ok-answer.answer, c.in_ok-answer.ensures.taken h lines said)
+
+pub returns-then-ends_steps-clause-first : goal.returns-then-ends_steps-clause-first
+unfolding session_in
+returns-then-ends_steps-clause-first c h lines said =
+    let old : Session = c.args.self.now.session in
+    let new : Session = c.take.new.session in
+    let x : List ℕ = c.args.out.now.items in
+    let y : List ℕ = c.take.new.out.items in
+    let z : List ℕ = c.append_end.new.out.items in
+    on_ok c.append_end.result (Adds y z) (TakesFirst old new x z h lines c.args.course.step)
+    (λ (adds : Adds y z). (y, (c.in_ok-answer.answer, c.in_ok-answer.ensures.taken h lines said), adds.0, adds.1)) c.append_end.ensures.adds
+
+pub returns-clause-first : goal.returns-clause-first
+unfolding session_in
+returns-clause-first c h lines said =
+    let y : List ℕ = c.take.new.out.items in
+    (y, (c.in_ok-answer.answer, c.in_ok-answer.ensures.taken h lines said), [], sym (append-nil y))
