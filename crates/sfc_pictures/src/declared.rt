@@ -1,6 +1,6 @@
 //! The declarations of a waveform: scopes and signals with their names.
 
-use crate::dump::{append_code, append_scope};
+use crate::piece::{append_code, append_scope};
 use crate::signal::Signal;
 use crate::signals::Signals;
 use sfc_base::ids::{ActionNumber, ProgId, TaskId, VarId};

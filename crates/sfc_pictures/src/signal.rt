@@ -45,6 +45,16 @@ pub fn bits_of(value: Value) -> u64 {
     }
 }
 
+/// How many bits a value has.
+pub fn width_of(var_type: VarType) -> u32 {
+    match var_type {
+        VarType::Bool => 1,
+        VarType::Int => 16,
+        VarType::Dint => 32,
+        VarType::Time => 64,
+    }
+}
+
 // The bits of what a variable reads.
 fn variable_bits(resource: &Resource, variable: VarId) -> u64 {
     if usize::from(variable.0) < resource.variables() {
@@ -110,9 +120,8 @@ impl Signal {
     /// How many bits it has.
     pub fn width(self) -> u32 {
         match self {
-            Signal::Overruns(_) | Signal::Elapsed(_, _) | Signal::Variable(_, VarType::Time) => 64,
-            Signal::Variable(_, VarType::Dint) => 32,
-            Signal::Variable(_, VarType::Int) => 16,
+            Signal::Overruns(_) | Signal::Elapsed(_, _) => 64,
+            Signal::Variable(_, var_type) => width_of(var_type),
             _ => 1,
         }
     }

@@ -2,7 +2,7 @@
 
 use crate::signal::Signal;
 use sfc_base::ids::{ActionNumber, ProgId, TaskId, VarId};
-use sfc_base::references::StepId;
+use sfc_base::references::{StepId, Variable};
 use sfc_base::var_type::VarType;
 use sfc_core::resource::Resource;
 use sfc_instance::program_view::ProgramView;
@@ -39,8 +39,6 @@ impl Group {
 pub struct Signals {
     /// All of them.
     pub list: Vec<Signal>,
-    /// Their bits as they were shown last, by the number of the signal.
-    pub last: Vec<u64>,
     /// Global variables, and each instance.
     pub groups: Vec<Group>,
 }
@@ -67,7 +65,6 @@ impl Signals {
     // One signal more.
     fn push(&mut self, signal: Signal) -> Result<(), AllocError> {
         self.list.push(signal)?;
-        self.last.push(0)?;
         Ok(())
     }
 
@@ -163,7 +160,6 @@ impl Signals {
     pub fn of_resource(alloc: Global, resource: &Resource) -> Result<Signals, AllocError> {
         let mut signals = Signals {
             list: Vec::new(alloc),
-            last: Vec::new(alloc),
             groups: Vec::new(alloc),
         };
         signals.push_tasks(resource.plant())?;
@@ -194,5 +190,23 @@ impl Signals {
             Some(group) => group.signal,
             None => self.list.len(),
         }
+    }
+
+    /// The number in the image of a variable of an instance's program.
+    pub fn number_of(&self, instance: usize, variable: Variable) -> Option<usize> {
+        match variable {
+            Variable::Global(global) => Some(global.0),
+            Variable::Local(local) => {
+                let group = self.groups.get(instance.saturating_add(1))?;
+                Some(group.variable.saturating_add(local.0))
+            }
+        }
+    }
+
+    /// The signal of the value of a variable.
+    pub fn value_of(&self, variable: VarId) -> Option<usize> {
+        let number = usize::from(variable.0);
+        let group = self.groups.iter().find(|group| number < group.end())?;
+        Some(group.value_of(number))
     }
 }

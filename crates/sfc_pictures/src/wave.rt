@@ -69,7 +69,7 @@ fn follow_commands<W: Write>(
 ) -> Result<(), MonitorError> {
     for timed in commands {
         follow_command(debugger, *timed, instants, waveform)?;
-        pass_on(&mut waveform.text, w)?;
+        pass_on(&mut waveform.dump.text, w)?;
     }
     Ok(())
 }
@@ -85,7 +85,7 @@ fn put_waveform<W: Write>(
     let mut waveform = Waveform::new(alloc, debugger)?;
     follow_commands(debugger, commands, instants, &mut waveform, w)?;
     waveform.end()?;
-    put_all(w, &waveform.text)?;
+    put_all(w, &waveform.dump.text)?;
     Ok(())
 }
 

@@ -1,0 +1,109 @@
+//! The signals of the steps and actions of an instance.
+
+use crate::dump::Dump;
+use crate::shown::{Shown, nearer};
+use sfc_base::ids::ActionNumber;
+use sfc_base::references::StepId;
+use sfc_instance::program_view::ProgramView;
+use std::alloc::AllocError;
+
+/// How many bits a step time has.
+const TIME: u32 = 64;
+
+// Puts X and T of a step, if there is such a step.
+fn put_step(
+    dump: &mut Dump,
+    view: &ProgramView<'_>,
+    shown: &mut Shown,
+    signal: usize,
+    step: usize,
+) -> Result<(), AllocError> {
+    if step >= view.tables().steps() {
+        return Ok(());
+    }
+    let id = StepId(step as u16);
+    let is_active = view.active(id);
+    shown.keep_active(step, is_active);
+    dump.put_bit(signal, is_active)?;
+    let elapsed = view.elapsed(id).cast_unsigned();
+    dump.put(signal.saturating_add(1), TIME, elapsed)
+}
+
+/// Puts the steps of an instance, whose signals begin here. T goes on while a step is active, and at the scan that leaves it. The one error is
+/// that memory was refused.
+pub fn put_steps(
+    dump: &mut Dump,
+    view: &ProgramView<'_>,
+    shown: &mut Shown,
+    first: usize,
+) -> Result<(), AllocError> {
+    let mut from = 0;
+    for _ in 0..view.steps() {
+        let Some(step) = shown.next_step(view, from) else {
+            break;
+        };
+        let signal = first.saturating_add(step.saturating_mul(2));
+        put_step(dump, view, shown, signal, step)?;
+        from = step.saturating_add(1);
+    }
+    Ok(())
+}
+
+// Puts Q of an action, if there is such an action.
+fn put_q(
+    dump: &mut Dump,
+    view: &ProgramView<'_>,
+    shown: &mut Shown,
+    signal: usize,
+    action: usize,
+) -> Result<(), AllocError> {
+    if action >= view.actions() {
+        return Ok(());
+    }
+    let q = view.q(ActionNumber(action));
+    shown.keep_q(action, q);
+    dump.put_bit(signal, q)
+}
+
+// Puts A of an action, if there is such an action.
+fn put_executed(
+    dump: &mut Dump,
+    view: &ProgramView<'_>,
+    shown: &mut Shown,
+    signal: usize,
+    action: usize,
+) -> Result<(), AllocError> {
+    if action >= view.actions() {
+        return Ok(());
+    }
+    let is_executed = view.executed(ActionNumber(action));
+    shown.keep_executed(action, is_executed);
+    dump.put_bit(signal, is_executed)
+}
+
+/// Puts the actions of an instance, whose signals begin here. The one error is that memory was refused.
+pub fn put_actions(
+    dump: &mut Dump,
+    view: &ProgramView<'_>,
+    shown: &mut Shown,
+    first: usize,
+) -> Result<(), AllocError> {
+    let mut q = shown.next_q(view, 0);
+    let mut executed = shown.next_executed(view, 0);
+    for _ in 0..view.actions() {
+        let Some(action) = nearer(q, executed) else {
+            break;
+        };
+        let signal = first.saturating_add(action.saturating_mul(2));
+        let behind = action.saturating_add(1);
+        if q == Some(action) {
+            put_q(dump, view, shown, signal, action)?;
+            q = shown.next_q(view, behind);
+        }
+        if executed == Some(action) {
+            put_executed(dump, view, shown, signal.saturating_add(1), action)?;
+            executed = shown.next_executed(view, behind);
+        }
+    }
+    Ok(())
+}
