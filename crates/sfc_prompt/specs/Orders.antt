@@ -83,8 +83,8 @@ order_of steered h Nothing = Shows
 abbrev pub IsShown : Session → Session → List ℕ → List ℕ → CommandHistory → List ℕ → Type 0
 IsShown old new before behind h lines = (text : List ℕ) × (behind ≡ before ++ text) × Stays old new h lines
 
--- A breakpoint whose text was read so: it waits for the condition; or its program instance isn't there, and it is given as one that waits for
--- the first condition; or the text is no condition, which is told.
+-- A breakpoint whose text was read so: it waits for the condition; or its program instance isn't there, and it is given as one that waits
+-- for the first condition; or the text is no condition, which is told.
 abbrev pub BreaksBy : Session → Session → List ℕ → List ℕ → CommandHistory → List ℕ → Conditional → ℤ → List ℕ
     → Option (List BreakCondition) → Type 0
 BreaksBy old new before behind h lines conditional raw words (Some (condition ∷ conditions)) =

@@ -79,8 +79,8 @@ abbrev pub turn_instant : Option ℕ → Option ℤ → ℤ → ℤ → ℤ
 turn_instant (Some task) next raw run = raw
 turn_instant None next raw run = goes_on next raw run
 
--- SCAN alone after these commands: the scan of the task whose turn it is at the instant of the last one, or where it is no task's turn then,
--- at the earliest next release of all tasks.
+-- SCAN alone after these commands: the scan of the task whose turn it is at the instant of the last one, or where it is no task's turn
+-- then, at the earliest next release of all tasks.
 abbrev pub first_scan_after : Steered → CommandHistory → TimedCommand
 first_scan_after steered h =
     let raw = last_instant h in

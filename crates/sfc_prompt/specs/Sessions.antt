@@ -110,10 +110,10 @@ words_of steered command = behind_blank (command_text steered command)
 
 -- ---- from one session to the next
 
--- A command that these words say was given behind those that were accepted. It is answered by the verdict, and its lines, which are put behind
--- other text, are those of a replay. Where it was accepted it is a line of the script.
-pub record IsGiven (old new : Session) (before behind : List ℕ) (told : Verdict) (h : CommandHistory) (lines : List ℕ) (timed : TimedCommand)
-    (words : List ℕ) : Type 0 where
+-- A command that these words say was given behind those that were accepted. It is answered by the verdict, and its lines, which are put
+-- behind other text, are those of a replay. Where it was accepted it is a line of the script.
+pub record IsGiven (old new : Session) (before behind : List ℕ) (told : Verdict) (h : CommandHistory) (lines : List ℕ)
+    (timed : TimedCommand) (words : List ℕ) : Type 0 where
   pub steered : steered_in new ≡ steered_in old
   pub answer : told ≡ (debugger_of (steered_in old)).verdict h timed
   pub written : behind ≡ before ++ command_lines (debugger_of (steered_in old)) (text_of (steered_in old)) h timed
@@ -127,15 +127,16 @@ IsTaken old new before behind told h lines timed =
     IsGiven old new before behind told h lines timed (words_of (steered_in old) timed.0)
 
 -- A breakpoint with a condition, which these words say, was set or refused behind those commands: the same with the longer table.
-pub record IsWaiting (old new : Session) (before behind : List ℕ) (told : Verdict) (h : CommandHistory) (lines : List ℕ) (placed : Point × ℤ)
-    (condition : BreakCondition) (words : List ℕ) : Type 0 where
+pub record IsWaiting (old new : Session) (before behind : List ℕ) (told : Verdict) (h : CommandHistory) (lines : List ℕ)
+    (placed : Point × ℤ) (condition : BreakCondition) (words : List ℕ) : Type 0 where
   pub steered : steered_in new ≡ steered_after told (steered_in old) condition
   pub answer : told ≡ waiting_verdict (steered_in old) h placed condition
-  pub written : behind ≡ before ++ lines_by (waiting_verdict (steered_in old) h placed condition) (with_one_more (steered_in old) condition) h
-      (waiting (steered_in old) placed condition)
+  pub written : behind ≡ before ++ lines_by (waiting_verdict (steered_in old) h placed condition)
+      (with_one_more (steered_in old) condition) h (waiting (steered_in old) placed condition)
   pub said : HasSaid new (history_by (waiting_verdict (steered_in old) h placed condition) (waiting (steered_in old) placed condition) h)
-      (with_lines (waiting_verdict (steered_in old) h placed condition) lines (lines_by (waiting_verdict (steered_in old) h placed condition)
-      (with_one_more (steered_in old) condition) h (waiting (steered_in old) placed condition)))
+      (with_lines (waiting_verdict (steered_in old) h placed condition) lines
+      (lines_by (waiting_verdict (steered_in old) h placed condition) (with_one_more (steered_in old) condition) h
+      (waiting (steered_in old) placed condition)))
   pub script : script_in new ≡ script_after told (script_in old) placed.1 words
 
 -- Nothing more was accepted.

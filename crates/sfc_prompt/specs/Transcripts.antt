@@ -52,8 +52,8 @@ pub record HasGoneOn (h : CommandHistory) (lines before : List ℕ) (text : List
   pub said : HasSaid session (history_after h pieces) (lines ++ said pieces)
   pub script : script_in session ≡ before ++ saved pieces
 
--- All that a session has written since its opening: what is said of its accepted commands is what a replay writes of them, over the conditions
--- that the session has, and the replay accepts all of them; and the script has a line for each.
+-- All that a session has written since its opening: what is said of its accepted commands is what a replay writes of them, over the
+-- conditions that the session has, and the replay accepts all of them; and the script has a line for each.
 pub record IsTranscript (session : Session) (text : List ℕ) : Type 0 where
   pub pieces : List Piece
   pub whole : text ≡ written pieces

@@ -10,8 +10,8 @@ use Rattle.sfc_prompt.specs.Sessions.{IsTaken, Stays, steered_in}
 use Rattle.sfc_prompt.specs.Scanning.{is_out_of_turn, next_among, tasks_of, turn_among}
 
 -- A scan was answered at a raw instant. Where it was not the task's turn nothing is left of it.
-pub record IsTried (old new : Session) (before behind : List ℕ) (told : Verdict) (h : CommandHistory) (lines : List ℕ) (timed : TimedCommand)
-    : Type 0 where
+pub record IsTried (old new : Session) (before behind : List ℕ) (told : Verdict) (h : CommandHistory) (lines : List ℕ)
+    (timed : TimedCommand) : Type 0 where
   pub answer : told ≡ (debugger_of (steered_in old)).verdict h timed
   pub turn : is_out_of_turn told ≡ false → IsTaken old new before behind told h lines timed
   pub stays : is_out_of_turn told ≡ true → Stays old new h lines
