@@ -1,4 +1,4 @@
-use Rattle.std.proofs.Common.{◌≡◌, ◌∙◌, sym, ap, subst, true, false, ℕ, ◌<◌, List, Option, Some, None}
+use Rattle.std.proofs.Common.{◌≡◌, ◌∙◌, sym, ap, subst, true, false, ◌<◌, Some}
 use Rattle.sfc_output.specs.Steered.{Steered}
 use Rattle.sfc_prompt.specs.declared.course.Course.{Course}
 use Rattle.sfc_prompt.specs.declared.session.Session.{Session}

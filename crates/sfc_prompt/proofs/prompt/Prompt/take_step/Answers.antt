@@ -1,6 +1,5 @@
-use Rattle.std.proofs.Common.{◌≡◌, ◌∙◌, sym, subst, ℕ, List, [], None}
+use Rattle.std.proofs.Common.{◌≡◌, ◌∙◌, sym, subst, ℕ, List, []}
 use Rattle.std.proofs.lemmas.List.{append-nil}
-use Rattle.sfc_debug.specs.Histories.{CommandHistory}
 use Rattle.sfc_monitor.specs.Output.{Verdict}
 use Rattle.sfc_prompt.specs.declared.session.Session.{Session}
 use Rattle.sfc_prompt.specs.Notes.{Adds}
