@@ -20,4 +20,4 @@ AreCalled inputs stores called =
 -- those that have their input are live
 abbrev pub AreAwake : Inputs → Stores → List Block → List Bool → Type 0
 AreAwake inputs stores blocks live = (k : ℕ) (d : Block) → k < length blocks →
-    flag (input_of (slice_index_or blocks k d).qualifier inputs stores) (slice_index_or blocks k d).action.0 ≡ true → flag live k ≡ true
+    let block = slice_index_or blocks k d in flag (input_of block.qualifier inputs stores) block.action.0 ≡ true → flag live k ≡ true
