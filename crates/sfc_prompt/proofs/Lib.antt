@@ -8,6 +8,13 @@ pub mod Turns
 pub mod Trying
 -- a breakpoint with a condition that joins the table
 pub mod Waiting
+-- accepted commands, the bytes of names, tasks by their names, the texts of lines
+pub mod Accepted
+pub mod NameBytes
+pub mod Named
+pub mod Texts
+-- what the line says that is written for an order
+pub mod Ordering
 -- a session that goes on, and what a replay writes of it
 pub mod Saying
 -- what a session writes, piece by piece

@@ -7,16 +7,17 @@ use Rattle.sfc_base.proofs.Written.{Appends-none, Appends-more, front_second}
 use Rattle.sfc_debug.specs.Histories.{CommandHistory}
 use Rattle.sfc_prompt.specs.declared.session.Session.{Session}
 use Rattle.sfc_prompt.specs.Desks.{Told, BreaksOff, Tells}
-use Rattle.sfc_prompt.specs.Sessions.{HasSaid, script_in}
-use Rattle.sfc_prompt.specs.Transcripts.{HasGoneOn, Puts, history_after, said}
+use Rattle.sfc_prompt.specs.Pieces.{history_after, said}
+use Rattle.sfc_prompt.specs.Sessions.{HasSaid, script_in, steered_in}
+use Rattle.sfc_prompt.specs.Transcripts.{HasGoneOn, Puts}
 use Rattle.sfc_prompt.proofs.Telling.{goes_then, puts_nothing}
 
 -- what was put of a session that went on
 gone : (old new : Session) (text : List ℕ) → Puts old new [] text → (h : CommandHistory) (lines : List ℕ) → HasSaid old h lines
-    → HasGoneOn h lines (script_in old) text new
+    → HasGoneOn (steered_in old) h lines (script_in old) text new
 gone old new text puts h lines has =
     let goes = puts h lines has in
-    subst (λ (t : List ℕ). HasGoneOn h lines (script_in old) t new) (sym goes.1) goes.2
+    subst (λ (t : List ℕ). HasGoneOn (steered_in old) h lines (script_in old) t new) (sym goes.1) goes.2
 
 -- all that was put was written, or a front of it
 pub tells_put : {X E : Type 0} (old new : Session) (text : List ℕ) (before behind : Option (List ℕ)) (result : Result X E)
@@ -44,7 +45,7 @@ module _ (a b d : Session) (w x y : Option (List ℕ)) (first : Told a b w x) wh
   told_then second h lines has =
       let one = first h lines has in
       let two = second (history_after h one.1.pieces) (lines ++ said one.1.pieces) one.1.said in
-      (one.0 ++ two.0, goes_then b d h lines (script_in a) one.0 two.0 one.1 two.1, Appends-more w x y one.0 two.0 one.2 two.2)
+      (one.0 ++ two.0, goes_then (steered_in a) b d h lines (script_in a) one.0 two.0 one.1 two.1, Appends-more w x y one.0 two.0 one.2 two.2)
 
   pub breaks_then : BreaksOff b x y → BreaksOff a w y
   breaks_then second h lines has =
@@ -52,7 +53,7 @@ module _ (a b d : Session) (w x y : Option (List ℕ)) (first : Told a b w x) wh
       let two = second (history_after h one.1.pieces) (lines ++ said one.1.pieces) one.1.said in (
         two.0,
         one.0 ++ two.1,
-        goes_then b two.0 h lines (script_in a) one.0 two.1 one.1 two.2,
+        goes_then (steered_in a) b two.0 h lines (script_in a) one.0 two.1 one.1 two.2,
         front_second w x y one.0 two.1 one.2 two.3,
       )
 
@@ -72,7 +73,7 @@ module _ (a b : Session) (before text : List ℕ) (w x : Option (List ℕ)) (non
 
   pub told_passed : (d : Session) → d ≡ b → Appends w x text → Told a d w x
   told_passed d same writes h lines has =
-      subst (λ (s : Session). (t : List ℕ) × HasGoneOn h lines (script_in a) t s × Appends w x t) (sym same)
+      subst (λ (s : Session). (t : List ℕ) × HasGoneOn (steered_in a) h lines (script_in a) t s × Appends w x t) (sym same)
       (text, gone a b text from_nothing h lines has, writes)
 
   pub breaks_passed : AppendsFront w x text → BreaksOff a w x

@@ -4,18 +4,18 @@ use Rattle.std.specs.Io.KnownBytes.{Appends}
 use Rattle.sfc_base.specs.Writing.{AppendsFront}
 use Rattle.sfc_debug.specs.Histories.{CommandHistory}
 use Rattle.sfc_prompt.specs.declared.session.Session.{Session}
-use Rattle.sfc_prompt.specs.Sessions.{HasSaid, script_in}
+use Rattle.sfc_prompt.specs.Sessions.{HasSaid, script_in, steered_in}
 use Rattle.sfc_prompt.specs.Transcripts.{HasGoneOn}
 
 -- From one session to a later one its transcript was written.
 abbrev pub Told : Session → Session → Option (List ℕ) → Option (List ℕ) → Type 0
 Told old new before behind = (h : CommandHistory) (lines : List ℕ) → HasSaid old h lines
-    → (text : List ℕ) × HasGoneOn h lines (script_in old) text new × Appends before behind text
+    → (text : List ℕ) × HasGoneOn (steered_in old) h lines (script_in old) text new × Appends before behind text
 
 -- A session has gone on, and a front of its transcript was written.
 abbrev pub BreaksOff : Session → Option (List ℕ) → Option (List ℕ) → Type 0
 BreaksOff old before behind = (h : CommandHistory) (lines : List ℕ) → HasSaid old h lines
-    → (later : Session) × (text : List ℕ) × HasGoneOn h lines (script_in old) text later × AppendsFront before behind text
+    → (later : Session) × (text : List ℕ) × HasGoneOn (steered_in old) h lines (script_in old) text later × AppendsFront before behind text
 
 -- the whole, or before an error a front
 abbrev pub Tells : {X E : Type 0} → Session → Session → Option (List ℕ) → Option (List ℕ) → Result X E → Type 0

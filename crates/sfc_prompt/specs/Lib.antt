@@ -18,7 +18,8 @@ pub mod Lines
 pub mod Orders
 -- what a prompt holds
 pub mod Prompts
--- what a session writes
+-- what a session writes, piece by piece, and what its script says
+pub mod Pieces
 pub mod Transcripts
 -- what it writes to a device
 pub mod Desks

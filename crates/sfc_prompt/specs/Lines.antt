@@ -9,7 +9,7 @@ use Rattle.sfc_prompt.specs.declared.line.Line.{Line}
 use Rattle.sfc_prompt.specs.declared.line.Line.TheVariants as line
 use Rattle.sfc_prompt.specs.declared.line.Word.{Word}
 use Rattle.sfc_prompt.specs.declared.line.Word.TheVariants as words
-use Rattle.sfc_prompt.specs.Words.{trimmed}
+use Rattle.sfc_prompt.specs.Words.{before_lf, trimmed}
 
 -- What a line says.
 pub data Said : Type 0 where
@@ -54,17 +54,21 @@ own_word word = option_or (showing_word word) (option_or (doing_word word) (tell
 
 -- by what its first word is: an instant, or else a word of the prompt's own
 abbrev pub said_by : List ℕ → List ℕ → Option ℤ → Option Word → Said
-said_by line rest (Some instant) word = Says (Some instant) (trimmed rest)
-said_by line rest None (Some word) = Asks word (trimmed rest)
-said_by line rest None None = Says None (trimmed line)
+said_by text rest (Some instant) word = Says (Some instant) (trimmed rest)
+said_by text rest None (Some word) = Asks word (trimmed rest)
+said_by text rest None None = Says None text
 
 abbrev pub said_behind : List ℕ → Option (List ℕ × List ℕ) → Said
-said_behind line None = Nothing
-said_behind line (Some w) =
-    if begins_comment w.0 then Remark else said_by line w.1 (duration_value w.0) (own_word w.0)
+said_behind text None = Nothing
+said_behind text (Some w) =
+    if begins_comment w.0 then Remark else said_by text w.1 (duration_value w.0) (own_word w.0)
 
+abbrev pub text_said : List ℕ → Said
+text_said text = said_behind text (first_word text)
+
+-- A line ends before its first LF, if it has one. Neither blanks at its end nor a CR there say anything.
 abbrev pub line_said : List ℕ → Said
-line_said line = said_behind line (first_word line)
+line_said line = text_said (trimmed (before_lf line))
 
 -- ---- what is read of it
 

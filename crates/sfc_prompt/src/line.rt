@@ -6,7 +6,7 @@ ghost use Rattle.sfc_prompt.specs.Lines.{as_said, line_said};
 ghost use Rattle.sfc_script.specs.Commands as commands;
 ghost use Rattle.sfc_tokens.specs.Lexing.DurationWords.{duration_value};
 
-use crate::words::{first_word, trimmed};
+use crate::words::{before_lf, first_word, trimmed};
 use sfc_base::case::is_same_word;
 use sfc_tokens::duration::duration;
 
@@ -124,28 +124,36 @@ fn begins_comment(word: &[u8]) -> bool
     }
 }
 
-// What a line says whose first word this is, with what stands behind it.
-fn read_behind<'a>(line: &'a [u8], word: &'a [u8], rest: &'a [u8]) -> Line<'a>
-    ensures { as_said result ≡ lines.said_by line.now rest.now (duration_value word.now) (lines.own_word word.now) }
+// What a text says whose first word this is, with what stands behind it.
+fn read_behind<'a>(text: &'a [u8], word: &'a [u8], rest: &'a [u8]) -> Line<'a>
+    ensures { as_said result ≡ lines.said_by text.now rest.now (duration_value word.now) (lines.own_word word.now) }
 {
     if let Some(instant) = duration(word) {
         return Line::Says(Some(instant), trimmed(rest));
     }
     match own_word(word) {
         Some(asked) => Line::Asks(asked, trimmed(rest)),
-        None => Line::Says(None, trimmed(line)),
+        None => Line::Says(None, text),
     }
 }
 
-/// What a line says, which stands here without its end. Texts have no blanks around them. It takes no memory.
-pub fn read_line(line: &[u8]) -> Line<'_>
-    ensures { as_said result ≡ line_said line.now }
+// What a text says, which has no blanks around it.
+fn read_text(text: &[u8]) -> Line<'_>
+    ensures { as_said result ≡ lines.text_said text.now }
 {
-    let Some((word, rest)) = first_word(line) else {
+    let Some((word, rest)) = first_word(text) else {
         return Line::Empty;
     };
     if begins_comment(word) {
         return Line::Comment;
     }
-    read_behind(line, word, rest)
+    read_behind(text, word, rest)
+}
+
+/// What a line says, which stands here with its end or without it: it ends before its first LF, and neither blanks nor a CR at its
+/// end say anything. Texts have no blanks around them. It takes no memory.
+pub fn read_line(line: &[u8]) -> Line<'_>
+    ensures { as_said result ≡ line_said line.now }
+{
+    read_text(trimmed(before_lf(line)))
 }

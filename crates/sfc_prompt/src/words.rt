@@ -14,6 +14,29 @@ fn is_blank(byte: u8) -> bool
     byte == b' ' || byte == b'\t'
 }
 
+// Whether no text ends with the byte: a blank, or a CR.
+fn is_ending(byte: u8) -> bool
+    ensures { result ≡ words.is_ending byte }
+{
+    is_blank(byte) || byte == b'\r'
+}
+
+/// The bytes before the first LF.
+#[tactic(auto, unfolding(sfc_script::specs::Lines::split_before))]
+pub fn before_lf(bytes: &[u8]) -> &[u8]
+    ensures { result.now ≡ words.before_lf bytes.now }
+{
+    let mut count = 0;
+    'all: for byte in bytes {
+        if *byte == b'\n' {
+            break;
+        }
+        count += 1;
+    }
+    let (line, _) = bytes.split_at(count);
+    line
+}
+
 /// What stands from the first word on; nothing where there are no words.
 pub fn from_word(text: &[u8]) -> &[u8]
     ensures { result.now ≡ words.from_word text.now }
@@ -28,13 +51,13 @@ pub fn from_word(text: &[u8]) -> &[u8]
     rest
 }
 
-// The text without the blanks at its end.
+// The text without the blanks and CR at its end.
 fn without_end(text: &[u8]) -> &[u8]
     ensures { result.now ≡ words.without_end text.now }
 {
     let mut rest = text;
     'blanks: while let Some((byte, front)) = rest.split_last() {
-        if !is_blank(*byte) {
+        if !is_ending(*byte) {
             break;
         }
         rest = front;
@@ -42,7 +65,7 @@ fn without_end(text: &[u8]) -> &[u8]
     rest
 }
 
-/// The text without the blanks around it.
+/// The text without the blanks in front of it, and without the blanks and CR behind it.
 pub fn trimmed(text: &[u8]) -> &[u8]
     ensures { result.now ≡ words.trimmed text.now }
 {

@@ -16,7 +16,7 @@ use Rattle.sfc_script.proofs.PlainInstants.{IsPlain, ArePlain, IsInstant}
 -- ---- a word in front of a line
 
 -- a byte that ends no line
-byte_in_line : (b : ℕ) (bytes : List ℕ) → (b == 10) ≡ false → (b == 13) ≡ false → lines_of (b ∷ bytes) ≡ in_line b (lines_of bytes)
+pub byte_in_line : (b : ℕ) (bytes : List ℕ) → (b == 10) ≡ false → (b == 13) ≡ false → lines_of (b ∷ bytes) ≡ in_line b (lines_of bytes)
 byte_in_line b bytes e f =
     ap (λ t. if t then [] ∷ lines_of bytes else if b == 13 && begins_with_lf bytes then lines_of bytes else in_line b (lines_of bytes)) e
     ∙ ap (λ t. if t && begins_with_lf bytes then lines_of bytes else in_line b (lines_of bytes)) f
@@ -57,7 +57,7 @@ blank_line (b ∷ bytes) blank = by (lines_of bytes) refl
 -- ---- lines
 
 -- the line that an instant and what stands behind it are
-timed_line : (plant : PlantData) (first : ℕ) (word text : List ℕ) (t : ℤ) → IsPlain first → ArePlain word → duration_value (first ∷ word) ≡ Some t → begins_with_blank text ≡ true
+pub timed_line : (plant : PlantData) (first : ℕ) (word text : List ℕ) (t : ℤ) → IsPlain first → ArePlain word → duration_value (first ∷ word) ≡ Some t → begins_with_blank text ≡ true
     → said_of plant (first ∷ (word ++ text)) ≡ said_at plant (Some t) text
 timed_line plant first word text t plain others value blank =
     ap (λ s. said_behind plant (if s then first_word (word ++ text) else Some (split_before is_blank (first ∷ (word ++ text))))) plain.blank

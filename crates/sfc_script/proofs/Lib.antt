@@ -8,5 +8,7 @@ pub mod FirstLines
 pub mod Meanings
 pub mod Places
 pub mod PlainInstants
+pub mod PlainTimes
 pub mod Said
 pub mod Splits
+pub mod TimedLines

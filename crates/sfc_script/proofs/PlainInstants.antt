@@ -40,7 +40,7 @@ plain_letter b h = record { blank = grind (arith, nat_tests); lf = grind (arith,
 plain_sharp : IsPlain 35
 plain_sharp = record { blank = refl; lf = refl; cr = refl; comment = refl }
 
-plain_append : (v w : List ℕ) → ArePlain v → ArePlain w → ArePlain (v ++ w)
+pub plain_append : (v w : List ℕ) → ArePlain v → ArePlain w → ArePlain (v ++ w)
 plain_append [] w h g = g
 plain_append (b ∷ v) w h g = (h.0, plain_append v w h.1 g)
 

@@ -1,5 +1,5 @@
 -- The lines of a script, and the words of a line (our choice of format).
-use Rattle.std.specs.Prelude.{ℕ, ◌==◌, Bool, false, ◌&&◌, ◌||◌, if◌then◌else◌, is_none, List, [], ◌∷◌, Option, Some, None}
+use Rattle.std.specs.Prelude.{ℕ, ◌==◌, Bool, true, false, not, ◌&&◌, ◌||◌, if◌then◌else◌, is_none, List, [], ◌∷◌, Option, Some, None}
 use Rattle.std.specs.Option.{option_map, option_and_then}
 
 -- ---- lines
@@ -20,6 +20,12 @@ lines_of (b ∷ bytes) =
     if b == 10 then [] ∷ lines_of bytes else
     if b == 13 && begins_with_lf bytes then lines_of bytes else
     in_line b (lines_of bytes)
+
+-- The bytes are one line as they stand: no LF is among them, and no CR at their end.
+abbrev pub is_one_line : List ℕ → Bool
+is_one_line [] = true
+is_one_line (b ∷ []) = not (b == 10) && not (b == 13)
+is_one_line (b ∷ c ∷ bytes) = not (b == 10) && is_one_line (c ∷ bytes)
 
 -- ---- words
 

@@ -1,10 +1,13 @@
 //! What the definitions mean: each law is a function with an empty body, whose contract is the law.
 
-ghost use Rattle.std.specs.Prelude.{◌≡◌, ◌<◌, ◌^◌, ◌∷◌, ◌++◌, ℕ, ℤ, List, Result, unsigned_abs, Some};
+ghost use Rattle.std.specs.Prelude.{◌≡◌, ◌<◌, ◌≤◌, ◌^◌, ◌∷◌, ◌++◌, ℕ, ℤ, List, Result, codes, unsigned_abs, true, Some};
 ghost use Rattle.std.specs.Fmt.{signed_decimal};
+ghost use Rattle.sfc_base.specs.Durations.{greatest};
+ghost use Rattle.sfc_base.specs.TimeText.{time_text};
 ghost use Rattle.sfc_plant.specs.Plants.{PlantData};
 ghost use Rattle.sfc_script.specs.Arriving.{ended_line};
-ghost use Rattle.sfc_script.specs.Lines.{lines_of};
+ghost use Rattle.sfc_script.specs.Commands.{command_of, conditional_of, said_by, said_of};
+ghost use Rattle.sfc_script.specs.Lines.{is_one_line, lines_of};
 ghost use Rattle.sfc_script.specs.Scripts.{ScriptData, ScriptReads};
 ghost use Rattle.sfc_script.specs.Values.{number_of};
 
@@ -28,4 +31,15 @@ pub fn some_script()
 pub fn first_line_stays()
     ensures { (bytes line rest more : List ℕ) → ended_line bytes ≡ Some (line, rest)
         → lines_of (bytes ++ more) ≡ line ∷ lines_of (rest ++ more) }
+{}
+
+/// The line of the TIME text of an instant, a blank and a text says what the text says, at that instant.
+pub fn timed_line_read()
+    ensures { (plant : PlantData) (t : ℤ) (text : List ℕ) → unsigned_abs t ≤ greatest
+        → said_of plant (time_text t ++ codes " " ++ text) ≡ said_by (command_of plant text) (conditional_of plant text) t }
+{}
+
+/// A line with an LF behind it is the first line of a text, and the others are those of what stands behind that.
+pub fn line_in_front()
+    ensures { (line rest : List ℕ) → is_one_line line ≡ true → lines_of (line ++ codes "\n" ++ rest) ≡ line ∷ lines_of rest }
 {}

@@ -21,7 +21,7 @@ returns-then-ends_steps-clause-puts c =
     let z : List ℕ = c.append_end.new.out.items in
     on_ok c.append_end.result (Adds y z) (Puts old new x z)
     (λ (adds : Adds y z). puts_then old new new x y z
-    (puts_taken old new x y c.in_ok-answer.answer (λ h. step_after (steered_in old) h c.args.course.step) c.in_ok-answer.ensures.taken)
+    (puts_taken old new x y c.in_ok-answer.answer c.args.course.step c.in_ok-answer.ensures.taken)
     (puts_text new y z adds.0 adds.1)) c.append_end.ensures.adds
 
 pub returns-then-ends_steps-clause-taken : goal.returns-then-ends_steps-clause-taken
@@ -45,8 +45,8 @@ pub returns-clause-puts : goal.returns-clause-puts
 unfolding session_in
 returns-clause-puts c =
     let old : Session = c.args.self.now.session in
-    puts_taken old c.take.new.session c.args.out.now.items c.take.new.out.items c.in_ok-answer.answer
-    (λ h. step_after (steered_in old) h c.args.course.step) c.in_ok-answer.ensures.taken
+    puts_taken old c.take.new.session c.args.out.now.items c.take.new.out.items c.in_ok-answer.answer c.args.course.step
+    c.in_ok-answer.ensures.taken
 
 pub returns-clause-taken : goal.returns-clause-taken
 unfolding session_in
