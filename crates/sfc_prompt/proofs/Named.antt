@@ -1,5 +1,5 @@
 -- The tasks of a plant that a text loads as are found by their names.
-use Rattle.std.proofs.Common.{◌≡◌, ◌∙◌, refl, sym, ap, subst, ℕ, suc, ◌<◌, ◌≤◌, nat_lt, arith, cond, Bool, true, false, ◌||◌, All, List, [], ◌∷◌, ◌++◌, length, map, get_or, Option, Some, None, Ok}
+use Rattle.std.proofs.Common.{◌≡◌, ◌∙◌, refl, sym, ap, subst, ℕ, zero, suc, ◌<◌, ◌≤◌, nat_lt, arith, cond, Bool, true, false, ◌||◌, All, List, [], ◌∷◌, ◌++◌, length, map, get_or, Option, Some, None, Ok}
 use Rattle.std.specs.List.{list_any}
 use Rattle.std.specs.Option.{option_map}
 use Rattle.std.proofs.lemmas.Bool.Decides.{nat_tests}
@@ -74,11 +74,11 @@ module _ (globals : List Variable) where
   apart : (before : List (List ℕ)) (tasks : List text_task.Task) → checked before tasks ≡ None → (i k : ℕ) → k < i → i < length tasks
       → same_word (get_or (map task_name tasks) i []) (get_or (map task_name tasks) k []) ≡ false
   apart before [] e i k less there = absurd (omega arith)
-  apart before (t ∷ tasks) e 0 k less there = absurd (omega arith)
-  apart before (t ∷ tasks) e (suc i) 0 less there =
+  apart before (t ∷ tasks) e zero k less there = absurd (omega arith)
+  apart before (t ∷ tasks) e (suc i) zero less there =
       let more : List (List ℕ) = before ++ t.name ∷ [] in
       let new = all_new more tasks (then_second (task_check globals before t) (checked more tasks) e) in
-      let within : i < length (map task_name tasks) = rw (length-map task_name tasks) (omega arith) in
+      let within : i < length (map task_name tasks) = subst (λ (n : ℕ). i < n) (sym (length-map tasks task_name)) (omega arith) in
       not_last before t.name (get_or (map task_name tasks) i [])
       (All-get_or (λ (n : List ℕ). has more n ≡ false) (map task_name tasks) i [] within
       (All-map (λ (n : List ℕ). has more n ≡ false) task_name tasks new))
@@ -119,8 +119,8 @@ named_in text tree read passes i less =
     let tasks : List text_task.Task = tree.configuration.tasks in
     let names : List (List ℕ) = map (λ (t : Task). t.name) (plant_of tree).tasks in
     let can = spelled text tree read passes in
-    let there : i < length names = rw (length-map (λ (t : Task). t.name) (plant_of tree).tasks) less in
-    let count : i < length tasks = subst (λ (n : ℕ). i < n) (length-map (task_of globals) tasks) less in
+    let there : i < length names = subst (λ (n : ℕ). i < n) (sym (length-map (plant_of tree).tasks (λ (t : Task). t.name))) less in
+    let count : i < length tasks = subst (λ (n : ℕ). i < n) (length-map tasks (task_of globals)) less in
     let other : (k : ℕ) → k < i → same_word (get_or names i []) (get_or names k []) ≡ false =
     λ k below. subst (λ (ns : List (List ℕ)). same_word (get_or ns i []) (get_or ns k []) ≡ false) (sym (names_are tree))
     (apart globals [] tasks (tasks_pass tree passes) i k below count) in

@@ -1,5 +1,5 @@
 -- What the line of a script says that a session writes for an order.
-use Rattle.std.proofs.Common.{◌≡◌, ◌∙◌, refl, sym, ap, subst, ℕ, suc, ◌<◌, ◌≤◌, ◌^◌, ◌==◌, nat_lt, cond, arith, Bool, true, false, List, [], ◌∷◌, ◌++◌, length, codes, ℤ, Option, Some, None, Result, Ok, Err, rules}
+use Rattle.std.proofs.Common.{◌≡◌, ◌∙◌, refl, sym, ap, subst, ℕ, zero, suc, ◌<◌, ◌≤◌, ◌^◌, ◌==◌, nat_lt, cond, arith, Bool, true, false, List, [], ◌∷◌, ◌++◌, append_assoc, length, codes, ℤ, Option, Some, None, Result, Ok, Err, rules}
 use Rattle.std.specs.List.{AllByRecursion, list_all}
 use Rattle.std.specs.Option.{option_and_then, option_map}
 use Rattle.std.specs.Prelude.{IsOk, IsTrue, if◌then◌else◌, is_none, slice_get, unsigned_abs, unwrap_or, ⊤}
@@ -43,13 +43,13 @@ use Rattle.sfc_script.proofs.PlainTimes.{behind_letter, letter_first, time_plain
 use Rattle.sfc_script.proofs.Splits.{split_more, split_stop}
 use Rattle.sfc_script.proofs.TimedLines.{timed_says}
 use Rattle.sfc_monitor.specs.Output.{Verdict, debugger_of}
-use Rattle.sfc_prompt.specs.declared.step.Step.{Step}
-use Rattle.sfc_prompt.specs.declared.step.Step.TheVariants as steps
+use Rattle.sfc_session.specs.declared.step.Step.{Step}
+use Rattle.sfc_session.specs.declared.step.Step.TheVariants as steps
 use Rattle.sfc_prompt.specs.Lines.{Said, Nothing, Remark, Says, Asks}
 use Rattle.sfc_prompt.specs.Orders.{Order, Gives, Waits, Shows, command_order, free_scan, is_scan_alone, order_by, order_of, takes, text_order}
 use Rattle.sfc_prompt.specs.Pieces.{AreNamed, IsNamed, IsSaid, line_text}
-use Rattle.sfc_prompt.specs.Scanning.{first_scan_after, scan_after, step_after}
-use Rattle.sfc_prompt.specs.Sessions.{last_instant, waiting, waiting_verdict, with_one_more, words_of}
+use Rattle.sfc_session.specs.Scanning.{first_scan_after, scan_after, step_after}
+use Rattle.sfc_session.specs.Sessions.{last_instant, waiting, waiting_verdict, with_one_more, words_of}
 use Rattle.sfc_prompt.proofs.Accepted.{program_there, raw_small, scan_there, single_small, single_there}
 use Rattle.sfc_prompt.proofs.NameBytes.{Word, name_word}
 use Rattle.sfc_prompt.proofs.Texts.{HasLine, one_more, plain_front}
@@ -58,7 +58,9 @@ use Rattle.sfc_prompt.proofs.Texts.{HasLine, one_more, plain_front}
 
 -- a text that is one line, behind its instant
 line_whole : (raw : ℤ) (words : List ℕ) → unsigned_abs raw ≤ greatest → is_one_line words ≡ true → is_one_line (line_text raw words) ≡ true
-line_whole raw words small one = plain_front (time_text raw) (32 ∷ words) (time_plain raw small) (one_more 32 words refl refl one)
+line_whole raw words small one =
+    ap is_one_line (append_assoc (time_text raw) (codes " ") words)
+    ∙ plain_front (time_text raw) (32 ∷ words) (time_plain raw small) (one_more 32 words refl refl one)
 
 -- the line of words that are a command without a condition
 plain_said : (plant : PlantData) (k : ℕ) (command : Command) (raw : ℤ) (words : List ℕ) → unsigned_abs raw ≤ greatest
@@ -192,10 +194,12 @@ module _ (st : Steered) (h : CommandHistory) (raw : ℤ) (named : AreNamed st.pl
       let name : List ℕ = task_name st.plant task in
       let time : List ℕ = time_text delta in
       let word : Word name = name_word name is.name in
-      let text : List ℕ = name ++ 32 ∷ time in
+      let text : List ℕ = name ++ codes " " ++ time in
+      let same : text ≡ name ++ 32 ∷ time = append_assoc name (codes " ") time in
       let value : duration_value time ≡ Some delta = word_again (time_is delta small) in
       let two : two_words (32 ∷ text) ≡ Some (name, time) =
-      ap (λ (o : Option (List ℕ × List ℕ)). option_and_then (λ w. option_map (λ second. (w.0, second)) (only_word w.1)) o)
+      ap two_words (ap (λ (t : List ℕ). 32 ∷ t) same)
+      ∙ ap (λ (o : Option (List ℕ × List ℕ)). option_and_then (λ w. option_map (λ second. (w.0, second)) (only_word w.1)) o)
       (first_before name time word)
       ∙ ap (λ (o : Option (List ℕ)). option_map (λ second. (name, second)) o) (only_alone time (time_word delta small)) in
       let command : command_of st.plant (codes "SINGLE " ++ text) ≡ Some (commands.Single task delta) =
@@ -206,13 +210,14 @@ module _ (st : Steered) (h : CommandHistory) (raw : ℤ) (named : AreNamed st.pl
       ∙ ap (λ (t : TaskId). Some (commands.Single t delta)) (task_again st.plant task is) in
       plain_said st.plant (length st.table) (commands.Single task delta) raw (codes "SINGLE " ++ text)
       (raw_small st.plant st.table h (commands.Single task delta) raw ok)
-      (behind_single text (plain_front name (32 ∷ time) (name_plain name word) (one_more 32 time refl refl (one_word time (time_word delta small))))) command
+      (behind_single text (ap is_one_line same
+      ∙ plain_front name (32 ∷ time) (name_plain name word) (one_more 32 time refl refl (one_word time (time_word delta small))))) command
 
 -- ---- conditions
 
 slice_get_within_some : {A : Type 0} (xs : List A) (i : ℕ) → i < length xs → (x : A) × (slice_get xs i ≡ Some x)
 slice_get_within_some [] i less = absurd (omega arith)
-slice_get_within_some (x ∷ xs) 0 less = (x, refl)
+slice_get_within_some (x ∷ xs) zero less = (x, refl)
 slice_get_within_some (x ∷ xs) (suc i) less = slice_get_within_some xs i (omega arith)
 
 module _ (plant : PlantData) (p : ProgId) (text : List ℕ) where

@@ -12,13 +12,13 @@ use Rattle.sfc_plant.specs.Plants.{PlantData}
 use Rattle.sfc_script.specs.Commands.{Conditional}
 use Rattle.sfc_script.specs.Scripts.{ConditionReads}
 use Rattle.sfc_monitor.specs.Output.{Verdict, command_lines, debugger_of, text_of}
-use Rattle.sfc_prompt.specs.declared.session.Session.{Session}
+use Rattle.sfc_session.specs.declared.session.Session.{Session}
 use Rattle.sfc_prompt.specs.Orders.{BreaksBy, IsShown, Obeys, Order, Gives, Waits, Shows}
 use Rattle.sfc_prompt.specs.Pieces.{Piece, Accepted, Other, piece_text, written, history_after, said, saved, added, AreNamed, AreSaid, IsSaid}
-use Rattle.sfc_prompt.specs.declared.step.Step.{Step}
-use Rattle.sfc_prompt.specs.Scanning.{step_after}
-use Rattle.sfc_prompt.specs.Sessions.{HasSaid, IsGiven, IsTaken, IsWaiting, lines_by, script_after, script_in, script_line, steered_after, steered_in}
-use Rattle.sfc_prompt.specs.Sessions.{waiting, waiting_verdict, with_lines, with_one_more, words_of}
+use Rattle.sfc_session.specs.declared.step.Step.{Step}
+use Rattle.sfc_session.specs.Scanning.{step_after}
+use Rattle.sfc_session.specs.Sessions.{HasSaid, IsGiven, IsTaken, IsWaiting, lines_by, script_after, script_in, script_line, steered_after, steered_in}
+use Rattle.sfc_session.specs.Sessions.{waiting, waiting_verdict, with_lines, with_one_more, words_of}
 use Rattle.sfc_prompt.specs.Transcripts.{HasGoneOn, GoesOn, Puts}
 use Rattle.sfc_prompt.proofs.Ordering.{OrderSays, condition_says, never_there, step_says}
 

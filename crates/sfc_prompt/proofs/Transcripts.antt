@@ -5,7 +5,6 @@ use Rattle.std.proofs.lemmas.Bool.Decides.{nat_tests}
 use Rattle.std.proofs.lemmas.List.{append-nil, reverse-append, reverse-reverse}
 use Rattle.sfc_debug.specs.Histories.{CommandHistory, TimedCommand}
 use Rattle.sfc_output.specs.Steered.{Steered}
-use Rattle.sfc_base.specs.TimeText.{time_text}
 use Rattle.sfc_plant.specs.Plants.{PlantData}
 use Rattle.sfc_load.specs.Accepted.{IsAccepted}
 use Rattle.sfc_script.specs.Lines.{lines_of}
@@ -13,12 +12,12 @@ use Rattle.sfc_script.specs.Scripts.{LinesRead, ScriptData, ScriptReads}
 use Rattle.sfc_script.proofs.TimedLines.{in_front}
 use Rattle.sfc_monitor.specs.Output.{closing_lines, commands_lines, debugger_of, lines_of_play, session_after, text_of}
 use Rattle.sfc_monitor.specs.Replay.{played_on}
-use Rattle.sfc_prompt.specs.declared.session.Session.{Session}
-use Rattle.sfc_prompt.specs.Sessions.{script_in, script_line, steered_in}
+use Rattle.sfc_session.specs.declared.session.Session.{Session}
+use Rattle.sfc_session.specs.Sessions.{script_in, script_line, steered_in}
 use Rattle.sfc_prompt.specs.Pieces.{Piece, Accepted, Other, added, commands, history_after, saved, line_text, AreSaid}
 use Rattle.sfc_prompt.specs.Transcripts.{HasGoneOn, IsReplayed, IsTranscript, opened_on}
 use Rattle.sfc_prompt.proofs.Named.{are_named}
-use Rattle.sfc_prompt.proofs.Saying.{replayed, written}
+use Rattle.sfc_session.proofs.Saying.{replayed, written}
 
 turned : (pieces : List Piece) (h : CommandHistory) → history_after h pieces ≡ reverse (commands pieces) ++ h
 turned [] h = refl
@@ -52,10 +51,7 @@ abbrev script_of : List Piece → ScriptData
 script_of pieces = record { commands = commands pieces; table = added pieces }
 
 ended : (raw : ℤ) (words rest : List ℕ) → script_line raw words ++ rest ≡ line_text raw words ++ 10 ∷ rest
-ended raw words rest =
-    append_assoc (time_text raw) (codes " " ++ words ++ codes "\n") rest
-    ∙ ap (λ (t : List ℕ). time_text raw ++ 32 ∷ t) (append_assoc words (codes "\n") rest)
-    ∙ sym (append_assoc (time_text raw) (32 ∷ words) (10 ∷ rest))
+ended raw words rest = append_assoc (line_text raw words) (codes "\n") rest
 
 lines_read : (plant : PlantData) (n k : ℕ) (pieces : List Piece) → AreSaid plant k pieces
     → LinesRead plant n k (lines_of (saved pieces)) (Ok (script_of pieces))

@@ -5,10 +5,10 @@ use Rattle.std.specs.Io.KnownBytes.{Appends}
 use Rattle.sfc_base.specs.Writing.{AppendsFront, Writes}
 use Rattle.sfc_base.proofs.Written.{Appends-none, Appends-more, front_second}
 use Rattle.sfc_debug.specs.Histories.{CommandHistory}
-use Rattle.sfc_prompt.specs.declared.session.Session.{Session}
+use Rattle.sfc_session.specs.declared.session.Session.{Session}
 use Rattle.sfc_prompt.specs.Desks.{Told, BreaksOff, Tells}
 use Rattle.sfc_prompt.specs.Pieces.{history_after, said}
-use Rattle.sfc_prompt.specs.Sessions.{HasSaid, script_in, steered_in}
+use Rattle.sfc_session.specs.Sessions.{HasSaid, script_in, steered_in}
 use Rattle.sfc_prompt.specs.Transcripts.{HasGoneOn, Puts}
 use Rattle.sfc_prompt.proofs.Telling.{goes_then, puts_nothing}
 

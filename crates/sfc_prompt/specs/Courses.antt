@@ -1,10 +1,28 @@
--- The conditions until which steps are taken.
-use Rattle.std.specs.Prelude.{Bool, false, ◌&&◌, nat_lt, length, Option, Some, None}
+-- Steps that are taken one after the other: the conditions until which they are, and which of them a line begins.
+use Rattle.std.specs.Prelude.{◌≡◌, ℕ, ◌+◌, ◌==◌, ⊤, Bool, false, ◌&&◌, nat_lt, if◌then◌else◌, List, [], ◌∷◌, length, codes}
+use Rattle.std.specs.Prelude.{Option, Some, None, option_map, option_and_then}
+use Rattle.std.specs.Option.{option_or}
+use Rattle.sfc_base.specs.Case.{same_word}
+use Rattle.sfc_base.specs.declared.ids.ProgId.{ProgId}
+use Rattle.sfc_plant.specs.Finding.{instance_named}
+use Rattle.sfc_plant.specs.Plants.{PlantData}
 use Rattle.sfc_debug.specs.declared.break_condition.BreakCondition.{BreakCondition}
 use Rattle.sfc_debug.specs.Histories.{CommandHistory}
 use Rattle.sfc_debug.specs.Hits.{environment_after, is_met}
 use Rattle.sfc_output.specs.Steered.{Steered}
 use Rattle.sfc_monitor.specs.Output.{debugger_of, plant_state}
+use Rattle.sfc_script.specs.Lines.{first_word, only_word}
+use Rattle.sfc_script.specs.Scripts.{ConditionReads}
+use Rattle.sfc_script.specs.Values.{decimal_of, limited}
+use Rattle.sfc_session.specs.declared.step.Step.{Step}
+use Rattle.sfc_session.specs.declared.step.Step.TheVariants as steps
+use Rattle.sfc_prompt.specs.declared.course.Course.{Course}
+use Rattle.sfc_prompt.specs.declared.course.Wanted.{Wanted}
+use Rattle.sfc_prompt.specs.declared.course.Wanted.TheVariants.{Until, Several, Faulty}
+use Rattle.sfc_prompt.specs.declared.line.Word.TheVariants as words
+use Rattle.sfc_prompt.specs.Lines.{Said, Nothing, Remark, Says, Asks}
+use Rattle.sfc_prompt.specs.Orders.{text_step}
+use Rattle.sfc_prompt.specs.Words.{from_word}
 
 -- The condition is TRUE after these commands, as that of a breakpoint is after a scan; one of an instance that isn't there never is.
 abbrev pub holds_after : Steered → CommandHistory → BreakCondition → Bool
@@ -16,3 +34,92 @@ holds_after steered h condition =
 abbrev pub is_met_after : Steered → CommandHistory → Option BreakCondition → Bool
 is_met_after steered h None = false
 is_met_after steered h (Some condition) = holds_after steered h condition
+
+-- ---- which steps a line begins
+
+-- the most steps that one line takes
+abbrev pub most : ℕ
+most = 100000
+
+-- so many of this step at the most, until the condition is TRUE, if there is one
+abbrev pub begun : Step → Option BreakCondition → ℕ → Course
+begun step condition count = record { step = step; condition = condition; left = count; taken = 0 }
+
+-- Behind a step of these they have ended, or one less is left.
+abbrev pub IsBehindStep : Course → Option Course → Type 0
+IsBehindStep course None = ⊤
+IsBehindStep course (Some next) = next.left + 1 ≡ course.left
+
+-- the last step so often; where there was none, what was under way stays
+abbrev pub again : Option Step → ℕ → Option Course → Option Course
+again None count course = course
+again (Some step) count course = Some (begun step None count)
+
+-- how often the words behind AGAIN say: once where there are none, else a number from 1 to 100,000
+abbrev pub from_one : ℕ → Option ℕ
+from_one n = if n == 0 then None else Some n
+
+abbrev pub number_said : List ℕ → Option ℕ
+number_said word = option_and_then from_one (limited most (decimal_of word))
+
+abbrev pub count_behind : List ℕ → Option (List ℕ × List ℕ) → Option ℕ
+count_behind text None = Some 1
+count_behind text (Some w) = option_and_then number_said (only_word text)
+
+abbrev pub again_count : List ℕ → Option ℕ
+again_count text = count_behind text (first_word text)
+
+abbrev pub again_by : Option ℕ → Option Step → Option Course → Option Course
+again_by None last course = course
+again_by (Some count) last course = again last count course
+
+-- behind UNTIL: IN, the name of a program instance and the text of a condition; or the text, where there is one instance
+abbrev pub asked_in : PlantData → List ℕ × List ℕ → Option (ProgId × List ℕ)
+asked_in plant w = option_map (λ p. (p, from_word w.1)) (instance_named plant w.0)
+
+abbrev pub asked_behind : PlantData → List ℕ × List ℕ → Option (ProgId × List ℕ)
+asked_behind plant w = if same_word w.0 (codes "IN") then option_and_then (asked_in plant) (first_word w.1) else None
+
+abbrev pub asked_alone : PlantData → List ℕ → Option (ProgId × List ℕ)
+asked_alone plant text = if length plant.instances == 1 then Some (record { 0 = 0 }, text) else None
+
+abbrev pub asked_first : PlantData → List ℕ → Option (ProgId × List ℕ)
+asked_first plant text = option_and_then (asked_behind plant) (first_word text)
+
+abbrev pub asked : PlantData → List ℕ → Option (ProgId × List ℕ)
+asked plant text = option_or (asked_first plant text) (asked_alone plant text)
+
+-- scans of the task that goes first, until the text is TRUE as a condition there, where it is one
+abbrev pub until_by : Option (List BreakCondition) → Option Course → Option Course
+until_by (Some (condition ∷ conditions)) course = Some (begun steps.First (Some condition) most)
+until_by (Some []) course = course
+until_by None course = course
+
+abbrev pub BeginsUntil : PlantData → Option (ProgId × List ℕ) → Option Course → Option Course → Type 0
+BeginsUntil plant None old new = new ≡ old
+BeginsUntil plant (Some a) old new =
+    (read : Option (List BreakCondition)) × ConditionReads plant 0 a.0 a.1 read × (new ≡ until_by read old)
+
+-- What is under way behind a line, where this step was the last one: what AGAIN, a line without words or UNTIL begins.
+abbrev pub Begins : PlantData → Option Step → Said → Option Course → Option Course → Type 0
+Begins plant last Nothing old new = new ≡ again last 1 old
+Begins plant last (Asks words.Again text) old new = new ≡ again_by (again_count text) last old
+Begins plant last (Asks words.Until text) old new = BeginsUntil plant (asked plant text) old new
+Begins plant last (Asks word text) old new = new ≡ old
+Begins plant last (Says instant text) old new = new ≡ old
+Begins plant last Remark old new = new ≡ old
+
+-- the step that is taken again behind the line
+abbrev pub step_behind : PlantData → Option Step → Said → Option Step
+step_behind plant last (Says instant text) = option_or (text_step plant instant text) last
+step_behind plant last (Asks word text) = last
+step_behind plant last Remark = last
+step_behind plant last Nothing = last
+
+-- ---- what is read of it
+
+-- what is under way, where this is wanted
+abbrev pub wanted_course : Wanted → Option Course → Option Course
+wanted_course (Until condition) course = Some (begun steps.First (Some condition) most)
+wanted_course Several course = course
+wanted_course (Faulty fault) course = course

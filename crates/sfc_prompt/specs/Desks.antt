@@ -3,8 +3,8 @@ use Rattle.std.specs.Prelude.{ℕ, List, Option, Result, Ok, Err}
 use Rattle.std.specs.Io.KnownBytes.{Appends}
 use Rattle.sfc_base.specs.Writing.{AppendsFront}
 use Rattle.sfc_debug.specs.Histories.{CommandHistory}
-use Rattle.sfc_prompt.specs.declared.session.Session.{Session}
-use Rattle.sfc_prompt.specs.Sessions.{HasSaid, script_in, steered_in}
+use Rattle.sfc_session.specs.declared.session.Session.{Session}
+use Rattle.sfc_session.specs.Sessions.{HasSaid, script_in, steered_in}
 use Rattle.sfc_prompt.specs.Transcripts.{HasGoneOn}
 
 -- From one session to a later one its transcript was written.

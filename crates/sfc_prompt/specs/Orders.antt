@@ -10,12 +10,12 @@ use Rattle.sfc_output.specs.Steered.{Steered}
 use Rattle.sfc_script.specs.Commands.{Conditional, command_of, conditional_of}
 use Rattle.sfc_script.specs.Scripts.{ConditionReads}
 use Rattle.sfc_monitor.specs.Output.{Verdict}
-use Rattle.sfc_prompt.specs.declared.session.Session.{Session}
-use Rattle.sfc_prompt.specs.declared.step.Step.{Step}
-use Rattle.sfc_prompt.specs.declared.step.Step.TheVariants as steps
+use Rattle.sfc_session.specs.declared.session.Session.{Session}
+use Rattle.sfc_session.specs.declared.step.Step.{Step}
+use Rattle.sfc_session.specs.declared.step.Step.TheVariants as steps
 use Rattle.sfc_prompt.specs.Lines.{Said, Nothing, Remark, Says, Asks}
-use Rattle.sfc_prompt.specs.Scanning.{first_scan_after, scan_after, step_after, step_of}
-use Rattle.sfc_prompt.specs.Sessions.{IsGiven, IsTaken, IsWaiting, Stays, last_instant, steered_in, words_of}
+use Rattle.sfc_session.specs.Scanning.{first_scan_after, scan_after, step_after, step_of}
+use Rattle.sfc_session.specs.Sessions.{IsGiven, IsTaken, IsWaiting, Stays, last_instant, steered_in, words_of}
 use Rattle.sfc_prompt.specs.Words.{is_word}
 
 -- ---- orders

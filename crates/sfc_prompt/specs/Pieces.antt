@@ -11,7 +11,7 @@ use Rattle.sfc_debug.specs.Histories.{CommandHistory, TimedCommand}
 use Rattle.sfc_script.specs.Commands.{said_of}
 use Rattle.sfc_script.specs.Lines.{is_one_line}
 use Rattle.sfc_script.specs.Scripts.{LineReads}
-use Rattle.sfc_prompt.specs.Sessions.{script_line}
+use Rattle.sfc_session.specs.Sessions.{script_line}
 
 -- a piece of it
 pub data Piece : Type 0 where

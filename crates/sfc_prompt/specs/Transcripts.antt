@@ -5,9 +5,9 @@ use Rattle.sfc_debug.specs.Histories.{CommandHistory}
 use Rattle.sfc_output.specs.Steered.{Steered}
 use Rattle.sfc_monitor.specs.Output.{closing_lines, commands_lines, debugger_of, session_after, text_of}
 use Rattle.sfc_monitor.specs.Replay.{IsOutput}
-use Rattle.sfc_prompt.specs.declared.session.Session.{Session}
+use Rattle.sfc_session.specs.declared.session.Session.{Session}
 use Rattle.sfc_prompt.specs.Pieces.{Piece, written, history_after, said, saved, commands, added, AreNamed, AreSaid}
-use Rattle.sfc_prompt.specs.Sessions.{HasSaid, script_in, steered_in}
+use Rattle.sfc_session.specs.Sessions.{HasSaid, script_in, steered_in}
 
 -- A session that steered this, has said this of these commands and had this script has gone on, and in between the text was written. Where
 -- each task is found by its name, the lines of the script that came behind say the commands that were accepted.

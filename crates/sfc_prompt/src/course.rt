@@ -1,17 +1,20 @@
 //! Steps that are taken one after the other: until a condition is TRUE, or so often.
 
-ghost use Rattle.std.specs.Prelude.{◌≡◌, ◌<◌, true, IsFalse, IsTrue, List, ℕ, None, OnOk, Some};
+ghost use Rattle.std.specs.Prelude.{◌≡◌, ◌<◌, ◌-◌, true, IfOk, IsFalse, IsTrue, List, ℕ, MatchOption, None, OnOk, Option, Some};
 ghost use Rattle.sfc_debug.specs.Histories.{CommandHistory};
 ghost use Rattle.sfc_debug.specs.Hits.{is_met};
 ghost use Rattle.sfc_instance.specs.Views.{environment_in};
-ghost use Rattle.sfc_prompt.specs.Courses.{holds_after, is_met_after};
+ghost use Rattle.sfc_prompt.specs.declared.course.Course.{Course};
+ghost use Rattle.sfc_prompt.specs.Courses as courses;
+ghost use Rattle.sfc_prompt.specs.Courses.{BeginsUntil, asked, begun, holds_after, is_met_after, most, wanted_course};
 ghost use Rattle.sfc_prompt.specs.Notes.{Adds};
-ghost use Rattle.sfc_prompt.specs.Sessions.{HasSaid, steered_in};
+ghost use Rattle.sfc_session.specs.declared.step.Step.TheVariants.{First};
+ghost use Rattle.sfc_session.specs.Sessions.{HasSaid, steered_in};
 
 use crate::expression::{Fault, Found, UNKNOWN_PROGRAM, read_condition};
-use crate::session::Session;
-use crate::step::Step;
-use crate::words::{first_word, from_word};
+use sfc_session::session::Session;
+use sfc_session::step::Step;
+use crate::words::{first_word, from_word, only_word};
 use sfc_base::case::is_same_word;
 use sfc_base::ids::ProgId;
 use sfc_base::ticks::Ticks;
@@ -22,6 +25,7 @@ use sfc_instance::laws::window;
 use sfc_instance::program_view::ProgramView;
 use sfc_output::append::{append, append_number};
 use sfc_plant::plant::Plant;
+use sfc_script::number::magnitude;
 use std::alloc::{AllocError, Global};
 
 /// The most steps that one line takes.
@@ -53,7 +57,9 @@ impl Drop for Course {
 
 impl Course {
     /// So many steps.
-    pub fn of_steps(step: Step, count: u64) -> Course {
+    pub fn of_steps(step: Step, count: u64) -> Course
+        ensures { result ≡ begun step None count }
+    {
         Course {
             step,
             condition: None,
@@ -63,7 +69,9 @@ impl Course {
     }
 
     /// Scans of the task that goes first, until the condition is TRUE, at most 100,000.
-    pub fn until(condition: BreakCondition) -> Course {
+    pub fn until(condition: BreakCondition) -> Course
+        ensures { result ≡ begun First (Some condition) most }
+    {
         Course {
             step: Step::First,
             condition: Some(condition),
@@ -87,6 +95,7 @@ impl Course {
     /// Whether no step of it is taken any more as the session stands: none is left, or its condition is TRUE.
     pub fn is_over(&self, session: &Session) -> bool
         ensures none { self.now.condition ≡ None → 0 < self.now.left → IsFalse result }
+        ensures empty { self.now.left ≡ 0 → IsTrue result }
         ensures left { 0 < self.now.left → (h : CommandHistory) (lines : List ℕ) → HasSaid session.now h lines →
             result ≡ is_met_after (steered_in session.now) h self.now.condition }
         ensures met { (h : CommandHistory) (lines : List ℕ) → HasSaid session.now h lines →
@@ -102,6 +111,7 @@ impl Course {
     pub fn behind_step(self, is_taken: bool) -> Course
         ensures step { result.step ≡ self.step }
         ensures condition { result.condition ≡ self.condition }
+        ensures left { result.left ≡ self.left - 1 }
     {
         let Course {
             step,
@@ -171,25 +181,50 @@ struct Asked<'a> {
     text: &'a [u8],
 }
 
-// What stands behind `IN` and the name of a program instance, where the text begins so.
-fn in_program<'a>(plant: &Plant, text: &'a [u8]) -> Option<Asked<'a>> {
-    let (word, behind) = first_word(text)?;
+// The program instance that a word names, and what stands behind that from the first word on.
+fn in_named<'a>(plant: &Plant, name: &[u8], rest: &'a [u8]) -> Option<Asked<'a>>
+    ensures { MatchOption result (courses.asked_in plant.now (name.now, rest.now) ≡ None)
+        (λ a. courses.asked_in plant.now (name.now, rest.now) ≡ Some (a.program, a.text.now)) }
+{
+    match plant.find_instance(name) {
+        Some(program) => Some(Asked {
+            program,
+            text: from_word(rest),
+        }),
+        None => None,
+    }
+}
+
+// The same behind `IN`, where this word is it.
+fn in_behind<'a>(plant: &Plant, word: &[u8], behind: &'a [u8]) -> Option<Asked<'a>>
+    ensures { MatchOption result (courses.asked_behind plant.now (word.now, behind.now) ≡ None)
+        (λ a. courses.asked_behind plant.now (word.now, behind.now) ≡ Some (a.program, a.text.now)) }
+{
     if !is_same_word(word, b"IN") {
         return None;
     }
-    let (name, rest) = first_word(behind)?;
-    let program = plant.find_instance(name)?;
-    Some(Asked {
-        program,
-        text: from_word(rest),
-    })
+    match first_word(behind) {
+        Some((name, rest)) => in_named(plant, name, rest),
+        None => None,
+    }
 }
 
-// In which program instance the condition stands; None where none is named and there are several.
-fn find_asked<'a>(plant: &Plant, text: &'a [u8]) -> Option<Asked<'a>> {
-    if let Some(asked) = in_program(plant, text) {
-        return Some(asked);
+// The same of a text that begins so.
+fn in_program<'a>(plant: &Plant, text: &'a [u8]) -> Option<Asked<'a>>
+    ensures { MatchOption result (courses.asked_first plant.now text.now ≡ None)
+        (λ a. courses.asked_first plant.now text.now ≡ Some (a.program, a.text.now)) }
+{
+    match first_word(text) {
+        Some((word, behind)) => in_behind(plant, word, behind),
+        None => None,
     }
+}
+
+// The whole text in the program instance, where there is one.
+fn in_only<'a>(plant: &Plant, text: &'a [u8]) -> Option<Asked<'a>>
+    ensures { MatchOption result (courses.asked_alone plant.now text.now ≡ None)
+        (λ a. courses.asked_alone plant.now text.now ≡ Some (a.program, a.text.now)) }
+{
     if plant.instances().len() == 1 {
         Some(Asked {
             program: ProgId(0),
@@ -197,6 +232,40 @@ fn find_asked<'a>(plant: &Plant, text: &'a [u8]) -> Option<Asked<'a>> {
         })
     } else {
         None
+    }
+}
+
+// In which program instance the condition stands; None where none is named and there are several.
+fn find_asked<'a>(plant: &Plant, text: &'a [u8]) -> Option<Asked<'a>>
+    ensures { MatchOption result (asked plant.now text.now ≡ None)
+        (λ a. asked plant.now text.now ≡ Some (a.program, a.text.now)) }
+{
+    match in_program(plant, text) {
+        Some(asked) => Some(asked),
+        None => in_only(plant, text),
+    }
+}
+
+// The number that a word is, from 1 to so many as one line takes steps.
+fn number_said(word: &[u8]) -> Option<u64>
+    ensures { result ≡ courses.number_said word.now }
+{
+    match magnitude(word, MOST) {
+        Some(0) => None,
+        other => other,
+    }
+}
+
+/// How often the text behind AGAIN says: once where it has no words, else a number from 1 to 100,000; None where it says nothing of that.
+pub fn again_count(text: &[u8]) -> Option<u64>
+    ensures { result ≡ courses.again_count text.now }
+{
+    if first_word(text).is_none() {
+        return Some(1);
+    }
+    match only_word(text) {
+        Some(word) => number_said(word),
+        None => None,
     }
 }
 
@@ -212,7 +281,9 @@ pub enum Wanted {
 
 /// The condition that stands behind UNTIL: in the program instance that is named behind `IN`, or in the one that there is. The error is that
 /// memory was refused.
-pub fn read_wanted(alloc: Global, plant: &Plant, text: &[u8]) -> Result<Wanted, AllocError> {
+pub fn read_wanted(alloc: Global, plant: &Plant, text: &[u8]) -> Result<Wanted, AllocError>
+    ensures { (old : Option Course) → IfOk result (λ wanted. BeginsUntil plant.now (asked plant.now text.now) old (wanted_course wanted old)) }
+{
     let Some(asked) = find_asked(plant, text) else {
         return Ok(Wanted::Several);
     };

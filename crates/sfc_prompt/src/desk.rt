@@ -8,7 +8,7 @@ ghost use Rattle.sfc_prompt.specs.Prompts.{session_in};
 use crate::archive::Archive;
 use crate::course::MOST;
 use crate::prompt::{Flow, Prompt};
-use crate::session::Session;
+use sfc_session::session::Session;
 use sfc_base::write_fault::put_all;
 use sfc_monitor::chart::plant_of_text;
 use sfc_monitor::input::read_to_end;

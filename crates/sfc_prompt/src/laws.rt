@@ -1,28 +1,11 @@
-//! What holds of a session.
+//! What holds of what a session has written.
 
-ghost use Rattle.std.specs.Prelude.{◌≡◌, ◌≤◌, ℕ, List, [], length, reverse};
+ghost use Rattle.std.specs.Prelude.{◌≤◌, ℕ, List, [], length};
 ghost use Rattle.sfc_plant.specs.Plants.{PlantData};
 ghost use Rattle.sfc_load.specs.Accepted.{IsAccepted};
-ghost use Rattle.sfc_debug.specs.Histories.{CommandHistory};
-ghost use Rattle.sfc_monitor.specs.Output.{commands_lines, debugger_of, session_after, text_of};
-ghost use Rattle.sfc_prompt.specs.declared.session.Session.{Session};
-ghost use Rattle.sfc_prompt.specs.Sessions.{HasSaid, script_in, steered_in};
+ghost use Rattle.sfc_session.specs.declared.session.Session.{Session};
+ghost use Rattle.sfc_session.specs.Sessions.{script_in};
 ghost use Rattle.sfc_prompt.specs.Transcripts.{HasGoneOn, IsReplayed, IsTranscript, opened_on};
-
-/// What a session has written of its accepted commands is what a replay writes for them, in their order, over the conditions that the
-/// session has at the end; and the replay accepts all of them.
-pub fn said_as_replayed()
-    ensures lines { (session : Session) (h : CommandHistory) (lines : List ℕ) → HasSaid session h lines →
-        lines ≡ commands_lines (debugger_of (steered_in session)) (text_of (steered_in session)) [] (reverse h) }
-    ensures accepted { (session : Session) (h : CommandHistory) (lines : List ℕ) → HasSaid session h lines →
-        session_after (debugger_of (steered_in session)) [] (reverse h) ≡ h }
-{}
-
-/// A session says one thing of its accepted commands.
-pub fn one_text()
-    ensures { (session : Session) (h : CommandHistory) (some others : List ℕ) → HasSaid session h some → HasSaid session h others →
-        some ≡ others }
-{}
 
 /// What a session has written since its opening is a transcript: pieces of which those of accepted commands are, together, what a replay
 /// writes for them.

@@ -4,12 +4,11 @@
 //! - `archive`: where scripts are kept.
 //! - `desk`: lines as they come from a reader.
 //! - `expression`: conditions by their texts.
-//! - `laws`: what holds of a session.
+//! - `laws`: what holds of what a session has written.
 //! - `line`, `words`: what a line says.
 //! - `prompt`: lines that are obeyed one by one.
 //! - `releases`: when tasks are scanned next.
-//! - `scanning`: scans that have no instant; `step`: scans that may be done again; `course`: many of them.
-//! - `session`: commands one after the other, and the script that they are; `saved`: the lines of that script.
+//! - `course`: steps one after the other.
 //! - `showing`: the words that change nothing.
 //! - `spoken`: texts that should be commands of a script.
 #![tactic(auto)]
@@ -22,10 +21,6 @@ pub mod laws;
 mod line;
 pub mod prompt;
 mod releases;
-mod saved;
-pub mod scanning;
-pub mod session;
 mod showing;
 mod spoken;
-mod step;
 mod words;

@@ -1,18 +1,17 @@
 //! Lines that are obeyed one by one.
 
-ghost use Rattle.std.specs.Prelude.{◌≡◌, ◌<◌, true, false, OnOk, IfOk, Some, None};
+ghost use Rattle.std.specs.Prelude.{◌≡◌, ◌<◌, true, false, OnOk, IfOk, Some, None, is_some};
 ghost use Rattle.sfc_prompt.specs.Lines.{as_said};
 ghost use Rattle.sfc_prompt.specs.Prompts as prompts;
 
 use crate::archive::Archive;
-use crate::course::{Course, MOST, Wanted, read_wanted};
+use crate::course::{Course, Wanted, again_count, read_wanted};
 use crate::expression::append_fault;
 use crate::line::{Line, Word, read_line};
-use crate::session::Session;
-use crate::showing::{only_number, shown};
+use sfc_session::session::Session;
+use crate::showing::shown;
 use crate::spoken::{Spoken, say};
-use crate::step::{Step, ends_steps, take};
-use crate::words::is_empty;
+use sfc_session::step::{Step, ends_steps, take};
 use sfc_asking::note::{append_named, append_note};
 use sfc_output::append::append;
 use std::alloc::{AllocError, Global};
@@ -56,23 +55,26 @@ impl Drop for Prompt {
     }
 }
 
-#[tactic(auto, unfolding(crate::specs::Prompts::session_in, crate::specs::Prompts::course_in))]
+#[tactic(auto, unfolding(crate::specs::Prompts::session_in, crate::specs::Prompts::course_in, crate::specs::Prompts::last_in))]
 impl Prompt {
     ghost use Rattle.std.specs.Prelude.{List, ℕ};
     ghost use Rattle.sfc_debug.specs.Histories.{CommandHistory};
     ghost use Rattle.sfc_prompt.specs.declared.course.Course.{Course};
-    ghost use Rattle.sfc_prompt.specs.Courses.{is_met_after};
-    ghost use Rattle.sfc_prompt.specs.Lines.{as_said, line_said};
+    ghost use Rattle.sfc_prompt.specs.Courses as courses;
+    ghost use Rattle.sfc_prompt.specs.Courses.{Begins, BeginsUntil, IsBehindStep, asked, is_met_after, step_behind};
+    ghost use Rattle.sfc_prompt.specs.Lines.{Asks, as_said, line_said};
     ghost use Rattle.sfc_prompt.specs.Notes.{Adds};
-    ghost use Rattle.sfc_prompt.specs.Orders.{IsShown, Obeys, Takes, TakesFirst, order_of, text_order};
-    ghost use Rattle.sfc_prompt.specs.Prompts.{course_in, session_in};
-    ghost use Rattle.sfc_prompt.specs.Sessions.{HasSaid, steered_in};
+    ghost use Rattle.sfc_prompt.specs.Orders.{IsShown, Obeys, Takes, TakesFirst, order_of, text_order, text_step};
+    ghost use Rattle.std.specs.Option.{option_or};
+    ghost use Rattle.sfc_prompt.specs.Prompts.{course_in, last_in, session_in};
+    ghost use Rattle.sfc_session.specs.Sessions.{HasSaid, steered_in};
     ghost use Rattle.sfc_prompt.specs.Transcripts.{Puts};
 
     /// A prompt at which nothing was said.
     pub fn new(alloc: Global, session: Session) -> Prompt
         ensures session { session_in result ≡ session }
         ensures course { course_in result ≡ None }
+        ensures last { last_in result ≡ None }
     {
         Prompt {
             alloc,
@@ -84,9 +86,12 @@ impl Prompt {
 
     // What should be a command of a script.
     fn say(&mut self, spoken: Spoken<'_>, out: &mut Vec<u8>) -> Result<(), AllocError>
-        ensures { (h : CommandHistory) (lines : List ℕ) → HasSaid (session_in self.old) h lines → OnOk result
+        ensures obeys { (h : CommandHistory) (lines : List ℕ) → HasSaid (session_in self.old) h lines → OnOk result
             (Obeys (session_in self.old) (session_in self.new) out.old.items out.new.items h lines
             (text_order (steered_in (session_in self.old)) h spoken.entry.instant spoken.entry.text.now)) }
+        ensures course { OnOk result (course_in self.new ≡ course_in self.old) }
+        ensures last { OnOk result (last_in self.new ≡ option_or
+            (text_step (steered_in (session_in self.old)).plant spoken.entry.instant spoken.entry.text.now) (last_in self.old)) }
     {
         let step = say(self.alloc, &mut self.session, spoken, out)?;
         self.last = step.or(self.last);
@@ -119,6 +124,8 @@ impl Prompt {
     // The last step again, so often.
     fn repeat(&mut self, count: u64, out: &mut Vec<u8>) -> Result<(), AllocError>
         ensures session { session_in self.new ≡ session_in self.old }
+        ensures last { last_in self.new ≡ last_in self.old }
+        ensures course { course_in self.new ≡ courses.again (last_in self.old) count (course_in self.old) }
         ensures adds { OnOk result (Adds out.old.items out.new.items) }
     {
         match self.last {
@@ -133,22 +140,22 @@ impl Prompt {
     // The last step again, so often as the text says, or once.
     fn again(&mut self, text: &[u8], out: &mut Vec<u8>) -> Result<(), AllocError>
         ensures session { session_in self.new ≡ session_in self.old }
+        ensures last { last_in self.new ≡ last_in self.old }
+        ensures course { course_in self.new ≡ courses.again_by (courses.again_count text.now) (last_in self.old) (course_in self.old) }
         ensures adds { OnOk result (Adds out.old.items out.new.items) }
     {
-        let count = if is_empty(text) {
-            Some(1)
-        } else {
-            only_number(text)
-        };
-        match count {
-            Some(count) if count <= MOST => self.repeat(count, out),
-            _ => append_note(out, b"AGAIN, or AGAIN and a number from 1 to 100000"),
+        match again_count(text) {
+            Some(count) => self.repeat(count, out),
+            None => append_note(out, b"AGAIN, or AGAIN and a number from 1 to 100000"),
         }
     }
 
     // Scans until a condition is TRUE.
     fn until(&mut self, text: &[u8], out: &mut Vec<u8>) -> Result<(), AllocError>
         ensures session { session_in self.new ≡ session_in self.old }
+        ensures last { last_in self.new ≡ last_in self.old }
+        ensures course { OnOk result (BeginsUntil (steered_in (session_in self.old)).plant
+            (asked (steered_in (session_in self.old)).plant text.now) (course_in self.old) (course_in self.new)) }
         ensures adds { OnOk result (Adds out.old.items out.new.items) }
     {
         let plant = self.session.debugger().resource().plant();
@@ -167,8 +174,10 @@ impl Prompt {
 
     // A word that shows how all stands.
     fn show(&mut self, word: Word, text: &[u8], out: &mut Vec<u8>) -> Result<(), AllocError>
-        ensures { (h : CommandHistory) (lines : List ℕ) → HasSaid (session_in self.old) h lines → OnOk result
+        ensures shown { (h : CommandHistory) (lines : List ℕ) → HasSaid (session_in self.old) h lines → OnOk result
             (IsShown (session_in self.old) (session_in self.new) out.old.items out.new.items h lines) }
+        ensures last { last_in self.new ≡ last_in self.old }
+        ensures course { course_in self.new ≡ course_in self.old }
     {
         let told = shown(self.alloc, &mut self.session, word, text)?;
         append(out, &told)
@@ -182,8 +191,11 @@ impl Prompt {
         archive: &mut A,
         out: &mut Vec<u8>,
     ) -> Result<(), AllocError>
-        ensures { (h : CommandHistory) (lines : List ℕ) → HasSaid (session_in self.old) h lines → OnOk result
+        ensures shown { (h : CommandHistory) (lines : List ℕ) → HasSaid (session_in self.old) h lines → OnOk result
             (IsShown (session_in self.old) (session_in self.new) out.old.items out.new.items h lines) }
+        ensures last { last_in self.new ≡ last_in self.old }
+        ensures begins { OnOk result (Begins (steered_in (session_in self.old)).plant (last_in self.old) (Asks word text.now)
+            (course_in self.old) (course_in self.new)) }
     {
         match word {
             Word::Quit => Ok(()),
@@ -201,9 +213,13 @@ impl Prompt {
         archive: &mut A,
         out: &mut Vec<u8>,
     ) -> Result<(), AllocError>
-        ensures { (h : CommandHistory) (lines : List ℕ) → HasSaid (session_in self.old) h lines → OnOk result
+        ensures obeys { (h : CommandHistory) (lines : List ℕ) → HasSaid (session_in self.old) h lines → OnOk result
             (Obeys (session_in self.old) (session_in self.new) out.old.items out.new.items h lines
             (order_of (steered_in (session_in self.old)) h (as_said line.entry))) }
+        ensures last { OnOk result (last_in self.new
+            ≡ step_behind (steered_in (session_in self.old)).plant (last_in self.old) (as_said line.entry)) }
+        ensures begins { OnOk result (Begins (steered_in (session_in self.old)).plant (last_in self.old) (as_said line.entry)
+            (course_in self.old) (course_in self.new)) }
     {
         match line {
             Line::Comment => Ok(()),
@@ -227,6 +243,10 @@ impl Prompt {
             (Obeys (session_in self.old) (session_in self.new) out.old.items out.new.items h lines
             (order_of (steered_in (session_in self.old)) h (line_said line.now))) }
         ensures puts { OnOk result (Puts (session_in self.old) (session_in self.new) out.old.items out.new.items) }
+        ensures last { OnOk result (last_in self.new
+            ≡ step_behind (steered_in (session_in self.old)).plant (last_in self.old) (line_said line.now)) }
+        ensures begins { OnOk result (Begins (steered_in (session_in self.old)).plant (last_in self.old) (line_said line.now)
+            (course_in self.old) (course_in self.new)) }
         ensures flow { IfOk result (λ flow. flow ≡ prompts.flow_of (line_said line.now)) }
     {
         let said = read_line(line);
@@ -241,6 +261,8 @@ impl Prompt {
             (Takes (session_in self.old) (session_in self.new) out.old.items out.new.items h lines course.step) }
         ensures first { (h : CommandHistory) (lines : List ℕ) → HasSaid (session_in self.old) h lines → OnOk result
             (TakesFirst (session_in self.old) (session_in self.new) out.old.items out.new.items h lines course.step) }
+        ensures left { course_in self.old ≡ None → 0 < course.left → OnOk result (IsBehindStep course (course_in self.new)) }
+        ensures last { last_in self.new ≡ last_in self.old }
     {
         let answer = take(self.alloc, &mut self.session, course.step, out)?;
         let course = course.behind_step(answer.is_ok());
@@ -265,6 +287,12 @@ impl Prompt {
         ensures met { (h : CommandHistory) (lines : List ℕ) (course : Course) → HasSaid (session_in self.old) h lines →
             course_in self.old ≡ Some course → is_met_after (steered_in (session_in self.old)) h course.condition ≡ true →
             OnOk result (IsShown (session_in self.old) (session_in self.new) out.old.items out.new.items h lines) }
+        ensures over { (h : CommandHistory) (lines : List ℕ) (course : Course) → HasSaid (session_in self.old) h lines →
+            course_in self.old ≡ Some course → course.left ≡ 0 →
+            OnOk result (IsShown (session_in self.old) (session_in self.new) out.old.items out.new.items h lines) }
+        ensures left { (course : Course) → course_in self.old ≡ Some course → OnOk result (IsBehindStep course (course_in self.new)) }
+        ensures more { IfOk result (λ more. more ≡ is_some (course_in self.new)) }
+        ensures last { last_in self.new ≡ last_in self.old }
     {
         let Some(course) = self.course.take() else {
             return Ok(false);

@@ -2,9 +2,9 @@
 
 ghost use Rattle.std.specs.Prelude.{List, ℕ};
 ghost use Rattle.sfc_debug.specs.Histories.{CommandHistory};
-ghost use Rattle.sfc_prompt.specs.Sessions.{HasSaid, Stays};
+ghost use Rattle.sfc_session.specs.Sessions.{HasSaid, Stays};
 
-use crate::session::Session;
+use sfc_session::session::Session;
 use sfc_asking::release::Release;
 use sfc_base::ids::TaskId;
 use sfc_debug::mode::Mode;

@@ -2,11 +2,11 @@
 
 ghost use Rattle.std.specs.Prelude.{List, ℕ};
 ghost use Rattle.sfc_debug.specs.Histories.{CommandHistory};
-ghost use Rattle.sfc_prompt.specs.Sessions.{HasSaid, Stays};
+ghost use Rattle.sfc_session.specs.Sessions.{HasSaid, Stays};
 
 use crate::line::Word;
 use crate::releases::releases;
-use crate::session::Session;
+use sfc_session::session::Session;
 use crate::words::{first_word, is_empty, number, only_word};
 use sfc_asking::explaining::append_explanation;
 use sfc_asking::help::append_help;
@@ -43,8 +43,8 @@ fn trace(session: &Session, text: &[u8], out: &mut Vec<u8>) -> Result<(), AllocE
     }
 }
 
-/// The number that the text is, from 1; None where it is none.
-pub fn only_number(text: &[u8]) -> Option<u64> {
+// The number that the text is, from 1; None where it is none.
+fn only_number(text: &[u8]) -> Option<u64> {
     number(only_word(text)?, u64::MAX)
 }
 

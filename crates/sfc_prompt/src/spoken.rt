@@ -4,13 +4,13 @@ ghost use Rattle.std.specs.Prelude.{◌≡◌, List, ℕ, IfOk, OnOk, unwrap_or}
 ghost use Rattle.sfc_debug.specs.Histories.{CommandHistory};
 ghost use Rattle.sfc_prompt.specs.Orders as orders;
 ghost use Rattle.sfc_prompt.specs.Orders.{Obeys, Waits, command_order, order_by, text_order, text_step};
-ghost use Rattle.sfc_prompt.specs.Sessions.{HasSaid, last_instant, steered_in};
+ghost use Rattle.sfc_session.specs.Sessions.{HasSaid, last_instant, steered_in};
 ghost use Rattle.sfc_script.specs.Private.Reading.{as_conditional};
 
 use crate::expression::{Found, append_fault, read_condition};
-use crate::scanning::{scan, scan_first};
-use crate::session::Session;
-use crate::step::{Step, step_of};
+use sfc_session::scanning::{scan, scan_first};
+use sfc_session::session::Session;
+use sfc_session::step::{Step, step_of};
 use crate::words::is_word;
 use sfc_asking::note::append_note;
 use sfc_base::ids::TaskId;

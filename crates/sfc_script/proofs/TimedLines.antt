@@ -1,5 +1,5 @@
 -- Lines that are written for an instant and a text.
-use Rattle.std.proofs.Common.{◌≡◌, ◌∙◌, refl, sym, ap, ℕ, ℤ, ◌≤◌, ◌==◌, Bool, true, false, not, ◌&&◌, List, [], ◌∷◌, ◌++◌, Some, codes}
+use Rattle.std.proofs.Common.{◌≡◌, ◌∙◌, refl, sym, ap, ℕ, ℤ, ◌≤◌, ◌==◌, Bool, true, false, not, ◌&&◌, List, [], ◌∷◌, ◌++◌, append_assoc, Some, arith, codes}
 use Rattle.std.specs.Prelude.{if◌then◌else◌, unsigned_abs}
 use Rattle.std.proofs.Math.Bool.{and-false}
 use Rattle.sfc_base.specs.Durations.{greatest}
@@ -19,7 +19,7 @@ pub timed_says : (plant : PlantData) (t : ℤ) (text : List ℕ) → unsigned_ab
     → said_of plant (time_text t ++ codes " " ++ text) ≡ said_by (command_of plant text) (conditional_of plant text) t
 timed_says plant t text le =
     let value : duration_value (84 ∷ behind_letter t) ≡ Some t = ap duration_value (sym (letter_first t)) ∙ word_again (time_is t le) in
-    ap (λ word. said_of plant (word ++ 32 ∷ text)) (letter_first t)
+    ap (said_of plant) (append_assoc (time_text t) (codes " ") text) ∙ ap (λ word. said_of plant (word ++ 32 ∷ text)) (letter_first t)
     ∙ timed_line plant 84 (behind_letter t) (32 ∷ text) t (plain_high 84 (omega arith)) (behind_plain t le) value refl
 
 -- ---- one line, and others behind its end
@@ -53,3 +53,6 @@ in_front (b ∷ c ∷ bytes) rest e =
     let n = neither (b == 10) (is_one_line (c ∷ bytes)) e in
     byte_in_front b (c ∷ bytes ++ 10 ∷ rest) n.0 (ap (λ t. b == 13 && t) (lf_first c bytes n.1) ∙ and-false (b == 13))
     ∙ ap (in_line b) (in_front (c ∷ bytes) rest n.1)
+
+pub line_first : (line rest : List ℕ) → is_one_line line ≡ true → lines_of (line ++ codes "\n" ++ rest) ≡ line ∷ lines_of rest
+line_first line rest one = ap lines_of (append_assoc line (codes "\n") rest) ∙ in_front line rest one

@@ -21,7 +21,7 @@ mod instant;
 pub mod laws;
 mod line;
 mod names;
-mod number;
+pub mod number;
 mod point;
 mod repeated;
 pub mod script;

@@ -11,7 +11,7 @@ use Rattle.sfc_debug.specs.declared.debugger.Debugger.{Debugger}
 use Rattle.sfc_debug.specs.Agreement.{Agrees, plant_of, table_of}
 use Rattle.sfc_debug.specs.Hits.{environment_after, is_met}
 use Rattle.sfc_debug.specs.States.{erasure}
-use Rattle.sfc_prompt.specs.Sessions.{steered_in}
+use Rattle.sfc_session.specs.Sessions.{steered_in}
 use Rattle.sfc_prompt.proofs.Courses.{holds_here}
 use Rattle.sfc_prompt.proofs.course.holds.Goals as goal
 

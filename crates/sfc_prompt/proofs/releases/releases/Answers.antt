@@ -1,4 +1,4 @@
-use Rattle.sfc_prompt.proofs.Given.{stays_tried}
+use Rattle.sfc_session.proofs.Given.{stays_tried}
 use Rattle.sfc_prompt.proofs.releases.releases.Goals as goal
 
 pub returns-in_err-would_answer : goal.returns-in_err-would_answer

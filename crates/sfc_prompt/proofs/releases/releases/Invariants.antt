@@ -1,6 +1,6 @@
 use Rattle.std.proofs.Common.{ℕ, List}
 use Rattle.sfc_debug.specs.Histories.{CommandHistory}
-use Rattle.sfc_prompt.specs.Sessions.{HasSaid, Stays}
+use Rattle.sfc_session.specs.Sessions.{HasSaid, Stays}
 use Rattle.sfc_prompt.proofs.releases.releases.Given as goal
 
 abbrev pub invariant-tasks : goal.invariant-tasks

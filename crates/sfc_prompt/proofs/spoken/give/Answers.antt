@@ -2,10 +2,10 @@ use Rattle.std.proofs.Common.{◌≡◌, ◌∙◌, sym, ap, subst, ℤ, Option,
 use Rattle.std.specs.Prelude.{unwrap_or}
 use Rattle.sfc_base.specs.declared.ids.TaskId.{TaskId}
 use Rattle.sfc_debug.specs.Histories.{TimedCommand}
-use Rattle.sfc_prompt.specs.declared.session.Session.{Session}
+use Rattle.sfc_session.specs.declared.session.Session.{Session}
 use Rattle.sfc_prompt.specs.Orders.{Obeys, command_order}
-use Rattle.sfc_prompt.specs.Sessions.{last_instant, steered_in}
-use Rattle.sfc_prompt.proofs.Given.{given_at}
+use Rattle.sfc_session.specs.Sessions.{last_instant, steered_in}
+use Rattle.sfc_session.proofs.Given.{given_at}
 use Rattle.sfc_prompt.proofs.spoken.give.Goals as goal
 
 pub returns-in_ok-scan-in-Some : goal.returns-in_ok-scan-in-Some

@@ -4,10 +4,10 @@ use Rattle.sfc_plant.specs.Plants.{PlantData}
 use Rattle.sfc_events.specs.declared.command.Command.TheVariants.{BreakIf}
 use Rattle.sfc_script.specs.Scripts.{ConditionReads}
 use Rattle.sfc_prompt.specs.declared.expression.Found.{Found}
-use Rattle.sfc_prompt.specs.declared.session.Session.{Session}
+use Rattle.sfc_session.specs.declared.session.Session.{Session}
 use Rattle.sfc_prompt.specs.Conditions.{added_by}
-use Rattle.sfc_prompt.specs.Sessions.{IsWaiting, last_instant}
-use Rattle.sfc_prompt.proofs.Given.{given_at}
+use Rattle.sfc_session.specs.Sessions.{IsWaiting, last_instant}
+use Rattle.sfc_session.proofs.Given.{given_at}
 use Rattle.sfc_prompt.proofs.spoken.place.Goals as goal
 
 pub returns-in_ok-break_when-in-Condition : goal.returns-in_ok-break_when-in-Condition

@@ -5,9 +5,9 @@ use Rattle.sfc_core.specs.Agreement as core
 use Rattle.sfc_debug.specs.Agreement.{plant_of}
 use Rattle.sfc_output.specs.Steered.{Steered}
 use Rattle.sfc_script.specs.Commands.{command_of, conditional_of}
-use Rattle.sfc_prompt.specs.declared.session.Session.{Session}
+use Rattle.sfc_session.specs.declared.session.Session.{Session}
 use Rattle.sfc_prompt.specs.Orders.{Obeys, order_by}
-use Rattle.sfc_prompt.specs.Sessions.{steered_in}
+use Rattle.sfc_session.specs.Sessions.{steered_in}
 use Rattle.sfc_prompt.proofs.spoken.say.Goals as goal
 
 pub returns-in-Some-clause-obeys : goal.returns-in-Some-clause-obeys

@@ -1,9 +1,9 @@
 use Rattle.std.proofs.Common.{◌∙◌, sym, subst, Bool}
 use Rattle.std.specs.Prelude.{if◌then◌else◌}
 use Rattle.sfc_prompt.specs.Orders.{Obeys, Shows, takes}
-use Rattle.sfc_prompt.specs.Scanning.{first_scan_after}
-use Rattle.sfc_prompt.specs.Sessions.{steered_in}
-use Rattle.sfc_prompt.specs.declared.session.Session.{Session}
+use Rattle.sfc_session.specs.Scanning.{first_scan_after}
+use Rattle.sfc_session.specs.Sessions.{steered_in}
+use Rattle.sfc_session.specs.declared.session.Session.{Session}
 use Rattle.sfc_prompt.proofs.spoken.say_other.Goals as goal
 
 pub returns-then-is_scan_alone-clause-obeys : goal.returns-then-is_scan_alone-clause-obeys

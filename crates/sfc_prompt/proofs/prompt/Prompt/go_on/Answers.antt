@@ -1,12 +1,12 @@
 use Rattle.std.proofs.Common.{◌≡◌, ◌∙◌, sym, ap, subst, true, false, ◌<◌, Some}
 use Rattle.sfc_output.specs.Steered.{Steered}
 use Rattle.sfc_prompt.specs.declared.course.Course.{Course}
-use Rattle.sfc_prompt.specs.declared.session.Session.{Session}
-use Rattle.sfc_prompt.specs.declared.step.Step.{Step}
+use Rattle.sfc_session.specs.declared.session.Session.{Session}
+use Rattle.sfc_session.specs.declared.step.Step.{Step}
 use Rattle.sfc_prompt.specs.Courses.{is_met_after}
 use Rattle.sfc_prompt.specs.Orders.{Takes, TakesFirst}
 use Rattle.sfc_prompt.specs.Prompts.{course_in, session_in}
-use Rattle.sfc_prompt.specs.Sessions.{steered_in}
+use Rattle.sfc_session.specs.Sessions.{steered_in}
 use Rattle.sfc_prompt.proofs.Telling.{puts_text}
 use Rattle.sfc_prompt.proofs.prompt.Prompt.go_on.Goals as goal
 

@@ -1,13 +1,13 @@
 use Rattle.std.proofs.Common.{◌≡◌, ℕ, List, ◌++◌}
-use Rattle.sfc_prompt.specs.declared.session.Session.{Session}
+use Rattle.sfc_session.specs.declared.session.Session.{Session}
 use Rattle.sfc_prompt.specs.Orders.{IsShown}
 use Rattle.sfc_prompt.specs.Prompts.{session_in}
 use Rattle.sfc_prompt.proofs.Telling.{on_ok}
 use Rattle.sfc_prompt.proofs.prompt.Prompt.show.Goals as goal
 
-pub returns : goal.returns
+pub returns-clause-shown : goal.returns-clause-shown
 unfolding session_in
-returns c h lines said =
+returns-clause-shown c h lines said =
     let old : Session = c.args.self.now.session in
     let new : Session = c.shown.new.session in
     let before : List ℕ = c.args.out.now.items in

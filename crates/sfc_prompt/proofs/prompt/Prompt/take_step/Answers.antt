@@ -1,12 +1,12 @@
 use Rattle.std.proofs.Common.{◌≡◌, ◌∙◌, sym, subst, ℕ, List, []}
 use Rattle.std.proofs.lemmas.List.{append-nil}
 use Rattle.sfc_monitor.specs.Output.{Verdict}
-use Rattle.sfc_prompt.specs.declared.session.Session.{Session}
+use Rattle.sfc_session.specs.declared.session.Session.{Session}
 use Rattle.sfc_prompt.specs.Notes.{Adds}
 use Rattle.sfc_prompt.specs.Orders.{Takes, TakesFirst}
 use Rattle.sfc_prompt.specs.Prompts.{session_in}
-use Rattle.sfc_prompt.specs.Scanning.{step_after}
-use Rattle.sfc_prompt.specs.Sessions.{IsTaken, steered_in}
+use Rattle.sfc_session.specs.Scanning.{step_after}
+use Rattle.sfc_session.specs.Sessions.{IsTaken, steered_in}
 use Rattle.sfc_prompt.specs.Transcripts.{Puts}
 use Rattle.sfc_prompt.proofs.Telling.{on_ok, puts_taken, puts_text, puts_then}
 use Rattle.sfc_prompt.proofs.prompt.Prompt.take_step.Goals as goal

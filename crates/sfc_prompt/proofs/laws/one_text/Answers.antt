@@ -1,5 +1,0 @@
-use Rattle.std.proofs.Common.{◌∙◌, sym}
-use Rattle.sfc_prompt.proofs.laws.one_text.Goals as goal
-
-pub returns : goal.returns
-returns c session h some others said again = said.text ∙ sym again.text

@@ -1,0 +1,133 @@
+-- A longer table of conditions changes no line of what was accepted with the shorter one.
+use Rattle.std.proofs.Common.{◌≡◌, ◌∙◌, refl, sym, ap, subst, ℕ, true, ◌<◌, List, [], ◌∷◌, ◌++◌, length, Option, Some, None, Ok, Err, ℤ, codes, rules}
+use Rattle.std.specs.Prelude.{IsOk, slice_get}
+use Rattle.std.proofs.lemmas.Option.{slice_get_within}
+use Rattle.circular_buffer.proofs.Places.{slice_get-append_left}
+use Rattle.sfc_base.specs.TimeText.{time_text}
+use Rattle.sfc_base.specs.declared.ids.ProgId.{ProgId}
+use Rattle.sfc_plant.specs.Plants.{PlantData}
+use Rattle.sfc_events.specs.declared.command.Command.{Command}
+use Rattle.sfc_events.specs.declared.command.Command.TheVariants as commands
+use Rattle.sfc_events.specs.declared.refusal.Refusal.TheVariants.{NoSuchCondition}
+use Rattle.sfc_instance.specs.Life.{InstanceState}
+use Rattle.sfc_debug.specs.declared.break_condition.BreakCondition.{BreakCondition}
+use Rattle.sfc_debug.specs.Histories.{CommandHistory, TimedCommand}
+use Rattle.sfc_debug.specs.Hits.{shown_condition}
+use Rattle.sfc_debug.specs.Longer.{IsNamedWithin, NamesWithin}
+use Rattle.sfc_debug.specs.Meaning.{IsAccepted}
+use Rattle.sfc_debug.specs.States.{DebugState, state_of}
+use Rattle.sfc_debug.specs.Verdict.{verdict, history_by, is_condition_of, own_refusal, point_refusal, condition_refusal, room_refusal}
+use Rattle.sfc_core.specs.Verdict.{or_then}
+use Rattle.sfc_debug.proofs.Accepting.{neither, not_refused, own_granted, by_itself}
+use Rattle.sfc_debug.proofs.Longer.{state_same, verdict_same}
+use Rattle.sfc_output.specs.Commands.{answer_lines, answer_text, command_line, command_text, condition_text, place_text, program_lines}
+use Rattle.sfc_output.specs.Steered.{Steered}
+use Rattle.sfc_output.specs.Values.{line_end}
+use Rattle.sfc_monitor.specs.Output.{Verdict, command_lines, debugger_of, plant_state, text_of}
+use Rattle.sfc_session.specs.Sessions.{history_lines}
+
+-- ---- accepted commands name conditions of the table
+
+there : (p : ProgId) (table : List BreakCondition) (k : ℕ) → is_condition_of p (slice_get table k) ≡ true → k < length table
+there p table k e = found (slice_get table k) refl e
+  where
+    found : (entry : Option BreakCondition) → slice_get table k ≡ entry → is_condition_of p entry ≡ true → k < length table
+    found None is e = search rules
+    found (Some entry) is e = slice_get_within table k entry is
+
+named_one : (plant : PlantData) (table : List BreakCondition) (h : CommandHistory) (command : Command) (raw : ℤ)
+    → IsOk (verdict plant table h command raw) → IsNamedWithin (length table) command
+named_one plant table h (commands.BreakIf p point id) raw ok =
+    let set = (state_of plant table h).points in
+    let given = by_itself plant table h (commands.BreakIf p point id) raw ok in
+    let granted = own_granted (own_refusal plant table set (commands.BreakIf p point id)) _ given in
+    let both = neither (point_refusal plant p point) (or_then (condition_refusal table p id) (room_refusal p point set)) granted in
+    let one = neither (condition_refusal table p id) (room_refusal p point set) both.1 in
+    there p table id.0 (not_refused (is_condition_of p (slice_get table id.0)) NoSuchCondition one.0)
+named_one plant table h (commands.Scan task) raw ok = tt
+named_one plant table h (commands.Single task delta) raw ok = tt
+named_one plant table h (commands.Input id v) raw ok = tt
+named_one plant table h (commands.Force id v) raw ok = tt
+named_one plant table h (commands.Release id) raw ok = tt
+named_one plant table h (commands.Reset p) raw ok = tt
+named_one plant table h (commands.Read id) raw ok = tt
+named_one plant table h (commands.Break p point) raw ok = tt
+named_one plant table h (commands.Unbreak p point) raw ok = tt
+named_one plant table h commands.Stop raw ok = tt
+named_one plant table h commands.Go raw ok = tt
+named_one plant table h commands.End raw ok = tt
+named_one plant table h commands.Epoch raw ok = tt
+
+pub named : (plant : PlantData) (table : List BreakCondition) (h : CommandHistory) → IsAccepted plant table h → NamesWithin (length table) h
+named plant table [] accepted = tt
+named plant table (timed ∷ h) accepted =
+    (named_one plant table h timed.0 timed.1 accepted.0, named plant table h accepted.1)
+
+module _ (plant : PlantData) (table more : List BreakCondition) where
+  abbrev short : Steered
+  short = record { plant = plant; table = table }
+
+  abbrev long : Steered
+  long = record { plant = plant; table = table ++ more }
+
+  pub accepted_longer : (h : CommandHistory) → IsAccepted plant table h → IsAccepted plant (table ++ more) h
+  accepted_longer [] accepted = tt
+  accepted_longer (timed ∷ h) accepted =
+      let same = verdict_same plant table more h timed.0 timed.1 (named plant table h accepted.1)
+      (named_one plant table h timed.0 timed.1 accepted.0) in
+      (subst IsOk (sym same) accepted.0, accepted_longer h accepted.1)
+
+  -- ---- lines
+
+  words_same : (command : Command) → IsNamedWithin (length table) command → command_text long command ≡ command_text short command
+  words_same (commands.BreakIf p point id) within =
+      ap (λ entry. codes " BREAK " ++ place_text plant p point ++ codes " WHEN " ++ condition_text plant (shown_condition entry))
+      (slice_get-append_left table more id.0 within)
+  words_same (commands.Scan task) within = refl
+  words_same (commands.Single task delta) within = refl
+  words_same (commands.Input id v) within = refl
+  words_same (commands.Force id v) within = refl
+  words_same (commands.Release id) within = refl
+  words_same (commands.Reset p) within = refl
+  words_same (commands.Read id) within = refl
+  words_same (commands.Break p point) within = refl
+  words_same (commands.Unbreak p point) within = refl
+  words_same commands.Stop within = refl
+  words_same commands.Go within = refl
+  words_same commands.End within = refl
+  words_same commands.Epoch within = refl
+
+  answer_same : (instance_state : ℕ → InstanceState) (command : Command) (t : ℤ) (answer : Verdict) → IsNamedWithin (length table) command
+      → answer_lines long instance_state command t answer ≡ answer_lines short instance_state command t answer
+  unfolding command_line
+  answer_same instance_state command t (Ok answer) within =
+      ap (λ words. (time_text t ++ words ++ answer_text answer ++ line_end) ++ program_lines plant instance_state answer) (words_same command within)
+  answer_same instance_state command t (Err refusal) within = refl
+
+  -- how it stands after a command that was answered so
+  after_same : (h : CommandHistory) (timed : TimedCommand) (answer : Verdict) → NamesWithin (length table) h → IsNamedWithin (length table) timed.0
+      → state_of plant (table ++ more) (history_by answer timed h) ≡ state_of plant table (history_by answer timed h)
+  after_same h timed (Ok answer) within one = state_same plant table more (timed ∷ h) (one, within)
+  after_same h timed (Err refusal) within one = state_same plant table more h within
+
+  told : DebugState → Command → Verdict → List ℕ
+  told state command answer = answer_lines short (plant_state short state).instance_state command state.clock.instant answer
+
+  pub lines_same : (h : CommandHistory) (timed : TimedCommand) → NamesWithin (length table) h → IsNamedWithin (length table) timed.0
+      → command_lines (debugger_of long) (text_of long) h timed ≡ command_lines (debugger_of short) (text_of short) h timed
+  unfolding told
+  lines_same h timed within one =
+      let v = verdict_same plant table more h timed.0 timed.1 within one in
+      let answer = verdict plant (table ++ more) h timed.0 timed.1 in
+      let state = state_of plant (table ++ more) (history_by answer timed h) in
+      answer_same (plant_state long state).instance_state timed.0 state.clock.instant answer one
+      ∙ ap (λ s. told s timed.0 answer) (after_same h timed answer within one)
+      ∙ ap (λ w. told (state_of plant table (history_by w timed h)) timed.0 w) v
+
+  pub history_same : (h : CommandHistory) → IsAccepted plant table h → history_lines long h ≡ history_lines short h
+  history_same [] accepted = refl
+  history_same (timed ∷ h) accepted =
+      let one = named_one plant table h timed.0 timed.1 accepted.0 in
+      let first = history_same h accepted.1 in
+      let second = lines_same h timed (named plant table h accepted.1) one in
+      (λ i. first i ++ second i)

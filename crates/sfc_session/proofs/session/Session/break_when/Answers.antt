@@ -1,0 +1,50 @@
+use Rattle.std.proofs.Common.{rules, ◌≡◌, ◌∙◌, sym, ap, subst, ℕ, ◌+◌, ◌<◌, ◌^◌, List, ◌++◌, w64, SFits, to_z-of_z}
+use Rattle.std.specs.Prelude.{OnOk, OnErr}
+use Rattle.sfc_events.specs.declared.command.Command.TheVariants.{BreakIf}
+use Rattle.sfc_debug.specs.declared.debugger.Debugger.{Debugger}
+use Rattle.sfc_debug.specs.Agreement.{Agrees}
+use Rattle.sfc_debug.specs.Histories.{TimedCommand}
+use Rattle.sfc_debug.specs.Verdict.{history_by}
+use Rattle.sfc_output.specs.Steered.{Steered, steered_by}
+use Rattle.sfc_monitor.specs.Output.{Verdict}
+use Rattle.sfc_session.specs.Sessions.{count_in, debugger_in, instant_in, lines_by, steered_after, steered_in, waiting, with_one_more}
+use Rattle.sfc_session.proofs.Waiting.{waits_on, lines_are}
+use Rattle.sfc_session.proofs.session.Session.break_when.Goals as goal
+
+pub returns-clause-said : goal.returns-clause-said
+unfolding debugger_in instant_in count_in
+returns-clause-said c h lines said =
+    let old = c.args.self.now in
+    let new = c.keep_if.new.self in
+    let v : Verdict = c.in_ok-answer.answer in
+    let timed = waiting (steered_in old) c.args.placed c.args.condition in
+    let fits : SFits w64 c.args.placed.1 = search rules in
+    let debugger : debugger_in new ≡ c.obey_break.new.debugger = c.in_ok-keep_if.ensures.debugger ∙ c.count_if.ensures.debugger in
+    let same : steered_in new ≡ steered_after v (steered_in old) c.args.condition =
+    ap steered_by debugger ∙ c.in_ok-answer.ensures.steered in
+    let agrees = subst (λ (d : Debugger). Agrees d (history_by v timed h)) (sym debugger)
+    (c.in_ok-answer.ensures.agrees h said.accepted said.agrees) in
+    waits_on old new c.args.placed c.args.condition h lines said v (c.in_ok-answer.ensures.answer h said.accepted said.agrees) same agrees
+    (λ few. subst (λ (n : ℕ). OnOk v (n ≡ count_in old + 1)) (sym c.in_ok-keep_if.ensures.count) (c.count_if.ensures.count few))
+    (subst (λ (n : ℕ). OnErr v (n ≡ count_in old)) (sym c.in_ok-keep_if.ensures.count) c.count_if.ensures.stays)
+    (simp (to_z-of_z, fits) at c.in_ok-keep_if.ensures.instant)
+    (subst (λ n. OnErr v (instant_in new ≡ n)) c.count_if.ensures.instant c.in_ok-keep_if.ensures.stays)
+
+pub returns-clause-written : goal.returns-clause-written
+unfolding debugger_in count_in
+returns-clause-written c h lines said =
+    let old = c.args.self.now in
+    let v : Verdict = c.in_ok-answer.answer in
+    let st : Steered = steered_in old in
+    let condition = c.args.condition in
+    let timed : TimedCommand = waiting st c.args.placed condition in
+    let out : List ℕ = c.args.out.now.items in
+    let is = c.in_ok-answer.ensures.answer h said.accepted said.agrees in
+    let agrees = c.in_ok-answer.ensures.agrees h said.accepted said.agrees in
+    let told : TimedCommand = (c.next_break.result, c.args.placed.1) in
+    c.in_ok-append_answer.ensures (history_by v timed h) agrees
+    ∙ ap (λ text. out ++ text)
+    (lines_are st c.args.placed condition h (steered_by c.obey_break.new.debugger) told v c.in_ok-answer.ensures.steered is
+    (λ few. c.next_break.ensures (subst (λ (n : ℕ). n < 2 ^ 16) (sym said.count) few)
+    ∙ ap (λ n. BreakIf condition.program c.args.placed.0 (record { 0 = n })) said.count))
+    ∙ ap (λ (v : Verdict). out ++ lines_by v (with_one_more st condition) h timed) is
