@@ -39,7 +39,7 @@ clearing_is tables sound =
 
 pub work_of_scan : (n : ℕ) (sides : List Sides) → All (AreSides n) sides
     → sum_by (λ (s : Sides). 1 + 3 * length s.preceding) sides + side_work (λ s. s.preceding) sides + side_work
-    (λ s. s.preceding) sides + side_work (λ s. s.following) sides + 2 * length sides
+    (λ s. s.preceding) sides + side_work (λ s. s.following) sides + 3 * length sides
     ≤ 4 * length sides + 5 * sum_by (λ (s : Sides). length s.preceding + length s.following) sides
 work_of_scan n [] all = omega arith
 work_of_scan n (s ∷ sides) all =

@@ -6,7 +6,7 @@ ghost use Rattle.sfc_evolve.specs.Private.Keeping.{AreInstants};
 use crate::clearing::clear_in_order;
 use crate::copying::{copy_flags, copy_times};
 use crate::marking::{mark_following, unmark_preceding};
-use crate::marks::all_set;
+use crate::marks::{all_set, is_blank};
 use crate::new_sets::{three_sets, two_lists, two_sets};
 use crate::proposing::propose;
 use crate::starting::start;
@@ -100,7 +100,8 @@ impl Steps {
     }
 
     /// One scan at t, in microseconds from 0 to 2^62, with the condition of each transition in text order; those of
-    /// transitions that aren't enabled don't matter (2.6.5). It takes no memory.
+    /// transitions that aren't enabled don't matter (2.6.5). It takes no memory. Where it clears no transition the steps
+    /// stay as they are.
     pub fn advance(&mut self, tables: &Tables, conditions: &[bool], t: i64, ticks: &mut Ticks)
         requires sizes { IsFor tables.now self.old }
         requires conditions { length conditions.now ≡ length tables.now.sides }
@@ -123,6 +124,10 @@ impl Steps {
             &mut self.cleared,
             ticks,
         );
+        if is_blank(&self.cleared, ticks) && self.begun {
+            self.on.clear_all(ticks);
+            return;
+        }
         keep_times(
             tables,
             &self.cleared,
@@ -251,8 +256,13 @@ impl Steps {
         ensures ticks { Within (step_total self.old + 2 * transition_total self.old) ticks.old ticks.new }
     {
         copy_flags(&mut self.active, &mut self.on, &other.active, &other.on);
-        self.cleared.copy_from(&other.cleared, ticks);
-        self.candidates.copy_from(&other.candidates, ticks);
+        copy_flags(
+            &mut self.cleared,
+            &mut self.candidates,
+            &other.cleared,
+            &other.candidates,
+        );
+        ticks.tick_all(self.cleared.count());
         copy_times(
             &mut self.since,
             &mut self.held_times,

@@ -1,19 +1,19 @@
-use Rattle.std.proofs.Common.{◌≡◌, length, arith, ap, ◌∙◌, refl, sym, subst, SFits, w64, false, true}
+use Rattle.std.proofs.Common.{◌≡◌, ◌∷◌, length, arith, ap, ◌∙◌, refl, sym, subst, SFits, w64, false, true, Bool}
 use Rattle.std.proofs.lemmas.Int.{to_z-of_z}
 use Rattle.std.proofs.lemmas.List.{with_items_is, length-replicate}
 use Rattle.std.specs.Prelude.{replicate}
 use Rattle.sfc_flags.specs.Flags.{flag, places_from}
 use Rattle.sfc_evolve.specs.Agreement.{StepsAgree}
 use Rattle.sfc_evolve.specs.Clearing.{step_count, transition_count, preceding_of}
-use Rattle.sfc_evolve.specs.Private.Keeping.{AreInstants, left_by, begun_at}
-use Rattle.sfc_evolve.proofs.Next.{Advanced, advanced, fields_next, fields_at}
+use Rattle.sfc_evolve.specs.Private.Keeping.{AreInstants, FieldsAgree, left_by, begun_at}
+use Rattle.sfc_evolve.proofs.Next.{Advanced, advanced, fields_next, fields_at, quiet}
 use Rattle.sfc_evolve.specs.Private.Proposing.{AreProposed}
 use Rattle.sfc_evolve.proofs.Proposed.{proposed}
 use Rattle.sfc_evolve.proofs.Works.{work_of_scan, clearing_is}
 use Rattle.sfc_evolve.proofs.steps.Steps.advance.Goals as goal
 
 -- the lengths of all that is kept
-record Sizes (c : goal.After-self-3-1) : Type 0 where
+record Sizes (c : goal.After-self-4-1) : Type 0 where
   active : length c.args.self.now.active ≡ step_count c.args.tables.now
   used : length c.args.self.now.used ≡ step_count c.args.tables.now
   on : length c.args.self.now.on ≡ step_count c.args.tables.now
@@ -21,7 +21,7 @@ record Sizes (c : goal.After-self-3-1) : Type 0 where
   held_times : length c.args.self.now.held_times.items ≡ step_count c.args.tables.now
   cleared : length c.args.self.now.cleared ≡ transition_count c.args.tables.now
 
-sizes : (c : goal.After-self-3-1) → Sizes c
+sizes : (c : goal.After-self-4-1) → Sizes c
 sizes c =
     let la = c.requires.sizes.same_steps in
     record {
@@ -33,7 +33,7 @@ sizes c =
       cleared = c.requires.sizes.same_transitions;
     }
 
-scanned : (c : goal.After-self-3-1) → AreProposed c.args.tables.now (flag c.args.self.now.active) c.args.self.now.candidates
+scanned : (c : goal.After-self-4-1) → AreProposed c.args.tables.now (flag c.args.self.now.active) c.args.self.now.candidates
     → Advanced c.args.tables.now c.args.self.now.begun c.args.self.now.active c.args.self.now.since.items
     c.args.self.now.held_times.items c.args.conditions.now c.args.t
     c.clear_in_order.new.cleared c.mark_following.new.on c.begin.new.active c.begin.new.since c.keep_times.new.held_times
@@ -193,15 +193,15 @@ returns-clause-sizes c = record {
       ∙ c.requires.sizes.same_transitions;
 }
 
-pub invariant_of-self-clause-since_len : goal.invariant_of-self-clause-since_len
-invariant_of-self-clause-since_len c =
+pub invariant_of-self-2-clause-since_len : goal.invariant_of-self-2-clause-since_len
+invariant_of-self-2-clause-since_len c =
     let self = c.args.self.now in
     let same : length c.begin.new.since ≡ length c.begin.new.active =
     omega (arith, self.since_len, c.begin.ensures.active_len, c.unmark_preceding.ensures.len) in
     ap length (with_items_is self.since c.begin.new.since (omega arith)) ∙ same
 
-pub invariant_of-self-clause-used_len : goal.invariant_of-self-clause-used_len
-invariant_of-self-clause-used_len c =
+pub invariant_of-self-2-clause-used_len : goal.invariant_of-self-2-clause-used_len
+invariant_of-self-2-clause-used_len c =
     let self = c.args.self.now in
     c.clear_in_order.ensures.used_len
     ∙ ap length c.clear_all.ensures.flags
@@ -209,8 +209,8 @@ invariant_of-self-clause-used_len c =
     ∙ self.used_len
     ∙ sym (c.begin.ensures.active_len ∙ c.unmark_preceding.ensures.len)
 
-pub invariant_of-self-clause-on_len : goal.invariant_of-self-clause-on_len
-invariant_of-self-clause-on_len c =
+pub invariant_of-self-2-clause-on_len : goal.invariant_of-self-2-clause-on_len
+invariant_of-self-2-clause-on_len c =
     c.mark_following.ensures.len ∙ c.start.ensures.len ∙ c.args.self.now.on_len
     ∙ sym (c.begin.ensures.active_len ∙ c.unmark_preceding.ensures.len)
 
@@ -257,6 +257,10 @@ returns-clause-ticks c =
         c.clear_all.ensures.ticks,
         c.clear_all-2.ensures.ticks,
         c.clear_in_order.ensures.ticks,
+        c.is_blank.ensures.ticks,
+        c.clear_in_order.ensures.cleared_len,
+        ap length c.clear_all-2.ensures.flags,
+        length-replicate (length c.args.self.now.cleared) false,
         c.keep_times.ensures.ticks,
         c.unmark_preceding.ensures.ticks,
         c.start.ensures.ticks,
@@ -269,8 +273,8 @@ returns-clause-ticks c =
       ),
     )
 
-pub invariant_of-self-clause-candidates_len : goal.invariant_of-self-clause-candidates_len
-invariant_of-self-clause-candidates_len c =
+pub invariant_of-self-2-clause-candidates_len : goal.invariant_of-self-2-clause-candidates_len
+invariant_of-self-2-clause-candidates_len c =
     let before = c.args.self.now.candidates_len in
     omega (
       arith,
@@ -281,13 +285,78 @@ invariant_of-self-clause-candidates_len c =
       length-replicate (length c.args.self.now.cleared) false,
     )
 
-pub invariant_of-self-clause-held_times_len : goal.invariant_of-self-clause-held_times_len
-invariant_of-self-clause-held_times_len c =
+pub invariant_of-self-2-clause-held_times_len : goal.invariant_of-self-2-clause-held_times_len
+invariant_of-self-2-clause-held_times_len c =
     let self = c.args.self.now in
     let same : length c.keep_times.new.held_times ≡ length c.begin.new.active =
     omega (arith, self.held_times_len, c.begin.ensures.active_len, c.unmark_preceding.ensures.len) in
     ap length (with_items_is self.held_times c.keep_times.new.held_times (omega arith)) ∙ same
 
-pub invariant_of-self-clause-instants : goal.invariant_of-self-clause-instants
-invariant_of-self-clause-instants c =
+pub invariant_of-self-2-clause-instants : goal.invariant_of-self-2-clause-instants
+invariant_of-self-2-clause-instants c =
     subst AreInstants (sym (with_items_is c.args.self.now.since c.begin.new.since (omega arith))) c.begin.ensures.instants
+
+-- ---- where no transition is cleared
+
+pub returns-then-self-clause-agrees : goal.returns-then-self-clause-agrees
+unfolding StepsAgree
+returns-then-self-clause-agrees c scans k =
+    let tables = c.args.tables.now in
+    let self = c.args.self.now in
+    let la = c.requires.sizes.same_steps in
+    let cleared = c.clear_in_order.new.cleared in
+    let on = c.clear_all-then-self.new.self in
+    let off = c.clear_all-then-self.ensures.flags in
+    let scan = quiet tables c.steps-steps.ensures.tables self.begun self.active self.since.items self.held_times.items c.args.conditions.now
+    c.args.t c.clear_all.new.self c.clear_all-2.new.self cleared on (length self.on)
+    la (self.since_len ∙ la) (self.held_times_len ∙ la)
+    (ap length off ∙ length-replicate (length self.on) false ∙ self.on_len ∙ la)
+    (c.clear_all.ensures.flags ∙ ap (λ k. replicate k false) (self.used_len ∙ la))
+    (c.clear_all-2.ensures.flags ∙ ap (λ k. replicate k false) c.requires.sizes.same_transitions)
+    (c.clear_in_order.ensures.cleared k.proposed) c.if-self.true (c.is_blank.ensures.blank c.if-is_blank.true) off in
+    let next =
+    fields_next tables c.steps-steps.ensures.tables self.begun self.active self.since.items self.held_times.items self.cleared self.on
+    c.args.conditions.now c.args.t cleared on self.active self.since.items self.held_times.items scans scan k.fields in
+    record {
+      size = record {
+        same_steps = la;
+        same_transitions =
+            c.clear_in_order.ensures.cleared_len
+            ∙ ap length c.clear_all-2.ensures.flags
+            ∙ length-replicate (length self.cleared) false
+            ∙ c.requires.sizes.same_transitions;
+      };
+      fields =
+          subst (λ (b : Bool). FieldsAgree tables b self.active self.since.items self.held_times.items cleared on
+          (record { conditions = c.args.conditions.now; at = c.args.t } ∷ scans)) (sym c.if-self.true) next;
+      proposed = k.proposed;
+    }
+
+pub returns-then-self-clause-ticks : goal.returns-then-self-clause-ticks
+returns-then-self-clause-ticks c =
+    let tables = c.args.tables.now in
+    let self = c.args.self.now in
+    let la = c.requires.sizes.same_steps in
+    let clearing = clearing_is tables c.steps-steps.ensures.tables in
+    let works = work_of_scan (length tables.initial) tables.sides c.steps-steps.ensures.tables.sides in
+    let cleared = c.clear_in_order.ensures.cleared_len
+    ∙ ap length c.clear_all-2.ensures.flags
+    ∙ length-replicate (length self.cleared) false
+    ∙ c.requires.sizes.same_transitions in (
+      omega arith,
+      omega (
+        arith,
+        clearing,
+        works,
+        la,
+        self.used_len,
+        self.on_len,
+        c.requires.sizes.same_transitions,
+        cleared,
+        c.clear_all.ensures.ticks,
+        c.clear_all-2.ensures.ticks,
+        c.clear_in_order.ensures.ticks,
+        c.is_blank.ensures.ticks,
+        c.clear_all-then-self.ensures.ticks,
+      ),
+    )
