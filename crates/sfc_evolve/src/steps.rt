@@ -5,12 +5,12 @@ ghost use Rattle.sfc_evolve.specs.Private.Keeping.{AreInstants};
 
 use crate::clearing::clear_in_order;
 use crate::copying::{copy_flags, copy_times};
-use crate::marking::{mark_following, unmark_preceding};
+use crate::marking::{Cleared, move_on};
 use crate::marks::{all_set, is_blank};
 use crate::new_sets::{three_sets, two_lists, two_sets};
 use crate::proposing::propose;
 use crate::starting::start;
-use crate::times::{begin, keep_times, measure_active, time_since};
+use crate::times::{begin, measure_active, time_since};
 use sfc_base::ids::TransitionId;
 use sfc_base::references::StepId;
 use sfc_base::ticks::Ticks;
@@ -128,17 +128,20 @@ impl Steps {
             self.on.clear_all(ticks);
             return;
         }
-        keep_times(
+        start(tables, !self.begun, &mut self.on, ticks);
+        let scan = Cleared {
             tables,
-            &self.cleared,
+            flags: &self.cleared,
+            t,
+        };
+        move_on(
+            scan,
+            &mut self.active,
             &mut self.held_times,
             &self.since,
-            t,
+            &mut self.on,
             ticks,
         );
-        unmark_preceding(tables, &self.cleared, &mut self.active, ticks);
-        start(tables, !self.begun, &mut self.on, ticks);
-        mark_following(tables, &self.cleared, &mut self.on, ticks);
         begin(&mut self.active, &mut self.since, &self.on, t, ticks);
         propose(tables, &self.active, &mut self.candidates, ticks);
         self.begun = true;

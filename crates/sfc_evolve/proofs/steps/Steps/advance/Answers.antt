@@ -36,32 +36,32 @@ sizes c =
 scanned : (c : goal.After-self-4-1) → AreProposed c.args.tables.now (flag c.args.self.now.active) c.args.self.now.candidates
     → Advanced c.args.tables.now c.args.self.now.begun c.args.self.now.active c.args.self.now.since.items
     c.args.self.now.held_times.items c.args.conditions.now c.args.t
-    c.clear_in_order.new.cleared c.mark_following.new.on c.begin.new.active c.begin.new.since c.keep_times.new.held_times
+    c.clear_in_order.new.cleared c.move_on.new.on c.begin.new.active c.begin.new.since c.move_on.new.held_times
 scanned c proposes =
     let tables = c.args.tables.now in
     let self = c.args.self.now in
     let n = sizes c in
     let ft : SFits w64 c.args.t = c.ranges.t in
     let cleared = c.clear_in_order.new.cleared in
-    let on = c.mark_following.new.on in
-    let keeps : c.keep_times.new.held_times
+    let on = c.move_on.new.on in
+    let keeps : c.move_on.new.held_times
     ≡ left_by c.args.t c.deref.result.now (preceding_of tables.sides) (places_from cleared 0) c.deref_mut.result.now =
-    simp to_z-of_z at c.keep_times.ensures.held_times in
+    simp to_z-of_z at c.move_on.ensures.held_times in
     let begins : c.begin.new.since ≡ begun_at c.args.t (places_from on 0) c.deref_mut-2.result.now =
     simp to_z-of_z at c.begin.ensures.since in
     advanced tables c.steps-steps.ensures.tables self.begun self.active self.since.items self.held_times.items c.args.conditions.now c.args.t
-    c.clear_all.new.self c.clear_all-2.new.self cleared c.unmark_preceding.new.active c.start.new.on on c.begin.new.active
-    c.begin.new.since c.keep_times.new.held_times
-    n.active n.since n.held_times (c.start.ensures.len ∙ n.on) (c.mark_following.ensures.len ∙ c.start.ensures.len ∙ n.on)
+    c.clear_all.new.self c.clear_all-2.new.self cleared c.move_on.new.active c.start.new.on on c.begin.new.active
+    c.begin.new.since c.move_on.new.held_times
+    n.active n.since n.held_times (c.start.ensures.len ∙ n.on) (c.move_on.ensures.on_len ∙ c.start.ensures.len ∙ n.on)
     (c.clear_all.ensures.flags ∙ ap (λ k. replicate k false) n.used)
     (c.clear_all-2.ensures.flags ∙ ap (λ k. replicate k false) n.cleared)
     (c.clear_in_order.ensures.cleared proposes)
     (keeps ∙ (λ i. left_by c.args.t (c.deref.ensures.value i) (preceding_of tables.sides) (places_from cleared 0)
     (c.deref_mut.ensures.value i)))
-    c.unmark_preceding.ensures.flags
+    c.move_on.ensures.active
     (λ s lt. c.start.ensures.flags s (omega (arith, n.on)))
-    c.mark_following.ensures.flags
-    (c.unmark_preceding.ensures.len ∙ n.active)
+    c.move_on.ensures.on
+    (c.move_on.ensures.active_len ∙ n.active)
     c.begin.ensures.active
     (begins ∙ ap (begun_at c.args.t (places_from on 0)) c.deref_mut-2.ensures.value)
 
@@ -86,50 +86,40 @@ clear_in_order-requires-clause-cleared c =
 pub clear_in_order-requires-clause-candidates_len : goal.clear_in_order-requires-clause-candidates_len
 clear_in_order-requires-clause-candidates_len c = c.args.self.now.candidates_len ∙ c.requires.sizes.same_transitions
 
-pub keep_times-requires-clause-tables : goal.keep_times-requires-clause-tables
-keep_times-requires-clause-tables c = c.steps-steps.ensures.tables
+pub move_on-requires-clause-tables : goal.move_on-requires-clause-tables
+move_on-requires-clause-tables c = c.steps-steps.ensures.tables
 
-pub keep_times-requires-clause-cleared_len : goal.keep_times-requires-clause-cleared_len
-keep_times-requires-clause-cleared_len c =
+pub move_on-requires-clause-active_len : goal.move_on-requires-clause-active_len
+move_on-requires-clause-active_len c = c.requires.sizes.same_steps
+
+pub move_on-requires-clause-cleared_len : goal.move_on-requires-clause-cleared_len
+move_on-requires-clause-cleared_len c =
     c.clear_in_order.ensures.cleared_len
     ∙ ap length c.clear_all-2.ensures.flags
     ∙ length-replicate (length c.args.self.now.cleared) false
     ∙ c.requires.sizes.same_transitions
 
-pub keep_times-requires-clause-since_len : goal.keep_times-requires-clause-since_len
-keep_times-requires-clause-since_len c =
+pub move_on-requires-clause-since_len : goal.move_on-requires-clause-since_len
+move_on-requires-clause-since_len c =
     ap length c.deref.ensures.value ∙ c.args.self.now.since_len ∙ c.requires.sizes.same_steps
 
-pub keep_times-requires-clause-held_times_len : goal.keep_times-requires-clause-held_times_len
-keep_times-requires-clause-held_times_len c =
+pub move_on-requires-clause-held_times_len : goal.move_on-requires-clause-held_times_len
+move_on-requires-clause-held_times_len c =
     let self = c.args.self.now in
     ap length c.deref_mut.ensures.value ∙ self.held_times_len ∙ sym (ap length c.deref.ensures.value ∙ self.since_len)
 
-pub keep_times-requires-clause-instants : goal.keep_times-requires-clause-instants
-keep_times-requires-clause-instants c = subst AreInstants (sym c.deref.ensures.value) c.args.self.now.instants
+pub move_on-requires-clause-instants : goal.move_on-requires-clause-instants
+move_on-requires-clause-instants c = subst AreInstants (sym c.deref.ensures.value) c.args.self.now.instants
 
-pub keep_times-requires-clause-low : goal.keep_times-requires-clause-low
-keep_times-requires-clause-low c =
+pub move_on-requires-clause-low : goal.move_on-requires-clause-low
+move_on-requires-clause-low c =
     let fits : SFits w64 c.args.t = c.ranges.t in
     rw (to_z-of_z w64 c.args.t) c.requires.low
 
-pub keep_times-requires-clause-high : goal.keep_times-requires-clause-high
-keep_times-requires-clause-high c =
+pub move_on-requires-clause-high : goal.move_on-requires-clause-high
+move_on-requires-clause-high c =
     let fits : SFits w64 c.args.t = c.ranges.t in
     rw (to_z-of_z w64 c.args.t) c.requires.high
-
-pub unmark_preceding-requires-clause-tables : goal.unmark_preceding-requires-clause-tables
-unmark_preceding-requires-clause-tables c = c.steps-steps.ensures.tables
-
-pub unmark_preceding-requires-clause-cleared_len : goal.unmark_preceding-requires-clause-cleared_len
-unmark_preceding-requires-clause-cleared_len c =
-    c.clear_in_order.ensures.cleared_len
-    ∙ ap length c.clear_all-2.ensures.flags
-    ∙ length-replicate (length c.args.self.now.cleared) false
-    ∙ c.requires.sizes.same_transitions
-
-pub unmark_preceding-requires-clause-active_len : goal.unmark_preceding-requires-clause-active_len
-unmark_preceding-requires-clause-active_len c = c.requires.sizes.same_steps
 
 pub start-requires-clause-tables : goal.start-requires-clause-tables
 start-requires-clause-tables c = c.steps-steps.ensures.tables
@@ -137,18 +127,8 @@ start-requires-clause-tables c = c.steps-steps.ensures.tables
 pub start-requires-clause-on_len : goal.start-requires-clause-on_len
 start-requires-clause-on_len c = c.args.self.now.on_len ∙ c.requires.sizes.same_steps
 
-pub mark_following-requires-clause-tables : goal.mark_following-requires-clause-tables
-mark_following-requires-clause-tables c = c.steps-steps.ensures.tables
-
-pub mark_following-requires-clause-cleared_len : goal.mark_following-requires-clause-cleared_len
-mark_following-requires-clause-cleared_len c =
-    c.clear_in_order.ensures.cleared_len
-    ∙ ap length c.clear_all-2.ensures.flags
-    ∙ length-replicate (length c.args.self.now.cleared) false
-    ∙ c.requires.sizes.same_transitions
-
-pub mark_following-requires-clause-on_len : goal.mark_following-requires-clause-on_len
-mark_following-requires-clause-on_len c =
+pub move_on-requires-clause-on_len : goal.move_on-requires-clause-on_len
+move_on-requires-clause-on_len c =
     c.start.ensures.len ∙ c.args.self.now.on_len ∙ c.requires.sizes.same_steps
 
 pub begin-requires-clause-low : goal.begin-requires-clause-low
@@ -167,25 +147,25 @@ begin-requires-clause-instants c = subst AreInstants (sym c.deref_mut-2.ensures.
 pub begin-requires-clause-on_len : goal.begin-requires-clause-on_len
 begin-requires-clause-on_len c =
     let self = c.args.self.now in
-    c.mark_following.ensures.len ∙ c.start.ensures.len ∙ self.on_len ∙ sym (ap length c.deref_mut-2.ensures.value ∙ self.since_len)
+    c.move_on.ensures.on_len ∙ c.start.ensures.len ∙ self.on_len ∙ sym (ap length c.deref_mut-2.ensures.value ∙ self.since_len)
 
 pub begin-requires-clause-active_len : goal.begin-requires-clause-active_len
 begin-requires-clause-active_len c =
-    c.unmark_preceding.ensures.len ∙ sym (c.mark_following.ensures.len ∙ c.start.ensures.len ∙ c.args.self.now.on_len)
+    c.move_on.ensures.active_len ∙ sym (c.move_on.ensures.on_len ∙ c.start.ensures.len ∙ c.args.self.now.on_len)
 
 pub propose-requires-clause-tables : goal.propose-requires-clause-tables
 propose-requires-clause-tables c = c.steps-steps.ensures.tables
 
 pub propose-requires-clause-active_len : goal.propose-requires-clause-active_len
 propose-requires-clause-active_len c =
-    c.begin.ensures.active_len ∙ c.unmark_preceding.ensures.len ∙ c.requires.sizes.same_steps
+    c.begin.ensures.active_len ∙ c.move_on.ensures.active_len ∙ c.requires.sizes.same_steps
 
 pub propose-requires-clause-candidates_len : goal.propose-requires-clause-candidates_len
 propose-requires-clause-candidates_len c = c.args.self.now.candidates_len ∙ c.requires.sizes.same_transitions
 
 pub returns-clause-sizes : goal.returns-clause-sizes
 returns-clause-sizes c = record {
-  same_steps = c.begin.ensures.active_len ∙ c.unmark_preceding.ensures.len ∙ c.requires.sizes.same_steps;
+  same_steps = c.begin.ensures.active_len ∙ c.move_on.ensures.active_len ∙ c.requires.sizes.same_steps;
   same_transitions =
       c.clear_in_order.ensures.cleared_len
       ∙ ap length c.clear_all-2.ensures.flags
@@ -197,7 +177,7 @@ pub invariant_of-self-2-clause-since_len : goal.invariant_of-self-2-clause-since
 invariant_of-self-2-clause-since_len c =
     let self = c.args.self.now in
     let same : length c.begin.new.since ≡ length c.begin.new.active =
-    omega (arith, self.since_len, c.begin.ensures.active_len, c.unmark_preceding.ensures.len) in
+    omega (arith, self.since_len, c.begin.ensures.active_len, c.move_on.ensures.active_len) in
     ap length (with_items_is self.since c.begin.new.since (omega arith)) ∙ same
 
 pub invariant_of-self-2-clause-used_len : goal.invariant_of-self-2-clause-used_len
@@ -207,12 +187,12 @@ invariant_of-self-2-clause-used_len c =
     ∙ ap length c.clear_all.ensures.flags
     ∙ length-replicate (length self.used) false
     ∙ self.used_len
-    ∙ sym (c.begin.ensures.active_len ∙ c.unmark_preceding.ensures.len)
+    ∙ sym (c.begin.ensures.active_len ∙ c.move_on.ensures.active_len)
 
 pub invariant_of-self-2-clause-on_len : goal.invariant_of-self-2-clause-on_len
 invariant_of-self-2-clause-on_len c =
-    c.mark_following.ensures.len ∙ c.start.ensures.len ∙ c.args.self.now.on_len
-    ∙ sym (c.begin.ensures.active_len ∙ c.unmark_preceding.ensures.len)
+    c.move_on.ensures.on_len ∙ c.start.ensures.len ∙ c.args.self.now.on_len
+    ∙ sym (c.begin.ensures.active_len ∙ c.move_on.ensures.active_len)
 
 pub returns-clause-agrees : goal.returns-clause-agrees
 unfolding StepsAgree
@@ -222,11 +202,11 @@ returns-clause-agrees c scans k =
     let next =
     fields_next tables c.steps-steps.ensures.tables self.begun self.active self.since.items self.held_times.items self.cleared self.on
     c.args.conditions.now c.args.t
-    c.clear_in_order.new.cleared c.mark_following.new.on c.begin.new.active c.begin.new.since c.keep_times.new.held_times scans
+    c.clear_in_order.new.cleared c.move_on.new.on c.begin.new.active c.begin.new.since c.move_on.new.held_times scans
     (scanned c k.proposed) k.fields in
     record {
       size = record {
-        same_steps = c.begin.ensures.active_len ∙ c.unmark_preceding.ensures.len ∙ c.requires.sizes.same_steps;
+        same_steps = c.begin.ensures.active_len ∙ c.move_on.ensures.active_len ∙ c.requires.sizes.same_steps;
         same_transitions =
             c.clear_in_order.ensures.cleared_len
             ∙ ap length c.clear_all-2.ensures.flags
@@ -261,15 +241,13 @@ returns-clause-ticks c =
         c.clear_in_order.ensures.cleared_len,
         ap length c.clear_all-2.ensures.flags,
         length-replicate (length c.args.self.now.cleared) false,
-        c.keep_times.ensures.ticks,
-        c.unmark_preceding.ensures.ticks,
+        c.move_on.ensures.ticks,
         c.start.ensures.ticks,
-        c.mark_following.ensures.ticks,
         c.begin.ensures.ticks,
         c.propose.ensures.ticks,
-        c.mark_following.ensures.len,
+        c.move_on.ensures.on_len,
         c.start.ensures.len,
-        c.unmark_preceding.ensures.len,
+        c.move_on.ensures.active_len,
       ),
     )
 
@@ -288,9 +266,9 @@ invariant_of-self-2-clause-candidates_len c =
 pub invariant_of-self-2-clause-held_times_len : goal.invariant_of-self-2-clause-held_times_len
 invariant_of-self-2-clause-held_times_len c =
     let self = c.args.self.now in
-    let same : length c.keep_times.new.held_times ≡ length c.begin.new.active =
-    omega (arith, self.held_times_len, c.begin.ensures.active_len, c.unmark_preceding.ensures.len) in
-    ap length (with_items_is self.held_times c.keep_times.new.held_times (omega arith)) ∙ same
+    let same : length c.move_on.new.held_times ≡ length c.begin.new.active =
+    omega (arith, self.held_times_len, c.begin.ensures.active_len, c.move_on.ensures.active_len) in
+    ap length (with_items_is self.held_times c.move_on.new.held_times (omega arith)) ∙ same
 
 pub invariant_of-self-2-clause-instants : goal.invariant_of-self-2-clause-instants
 invariant_of-self-2-clause-instants c =
