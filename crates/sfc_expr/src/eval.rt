@@ -3,13 +3,15 @@
 ghost use Rattle.std.specs.Prelude.{◌≡◌, ◌≤◌, IfSome, Ok};
 ghost use Rattle.sfc_base.specs.Ticks.{Within};
 ghost use Rattle.sfc_expr.specs.Trees.{expression_of};
-ghost use Rattle.sfc_expr.specs.Meaning.{value_of};
+ghost use Rattle.sfc_expr.specs.Meaning.{of_truth, truth_of, value_of};
 ghost use Rattle.sfc_expr.specs.Nodes.{nodes};
+ghost use Rattle.sfc_expr.specs.Private.Orders.{number_of};
 
 use crate::expr::Expr;
 use crate::fault::Fault;
 use crate::number;
 use crate::operate::operate;
+use crate::operator::Operator;
 use crate::view::View;
 use sfc_base::ticks::Ticks;
 use sfc_base::value::Value;
@@ -94,5 +96,54 @@ pub fn eval<V: View>(expr: &Expr, view: &V, ticks: &mut Ticks) -> Result<Value, 
             answer
         }
         None => eval_tree(expr, view, ticks),
+    }
+}
+
+// The number that is read with no operand to evaluate: of a literal, a variable or the time of a step.
+#[inline(always)]
+fn leaf_number<V: View>(expr: &Expr, view: &V) -> Option<i64>
+    ensures { IfSome result (λ n. number_of (value_of (V.environment view.now) (expression_of expr.now)) ≡ Ok n) }
+{
+    match expr {
+        Expr::Literal(value) => Some(value.number()),
+        Expr::Variable(variable) => Some(view.value_at(*variable).number()),
+        Expr::StepTime(step) => Some(view.time_of(*step)),
+        Expr::StepActive(_) | Expr::ActionQ => None,
+        Expr::Not(_) | Expr::Minus(_, _) | Expr::Binary(_, _, _, _) => None,
+    }
+}
+
+// Whether an expression that asks for an order of two numbers holds, if both are read with no operand to evaluate.
+#[inline(always)]
+#[tactic(auto, using(crate::proofs::Orders::ordered))]
+fn order<V: View>(expr: &Expr, view: &V) -> Option<bool>
+    ensures value { IfSome result (λ holds. value_of (V.environment view.now) (expression_of expr.now) ≡ of_truth holds) }
+    ensures nodes { IfSome result (λ _. 1 ≤ nodes (expression_of expr.now)) }
+{
+    if let Expr::Binary(operator, _, left, right) = expr {
+        if let (Some(a), Some(b)) = (leaf_number(left, view), leaf_number(right, view)) {
+            return match operator {
+                Operator::Less => Some(a < b),
+                Operator::Greater => Some(a > b),
+                Operator::LessOrEqual => Some(a <= b),
+                Operator::GreaterOrEqual => Some(a >= b),
+                _ => None,
+            };
+        }
+    }
+    None
+}
+
+/// Whether an expression over a view is TRUE, or its first fault; a value that isn't of BOOL is not TRUE. Else as `eval`.
+pub fn holds<V: View>(expr: &Expr, view: &V, ticks: &mut Ticks) -> Result<bool, Fault>
+    ensures value { result ≡ truth_of (value_of (V.environment view.now) (expression_of expr.now)) }
+    ensures ticks { Within (nodes (expression_of expr.now)) ticks.old ticks.new }
+{
+    match order(expr, view) {
+        Some(holds) => {
+            ticks.tick();
+            Ok(holds)
+        }
+        None => Ok(eval(expr, view, ticks)?.is_true()),
     }
 }
