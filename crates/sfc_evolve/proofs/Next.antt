@@ -7,7 +7,7 @@ use Rattle.std.proofs.lemmas.Bool.Decides.{nat_tests}
 use Rattle.std.proofs.lemmas.Grind.{common_steps}
 use Rattle.std.proofs.lemmas.List.Elements.{All-head, All-tail}
 use Rattle.sfc_base.specs.declared.references.StepId.{StepId}
-use Rattle.sfc_flags.specs.Flags.{flag, places_from}
+use Rattle.sfc_flags.specs.Flags.{flag, places_from, set_from}
 use Rattle.sfc_base.specs.declared.ids.TransitionId.{TransitionId}
 use Rattle.sfc_tables.specs.Tables.{Sides, Tabled, AreTables, sides_at}
 use Rattle.sfc_evolve.specs.Lookback.{is_empty}
@@ -270,3 +270,33 @@ module _ (tables : Tabled) (sound : AreTables tables) (begun : Bool) (active : L
       either_way true false = refl
       either_way false true = refl
       either_way false false = refl
+
+-- no place is set where no flag is
+none_from : (n i : ℕ) → set_from i (replicate n false) ≡ []
+none_from zero i = refl
+none_from (suc n) i = none_from n (suc i)
+
+no_places : (k : ℕ) (flags : List Bool) → flags ≡ replicate k false → places_from flags 0 ≡ []
+no_places k flags e = ap (λ (f : List Bool). places_from f 0) e ∙ none_from k 0
+
+-- a later scan that clears nothing leaves all as it is
+pub quiet : (tables : Tabled) (sound : AreTables tables) (begun : Bool) (active : List Bool) (since held_times : List ℤ)
+    (conditions : List Bool) (t : ℤ) (used cleared cleared' on' : List Bool) (k : ℕ)
+    → length active ≡ step_count tables → length since ≡ step_count tables → length held_times ≡ step_count tables
+    → length on' ≡ step_count tables
+    → used ≡ replicate (step_count tables) false → cleared ≡ replicate (transition_count tables) false
+    → cleared' ≡ cleared_in tables.sides (flag active) conditions tables.ranked used cleared
+    → begun ≡ true → places_from cleared' 0 ≡ [] → on' ≡ replicate k false
+    → Advanced tables begun active since held_times conditions t cleared' on' active since held_times
+quiet tables sound begun active since held_times conditions t used cleared cleared' on' k la ls lk lo eu ec clears goes none off =
+    let empty = no_places k on' off in
+    let pre : ℕ → List StepId = preceding_of tables.sides in
+    advanced tables sound begun active since held_times conditions t used cleared cleared' active on' on' active since held_times
+    la ls lk lo lo eu ec clears
+    (ap (λ (places : List ℕ). left_by t since pre places held_times) (sym none))
+    (ap (λ (places : List ℕ). changed_by unmarked pre places active) (sym none))
+    (λ s lt. ap (λ (f : List Bool). flag f s) off ∙ none_set k s ∙ ap (λ (b : Bool). not b && flag tables.initial s) (sym goes))
+    (ap (λ (places : List ℕ). changed_by marked (following_of tables.sides) places on') (sym none))
+    la
+    (ap (λ (places : List ℕ). set_at places active) (sym empty))
+    (ap (λ (places : List ℕ). begun_at t places since) (sym empty))

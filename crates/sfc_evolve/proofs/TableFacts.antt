@@ -1,5 +1,5 @@
 -- What tables name is there.
-use Rattle.std.proofs.Common.{◌≡◌, ℕ, zero, suc, ◌+◌, ◌-◌, ◌<◌, ◌≤◌, List, [], ◌∷◌, length, get_or, drop, refl, sym, subst, inl, inr, arith}
+use Rattle.std.proofs.Common.{◌≡◌, ℕ, zero, suc, ◌+◌, ◌-◌, ◌*◌, ◌<◌, ◌≤◌, List, [], ◌∷◌, length, get_or, drop, refl, sym, subst, inl, inr, arith}
 use Rattle.std.specs.Prelude.{All}
 use Rattle.std.specs.List.{range_with_len}
 use Rattle.std.proofs.lemmas.Bool.{cases_lt}
@@ -10,7 +10,7 @@ use Rattle.sfc_base.specs.declared.references.StepId.{StepId}
 use Rattle.sfc_base.specs.declared.ids.TransitionId.{TransitionId}
 use Rattle.sfc_tables.specs.Ranks.{transitions_to}
 use Rattle.sfc_tables.specs.Tables.{Sides, Tabled, AreTables, AreSides, sides_at}
-use Rattle.sfc_evolve.specs.Private.Keeping.{AllBelow, side_work}
+use Rattle.sfc_evolve.specs.Private.Keeping.{AllBelow, moving_work}
 
 pub range_below : (a n : ℕ) → All (λ i. i < a + n) (range_with_len a n)
 range_below a zero = All-nil (λ i. i < a + 0)
@@ -50,23 +50,23 @@ following_below tables sound n e tr lt steps is = rw (e, is) (sides_below tables
 
 -- ---- work
 
-module _ (side : Sides → List StepId) where
-  pub side_work-cons : (s : Sides) (all : List Sides) → side_work side (s ∷ all) ≡ 1 + length (side s) + side_work side all
-  side_work-cons s all = sum_by-cons (λ (x : Sides). 1 + length (side x)) s all
+-- each transition, the steps before it twice, and those after it
+moving-cons : (s : Sides) (all : List Sides)
+    → moving_work (s ∷ all) ≡ 1 + 2 * length s.preceding + length s.following + moving_work all
+moving-cons s all = sum_by-cons (λ (x : Sides). 1 + 2 * length x.preceding + length x.following) s all
 
-  -- each transition is work
-  pub work_covers : (all : List Sides) → length all ≤ side_work side all
-  work_covers [] = omega arith
-  work_covers (s ∷ all) = omega (arith, work_covers all, side_work-cons s all)
+pub moving_covers : (all : List Sides) → length all ≤ moving_work all
+moving_covers [] = omega arith
+moving_covers (s ∷ all) = omega (arith, moving_covers all, moving-cons s all)
 
-  -- the work from place `at` on covers transition tr and what comes after it
-  pub work_left : (all : List Sides) (at tr : ℕ) → at ≤ tr → tr < length all
-      → suc tr - at + length (side (sides_at all record { 0 = tr })) + side_work side (drop (suc tr) all) ≤ side_work side (drop at all)
-  work_left [] at tr le lt = absurd (omega arith)
-  work_left (s ∷ all) zero zero le lt = omega (arith, side_work-cons s all)
-  work_left (s ∷ all) zero (suc tr) le lt = omega (arith, work_left all 0 tr (omega arith) (omega arith), side_work-cons s all)
-  work_left (s ∷ all) (suc at) zero le lt = absurd (omega arith)
-  work_left (s ∷ all) (suc at) (suc tr) le lt = omega (arith, work_left all at tr (omega arith) (omega arith))
+pub moving_left : (all : List Sides) (at tr : ℕ) → at ≤ tr → tr < length all
+    → suc tr - at + 2 * length (sides_at all record { 0 = tr }).preceding + length (sides_at all record { 0 = tr }).following
+    + moving_work (drop (suc tr) all) ≤ moving_work (drop at all)
+moving_left [] at tr le lt = absurd (omega arith)
+moving_left (s ∷ all) zero zero le lt = omega (arith, moving-cons s all)
+moving_left (s ∷ all) zero (suc tr) le lt = omega (arith, moving_left all 0 tr (omega arith) (omega arith), moving-cons s all)
+moving_left (s ∷ all) (suc at) zero le lt = absurd (omega arith)
+moving_left (s ∷ all) (suc at) (suc tr) le lt = omega (arith, moving_left all at tr (omega arith) (omega arith))
 
 -- ---- all sides, beyond the last transition too
 

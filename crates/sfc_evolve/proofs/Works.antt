@@ -8,7 +8,7 @@ use Rattle.std.proofs.lemmas.List.Sums.{sum_by-cons}
 use Rattle.sfc_base.specs.declared.ids.TransitionId.{TransitionId}
 use Rattle.sfc_tables.specs.Ranks.{transitions_to}
 use Rattle.sfc_tables.specs.Tables.{Sides, Tabled, AreSides, AreTables, sides_at}
-use Rattle.sfc_evolve.specs.Private.Keeping.{clearing_work, side_work}
+use Rattle.sfc_evolve.specs.Private.Keeping.{clearing_work, moving_work}
 
 abbrev none : Sides
 none = record { preceding = []; following = [] }
@@ -38,8 +38,7 @@ clearing_is tables sound =
     (λ k lt. let e : 0 + k ≡ k = omega arith in ap (λ j. g record { 0 = j }) e)
 
 pub work_of_scan : (n : ℕ) (sides : List Sides) → All (AreSides n) sides
-    → sum_by (λ (s : Sides). 1 + 3 * length s.preceding) sides + side_work (λ s. s.preceding) sides + side_work
-    (λ s. s.preceding) sides + side_work (λ s. s.following) sides + 2 * length sides
+    → sum_by (λ (s : Sides). 1 + 3 * length s.preceding) sides + moving_work sides + 4 * length sides
     ≤ 4 * length sides + 5 * sum_by (λ (s : Sides). length s.preceding + length s.following) sides
 work_of_scan n [] all = omega arith
 work_of_scan n (s ∷ sides) all =
@@ -49,9 +48,7 @@ work_of_scan n (s ∷ sides) all =
       here,
       work_of_scan n sides (All-tail (AreSides n) s sides all),
       sum_by-cons (λ (s : Sides). 1 + 3 * length s.preceding) s sides,
-      sum_by-cons
-          (λ (s : Sides). 1 + length s.preceding) s sides,
-      sum_by-cons (λ (s : Sides). 1 + length s.following) s sides,
+      sum_by-cons (λ (s : Sides). 1 + 2 * length s.preceding + length s.following) s sides,
       sum_by-cons
           (λ (s : Sides). length s.preceding + length s.following) s sides,
     )

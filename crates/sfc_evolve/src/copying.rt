@@ -6,17 +6,18 @@ ghost use Rattle.sfc_base.specs.Ticks.{Within};
 use sfc_base::ticks::Ticks;
 use sfc_flags::flags::Flags;
 
-/// Takes over the flags of two tables. What is copied of a step is one tick, which `copy_times` counts.
-pub fn copy_flags(active: &mut Flags, on: &mut Flags, from_active: &Flags, from_on: &Flags)
-    requires on_len { length on.old ≡ length active.old }
-    requires from_active_len { length from_active.now ≡ length active.old }
-    requires from_on_len { length from_on.now ≡ length active.old }
-    ensures active { active.new ≡ from_active.now }
-    ensures on { on.new ≡ from_on.now }
+/// Takes over the flags of two tables, word by word. The caller counts it: a tick for what is copied of a step or of a
+/// transition.
+pub fn copy_flags(first: &mut Flags, second: &mut Flags, from_first: &Flags, from_second: &Flags)
+    requires second_len { length second.old ≡ length first.old }
+    requires from_first_len { length from_first.now ≡ length first.old }
+    requires from_second_len { length from_second.now ≡ length first.old }
+    ensures first { first.new ≡ from_first.now }
+    ensures second { second.new ≡ from_second.now }
 {
-    for number in 0..active.words() {
-        active.put_word(number, from_active.word(number));
-        on.put_word(number, from_on.word(number));
+    for number in 0..first.words() {
+        first.put_word(number, from_first.word(number));
+        second.put_word(number, from_second.word(number));
     }
 }
 

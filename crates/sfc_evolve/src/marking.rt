@@ -1,48 +1,63 @@
 //! The steps before and after the transitions that a scan clears.
 
-ghost use Rattle.std.specs.Prelude.{◌≡◌, length};
+use sfc_flags::flags::Flags;
+use sfc_tables::tables::Tables;
+
+/// The transitions of a chart that a scan clears, and the scan's instant.
+#[derive(Clone, Copy)]
+pub struct Cleared<'a> {
+    pub tables: &'a Tables,
+    pub flags: &'a Flags,
+    pub t: i64,
+}
+
+ghost use Rattle.std.specs.Prelude.{◌≡◌, ◌≤ℤ◌, ◌^◌, pos, length};
 ghost use Rattle.sfc_base.specs.Ticks.{Within};
 ghost use Rattle.sfc_flags.specs.Flags.{places_from};
 ghost use Rattle.sfc_tables.specs.Tables.{AreTables};
 ghost use Rattle.sfc_evolve.specs.Marks.{marked};
 ghost use Rattle.sfc_evolve.specs.Clearing.{preceding_of, following_of};
-ghost use Rattle.sfc_evolve.specs.Private.Keeping.{unmarked, changed_by, side_work};
+ghost use Rattle.sfc_evolve.specs.Private.Keeping.{AreInstants, unmarked, changed_by, left_by, moving_work};
 
 use crate::marks::{mark, unmark};
+use crate::times::leave;
 use sfc_base::ids::TransitionId;
 use sfc_base::ticks::Ticks;
-use sfc_flags::flags::Flags;
-use sfc_tables::tables::Tables;
 
-/// Marks the steps after the cleared transitions.
-pub fn mark_following(tables: &Tables, cleared: &Flags, on: &mut Flags, ticks: &mut Ticks)
-    requires tables { AreTables tables.now }
-    requires cleared_len { length cleared.now ≡ length tables.now.sides }
-    requires on_len { length on.old ≡ length tables.now.initial }
-    ensures flags { on.new ≡ changed_by marked (following_of tables.now.sides) (places_from cleared.now 0) on.old }
-    ensures len { length on.new ≡ length on.old }
-    ensures ticks { Within (side_work (λ sides. sides.following) tables.now.sides) ticks.old ticks.new }
+/// The steps before the cleared transitions are left: they keep their times, as they are at the scan's instant, and their
+/// flags are cleared. Those after them are marked.
+pub fn move_on(
+    scan: Cleared<'_>,
+    active: &mut Flags,
+    held_times: &mut [i64],
+    since: &[i64],
+    on: &mut Flags,
+    ticks: &mut Ticks,
+)
+    requires tables { AreTables scan.tables.now }
+    requires cleared_len { length scan.flags.now ≡ length scan.tables.now.sides }
+    requires active_len { length active.old ≡ length scan.tables.now.initial }
+    requires since_len { length since.now ≡ length scan.tables.now.initial }
+    requires held_times_len { length held_times.old ≡ length since.now }
+    requires on_len { length on.old ≡ length scan.tables.now.initial }
+    requires instants { AreInstants since.now }
+    requires low { pos 0 ≤ℤ scan.t }
+    requires high { scan.t ≤ℤ pos (2 ^ 62) }
+    ensures active { active.new ≡ changed_by unmarked (preceding_of scan.entry.tables.now.sides) (places_from scan.entry.flags.now 0) active.old }
+    ensures active_len { length active.new ≡ length active.old }
+    ensures held_times { held_times.new
+        ≡ left_by scan.entry.t since.now (preceding_of scan.entry.tables.now.sides) (places_from scan.entry.flags.now 0) held_times.old }
+    ensures on { on.new ≡ changed_by marked (following_of scan.entry.tables.now.sides) (places_from scan.entry.flags.now 0) on.old }
+    ensures on_len { length on.new ≡ length on.old }
+    ensures ticks { Within (moving_work scan.entry.tables.now.sides) ticks.old ticks.new }
 {
+    let Cleared { tables, flags, t } = scan;
     let mut at = 0;
-    'cleared: while let Some(tr) = cleared.next_set(at, ticks) {
+    'cleared: while let Some(tr) = flags.next_set(at, ticks) {
+        let preceding = tables.preceding(TransitionId(tr as u16));
+        leave(held_times, since, preceding, t, ticks);
+        unmark(active, preceding, ticks);
         mark(on, tables.following(TransitionId(tr as u16)), ticks);
-        at = tr + 1;
-    }
-}
-
-/// Clears the flags of the steps before the cleared transitions.
-pub fn unmark_preceding(tables: &Tables, cleared: &Flags, active: &mut Flags, ticks: &mut Ticks)
-    requires tables { AreTables tables.now }
-    requires cleared_len { length cleared.now ≡ length tables.now.sides }
-    requires active_len { length active.old ≡ length tables.now.initial }
-    ensures flags { active.new
-        ≡ changed_by unmarked (preceding_of tables.now.sides) (places_from cleared.now 0) active.old }
-    ensures len { length active.new ≡ length active.old }
-    ensures ticks { Within (side_work (λ sides. sides.preceding) tables.now.sides) ticks.old ticks.new }
-{
-    let mut at = 0;
-    'cleared: while let Some(tr) = cleared.next_set(at, ticks) {
-        unmark(active, tables.preceding(TransitionId(tr as u16)), ticks);
         at = tr + 1;
     }
 }

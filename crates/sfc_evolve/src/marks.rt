@@ -1,9 +1,9 @@
 //! Tests and writes at listed steps.
 
-ghost use Rattle.std.specs.Prelude.{◌≡◌, length};
+ghost use Rattle.std.specs.Prelude.{◌≡◌, [], true, length};
 ghost use Rattle.std.specs.List.{list_all, list_any};
 ghost use Rattle.sfc_base.specs.Ticks.{Within};
-ghost use Rattle.sfc_flags.specs.Flags.{flag};
+ghost use Rattle.sfc_flags.specs.Flags.{flag, places_from};
 ghost use Rattle.sfc_evolve.specs.Marks.{marked};
 ghost use Rattle.sfc_evolve.specs.Private.Keeping.{AllBelow, unmarked};
 
@@ -39,6 +39,14 @@ pub fn some_set(flags: &Flags, steps: &[StepId], ticks: &mut Ticks) -> bool
         }
     }
     false
+}
+
+/// Whether no flag is set.
+pub fn is_blank(flags: &Flags, ticks: &mut Ticks) -> bool
+    ensures blank { result ≡ true → places_from flags.now 0 ≡ [] }
+    ensures ticks { Within (length flags.now) ticks.old ticks.new }
+{
+    flags.next_set(0, ticks).is_none()
 }
 
 /// Sets the flags of these steps.

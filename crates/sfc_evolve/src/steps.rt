@@ -5,12 +5,12 @@ ghost use Rattle.sfc_evolve.specs.Private.Keeping.{AreInstants};
 
 use crate::clearing::clear_in_order;
 use crate::copying::{copy_flags, copy_times};
-use crate::marking::{mark_following, unmark_preceding};
-use crate::marks::all_set;
+use crate::marking::{Cleared, move_on};
+use crate::marks::{all_set, is_blank};
 use crate::new_sets::{three_sets, two_lists, two_sets};
 use crate::proposing::propose;
 use crate::starting::start;
-use crate::times::{begin, keep_times, measure_active, time_since};
+use crate::times::{begin, measure_active, time_since};
 use sfc_base::ids::TransitionId;
 use sfc_base::references::StepId;
 use sfc_base::ticks::Ticks;
@@ -100,7 +100,8 @@ impl Steps {
     }
 
     /// One scan at t, in microseconds from 0 to 2^62, with the condition of each transition in text order; those of
-    /// transitions that aren't enabled don't matter (2.6.5). It takes no memory.
+    /// transitions that aren't enabled don't matter (2.6.5). It takes no memory. Where it clears no transition the steps
+    /// stay as they are.
     pub fn advance(&mut self, tables: &Tables, conditions: &[bool], t: i64, ticks: &mut Ticks)
         requires sizes { IsFor tables.now self.old }
         requires conditions { length conditions.now ≡ length tables.now.sides }
@@ -123,17 +124,24 @@ impl Steps {
             &mut self.cleared,
             ticks,
         );
-        keep_times(
+        if is_blank(&self.cleared, ticks) && self.begun {
+            self.on.clear_all(ticks);
+            return;
+        }
+        start(tables, !self.begun, &mut self.on, ticks);
+        let scan = Cleared {
             tables,
-            &self.cleared,
+            flags: &self.cleared,
+            t,
+        };
+        move_on(
+            scan,
+            &mut self.active,
             &mut self.held_times,
             &self.since,
-            t,
+            &mut self.on,
             ticks,
         );
-        unmark_preceding(tables, &self.cleared, &mut self.active, ticks);
-        start(tables, !self.begun, &mut self.on, ticks);
-        mark_following(tables, &self.cleared, &mut self.on, ticks);
         begin(&mut self.active, &mut self.since, &self.on, t, ticks);
         propose(tables, &self.active, &mut self.candidates, ticks);
         self.begun = true;
@@ -251,8 +259,13 @@ impl Steps {
         ensures ticks { Within (step_total self.old + 2 * transition_total self.old) ticks.old ticks.new }
     {
         copy_flags(&mut self.active, &mut self.on, &other.active, &other.on);
-        self.cleared.copy_from(&other.cleared, ticks);
-        self.candidates.copy_from(&other.candidates, ticks);
+        copy_flags(
+            &mut self.cleared,
+            &mut self.candidates,
+            &other.cleared,
+            &other.candidates,
+        );
+        ticks.tick_all(self.cleared.count());
         copy_times(
             &mut self.since,
             &mut self.held_times,

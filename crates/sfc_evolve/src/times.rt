@@ -3,15 +3,11 @@
 ghost use Rattle.std.specs.Prelude.{◌≡◌, ◌≤ℤ◌, ◌-ℤ◌, ◌^◌, pos, length};
 ghost use Rattle.sfc_base.specs.Ticks.{Within};
 ghost use Rattle.sfc_flags.specs.Flags.{places_from};
-ghost use Rattle.sfc_tables.specs.Tables.{AreTables};
-ghost use Rattle.sfc_evolve.specs.Clearing.{preceding_of};
-ghost use Rattle.sfc_evolve.specs.Private.Keeping.{AllBelow, AreInstants, left_at, left_by, begun_at, set_at, measured_at, side_work};
+ghost use Rattle.sfc_evolve.specs.Private.Keeping.{AllBelow, AreInstants, left_at, begun_at, set_at, measured_at};
 
-use sfc_base::ids::TransitionId;
 use sfc_base::references::StepId;
 use sfc_base::ticks::Ticks;
 use sfc_flags::flags::Flags;
-use sfc_tables::tables::Tables;
 
 /// The time since an instant.
 pub fn time_since(since: i64, t: i64) -> i64
@@ -77,37 +73,5 @@ pub fn begin(active: &mut Flags, since: &mut [i64], on: &Flags, t: i64, ticks: &
         active.set(s, true);
         since[s] = t;
         at = s + 1;
-    }
-}
-
-/// The steps before the cleared transitions keep their times, as they are at t.
-pub fn keep_times(
-    tables: &Tables,
-    cleared: &Flags,
-    held_times: &mut [i64],
-    since: &[i64],
-    t: i64,
-    ticks: &mut Ticks,
-)
-    requires tables { AreTables tables.now }
-    requires cleared_len { length cleared.now ≡ length tables.now.sides }
-    requires since_len { length since.now ≡ length tables.now.initial }
-    requires held_times_len { length held_times.old ≡ length since.now }
-    requires instants { AreInstants since.now }
-    requires low { pos 0 ≤ℤ t }
-    requires high { t ≤ℤ pos (2 ^ 62) }
-    ensures held_times { held_times.new ≡ left_by t since.now (preceding_of tables.now.sides) (places_from cleared.now 0) held_times.old }
-    ensures ticks { Within (side_work (λ sides. sides.preceding) tables.now.sides) ticks.old ticks.new }
-{
-    let mut at = 0;
-    'cleared: while let Some(tr) = cleared.next_set(at, ticks) {
-        leave(
-            held_times,
-            since,
-            tables.preceding(TransitionId(tr as u16)),
-            t,
-            ticks,
-        );
-        at = tr + 1;
     }
 }

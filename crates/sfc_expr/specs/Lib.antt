@@ -16,3 +16,5 @@ pub mod Nodes
 pub mod Types
 -- what an expression depends on, and what statements leave alone
 pub mod Dependence
+-- What private clauses cite.
+pub mod Private

@@ -24,6 +24,10 @@ abbrev pub ◌>>=◌ : {A B : Type 0} → Result A Fault → (A → Result B Fau
 abbrev pub of_truth : Bool → Result Value Fault
 of_truth b = Ok (value.Bool b)
 
+-- whether a value is TRUE; a fault stays
+abbrev pub truth_of : Result Value Fault → Result Bool Fault
+truth_of r = r >>= λ x. Ok (truth x)
+
 -- a result of this type, or the fault Range where the number lies outside the type's range
 abbrev pub in_type : VarType → ℤ → Result Value Fault
 in_type t n = if is_in_range t n then Ok (of_number t n) else Err Range

@@ -10,6 +10,7 @@ use sfc_base::value::Value;
 use sfc_base::var_type::VarType;
 
 // The value of `left operator right`, both of this type.
+#[inline(always)]
 pub(crate) fn operate(
     operator: Operator,
     var_type: VarType,

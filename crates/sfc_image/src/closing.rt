@@ -4,7 +4,7 @@ ghost use Rattle.std.specs.Prelude.{◌+◌, ◌≤◌, length};
 ghost use Rattle.sfc_base.specs.Ticks.{Within};
 ghost use Rattle.sfc_image.specs.Private.Keeping.{AreNumbers, AreClosed, AreBegun};
 
-use crate::slot::{Slot, begun, closed};
+use crate::slot::{Slot, begun, close};
 use sfc_base::ticks::Ticks;
 
 #[tactic(auto, using(crate::proofs::Tracked::closed_none, crate::proofs::Tracked::closed_more))]
@@ -18,7 +18,7 @@ pub fn close_all(slots: &mut [Slot], numbers: &[usize], count: usize, keep: bool
     for j in 0..count {
         ticks.tick();
         let i = numbers[j];
-        slots[i] = closed(slots[i], keep);
+        close(&mut slots[i], keep);
     }
 }
 

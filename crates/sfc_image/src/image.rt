@@ -436,6 +436,7 @@ impl Image {
 
     /// Stores a value of whatever type, in the transaction where one is open; there what is stored already is not
     /// stored again.
+    #[inline(always)]
     pub(crate) fn put(&mut self, i: usize, value: Value)
         requires { i < variable_total self.old }
         ensures large { IsAsLarge self.old self.new }

@@ -46,17 +46,15 @@ pub fn fresh_slot(variable: &Variable) -> Slot
 }
 
 /// What was tried is committed, or given up.
-pub fn closed(slot: Slot, keep: bool) -> Slot
-    ensures { result ≡ keeping.closed keep slot }
+pub fn close(slot: &mut Slot, keep: bool)
+    ensures { slot.new ≡ keeping.closed keep slot.old }
 {
-    let mut next = slot;
     if keep {
-        next.committed = slot.stored;
+        slot.committed = slot.stored;
     } else {
-        next.stored = slot.committed;
+        slot.stored = slot.committed;
     }
-    next.is_tried = false;
-    next
+    slot.is_tried = false;
 }
 
 /// The variable begins anew.

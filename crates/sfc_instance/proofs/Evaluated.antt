@@ -20,7 +20,8 @@ use Rattle.sfc_evolve.proofs.Listed.{listed}
 use Rattle.sfc_instance.specs.Life.{Life}
 use Rattle.sfc_instance.specs.ProgramScan.{enabled, condition_result, condition_flag, condition_flags, condition_fault, is_true}
 use Rattle.sfc_instance.specs.Work.{condition_work, transition_work}
-use Rattle.sfc_instance.specs.Private.Evaluating.{as_flag, evaluated, is_among, AreEvaluated}
+use Rattle.sfc_expr.specs.Meaning.{truth_of}
+use Rattle.sfc_instance.specs.Private.Evaluating.{evaluated, is_among, AreEvaluated}
 
 -- the element of a list that is another list
 pub item_at : (xs ys : List TransitionId) (i : ℕ) (d : TransitionId) → xs ≡ ys → i < length xs → get_or xs i d ≡ get_or ys i (get_or xs i d)
@@ -28,17 +29,17 @@ item_at xs ys i d same lt = get_or_default xs i d (get_or xs i d) lt ∙ ap (λ 
 
 -- ---- one transition
 
-pub flag_of : (b : Bool) (r : Result Value Fault) (x : Bool) → Ok x ≡ cond b (as_flag r) (Ok false) → x ≡ (b && is_true r)
+pub flag_of : (b : Bool) (r : Result Value Fault) (x : Bool) → Ok x ≡ cond b (truth_of r) (Ok false) → x ≡ (b && is_true r)
 flag_of true (Ok v) x e = cc
 flag_of true (Err f) x e = absurd cc
 flag_of false r x e = cc
 
-pub no_fault : (b : Bool) (r : Result Value Fault) (x : Bool) → Ok x ≡ cond b (as_flag r) (Ok false) → cond b (result_err r) None ≡ None
+pub no_fault : (b : Bool) (r : Result Value Fault) (x : Bool) → Ok x ≡ cond b (truth_of r) (Ok false) → cond b (result_err r) None ≡ None
 no_fault true (Ok v) x e = refl
 no_fault true (Err f) x e = absurd cc
 no_fault false r x e = refl
 
-pub some_fault : (b : Bool) (r : Result Value Fault) (f : Fault) → Err f ≡ cond b (as_flag r) (Ok false) → cond b (result_err r) None ≡ Some f
+pub some_fault : (b : Bool) (r : Result Value Fault) (f : Fault) → Err f ≡ cond b (truth_of r) (Ok false) → cond b (result_err r) None ≡ Some f
 some_fault true (Ok v) f e = absurd cc
 some_fault true (Err g) f e = cc
 some_fault false r f e = absurd cc

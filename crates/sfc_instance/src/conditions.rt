@@ -2,20 +2,21 @@
 
 ghost use Rattle.std.specs.Prelude.{◌≡◌, ◌<◌, false, length, replicate, slice_get, OnOk};
 ghost use Rattle.std.specs.Result.{result_err};
+ghost use Rattle.sfc_expr.specs.Meaning.{truth_of};
 ghost use Rattle.sfc_expr.specs.Nodes.{nodes};
 ghost use Rattle.sfc_base.specs.Ticks.{Within};
 ghost use Rattle.sfc_tables.specs.Tables.{tables_of};
 ghost use Rattle.sfc_evolve.specs.Agreement.{IsFor, StepsAgree};
 ghost use Rattle.sfc_instance.specs.Life.{Life, evolution_scans};
 ghost use Rattle.sfc_instance.specs.ProgramScan.{condition_fault, condition_flags, condition_in, condition_result};
-ghost use Rattle.sfc_instance.specs.Private.Evaluating.{as_flag, evaluated, test_work};
+ghost use Rattle.sfc_instance.specs.Private.Evaluating.{evaluated, test_work};
 ghost use Rattle.sfc_instance.specs.Work.{condition_work};
 
 use crate::program_context::ProgramContext;
 use sfc_base::ids::TransitionId;
 use sfc_base::ticks::Ticks;
 use sfc_evolve::steps::Steps;
-use sfc_expr::eval::eval;
+use sfc_expr::eval::holds;
 use sfc_expr::fault::Fault;
 use sfc_expr::view::View;
 
@@ -28,11 +29,11 @@ fn condition_holds<V: View>(
 ) -> Result<bool, Fault>
     requires tables { context.tables.now ≡ tables_of context.chart.now }
     requires transition { transition.0 < length context.tables.now.sides }
-    ensures value { result ≡ as_flag (condition_result context.entry.chart.now (V.environment view.now) transition.0) }
+    ensures value { result ≡ truth_of (condition_result context.entry.chart.now (V.environment view.now) transition.0) }
     ensures ticks { Within (nodes (condition_in (slice_get context.entry.chart.now.transitions transition.0))) ticks.old ticks.new }
 {
     let condition = &context.chart.transitions.as_slice()[transition.0 as usize].condition;
-    Ok(eval(condition.expr(), view, ticks)?.is_true())
+    holds(condition.expr(), view, ticks)
 }
 
 // Whether the transition is enabled and its condition TRUE; that of one that isn't enabled is not evaluated.

@@ -73,7 +73,3 @@ clearing_work sides ranked = sum_by (λ tr. 1 + 3 * length (sides_at sides tr).p
 -- and where steps are left and activated
 abbrev pub moving_work : List Sides → ℕ
 moving_work sides = sum_by (λ (s : Sides). 1 + 2 * length s.preceding + length s.following) sides
-
--- each transition, and its links on one side
-abbrev pub side_work : (Sides → List StepId) → List Sides → ℕ
-side_work side sides = sum_by (λ (s : Sides). 1 + length (side s)) sides

@@ -4,24 +4,19 @@ use Rattle.std.specs.List.{list_any}
 use Rattle.sfc_flags.specs.Flags.{flag}
 use Rattle.sfc_base.specs.declared.ids.TransitionId.{TransitionId}
 use Rattle.sfc_expr.specs.declared.fault.Fault.{Fault}
-use Rattle.sfc_base.specs.declared.value.Value.{Value}
-use Rattle.sfc_base.specs.Values.{truth}
 use Rattle.sfc_expr.specs.Environment.{Environment}
 use Rattle.sfc_plant.specs.declared.chart.Chart.{Chart}
 use Rattle.sfc_tables.specs.Tables.{Tabled}
 use Rattle.sfc_instance.specs.Life.{Life}
+use Rattle.sfc_expr.specs.Meaning.{truth_of}
 use Rattle.sfc_expr.specs.Nodes.{nodes}
 use Rattle.sfc_evolve.specs.Clearing.{preceding_of}
 use Rattle.sfc_instance.specs.ProgramScan.{enabled, condition_in, condition_result, condition_flag}
 
-abbrev pub as_flag : Result Value Fault → Result Bool Fault
-as_flag (Ok x) = Ok (truth x)
-as_flag (Err f) = Err f
-
 -- its condition, if it is enabled
 abbrev pub evaluated : Tabled → Chart → Environment → Life → ℕ → Result Bool Fault
 evaluated tables chart env life tr =
-    cond (enabled tables life tr) (as_flag (condition_result chart env tr)) (Ok false)
+    cond (enabled tables life tr) (truth_of (condition_result chart env tr)) (Ok false)
 
 -- the transition is among these
 abbrev pub is_among : List TransitionId → ℕ → Bool

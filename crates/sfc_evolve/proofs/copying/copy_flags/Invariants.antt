@@ -5,8 +5,8 @@ use Rattle.sfc_evolve.proofs.copying.copy_flags.Given as goal
 
 abbrev pub invariant-loop-number : goal.invariant-loop-number
 invariant-loop-number l = record {
-  active_length : length l.active ≡ length l.initial.active;
-  on_length : length l.on ≡ length l.initial.active;
-  active : AreDone l.number (flag l.from_active) (flag l.initial.active) (flag l.active);
-  on : AreDone l.number (flag l.from_on) (flag l.initial.on) (flag l.on);
+  first_length : length l.first ≡ length l.initial.first;
+  second_length : length l.second ≡ length l.initial.first;
+  first : AreDone l.number (flag l.from_first) (flag l.initial.first) (flag l.first);
+  second : AreDone l.number (flag l.from_second) (flag l.initial.second) (flag l.second);
 }

@@ -1,19 +1,19 @@
-use Rattle.std.proofs.Common.{◌≡◌, length, arith, ap, ◌∙◌, refl, sym, subst, SFits, w64, false, true}
+use Rattle.std.proofs.Common.{◌≡◌, ◌∷◌, length, arith, ap, ◌∙◌, refl, sym, subst, SFits, w64, false, true, Bool}
 use Rattle.std.proofs.lemmas.Int.{to_z-of_z}
 use Rattle.std.proofs.lemmas.List.{with_items_is, length-replicate}
 use Rattle.std.specs.Prelude.{replicate}
 use Rattle.sfc_flags.specs.Flags.{flag, places_from}
 use Rattle.sfc_evolve.specs.Agreement.{StepsAgree}
 use Rattle.sfc_evolve.specs.Clearing.{step_count, transition_count, preceding_of}
-use Rattle.sfc_evolve.specs.Private.Keeping.{AreInstants, left_by, begun_at}
-use Rattle.sfc_evolve.proofs.Next.{Advanced, advanced, fields_next, fields_at}
+use Rattle.sfc_evolve.specs.Private.Keeping.{AreInstants, FieldsAgree, left_by, begun_at}
+use Rattle.sfc_evolve.proofs.Next.{Advanced, advanced, fields_next, fields_at, quiet}
 use Rattle.sfc_evolve.specs.Private.Proposing.{AreProposed}
 use Rattle.sfc_evolve.proofs.Proposed.{proposed}
 use Rattle.sfc_evolve.proofs.Works.{work_of_scan, clearing_is}
 use Rattle.sfc_evolve.proofs.steps.Steps.advance.Goals as goal
 
 -- the lengths of all that is kept
-record Sizes (c : goal.After-self-3-1) : Type 0 where
+record Sizes (c : goal.After-self-4-1) : Type 0 where
   active : length c.args.self.now.active ≡ step_count c.args.tables.now
   used : length c.args.self.now.used ≡ step_count c.args.tables.now
   on : length c.args.self.now.on ≡ step_count c.args.tables.now
@@ -21,7 +21,7 @@ record Sizes (c : goal.After-self-3-1) : Type 0 where
   held_times : length c.args.self.now.held_times.items ≡ step_count c.args.tables.now
   cleared : length c.args.self.now.cleared ≡ transition_count c.args.tables.now
 
-sizes : (c : goal.After-self-3-1) → Sizes c
+sizes : (c : goal.After-self-4-1) → Sizes c
 sizes c =
     let la = c.requires.sizes.same_steps in
     record {
@@ -33,35 +33,35 @@ sizes c =
       cleared = c.requires.sizes.same_transitions;
     }
 
-scanned : (c : goal.After-self-3-1) → AreProposed c.args.tables.now (flag c.args.self.now.active) c.args.self.now.candidates
+scanned : (c : goal.After-self-4-1) → AreProposed c.args.tables.now (flag c.args.self.now.active) c.args.self.now.candidates
     → Advanced c.args.tables.now c.args.self.now.begun c.args.self.now.active c.args.self.now.since.items
     c.args.self.now.held_times.items c.args.conditions.now c.args.t
-    c.clear_in_order.new.cleared c.mark_following.new.on c.begin.new.active c.begin.new.since c.keep_times.new.held_times
+    c.clear_in_order.new.cleared c.move_on.new.on c.begin.new.active c.begin.new.since c.move_on.new.held_times
 scanned c proposes =
     let tables = c.args.tables.now in
     let self = c.args.self.now in
     let n = sizes c in
     let ft : SFits w64 c.args.t = c.ranges.t in
     let cleared = c.clear_in_order.new.cleared in
-    let on = c.mark_following.new.on in
-    let keeps : c.keep_times.new.held_times
+    let on = c.move_on.new.on in
+    let keeps : c.move_on.new.held_times
     ≡ left_by c.args.t c.deref.result.now (preceding_of tables.sides) (places_from cleared 0) c.deref_mut.result.now =
-    simp to_z-of_z at c.keep_times.ensures.held_times in
+    simp to_z-of_z at c.move_on.ensures.held_times in
     let begins : c.begin.new.since ≡ begun_at c.args.t (places_from on 0) c.deref_mut-2.result.now =
     simp to_z-of_z at c.begin.ensures.since in
     advanced tables c.steps-steps.ensures.tables self.begun self.active self.since.items self.held_times.items c.args.conditions.now c.args.t
-    c.clear_all.new.self c.clear_all-2.new.self cleared c.unmark_preceding.new.active c.start.new.on on c.begin.new.active
-    c.begin.new.since c.keep_times.new.held_times
-    n.active n.since n.held_times (c.start.ensures.len ∙ n.on) (c.mark_following.ensures.len ∙ c.start.ensures.len ∙ n.on)
+    c.clear_all.new.self c.clear_all-2.new.self cleared c.move_on.new.active c.start.new.on on c.begin.new.active
+    c.begin.new.since c.move_on.new.held_times
+    n.active n.since n.held_times (c.start.ensures.len ∙ n.on) (c.move_on.ensures.on_len ∙ c.start.ensures.len ∙ n.on)
     (c.clear_all.ensures.flags ∙ ap (λ k. replicate k false) n.used)
     (c.clear_all-2.ensures.flags ∙ ap (λ k. replicate k false) n.cleared)
     (c.clear_in_order.ensures.cleared proposes)
     (keeps ∙ (λ i. left_by c.args.t (c.deref.ensures.value i) (preceding_of tables.sides) (places_from cleared 0)
     (c.deref_mut.ensures.value i)))
-    c.unmark_preceding.ensures.flags
+    c.move_on.ensures.active
     (λ s lt. c.start.ensures.flags s (omega (arith, n.on)))
-    c.mark_following.ensures.flags
-    (c.unmark_preceding.ensures.len ∙ n.active)
+    c.move_on.ensures.on
+    (c.move_on.ensures.active_len ∙ n.active)
     c.begin.ensures.active
     (begins ∙ ap (begun_at c.args.t (places_from on 0)) c.deref_mut-2.ensures.value)
 
@@ -86,50 +86,40 @@ clear_in_order-requires-clause-cleared c =
 pub clear_in_order-requires-clause-candidates_len : goal.clear_in_order-requires-clause-candidates_len
 clear_in_order-requires-clause-candidates_len c = c.args.self.now.candidates_len ∙ c.requires.sizes.same_transitions
 
-pub keep_times-requires-clause-tables : goal.keep_times-requires-clause-tables
-keep_times-requires-clause-tables c = c.steps-steps.ensures.tables
+pub move_on-requires-clause-tables : goal.move_on-requires-clause-tables
+move_on-requires-clause-tables c = c.steps-steps.ensures.tables
 
-pub keep_times-requires-clause-cleared_len : goal.keep_times-requires-clause-cleared_len
-keep_times-requires-clause-cleared_len c =
+pub move_on-requires-clause-active_len : goal.move_on-requires-clause-active_len
+move_on-requires-clause-active_len c = c.requires.sizes.same_steps
+
+pub move_on-requires-clause-cleared_len : goal.move_on-requires-clause-cleared_len
+move_on-requires-clause-cleared_len c =
     c.clear_in_order.ensures.cleared_len
     ∙ ap length c.clear_all-2.ensures.flags
     ∙ length-replicate (length c.args.self.now.cleared) false
     ∙ c.requires.sizes.same_transitions
 
-pub keep_times-requires-clause-since_len : goal.keep_times-requires-clause-since_len
-keep_times-requires-clause-since_len c =
+pub move_on-requires-clause-since_len : goal.move_on-requires-clause-since_len
+move_on-requires-clause-since_len c =
     ap length c.deref.ensures.value ∙ c.args.self.now.since_len ∙ c.requires.sizes.same_steps
 
-pub keep_times-requires-clause-held_times_len : goal.keep_times-requires-clause-held_times_len
-keep_times-requires-clause-held_times_len c =
+pub move_on-requires-clause-held_times_len : goal.move_on-requires-clause-held_times_len
+move_on-requires-clause-held_times_len c =
     let self = c.args.self.now in
     ap length c.deref_mut.ensures.value ∙ self.held_times_len ∙ sym (ap length c.deref.ensures.value ∙ self.since_len)
 
-pub keep_times-requires-clause-instants : goal.keep_times-requires-clause-instants
-keep_times-requires-clause-instants c = subst AreInstants (sym c.deref.ensures.value) c.args.self.now.instants
+pub move_on-requires-clause-instants : goal.move_on-requires-clause-instants
+move_on-requires-clause-instants c = subst AreInstants (sym c.deref.ensures.value) c.args.self.now.instants
 
-pub keep_times-requires-clause-low : goal.keep_times-requires-clause-low
-keep_times-requires-clause-low c =
+pub move_on-requires-clause-low : goal.move_on-requires-clause-low
+move_on-requires-clause-low c =
     let fits : SFits w64 c.args.t = c.ranges.t in
     rw (to_z-of_z w64 c.args.t) c.requires.low
 
-pub keep_times-requires-clause-high : goal.keep_times-requires-clause-high
-keep_times-requires-clause-high c =
+pub move_on-requires-clause-high : goal.move_on-requires-clause-high
+move_on-requires-clause-high c =
     let fits : SFits w64 c.args.t = c.ranges.t in
     rw (to_z-of_z w64 c.args.t) c.requires.high
-
-pub unmark_preceding-requires-clause-tables : goal.unmark_preceding-requires-clause-tables
-unmark_preceding-requires-clause-tables c = c.steps-steps.ensures.tables
-
-pub unmark_preceding-requires-clause-cleared_len : goal.unmark_preceding-requires-clause-cleared_len
-unmark_preceding-requires-clause-cleared_len c =
-    c.clear_in_order.ensures.cleared_len
-    ∙ ap length c.clear_all-2.ensures.flags
-    ∙ length-replicate (length c.args.self.now.cleared) false
-    ∙ c.requires.sizes.same_transitions
-
-pub unmark_preceding-requires-clause-active_len : goal.unmark_preceding-requires-clause-active_len
-unmark_preceding-requires-clause-active_len c = c.requires.sizes.same_steps
 
 pub start-requires-clause-tables : goal.start-requires-clause-tables
 start-requires-clause-tables c = c.steps-steps.ensures.tables
@@ -137,18 +127,8 @@ start-requires-clause-tables c = c.steps-steps.ensures.tables
 pub start-requires-clause-on_len : goal.start-requires-clause-on_len
 start-requires-clause-on_len c = c.args.self.now.on_len ∙ c.requires.sizes.same_steps
 
-pub mark_following-requires-clause-tables : goal.mark_following-requires-clause-tables
-mark_following-requires-clause-tables c = c.steps-steps.ensures.tables
-
-pub mark_following-requires-clause-cleared_len : goal.mark_following-requires-clause-cleared_len
-mark_following-requires-clause-cleared_len c =
-    c.clear_in_order.ensures.cleared_len
-    ∙ ap length c.clear_all-2.ensures.flags
-    ∙ length-replicate (length c.args.self.now.cleared) false
-    ∙ c.requires.sizes.same_transitions
-
-pub mark_following-requires-clause-on_len : goal.mark_following-requires-clause-on_len
-mark_following-requires-clause-on_len c =
+pub move_on-requires-clause-on_len : goal.move_on-requires-clause-on_len
+move_on-requires-clause-on_len c =
     c.start.ensures.len ∙ c.args.self.now.on_len ∙ c.requires.sizes.same_steps
 
 pub begin-requires-clause-low : goal.begin-requires-clause-low
@@ -167,25 +147,25 @@ begin-requires-clause-instants c = subst AreInstants (sym c.deref_mut-2.ensures.
 pub begin-requires-clause-on_len : goal.begin-requires-clause-on_len
 begin-requires-clause-on_len c =
     let self = c.args.self.now in
-    c.mark_following.ensures.len ∙ c.start.ensures.len ∙ self.on_len ∙ sym (ap length c.deref_mut-2.ensures.value ∙ self.since_len)
+    c.move_on.ensures.on_len ∙ c.start.ensures.len ∙ self.on_len ∙ sym (ap length c.deref_mut-2.ensures.value ∙ self.since_len)
 
 pub begin-requires-clause-active_len : goal.begin-requires-clause-active_len
 begin-requires-clause-active_len c =
-    c.unmark_preceding.ensures.len ∙ sym (c.mark_following.ensures.len ∙ c.start.ensures.len ∙ c.args.self.now.on_len)
+    c.move_on.ensures.active_len ∙ sym (c.move_on.ensures.on_len ∙ c.start.ensures.len ∙ c.args.self.now.on_len)
 
 pub propose-requires-clause-tables : goal.propose-requires-clause-tables
 propose-requires-clause-tables c = c.steps-steps.ensures.tables
 
 pub propose-requires-clause-active_len : goal.propose-requires-clause-active_len
 propose-requires-clause-active_len c =
-    c.begin.ensures.active_len ∙ c.unmark_preceding.ensures.len ∙ c.requires.sizes.same_steps
+    c.begin.ensures.active_len ∙ c.move_on.ensures.active_len ∙ c.requires.sizes.same_steps
 
 pub propose-requires-clause-candidates_len : goal.propose-requires-clause-candidates_len
 propose-requires-clause-candidates_len c = c.args.self.now.candidates_len ∙ c.requires.sizes.same_transitions
 
 pub returns-clause-sizes : goal.returns-clause-sizes
 returns-clause-sizes c = record {
-  same_steps = c.begin.ensures.active_len ∙ c.unmark_preceding.ensures.len ∙ c.requires.sizes.same_steps;
+  same_steps = c.begin.ensures.active_len ∙ c.move_on.ensures.active_len ∙ c.requires.sizes.same_steps;
   same_transitions =
       c.clear_in_order.ensures.cleared_len
       ∙ ap length c.clear_all-2.ensures.flags
@@ -193,26 +173,26 @@ returns-clause-sizes c = record {
       ∙ c.requires.sizes.same_transitions;
 }
 
-pub invariant_of-self-clause-since_len : goal.invariant_of-self-clause-since_len
-invariant_of-self-clause-since_len c =
+pub invariant_of-self-2-clause-since_len : goal.invariant_of-self-2-clause-since_len
+invariant_of-self-2-clause-since_len c =
     let self = c.args.self.now in
     let same : length c.begin.new.since ≡ length c.begin.new.active =
-    omega (arith, self.since_len, c.begin.ensures.active_len, c.unmark_preceding.ensures.len) in
+    omega (arith, self.since_len, c.begin.ensures.active_len, c.move_on.ensures.active_len) in
     ap length (with_items_is self.since c.begin.new.since (omega arith)) ∙ same
 
-pub invariant_of-self-clause-used_len : goal.invariant_of-self-clause-used_len
-invariant_of-self-clause-used_len c =
+pub invariant_of-self-2-clause-used_len : goal.invariant_of-self-2-clause-used_len
+invariant_of-self-2-clause-used_len c =
     let self = c.args.self.now in
     c.clear_in_order.ensures.used_len
     ∙ ap length c.clear_all.ensures.flags
     ∙ length-replicate (length self.used) false
     ∙ self.used_len
-    ∙ sym (c.begin.ensures.active_len ∙ c.unmark_preceding.ensures.len)
+    ∙ sym (c.begin.ensures.active_len ∙ c.move_on.ensures.active_len)
 
-pub invariant_of-self-clause-on_len : goal.invariant_of-self-clause-on_len
-invariant_of-self-clause-on_len c =
-    c.mark_following.ensures.len ∙ c.start.ensures.len ∙ c.args.self.now.on_len
-    ∙ sym (c.begin.ensures.active_len ∙ c.unmark_preceding.ensures.len)
+pub invariant_of-self-2-clause-on_len : goal.invariant_of-self-2-clause-on_len
+invariant_of-self-2-clause-on_len c =
+    c.move_on.ensures.on_len ∙ c.start.ensures.len ∙ c.args.self.now.on_len
+    ∙ sym (c.begin.ensures.active_len ∙ c.move_on.ensures.active_len)
 
 pub returns-clause-agrees : goal.returns-clause-agrees
 unfolding StepsAgree
@@ -222,11 +202,11 @@ returns-clause-agrees c scans k =
     let next =
     fields_next tables c.steps-steps.ensures.tables self.begun self.active self.since.items self.held_times.items self.cleared self.on
     c.args.conditions.now c.args.t
-    c.clear_in_order.new.cleared c.mark_following.new.on c.begin.new.active c.begin.new.since c.keep_times.new.held_times scans
+    c.clear_in_order.new.cleared c.move_on.new.on c.begin.new.active c.begin.new.since c.move_on.new.held_times scans
     (scanned c k.proposed) k.fields in
     record {
       size = record {
-        same_steps = c.begin.ensures.active_len ∙ c.unmark_preceding.ensures.len ∙ c.requires.sizes.same_steps;
+        same_steps = c.begin.ensures.active_len ∙ c.move_on.ensures.active_len ∙ c.requires.sizes.same_steps;
         same_transitions =
             c.clear_in_order.ensures.cleared_len
             ∙ ap length c.clear_all-2.ensures.flags
@@ -257,20 +237,22 @@ returns-clause-ticks c =
         c.clear_all.ensures.ticks,
         c.clear_all-2.ensures.ticks,
         c.clear_in_order.ensures.ticks,
-        c.keep_times.ensures.ticks,
-        c.unmark_preceding.ensures.ticks,
+        c.is_blank.ensures.ticks,
+        c.clear_in_order.ensures.cleared_len,
+        ap length c.clear_all-2.ensures.flags,
+        length-replicate (length c.args.self.now.cleared) false,
+        c.move_on.ensures.ticks,
         c.start.ensures.ticks,
-        c.mark_following.ensures.ticks,
         c.begin.ensures.ticks,
         c.propose.ensures.ticks,
-        c.mark_following.ensures.len,
+        c.move_on.ensures.on_len,
         c.start.ensures.len,
-        c.unmark_preceding.ensures.len,
+        c.move_on.ensures.active_len,
       ),
     )
 
-pub invariant_of-self-clause-candidates_len : goal.invariant_of-self-clause-candidates_len
-invariant_of-self-clause-candidates_len c =
+pub invariant_of-self-2-clause-candidates_len : goal.invariant_of-self-2-clause-candidates_len
+invariant_of-self-2-clause-candidates_len c =
     let before = c.args.self.now.candidates_len in
     omega (
       arith,
@@ -281,13 +263,78 @@ invariant_of-self-clause-candidates_len c =
       length-replicate (length c.args.self.now.cleared) false,
     )
 
-pub invariant_of-self-clause-held_times_len : goal.invariant_of-self-clause-held_times_len
-invariant_of-self-clause-held_times_len c =
+pub invariant_of-self-2-clause-held_times_len : goal.invariant_of-self-2-clause-held_times_len
+invariant_of-self-2-clause-held_times_len c =
     let self = c.args.self.now in
-    let same : length c.keep_times.new.held_times ≡ length c.begin.new.active =
-    omega (arith, self.held_times_len, c.begin.ensures.active_len, c.unmark_preceding.ensures.len) in
-    ap length (with_items_is self.held_times c.keep_times.new.held_times (omega arith)) ∙ same
+    let same : length c.move_on.new.held_times ≡ length c.begin.new.active =
+    omega (arith, self.held_times_len, c.begin.ensures.active_len, c.move_on.ensures.active_len) in
+    ap length (with_items_is self.held_times c.move_on.new.held_times (omega arith)) ∙ same
 
-pub invariant_of-self-clause-instants : goal.invariant_of-self-clause-instants
-invariant_of-self-clause-instants c =
+pub invariant_of-self-2-clause-instants : goal.invariant_of-self-2-clause-instants
+invariant_of-self-2-clause-instants c =
     subst AreInstants (sym (with_items_is c.args.self.now.since c.begin.new.since (omega arith))) c.begin.ensures.instants
+
+-- ---- where no transition is cleared
+
+pub returns-then-self-clause-agrees : goal.returns-then-self-clause-agrees
+unfolding StepsAgree
+returns-then-self-clause-agrees c scans k =
+    let tables = c.args.tables.now in
+    let self = c.args.self.now in
+    let la = c.requires.sizes.same_steps in
+    let cleared = c.clear_in_order.new.cleared in
+    let on = c.clear_all-then-self.new.self in
+    let off = c.clear_all-then-self.ensures.flags in
+    let scan = quiet tables c.steps-steps.ensures.tables self.begun self.active self.since.items self.held_times.items c.args.conditions.now
+    c.args.t c.clear_all.new.self c.clear_all-2.new.self cleared on (length self.on)
+    la (self.since_len ∙ la) (self.held_times_len ∙ la)
+    (ap length off ∙ length-replicate (length self.on) false ∙ self.on_len ∙ la)
+    (c.clear_all.ensures.flags ∙ ap (λ k. replicate k false) (self.used_len ∙ la))
+    (c.clear_all-2.ensures.flags ∙ ap (λ k. replicate k false) c.requires.sizes.same_transitions)
+    (c.clear_in_order.ensures.cleared k.proposed) c.if-self.true (c.is_blank.ensures.blank c.if-is_blank.true) off in
+    let next =
+    fields_next tables c.steps-steps.ensures.tables self.begun self.active self.since.items self.held_times.items self.cleared self.on
+    c.args.conditions.now c.args.t cleared on self.active self.since.items self.held_times.items scans scan k.fields in
+    record {
+      size = record {
+        same_steps = la;
+        same_transitions =
+            c.clear_in_order.ensures.cleared_len
+            ∙ ap length c.clear_all-2.ensures.flags
+            ∙ length-replicate (length self.cleared) false
+            ∙ c.requires.sizes.same_transitions;
+      };
+      fields =
+          subst (λ (b : Bool). FieldsAgree tables b self.active self.since.items self.held_times.items cleared on
+          (record { conditions = c.args.conditions.now; at = c.args.t } ∷ scans)) (sym c.if-self.true) next;
+      proposed = k.proposed;
+    }
+
+pub returns-then-self-clause-ticks : goal.returns-then-self-clause-ticks
+returns-then-self-clause-ticks c =
+    let tables = c.args.tables.now in
+    let self = c.args.self.now in
+    let la = c.requires.sizes.same_steps in
+    let clearing = clearing_is tables c.steps-steps.ensures.tables in
+    let works = work_of_scan (length tables.initial) tables.sides c.steps-steps.ensures.tables.sides in
+    let cleared = c.clear_in_order.ensures.cleared_len
+    ∙ ap length c.clear_all-2.ensures.flags
+    ∙ length-replicate (length self.cleared) false
+    ∙ c.requires.sizes.same_transitions in (
+      omega arith,
+      omega (
+        arith,
+        clearing,
+        works,
+        la,
+        self.used_len,
+        self.on_len,
+        c.requires.sizes.same_transitions,
+        cleared,
+        c.clear_all.ensures.ticks,
+        c.clear_all-2.ensures.ticks,
+        c.clear_in_order.ensures.ticks,
+        c.is_blank.ensures.ticks,
+        c.clear_all-then-self.ensures.ticks,
+      ),
+    )

@@ -3,9 +3,8 @@ use Rattle.std.proofs.lemmas.List.{with_items_is}
 use Rattle.sfc_evolve.specs.Private.Keeping.{AreInstants}
 use Rattle.sfc_evolve.proofs.steps.Steps.copy_from.Goals as goal
 
-pub copy_from-requires-2 : goal.copy_from-requires-2
-copy_from-requires-2 c =
-    c.args.other.now.candidates_len ∙ c.requires.transitions ∙ sym c.args.self.now.candidates_len
+pub copy_flags-requires-2-clause-from_second_len : goal.copy_flags-requires-2-clause-from_second_len
+copy_flags-requires-2-clause-from_second_len c = c.args.other.now.candidates_len ∙ c.requires.transitions
 
 pub copy_times-requires-clause-held_times_len : goal.copy_times-requires-clause-held_times_len
 copy_times-requires-clause-held_times_len c =
@@ -26,25 +25,25 @@ pub invariant_of-self-clause-since_len : goal.invariant_of-self-clause-since_len
 invariant_of-self-clause-since_len c =
     ap length (with_items_is c.args.self.now.since c.copy_times.new.since (omega arith)
     ∙ c.copy_times.ensures.since ∙ c.deref.ensures.value)
-    ∙ c.args.other.now.since_len ∙ sym (ap length c.copy_flags.ensures.active)
+    ∙ c.args.other.now.since_len ∙ sym (ap length c.copy_flags.ensures.first)
 
 pub invariant_of-self-clause-held_times_len : goal.invariant_of-self-clause-held_times_len
 invariant_of-self-clause-held_times_len c =
     ap length (with_items_is c.args.self.now.held_times c.copy_times.new.held_times (omega arith)
     ∙ c.copy_times.ensures.held_times ∙ c.deref-2.ensures.value)
-    ∙ c.args.other.now.held_times_len ∙ sym (ap length c.copy_flags.ensures.active)
+    ∙ c.args.other.now.held_times_len ∙ sym (ap length c.copy_flags.ensures.first)
 
 pub invariant_of-self-clause-candidates_len : goal.invariant_of-self-clause-candidates_len
 invariant_of-self-clause-candidates_len c =
-    ap length c.copy_from-2.ensures.flags ∙ c.args.other.now.candidates_len ∙ sym (ap length c.copy_from.ensures.flags)
+    ap length c.copy_flags-2.ensures.second ∙ c.args.other.now.candidates_len ∙ sym (ap length c.copy_flags-2.ensures.first)
 
 pub invariant_of-self-clause-used_len : goal.invariant_of-self-clause-used_len
 invariant_of-self-clause-used_len c =
-    c.args.self.now.used_len ∙ sym (ap length c.copy_flags.ensures.active ∙ c.requires.steps)
+    c.args.self.now.used_len ∙ sym (ap length c.copy_flags.ensures.first ∙ c.requires.steps)
 
 pub invariant_of-self-clause-on_len : goal.invariant_of-self-clause-on_len
 invariant_of-self-clause-on_len c =
-    ap length c.copy_flags.ensures.on ∙ c.args.other.now.on_len ∙ sym (ap length c.copy_flags.ensures.active)
+    ap length c.copy_flags.ensures.second ∙ c.args.other.now.on_len ∙ sym (ap length c.copy_flags.ensures.first)
 
 pub invariant_of-self-clause-instants : goal.invariant_of-self-clause-instants
 invariant_of-self-clause-instants c =
@@ -60,8 +59,10 @@ returns-clause-ticks c =
       omega arith,
       omega (
         arith,
-        c.copy_from.ensures.ticks,
-        c.copy_from-2.ensures.ticks,
+        c.tick_all.ensures,
+        c.count.ensures,
+        ap length c.copy_flags-2.ensures.first,
+        c.requires.transitions,
         c.copy_times.ensures.ticks,
         self.candidates_len,
         self.since_len,

@@ -1,0 +1,4 @@
+-- What private clauses cite.
+
+-- numbers in an order
+pub mod Orders
