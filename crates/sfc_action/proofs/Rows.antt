@@ -115,7 +115,7 @@ module _ (n : ℕ) where
   none_rows : (a : ℕ) → timed_row (none n) a ≡ no_times
   none_rows a = λ i. record { limited = no_flag a i; delayed = no_flag a i; stored_delayed = no_flag a i; delayed_stored = no_flag a i; stored_limited = no_flag a i }
 
-  cleared_rows : (a : ℕ) → input_row (cleared n) a ≡ no_inputs
+  pub cleared_rows : (a : ℕ) → input_row (cleared n) a ≡ no_inputs
   cleared_rows a = λ i. record {
     non_stored = no_flag a i;
     reset = no_flag a i;
