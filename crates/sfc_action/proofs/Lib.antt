@@ -11,7 +11,7 @@ pub mod Next
 pub mod Pasts
 pub mod Rows
 pub mod RowTables
-pub mod InputTables
+pub mod SetTables
 pub mod Numbers
 pub mod Sizes
 pub mod Starts

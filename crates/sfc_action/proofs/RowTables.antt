@@ -1,9 +1,9 @@
 -- Tables of words, each of which has the rows of 64 actions.
 use Rattle.std.proofs.Common.{◌≡◌, ℕ, suc, zero, ◌+◌, ◌≤◌, ◌<◌, ◌==◌, Bool, false, cond, List, [], ◌∷◌, length, get_or, arith, ◌∙◌, ap, refl, sym, inl, inr, eq-eqb}
-use Rattle.std.specs.Prelude.{All, map, slice_set}
+use Rattle.std.specs.Prelude.{All, map, slice_set, replicate}
 use Rattle.std.specs.Int.{div_ceil}
 use Rattle.std.proofs.lemmas.Bool.{cases_eq, cases_lt, ne_eqb}
-use Rattle.std.proofs.lemmas.List.{get_or-map, get_or-set_same, get_or-set_other, get_or_past, length-set, length-map}
+use Rattle.std.proofs.lemmas.List.{get_or-map, get_or-set_same, get_or-set_other, get_or_past, length-set, length-map, length-replicate, get_or-replicate}
 use Rattle.std.proofs.lemmas.List.FromFn.{get_or-map-range_with_len, length-map-range_with_len}
 use Rattle.sfc_flags.specs.Flags.{flag}
 use Rattle.sfc_flags.specs.Words.{word_of}
@@ -66,3 +66,26 @@ module _ {W R : Type 0} (row : W → ℕ → R) (none : R) where
     | inr ge ↦ (let own = length-map words (λ word. row word a) in
         get_or_past (map (λ word. row word a) words) (word_of a) none (omega (arith, own, ge)))
   ]
+
+  -- ---- tables
+
+  pub table_none : (n : ℕ) (words : List W) → length words ≡ div_ceil n 64 → All (λ (word : W). (a : ℕ) → row word a ≡ none) words → IsTable row none n words
+  table_none n words size all = record { sized = size; blank = λ a le. row_none words all a }
+
+  pub all_equal : (n : ℕ) (word : W) (words : List W) → ((a : ℕ) → row word a ≡ none) → words ≡ replicate (div_ceil n 64) word
+      → (length words ≡ div_ceil n 64) × All (λ (w : W). (a : ℕ) → row w a ≡ none) words
+  all_equal n word words clear e =
+      let size : length words ≡ div_ceil n 64 = ap length e ∙ length-replicate (div_ceil n 64) word in
+      (size, λ k d lt a.
+      ap (λ (ws : List W). row (get_or ws k d) a) e
+      ∙ ap (λ (w : W). row w a) (get_or-replicate (div_ceil n 64) k word d (omega (arith, size, lt))) ∙ clear a)
+
+  pub table_put : (n : ℕ) (words : List W) (k : ℕ) (w : W) → IsTable row none n words → k < length words
+      → ((a : ℕ) → word_of a ≡ k → n ≤ a → row w a ≡ none) → IsTable row none n (slice_set words k w)
+  table_put n words k w t lt past = record {
+    sized = length-set words k w ∙ t.sized;
+    blank = λ a le. row_set words k a w lt ∙ elim (cases_eq (word_of a) k) [
+      | inl e ↦ rw (eq-eqb (word_of a) k e) (past a e le)
+      | inr d ↦ rw (ne_eqb (word_of a) k d) (t.blank a le)
+    ];
+  }

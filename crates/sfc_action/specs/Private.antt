@@ -9,8 +9,8 @@ pub mod ControlScans
 pub mod Outputs
 pub mod WordRows
 pub mod RowTables
-pub mod InputSets
-pub mod InputTables
+pub mod Sets
+pub mod SetTables
 pub mod Marks
 pub mod Rows
 pub mod Live

@@ -49,8 +49,8 @@ fn is_called(qualifier: TimedQualifier, action: usize, inputs: &Inputs, stores: 
         TimedQualifier::Limited | TimedQualifier::Delayed | TimedQualifier::DelayedStored => {
             inputs.has_timed(qualifier, action)
         }
-        TimedQualifier::StoredDelayed => stores.stored_delayed.get(action),
-        TimedQualifier::StoredLimited => stores.stored_limited.get(action),
+        TimedQualifier::StoredDelayed => stores.has_stored_delayed(action),
+        TimedQualifier::StoredLimited => stores.has_stored_limited(action),
     }
 }
 

@@ -18,15 +18,15 @@ impl Drop for Inputs {
 }
 
 impl Model for Inputs {
-    ghost use Rattle.sfc_action.specs.Private.InputSets.{InputSets};
+    ghost use Rattle.sfc_action.specs.Private.Sets.{InputSets};
 
     ghost Value = { InputSets };
 
-    ghost use Rattle.sfc_action.specs.Private.InputTables.{sets_of, AreInputs};
+    ghost use Rattle.sfc_action.specs.Private.SetTables.{inputs_of, IsInputTable};
 
-    ghost view = { λ i. sets_of i.count i.words.items };
+    ghost view = { λ i. inputs_of i.count i.words.items };
 
-    ghost invariant = { λ i. AreInputs i.count i.words.items };
+    ghost invariant = { λ i. IsInputTable i.count i.words.items };
 }
 
 ghost use Rattle.std.specs.Prelude.{◌≡◌, ◌<◌, ℕ, All, length, IfOk};

@@ -1,7 +1,7 @@
 use Rattle.std.proofs.Common.{arith, ap, refl, ◌∙◌}
 use Rattle.sfc_action.specs.Private.Rows.{InputRow}
 use Rattle.sfc_action.specs.Private.Marks.{timed_by}
-use Rattle.sfc_action.proofs.InputTables.{timed_flag}
+use Rattle.sfc_action.proofs.SetTables.{timed_flag}
 use Rattle.sfc_action.proofs.inputs.Inputs.has_timed.Goals as goal
 
 pub returns : goal.returns

@@ -4,12 +4,12 @@ use Rattle.sfc_action.specs.declared.input_words.InputWords.{InputWords}
 use Rattle.sfc_action.specs.Private.Rows.{inputs_in}
 use Rattle.sfc_action.specs.Private.Marks.{with_input}
 use Rattle.sfc_action.specs.Private.Marking.{marked}
-use Rattle.sfc_action.proofs.InputTables.{words_of, table_marked, sets_marked}
+use Rattle.sfc_action.proofs.SetTables.{inputs_size, inputs_more_table, inputs_more}
 use Rattle.sfc_action.proofs.inputs.Inputs.mark.Goals as goal
 
 pub index_mut-requires : goal.index_mut-requires
 index_mut-requires c =
-    let few = words_of c.self.inside.count c.self.inside.words.items c.args.self.now c.self.invariant c.self.view_is in
+    let few = inputs_size c.self.inside.count c.self.inside.words.items c.args.self.now c.self.invariant c.self.view_is in
     omega (arith, few.0, c.requires)
 
 -- the word of the action has one input more
@@ -23,13 +23,13 @@ put c b e =
 
 pub invariant_of-self : goal.invariant_of-self
 invariant_of-self c =
-    let few = words_of c.self.inside.count c.self.inside.words.items c.args.self.now c.self.invariant c.self.view_is in
-    table_marked c.self.inside.count c.args.action c.args.qualifier c.self.inside.words.items c.index_mut.result.now c.mark.new.self
+    let few = inputs_size c.self.inside.count c.self.inside.words.items c.args.self.now c.self.invariant c.self.view_is in
+    inputs_more_table c.self.inside.count c.args.action c.args.qualifier c.self.inside.words.items c.index_mut.result.now c.mark.new.self
     c.self.invariant (omega (arith, few.1, c.requires)) (put c)
 
 pub returns : goal.returns
 returns c =
-    let few = words_of c.self.inside.count c.self.inside.words.items c.args.self.now c.self.invariant c.self.view_is in
-    sets_marked c.self.inside.count c.args.action c.args.qualifier c.self.inside.words.items c.index_mut.result.now c.mark.new.self
+    let few = inputs_size c.self.inside.count c.self.inside.words.items c.args.self.now c.self.invariant c.self.view_is in
+    inputs_more c.self.inside.count c.args.action c.args.qualifier c.self.inside.words.items c.index_mut.result.now c.mark.new.self
     c.self.invariant (omega (arith, few.1, c.requires)) (put c)
     ∙ ap (marked c.args.qualifier c.args.action) c.self.view_is
