@@ -19,3 +19,11 @@ without_edges false false false p0 e f = f
 pub never : (b : Bool) → (b && false) ≡ false
 never true = refl
 never false = refl
+
+pub left_true : (x y : Bool) → (x && y) ≡ true → x ≡ true
+left_true true y e = refl
+left_true false y e = e
+
+pub right_true : (x y : Bool) → (x && y) ≡ true → y ≡ true
+right_true true y e = e
+right_true false y e = absurd (let bad : false ≡ true = e in cc)

@@ -10,6 +10,8 @@ pub mod Moments
 pub mod Next
 pub mod Pasts
 pub mod Rows
+pub mod RowTables
+pub mod SetTables
 pub mod Numbers
 pub mod Sizes
 pub mod Starts

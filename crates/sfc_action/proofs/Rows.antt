@@ -13,7 +13,7 @@ use Rattle.sfc_action.specs.declared.inputs.Inputs.{Inputs}
 use Rattle.sfc_action.specs.declared.control_scan.ControlScan.{ControlScan}
 use Rattle.sfc_action.specs.declared.control_state.ControlState.{ControlState}
 use Rattle.sfc_action.specs.Private.TimedSets.{AreAll, none}
-use Rattle.sfc_action.specs.Private.Storing.{AreStores}
+use Rattle.sfc_action.specs.Private.Storing.{AreStores, no_stores}
 use Rattle.sfc_action.specs.Private.Marking.{AreSized, cleared}
 use Rattle.sfc_action.specs.Private.ControlScans.{IsControlScan}
 use Rattle.sfc_action.specs.Private.Keeping.{IsStateSized}
@@ -112,10 +112,13 @@ module _ (n : ℕ) where
     | inr ge ↦ past n a (replicate n false) (length-replicate n false) ge
   ]
 
-  none_rows : (a : ℕ) → timed_row (none n) a ≡ no_times
+  pub none_rows : (a : ℕ) → timed_row (none n) a ≡ no_times
   none_rows a = λ i. record { limited = no_flag a i; delayed = no_flag a i; stored_delayed = no_flag a i; delayed_stored = no_flag a i; stored_limited = no_flag a i }
 
-  cleared_rows : (a : ℕ) → input_row (cleared n) a ≡ no_inputs
+  pub no_store_rows : (a : ℕ) → store_row (no_stores n) a ≡ no_store
+  no_store_rows a = λ i. record { set = no_flag a i; stored_delayed = no_flag a i; stored_limited = no_flag a i }
+
+  pub cleared_rows : (a : ℕ) → input_row (cleared n) a ≡ no_inputs
   cleared_rows a = λ i. record {
     non_stored = no_flag a i;
     reset = no_flag a i;

@@ -7,6 +7,11 @@ pub mod DelayLists
 pub mod Failing
 pub mod ControlScans
 pub mod Outputs
+pub mod WordRows
+pub mod RowTables
+pub mod Sets
+pub mod SetTables
+pub mod Marks
 pub mod Rows
 pub mod Live
 pub mod Calling

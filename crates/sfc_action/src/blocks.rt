@@ -46,11 +46,11 @@ fn is_called(qualifier: TimedQualifier, action: usize, inputs: &Inputs, stores: 
     ensures { result ≡ flag (input_of qualifier inputs.now stores.now) action }
 {
     match qualifier {
-        TimedQualifier::Limited => inputs.timed.limited.get(action),
-        TimedQualifier::Delayed => inputs.timed.delayed.get(action),
-        TimedQualifier::DelayedStored => inputs.timed.delayed_stored.get(action),
-        TimedQualifier::StoredDelayed => stores.stored_delayed.get(action),
-        TimedQualifier::StoredLimited => stores.stored_limited.get(action),
+        TimedQualifier::Limited | TimedQualifier::Delayed | TimedQualifier::DelayedStored => {
+            inputs.has_timed(qualifier, action)
+        }
+        TimedQualifier::StoredDelayed => stores.has_stored_delayed(action),
+        TimedQualifier::StoredLimited => stores.has_stored_limited(action),
     }
 }
 
@@ -60,7 +60,7 @@ fn preset(action: usize, inputs: &Inputs, presets: &[i64]) -> i64
     requires action { action < length presets.now }
     ensures { result ≡ preset_of inputs.now presets.now action }
 {
-    if inputs.any_time.get(action) {
+    if inputs.has_time(action) {
         presets[action]
     } else {
         0

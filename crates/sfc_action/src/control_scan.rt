@@ -35,13 +35,14 @@ impl Drop for ControlScan {
 }
 
 impl ControlScan {
-    ghost use Rattle.std.specs.Prelude.{◌≡◌, ◌<◌, ◌+◌, ◌*◌, ℕ, length, IfOk};
+    ghost use Rattle.std.specs.Prelude.{◌≡◌, ◌<◌, ◌+◌, ◌*◌, ℕ, None, true, false, length, IfOk};
     ghost use Rattle.std.specs.Int.{div_ceil};
     ghost use Rattle.sfc_flags.specs.Flags.{flag};
     ghost use Rattle.sfc_flags.specs.Words.{word_count, ArePut};
     ghost use Rattle.sfc_action.specs.Private.TimedSets.{none};
     ghost use Rattle.sfc_action.specs.Private.Calling.{called_of, AreCalled};
-    ghost use Rattle.sfc_action.specs.Private.Rows.{stores_after, no_times};
+    ghost use Rattle.sfc_action.specs.Private.Rows.{stores_after, no_times, has_fault};
+    ghost use Rattle.sfc_action.specs.Private.Failing.{fault_at};
     ghost use Rattle.sfc_base.specs.Ticks.{Within};
     ghost use Rattle.sfc_flags.specs.Flags.{places_from};
     ghost use Rattle.sfc_flags.specs.Words.{word_of};
@@ -64,8 +65,9 @@ impl ControlScan {
         })
     }
 
-    // Of the 64 actions of this word what the flip-flops become and which are called; no on-delay has elapsed yet.
-    fn settle_word(&mut self, stored: &Stores, number: usize)
+    // Of the 64 actions of this word what the flip-flops become and which are called; no on-delay has elapsed yet. Whether none of the
+    // actions has a fault; where it answers no, one may have.
+    fn settle_word(&mut self, stored: &Stores, number: usize) -> bool
         requires sized { IsControlScan (length self.old.called) self.old }
         requires stored { AreStores (length self.old.called) stored.now }
         requires number { number < word_count self.old.called }
@@ -77,16 +79,20 @@ impl ControlScan {
         ensures called { ArePut number (λ a. called_of (input_row self.old.inputs a)
             (stores_after (input_row self.old.inputs a) (store_row stored.now a))) (flag self.old.called) (flag self.new.called) }
         ensures elapsed { ArePut number (λ a. no_times) (timed_row self.old.elapsed) (timed_row self.new.elapsed) }
+        ensures faultless { result ≡ true → (a : ℕ) → word_of a ≡ number → has_fault (input_row self.old.inputs a)
+            (stores_after (input_row self.old.inputs a) (store_row stored.now a)) ≡ false }
     {
         let inputs = self.inputs.words(number);
         let stores = stored.words(number).after(inputs);
         self.stores.put(number, stores);
         self.called.put_word(number, inputs.called(stores));
         self.elapsed.put(number, TimedWords::none());
+        inputs.are_faultless(stores)
     }
 
-    // What the flip-flops become and which actions are called; no on-delay has elapsed yet.
-    fn settle(&mut self, stored: &Stores, ticks: &mut Ticks)
+    // What the flip-flops become and which actions are called; no on-delay has elapsed yet. Whether no action has a fault; where it
+    // answers no, one may have.
+    fn settle(&mut self, stored: &Stores, ticks: &mut Ticks) -> bool
         requires sized { IsControlScan (length self.old.called) self.old }
         requires stored { AreStores (length self.old.called) stored.now }
         ensures sized { IsControlScan (length self.old.called) self.new }
@@ -95,16 +101,19 @@ impl ControlScan {
         ensures next { AreNext stored.now self.new.inputs self.new.stores }
         ensures called { AreCalled self.new.inputs self.new.stores self.new.called }
         ensures elapsed { self.new.elapsed ≡ none (length self.old.called) }
+        ensures faultless { result ≡ true → (a : ℕ) → fault_at self.new.inputs self.new.stores a ≡ None }
         ensures ticks { Within (length self.old.called) ticks.old ticks.new }
     {
+        let mut is_faultless = true;
         for number in 0..self.called.words() {
             ticks.tick();
-            self.settle_word(stored, number);
+            is_faultless &= self.settle_word(stored, number);
         }
+        is_faultless
     }
 
     /// Reads the input of a scan: the inputs of all blocks, the times, what the flip-flops become, and which actions are called; no
-    /// on-delay has elapsed yet.
+    /// on-delay has elapsed yet. Whether no action has a fault; where it answers no, one may have.
     pub fn read(
         &mut self,
         stored: &Stores,
@@ -112,7 +121,7 @@ impl ControlScan {
         active: &Flags,
         times: &[i64],
         ticks: &mut Ticks,
-    )
+    ) -> bool
         requires tables { AreTables tables.now }
         requires sized { IsControlScan (length tables.now.actions) self.old }
         requires stored { AreStores (length tables.now.actions) stored.now }
@@ -126,6 +135,7 @@ impl ControlScan {
         ensures next { AreNext stored.now self.new.inputs self.new.stores }
         ensures called { AreCalled self.new.inputs self.new.stores self.new.called }
         ensures elapsed { self.new.elapsed ≡ none (length tables.now.actions) }
+        ensures faultless { result ≡ true → (a : ℕ) → fault_at self.new.inputs self.new.stores a ≡ None }
         ensures ticks { Within (2 * length tables.now.actions + length active.now + length tables.now.associations)
             ticks.old ticks.new }
     {
@@ -138,7 +148,7 @@ impl ControlScan {
             times,
             ticks,
         );
-        self.settle(stored, ticks);
+        self.settle(stored, ticks)
     }
 
     /// Of the 64 actions of this word the inputs, the flip-flops and the elapsed on-delays.

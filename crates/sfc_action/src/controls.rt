@@ -104,7 +104,7 @@ impl Controls {
         ensures ticks { Within (control_work tables.now) ticks.old ticks.new }
     {
         let _steps = tables.steps();
-        self.control_scan.read(
+        let is_faultless = self.control_scan.read(
             &self.state.stores,
             tables,
             steps.active_flags(),
@@ -112,6 +112,7 @@ impl Controls {
             ticks,
         );
         if let Some(fault) = first_fault(
+            is_faultless,
             &self.control_scan.inputs,
             &self.control_scan.stores,
             tables.step_actions(),

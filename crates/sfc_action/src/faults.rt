@@ -1,8 +1,7 @@
 //! The first fault of a scan.
 
-ghost use Rattle.std.specs.Prelude.{◌≡◌, ◌<◌, ◌+◌, ℕ, All, None, true, length};
+ghost use Rattle.std.specs.Prelude.{◌≡◌, ◌<◌, ℕ, All, None, true, length};
 ghost use Rattle.sfc_base.specs.Ticks.{Within};
-ghost use Rattle.sfc_flags.specs.Words.{word_count, word_of};
 ghost use Rattle.sfc_action.specs.ActionControl.{first_in};
 ghost use Rattle.sfc_action.specs.Private.Marking.{AreSized};
 ghost use Rattle.sfc_action.specs.Private.Storing.{AreStores};
@@ -11,6 +10,7 @@ ghost use Rattle.sfc_action.specs.Private.Failing.{fault_at};
 use crate::fault::ControlFault;
 use crate::inputs::Inputs;
 use crate::stores::Stores;
+use sfc_base::qualifier::TimedQualifier;
 use sfc_base::ticks::Ticks;
 use sfc_tables::step_action::StepAction;
 
@@ -21,41 +21,15 @@ fn fault_of(inputs: &Inputs, stores: &Stores, action: usize) -> Option<ControlFa
     requires action { action < length inputs.now.any_time }
     ensures { result ≡ fault_at inputs.now stores.now action }
 {
-    if inputs.more_times.get(action) {
+    if inputs.has_more_times(action) {
         Some(ControlFault::TwoTimed)
-    } else if inputs.timed.stored_delayed.get(action) && stores.stored_limited.get(action) {
+    } else if inputs.has_timed(TimedQualifier::StoredDelayed, action) && stores.has_stored_limited(action) {
         Some(ControlFault::SdWhileSl)
-    } else if inputs.timed.stored_limited.get(action) && stores.stored_delayed.get(action) {
+    } else if inputs.has_timed(TimedQualifier::StoredLimited, action) && stores.has_stored_delayed(action) {
         Some(ControlFault::SlWhileSd)
     } else {
         None
     }
-}
-
-// Whether the 64 actions of this word have no fault.
-fn is_word_faultless(inputs: &Inputs, stores: &Stores, number: usize) -> bool
-    requires inputs { AreSized (length inputs.now.any_time) inputs.now }
-    requires stores { AreStores (length inputs.now.any_time) stores.now }
-    requires number { number < word_count inputs.now.any_time }
-    ensures { result ≡ true → (a : ℕ) → word_of a ≡ number → fault_at inputs.now stores.now a ≡ None }
-{
-    inputs.words(number).are_faultless(stores.words(number))
-}
-
-// Whether no action has a fault, by words: where it answers no, there may be one.
-fn is_faultless(inputs: &Inputs, stores: &Stores, ticks: &mut Ticks) -> bool
-    requires inputs { AreSized (length inputs.now.any_time) inputs.now }
-    requires stores { AreStores (length inputs.now.any_time) stores.now }
-    ensures none { result ≡ true → (a : ℕ) → fault_at inputs.now stores.now a ≡ None }
-    ensures ticks { Within (length inputs.now.any_time) ticks.old ticks.new }
-{
-    for number in 0..inputs.any_time.words() {
-        ticks.tick();
-        if !is_word_faultless(inputs, stores, number) {
-            return false;
-        }
-    }
-    true
 }
 
 // The fault of the first of these associations whose action has one.
@@ -80,8 +54,9 @@ fn search(
     None
 }
 
-/// The fault of the first of these associations whose action has one.
+/// The fault of the first of these associations whose action has one, where it is known of them whether none has one.
 pub fn first_fault(
+    is_faultless: bool,
     inputs: &Inputs,
     stores: &Stores,
     associations: &[StepAction],
@@ -90,10 +65,11 @@ pub fn first_fault(
     requires inputs { AreSized (length inputs.now.any_time) inputs.now }
     requires stores { AreStores (length inputs.now.any_time) stores.now }
     requires actions { All (λ x. x.action.0 < length inputs.now.any_time) associations.now }
+    requires faultless { is_faultless ≡ true → (a : ℕ) → fault_at inputs.now stores.now a ≡ None }
     ensures fault { result ≡ first_in (fault_at inputs.now stores.now) associations.now }
-    ensures ticks { Within (length inputs.now.any_time + length associations.now) ticks.old ticks.new }
+    ensures ticks { Within (length associations.now) ticks.old ticks.new }
 {
-    if is_faultless(inputs, stores, ticks) {
+    if is_faultless {
         return None;
     }
     search(inputs, stores, associations, ticks)

@@ -1,13 +1,16 @@
 //! Of 64 actions the inputs of their blocks in one scan.
 
-ghost use Rattle.std.specs.Prelude.{◌≡◌, ℕ, true, false};
-ghost use Rattle.sfc_flags.specs.Words.{has};
-ghost use Rattle.sfc_action.specs.Private.Rows.{inputs_in, stores_in, has_fault};
+ghost use Rattle.std.specs.Prelude.{◌≡◌, ◌==◌, ℕ, cond, true, false};
+ghost use Rattle.sfc_flags.specs.Words.{has, word_of};
+ghost use Rattle.sfc_action.specs.Private.Rows.{inputs_in, stores_in, no_inputs, has_fault};
+ghost use Rattle.sfc_action.specs.Private.Marks.{with_input, with_time};
 ghost use Rattle.sfc_action.specs.Private.Calling.{called_of};
 
 use crate::store_words::StoreWords;
 use crate::timed_words::TimedWords;
+use sfc_base::qualifier::TimedQualifier;
 use sfc_flags::word::Word;
+use sfc_plant::association::Qualifier;
 
 /// Of 64 actions the inputs, whether an association that acts has a time, and whether more than one such does.
 #[derive(Clone, Copy)]
@@ -24,6 +27,51 @@ pub struct InputWords {
 }
 
 impl InputWords {
+    /// No action has an input.
+    pub fn none() -> InputWords
+        ensures { (a : ℕ) → inputs_in result a ≡ no_inputs }
+    {
+        InputWords {
+            non_stored: Word::none(),
+            reset: Word::none(),
+            set: Word::none(),
+            pulse: Word::none(),
+            rising_pulse: Word::none(),
+            falling_pulse: Word::none(),
+            timed: TimedWords::none(),
+            any_time: Word::none(),
+            more_times: Word::none(),
+        }
+    }
+
+    /// The action has the input of this qualifier.
+    pub fn mark(&mut self, qualifier: Qualifier, action: usize)
+        ensures { (a : ℕ) → word_of a ≡ word_of action → inputs_in self.new a
+            ≡ cond (a == action) (with_input qualifier (inputs_in self.old a)) (inputs_in self.old a) }
+    {
+        match qualifier {
+            Qualifier::NonStored => self.non_stored = self.non_stored.plus(action),
+            Qualifier::Reset => self.reset = self.reset.plus(action),
+            Qualifier::Set => self.set = self.set.plus(action),
+            Qualifier::Pulse => self.pulse = self.pulse.plus(action),
+            Qualifier::RisingPulse => self.rising_pulse = self.rising_pulse.plus(action),
+            Qualifier::FallingPulse => self.falling_pulse = self.falling_pulse.plus(action),
+            Qualifier::Timed(timed, _) => self.mark_timed(timed, action),
+        }
+    }
+
+    // The action has the input of this qualifier, and a time.
+    fn mark_timed(&mut self, qualifier: TimedQualifier, action: usize)
+        ensures { (a : ℕ) → word_of a ≡ word_of action → inputs_in self.new a
+            ≡ cond (a == action) (with_time qualifier (inputs_in self.old a)) (inputs_in self.old a) }
+    {
+        if self.any_time.get(action) {
+            self.more_times = self.more_times.plus(action);
+        }
+        self.any_time = self.any_time.plus(action);
+        self.timed.add(qualifier, action);
+    }
+
     /// Whether none of the actions has a fault, with these flip-flops.
     pub fn are_faultless(self, stores: StoreWords) -> bool
         ensures { result ≡ true → (a : ℕ) → has_fault (inputs_in self a) (stores_in stores a) ≡ false }

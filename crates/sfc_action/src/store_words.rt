@@ -2,7 +2,7 @@
 
 ghost use Rattle.std.specs.Prelude.{◌≡◌, ◌||◌, ◌&&◌, ℕ, not};
 ghost use Rattle.sfc_flags.specs.Words.{has};
-ghost use Rattle.sfc_action.specs.Private.Rows.{stores_in, inputs_in, stores_after, stored_after};
+ghost use Rattle.sfc_action.specs.Private.Rows.{stores_in, inputs_in, no_store, stores_after, stored_after};
 
 use crate::input_words::InputWords;
 use sfc_flags::word::Word;
@@ -23,6 +23,17 @@ pub fn store(stored: Word, sets: Word, resets: Word) -> Word
 }
 
 impl StoreWords {
+    /// None is set.
+    pub fn none() -> StoreWords
+        ensures { (a : ℕ) → stores_in result a ≡ no_store }
+    {
+        StoreWords {
+            set: Word::none(),
+            stored_delayed: Word::none(),
+            stored_limited: Word::none(),
+        }
+    }
+
     /// What these inputs make of them.
     pub fn after(self, inputs: InputWords) -> StoreWords
         ensures { (a : ℕ) → stores_in result a ≡ stores_after (inputs_in inputs a) (stores_in self a) }

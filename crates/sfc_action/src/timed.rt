@@ -1,32 +1,35 @@
 //! Sets of actions by the qualifiers with a time.
 
 use crate::timed_words::TimedWords;
-use sfc_base::qualifier::TimedQualifier;
-use sfc_evolve::new_sets::{three_sets, two_sets};
-use sfc_flags::flags::Flags;
-use std::alloc::{AllocError, Global};
+use std::marker::Model;
 
-/// A set of actions for each qualifier with a time.
+/// A set of actions for each qualifier with a time. The flags of 64 actions stand side by side.
 pub struct Timed {
-    pub limited: Flags,
-    pub delayed: Flags,
-    pub stored_delayed: Flags,
-    pub delayed_stored: Flags,
-    pub stored_limited: Flags,
+    count: usize,
+    words: Vec<TimedWords>,
 }
 
 // By hand, so that a caller that drops one proves one call.
 impl Drop for Timed {
     fn drop(self) {
-        let Timed {
-            limited: _,
-            delayed: _,
-            stored_delayed: _,
-            delayed_stored: _,
-            stored_limited: _,
-        } = self;
+        let Timed { count: _, words: _ } = self;
     }
 }
+
+impl Model for Timed {
+    ghost use Rattle.sfc_action.specs.Private.Sets.{TimedSets};
+
+    ghost Value = { TimedSets };
+
+    ghost use Rattle.sfc_action.specs.Private.SetTables.{timed_of, IsTimedTable};
+
+    ghost view = { λ t. timed_of t.count t.words.items };
+
+    ghost invariant = { λ t. IsTimedTable t.count t.words.items };
+}
+
+use sfc_base::qualifier::TimedQualifier;
+use std::alloc::{AllocError, Global};
 
 impl Timed {
     ghost use Rattle.std.specs.Prelude.{◌≡◌, ◌<◌, ◌≤◌, ℕ, length, IfOk};
@@ -39,74 +42,44 @@ impl Timed {
     pub fn new(alloc: Global, actions: usize) -> Result<Self, AllocError>
         ensures { IfOk result (λ sets. sets ≡ none actions) }
     {
-        let (limited, delayed, stored_delayed) = three_sets(alloc, actions)?;
-        let (delayed_stored, stored_limited) = two_sets(alloc, actions)?;
+        let words = vec![in alloc; TimedWords::none(); actions.div_ceil(64)]?;
         Ok(Timed {
-            limited,
-            delayed,
-            stored_delayed,
-            delayed_stored,
-            stored_limited,
+            count: actions,
+            words,
         })
     }
 
     /// The flags of the 64 actions of this word.
     pub fn words(&self, number: usize) -> TimedWords
-        requires sized { AreAll (length self.now.limited) self.now }
-        requires number { number < word_count self.now.limited }
+        requires { number < word_count self.now.limited }
         ensures { (a : ℕ) → word_of a ≡ number → timed_in result a ≡ timed_row self.now a }
     {
-        TimedWords {
-            limited: self.limited.word(number),
-            delayed: self.delayed.word(number),
-            stored_delayed: self.stored_delayed.word(number),
-            delayed_stored: self.delayed_stored.word(number),
-            stored_limited: self.stored_limited.word(number),
-        }
+        self.words[number]
     }
 
     /// Gives the 64 actions of this word these flags; past the last action none is set.
     pub fn put(&mut self, number: usize, words: TimedWords)
-        requires sized { AreAll (length self.old.limited) self.old }
         requires number { number < word_count self.old.limited }
         requires past { (a : ℕ) → word_of a ≡ number → length self.old.limited ≤ a → timed_in words a ≡ no_times }
         ensures sized { AreAll (length self.old.limited) self.new }
         ensures put { ArePut number (timed_in words) (timed_row self.old) (timed_row self.new) }
     {
-        self.limited.put_word(number, words.limited);
-        self.delayed.put_word(number, words.delayed);
-        self.stored_delayed.put_word(number, words.stored_delayed);
-        self.delayed_stored.put_word(number, words.delayed_stored);
-        self.stored_limited.put_word(number, words.stored_limited);
+        self.words[number] = words;
     }
 
     /// Puts the action in the set of this qualifier.
     pub fn add(&mut self, qualifier: TimedQualifier, action: usize)
-        requires sized { AreAll (length self.old.limited) self.old }
-        requires action { action < length self.old.limited }
+        requires { action < length self.old.limited }
         ensures { self.new ≡ with_action qualifier action self.old }
     {
-        match qualifier {
-            TimedQualifier::Limited => self.limited.set(action, true),
-            TimedQualifier::Delayed => self.delayed.set(action, true),
-            TimedQualifier::StoredDelayed => self.stored_delayed.set(action, true),
-            TimedQualifier::DelayedStored => self.delayed_stored.set(action, true),
-            TimedQualifier::StoredLimited => self.stored_limited.set(action, true),
-        }
+        self.words[action / 64].add(qualifier, action);
     }
 
     /// Whether the action is in the set of this qualifier.
     pub fn has(&self, qualifier: TimedQualifier, action: usize) -> bool
-        requires sized { AreAll (length self.now.limited) self.now }
-        requires action { action < length self.now.limited }
+        requires { action < length self.now.limited }
         ensures { result ≡ flag (by qualifier self.now) action }
     {
-        match qualifier {
-            TimedQualifier::Limited => self.limited.get(action),
-            TimedQualifier::Delayed => self.delayed.get(action),
-            TimedQualifier::StoredDelayed => self.stored_delayed.get(action),
-            TimedQualifier::DelayedStored => self.delayed_stored.get(action),
-            TimedQualifier::StoredLimited => self.stored_limited.get(action),
-        }
+        self.words(action / 64).has(qualifier, action)
     }
 }

@@ -1,9 +1,9 @@
 -- What the operations on a word do to its flags, and what a table shows of its words.
-use Rattle.std.proofs.Common.{◌≡◌, ℕ, ◌/◌, ◌%◌, ◌^◌, ◌<◌, ◌≤◌, ◌&&◌, ◌↔◌, ◌==◌, true, false, cond, List, length, get_or, ◌∙◌, refl, sym, inl, inr, arith, w64, eq-eqb}
+use Rattle.std.proofs.Common.{◌≡◌, ℕ, ◌/◌, ◌%◌, ◌^◌, ◌<◌, ◌≤◌, ◌&&◌, ◌↔◌, ◌*◌, ◌==◌, true, false, cond, List, length, get_or, ◌∙◌, ap, refl, sym, inl, inr, arith, w64, eq-eqb}
 use Rattle.std.proofs.lemmas.Bool.{cases_eq, ne_eqb}
 use Rattle.std.proofs.lemmas.List.{get_or-set_same, get_or-set_other, length-set}
-use Rattle.std.proofs.lemmas.Nat.Bits.{bit_at_and, bit_at-zero, bit_at-trailing_zeros}
-use Rattle.std.specs.Prelude.{slice_set, bit_and}
+use Rattle.std.proofs.lemmas.Nat.Bits.{bit_at_and, bit_at-zero, bit_at-trailing_zeros, bit_at_set_same, bit_at_set_other}
+use Rattle.std.specs.Prelude.{slice_set, bit_and, bit_or}
 use Rattle.std.specs.Int.{bit_at, trailing_zeros}
 use Rattle.sfc_flags.specs.Flags.{flag}
 use Rattle.sfc_flags.specs.Private.Bits.{bit, flags_of, IsTable}
@@ -69,4 +69,13 @@ pub test_none : (a : ℕ) → a < 2 ^ 64 → ((a == 0) ≡ true) ↔ ((i : ℕ) 
 test_none a fits = elim (cases_eq a 0) [
   | inl e ↦ (λ yes i. rw e (no_flag (i % 64)), λ none. eq-eqb a 0 e)
   | inr d ↦ (λ yes. absurd (let no : (a == 0) ≡ false = ne_eqb a 0 d in cc), λ none. absurd (d (all_none a fits none)))
+]
+
+-- a word with the bit of place i set
+pub plus_shows : (w i j : ℕ) → j / 64 ≡ i / 64
+    → (bit_at (bit_or w (1 * 2 ^ (i % 64) % 2 ^ 64)) (j % 64) == 1) ≡ cond (j == i) true (bit_at w (j % 64) == 1)
+plus_shows w i j same = elim (cases_eq (j % 64) (i % 64)) [
+  | inl e ↦ (let here : j ≡ i = omega arith in
+      rw (eq-eqb j i here, e, bit_at_set_same w64 w (i % 64) (omega arith)) refl)
+  | inr d ↦ rw (ne_eqb j i (λ e. d (ap (λ x. x % 64) e)), bit_at_set_other w64 w (i % 64) (omega arith) (j % 64) d) refl
 ]

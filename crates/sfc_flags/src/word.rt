@@ -1,7 +1,7 @@
 //! The flags of 64 places at once.
 
-ghost use Rattle.std.specs.Prelude.{◌≡◌, ◌||◌, ◌&&◌, ◌↔◌, ℕ, not, true, false};
-ghost use Rattle.sfc_flags.specs.Words.{has};
+ghost use Rattle.std.specs.Prelude.{◌≡◌, ◌==◌, ◌||◌, ◌&&◌, ◌↔◌, ℕ, not, cond, true, false};
+ghost use Rattle.sfc_flags.specs.Words.{has, word_of};
 
 /// The flags of 64 places that follow each other. Clauses ask for the flag of a place by its number in the table; the
 /// place within the word alone counts.
@@ -21,6 +21,20 @@ impl Word {
         ensures { (result ≡ true) ↔ ((place : ℕ) → has self place ≡ false) }
     {
         self.0 == 0
+    }
+
+    /// The flag of this place.
+    pub fn get(self, place: usize) -> bool
+        ensures { result ≡ has self place }
+    {
+        (self.0 >> (place % 64)) & 1 == 1
+    }
+
+    /// The flags with that of this place set.
+    pub fn plus(self, place: usize) -> Word
+        ensures { (other : ℕ) → word_of other ≡ word_of place → has result other ≡ cond (other == place) true (has self other) }
+    {
+        Word(self.0 | (1 << (place % 64)))
     }
 
     /// The flags of both, together.

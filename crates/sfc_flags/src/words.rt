@@ -71,15 +71,13 @@ pub fn clear(words: &mut [u64], ticks: &mut Ticks)
 
 /// The first set place from `from` on.
 pub fn next(words: &[u64], from: usize, ticks: &mut Ticks) -> Option<usize>
-    requires { length words.now ≤ 2 ^ 58 }
+    requires few { length words.now ≤ 2 ^ 58 }
+    requires within { from / 64 < length words.now }
     ensures some { IfSome result (λ i. IsNext words.now from i) }
     ensures none { result ≡ None → (j : ℕ) → from ≤ j → bit words.now j ≡ false }
     ensures ticks { Within (words_passed words.now from result) ticks.old ticks.new }
 {
     let first = from / 64;
-    if first >= words.len() {
-        return None;
-    }
     ticks.tick();
     let rest = words[first] >> (from % 64);
     if rest != 0 {
@@ -103,14 +101,12 @@ pub fn next_difference(
 ) -> Option<usize>
     requires few { length words.now ≤ 2 ^ 58 }
     requires len { length other.now ≡ length words.now }
+    requires within { from / 64 < length words.now }
     ensures some { IfSome result (λ i. IsNext (apart words.now other.now) from i) }
     ensures none { result ≡ None → (j : ℕ) → from ≤ j → bit (apart words.now other.now) j ≡ false }
     ensures ticks { Within (words_passed (apart words.now other.now) from result) ticks.old ticks.new }
 {
     let first = from / 64;
-    if first >= words.len() {
-        return None;
-    }
     ticks.tick();
     let differing = difference(words, other, first) >> (from % 64);
     if differing != 0 {

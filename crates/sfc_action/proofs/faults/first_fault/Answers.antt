@@ -6,4 +6,4 @@ use Rattle.sfc_action.proofs.faults.first_fault.Goals as goal
 pub returns-then-is_faultless-clause-fault : goal.returns-then-is_faultless-clause-fault
 returns-then-is_faultless-clause-fault c =
     sym (first_none (fault_at c.args.inputs.now c.args.stores.now) c.args.associations.now
-    (c.is_faultless.ensures.none c.if-is_faultless.true))
+    (c.requires.faultless c.if-is_faultless.true))

@@ -3,9 +3,6 @@ use Rattle.std.proofs.lemmas.Bool.{cases_lt}
 use Rattle.sfc_flags.proofs.Nexts.{past, found, whole, none_shown, next_from}
 use Rattle.sfc_flags.proofs.words.next.Goals as goal
 
-pub returns-then-first-words-clause-none : goal.returns-then-first-words-clause-none
-returns-then-first-words-clause-none c e j le = past c.args.words.now j (omega arith)
-
 pub overflow_add-result : goal.overflow_add-result
 overflow_add-result c = omega (arith, (found c.args.words.now c.args.from _ (omega (arith, c.type_inv.words (c.args.from / 64))) refl (omega arith)).1)
 

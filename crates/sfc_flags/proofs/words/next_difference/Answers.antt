@@ -5,10 +5,6 @@ use Rattle.sfc_flags.proofs.Apart.{length-apart}
 use Rattle.sfc_flags.proofs.Nexts.{past, found, whole, none_shown, next_from}
 use Rattle.sfc_flags.proofs.words.next_difference.Goals as goal
 
-pub returns-then-first-words-clause-none : goal.returns-then-first-words-clause-none
-returns-then-first-words-clause-none c e j le =
-    past (apart c.args.words.now c.args.other.now) j (omega (arith, length-apart c.args.words.now c.args.other.now c.requires.len))
-
 pub overflow_add-result : goal.overflow_add-result
 overflow_add-result c =
     omega (

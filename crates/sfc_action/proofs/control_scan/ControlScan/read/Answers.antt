@@ -8,10 +8,6 @@ use Rattle.sfc_action.specs.Private.ControlScans.{IsControlScan}
 use Rattle.sfc_action.proofs.Sizes.{are_sized}
 use Rattle.sfc_action.proofs.control_scan.ControlScan.read.Goals as goal
 
-pub clear-requires : goal.clear-requires
-clear-requires c =
-    subst (λ (n : ℕ). AreSized n c.args.self.now.inputs) (sym c.requires.sized.inputs.any_time) c.requires.sized.inputs
-
 pub mark_active-requires-clause-sized : goal.mark_active-requires-clause-sized
 mark_active-requires-clause-sized c =
     let same : length c.args.self.now.inputs.any_time ≡ length c.deref_mut.result.now =

@@ -1,10 +1,10 @@
-use Rattle.std.proofs.Common.{◌≡◌, ℕ, length}
+use Rattle.std.proofs.Common.{◌≡◌, ◌<◌, ℕ, true, false, length}
 use Rattle.sfc_base.specs.Ticks.{Within}
 use Rattle.sfc_flags.specs.Flags.{flag}
-use Rattle.sfc_flags.specs.Words.{AreDone}
+use Rattle.sfc_flags.specs.Words.{AreDone, word_of}
 use Rattle.sfc_action.specs.Private.ControlScans.{IsControlScan}
 use Rattle.sfc_action.specs.Private.Calling.{called_of}
-use Rattle.sfc_action.specs.Private.Rows.{input_row, store_row, timed_row, no_times, stores_after}
+use Rattle.sfc_action.specs.Private.Rows.{input_row, store_row, timed_row, no_times, stores_after, has_fault}
 use Rattle.sfc_action.proofs.control_scan.ControlScan.settle.Given as goal
 
 abbrev pub invariant-loop-number : goal.invariant-loop-number
@@ -18,5 +18,7 @@ invariant-loop-number l = record {
       (stores_after (input_row l.initial.self.inputs a) (store_row l.stored a)))
       (flag l.initial.self.called) (flag l.self.called);
   elapsed : AreDone l.number (λ (a : ℕ). no_times) (timed_row l.initial.self.elapsed) (timed_row l.self.elapsed);
+  faultless : l.is_faultless ≡ true → (a : ℕ) → word_of a < l.number → has_fault (input_row l.initial.self.inputs a)
+      (stores_after (input_row l.initial.self.inputs a) (store_row l.stored a)) ≡ false;
   ticks : Within l.number l.initial.ticks l.ticks;
 }

@@ -6,6 +6,9 @@ use Rattle.sfc_flags.proofs.flags.Flags.next_difference.Goals as goal
 pub next_difference-requires-clause-few : goal.next_difference-requires-clause-few
 next_difference-requires-clause-few c = omega (arith, c.self.invariant.sized)
 
+pub next_difference-requires-clause-within : goal.next_difference-requires-clause-within
+next_difference-requires-clause-within c = omega (arith, c.self.invariant.sized, ap length c.deref.ensures.value)
+
 pub next_difference-requires-clause-len : goal.next_difference-requires-clause-len
 next_difference-requires-clause-len c =
     alike _ _ _ _ c.deref.result.now c.deref-then-from-count.result.now _ _ c.self.invariant c.other.invariant

@@ -4,8 +4,11 @@ use Rattle.sfc_flags.proofs.Nexts.{some_place, no_place, none_left}
 use Rattle.sfc_flags.proofs.Passed.{passed}
 use Rattle.sfc_flags.proofs.flags.Flags.next_set.Goals as goal
 
-pub next-requires : goal.next-requires
-next-requires c = omega (arith, c.self.invariant.sized)
+pub next-requires-clause-few : goal.next-requires-clause-few
+next-requires-clause-few c = omega (arith, c.self.invariant.sized)
+
+pub next-requires-clause-within : goal.next-requires-clause-within
+next-requires-clause-within c = omega (arith, c.self.invariant.sized, ap length c.deref.ensures.value)
 
 pub returns-then-from-count-clause-some : goal.returns-then-from-count-clause-some
 returns-then-from-count-clause-some c = some_place _ _ c.deref.result.now _ c.self.invariant c.deref.ensures.value c.self.view_is c.args.from c.next.result c.next.ensures.some

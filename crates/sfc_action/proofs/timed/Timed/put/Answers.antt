@@ -1,0 +1,31 @@
+use Rattle.std.proofs.Common.{◌≡◌, ◌<◌, length, arith, subst, sym}
+use Rattle.sfc_action.specs.Private.TimedSets.{AreAll}
+use Rattle.sfc_action.specs.Private.Rows.{timed_in}
+use Rattle.std.specs.Prelude.{slice_set}
+use Rattle.sfc_action.specs.Private.SetTables.{timed_of}
+use Rattle.sfc_action.proofs.RowTables.{table_put}
+use Rattle.sfc_action.proofs.SetTables.{timed_size, timed_sized, timed_put}
+use Rattle.sfc_action.proofs.timed.Timed.put.Goals as goal
+
+pub index_mut-requires : goal.index_mut-requires
+index_mut-requires c =
+    let few = timed_size c.self.inside.count c.self.inside.words.items c.args.self.now c.self.invariant c.self.view_is in
+    omega (arith, few.0, c.requires.number)
+
+pub invariant_of-self : goal.invariant_of-self
+invariant_of-self c =
+    let few = timed_size c.self.inside.count c.self.inside.words.items c.args.self.now c.self.invariant c.self.view_is in
+    table_put _ _ c.self.inside.count c.self.inside.words.items c.args.number c.args.words c.self.invariant (omega (arith, few.0, c.requires.number))
+    (λ a e le. c.requires.past a e (omega (arith, few.1, le)))
+
+pub returns-clause-sized : goal.returns-clause-sized
+returns-clause-sized c =
+    let few = timed_size c.self.inside.count c.self.inside.words.items c.args.self.now c.self.invariant c.self.view_is in
+    let words = slice_set c.self.inside.words.items c.args.number c.args.words in
+    subst (λ n. AreAll n (timed_of c.self.inside.count words)) few.1 (timed_sized c.self.inside.count words)
+
+pub returns-clause-put : goal.returns-clause-put
+returns-clause-put c a =
+    let few = timed_size c.self.inside.count c.self.inside.words.items c.args.self.now c.self.invariant c.self.view_is in
+    timed_put c.self.inside.count c.self.inside.words.items c.args.self.now c.args.number c.args.words c.self.invariant c.self.view_is
+    (omega (arith, few.0, c.requires.number)) (λ b e le. c.requires.past b e (omega (arith, few.1, le))) a
