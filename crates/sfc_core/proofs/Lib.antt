@@ -3,6 +3,8 @@ pub mod Pasts
 pub mod OpeningsMade
 mod Instants
 -- what a variable of the image is
+-- what SINGLE reads where no task has one
+pub mod Singled
 -- which SINGLE rises
 pub mod Rises
 -- many events

@@ -1,5 +1,5 @@
 -- Which SINGLE rises, one after the other.
-use Rattle.std.proofs.Common.{◌≡◌, ◌∙◌, ℕ, suc, ◌<◌, Bool, true, false, cond, List, ◌∷◌, drop, get_or, length, sym, ap, subst, ℤ}
+use Rattle.std.proofs.Common.{◌≡◌, ◌∙◌, ℕ, zero, suc, ◌<◌, Bool, true, false, cond, List, [], ◌∷◌, drop, take, get_or, length, refl, sym, ap, subst, ℤ}
 use Rattle.std.proofs.Math.Seq.{drop-cons}
 use Rattle.std.specs.Prelude.{not, ◌&&◌}
 use Rattle.sfc_plant.specs.declared.task.Task.{Task}
@@ -8,6 +8,27 @@ use Rattle.sfc_tasks.specs.Agreement.{TasksAgree}
 use Rattle.sfc_tasks.specs.declared.table.TaskTable.{TaskTable}
 use Rattle.sfc_core.specs.Due.{with_rise, with_rises}
 use Rattle.sfc_core.specs.Private.Rising.{Rises}
+
+no_rise : (t : ℤ) (k : ℕ) (x y : Bool) (calls : List Call) → y ≡ false → with_rise t k x y calls ≡ calls
+no_rise t k true y calls e = refl
+no_rise t k false true calls e = absurd cc
+no_rise t k false false calls e = refl
+
+-- where each SINGLE reads FALSE after it
+pub none_rises : (t : ℤ) (k : ℕ) (before after : List Bool) (calls : List Call) → ((j : ℕ) → get_or after j false ≡ false)
+    → with_rises t k before after calls ≡ calls
+none_rises t k [] after calls off = refl
+none_rises t k (x ∷ before) [] calls off = refl
+none_rises t k (x ∷ before) (y ∷ after) calls off =
+    ap (λ (now : List Call). with_rises t (suc k) before after now) (no_rise t k x y calls (off 0))
+    ∙ none_rises t (suc k) before after calls (λ j. off (suc j))
+
+-- the first of such flags are so too
+pub none_of_first : (n : ℕ) (flags : List Bool) → ((j : ℕ) → get_or flags j false ≡ false) → (j : ℕ) → get_or (take n flags) j false ≡ false
+none_of_first zero flags off j = refl
+none_of_first (suc n) [] off j = refl
+none_of_first (suc n) (x ∷ flags) off zero = off 0
+none_of_first (suc n) (x ∷ flags) off (suc j) = none_of_first n flags (λ i. off (suc i)) j
 
 module _ (t : ℤ) (before after : List Bool) (k : ℕ) (lt : k < length before) (lt_after : k < length after) where
   -- one SINGLE further

@@ -1,11 +1,12 @@
 -- What the answer to a scan tells of the tasks that wait.
-use Rattle.std.proofs.Common.{◌≡◌, ◌≢◌, ◌∙◌, inl, inr, ℕ, ◌<◌, ◌==◌, Bool, true, false, not, length, nat_lt, int_lt, arith, refl, sym, subst, ap}
+use Rattle.std.proofs.Common.{◌≡◌, ◌≢◌, ◌∙◌, inl, inr, ℕ, ◌<◌, ◌==◌, Bool, true, false, not, List, length, nat_lt, int_lt, arith, refl, sym, subst, ap}
 use Rattle.std.proofs.Common.{ℤ, Option, Some, None, Ok, Err, is_none}
 use Rattle.std.proofs.lemmas.Bool.Decides.{eqb_tells, nat_tests}
 use Rattle.sfc_base.specs.declared.ids.TaskId.{TaskId}
 use Rattle.sfc_plant.specs.Plants.{PlantData}
 use Rattle.sfc_image.proofs.Counting.{same_number}
-use Rattle.sfc_tasks.specs.Calls.{single_of}
+use Rattle.sfc_plant.specs.declared.task.Task.{Task}
+use Rattle.sfc_tasks.specs.Calls.{Call, single_of}
 use Rattle.sfc_tasks.specs.Multiples.{next_release}
 use Rattle.sfc_tasks.specs.Releases.{interval_of, waits_since}
 use Rattle.sfc_tasks.specs.Pick.{picked, IsPicked}
@@ -99,6 +100,17 @@ differs n m other = elim (eqb_tells n m) as (λ _. (n == m) ≡ false) [
   | inl e ↦ absurd (other e.1)
   | inr e ↦ e.0
 ]
+
+-- it is the turn of the task that goes first
+pub first_turn : (tasks : List Task) (singles : List Bool) (calls : List Call) (task : TaskId) (t : ℤ) → picked tasks calls ≡ Some task
+    → None ≡ or_then (due_refusal tasks singles calls task t) (yield_refusal tasks calls task)
+first_turn tasks singles calls task t e =
+    let first : IsPicked tasks calls task.0 = picked_is tasks calls task e in
+    let due : due_refusal tasks singles calls task t ≡ None =
+    ap (λ o. refused_if (is_none o) (NotDue (next_release (interval_of tasks task.0) (single_of singles task.0) t))) first.waits in
+    let turn : yield_refusal tasks calls task ≡ None =
+    ap (yield_to task) e ∙ ap (λ b. refused_if (not b) (Yield task)) (same_number task.0) in
+    sym (λ i. or_then (due i) (turn i))
 
 module _ (plant : PlantData) (h : History) (task : TaskId) (t : ℤ) where
   -- the refusals of a scan, by parts

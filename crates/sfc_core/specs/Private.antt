@@ -6,5 +6,7 @@ pub mod Naming
 pub mod Ready
 -- what the end of an event tells
 pub mod Ending
+-- tasks without a SINGLE
+pub mod Alone
 -- which SINGLE rises
 pub mod Rising

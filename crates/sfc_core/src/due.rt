@@ -1,6 +1,7 @@
 //! The tasks at the instant of an event (2.7.2).
 
-ghost use Rattle.std.specs.Prelude.{◌≡◌, ◌<◌, ◌≤◌, ◌+◌, ◌≤ℤ◌, ◌^◌, ◌∷◌, ◌&&◌, not, pos, List, length};
+ghost use Rattle.std.specs.Prelude.{◌≡◌, ◌<◌, ◌≤◌, ◌+◌, ◌≤ℤ◌, ◌^◌, ◌∷◌, ◌&&◌, not, pos, List, length, Some};
+ghost use Rattle.std.specs.Bool.{OnTrue};
 ghost use Rattle.sfc_base.specs.declared.limits.TheConstants.{TASKS};
 ghost use Rattle.sfc_base.specs.Ticks.{Within};
 ghost use Rattle.sfc_plant.specs.declared.task.Task.{Task};
@@ -8,9 +9,12 @@ ghost use Rattle.sfc_tasks.specs.Calls.{Call, Elapsed};
 ghost use Rattle.sfc_tasks.specs.Agreement.{TasksAgree, task_total};
 ghost use Rattle.sfc_events.specs.declared.event.Event.TheVariants as Event;
 ghost use Rattle.sfc_core.specs.Due.{with_rises, with_service};
-ghost use Rattle.sfc_core.specs.Verdict.{due_refusal, yield_refusal, turn_refusal};
+ghost use Rattle.sfc_core.specs.Verdict as verdict;
+ghost use Rattle.sfc_core.specs.Verdict.{due_refusal, turn_refusal};
 ghost use Rattle.sfc_core.specs.Private.Naming.{NamesTask};
+ghost use Rattle.sfc_core.specs.Private.Ready.{flags_of};
 
+use crate::singles::Singles;
 use sfc_base::ids::TaskId;
 use sfc_base::ticks::Ticks;
 use sfc_events::event::Event;
@@ -24,8 +28,8 @@ fn rose(before: bool, after: bool) -> bool
     !before && after
 }
 
-/// Each SINGLE that read FALSE before and reads TRUE after rose at t, in microseconds.
-pub fn tell_rises(tasks: &mut TaskTable, t: i64, before: &[bool], after: &[bool], ticks: &mut Ticks)
+// Each SINGLE that read FALSE before and reads TRUE after rose at t.
+fn tell_each(tasks: &mut TaskTable, t: i64, before: &[bool], after: &[bool], ticks: &mut Ticks)
     requires before { length before.now ≡ task_total tasks.old }
     requires after { length after.now ≡ task_total tasks.old }
     requires few { task_total tasks.old ≤ TASKS }
@@ -38,6 +42,27 @@ pub fn tell_rises(tasks: &mut TaskTable, t: i64, before: &[bool], after: &[bool]
         if rose(before[k], after[k]) {
             tasks.edge(TaskId(k as u8), t, ticks);
         }
+    }
+}
+
+/// Each SINGLE that read FALSE before and reads TRUE after rose at t, in microseconds.
+pub fn tell_rises(
+    tasks: &mut TaskTable,
+    t: i64,
+    before: &Singles,
+    after: &Singles,
+    ticks: &mut Ticks,
+)
+    requires before { length (flags_of before.now) ≡ task_total tasks.old }
+    requires after { length (flags_of after.now) ≡ task_total tasks.old }
+    requires few { task_total tasks.old ≤ TASKS }
+    ensures size { task_total tasks.new ≡ task_total tasks.old }
+    ensures agrees { (all : List Task) (calls : List Call) → TasksAgree all tasks.old calls →
+        TasksAgree all tasks.new (with_rises t 0 (flags_of before.now) (flags_of after.now) calls) }
+    ensures ticks { Within (task_total tasks.old) ticks.old ticks.new }
+{
+    if after.maybe_some() {
+        tell_each(tasks, t, before.as_slice(), after.as_slice(), ticks);
     }
 }
 
@@ -63,22 +88,11 @@ fn refuse_undue(
     Some(Refusal::NotDue(tasks.next(task, t, singles, ticks)))
 }
 
-// That another task goes first at t.
-fn refuse_second(
-    tasks: &TaskTable,
-    singles: &[bool],
-    task: TaskId,
-    t: i64,
-    ticks: &mut Ticks,
-) -> Option<Refusal>
-    requires singles { length singles.now ≡ task_total tasks.now }
-    requires low { pos 0 ≤ℤ t }
-    requires high { t ≤ℤ pos (2 ^ 62) }
-    ensures value { (all : List Task) (calls : List Call) → TasksAgree all tasks.now calls →
-        result ≡ yield_refusal all (Elapsed t singles.now ∷ calls) task }
-    ensures ticks { Within (task_total tasks.now) ticks.old ticks.new }
+// That the task yields to this one, which goes first.
+fn yield_to(task: TaskId, first: Option<TaskId>) -> Option<Refusal>
+    ensures { result ≡ verdict.yield_to task first }
 {
-    match tasks.pick(t, singles, ticks) {
+    match first {
         Some(first) => {
             if first.0 == task.0 {
                 None
@@ -90,7 +104,17 @@ fn refuse_second(
     }
 }
 
-// Why a scan at t is not the task's turn.
+// Whether this one goes first.
+fn is_first(task: TaskId, first: Option<TaskId>) -> bool
+    ensures { OnTrue result (first ≡ Some task) }
+{
+    match first {
+        Some(first) => first.0 == task.0,
+        None => false,
+    }
+}
+
+// Why a scan at t is not the task's turn. Where the task goes first, nothing else is asked.
 #[tactic(auto, unfolding(crate::specs::Verdict::turn_refusal))]
 fn refuse_scan(
     tasks: &TaskTable,
@@ -107,9 +131,13 @@ fn refuse_scan(
         result ≡ turn_refusal all singles.now (Elapsed t singles.now ∷ calls) (Event.Scan task) t }
     ensures ticks { Within (task_total tasks.now + 2) ticks.old ticks.new }
 {
+    let first = tasks.pick(t, singles, ticks);
+    if is_first(task, first) {
+        return None;
+    }
     match refuse_undue(tasks, singles, task, t, ticks) {
         Some(refusal) => Some(refusal),
-        None => refuse_second(tasks, singles, task, t, ticks),
+        None => yield_to(task, first),
     }
 }
 

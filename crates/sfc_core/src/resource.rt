@@ -1,18 +1,19 @@
 //! One resource of a controller (2.7.1): a plant that runs by events.
 
-ghost use Rattle.std.specs.Prelude.{◌≡◌, ◌<◌, ◌≤ℤ◌, ◌^◌, length, pos, negsuc};
+ghost use Rattle.std.specs.Prelude.{◌≡◌, ◌<◌, ◌≤ℤ◌, ◌^◌, length, pos, negsuc, false};
 ghost use Rattle.sfc_tasks.specs.Agreement.{task_total};
 ghost use Rattle.sfc_instance.proofs.Places.{for_prop};
 ghost use Rattle.sfc_events.specs.History.{History};
 ghost use Rattle.sfc_instances.specs.Agreement.{AreInstancesOf};
 ghost use Rattle.sfc_instances.proofs.OfOnePlant.{instances_prop};
 ghost use Rattle.sfc_core.specs.Keeping.{Keeps};
+ghost use Rattle.sfc_core.specs.Private.Alone.{HaveNoSingle};
 
 use crate::changing::{change, outcome};
 use crate::due::{refuse_turn, serve, tell_rises};
 use crate::opening::Opening;
 use crate::refusing::{refuse_event, refuse_instant};
-use crate::singles::Singles;
+use crate::singles::{Singles, has_single};
 use sfc_base::ids::{ProgId, TaskId, VarId};
 use sfc_base::limits::VARIABLES;
 use sfc_base::ticks::Ticks;
@@ -31,9 +32,11 @@ pub struct Resource {
     plant: Plant,
     instances: Instances,
     tasks: TaskTable,
+    maybe_single: bool,
     last: i64,
     ghost whole: { AreInstancesOf plant instances } by { instances_prop for_prop plant instances },
     ghost tasks_sized: { task_total tasks ≡ length plant.tasks },
+    ghost no_single: { maybe_single ≡ false → HaveNoSingle plant.tasks },
     ghost last_low: { negsuc 0 ≤ℤ last },
     ghost last_high: { last ≤ℤ pos (2 ^ 62) },
     ghost agrees: { ∥ ((h : History) × Keeps plant instances tasks last h) ∥₁ },
@@ -46,6 +49,7 @@ impl Drop for Resource {
             plant: _,
             instances: _,
             tasks: _,
+            maybe_single: _,
             last: _,
         } = self;
     }
@@ -76,10 +80,12 @@ impl Resource {
     {
         let instances = Instances::new(alloc, &plant)?;
         let tasks = TaskTable::new(&plant);
+        let maybe_single = has_single(plant.tasks());
         Ok(Resource {
             plant,
             instances,
             tasks,
+            maybe_single,
             last: -1,
         })
     }
@@ -99,6 +105,7 @@ impl Resource {
     }
 
     // An event that is not refused, where the SINGLE of each task read so before it.
+    #[inline(always)]
     fn accept(&mut self, before: &Singles, event: Event, t: i64, ticks: &mut Ticks) -> Outcome
         requires low { pos 0 ≤ℤ t }
         requires high { t ≤ℤ pos (2 ^ 62) }
@@ -113,16 +120,29 @@ impl Resource {
         self.tasks.elapse(t, before.as_slice(), ticks);
         serve(&mut self.tasks, event, ticks);
         let bits = change(&mut self.instances, &self.plant, event, t, ticks);
-        let after = Singles::read(&self.instances, &self.plant, ticks);
-        tell_rises(
-            &mut self.tasks,
-            t,
-            before.as_slice(),
-            after.as_slice(),
-            ticks,
-        );
+        let after = Singles::read(&self.instances, &self.plant, self.maybe_single, ticks);
+        tell_rises(&mut self.tasks, t, before, &after, ticks);
         self.last = t;
         outcome(event, bits, &self.tasks, ticks)
+    }
+
+    // The answer to an event. It is read into its callers, so that what is known of the event there is not asked here.
+    #[inline(always)]
+    fn apply_event(&mut self, event: Event, t: i64, ticks: &mut Ticks) -> Result<Outcome, Refusal>
+        ensures plant { plant_of self.new ≡ plant_of self.old }
+        ensures answer { (h : History) → Agrees self.old h → result ≡ verdict (plant_of self.old) h event t }
+        ensures ok { OnOk result ((h : History) → Agrees self.old h → Agrees self.new ((event, t) ∷ h)) }
+        ensures err { OnErr result (self.new ≡ self.old) }
+        ensures ticks { Within (event_work (plant_of self.old) event) ticks.old ticks.new }
+    {
+        if let Some(refusal) = self.refuse_named(event, t) {
+            return Err(refusal);
+        }
+        let singles = Singles::read(&self.instances, &self.plant, self.maybe_single, ticks);
+        match refuse_turn(&self.tasks, singles.as_slice(), event, t, ticks) {
+            Some(refusal) => Err(refusal),
+            None => Ok(self.accept(&singles, event, t, ticks)),
+        }
     }
 
     /// One event at the instant t, in microseconds: what it is refused for, else what it answers. After a refusal the
@@ -141,13 +161,9 @@ impl Resource {
         ensures err { OnErr result (self.new ≡ self.old) }
         ensures ticks { Within (event_work (plant_of self.old) event) ticks.old ticks.new }
     {
-        if let Some(refusal) = self.refuse_named(event, t) {
-            return Err(refusal);
-        }
-        let singles = Singles::read(&self.instances, &self.plant, ticks);
-        match refuse_turn(&self.tasks, singles.as_slice(), event, t, ticks) {
-            Some(refusal) => Err(refusal),
-            None => Ok(self.accept(&singles, event, t, ticks)),
+        match event {
+            Event::Scan(task) => self.apply_event(Event::Scan(task), t, ticks),
+            _ => self.apply_event(event, t, ticks),
         }
     }
 

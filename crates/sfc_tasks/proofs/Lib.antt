@@ -1,6 +1,8 @@
 pub mod Pasts
 pub mod Firsts
 pub mod Gained
+-- the next multiple that a slot keeps
+pub mod Ahead
 pub mod MultipleLemmas
 pub mod Picking
 pub mod Rising

@@ -1,5 +1,5 @@
 -- Which multiples of an interval are counted.
-use Rattle.std.proofs.Common.{◌≡◌, ◌↔◌, ℕ, zero, suc, ◌+◌, ◌-◌, ◌*◌, ◌/◌, ◌<◌, ◌≤◌, ◌^◌, arith, refl, sym, ◌∙◌, ℤ, pos, negsuc, ◌≤ℤ◌, ◌<ℤ◌, Some, None}
+use Rattle.std.proofs.Common.{◌≡◌, ◌↔◌, ℕ, zero, suc, ◌+◌, ◌*◌, ◌/◌, ◌<◌, ◌≤◌, ◌^◌, arith, refl, sym, ◌∙◌, ℤ, pos, negsuc, ◌≤ℤ◌, ◌<ℤ◌, Some, None}
 use Rattle.std.proofs.Math.Nat.{mul-le-mul_left}
 use Rattle.std.proofs.lemmas.Int.{ints}
 use Rattle.std.proofs.lemmas.Bool.Decides.{nat_tests}
@@ -95,21 +95,6 @@ next_found (pos (suc i)) t u e =
       instant = rw found.0 (to_below_z (n * suc i) (2 ^ 62) found.1);
       least = λ m over. rw found.0 (to_below_z (n * suc i) (m * suc i) (least_multiple n m i ((after_t (pos (suc i)) t m lt).0 over)));
     }
-
-instant_is : (n : ℕ) → n ≤ 2 ^ 62 → instant_at n ≡ Some (pos n)
-instant_is n le = grind (arith, nat_tests)
-
--- where there are multiples up to t, the first of them comes next
-pub next_is_first : (interval last t : ℤ) → 0 < multiples_to interval t - multiples_to interval last → t ≤ℤ pos (2 ^ 62)
-    → next_multiple interval last ≡ Some (multiple interval (multiples_to interval last))
-next_is_first (pos zero) last t some high = absurd (omega arith)
-next_is_first (negsuc i) last t some high = absurd (omega arith)
-next_is_first (pos (suc i)) last t some high =
-    let lt : pos 0 <ℤ pos (suc i) = omega (arith, ints) in
-    let n : ℕ = multiples_to (pos (suc i)) last in
-    let le : multiple (pos (suc i)) n ≤ℤ t = (up_to_t (pos (suc i)) t n lt).1 (omega arith) in
-    let below : n * suc i ≤ 2 ^ 62 = below_z (n * suc i) (2 ^ 62) (omega (arith, ints, le, product_is n i)) in
-    next_is i last ∙ instant_is (n * suc i) below
 
 -- u is the multiple of one of the numbers that are counted
 pub counted : (interval last t : ℤ) (m : ℕ) → pos 0 <ℤ interval → last <ℤ multiple interval m → multiple interval m ≤ℤ t

@@ -1,5 +1,5 @@
 -- The task that goes first, found by tests.
-use Rattle.std.proofs.Common.{◌≡◌, ◌≢◌, ◌⊎◌, inl, inr, ⊎_elim, ℕ, zero, suc, ◌+◌, ◌<◌, ◌≤◌, arith, List, length, find, ℤ, pos, ◌≤ℤ◌, ◌<ℤ◌, int_lt}
+use Rattle.std.proofs.Common.{◌≡◌, ◌≢◌, ◌⊎◌, inl, inr, ⊎_elim, ℕ, zero, suc, ◌+◌, ◌<◌, ◌≤◌, arith, List, length, find, ℤ, ◌≤ℤ◌, ◌<ℤ◌, int_lt}
 use Rattle.std.proofs.Common.{Bool, true, false, cond, ◌&&◌, ◌||◌, Option, Some, None, option_map, Decides, slice_get, refl, sym, ◌∙◌, ap, subst}
 use Rattle.std.specs.List.{list_all, range_with_len}
 use Rattle.std.proofs.lemmas.Bool.Decides.{Decides-and, Decides-or, Decides-like, Decides-ltb, Decides-eqb, Decides-int_eq, eqb_tells}
@@ -12,7 +12,7 @@ use Rattle.sfc_tasks.specs.Calls.{Call}
 use Rattle.sfc_tasks.specs.Releases.{waits_since}
 use Rattle.sfc_tasks.specs.Pick.{Rank, RanksBefore, ranks_before, priority_in, rank_of, is_before_task, is_before_all, goes_first_since, goes_first, picked, IsPicked, NoneWaits}
 use Rattle.sfc_tasks.specs.declared.ranking.Waiting.{Waiting}
-use Rattle.sfc_tasks.specs.Private.Keeping.{slot_at, empty_slot, rank_at, IsFirst, FirstOf, IsBest, slot_by, slots_of}
+use Rattle.sfc_tasks.specs.Private.Keeping.{slot_at, blank_slot, rank_at, IsFirst, FirstOf, IsBest, slot_by, slots_of}
 use Rattle.sfc_tasks.proofs.Firsts.{stays_with, begins, overtakes, stays, one_before}
 
 -- ---- the order as a test
@@ -217,7 +217,7 @@ module _ (tasks : List Task) (calls : List Call) where
   made_at : (k : ℕ) → k < length tasks → slot_at made k ≡ slot_by tasks calls k
   unfolding slots_of
   made_at k lt =
-      get_or-map-range_with_len (slot_by tasks calls) 0 (length tasks) k k (empty_slot (pos 0) 0) lt (omega arith)
+      get_or-map-range_with_len (slot_by tasks calls) 0 (length tasks) k k blank_slot lt (omega arith)
 
   pub made_since : (k : ℕ) → k < length tasks → (slot_at made k).since ≡ waits_since tasks calls k
   made_since k lt = ap (λ (p : TaskSlot). p.since) (made_at k lt)

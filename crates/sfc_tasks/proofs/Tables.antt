@@ -1,5 +1,5 @@
 -- What a table keeps of one call more.
-use Rattle.std.proofs.Common.{◌≡◌, ◌≢◌, ℕ, ◌+◌, ◌<◌, ◌==◌, arith, List, [], ◌∷◌, ◌++◌, length, ℤ, Bool, true, false, cond, refl, sym, ◌∙◌, ap, subst, append-nil, inl, inr, add-zero, slice_set, pos}
+use Rattle.std.proofs.Common.{◌≡◌, ◌≢◌, ℕ, ◌+◌, ◌<◌, ◌==◌, arith, List, [], ◌∷◌, ◌++◌, length, ℤ, Bool, true, false, cond, refl, sym, ◌∙◌, ap, subst, append-nil, inl, inr, add-zero, slice_set}
 use Rattle.std.proofs.lemmas.List.{get_or-set_same, get_or-set_other}
 use borrow.Author.Count.{below_more}
 use Rattle.std.proofs.lemmas.Bool.Decides.{eqb_tells}
@@ -8,8 +8,8 @@ use Rattle.sfc_plant.specs.declared.task.Task.{Task}
 use Rattle.sfc_tasks.specs.declared.task_slot.TaskSlot.{TaskSlot}
 use Rattle.sfc_tasks.specs.declared.table.TaskTable.{TaskTable}
 use Rattle.sfc_tasks.specs.Calls.{Call, Elapsed, Rose, single_of, last_instant}
-use Rattle.sfc_tasks.specs.Releases.{interval_of, waiting, overruns, capped}
-use Rattle.sfc_tasks.specs.Private.Keeping.{slot_at, empty_slot, HoldsReleases, Gains, elapsed_releases}
+use Rattle.sfc_tasks.specs.Releases.{interval_of, waiting, waits_since, first_of, overruns, capped}
+use Rattle.sfc_tasks.specs.Private.Keeping.{slot_at, blank_slot, HoldsReleases, Gains, elapsed_releases}
 use Rattle.sfc_tasks.specs.Agreement.{SlotAgrees, Keeps}
 
 -- a call that releases `us` for task k, and does not serve it
@@ -37,6 +37,17 @@ elapsed_slot tasks old t singles calls k new lt gains agrees =
     ∙ ap (λ (x : ℤ). elapsed_releases (interval_of tasks k) x t (single_of singles k)) agrees.last in
     slot_gains tasks calls k (slot_at old.slots k) new us (agrees.each k lt)
     (subst (λ (x : List ℤ). Gains x (slot_at old.slots k) new) same gains) (Elapsed t singles) refl (ap capped (add-zero _))
+
+-- since when one task waits, where time went on
+pub elapsed_since : (tasks : List Task) (old : TaskTable) (t : ℤ) (singles : List Bool) (calls : List Call) (k : ℕ)
+    → k < length tasks → Keeps tasks old calls
+    → first_of (waiting (interval_of tasks k) k calls ++ elapsed_releases (slot_at old.slots k).interval old.last t (single_of singles k))
+    ≡ waits_since tasks (Elapsed t singles ∷ calls) k
+elapsed_since tasks old t singles calls k lt agrees =
+    ap (λ (x : ℤ). first_of (waiting (interval_of tasks k) k calls ++ elapsed_releases x old.last t (single_of singles k)))
+    (agrees.each k lt).interval
+    ∙ ap (λ (x : ℤ). first_of (waiting (interval_of tasks k) k calls ++ elapsed_releases (interval_of tasks k) x t (single_of singles k)))
+    agrees.last
 
 pub elapse_agrees : (tasks : List Task) (old new : TaskTable) (t : ℤ) (singles : List Bool) (calls : List Call)
     → new.count ≡ old.count → new.last ≡ t → length singles ≡ old.count
@@ -74,7 +85,7 @@ rise_agrees tasks old new task t p calls count last slots fits gains agrees = re
             let here : slot_at new.slots k ≡ p =
             ap (λ (x : List TaskSlot). slot_at x k) slots
             ∙ ap (λ (x : ℕ). slot_at (slice_set old.slots task.0 p) x) (sym w.1)
-            ∙ get_or-set_same old.slots task.0 p (empty_slot (pos 0) 0) fits in
+            ∙ get_or-set_same old.slots task.0 p blank_slot fits in
             subst (λ (x : TaskSlot). SlotAgrees tasks (Rose task t ∷ calls) k x) (sym here)
             (slot_gains tasks calls k (slot_at old.slots k) p (t ∷ []) (agrees.each k lt)
             (subst (λ (x : ℕ). Gains (t ∷ []) (slot_at old.slots x) p) w.1 gains) (Rose task t)
@@ -82,7 +93,7 @@ rise_agrees tasks old new task t p calls count last slots fits gains agrees = re
         | inr w ↦
             let there : slot_at new.slots k ≡ slot_at old.slots k =
             ap (λ (x : List TaskSlot). slot_at x k) slots
-            ∙ get_or-set_other old.slots task.0 k p (empty_slot (pos 0) 0) (λ e. w.1 (sym e)) in
+            ∙ get_or-set_other old.slots task.0 k p blank_slot (λ e. w.1 (sym e)) in
             let h : SlotAgrees tasks calls k (slot_at new.slots k) =
             subst (λ (x : TaskSlot). SlotAgrees tasks calls k x) (sym there) (agrees.each k lt) in
             record {
@@ -104,8 +115,8 @@ module _ (P : ℕ → TaskSlot → Type 0) where
       below_more (λ j. P j (slot_at (slice_set slots i p) j)) i
       (λ j lt.
       let ne : j ≢ i = λ e. absurd (omega (arith, lt, e)) in
-      subst (λ (x : TaskSlot). P j x) (sym (get_or-set_other slots i j p (empty_slot (pos 0) 0) ne)) (done j lt))
-      (subst (λ (x : TaskSlot). P i x) (sym (get_or-set_same slots i p (empty_slot (pos 0) 0) fits)) here)
+      subst (λ (x : TaskSlot). P j x) (sym (get_or-set_other slots i j p blank_slot ne)) (done j lt))
+      (subst (λ (x : TaskSlot). P i x) (sym (get_or-set_same slots i p blank_slot fits)) here)
 
 -- time went on for one task more
 pub elapsed_more : (initial slots : List TaskSlot) (singles : List Bool) (last t : ℤ) (i : ℕ) (p : TaskSlot) → i < length slots

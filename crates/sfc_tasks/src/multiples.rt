@@ -1,7 +1,8 @@
 //! Multiples of an interval, in running form (2.7.2).
 
-ghost use Rattle.std.specs.Prelude.{◌≡◌, ◌-◌};
+ghost use Rattle.std.specs.Prelude.{◌≡◌, ◌<◌, ◌/◌};
 ghost use Rattle.sfc_tasks.specs.Multiples.{multiples_to as count_to, next_multiple as next_after};
+ghost use Rattle.sfc_tasks.specs.Private.Keeping.{upcoming_after};
 
 /// The last instant.
 const LATEST: u64 = 1 << 62;
@@ -17,11 +18,27 @@ fn multiples_to(interval: i64, t: i64) -> u64
     }
 }
 
-/// How many multiples are after `last` and not after t.
-pub fn multiples_between(interval: i64, last: i64, t: i64) -> u64
-    ensures { result ≡ count_to interval t - count_to interval last }
+/// The least multiple after t; where there is no interval the greatest number.
+pub fn upcoming(interval: i64, t: i64) -> u64
+    ensures { result ≡ upcoming_after interval t }
 {
-    multiples_to(interval, t).saturating_sub(multiples_to(interval, last))
+    if interval > 0 {
+        multiples_to(interval, t) * interval.unsigned_abs()
+    } else {
+        u64::MAX
+    }
+}
+
+/// How many whole intervals are in a stretch of time.
+pub fn intervals_in(interval: u64, stretch: u64) -> u64
+    requires { 0 < interval }
+    ensures { result ≡ stretch / interval }
+{
+    if stretch < interval {
+        0
+    } else {
+        stretch / interval
+    }
 }
 
 /// The least multiple after t, if it is not after the last instant.

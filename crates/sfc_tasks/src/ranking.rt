@@ -5,8 +5,6 @@ ghost use Rattle.std.specs.Bool.{OnTrue, OnFalse};
 ghost use Rattle.sfc_tasks.specs.Private.Keeping.{BestOf, slot_at};
 ghost use Rattle.sfc_tasks.specs.declared.task_slot.TaskSlot.{TaskSlot};
 
-use crate::task_slot::TaskSlot;
-
 /// A task that waits: its number, its priority, and since when it waits.
 #[derive(Clone, Copy)]
 pub struct Waiting {
@@ -23,17 +21,21 @@ fn goes_before(priority: u32, since: i64, other: u32, before: i64) -> bool
     priority < other || (priority == other && since < before)
 }
 
-// Which goes first: the first of the first i tasks, or task i, which has this slot.
+// Which goes first: the first of the first i tasks, or task i, which has this priority, and waits since then or does not wait.
 #[tactic(auto, using(crate::proofs::Firsts::best_stays_with, crate::proofs::Firsts::best_begins, crate::proofs::Firsts::best_overtakes, crate::proofs::Firsts::best_stays))]
-pub fn first_with(slot: TaskSlot, best: Option<Waiting>, i: usize) -> Option<Waiting>
-    ensures first { (slots : List TaskSlot) → (slot_at slots i).since ≡ slot.since → (slot_at slots i).priority ≡ slot.priority →
+pub fn first_with(
+    since: Option<i64>,
+    priority: u32,
+    best: Option<Waiting>,
+    i: usize,
+) -> Option<Waiting>
+    ensures first { (slots : List TaskSlot) → (slot_at slots i).since ≡ since → (slot_at slots i).priority ≡ priority →
         BestOf slots i best → BestOf slots (i + 1) result }
     ensures number { IfSome best (λ b. b.number < i) → IfSome result (λ r. r.number < i + 1) }
 {
-    let Some(since) = slot.since else {
+    let Some(since) = since else {
         return best;
     };
-    let priority = slot.priority;
     let this = Waiting {
         number: i,
         priority,

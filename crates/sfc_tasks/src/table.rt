@@ -6,11 +6,11 @@ ghost use Rattle.sfc_base.specs.Ticks.{Within};
 ghost use Rattle.sfc_tasks.specs.Calls.{single_of};
 ghost use Rattle.sfc_tasks.specs.Releases.{interval_of};
 ghost use Rattle.sfc_tasks.specs.Pick.{priority_in};
-ghost use Rattle.sfc_tasks.specs.Private.Keeping.{Gains, elapsed_releases, empty_slot, slot_at};
+ghost use Rattle.sfc_tasks.specs.Private.Keeping.{AreAhead, Gains, elapsed_releases, empty_slot, slot_at};
 
 use crate::multiples::next_multiple;
 use crate::ranking::{Waiting, first_with};
-use crate::task_slot::{TaskSlot, after_rise, after_scan, after_time, no_slot, slot_of};
+use crate::task_slot::{TaskSlot, gain, no_slot, pass_time, serve_all, since_at, slot_of};
 use sfc_base::ids::TaskId;
 use sfc_base::limits::TASKS;
 use sfc_base::ticks::Ticks;
@@ -24,22 +24,25 @@ pub struct TaskTable {
     last: i64,
     slots: [TaskSlot; TASKS],
     ghost few: { count ≤ TASKS },
+    ghost ahead: { AreAhead slots count last },
 }
 
 // Time went on from `last` to t for each of these tasks.
 fn elapse_all(slots: &mut [TaskSlot], singles: &[bool], last: i64, t: i64, ticks: &mut Ticks)
     requires len { length singles.now ≤ length slots.old }
+    requires ahead { AreAhead slots.old (length singles.now) last }
     requires low { pos 0 ≤ℤ t }
     requires high { t ≤ℤ pos (2 ^ 62) }
     ensures len { length slots.new ≡ length slots.old }
     ensures each { (k : ℕ) → k < length singles.now → Gains
         (elapsed_releases (slot_at slots.old k).interval last t (single_of singles.now k))
         (slot_at slots.old k) (slot_at slots.new k) }
+    ensures ahead { AreAhead slots.new (length singles.now) t }
     ensures ticks { Within (length singles.now) ticks.old ticks.new }
 {
     for k in 0..singles.len() {
         ticks.tick();
-        slots[k] = after_time(slots[k], last, t, singles[k]);
+        pass_time(&mut slots[k], last, t, singles[k]);
     }
 }
 
@@ -108,7 +111,7 @@ impl TaskTable {
     {
         ticks.tick();
         let k = task.0 as usize;
-        self.slots[k] = after_rise(self.slots[k], t);
+        gain(&mut self.slots[k], t, 0);
     }
 
     // Of the tasks that wait at t, the one that goes first.
@@ -124,7 +127,8 @@ impl TaskTable {
         let mut best = None;
         for i in 0..self.count {
             ticks.tick();
-            best = first_with(after_time(self.slots[i], self.last, t, singles[i]), best, i);
+            let since = since_at(&self.slots[i], t, singles[i]);
+            best = first_with(since, self.slots[i].priority, best, i);
         }
         best
     }
@@ -174,7 +178,7 @@ impl TaskTable {
     {
         ticks.tick();
         let k = task.0 as usize;
-        self.slots[k] = after_scan(self.slots[k]);
+        serve_all(&mut self.slots[k]);
     }
 
     /// Whether a release of the task waits at t, in microseconds from 0 to 2^62. Time doesn't go on; `singles` is as for `elapse`.
@@ -189,9 +193,7 @@ impl TaskTable {
     {
         ticks.tick();
         let k = task.0 as usize;
-        after_time(self.slots[k], self.last, t, singles[k])
-            .since
-            .is_some()
+        since_at(&self.slots[k], t, singles[k]).is_some()
     }
 
     /// The overruns of the task, up to 2^64 - 1, where the count stays.

@@ -1,18 +1,19 @@
 //! What is kept for a task (2.7.2).
 
-ghost use Rattle.std.specs.Prelude.{◌≡◌, ◌+◌, ◌^◌, ◌≤ℤ◌, pos, [], ◌∷◌};
-ghost use Rattle.sfc_tasks.specs.Releases.{capped};
-ghost use Rattle.sfc_tasks.specs.Private.Keeping.{empty_slot, Gains, elapsed_releases};
+ghost use Rattle.std.specs.Prelude.{◌≡◌, ◌+◌, ◌^◌, ◌≤◌, ◌<ℤ◌, ◌≤ℤ◌, ◌++◌, pos, length, unsigned_abs, List, ℤ, Some};
+ghost use Rattle.sfc_tasks.specs.Releases.{capped, first_of};
+ghost use Rattle.sfc_tasks.specs.Private.Keeping.{blank_slot, empty_slot, upcoming_after, Gains, HoldsReleases, IsAhead, SameTask, elapsed_releases};
 
-use crate::multiples::{multiples_between, next_multiple};
+use crate::multiples::{intervals_in, upcoming};
 use sfc_plant::task::Task;
 
-/// The interval and the priority of a task; since when it waits for a scan, and how many releases wait beyond the first;
-/// and its overruns.
+/// The interval and the priority of a task, and the next multiple of the interval; since when it waits for a scan, and how many
+/// releases wait beyond the first; and its overruns.
 #[derive(Clone, Copy)]
 pub struct TaskSlot {
     pub interval: i64,
     pub priority: u32,
+    pub next: u64,
     pub since: Option<i64>,
     pub more: u64,
     pub overruns: u64,
@@ -20,11 +21,12 @@ pub struct TaskSlot {
 
 /// Of no task.
 pub fn no_slot() -> TaskSlot
-    ensures { result ≡ empty_slot (pos 0) 0 }
+    ensures { result ≡ blank_slot }
 {
     TaskSlot {
         interval: 0,
         priority: 0,
+        next: 0,
         since: None,
         more: 0,
         overruns: 0,
@@ -38,64 +40,100 @@ pub fn slot_of(task: &Task) -> TaskSlot
     TaskSlot {
         interval: task.interval,
         priority: task.priority,
+        next: upcoming(task.interval, -1),
         since: None,
         more: 0,
         overruns: 0,
     }
 }
 
-/// Time went on from `last` to t, and SINGLE read so.
-#[tactic(auto, using(crate::proofs::Gained::elapsed_behind, crate::proofs::Gained::elapsed_first))]
-pub fn after_time(slot: TaskSlot, last: i64, t: i64, single: bool) -> TaskSlot
+/// Since when a task waits at t: since then already, or else since its next multiple. It is told nothing.
+pub fn since_at(slot: &TaskSlot, t: i64, single: bool) -> Option<i64>
     requires low { pos 0 ≤ℤ t }
     requires high { t ≤ℤ pos (2 ^ 62) }
-    ensures { Gains (elapsed_releases slot.interval last t single) slot result }
+    ensures { (last : ℤ) (waited : List ℤ) → IsAhead slot.now last → HoldsReleases slot.now waited →
+        result ≡ first_of (waited ++ elapsed_releases slot.now.interval last t single) }
 {
-    let count = multiples_between(slot.interval, last, t);
-    if single || count == 0 {
-        return slot;
+    if let Some(since) = slot.since {
+        return Some(since);
     }
+    if single {
+        return None;
+    }
+    if t.unsigned_abs() < slot.next {
+        return None;
+    }
+    Some(slot.next as i64)
+}
+
+/// More releases wait: the first of them at `first`, and so many beyond it.
+pub fn gain(slot: &mut TaskSlot, first: i64, beyond: u64)
+    ensures gains { (us : List ℤ) → first_of us ≡ Some first → length us ≡ beyond + 1 → Gains us slot.old slot.new }
+    ensures same { SameTask slot.old slot.new }
+    ensures next { slot.new.next ≡ slot.old.next }
+{
     match slot.since {
-        Some(_) => TaskSlot {
-            more: slot.more.saturating_add(count),
-            ..slot
-        },
-        None => TaskSlot {
-            since: next_multiple(slot.interval, last),
-            more: count - 1,
-            ..slot
-        },
+        Some(_) => slot.more = slot.more.saturating_add(beyond).saturating_add(1),
+        None => {
+            slot.since = Some(first);
+            slot.more = beyond;
+        }
     }
 }
 
-/// SINGLE rose at t.
-pub fn after_rise(slot: TaskSlot, t: i64) -> TaskSlot
-    ensures { Gains (t ∷ []) slot result }
+// The next multiple is later than t: it stays the next one, or time went back.
+fn pass_none(slot: &mut TaskSlot, last: i64, t: i64)
+    requires ahead { IsAhead slot.old last }
+    requires later { t <ℤ pos slot.old.next }
+    ensures { slot.new ≡ record slot.old { next = upcoming_after slot.old.interval t } }
 {
-    match slot.since {
-        Some(_) => TaskSlot {
-            more: slot.more.saturating_add(1),
-            ..slot
-        },
-        None => TaskSlot {
-            since: Some(t),
-            ..slot
-        },
+    if t < last {
+        slot.next = upcoming(slot.interval, t);
+    }
+}
+
+// The next multiple is not later than t, and maybe others beyond it.
+fn pass_multiples(slot: &mut TaskSlot, t: i64, single: bool)
+    requires low { pos 0 ≤ℤ t }
+    requires high { t ≤ℤ pos (2 ^ 62) }
+    requires some { pos 0 <ℤ slot.old.interval }
+    requires reached { slot.old.next ≤ unsigned_abs t }
+    ensures gains { (last : ℤ) → IsAhead slot.old last → Gains (elapsed_releases slot.old.interval last t single) slot.old slot.new }
+    ensures ahead { (last : ℤ) → IsAhead slot.old last → IsAhead slot.new t }
+{
+    let interval = slot.interval.unsigned_abs();
+    let first = slot.next;
+    let beyond = intervals_in(interval, t.unsigned_abs() - first);
+    slot.next = first + (beyond * interval + interval);
+    if !single {
+        gain(slot, first as i64, beyond);
+    }
+}
+
+/// Time went on from `last` to t, and SINGLE read so.
+pub fn pass_time(slot: &mut TaskSlot, last: i64, t: i64, single: bool)
+    requires low { pos 0 ≤ℤ t }
+    requires high { t ≤ℤ pos (2 ^ 62) }
+    requires ahead { IsAhead slot.old last }
+    ensures gains { Gains (elapsed_releases slot.old.interval last t single) slot.old slot.new }
+    ensures ahead { IsAhead slot.new t }
+{
+    if t.unsigned_abs() < slot.next {
+        pass_none(slot, last, t);
+    } else {
+        pass_multiples(slot, t, single);
     }
 }
 
 /// A scan served all that waits; each release beyond the first is an overrun.
-pub fn after_scan(slot: TaskSlot) -> TaskSlot
-    ensures { result ≡ record slot {
+pub fn serve_all(slot: &mut TaskSlot)
+    ensures { slot.new ≡ record slot.old {
       since = None;
       more = 0;
-      overruns = capped (slot.overruns + slot.more);
+      overruns = capped (slot.old.overruns + slot.old.more);
     } }
 {
-    TaskSlot {
-        since: None,
-        more: 0,
-        overruns: slot.overruns.saturating_add(slot.more),
-        ..slot
-    }
+    slot.overruns = slot.overruns.saturating_add(slot.more);
+    slot.since = None;
+    slot.more = 0;
 }

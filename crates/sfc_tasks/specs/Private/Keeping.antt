@@ -1,26 +1,48 @@
 -- What is kept of a task in place of its releases.
-use Rattle.std.specs.Prelude.{ℕ, ◌≡◌, ◌≢◌, ◌<◌, Bool, cond, List, [], ◌++◌, length, map, ℤ, pos, Option, Some, None, slice_get, slice_index_or}
+use Rattle.std.specs.Prelude.{ℕ, ◌≡◌, ◌≢◌, ◌<◌, ◌-◌, ◌*◌, ◌^◌, Bool, cond, List, [], ◌++◌, length, map, ℤ, pos, negsuc, int_lt, unsigned_abs, Option, Some, None, slice_get, slice_index_or}
 use Rattle.std.specs.List.{range_with_len}
 use Rattle.sfc_plant.specs.declared.task.Task.{Task}
 use Rattle.sfc_tasks.specs.declared.ranking.Waiting.{Waiting}
 use Rattle.sfc_tasks.specs.declared.task_slot.TaskSlot.{TaskSlot}
-use Rattle.sfc_tasks.specs.Multiples.{multiples_between}
+use Rattle.sfc_tasks.specs.Multiples.{multiples_to, multiples_between}
 use Rattle.sfc_tasks.specs.Calls.{Call}
 use Rattle.sfc_tasks.specs.Releases.{first_of, beyond_first, capped, waits_since}
 use Rattle.sfc_tasks.specs.Pick.{Rank, RanksBefore, priority_in}
 
+-- the least multiple after t, however late; the greatest number where there is no interval
+abbrev pub upcoming_after : ℤ → ℤ → ℕ
+upcoming_after interval t = cond (int_lt (pos 0) interval) (multiples_to interval t * unsigned_abs interval) (2 ^ 64 - 1)
+
 -- of a task with which nothing was done yet
 abbrev pub empty_slot : ℤ → ℕ → TaskSlot
-empty_slot interval priority =
-    record { interval = interval; priority = priority; since = None; more = 0; overruns = 0 }
+empty_slot interval priority = record {
+  interval = interval;
+  priority = priority;
+  next = upcoming_after interval (negsuc 0);
+  since = None;
+  more = 0;
+  overruns = 0;
+}
+
+-- of no task
+abbrev pub blank_slot : TaskSlot
+blank_slot = record { interval = pos 0; priority = 0; next = 0; since = None; more = 0; overruns = 0 }
 
 abbrev pub slot_at : List TaskSlot → ℕ → TaskSlot
-slot_at slots k = slice_index_or slots k (empty_slot (pos 0) 0)
+slot_at slots k = slice_index_or slots k blank_slot
 
 -- the first of these releases, and how many there are beyond it
 pub record HoldsReleases (slot : TaskSlot) (us : List ℤ) : Type 0 where
   pub since : slot.since ≡ first_of us
   pub more : slot.more ≡ capped (beyond_first us)
+
+-- its next multiple is the one after `last`
+abbrev pub IsAhead : TaskSlot → ℤ → Type 0
+IsAhead slot last = slot.next ≡ upcoming_after slot.interval last
+
+-- so is that of each of the first n
+abbrev pub AreAhead : List TaskSlot → ℕ → ℤ → Type 0
+AreAhead slots n last = (k : ℕ) → k < n → IsAhead (slot_at slots k) last
 
 -- it is the slot of the same task, with the same overruns
 pub record SameTask (old new : TaskSlot) : Type 0 where
@@ -36,6 +58,10 @@ pub record Gains (us : List ℤ) (old new : TaskSlot) : Type 0 where
 -- what an interval releases from `last` to t
 abbrev pub elapsed_releases : ℤ → ℤ → ℤ → Bool → List ℤ
 elapsed_releases interval last t single = cond single [] (multiples_between interval last t)
+
+-- since when a task waits for which these releases waited, and these come
+abbrev pub since_with : List ℤ → List ℤ → Option ℤ
+since_with waited us = first_of (waited ++ us)
 
 abbrev pub rank_at : List TaskSlot → ℕ → ℤ → Rank
 rank_at slots k since = record { priority = (slot_at slots k).priority; since = since; number = k }
@@ -68,6 +94,7 @@ abbrev pub slot_by : List Task → List Call → ℕ → TaskSlot
 slot_by tasks calls k = record {
   interval = pos 0;
   priority = priority_in (slice_get tasks k);
+  next = 0;
   since = waits_since tasks calls k;
   more = 0;
   overruns = 0;

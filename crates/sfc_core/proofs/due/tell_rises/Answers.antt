@@ -1,32 +1,14 @@
-use Rattle.std.proofs.Common.{◌∙◌, ◌<◌, add-one, arith, length}
-use Rattle.sfc_core.proofs.Rises.{risen, unrisen}
+use Rattle.std.proofs.Common.{◌≡◌, ◌∙◌, List, false, sym, subst}
+use Rattle.sfc_tasks.specs.Calls.{Call}
+use Rattle.sfc_tasks.specs.Agreement.{TasksAgree}
+use Rattle.sfc_core.specs.Private.Ready.{flags_of}
+use Rattle.sfc_core.proofs.Rises.{none_rises, none_of_first}
 use Rattle.sfc_core.proofs.due.tell_rises.Goals as goal
-use Rattle.sfc_core.proofs.due.tell_rises.Goals.{then-rose, else-rose}
 
-pub loop-k-preserved : goal.loop-k-preserved
-loop-k-preserved c =
-    let before = c.args.before.now in
+pub returns-else-maybe_some-clause-agrees : goal.returns-else-maybe_some-clause-agrees
+returns-else-maybe_some-clause-agrees c all calls agrees =
     let after = c.args.after.now in
-    let k = c.loop-k.k in
-    let invariant = c.loop-k.invariant in
-    let within : k < length after = omega (arith, c.loop-k-test.true, c.requires.before, c.requires.after) in
-    elim c.if-rose.branch [
-      | then-rose w ↦
-          rw (w.tasks-is, w.ticks-is, add-one) (record {
-            size = w.edge.ensures.size ∙ invariant.size;
-            low = omega (arith, invariant.low, w.edge.ensures.ticks.0);
-            high = omega (arith, invariant.high, w.edge.ensures.ticks.1);
-            rises = λ all calls h.
-                risen _ before after k c.loop-k-test.true within all calls c.loop-k.tasks w.edge.new.self c.rose.result
-                c.rose.ensures w.if-rose.true (λ now a. w.edge.ensures.agrees all now a) (invariant.rises all calls h);
-          })
-      | else-rose w ↦
-          rw (w.tasks-is, w.ticks-is, add-one) (record {
-            size = invariant.size;
-            low = invariant.low;
-            high = omega (arith, invariant.high);
-            rises = λ all calls h.
-                unrisen _ before after k c.loop-k-test.true within all calls c.loop-k.tasks c.rose.result
-                c.rose.ensures w.if-rose.false (invariant.rises all calls h);
-          })
-    ]
+    let off : after.maybe ≡ false = sym c.maybe_some.ensures ∙ c.if-maybe_some.false in
+    let none = none_of_first after.count after.flags (after.none off) in
+    subst (λ (told : List Call). TasksAgree all c.args.tasks.now told)
+    (sym (none_rises c.args.t 0 (flags_of c.args.before.now) (flags_of after) calls none)) agrees

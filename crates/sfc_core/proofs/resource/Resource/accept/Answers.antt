@@ -17,10 +17,11 @@ invariant_of-self c =
     s.tasks c.elapse.new.self c.serve.new.tasks c.tell_rises.new.tasks
     (simp (to_z-of_z, fits) at c.change-bits.ensures.agrees) c.read-after.ensures.value
     (simp (to_z-of_z, fits, c.as_slice.ensures) at (c.elapse.ensures.agrees s.plant.tasks)) (c.serve.ensures.agrees s.plant.tasks)
-    (simp (to_z-of_z, fits, c.as_slice-2.ensures, c.as_slice-3.ensures) at (c.tell_rises.ensures.agrees s.plant.tasks)) in
+    (simp (to_z-of_z, fits) at (c.tell_rises.ensures.agrees s.plant.tasks)) in
     record {
       whole = c.change-bits.ensures.sizes;
       tasks_sized = c.tell_rises.ensures.size ∙ c.serve.ensures.size ∙ c.elapse.ensures.size ∙ s.tasks_sized;
+      no_single = s.no_single;
       last_low = omega (arith, ints);
       last_high = omega (arith, ints);
       agrees =
@@ -38,7 +39,7 @@ returns-clause-value c h a =
     s.tasks c.elapse.new.self c.serve.new.tasks c.tell_rises.new.tasks
     (simp (to_z-of_z, fits) at c.change-bits.ensures.agrees) c.read-after.ensures.value
     (simp (to_z-of_z, fits, c.as_slice.ensures) at (c.elapse.ensures.agrees s.plant.tasks)) (c.serve.ensures.agrees s.plant.tasks)
-    (simp (to_z-of_z, fits, c.as_slice-2.ensures, c.as_slice-3.ensures) at (c.tell_rises.ensures.agrees s.plant.tasks)) in
+    (simp (to_z-of_z, fits) at (c.tell_rises.ensures.agrees s.plant.tasks)) in
     c.outcome.ensures.value s.plant.tasks _ (after h a.instances_agree a.tasked (c.requires.ready h a)).tasked
     ∙ answered s.plant h c.args.event c.args.t c.change-bits.result
     (simp (to_z-of_z, fits) at (c.change-bits.ensures.bits (state_of s.plant h) a.instances_agree))
@@ -53,7 +54,7 @@ returns-clause-agrees c h a =
     s.tasks c.elapse.new.self c.serve.new.tasks c.tell_rises.new.tasks
     (simp (to_z-of_z, fits) at c.change-bits.ensures.agrees) c.read-after.ensures.value
     (simp (to_z-of_z, fits, c.as_slice.ensures) at (c.elapse.ensures.agrees s.plant.tasks)) (c.serve.ensures.agrees s.plant.tasks)
-    (simp (to_z-of_z, fits, c.as_slice-2.ensures, c.as_slice-3.ensures) at (c.tell_rises.ensures.agrees s.plant.tasks)) in
+    (simp (to_z-of_z, fits) at (c.tell_rises.ensures.agrees s.plant.tasks)) in
     simp (to_z-of_z, fits) (after h a.instances_agree a.tasked (c.requires.ready h a))
 
 pub returns-clause-ticks : goal.returns-clause-ticks

@@ -17,6 +17,7 @@ invariant_of-self c =
     record {
       whole = c.copy_from.ensures.sizes;
       tasks_sized = c.copy_from-2.ensures.size ∙ c.requires.tasks_sized;
+      no_single = c.args.self.now.no_single;
       last_low = subst (λ (t : ℤ). negsuc 0 ≤ℤ t) (sym same) opening.last_low;
       last_high = subst (λ (t : ℤ). t ≤ℤ pos (2 ^ 62)) (sym same) opening.last_high;
       agrees = ∥∥₁_map c.requires.some (λ x. (

@@ -5,7 +5,7 @@ use Rattle.sfc_tasks.specs.Agreement.{TasksAgree}
 use Rattle.sfc_tasks.specs.Calls.{Call, Elapsed}
 use Rattle.sfc_tasks.specs.Private.Keeping.{slots_of, BestOf}
 use Rattle.sfc_tasks.proofs.Picking.{made_since, made_priority}
-use Rattle.sfc_tasks.proofs.Tables.{elapsed_slot}
+use Rattle.sfc_tasks.proofs.Tables.{elapsed_since}
 use Rattle.sfc_tasks.proofs.table.TaskTable.best.Goals as goal
 
 pub loop-i-preserved : goal.loop-i-preserved
@@ -23,7 +23,10 @@ loop-i-preserved c = record {
       let i = c.loop-i.i in
       let all = Elapsed c.args.t c.args.singles.now ∷ calls in
       let lt : i < length tasks = omega (arith, agrees.size, c.loop-i-test.true) in
-      let gains = simp to_z-of_z at c.after_time.ensures in
-      let slot = elapsed_slot tasks c.args.self.now c.args.t c.args.singles.now calls i c.after_time.result lt gains agrees in
-      c.first_with-best.ensures.first (slots_of tasks all) (made_since tasks all i lt ∙ sym slot.releases.since)
-      (made_priority tasks all i lt ∙ sym slot.priority) (simp to_z-of_z at (c.loop-i.invariant.first tasks calls agrees))
+      let table = c.args.self.now in
+      let here : i < table.count = c.loop-i-test.true in
+      let kept = agrees.each i lt in
+      let since = simp to_z-of_z at (c.since_at-since.ensures table.last _ (table.ahead i here) kept.releases) in
+      c.first_with-best.ensures.first (slots_of tasks all)
+      (made_since tasks all i lt ∙ sym (since ∙ elapsed_since tasks table c.args.t c.args.singles.now calls i lt agrees))
+      (made_priority tasks all i lt ∙ sym kept.priority) (simp to_z-of_z at (c.loop-i.invariant.first tasks calls agrees))

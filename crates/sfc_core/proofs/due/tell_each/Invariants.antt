@@ -3,7 +3,7 @@ use Rattle.sfc_plant.specs.declared.task.Task.{Task}
 use Rattle.sfc_tasks.specs.Calls.{Call}
 use Rattle.sfc_tasks.specs.Agreement.{TasksAgree, task_total}
 use Rattle.sfc_core.specs.Private.Rising.{Rises}
-use Rattle.sfc_core.proofs.due.tell_rises.Given as goal
+use Rattle.sfc_core.proofs.due.tell_each.Given as goal
 
 abbrev pub invariant-loop-k : goal.invariant-loop-k
 invariant-loop-k l = record {
