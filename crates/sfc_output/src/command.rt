@@ -1,13 +1,17 @@
 //! The lines of commands and of their answers.
 
-ghost use Rattle.std.specs.Prelude.{◌≡◌, ◌<◌, ◌++◌, length, OnOk};
+ghost use Rattle.std.specs.Prelude.{◌≡◌, ◌<◌, ◌++◌, codes, length, OnOk};
+ghost use Rattle.std.specs.Fmt.{decimal};
 ghost use Rattle.sfc_events.specs.declared.command.Command.TheVariants.{BreakIf};
 ghost use Rattle.sfc_output.specs.Commands as output;
 ghost use Rattle.sfc_output.specs.Names.{image_name};
+ghost use Rattle.sfc_output.specs.Private.Told.{told};
 ghost use Rattle.sfc_output.specs.Steered.{steered_by};
+ghost use Rattle.sfc_output.specs.Values.{value_text};
 
 use crate::append::{append, append_number, append_time, append_value};
 use crate::breakpoint::{append_condition, append_place};
+use crate::line::Line;
 use crate::naming::{append_image_name, program_name, task_name};
 use sfc_base::ids::{ProgId, TaskId, VarId};
 use sfc_base::value::Value;
@@ -121,34 +125,83 @@ fn append_words(out: &mut Vec<u8>, debugger: &Debugger, command: Command) -> Res
     }
 }
 
-// Whether a breakpoint was hit.
-fn append_hit(out: &mut Vec<u8>, hit: bool) -> Result<(), AllocError>
-    ensures { OnOk result (out.new.items ≡ out.old.items ++ output.hit_text hit) }
+// The words of a command; those of a scan go by the line.
+#[tactic(auto, using(crate::proofs::Told::told_none))]
+fn put_words(
+    line: &mut Line,
+    out: &mut Vec<u8>,
+    debugger: &Debugger,
+    command: Command,
+) -> Result<(), AllocError>
+    ensures { OnOk result (told out.new.items line.new ≡
+        told out.old.items line.old ++ output.command_text (steered_by debugger.now) command) }
 {
-    if hit { append(out, b" hit") } else { Ok(()) }
+    if let Command::Scan(task) = command {
+        line.put(out, b" SCAN ")?;
+        return line.put(out, task_name(debugger.resource().plant(), task));
+    }
+    line.pass_on(out)?;
+    append_words(out, debugger, command)
+}
+
+// What the answer to a scan adds.
+fn put_scanned(
+    line: &mut Line,
+    out: &mut Vec<u8>,
+    overruns: u64,
+    hit: bool,
+) -> Result<(), AllocError>
+    ensures { OnOk result (told out.new.items line.new ≡
+        told out.old.items line.old ++ codes " overruns " ++ decimal overruns ++ output.hit_text hit) }
+{
+    line.put(out, b" overruns ")?;
+    line.put_number(out, overruns)?;
+    if hit { line.put(out, b" hit") } else { Ok(()) }
+}
+
+// What a variable reads.
+#[tactic(auto, using(crate::proofs::Told::told_none))]
+fn put_read(line: &mut Line, out: &mut Vec<u8>, value: Value) -> Result<(), AllocError>
+    ensures { OnOk result (told out.new.items line.new ≡ told out.old.items line.old ++ codes " " ++ value_text value) }
+{
+    line.put(out, b" ")?;
+    line.pass_on(out)?;
+    append_value(out, value)
 }
 
 // What the answer adds.
-fn append_answer(out: &mut Vec<u8>, answer: Answer) -> Result<(), AllocError>
-    ensures { OnOk result (out.new.items ≡ out.old.items ++ output.answer_text answer) }
+fn put_answer(line: &mut Line, out: &mut Vec<u8>, answer: Answer) -> Result<(), AllocError>
+    ensures { OnOk result (told out.new.items line.new ≡ told out.old.items line.old ++ output.answer_text answer) }
 {
     match answer {
         Answer::Done => Ok(()),
-        Answer::Value(value) => {
-            append(out, b" ")?;
-            append_value(out, value)
-        }
-        Answer::Scanned { overruns, hit, .. } => {
-            append(out, b" overruns ")?;
-            append_number(out, overruns)?;
-            append_hit(out, hit)
-        }
+        Answer::Value(value) => put_read(line, out, value),
+        Answer::Scanned { overruns, hit, .. } => put_scanned(line, out, overruns, hit),
     }
+}
+
+// The line of an accepted command.
+#[tactic(auto, unfolding(crate::specs::Commands::command_line))]
+fn put_command(
+    line: &mut Line,
+    out: &mut Vec<u8>,
+    debugger: &Debugger,
+    timed: (Command, i64),
+    answer: Answer,
+) -> Result<(), AllocError>
+    ensures { OnOk result (told out.new.items line.new ≡
+        told out.old.items line.old ++ output.command_line (steered_by debugger.now) timed.0 timed.1 answer) }
+{
+    let (command, t) = timed;
+    line.put_time(out, t)?;
+    put_words(line, out, debugger, command)?;
+    put_answer(line, out, answer)?;
+    line.put(out, b"\n")
 }
 
 /// Puts the line of an accepted command at the end: its run instant in microseconds, its words, and what its answer adds. The
 /// one error is that memory was refused; then a front of it may stand there.
-#[tactic(auto, unfolding(crate::specs::Commands::command_line))]
+#[tactic(auto, using(crate::proofs::Told::told_none))]
 pub fn append_command(
     out: &mut Vec<u8>,
     debugger: &Debugger,
@@ -158,10 +211,9 @@ pub fn append_command(
 ) -> Result<(), AllocError>
     ensures { OnOk result (out.new.items ≡ out.old.items ++ output.command_line (steered_by debugger.now) command t answer) }
 {
-    append_time(out, t)?;
-    append_words(out, debugger, command)?;
-    append_answer(out, answer)?;
-    append(out, b"\n")
+    let mut line = Line::new();
+    put_command(&mut line, out, debugger, (command, t), answer)?;
+    line.pass_on(out)
 }
 
 /// Puts the line of a row of the trace at the end: its number, and the line of its command. The one error is that memory was

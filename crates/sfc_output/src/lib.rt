@@ -5,6 +5,7 @@
 //! - `breakpoint`: where breakpoints stand, and their conditions.
 //! - `command`: the lines of commands and of their answers; of rows of the trace.
 //! - `image_line`: the lines of the image.
+//! - `line`: the end of a text, put together before it goes to a buffer.
 //! - `list`: lists in a line.
 //! - `naming`: names as they were declared.
 //! - `program`: the line of a program after a scan.
@@ -14,6 +15,7 @@ pub mod append;
 mod breakpoint;
 pub mod command;
 pub mod image_line;
+mod line;
 mod list;
 mod naming;
 pub mod program;

@@ -7,10 +7,10 @@ ghost use Rattle.sfc_instance.specs.Views.{plant_in, instance_in, tables_in, Sho
 ghost use Rattle.sfc_output.specs.Lists.{listed};
 ghost use Rattle.sfc_output.specs.Names.{numbered_action};
 ghost use Rattle.sfc_output.specs.Programs as output;
-ghost use Rattle.sfc_output.specs.Private.ListParts.{separator};
+ghost use Rattle.sfc_output.specs.Private.Told.{told};
 
-use crate::append::{append, append_number, append_time};
-use crate::list::{append_end, append_separator};
+use crate::line::Line;
+use crate::list::{put_end, put_separator};
 use crate::naming::{names_of, program_name, target_name};
 use sfc_action::fault::ControlFault;
 use sfc_base::ids::ActionNumber;
@@ -23,34 +23,36 @@ use sfc_instance::scan_fault::ScanFault;
 use sfc_plant::names::Names;
 use std::alloc::AllocError;
 
-// Puts a step with its time behind others.
-#[inline(never)]
-fn append_step(
+// Puts a step with its time.
+#[inline(always)]
+fn put_step(
+    line: &mut Line,
     out: &mut Vec<u8>,
     view: &ProgramView<'_>,
     names: &Names<'_>,
     step: StepId,
-    is_first: bool,
 ) -> Result<(), AllocError>
     requires { step.0 < length (tables_in view.now).initial }
     ensures { (changes : List Change) (instance_state : InstanceState) → Shows view.now changes instance_state →
-        OnOk result (out.new.items ≡
-        out.old.items ++ separator is_first ++ output.step_text names.now (tables_in view.now) instance_state step.0) }
+        OnOk result (told out.new.items line.new ≡
+        told out.old.items line.old ++ output.step_text names.now (tables_in view.now) instance_state step.0) }
 {
-    append_separator(out, is_first)?;
-    append(out, names.step(step))?;
-    append(out, b"=")?;
-    append_time(out, view.elapsed(step))
+    line.put(out, names.step(step))?;
+    line.put(out, b"=")?;
+    line.put_time(out, view.elapsed(step))
 }
 
 // The active steps with their times.
-fn append_steps(
+#[inline(always)]
+fn put_steps(
+    line: &mut Line,
     out: &mut Vec<u8>,
     view: &ProgramView<'_>,
     names: &Names<'_>,
 ) -> Result<(), AllocError>
     ensures { (changes : List Change) (instance_state : InstanceState) → Shows view.now changes instance_state →
-        OnOk result (out.new.items ≡ out.old.items ++ listed (output.step_texts names.now (tables_in view.now) instance_state)) }
+        OnOk result (told out.new.items line.new ≡
+        told out.old.items line.old ++ listed (output.step_texts names.now (tables_in view.now) instance_state)) }
 {
     let _steps = view.tables().steps();
     let active = view.active_flags();
@@ -58,26 +60,29 @@ fn append_steps(
     let mut is_first = true;
     let mut from = 0;
     'places: while let Some(s) = active.next_set(from, &mut ticks) {
-        append_step(out, view, names, StepId(s as u16), is_first)?;
+        put_separator(line, out, is_first)?;
+        put_step(line, out, view, names, StepId(s as u16))?;
         is_first = false;
         from = s + 1;
     }
-    append_end(out, is_first)
+    put_end(line, out, is_first)
 }
 
-// Puts the number of a transition behind others.
-fn append_transition(out: &mut Vec<u8>, transition: usize, is_first: bool) -> Result<(), AllocError>
-    ensures { transition < 2 ^ 63 → OnOk result (out.new.items ≡
-        out.old.items ++ separator is_first ++ output.transition_text transition) }
+// Puts the number of a transition.
+#[inline(always)]
+fn put_transition(line: &mut Line, out: &mut Vec<u8>, transition: usize) -> Result<(), AllocError>
+    ensures { transition < 2 ^ 63 → OnOk result (told out.new.items line.new ≡
+        told out.old.items line.old ++ output.transition_text transition) }
 {
-    append_separator(out, is_first)?;
-    append_number(out, (transition as u64).saturating_add(1))
+    line.put_number(out, (transition as u64).saturating_add(1))
 }
 
 // The numbers of the cleared transitions.
-fn append_cleared(out: &mut Vec<u8>, view: &ProgramView<'_>) -> Result<(), AllocError>
+#[inline(always)]
+fn put_cleared(line: &mut Line, out: &mut Vec<u8>, view: &ProgramView<'_>) -> Result<(), AllocError>
     ensures { (changes : List Change) (instance_state : InstanceState) → Shows view.now changes instance_state →
-        OnOk result (out.new.items ≡ out.old.items ++ listed (output.cleared_texts (tables_in view.now) instance_state)) }
+        OnOk result (told out.new.items line.new ≡
+        told out.old.items line.old ++ listed (output.cleared_texts (tables_in view.now) instance_state)) }
 {
     let _transitions = view.tables().transitions();
     let cleared = view.cleared_flags();
@@ -85,68 +90,75 @@ fn append_cleared(out: &mut Vec<u8>, view: &ProgramView<'_>) -> Result<(), Alloc
     let mut is_first = true;
     let mut from = 0;
     'places: while let Some(tr) = cleared.next_set(from, &mut ticks) {
-        append_transition(out, tr, is_first)?;
+        put_separator(line, out, is_first)?;
+        put_transition(line, out, tr)?;
         is_first = false;
         from = tr + 1;
     }
-    append_end(out, is_first)
+    put_end(line, out, is_first)
 }
 
-// Puts the name of an action behind others.
-#[inline(never)]
-fn append_action(
+// Puts the name of an action.
+#[inline(always)]
+fn put_action(
+    line: &mut Line,
     out: &mut Vec<u8>,
     view: &ProgramView<'_>,
     names: &Names<'_>,
     action: ActionNumber,
-    is_first: bool,
 ) -> Result<(), AllocError>
     requires { action.0 < length (tables_in view.now).actions }
-    ensures { OnOk result (out.new.items ≡
-        out.old.items ++ separator is_first ++ numbered_action names.now (tables_in view.now) action.0) }
+    ensures { OnOk result (told out.new.items line.new ≡
+        told out.old.items line.old ++ numbered_action names.now (tables_in view.now) action.0) }
 {
-    append_separator(out, is_first)?;
-    append(out, target_name(names, view.tables().target(action)))
+    line.put(out, target_name(names, view.tables().target(action)))
 }
 
 // The names of the executed actions.
-fn append_executed(
+#[inline(always)]
+fn put_executed(
+    line: &mut Line,
     out: &mut Vec<u8>,
     view: &ProgramView<'_>,
     names: &Names<'_>,
 ) -> Result<(), AllocError>
     ensures { (changes : List Change) (instance_state : InstanceState) → Shows view.now changes instance_state →
-        OnOk result (out.new.items ≡ out.old.items ++ listed (output.executed_texts names.now (tables_in view.now) instance_state)) }
+        OnOk result (told out.new.items line.new ≡
+        told out.old.items line.old ++ listed (output.executed_texts names.now (tables_in view.now) instance_state)) }
 {
     let executed = view.executed_flags();
     let mut ticks = Ticks::new();
     let mut is_first = true;
     let mut from = 0;
     'places: while let Some(action) = executed.next_set(from, &mut ticks) {
-        append_action(out, view, names, ActionNumber(action), is_first)?;
+        put_separator(line, out, is_first)?;
+        put_action(line, out, view, names, ActionNumber(action))?;
         is_first = false;
         from = action + 1;
     }
-    append_end(out, is_first)
+    put_end(line, out, is_first)
 }
 
 // What a scan did.
-fn append_scan(
+#[inline(always)]
+fn put_scan(
+    line: &mut Line,
     out: &mut Vec<u8>,
     view: &ProgramView<'_>,
     names: &Names<'_>,
 ) -> Result<(), AllocError>
     ensures { (changes : List Change) (instance_state : InstanceState) → Shows view.now changes instance_state →
-        OnOk result (out.new.items ≡ out.old.items ++ output.scan_text names.now (tables_in view.now) instance_state) }
+        OnOk result (told out.new.items line.new ≡
+        told out.old.items line.old ++ output.scan_text names.now (tables_in view.now) instance_state) }
 {
-    append(out, b" ")?;
-    append_number(out, view.scans())?;
-    append(out, b" steps ")?;
-    append_steps(out, view, names)?;
-    append(out, b" cleared ")?;
-    append_cleared(out, view)?;
-    append(out, b" run ")?;
-    append_executed(out, view, names)
+    line.put(out, b" ")?;
+    line.put_number(out, view.scans())?;
+    line.put(out, b" steps ")?;
+    put_steps(line, out, view, names)?;
+    line.put(out, b" cleared ")?;
+    put_cleared(line, out, view)?;
+    line.put(out, b" run ")?;
+    put_executed(line, out, view, names)
 }
 
 /// The name of a fault.
@@ -173,30 +185,52 @@ fn fault_text(fault: Option<ScanFault>) -> &'static [u8]
 }
 
 // What is written of a scan that ended so.
-fn append_scan_end(
+fn put_scan_end(
+    line: &mut Line,
     out: &mut Vec<u8>,
     view: &ProgramView<'_>,
     names: &Names<'_>,
     scan_end: ScanEnd,
 ) -> Result<(), AllocError>
     ensures { (changes : List Change) (instance_state : InstanceState) → Shows view.now changes instance_state →
-        OnOk result (out.new.items ≡ out.old.items ++ output.end_text names.now (tables_in view.now) instance_state scan_end) }
+        OnOk result (told out.new.items line.new ≡
+        told out.old.items line.old ++ output.end_text names.now (tables_in view.now) instance_state scan_end) }
 {
     match scan_end {
-        ScanEnd::Ran => append_scan(out, view, names),
+        ScanEnd::Ran => put_scan(line, out, view, names),
         ScanEnd::Faulted => {
-            append(out, b" fault ")?;
-            append(out, fault_text(view.fault()))
+            line.put(out, b" fault ")?;
+            line.put(out, fault_text(view.fault()))
         }
         ScanEnd::Skipped => {
-            append(out, b" skipped ")?;
-            append(out, fault_text(view.fault()))
+            line.put(out, b" skipped ")?;
+            line.put(out, fault_text(view.fault()))
         }
     }
 }
 
+// Puts the line of the program instance.
+#[inline(always)]
+fn put_program(
+    line: &mut Line,
+    out: &mut Vec<u8>,
+    view: &ProgramView<'_>,
+    scan_end: ScanEnd,
+) -> Result<(), AllocError>
+    ensures { (changes : List Change) (instance_state : InstanceState) → Shows view.now changes instance_state →
+        OnOk result (told out.new.items line.new ≡ told out.old.items line.old
+        ++ output.program_line (plant_in view.now) (instance_in view.now) instance_state scan_end) }
+{
+    line.put(out, b"  ")?;
+    line.put(out, program_name(view.plant(), view.instance()))?;
+    let names = names_of(view.plant(), view.instance());
+    put_scan_end(line, out, view, &names, scan_end)?;
+    line.put(out, b"\n")
+}
+
 /// Puts the line of the program instance at the end, whose scan ended so: what it did, or the fault that ended it or an
 /// earlier one. The one error is that memory was refused; then a front of it may stand there.
+#[tactic(auto, using(crate::proofs::Told::told_none))]
 pub fn append_program(
     out: &mut Vec<u8>,
     view: &ProgramView<'_>,
@@ -205,9 +239,7 @@ pub fn append_program(
     ensures { (changes : List Change) (instance_state : InstanceState) → Shows view.now changes instance_state →
         OnOk result (out.new.items ≡ out.old.items ++ output.program_line (plant_in view.now) (instance_in view.now) instance_state scan_end) }
 {
-    append(out, b"  ")?;
-    append(out, program_name(view.plant(), view.instance()))?;
-    let names = names_of(view.plant(), view.instance());
-    append_scan_end(out, view, &names, scan_end)?;
-    append(out, b"\n")
+    let mut line = Line::new();
+    put_program(&mut line, out, view, scan_end)?;
+    line.pass_on(out)
 }

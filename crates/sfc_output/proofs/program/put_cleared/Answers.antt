@@ -4,8 +4,9 @@ use Rattle.sfc_tables.specs.Tables.{Tabled}
 use Rattle.sfc_instance.specs.Answers.{is_transition_cleared}
 use Rattle.sfc_instance.specs.Views.{tables_in}
 use Rattle.sfc_output.specs.Programs.{transition_text}
+use Rattle.sfc_output.specs.Private.Told.{told}
 use Rattle.sfc_output.proofs.Texts.{placed, all_placed}
-use Rattle.sfc_output.proofs.program.append_cleared.Goals as goal
+use Rattle.sfc_output.proofs.program.put_cleared.Goals as goal
 
 pub places-preserved : goal.places-preserved
 places-preserved c =
@@ -17,16 +18,16 @@ places-preserved c =
     record {
       within = omega (arith, found.1);
       rest =
-          placed transition_text c.cleared_flags-cleared.result.now c.places.from c.in-Some.tr c.places.is_first _ c.places.out.items
-          c.append_transition.new.out.items found.2 (c.in_ok-append_transition.ensures small) c.places.invariant.rest;
+          placed transition_text c.cleared_flags-cleared.result.now c.places.from c.in-Some.tr c.places.is_first _ (told c.places.out.items c.places.line)
+          (told c.put_separator.new.out.items c.put_separator.new.line) (told c.put_transition.new.out.items c.put_transition.new.line) found.2 c.in_ok-put_separator.ensures (c.in_ok-put_transition.ensures small) c.places.invariant.rest;
     }
 
 pub returns : goal.returns
 returns c changes instance_state shows =
     let tables = tables_in c.args.view.now in
-    on_ok_weaker c.append_end.result
+    on_ok_weaker c.put_end.result
     (λ e. e ∙ all_placed (is_transition_cleared tables instance_state) transition_text c.cleared_flags-cleared.result.now
-    _ c.places.from c.places.is_first c.args.out.now.items c.places.out.items c.cleared_flags-cleared.ensures.len
+    _ c.places.from c.places.is_first (told c.args.out.now.items c.args.line.now) (told c.places.out.items c.places.line) c.cleared_flags-cleared.ensures.len
     (λ j lt. c.cleared_flags-cleared.ensures.each changes instance_state j lt shows) (c.next_set.ensures.none c.in_default.is)
     c.places.invariant.rest)
-    c.append_end.ensures
+    c.put_end.ensures

@@ -6,14 +6,15 @@ use Rattle.sfc_instance.specs.Views.{tables_in, Shows}
 use Rattle.sfc_output.specs.Lists.{listed}
 use Rattle.sfc_output.specs.Programs.{step_text}
 use Rattle.sfc_output.specs.Private.ListParts.{continued}
-use Rattle.sfc_output.proofs.program.append_steps.Given as goal
+use Rattle.sfc_output.specs.Private.Told.{told}
+use Rattle.sfc_output.proofs.program.put_steps.Given as goal
 
 abbrev pub invariant-places : goal.invariant-places
 invariant-places l = record {
   within : l.from ≤ length l.active;
   rest : (changes : List Change) (instance_state : InstanceState) → Shows l.view changes instance_state →
-      l.initial.out.items ++ listed (map (step_text l.names (tables_in l.view) instance_state) (places_from l.active 0))
-      ≡ l.out.items ++ continued l.is_first (map (step_text l.names (tables_in l.view) instance_state) (places_from l.active l.from));
+      told l.initial.out.items l.initial.line ++ listed (map (step_text l.names (tables_in l.view) instance_state) (places_from l.active 0))
+      ≡ told l.out.items l.line ++ continued l.is_first (map (step_text l.names (tables_in l.view) instance_state) (places_from l.active l.from));
 }
 
 abbrev pub decreases-places : goal.decreases-places
