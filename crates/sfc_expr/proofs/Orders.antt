@@ -1,5 +1,5 @@
 -- An order of numbers is what its operator gives.
-use Rattle.std.proofs.Common.{◌≡◌, Bool, Some, None, ℤ, refl, ap}
+use Rattle.std.proofs.Common.{◌≡◌, Bool, Some, ℤ, ap}
 use Rattle.std.specs.Prelude.{Result, Ok, Err, int_le, int_lt}
 use Rattle.sfc_base.specs.declared.value.Value.{Value}
 use Rattle.sfc_base.specs.declared.var_type.VarType.{VarType}

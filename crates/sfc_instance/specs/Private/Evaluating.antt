@@ -1,5 +1,5 @@
 -- One transition of a scan.
-use Rattle.std.specs.Prelude.{ℕ, ◌≡◌, ◌==◌, ◌&&◌, Bool, false, cond, List, Result, Ok, Err, ◌+◌, length, slice_get}
+use Rattle.std.specs.Prelude.{ℕ, ◌≡◌, ◌==◌, ◌&&◌, Bool, false, cond, List, Result, Ok, ◌+◌, length, slice_get}
 use Rattle.std.specs.List.{list_any}
 use Rattle.sfc_flags.specs.Flags.{flag}
 use Rattle.sfc_base.specs.declared.ids.TransitionId.{TransitionId}

@@ -2,7 +2,7 @@ use Rattle.std.proofs.Common.{◌∙◌, ◌<◌, sym, ap, subst, length}
 use Rattle.sfc_tables.specs.Tables.{Tabled}
 use Rattle.sfc_evolve.specs.Evolution.{is_active}
 use Rattle.sfc_instance.specs.Life.{evolution_rows}
-use Rattle.sfc_instance.specs.Views.{Shows, tables_in, plant_in, instance_in}
+use Rattle.sfc_instance.specs.Views.{Shows, plant_in, instance_in}
 use Rattle.sfc_instance.proofs.Windows.{active_flag}
 use Rattle.sfc_instance.proofs.program_view.ProgramView.active_flags.Goals as goal
 
