@@ -58,7 +58,7 @@ fn search(
     None
 }
 
-/// The fault of the first of these associations whose action has one, where it is known of them whether none has one.
+/// The fault of the first of these associations whose action has one. Where `is_faultless`, no action has one.
 pub fn first_fault(
     is_faultless: bool,
     inputs: &Inputs,
