@@ -1,8 +1,7 @@
 -- What flip-flops become, and which actions are called.
-use Rattle.std.proofs.Common.{◌≡◌, ℕ, ◌≤◌, ◌<◌, Bool, true, false, not, ◌&&◌, ◌||◌, List, length, ap, sym, refl, ◌∙◌, None, inl, inr, arith}
+use Rattle.std.proofs.Common.{◌≡◌, ℕ, ◌≤◌, ◌<◌, Bool, true, false, ◌||◌, List, length, ap, sym, refl, ◌∙◌, None, inl, inr, arith}
 use Rattle.std.proofs.lemmas.Bool.{cases_lt}
 use Rattle.std.specs.Int.{div_ceil}
-use Rattle.sfc_base.specs.declared.qualifier.TimedQualifier.{TimedQualifier}
 use Rattle.sfc_base.specs.declared.qualifier.TimedQualifier.TheVariants.{Limited, Delayed, StoredDelayed, DelayedStored, StoredLimited}
 use Rattle.sfc_flags.specs.Flags.{flag}
 use Rattle.sfc_flags.specs.Words.{AreDone, word_of}
@@ -11,9 +10,8 @@ use Rattle.sfc_action.specs.declared.inputs.Inputs.{Inputs}
 use Rattle.sfc_action.specs.declared.stores.Stores.{Stores}
 use Rattle.sfc_action.specs.Private.Marking.{AreSized}
 use Rattle.sfc_action.specs.Private.Storing.{AreStores, AreNext}
-use Rattle.sfc_action.specs.Private.Delays.{input_of}
 use Rattle.sfc_action.specs.Private.Calling.{called_of, AreCalled}
-use Rattle.sfc_action.specs.Private.Rows.{InputRow, StoreRow, input_row, store_row, stores_after, has_fault}
+use Rattle.sfc_action.specs.Private.Rows.{StoreRow, input_row, store_row, stores_after, has_fault}
 use Rattle.sfc_action.specs.Private.Failing.{fault_at}
 use Rattle.sfc_action.specs.ActionControl.{fault_by}
 use Rattle.sfc_action.proofs.Rows.{inputs_past, stores_past, stores_after_past}

@@ -1,11 +1,8 @@
 -- A scan of the live on-delays is one of all.
-use Rattle.std.proofs.Common.{◌≡◌, ℕ, zero, suc, ◌+◌, ◌-◌, ◌<◌, ◌≤◌, ◌==◌, Bool, true, false, cond, ◌||◌, List, [], ◌∷◌, ◌++◌, length, get_or, take, drop, arith, refl, sym, ◌∙◌, ap, subst, inl, inr, Option, Some, None, ℤ}
+use Rattle.std.proofs.Common.{◌≡◌, ℕ, zero, suc, ◌+◌, ◌-◌, ◌<◌, ◌≤◌, Bool, true, false, cond, ◌||◌, List, [], ◌∷◌, ◌++◌, length, get_or, take, drop, arith, refl, sym, ◌∙◌, ap, subst, inl, inr, Option, Some, None, ℤ}
 use Rattle.std.specs.Prelude.{slice_set, is_some, map}
-use Rattle.std.specs.List.{list_any}
-use Rattle.std.proofs.lemmas.Bool.{cases_lt, cases_eq}
-use Rattle.std.proofs.lemmas.Bool.Decides.{nat_tests}
+use Rattle.std.proofs.lemmas.Bool.{cases_lt}
 use Rattle.std.proofs.lemmas.List.{get_or-drop, get_or-set_same, get_or-set_other, take_more, take_all, length-set}
-use Rattle.std.proofs.lemmas.List.Folds.{list_any-append}
 use Rattle.sfc_flags.specs.Flags.{flag, set_from, places_from}
 use Rattle.sfc_timers.specs.Past.{on_delay_in}
 use Rattle.sfc_timers.proofs.Pasts.{on_delay_keeps, on_delay_agrees}
@@ -14,10 +11,9 @@ use Rattle.sfc_action.specs.declared.blocks.Block.{Block}
 use Rattle.sfc_action.specs.Private.TimedSets.{AreAll, with_action}
 use Rattle.sfc_action.specs.Private.Delays.{IsStepped, gathered}
 use Rattle.sfc_action.specs.Private.Listing.{IsNew}
-use Rattle.sfc_action.specs.Private.Live.{IsIdle, has_place}
+use Rattle.sfc_action.specs.Private.Live.{IsIdle}
 use Rattle.sfc_action.specs.Private.DelayLists.{Delay}
 use Rattle.sfc_action.specs.Private.Keeping.{delay_of}
-use Rattle.sfc_action.proofs.Calls.{or_before, or_behind}
 use Rattle.sfc_action.proofs.Elements.{next_done}
 use Rattle.sfc_action.proofs.Sizes.{all_added}
 

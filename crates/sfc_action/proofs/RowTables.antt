@@ -1,5 +1,5 @@
 -- Tables of words, each of which has the rows of 64 actions.
-use Rattle.std.proofs.Common.{◌≡◌, ℕ, suc, zero, ◌+◌, ◌≤◌, ◌<◌, ◌==◌, Bool, false, cond, List, [], ◌∷◌, length, get_or, arith, ◌∙◌, ap, refl, sym, inl, inr, eq-eqb}
+use Rattle.std.proofs.Common.{◌≡◌, ℕ, suc, zero, ◌≤◌, ◌<◌, ◌==◌, Bool, false, cond, List, [], ◌∷◌, length, get_or, arith, ◌∙◌, ap, refl, sym, inl, inr, eq-eqb}
 use Rattle.std.specs.Prelude.{All, map, slice_set, replicate}
 use Rattle.std.specs.Int.{div_ceil}
 use Rattle.std.proofs.lemmas.Bool.{cases_eq, cases_lt, ne_eqb}
@@ -75,10 +75,12 @@ module _ {W R : Type 0} (row : W → ℕ → R) (none : R) where
   pub all_equal : (n : ℕ) (word : W) (words : List W) → ((a : ℕ) → row word a ≡ none) → words ≡ replicate (div_ceil n 64) word
       → (length words ≡ div_ceil n 64) × All (λ (w : W). (a : ℕ) → row w a ≡ none) words
   all_equal n word words clear e =
-      let size : length words ≡ div_ceil n 64 = ap length e ∙ length-replicate (div_ceil n 64) word in
-      (size, λ k d lt a.
-      ap (λ (ws : List W). row (get_or ws k d) a) e
-      ∙ ap (λ (w : W). row w a) (get_or-replicate (div_ceil n 64) k word d (omega (arith, size, lt))) ∙ clear a)
+      let size : length words ≡ div_ceil n 64 = ap length e ∙ length-replicate (div_ceil n 64) word in (
+        size,
+        λ k d lt a.
+            ap (λ (ws : List W). row (get_or ws k d) a) e
+            ∙ ap (λ (w : W). row w a) (get_or-replicate (div_ceil n 64) k word d (omega (arith, size, lt))) ∙ clear a,
+      )
 
   pub table_put : (n : ℕ) (words : List W) (k : ℕ) (w : W) → IsTable row none n words → k < length words
       → ((a : ℕ) → word_of a ≡ k → n ≤ a → row w a ≡ none) → IsTable row none n (slice_set words k w)

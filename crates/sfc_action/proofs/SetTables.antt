@@ -1,5 +1,5 @@
 -- How words hold sets of actions.
-use Rattle.std.proofs.Common.{◌≡◌, ℕ, ◌≤◌, ◌<◌, ◌==◌, ◌/◌, Bool, true, false, cond, List, length, get_or, arith, ◌∙◌, ap, refl, sym, inl, inr, eq-eqb, subst}
+use Rattle.std.proofs.Common.{◌≡◌, ℕ, ◌≤◌, ◌<◌, ◌==◌, Bool, true, false, cond, List, length, get_or, arith, ◌∙◌, ap, refl, sym, inl, inr, eq-eqb}
 use Rattle.std.specs.Prelude.{All, slice_set, replicate}
 use Rattle.std.specs.Int.{div_ceil}
 use Rattle.std.proofs.lemmas.Bool.{cases_eq, ne_eqb}
@@ -14,7 +14,7 @@ use Rattle.sfc_action.specs.declared.timed_words.TimedWords.{TimedWords}
 use Rattle.sfc_action.specs.declared.store_words.StoreWords.{StoreWords}
 use Rattle.sfc_action.specs.declared.input_words.InputWords.{InputWords}
 use Rattle.sfc_action.specs.Private.Sets.{TimedSets, StoreSets, InputSets}
-use Rattle.sfc_action.specs.Private.RowTables.{row_at, IsTable, set_of}
+use Rattle.sfc_action.specs.Private.RowTables.{row_at}
 use Rattle.sfc_action.specs.Private.SetTables.{timed_by_rows, stores_by_rows, inputs_by_rows, timed_of, stores_of, inputs_of}
 use Rattle.sfc_action.specs.Private.SetTables.{IsTimedTable, IsStoreTable, IsInputTable}
 use Rattle.sfc_action.specs.Private.TimedSets.{AreAll, none, with_action, by}
@@ -112,9 +112,11 @@ timed_size n words sets t e =
 pub timed_clear : (n : ℕ) (words : List TimedWords) → length words ≡ div_ceil n 64
     → All (λ (word : TimedWords). (a : ℕ) → timed_in word a ≡ no_times) words → IsTimedTable n words × (timed_of n words ≡ none n)
 timed_clear n words size all =
-    let t : IsTimedTable n words = table_none timed_in no_times n words size all in
-    (t, same_timed n (timed_of n words) (none n) (timed_sized n words) (all_none n)
-    (λ a. timed_rows n words t a ∙ row_none timed_in no_times words all a ∙ sym (none_rows n a)))
+    let t : IsTimedTable n words = table_none timed_in no_times n words size all in (
+      t,
+      same_timed n (timed_of n words) (none n) (timed_sized n words) (all_none n)
+          (λ a. timed_rows n words t a ∙ row_none timed_in no_times words all a ∙ sym (none_rows n a)),
+    )
 
 pub timed_new : (n : ℕ) (word : TimedWords) (words : List TimedWords) → ((a : ℕ) → timed_in word a ≡ no_times)
     → words ≡ replicate (div_ceil n 64) word → IsTimedTable n words × (timed_of n words ≡ none n)
@@ -153,9 +155,11 @@ stores_size n words sets t e =
 pub stores_clear : (n : ℕ) (words : List StoreWords) → length words ≡ div_ceil n 64
     → All (λ (word : StoreWords). (a : ℕ) → stores_in word a ≡ no_store) words → IsStoreTable n words × (stores_of n words ≡ no_stores n)
 stores_clear n words size all =
-    let t : IsStoreTable n words = table_none stores_in no_store n words size all in
-    (t, same_stores n (stores_of n words) (no_stores n) (stores_sized n words) (sized_stores n)
-    (λ a. stores_rows n words t a ∙ row_none stores_in no_store words all a ∙ sym (no_store_rows n a)))
+    let t : IsStoreTable n words = table_none stores_in no_store n words size all in (
+      t,
+      same_stores n (stores_of n words) (no_stores n) (stores_sized n words) (sized_stores n)
+          (λ a. stores_rows n words t a ∙ row_none stores_in no_store words all a ∙ sym (no_store_rows n a)),
+    )
 
 pub stores_new : (n : ℕ) (word : StoreWords) (words : List StoreWords) → ((a : ℕ) → stores_in word a ≡ no_store)
     → words ≡ replicate (div_ceil n 64) word → IsStoreTable n words × (stores_of n words ≡ no_stores n)
@@ -194,9 +198,11 @@ inputs_size n words sets t e =
 pub inputs_clear : (n : ℕ) (words : List InputWords) → length words ≡ div_ceil n 64
     → All (λ (word : InputWords). (a : ℕ) → inputs_in word a ≡ no_inputs) words → IsInputTable n words × (inputs_of n words ≡ cleared n)
 inputs_clear n words size all =
-    let t : IsInputTable n words = table_none inputs_in no_inputs n words size all in
-    (t, same_inputs n (inputs_of n words) (cleared n) (inputs_sized n words) (sized_cleared n)
-    (λ a. inputs_rows n words t a ∙ row_none inputs_in no_inputs words all a ∙ sym (cleared_rows n a)))
+    let t : IsInputTable n words = table_none inputs_in no_inputs n words size all in (
+      t,
+      same_inputs n (inputs_of n words) (cleared n) (inputs_sized n words) (sized_cleared n)
+          (λ a. inputs_rows n words t a ∙ row_none inputs_in no_inputs words all a ∙ sym (cleared_rows n a)),
+    )
 
 pub inputs_new : (n : ℕ) (word : InputWords) (words : List InputWords) → ((a : ℕ) → inputs_in word a ≡ no_inputs)
     → words ≡ replicate (div_ceil n 64) word → IsInputTable n words × (inputs_of n words ≡ cleared n)

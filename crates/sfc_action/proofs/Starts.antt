@@ -1,14 +1,8 @@
 -- Before the first scan, and copies.
-use Rattle.std.proofs.Common.{◌≡◌, ℕ, suc, ◌<◌, ◌==◌, Bool, false, ◌&&◌, ◌||◌, List, [], ◌∷◌, length, arith, refl, sym, subst, ◌∙◌, ap}
+use Rattle.std.proofs.Common.{◌≡◌, ℕ, Bool, false, List, [], length, arith, sym, subst, ◌∙◌, ap}
 use Rattle.std.specs.Prelude.{All, map, replicate}
-use Rattle.std.specs.List.{list_any}
-use Rattle.std.proofs.lemmas.List.{length-replicate, length-map}
-use Rattle.sfc_base.specs.declared.qualifier.TimedQualifier.{TimedQualifier}
+use Rattle.std.proofs.lemmas.List.{length-replicate}
 use Rattle.sfc_flags.specs.Flags.{flag}
-use Rattle.sfc_timers.specs.Timers.{has_elapsed}
-use Rattle.sfc_timers.specs.Agreement.{OnDelayAgrees}
-use Rattle.sfc_plant.specs.declared.association.Qualifier.{Qualifier}
-use Rattle.sfc_plant.specs.declared.association.Qualifier.TheVariants as qualifier
 use Rattle.sfc_tables.specs.declared.step_action.StepAction.{StepAction}
 use Rattle.sfc_tables.specs.Tables.{Tabled}
 use Rattle.sfc_action.specs.declared.stores.Stores.{Stores}
@@ -19,8 +13,8 @@ use Rattle.sfc_action.specs.ActionControl.{Scan}
 use Rattle.sfc_action.specs.Private.TimedSets.{none}
 use Rattle.sfc_action.specs.Private.Storing.{AreStores}
 use Rattle.sfc_action.specs.Private.Delays.{AreOf}
-use Rattle.sfc_action.specs.Private.Keeping.{IsStateSized, IsFresh, IsCopy, AreFor, IsStateAfter, BlockAgrees, IsCovered, has_block, is_of, delay_of, readings}
-use Rattle.sfc_action.specs.Private.DelayLists.{same_timed, with_delays}
+use Rattle.sfc_action.specs.Private.Keeping.{IsStateSized, IsFresh, IsCopy, AreFor, IsStateAfter, BlockAgrees, IsCovered, delay_of}
+use Rattle.sfc_action.specs.Private.DelayLists.{with_delays}
 use Rattle.sfc_action.specs.Private.Listing.{IsNew, IsList}
 use Rattle.sfc_action.proofs.Sizes.{sized_stores}
 use Rattle.sfc_action.proofs.Timings.{flag-replicate}

@@ -65,8 +65,8 @@ impl ControlScan {
         })
     }
 
-    // Of the 64 actions of this word what the flip-flops become and which are called; no on-delay has elapsed yet. Whether none of the
-    // actions has a fault; where it answers no, one may have.
+    // Of the 64 actions of this word what the flip-flops become and which are called; no on-delay has elapsed yet. Answers whether none
+    // of them has a fault: where it answers no, one may have.
     fn settle_word(&mut self, stored: &Stores, number: usize) -> bool
         requires sized { IsControlScan (length self.old.called) self.old }
         requires stored { AreStores (length self.old.called) stored.now }
@@ -90,8 +90,8 @@ impl ControlScan {
         inputs.are_faultless(stores)
     }
 
-    // What the flip-flops become and which actions are called; no on-delay has elapsed yet. Whether no action has a fault; where it
-    // answers no, one may have.
+    // What the flip-flops become and which actions are called; no on-delay has elapsed yet. Answers whether no action has a fault: where
+    // it answers no, one may have.
     fn settle(&mut self, stored: &Stores, ticks: &mut Ticks) -> bool
         requires sized { IsControlScan (length self.old.called) self.old }
         requires stored { AreStores (length self.old.called) stored.now }
@@ -113,7 +113,7 @@ impl ControlScan {
     }
 
     /// Reads the input of a scan: the inputs of all blocks, the times, what the flip-flops become, and which actions are called; no
-    /// on-delay has elapsed yet. Whether no action has a fault; where it answers no, one may have.
+    /// on-delay has elapsed yet. Answers whether no action has a fault: where it answers no, one may have.
     pub fn read(
         &mut self,
         stored: &Stores,

@@ -23,9 +23,13 @@ fn fault_of(inputs: &Inputs, stores: &Stores, action: usize) -> Option<ControlFa
 {
     if inputs.has_more_times(action) {
         Some(ControlFault::TwoTimed)
-    } else if inputs.has_timed(TimedQualifier::StoredDelayed, action) && stores.has_stored_limited(action) {
+    } else if inputs.has_timed(TimedQualifier::StoredDelayed, action)
+        && stores.has_stored_limited(action)
+    {
         Some(ControlFault::SdWhileSl)
-    } else if inputs.has_timed(TimedQualifier::StoredLimited, action) && stores.has_stored_delayed(action) {
+    } else if inputs.has_timed(TimedQualifier::StoredLimited, action)
+        && stores.has_stored_delayed(action)
+    {
         Some(ControlFault::SlWhileSd)
     } else {
         None
@@ -54,7 +58,7 @@ fn search(
     None
 }
 
-/// The fault of the first of these associations whose action has one, where it is known of them whether none has one.
+/// The fault of the first of these associations whose action has one. Where `is_faultless`, no action has one.
 pub fn first_fault(
     is_faultless: bool,
     inputs: &Inputs,

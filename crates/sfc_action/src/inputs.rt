@@ -48,6 +48,12 @@ fn clear_words(words: &mut [InputWords], ticks: &mut Ticks)
     ensures clear { All (λ word. (a : ℕ) → inputs_in word a ≡ no_inputs) words.new }
     ensures ticks { Within (length words.old) ticks.old ticks.new }
 {
+    // One word, as up to 64 actions have, without a loop.
+    if words.len() == 1 {
+        ticks.tick();
+        words[0] = InputWords::none();
+        return;
+    }
     for number in 0..words.len() {
         ticks.tick();
         words[number] = InputWords::none();

@@ -51,6 +51,12 @@ pub fn copy(words: &mut [u64], other: &[u64], ticks: &mut Ticks)
     ensures words { words.new ≡ other.now }
     ensures ticks { Within (length words.old) ticks.old ticks.new }
 {
+    // One word, as up to 64 places have, without a loop.
+    if words.len() == 1 {
+        words[0] = other[0];
+        ticks.tick();
+        return;
+    }
     for k in 0..words.len() {
         words[k] = other[k];
         ticks.tick();
@@ -63,6 +69,12 @@ pub fn clear(words: &mut [u64], ticks: &mut Ticks)
     ensures bits { (j : ℕ) → bit words.new j ≡ false }
     ensures ticks { Within (length words.old) ticks.old ticks.new }
 {
+    // One word, as up to 64 places have, without a loop.
+    if words.len() == 1 {
+        words[0] = 0;
+        ticks.tick();
+        return;
+    }
     for k in 0..words.len() {
         words[k] = 0;
         ticks.tick();

@@ -1,9 +1,8 @@
-use Rattle.std.proofs.Common.{◌≡◌, ◌∙◌, ◌<◌, ◌≤◌, ℕ, true, false, arith, sym, ap, subst, inl, inr}
+use Rattle.std.proofs.Common.{◌≡◌, ◌∙◌, ℕ, true, false, arith, sym, ap, subst, inl, inr}
 use Rattle.std.proofs.lemmas.Bool.{cases_lt}
 use Rattle.std.specs.Prelude.{List}
 use Rattle.std.specs.List.{list_any}
 use Rattle.std.proofs.Common.{◌==◌}
-use Rattle.sfc_flags.specs.Flags.{flag}
 use Rattle.sfc_action.specs.Private.Live.{has_place}
 use Rattle.sfc_action.proofs.Live.{between, none_behind}
 use Rattle.sfc_action.proofs.waking.wake.Goals as goal

@@ -1,4 +1,4 @@
-use Rattle.std.proofs.Common.{◌∙◌, List, ap, length, false, sym, subst, arith}
+use Rattle.std.proofs.Common.{◌∙◌, List, ap, length, false, subst, arith}
 use Rattle.std.proofs.lemmas.List.{length-replicate}
 use Rattle.std.specs.Prelude.{slice_index_or}
 use Rattle.sfc_action.specs.declared.blocks.Block.{Block}

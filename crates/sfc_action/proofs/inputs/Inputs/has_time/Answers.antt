@@ -1,4 +1,4 @@
-use Rattle.std.proofs.Common.{arith, ap, refl, ◌∙◌}
+use Rattle.std.proofs.Common.{ap, refl, ◌∙◌}
 use Rattle.sfc_action.specs.Private.Rows.{InputRow}
 use Rattle.sfc_action.proofs.inputs.Inputs.has_time.Goals as goal
 

@@ -1,4 +1,4 @@
-use Rattle.std.proofs.Common.{arith, ap, refl, ◌∙◌}
+use Rattle.std.proofs.Common.{ap, refl, ◌∙◌}
 use Rattle.sfc_action.specs.Private.Rows.{InputRow}
 use Rattle.sfc_action.specs.Private.Marks.{timed_by}
 use Rattle.sfc_action.proofs.SetTables.{timed_flag}

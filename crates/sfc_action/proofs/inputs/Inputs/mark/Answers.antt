@@ -1,4 +1,4 @@
-use Rattle.std.proofs.Common.{◌≡◌, ◌==◌, ◌<◌, ℕ, cond, get_or, length, arith, ap, ◌∙◌}
+use Rattle.std.proofs.Common.{◌≡◌, ◌==◌, ℕ, cond, get_or, arith, ap, ◌∙◌}
 use Rattle.sfc_flags.specs.Words.{word_of}
 use Rattle.sfc_action.specs.declared.input_words.InputWords.{InputWords}
 use Rattle.sfc_action.specs.Private.Rows.{inputs_in}

@@ -1,11 +1,5 @@
-use Rattle.std.proofs.Common.{◌≡◌, ℕ, length, ap, subst, sym, ◌∙◌}
-use Rattle.std.specs.Prelude.{replicate, All}
-use Rattle.std.specs.Int.{div_ceil}
-use Rattle.std.proofs.lemmas.List.{length-replicate, get_or-replicate}
-use Rattle.sfc_action.specs.declared.input_words.InputWords.{InputWords}
-use Rattle.sfc_action.specs.Private.SetTables.{inputs_of, IsInputTable}
-use Rattle.sfc_action.specs.Private.Marking.{cleared}
-use Rattle.sfc_action.specs.Private.Rows.{inputs_in, no_inputs}
+use Rattle.std.proofs.Common.{ap, ◌∙◌}
+use Rattle.std.specs.Prelude.{replicate}
 use Rattle.sfc_action.proofs.SetTables.{inputs_new}
 use Rattle.sfc_action.proofs.inputs.Inputs.new.Goals as goal
 

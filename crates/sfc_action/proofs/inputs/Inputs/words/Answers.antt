@@ -1,4 +1,4 @@
-use Rattle.std.proofs.Common.{length, arith, ap, sym, ◌∙◌}
+use Rattle.std.proofs.Common.{arith, ap, ◌∙◌}
 use Rattle.sfc_action.specs.declared.input_words.InputWords.{InputWords}
 use Rattle.sfc_action.specs.Private.Rows.{inputs_in}
 use Rattle.sfc_action.proofs.SetTables.{inputs_size, inputs_word}

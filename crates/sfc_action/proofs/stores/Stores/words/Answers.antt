@@ -1,4 +1,4 @@
-use Rattle.std.proofs.Common.{length, arith, ap, ◌∙◌}
+use Rattle.std.proofs.Common.{arith, ap, ◌∙◌}
 use Rattle.sfc_action.specs.declared.store_words.StoreWords.{StoreWords}
 use Rattle.sfc_action.specs.Private.Rows.{stores_in}
 use Rattle.sfc_action.proofs.SetTables.{stores_size, stores_word}

@@ -1,6 +1,5 @@
-use Rattle.std.proofs.Common.{◌≡◌, ◌<◌, length, arith, subst, sym}
+use Rattle.std.proofs.Common.{arith, subst}
 use Rattle.sfc_action.specs.Private.TimedSets.{AreAll}
-use Rattle.sfc_action.specs.Private.Rows.{timed_in}
 use Rattle.std.specs.Prelude.{slice_set}
 use Rattle.sfc_action.specs.Private.SetTables.{timed_of}
 use Rattle.sfc_action.proofs.RowTables.{table_put}
