@@ -105,7 +105,6 @@ impl Resource {
     }
 
     // An event that is not refused, where the SINGLE of each task read so before it.
-    #[inline(always)]
     fn accept(&mut self, before: &Singles, event: Event, t: i64, ticks: &mut Ticks) -> Outcome
         requires low { pos 0 ≤ℤ t }
         requires high { t ≤ℤ pos (2 ^ 62) }
@@ -126,25 +125,6 @@ impl Resource {
         outcome(event, bits, &self.tasks, ticks)
     }
 
-    // The answer to an event. It is read into its callers, so that what is known of the event there is not asked here.
-    #[inline(always)]
-    fn apply_event(&mut self, event: Event, t: i64, ticks: &mut Ticks) -> Result<Outcome, Refusal>
-        ensures plant { plant_of self.new ≡ plant_of self.old }
-        ensures answer { (h : History) → Agrees self.old h → result ≡ verdict (plant_of self.old) h event t }
-        ensures ok { OnOk result ((h : History) → Agrees self.old h → Agrees self.new ((event, t) ∷ h)) }
-        ensures err { OnErr result (self.new ≡ self.old) }
-        ensures ticks { Within (event_work (plant_of self.old) event) ticks.old ticks.new }
-    {
-        if let Some(refusal) = self.refuse_named(event, t) {
-            return Err(refusal);
-        }
-        let singles = Singles::read(&self.instances, &self.plant, self.maybe_single, ticks);
-        match refuse_turn(&self.tasks, singles.as_slice(), event, t, ticks) {
-            Some(refusal) => Err(refusal),
-            None => Ok(self.accept(&singles, event, t, ticks)),
-        }
-    }
-
     /// One event at the instant t, in microseconds: what it is refused for, else what it answers. After a refusal the
     /// resource is as it was. It takes no memory.
     ///
@@ -161,9 +141,13 @@ impl Resource {
         ensures err { OnErr result (self.new ≡ self.old) }
         ensures ticks { Within (event_work (plant_of self.old) event) ticks.old ticks.new }
     {
-        match event {
-            Event::Scan(task) => self.apply_event(Event::Scan(task), t, ticks),
-            _ => self.apply_event(event, t, ticks),
+        if let Some(refusal) = self.refuse_named(event, t) {
+            return Err(refusal);
+        }
+        let singles = Singles::read(&self.instances, &self.plant, self.maybe_single, ticks);
+        match refuse_turn(&self.tasks, singles.as_slice(), event, t, ticks) {
+            Some(refusal) => Err(refusal),
+            None => Ok(self.accept(&singles, event, t, ticks)),
         }
     }
 

@@ -59,10 +59,6 @@ pub record Gains (us : List ℤ) (old new : TaskSlot) : Type 0 where
 abbrev pub elapsed_releases : ℤ → ℤ → ℤ → Bool → List ℤ
 elapsed_releases interval last t single = cond single [] (multiples_between interval last t)
 
--- since when a task waits for which these releases waited, and these come
-abbrev pub since_with : List ℤ → List ℤ → Option ℤ
-since_with waited us = first_of (waited ++ us)
-
 abbrev pub rank_at : List TaskSlot → ℕ → ℤ → Rank
 rank_at slots k since = record { priority = (slot_at slots k).priority; since = since; number = k }
 
