@@ -1,7 +1,5 @@
 //! What the SINGLE of tasks reads (2.7.2).
 
-//! What the SINGLE of tasks reads (2.7.2).
-
 ghost use Rattle.sfc_base.specs.declared.limits.TheConstants.{TASKS};
 ghost use Rattle.std.specs.Prelude.{◌≡◌, ◌≤◌, ℕ, false, slice_index_or};
 ghost use Rattle.sfc_core.specs.Private.Alone.{HaveNoSingle};
