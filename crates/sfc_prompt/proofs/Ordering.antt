@@ -79,9 +79,9 @@ when_said : (plant : PlantData) (k : ℕ) (conditional : Conditional) (raw : ℤ
     → unsigned_abs raw ≤ greatest → is_one_line words ≡ true → command_of plant words ≡ None → conditional_of plant words ≡ Some conditional
     → ConditionReads plant k conditional.place.program conditional.text (Some (condition ∷ [])) → k < 2 ^ 16
     → IsSaid plant k (BreakIf conditional.place.program conditional.place.point (record { 0 = k }), raw) (condition ∷ []) words
-when_said plant k conditional raw words condition small one no is reads few =
+when_said plant k conditional raw words condition small one none is reads few =
     let says : said_of plant (line_text raw words) ≡ When conditional raw =
-    timed_says plant raw words small ∙ ap (λ (o : Option Command). said_by o (conditional_of plant words) raw) no
+    timed_says plant raw words small ∙ ap (λ (o : Option Command). said_by o (conditional_of plant words) raw) none
     ∙ ap (λ (o : Option Conditional). said_by None o raw) is in
     let command : TimedCommand = (BreakIf conditional.place.program conditional.place.point (record { 0 = k }), raw) in
     let read : ScriptData = record { commands = command ∷ []; table = condition ∷ [] } in

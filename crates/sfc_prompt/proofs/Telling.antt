@@ -100,8 +100,7 @@ goes_then st b d h lines script first second one two =
     }
 
 -- with these conditions behind all others, where it was accepted
-joined_by : Verdict → Steered → List BreakCondition → Steered
-unfolding joined_by
+abbrev joined_by : Verdict → Steered → List BreakCondition → Steered
 joined_by (Ok answer) st conditions = record { plant = st.plant; table = st.table ++ conditions }
 joined_by (Err refusal) st conditions = st
 

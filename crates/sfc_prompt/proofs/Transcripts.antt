@@ -1,5 +1,5 @@
 -- What a session has written since its opening.
-use Rattle.std.proofs.Common.{◌≡◌, ◌∙◌, refl, sym, ap, subst, ℕ, suc, ◌+◌, ◌≤◌, nat_lt, arith, Bool, true, false, List, [], ◌∷◌, ◌++◌, length, append_assoc, Some, Ok, Err, ℤ, codes}
+use Rattle.std.proofs.Common.{◌≡◌, ◌∙◌, refl, sym, ap, subst, ℕ, suc, ◌+◌, ◌≤◌, nat_lt, arith, Bool, true, false, List, [], ◌∷◌, ◌++◌, length, append_assoc, Some, Result, Ok, Err, ℤ, codes}
 use Rattle.std.specs.Prelude.{MatchBool, reverse}
 use Rattle.std.proofs.lemmas.Bool.Decides.{nat_tests}
 use Rattle.std.proofs.lemmas.List.{append-nil, reverse-append, reverse-reverse}
@@ -69,13 +69,14 @@ script_read : (plant : PlantData) (pieces : List Piece) → AreSaid plant 0 piec
     → ScriptReads plant (saved pieces) (Ok (script_of pieces))
 script_read plant pieces says short =
     let fits : nat_lt 1048576 (length (saved pieces)) ≡ false = grind (arith, nat_tests) in
-    subst (λ (b : Bool). MatchBool b (Ok (script_of pieces) ≡ Err 0) (LinesRead plant 1 0 (lines_of (saved pieces)) (Ok (script_of pieces))))
+    subst (λ (b : Bool). MatchBool b (◌≡◌ {A = Result ScriptData ℕ} (Ok (script_of pieces)) (Err 0)) (LinesRead plant 1 0 (lines_of (saved pieces)) (Ok (script_of pieces))))
     (sym fits) (lines_read plant 1 0 pieces says)
 
 -- ---- a replay of it
 
 pub replays : (chart : List ℕ) (plant : PlantData) (session : Session) (text : List ℕ) → IsAccepted chart plant
     → HasGoneOn (opened_on plant) [] [] [] text session → length (script_in session) ≤ 1048576 → IsReplayed chart session text
+unfolding transcribed
 replays chart plant session text loaded gone short =
     let st : Steered = steered_in session in
     let t = transcribed (opened_on plant) session text gone in

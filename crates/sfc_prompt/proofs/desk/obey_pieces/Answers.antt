@@ -1,6 +1,6 @@
 use Rattle.std.proofs.lemmas.Result.{err_from_is_err_and}
 use Rattle.sfc_prompt.specs.Prompts.{session_in}
-use Rattle.sfc_prompt.proofs.Writing.{breaks_behind, breaks_then, tells_then, told_then}
+use Rattle.sfc_prompt.proofs.Writing.{breaks_behind, breaks_then, tells_then, told_nothing, told_then}
 use Rattle.sfc_prompt.proofs.desk.obey_pieces.Goals as goal
 
 pub returns-in_err-invite : goal.returns-in_err-invite
@@ -63,3 +63,9 @@ returns g c =
     tells_then (session_in c.args.held.now.prompt) (session_in c.pieces.held.prompt) (session_in c.take_last-2.new.self.prompt)
     (g.W.Write.contents c.args.held.now.w) (g.W.Write.contents c.pieces.held.w) (g.W.Write.contents c.take_last-2.new.self.w)
     c.pieces.invariant.tells c.take_last-2.result c.take_last-2.ensures.tells
+
+pub pieces-init : goal.pieces-init
+pieces-init g c = record {
+  empty = c.requires;
+  tells = told_nothing (session_in c.args.held.now.prompt) (g.W.Write.contents c.args.held.now.w);
+}

@@ -1,7 +1,7 @@
 use Rattle.std.proofs.Common.{arith, ◌<◌, ◌≤◌, length}
 use Rattle.std.proofs.lemmas.Result.{err_from_is_err_and}
 use Rattle.sfc_prompt.specs.Prompts.{session_in}
-use Rattle.sfc_prompt.proofs.Writing.{breaks_then, told_then}
+use Rattle.sfc_prompt.proofs.Writing.{breaks_then, told_nothing, told_then}
 use Rattle.sfc_prompt.proofs.desk.Held.take_lines.Goals as goal
 
 pub returns-in_err-take-clause-tells : goal.returns-in_err-take-clause-tells
@@ -28,3 +28,10 @@ lines-preserved g c =
           (g.W.Write.contents c.args.self.now.w) (g.W.Write.contents c.lines.self.w) (g.W.Write.contents c.take.new.self.w)
           c.lines.invariant.tells c.in_ok-take.ensures.tells;
     }
+
+pub lines-init : goal.lines-init
+lines-init g c = record {
+  left = omega arith;
+  empty = c.requires;
+  tells = told_nothing (session_in c.args.self.now.prompt) (g.W.Write.contents c.args.self.now.w);
+}

@@ -7,7 +7,7 @@ use Rattle.sfc_prompt.specs.Courses.{is_met_after}
 use Rattle.sfc_prompt.specs.Orders.{Takes, TakesFirst}
 use Rattle.sfc_prompt.specs.Prompts.{course_in, session_in}
 use Rattle.sfc_session.specs.Sessions.{steered_in}
-use Rattle.sfc_prompt.proofs.Telling.{puts_text}
+use Rattle.sfc_prompt.proofs.Telling.{puts_nothing, puts_text}
 use Rattle.sfc_prompt.proofs.prompt.Prompt.go_on.Goals as goal
 
 pub returns-then-is_over-clause-puts : goal.returns-then-is_over-clause-puts
@@ -46,3 +46,7 @@ returns-clause-first c h lines course said is left met =
     let same : c.in-Some.course ≡ course = cc in
     subst (λ (s : Step). TakesFirst old new c.args.out.now.items c.take_step.new.out.items h lines s) (ap (λ (k : Course). k.step) same)
     (c.in_ok-take_step.ensures.first h lines said)
+
+pub returns-in_default-clause-puts : goal.returns-in_default-clause-puts
+unfolding session_in
+returns-in_default-clause-puts c = puts_nothing c.args.self.now.session c.args.out.now.items
