@@ -1,5 +1,5 @@
 -- What is known of a command that was accepted: its instant, and what it names.
-use Rattle.std.proofs.Common.{◌≡◌, refl, subst, Bool, true, false, ◌||◌, ℤ, pos, ◌≤ℤ◌, ◌<ℤ◌, ◌+ℤ◌, ◌-ℤ◌, int_lt, ◌^◌, ◌<◌, ◌≤◌, nat_lt, arith, List, [], ◌∷◌, length, Option, Some, None, Result, Ok, Err, rules}
+use Rattle.std.proofs.Common.{◌≡◌, refl, subst, Bool, true, false, ◌||◌, ℤ, pos, ◌≤ℤ◌, ◌+ℤ◌, int_lt, ◌^◌, ◌<◌, ◌≤◌, nat_lt, arith, List, [], ◌∷◌, length, Option, Some, None, Result, Ok, Err, rules}
 use Rattle.std.specs.Prelude.{IsOk, unsigned_abs}
 use Rattle.std.proofs.lemmas.Bool.Decides.{nat_tests}
 use Rattle.std.proofs.lemmas.Int.{ints}
@@ -17,7 +17,7 @@ use Rattle.sfc_events.specs.declared.event.Outcome.{Outcome}
 use Rattle.sfc_events.specs.Commands.{event_of}
 use Rattle.sfc_events.specs.History.{History, last_instant}
 use Rattle.sfc_events.specs.declared.refusal.Refusal.{Refusal}
-use Rattle.sfc_events.specs.declared.refusal.Refusal.TheVariants.{ClockBack, InstantRange, NoSuchPoint, UnknownProgram, UnknownTask}
+use Rattle.sfc_events.specs.declared.refusal.Refusal.TheVariants.{ClockBack, InstantRange, UnknownProgram, UnknownTask}
 use Rattle.sfc_core.specs.PlantState as core_state
 use Rattle.sfc_core.specs.Verdict as core
 use Rattle.sfc_core.specs.Verdict.{event_refusal, first_refusal, instant_refusal, is_out_of_range, or_then, program_refusal, refused_if}
@@ -27,11 +27,10 @@ use Rattle.sfc_debug.specs.declared.mode.Mode.TheVariants as modes
 use Rattle.sfc_debug.specs.declared.run_clock.RunClock.{RunClock}
 use Rattle.sfc_debug.specs.Histories.{CommandHistory, TimedCommand}
 use Rattle.sfc_debug.specs.Meaning.{IsAccepted}
-use Rattle.sfc_debug.specs.Points.{has_point}
 use Rattle.sfc_debug.specs.Private.Ranges.{IsInRange}
 use Rattle.sfc_debug.specs.RunClock.{delta_of, run_instant, running_time}
 use Rattle.sfc_debug.specs.States.{state_of}
-use Rattle.sfc_debug.specs.Verdict.{verdict, verdict_at, answer_by, clock_refusal, condition_refusal, end_refusal, mode_refusal, own_refusal, point_refusal, range_refusal, room_refusal, run_refusal}
+use Rattle.sfc_debug.specs.Verdict.{verdict, verdict_at, answer_by, clock_refusal, end_refusal, mode_refusal, own_refusal, point_refusal}
 use Rattle.sfc_debug.proofs.Accepting.{by_itself, in_time, neither, not_refused, own_granted}
 
 not_so : (b : Bool) (refusal : Refusal) → refused_if b refusal ≡ None → b ≡ false

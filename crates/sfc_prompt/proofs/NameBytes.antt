@@ -1,14 +1,13 @@
 -- The bytes of names, which are words.
-use Rattle.std.proofs.Common.{◌≡◌, ◌∙◌, refl, sym, ap, subst, ℕ, ◌==◌, Bool, true, false, ◌&&◌, ◌||◌, List, [], ◌∷◌}
+use Rattle.std.proofs.Common.{◌≡◌, ◌∙◌, refl, sym, ap, ℕ, ◌==◌, Bool, true, false, ◌&&◌, ◌||◌, List, [], ◌∷◌}
 use Rattle.std.specs.List.{list_all}
-use Rattle.std.specs.Prelude.{IsTrue, is_none}
+use Rattle.std.specs.Prelude.{is_none}
 use Rattle.std.proofs.lemmas.Bool.{eqb-true}
 use Rattle.sfc_base.specs.declared.run.Alphabet.TheVariants as alphabet
 use Rattle.sfc_base.specs.Classes.{class_of, first_class}
 use Rattle.sfc_base.specs.Names.{IsName, is_spaced, is_word, starts_word}
 use Rattle.sfc_base.specs.Runs.{has}
 use Rattle.sfc_base.specs.Words.{keyword_of}
-use Rattle.sfc_script.specs.Lines.{is_blank}
 use Rattle.sfc_script.proofs.PlainInstants.{IsPlain, ArePlain}
 
 -- bytes that part neither lines nor words and begin no comment, one at least

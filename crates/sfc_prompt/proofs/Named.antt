@@ -1,5 +1,5 @@
 -- The tasks of a plant that a text loads as are found by their names.
-use Rattle.std.proofs.Common.{◌≡◌, ◌∙◌, refl, sym, ap, subst, ℕ, zero, suc, ◌<◌, ◌≤◌, nat_lt, arith, cond, Bool, true, false, ◌||◌, All, List, [], ◌∷◌, ◌++◌, length, map, get_or, Option, Some, None, Ok}
+use Rattle.std.proofs.Common.{◌≡◌, ◌∙◌, refl, sym, ap, subst, ℕ, zero, suc, ◌<◌, nat_lt, arith, cond, Bool, true, false, ◌||◌, All, List, [], ◌∷◌, ◌++◌, length, map, get_or, Some, None, Ok}
 use Rattle.std.specs.List.{list_any}
 use Rattle.std.specs.Option.{option_map}
 use Rattle.std.proofs.lemmas.Bool.Decides.{nat_tests}
@@ -14,7 +14,6 @@ use Rattle.sfc_base.specs.NameLists.{has, place_of}
 use Rattle.sfc_base.specs.Names.{IsName}
 use Rattle.sfc_base.proofs.SameWords.{same_word_equiv}
 use Rattle.sfc_tokens.specs.Spelling.{CanStand}
-use Rattle.sfc_tokens.specs.Tokens.{Kinds}
 use Rattle.sfc_tokens.proofs.Standing.{tokens_stand}
 use Rattle.sfc_text.specs.declared.tree.Task as text_task
 use Rattle.sfc_text.specs.Limits.{ours}
@@ -24,7 +23,7 @@ use Rattle.sfc_text.specs.Trees.{SourceTree}
 use Rattle.sfc_text.proofs.Declaring.{declares}
 use Rattle.sfc_text.proofs.Keeping.{keeps}
 use Rattle.sfc_variables.specs.declared.load_error.LoadError.TheVariants as fault
-use Rattle.sfc_variables.specs.Checks.{Check, ◌then◌, in_turn, when}
+use Rattle.sfc_variables.specs.Checks.{Check, in_turn, when}
 use Rattle.sfc_variables.specs.Declarations.{globals_check, globals_of}
 use Rattle.sfc_program.proofs.Soundness.{then_first, then_second, when_none}
 use Rattle.sfc_plant.specs.declared.task.Task.{Task}
@@ -35,7 +34,7 @@ use Rattle.sfc_load.specs.Built.{plant_of, source_check, task_of}
 use Rattle.sfc_load.specs.Loading.{task_check, task_name, tasks_check}
 use Rattle.sfc_list.specs.SpelledPlants.{CanSpellPlant, CanSpellTask}
 use Rattle.sfc_list.proofs.SpellablePlants.{plant_spelled}
-use Rattle.sfc_prompt.specs.Pieces.{AreNamed, IsNamed}
+use Rattle.sfc_prompt.specs.Pieces.{AreNamed}
 
 -- ---- names of which no two are one
 

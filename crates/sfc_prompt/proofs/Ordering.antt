@@ -1,10 +1,8 @@
 -- What the line of a script says that a session writes for an order.
-use Rattle.std.proofs.Common.{◌≡◌, ◌∙◌, refl, sym, ap, subst, ℕ, zero, suc, ◌<◌, ◌≤◌, ◌^◌, ◌==◌, nat_lt, cond, arith, Bool, true, false, List, [], ◌∷◌, ◌++◌, append_assoc, length, codes, ℤ, Option, Some, None, Result, Ok, Err, rules}
-use Rattle.std.specs.List.{AllByRecursion, list_all}
+use Rattle.std.proofs.Common.{◌≡◌, ◌∙◌, refl, sym, ap, subst, ℕ, zero, suc, ◌<◌, ◌≤◌, ◌^◌, nat_lt, cond, arith, Bool, true, false, List, [], ◌∷◌, ◌++◌, append_assoc, length, codes, ℤ, Option, Some, None, Ok, Err, rules}
 use Rattle.std.specs.Option.{option_and_then, option_map}
-use Rattle.std.specs.Prelude.{IsOk, IsTrue, if◌then◌else◌, is_none, slice_get, unsigned_abs, unwrap_or, ⊤}
+use Rattle.std.specs.Prelude.{IsOk, if◌then◌else◌, is_none, slice_get, unsigned_abs, unwrap_or, ⊤}
 use Rattle.std.proofs.lemmas.Bool.Decides.{nat_tests}
-use Rattle.std.proofs.lemmas.Option.{slice_get_within}
 use Rattle.sfc_base.specs.Case.{same_word}
 use Rattle.sfc_base.specs.Durations.{greatest}
 use Rattle.sfc_base.specs.TimeText.{time_text}
@@ -33,20 +31,20 @@ use Rattle.sfc_debug.specs.Histories.{CommandHistory, TimedCommand}
 use Rattle.sfc_debug.specs.Meaning.{IsAccepted}
 use Rattle.sfc_output.specs.Names.{task_name}
 use Rattle.sfc_output.specs.Steered.{Steered}
-use Rattle.sfc_conditions.specs.Conditions.{condition_by, condition_in, condition_of}
+use Rattle.sfc_conditions.specs.Conditions.{condition_by, condition_in}
 use Rattle.sfc_script.specs.Commands.{Conditional, Said as ScriptSaid, Plain, When, command_of, conditional_of, said_by, said_of, scan_of, single_of}
 use Rattle.sfc_script.specs.Lines.{first_word, is_blank, is_one_line, only_word, split_before, two_words}
 use Rattle.sfc_script.specs.Names.{task_of}
 use Rattle.sfc_script.specs.Scripts.{ConditionReads, LineReads, ScriptData, added_by, added_of, in_table}
 use Rattle.sfc_script.proofs.PlainInstants.{ArePlain}
-use Rattle.sfc_script.proofs.PlainTimes.{behind_letter, letter_first, time_plain}
+use Rattle.sfc_script.proofs.PlainTimes.{letter_first, time_plain}
 use Rattle.sfc_script.proofs.Splits.{split_more, split_stop}
 use Rattle.sfc_script.proofs.TimedLines.{timed_says}
 use Rattle.sfc_monitor.specs.Output.{Verdict, debugger_of}
 use Rattle.sfc_session.specs.declared.step.Step.{Step}
 use Rattle.sfc_session.specs.declared.step.Step.TheVariants as steps
 use Rattle.sfc_prompt.specs.Lines.{Said, Nothing, Remark, Says, Asks}
-use Rattle.sfc_prompt.specs.Orders.{Order, Gives, Waits, Shows, command_order, free_scan, is_scan_alone, order_by, order_of, takes, text_order}
+use Rattle.sfc_prompt.specs.Orders.{Order, Gives, Waits, Shows, command_order, free_scan, is_scan_alone, order_by, order_of, takes}
 use Rattle.sfc_prompt.specs.Pieces.{AreNamed, IsNamed, IsSaid, line_text}
 use Rattle.sfc_session.specs.Scanning.{first_scan_after, scan_after, step_after}
 use Rattle.sfc_session.specs.Sessions.{last_instant, waiting, waiting_verdict, with_one_more, words_of}

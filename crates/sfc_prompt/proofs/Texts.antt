@@ -9,7 +9,7 @@ use Rattle.sfc_script.specs.Commands.{begins_comment}
 use Rattle.sfc_script.specs.Lines.{first_word, is_blank, is_one_line, split_before}
 use Rattle.sfc_script.proofs.PlainInstants.{ArePlain}
 use Rattle.sfc_prompt.specs.declared.line.Word.{Word}
-use Rattle.sfc_prompt.specs.Lines.{Said, Nothing, Remark, Says, Asks, line_said, own_word, said_behind, said_by, text_said}
+use Rattle.sfc_prompt.specs.Lines.{Said, Nothing, Remark, Says, Asks, line_said, own_word, said_behind, said_by}
 use Rattle.sfc_prompt.specs.Words.{before_lf, from_end, from_word, is_ending, trimmed}
 
 abbrev pub NoLf : List ℕ → Type 0

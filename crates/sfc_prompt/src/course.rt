@@ -12,8 +12,6 @@ ghost use Rattle.sfc_session.specs.declared.step.Step.TheVariants.{First};
 ghost use Rattle.sfc_session.specs.Sessions.{HasSaid, steered_in};
 
 use crate::expression::{Fault, Found, UNKNOWN_PROGRAM, read_condition};
-use sfc_session::session::Session;
-use sfc_session::step::Step;
 use crate::words::{first_word, from_word, only_word};
 use sfc_base::case::is_same_word;
 use sfc_base::ids::ProgId;
@@ -26,6 +24,8 @@ use sfc_instance::program_view::ProgramView;
 use sfc_output::append::{append, append_number};
 use sfc_plant::plant::Plant;
 use sfc_script::number::magnitude;
+use sfc_session::session::Session;
+use sfc_session::step::Step;
 use std::alloc::{AllocError, Global};
 
 /// The most steps that one line takes.

@@ -8,13 +8,13 @@ ghost use Rattle.sfc_prompt.specs.Prompts.{session_in};
 use crate::archive::Archive;
 use crate::course::MOST;
 use crate::prompt::{Flow, Prompt};
-use sfc_session::session::Session;
 use sfc_base::write_fault::put_all;
 use sfc_monitor::chart::plant_of_text;
 use sfc_monitor::input::read_to_end;
 use sfc_monitor::monitor_error::MonitorError;
 use sfc_output::append::append;
 use sfc_script::arriving::ended_line;
+use sfc_session::session::Session;
 use std::alloc::Global;
 use std::io::{Read, Write};
 

@@ -8,12 +8,12 @@ use crate::archive::Archive;
 use crate::course::{Course, Wanted, again_count, read_wanted};
 use crate::expression::append_fault;
 use crate::line::{Line, Word, read_line};
-use sfc_session::session::Session;
 use crate::showing::shown;
 use crate::spoken::{Spoken, say};
-use sfc_session::step::{Step, ends_steps, take};
 use sfc_asking::note::{append_named, append_note};
 use sfc_output::append::append;
+use sfc_session::session::Session;
+use sfc_session::step::{Step, ends_steps, take};
 use std::alloc::{AllocError, Global};
 
 /// Whether more lines are obeyed.

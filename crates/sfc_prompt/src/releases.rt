@@ -4,12 +4,12 @@ ghost use Rattle.std.specs.Prelude.{List, ℕ};
 ghost use Rattle.sfc_debug.specs.Histories.{CommandHistory};
 ghost use Rattle.sfc_session.specs.Sessions.{HasSaid, Stays};
 
-use sfc_session::session::Session;
 use sfc_asking::release::Release;
 use sfc_base::ids::TaskId;
 use sfc_debug::mode::Mode;
 use sfc_events::command::{Answer, Command};
 use sfc_events::refusal::Refusal;
+use sfc_session::session::Session;
 use std::alloc::{AllocError, Global};
 
 // What a scan of the task would be answered tells.

@@ -6,7 +6,6 @@ ghost use Rattle.sfc_session.specs.Sessions.{HasSaid, Stays};
 
 use crate::line::Word;
 use crate::releases::releases;
-use sfc_session::session::Session;
 use crate::words::{first_word, is_empty, number, only_word};
 use sfc_asking::explaining::append_explanation;
 use sfc_asking::help::append_help;
@@ -17,6 +16,7 @@ use sfc_asking::points::append_points;
 use sfc_asking::show::append_show;
 use sfc_asking::trace::append_trace;
 use sfc_asking::why::append_why;
+use sfc_session::session::Session;
 use std::alloc::{AllocError, Global};
 
 /// How many commands TRACE shows where no number is given.

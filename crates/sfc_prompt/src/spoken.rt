@@ -8,14 +8,14 @@ ghost use Rattle.sfc_session.specs.Sessions.{HasSaid, last_instant, steered_in};
 ghost use Rattle.sfc_script.specs.Private.Reading.{as_conditional};
 
 use crate::expression::{Found, append_fault, read_condition};
-use sfc_session::scanning::{scan, scan_first};
-use sfc_session::session::Session;
-use sfc_session::step::{Step, step_of};
 use crate::words::is_word;
 use sfc_asking::note::append_note;
 use sfc_base::ids::TaskId;
 use sfc_events::command::{Command, CondId};
 use sfc_script::command::{Conditional, read_command, read_conditional};
+use sfc_session::scanning::{scan, scan_first};
+use sfc_session::session::Session;
+use sfc_session::step::{Step, step_of};
 use std::alloc::{AllocError, Global};
 
 /// A text that should be a command of a script, and the instant in front of it, in microseconds, if there is one.
