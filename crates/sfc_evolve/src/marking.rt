@@ -1,16 +1,5 @@
 //! The steps before and after the transitions that a scan clears.
 
-use sfc_flags::flags::Flags;
-use sfc_tables::tables::Tables;
-
-/// The transitions of a chart that a scan clears, and the scan's instant.
-#[derive(Clone, Copy)]
-pub struct Cleared<'a> {
-    pub tables: &'a Tables,
-    pub flags: &'a Flags,
-    pub t: i64,
-}
-
 ghost use Rattle.std.specs.Prelude.{◌≡◌, ◌≤ℤ◌, ◌^◌, pos, length};
 ghost use Rattle.sfc_base.specs.Ticks.{Within};
 ghost use Rattle.sfc_flags.specs.Flags.{places_from};
@@ -23,6 +12,16 @@ use crate::marks::{mark, unmark};
 use crate::times::leave;
 use sfc_base::ids::TransitionId;
 use sfc_base::ticks::Ticks;
+use sfc_flags::flags::Flags;
+use sfc_tables::tables::Tables;
+
+/// The transitions of a chart that a scan clears, and the scan's instant.
+#[derive(Clone, Copy)]
+pub struct Cleared<'a> {
+    pub tables: &'a Tables,
+    pub flags: &'a Flags,
+    pub t: i64,
+}
 
 /// The steps before the cleared transitions are left: they keep their times, as they are at the scan's instant, and their
 /// flags are cleared. Those after them are marked.
