@@ -10,6 +10,7 @@ pub mod Moments
 pub mod Next
 pub mod Pasts
 pub mod Rows
+pub mod Resting
 pub mod RowTables
 pub mod SetTables
 pub mod Numbers

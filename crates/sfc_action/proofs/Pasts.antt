@@ -115,7 +115,7 @@ none_found is (block ∷ blocks) e = elim (bool_cases (is block)) [
   | inr other ↦ (let rest : list_any is blocks ≡ false = rw other at e in rw other (none_found is blocks rest))
 ]
 
-delay_kept : (tables : Tabled) (h : List Scan) (a : ℕ) (p : TimedQualifier) (blocks : List Block) → All (BlockAgrees tables h) blocks
+pub delay_kept : (tables : Tabled) (h : List Scan) (a : ℕ) (p : TimedQualifier) (blocks : List Block) → All (BlockAgrees tables h) blocks
     → All (IsCovered blocks) tables.associations → delay_in (find (is_of a p) blocks) ≡ delay_past tables a p h
 delay_kept tables h a p blocks agree covered = elim (bool_cases (list_any (is_of a p) blocks)) [
   | inl there ↦ found_delay tables h a p blocks agree there

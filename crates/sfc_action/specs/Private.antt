@@ -17,3 +17,4 @@ pub mod Live
 pub mod Calling
 pub mod Keeping
 pub mod Listing
+pub mod Resting

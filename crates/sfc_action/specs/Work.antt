@@ -2,9 +2,13 @@
 use Rattle.std.specs.Prelude.{ℕ, ◌+◌, ◌*◌, length}
 use Rattle.sfc_tables.specs.Tables.{Tabled}
 
--- of action control in a scan
+-- of action control in a scan that reads its inputs
+abbrev pub step_work : Tabled → ℕ
+step_work tables = length tables.initial + 4 * length tables.associations + 4 * length tables.actions
+
+-- of action control in a scan, which may ask first whether it is at rest
 abbrev pub control_work : Tabled → ℕ
-control_work tables = length tables.initial + 4 * length tables.associations + 5 * length tables.actions
+control_work tables = step_work tables + length tables.actions
 
 -- of a copy
 abbrev pub copy_work : Tabled → ℕ

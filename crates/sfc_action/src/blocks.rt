@@ -1,6 +1,6 @@
 //! On-delays of actions.
 
-ghost use Rattle.std.specs.Prelude.{◌≡◌, ◌<◌, ◌*◌, ◌||◌, ◌^◌, ◌≤ℤ◌, pos, cond, length, slice_set, is_some};
+ghost use Rattle.std.specs.Prelude.{◌≡◌, ◌<◌, ◌*◌, ◌||◌, ◌^◌, ◌≤ℤ◌, pos, true, cond, length, slice_set, is_some, All};
 ghost use Rattle.sfc_base.specs.Ticks.{Within};
 ghost use Rattle.sfc_flags.specs.Flags.{flag};
 ghost use Rattle.sfc_timers.specs.Past.{on_delay_in};
@@ -8,7 +8,7 @@ ghost use Rattle.sfc_action.specs.Private.TimedSets.{AreAll, with_action};
 ghost use Rattle.sfc_action.specs.Private.Marking.{AreSized};
 ghost use Rattle.sfc_action.specs.Private.Storing.{AreStores};
 ghost use Rattle.sfc_action.specs.Private.Delays.{input_of, preset_of, IsStepped, AreStepped, gathered, AreOf};
-ghost use Rattle.sfc_action.specs.Private.Live.{AreIdle};
+ghost use Rattle.sfc_action.specs.Private.Live.{AreIdle, IsIdle, IsPlain, is_stored};
 ghost use Rattle.sfc_action.specs.Private.Calling.{AreAwake};
 
 use crate::inputs::Inputs;
@@ -36,6 +36,28 @@ pub struct DelayCall<'a> {
     pub stores: &'a Stores,
     pub presets: &'a [i64],
     pub t: i64,
+}
+
+// Whether it is SD or SL.
+fn is_stored(qualifier: TimedQualifier) -> bool
+    ensures { result ≡ is_stored qualifier }
+{
+    match qualifier {
+        TimedQualifier::StoredDelayed | TimedQualifier::StoredLimited => true,
+        TimedQualifier::Limited | TimedQualifier::Delayed | TimedQualifier::DelayedStored => false,
+    }
+}
+
+/// Whether none of these is by SD or SL.
+pub fn are_plain(blocks: &[Block]) -> bool
+    ensures { result ≡ true → All IsPlain blocks.now }
+{
+    for block in blocks {
+        if is_stored(block.qualifier) {
+            return false;
+        }
+    }
+    true
 }
 
 // Whether the on-delay of the action by this qualifier has its input: that of the block, or what it stores.
@@ -85,29 +107,34 @@ fn step_block(block: &mut Block, call: DelayCall<'_>, ticks: &mut Ticks)
 }
 
 // The on-delay of this place is live if it runs or has elapsed; and where it has, its action is added to the set of its qualifier.
-fn note(live: &mut Flags, elapsed: &mut Timed, place: usize, block: &Block)
+// Answers whether it is live.
+fn note(live: &mut Flags, elapsed: &mut Timed, place: usize, block: &Block) -> bool
     requires place { place < length live.old }
     requires sized { AreAll (length elapsed.old.limited) elapsed.old }
     requires action { block.now.action.0 < length elapsed.old.limited }
+    ensures value { result ≡ (is_some (on_delay_in block.now.delay) || block.now.elapsed) }
     ensures live { live.new ≡ slice_set live.old place (is_some (on_delay_in block.now.delay) || block.now.elapsed) }
     ensures elapsed { elapsed.new
         ≡ cond block.now.elapsed (with_action block.now.qualifier block.now.action.0 elapsed.old) elapsed.old }
 {
-    live.set(place, block.delay.is_running() || block.elapsed);
+    let is_live = block.delay.is_running() || block.elapsed;
+    live.set(place, is_live);
     if block.elapsed {
         elapsed.add(block.qualifier, block.action.0);
     }
+    is_live
 }
 
 /// One scan of the live on-delays, which are those that have their input and those that aren't idle; the others stay as they are.
-/// The actions of those that have elapsed are added to the sets of their qualifiers.
+/// The actions of those that have elapsed are added to the sets of their qualifiers. Answers whether all are idle: where it answers no,
+/// they may be so all the same.
 pub fn step_live(
     blocks: &mut [Block],
     live: &mut Flags,
     elapsed: &mut Timed,
     call: DelayCall<'_>,
     ticks: &mut Ticks,
-)
+) -> bool
     requires inputs { AreSized (length call.presets.now) call.inputs.now }
     requires stores { AreStores (length call.presets.now) call.stores.now }
     requires elapsed { AreAll (length call.presets.now) elapsed.old }
@@ -122,12 +149,15 @@ pub fn step_live(
     ensures idle { AreIdle blocks.new live.new }
     ensures sized { AreAll (length call.entry.presets.now) elapsed.new }
     ensures sets { elapsed.new ≡ gathered blocks.new elapsed.old }
+    ensures all_idle { result ≡ true → All IsIdle blocks.new }
     ensures ticks { Within (2 * length blocks.old) ticks.old ticks.new }
 {
+    let mut are_idle = true;
     let mut at = 0;
     'live: while let Some(place) = live.next_set(at, ticks) {
         step_block(&mut blocks[place], call, ticks);
-        note(live, elapsed, place, &blocks[place]);
+        are_idle &= !note(live, elapsed, place, &blocks[place]);
         at = place + 1;
     }
+    are_idle
 }

@@ -40,8 +40,9 @@ impl Drop for ControlState {
 }
 
 impl ControlState {
-    ghost use Rattle.std.specs.Prelude.{◌≡◌, ◌<◌, ◌≤◌, ◌+◌, ◌*◌, ◌^◌, ◌≤ℤ◌, ℕ, pos, length, map, All, IfOk};
+    ghost use Rattle.std.specs.Prelude.{◌≡◌, ◌<◌, ◌≤◌, ◌+◌, ◌*◌, ◌^◌, ◌≤ℤ◌, ◌&&◌, ℕ, pos, true, false, length, map, All, IfOk};
     ghost use Rattle.sfc_base.specs.Ticks.{Within};
+    ghost use Rattle.sfc_flags.specs.Flags.{flag};
     ghost use Rattle.sfc_flags.specs.Words.{word_count, word_of, ArePut};
     ghost use Rattle.sfc_action.specs.Private.ControlScans.{IsControlScan};
     ghost use Rattle.sfc_action.specs.Private.TimedSets.{none};
@@ -49,6 +50,7 @@ impl ControlState {
     ghost use Rattle.sfc_action.specs.Private.Listing.{IsNew};
     ghost use Rattle.sfc_action.specs.Private.Calling.{AreCalled};
     ghost use Rattle.sfc_action.specs.Private.Keeping.{IsStateSized, IsFresh, IsActed, IsCopy, delay_of};
+    ghost use Rattle.sfc_action.specs.Private.Resting.{IsAtRest, rested};
     ghost use Rattle.sfc_action.specs.Private.Rows.{state_in, state_row, nothing, state_row_after};
 
     /// Before the first scan of a life, with these on-delays. The one error is that memory was refused.
@@ -150,6 +152,41 @@ impl ControlState {
     {
         self.blocks.step(control_scan, t, ticks);
         self.act_all(control_scan, ticks);
+    }
+
+    // Whether no action with an input P has Q: a pulse gives Q for one scan.
+    fn are_pulses_over(&self, ticks: &mut Ticks) -> bool
+        requires sized { IsStateSized (length self.now.q) self.now }
+        ensures over { result ≡ true → (a : ℕ) → (flag self.now.pulse a && flag self.now.q a) ≡ false }
+        ensures ticks { Within (length self.now.q) ticks.old ticks.new }
+    {
+        for number in 0..self.q.words() {
+            ticks.tick();
+            let pulses = self.pulse.word(number).and(self.q.word(number));
+            if !pulses.is_none() {
+                return false;
+            }
+        }
+        true
+    }
+
+    /// Whether a scan with the active steps of the one before changes only which actions are executed: where it answers no, that may
+    /// be so all the same.
+    pub fn is_at_rest(&self, ticks: &mut Ticks) -> bool
+        requires sized { IsStateSized (length self.now.q) self.now }
+        ensures rest { result ≡ true → IsAtRest self.now }
+        ensures ticks { Within (length self.now.q) ticks.old ticks.new }
+    {
+        self.blocks.are_resting() && self.are_pulses_over(ticks)
+    }
+
+    /// What such a scan makes of all: the actions with Q are executed.
+    pub fn rest(&mut self, ticks: &mut Ticks)
+        requires sized { IsStateSized (length self.old.q) self.old }
+        ensures rested { self.new ≡ rested self.old }
+        ensures ticks { Within (length self.old.q) ticks.old ticks.new }
+    {
+        self.executed.copy_from(&self.q, ticks);
     }
 
     // Takes over the flags of the other.

@@ -32,7 +32,7 @@ impl Model for Controls {
     ghost invariant = { λ controls. AreOfOneSize controls.state controls.control_scan };
 }
 
-ghost use Rattle.std.specs.Prelude.{◌≡◌, ◌<◌, ◌+◌, ◌*◌, ◌^◌, ◌≤ℤ◌, ◌∷◌, [], ℕ, List, pos, length, map, IfOk, OnOk, OnErr};
+ghost use Rattle.std.specs.Prelude.{◌≡◌, ◌<◌, ◌+◌, ◌*◌, ◌^◌, ◌≤ℤ◌, ◌∷◌, [], ℕ, List, pos, true, false, length, map, None, IfOk, OnOk, OnErr};
 ghost use Rattle.std.specs.List.{range_with_len};
 ghost use Rattle.std.specs.Result.{result_err};
 ghost use Rattle.sfc_base.specs.Ticks.{Within};
@@ -41,7 +41,7 @@ ghost use Rattle.sfc_tables.specs.Tables.{Tabled};
 ghost use Rattle.sfc_evolve.specs.Evolution as evolution;
 ghost use Rattle.sfc_evolve.specs.Agreement.{StepsAgree, step_total};
 ghost use Rattle.sfc_action.specs.ActionControl.{Scan, q, executed, first_fault};
-ghost use Rattle.sfc_action.specs.Work.{control_work, copy_work};
+ghost use Rattle.sfc_action.specs.Work.{step_work, copy_work};
 ghost use Rattle.sfc_action.specs.Agreement.{IsFor, ControlsAgree, action_total, scan_input};
 
 use crate::fault::ControlFault;
@@ -101,7 +101,7 @@ impl Controls {
             StepsAgree tables.now steps.now scans → ControlsAgree tables.now self.old h →
             ControlsAgree tables.now self.new (scan_input tables.now scans times.now t ∷ h)) }
         ensures err { OnErr result (self.new ≡ self.old) }
-        ensures ticks { Within (control_work tables.now) ticks.old ticks.new }
+        ensures ticks { Within (step_work tables.now) ticks.old ticks.new }
     {
         let _steps = tables.steps();
         let is_faultless = self.control_scan.read(
@@ -122,6 +122,26 @@ impl Controls {
         }
         self.state.act(&mut self.control_scan, t, ticks);
         Ok(())
+    }
+
+    /// One scan whose active steps are those of the scan before: answers whether it is done, without a fault, and with the outcome that
+    /// `step` has. Where it answers no nothing has changed, and the scan wants `step`. It is done where no on-delay runs or has elapsed,
+    /// none is by SD or SL, and no pulse gives Q (2.6.4.5). It takes no memory.
+    pub fn repeat(&mut self, ticks: &mut Ticks) -> bool
+        ensures sizes { (tables : Tabled) → IsFor tables self.old → IsFor tables self.new }
+        ensures agrees { result ≡ true → (tables : Tabled) (scan last : Scan) (h : List Scan) → scan.active ≡ last.active →
+            ControlsAgree tables self.old (last ∷ h) → ControlsAgree tables self.new (scan ∷ last ∷ h) }
+        ensures faultless { result ≡ true → (tables : Tabled) (scan last : Scan) (h : List Scan) → scan.active ≡ last.active →
+            ControlsAgree tables self.old (last ∷ h) → first_fault tables (scan ∷ last ∷ h) ≡ None }
+        ensures unchanged { result ≡ false → self.new ≡ self.old }
+        ensures ticks { Within (2 * action_total self.old) ticks.old ticks.new }
+        ensures ticks_of_no { result ≡ false → Within (action_total self.old) ticks.old ticks.new }
+    {
+        if !self.state.is_at_rest(ticks) {
+            return false;
+        }
+        self.state.rest(ticks);
+        true
     }
 
     /// Whether the action has Q after the newest scan.

@@ -11,6 +11,9 @@ pub struct Delays {
     // The places of those that a scan handles, whatever its inputs are: those that aren't idle.
     live: Flags,
     places: GroupedPlaces,
+    // No on-delay is by SD or SL, and none runs or has elapsed.
+    is_plain: bool,
+    is_idle: bool,
 }
 
 // By hand, so that a caller that drops one proves one call.
@@ -20,6 +23,8 @@ impl Drop for Delays {
             blocks: _,
             live: _,
             places: _,
+            is_plain: _,
+            is_idle: _,
         } = self;
     }
 }
@@ -33,10 +38,10 @@ impl Model for Delays {
 
     ghost view = { λ delays. delays.blocks.items };
 
-    ghost invariant = { λ delays. AreKept delays.blocks.items delays.live delays.places };
+    ghost invariant = { λ delays. AreKept delays.blocks.items delays.live delays.places delays.is_plain delays.is_idle };
 }
 
-use crate::blocks::{DelayCall, step_live};
+use crate::blocks::{DelayCall, are_plain, step_live};
 use crate::control_scan::ControlScan;
 use crate::places::list_places;
 use crate::waking::{copy_live, wake};
@@ -44,7 +49,7 @@ use sfc_base::ticks::Ticks;
 use std::alloc::{AllocError, Global};
 
 impl Delays {
-    ghost use Rattle.std.specs.Prelude.{◌≡◌, ◌≤ℤ◌, ◌^◌, ◌+◌, ◌*◌, pos, length, map, All, IfOk};
+    ghost use Rattle.std.specs.Prelude.{◌≡◌, ◌≤ℤ◌, ◌^◌, ◌+◌, ◌*◌, pos, true, length, map, All, IfOk};
     ghost use Rattle.sfc_base.specs.Ticks.{Within};
     ghost use Rattle.sfc_action.specs.Private.ControlScans.{IsControlScan};
     ghost use Rattle.sfc_action.specs.Private.TimedSets.{none};
@@ -52,6 +57,7 @@ impl Delays {
     ghost use Rattle.sfc_action.specs.Private.Keeping.{delay_of};
     ghost use Rattle.sfc_action.specs.Private.Listing.{IsNew};
     ghost use Rattle.sfc_action.specs.Private.Calling.{AreCalled};
+    ghost use Rattle.sfc_action.specs.Private.Live.{IsResting};
 
     /// These on-delays, which are of so many actions and have seen no call. The one error is that memory was refused.
     pub fn new(alloc: Global, actions: usize, blocks: Vec<Block>) -> Result<Delays, AllocError>
@@ -61,10 +67,13 @@ impl Delays {
     {
         let places = list_places(alloc, actions, &blocks)?;
         let live = Flags::new(alloc, blocks.len())?;
+        let is_plain = are_plain(&blocks);
         Ok(Delays {
             blocks,
             live,
             places,
+            is_plain,
+            is_idle: true,
         })
     }
 
@@ -91,13 +100,20 @@ impl Delays {
             presets: &control_scan.presets,
             t,
         };
-        step_live(
+        self.is_idle = step_live(
             &mut self.blocks,
             &mut self.live,
             &mut control_scan.elapsed,
             call,
             ticks,
         );
+    }
+
+    /// Whether none runs or has elapsed, and none is by SD or SL: where it answers no, they may be so all the same.
+    pub fn are_resting(&self) -> bool
+        ensures { result ≡ true → All IsResting self.now }
+    {
+        self.is_plain && self.is_idle
     }
 
     /// Takes over what the other has seen, which has the same on-delays.
@@ -108,6 +124,8 @@ impl Delays {
     {
         self.blocks.copy_from_slice(&other.blocks);
         copy_live(&mut self.live, &other.live);
+        self.is_plain = other.is_plain;
+        self.is_idle = other.is_idle;
         ticks.tick_all(self.blocks.len());
     }
 }

@@ -1,4 +1,4 @@
-use Rattle.std.proofs.Common.{◌≡◌, ◌∙◌, ◌||◌, ◌<◌, ◌≤◌, ℕ, Bool, false, cond, length, get_or, arith, ap, sym, subst, inl, inr}
+use Rattle.std.proofs.Common.{◌≡◌, ◌∙◌, ◌||◌, ◌<◌, ◌≤◌, ℕ, Bool, true, false, not, cond, length, get_or, arith, refl, ap, sym, subst, inl, inr}
 use Rattle.std.specs.Prelude.{slice_set, is_some}
 use Rattle.std.proofs.lemmas.Bool.{cases_lt}
 use Rattle.std.proofs.lemmas.List.{get_or-set_same, get_or-set_other, length-set}
@@ -9,9 +9,14 @@ use Rattle.sfc_action.specs.declared.blocks.Block.{Block}
 use Rattle.sfc_action.specs.Private.TimedSets.{AreAll, with_action}
 use Rattle.sfc_action.specs.Private.Delays.{input_of, preset_of, IsStepped}
 use Rattle.sfc_action.specs.Private.Live.{IsIdle}
+use Rattle.sfc_action.proofs.Elapsed.{and_left, and_right}
 use Rattle.sfc_action.proofs.Elements.{next_rest}
 use Rattle.sfc_action.proofs.Live.{between, none_behind, idle_apart, noted_idle, more_stepped, more_idle, sized_noted, gathered_next, gathered_all}
 use Rattle.sfc_action.proofs.blocks.step_live.Goals as goal
+
+not_true : (x : Bool) → not x ≡ true → x ≡ false
+not_true true e = absurd (let bad : false ≡ true = e in cc)
+not_true false e = refl
 
 pub live-preserved : goal.live-preserved
 live-preserved c =
@@ -65,6 +70,21 @@ live-preserved c =
           added ∙ ap (λ (s : timed.Timed). cond after.elapsed (with_action after.qualifier after.action.0 s) s) was.sets
           ∙ sym (gathered_next now c.args.elapsed.now at p after le lt
           (λ k d ge less. subst IsIdle (sym (was.rest k d ge)) (quiet k d ge less)));
+      all_idle = λ on k less.
+          let bit_off : bit after ≡ false =
+          ap bit (sym noted) ∙ sym c.note.ensures.value ∙ not_true c.note.result (and_right c.live.are_idle (not c.note.result) on) in
+          ap (λ l. flag l k) marked ∙ elim (cases_lt k p) [
+            | inr there ↦ (
+                let same : k ≡ p = omega (arith, less, there) in
+                ap (flag (slice_set live p (bit after))) same
+                ∙ get_or-set_same live p (bit after) false (omega (arith, lt, size)) ∙ bit_off)
+            | inl near ↦ (
+                get_or-set_other live p k (bit after) false (λ e. omega (arith, e, near))
+                ∙ elim (cases_lt k at) [
+                  | inl seen ↦ was.all_idle (and_left c.live.are_idle (not c.note.result) on) k seen
+                  | inr ahead ↦ between live at p _ found.2 k ahead near
+                ])
+          ];
       within = let whole = ap length marked ∙ length-set live p (bit after) in omega (arith, whole, found);
       ticks = (
         omega (arith, was.ticks, c.in-Some.ensures.ticks, c.step_block.ensures.ticks),
@@ -76,6 +96,15 @@ live-preserved c =
 off_behind : (c : goal.In_default) → (k : ℕ) → c.live.at ≤ k → flag c.args.live.now k ≡ false
 off_behind c k ge =
     sym (c.live.invariant.unseen k ge) ∙ none_behind c.live.live c.live.at (c.next_set.ensures.none c.in_default.is) k ge
+
+pub returns-clause-all_idle : goal.returns-clause-all_idle
+returns-clause-all_idle c on k d lt =
+    let was = c.live.invariant in
+    let long : k < length c.args.blocks.now = omega (arith, lt, c.live.auto.blocks) in
+    elim (cases_lt k c.live.at) [
+      | inl seen ↦ was.idle k d seen (was.all_idle on k seen)
+      | inr ge ↦ subst IsIdle (sym (was.rest k d ge)) (c.requires.idle k d long (off_behind c k ge))
+    ]
 
 pub returns-clause-stepped : goal.returns-clause-stepped
 returns-clause-stepped c k d lt =

@@ -1,4 +1,4 @@
-use Rattle.std.proofs.Common.{◌≡◌, ◌<◌, ◌≤◌, ◌-◌, ◌*◌, ℕ, false, length, take}
+use Rattle.std.proofs.Common.{◌≡◌, ◌<◌, ◌≤◌, ◌-◌, ◌*◌, ℕ, true, false, length, take}
 use Rattle.std.specs.Prelude.{slice_index_or}
 use Rattle.sfc_base.specs.Ticks.{Within}
 use Rattle.sfc_flags.specs.Flags.{flag}
@@ -21,6 +21,7 @@ invariant-live l = record {
   idle : (k : ℕ) (d : Block) → k < l.at → flag l.live k ≡ false → IsIdle (slice_index_or l.blocks k d);
   sized : AreAll (length l.call.presets.now) l.elapsed;
   sets : l.elapsed ≡ gathered (take l.at l.blocks) l.initial.elapsed;
+  all_idle : l.are_idle ≡ true → (k : ℕ) → k < l.at → flag l.live k ≡ false;
   within : l.at ≤ length l.live;
   ticks : Within (2 * l.at) l.initial.ticks l.ticks;
 }

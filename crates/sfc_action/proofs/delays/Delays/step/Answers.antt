@@ -15,7 +15,7 @@ returns-clause-sized c =
       presets = was.presets;
       stores = was.stores;
       called = was.called;
-      elapsed = subst (λ (n : ℕ). AreAll n c.step_live.new.elapsed) (ap length c.deref.ensures.value) c.step_live.ensures.sized;
+      elapsed = subst (λ (n : ℕ). AreAll n c.step_live-self-inside.new.elapsed) (ap length c.deref.ensures.value) c.step_live-self-inside.ensures.sized;
     }
 
 pub returns-clause-stepped : goal.returns-clause-stepped
@@ -23,7 +23,7 @@ returns-clause-stepped c =
     let i = c.args.control_scan.now.inputs in
     let s = c.args.control_scan.now.stores in
     let old = c.args.self.now in
-    let new = c.step_live.new.blocks in
+    let new = c.step_live-self-inside.new.blocks in
     let items = with_items_is c.self.inside.blocks new (omega arith) in
     let was : c.deref_mut.result.now ≡ old = c.deref_mut.ensures.value ∙ c.self.view_is in
     let there = to_z w64 (of_z w64 c.args.t) in
@@ -31,6 +31,6 @@ returns-clause-stepped c =
     (with_items c.self.inside.blocks new).items =
     subst (λ (xs : List Block). AreStepped i s c.args.control_scan.now.presets.items there old xs) (sym items)
     (subst (λ (xs : List Block). AreStepped i s c.args.control_scan.now.presets.items there xs new) was
-    (subst (λ (ps : List ℤ). AreStepped i s ps there c.deref_mut.result.now new) c.deref.ensures.value c.step_live.ensures.stepped)) in
+    (subst (λ (ps : List ℤ). AreStepped i s ps there c.deref_mut.result.now new) c.deref.ensures.value c.step_live-self-inside.ensures.stepped)) in
     let fits : SFits w64 c.args.t = c.ranges.t in
     simp to_z-of_z at stepped

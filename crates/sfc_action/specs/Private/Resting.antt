@@ -1,0 +1,14 @@
+-- When a scan with the active steps of the one before changes only which actions are executed.
+use Rattle.std.specs.Prelude.{ℕ, ◌≡◌, false, ◌&&◌, All}
+use Rattle.sfc_flags.specs.Flags.{flag}
+use Rattle.sfc_action.specs.declared.control_state.ControlState.{ControlState}
+use Rattle.sfc_action.specs.Private.Live.{IsResting}
+
+-- each on-delay rests, and no action with an input P has Q
+pub record IsAtRest (state : ControlState) : Type 0 where
+  pub delays : All IsResting state.blocks
+  pub pulses : (a : ℕ) → (flag state.pulse a && flag state.q a) ≡ false
+
+-- what a scan at rest makes of it
+abbrev pub rested : ControlState → ControlState
+rested state = record state { executed = state.q }
