@@ -1,10 +1,8 @@
 -- What measuring leaves: of active steps the time since they began, and of all others what they kept.
-use Rattle.std.proofs.Common.{◌≡◌, ℕ, Bool, true, false, cond, List, length, ℤ, pos, ◌-ℤ◌, refl, sym, ap, ◌∙◌}
-use Rattle.std.proofs.lemmas.List.FromFn.{fill_by_all}
+use Rattle.std.proofs.Common.{◌≡◌, ℕ, Bool, true, false, cond, List, length, ℤ, ◌-ℤ◌, refl, sym, ap, ◌∙◌}
 use Rattle.sfc_flags.specs.Flags.{flag, places_from}
 use Rattle.sfc_tables.specs.Tables.{Tabled}
-use Rattle.sfc_evolve.specs.Clearing.{step_count}
-use Rattle.sfc_evolve.specs.Evolution.{Scan, rows_of, step_time, step_times}
+use Rattle.sfc_evolve.specs.Evolution.{Scan}
 use Rattle.sfc_evolve.specs.Private.Keeping.{FieldsAgree, number, measured_at}
 use Rattle.sfc_evolve.proofs.Flagged.{number-measured_at, members_below, is_member}
 
@@ -41,8 +39,11 @@ module _ (tables : Tabled) (begun : Bool) (active : List Bool) (since held_times
     activation = k.activation;
   }
 
-  -- they are the times of all steps
-  pub times_are : length times ≡ step_count tables → FieldsAgree tables begun active since times cleared on scans
-      → times ≡ step_times tables (rows_of tables scans) t
-  times_are same k = fill_by_all (λ s. step_time tables (rows_of tables scans) s t) times (step_count tables) (pos 0) same
-      (λ s lt. itself (flag active s) (t -ℤ number since s) (number times s) (number held_times s) (each s) ∙ sym (k.time s lt t))
+-- measured once more they are the same
+pub measured_again : (t : ℤ) (active : List Bool) (since held_times times : List ℤ) → length held_times ≡ length active
+    → times ≡ measured_at t since (places_from active 0) held_times → (new : List ℤ) → new ≡ times
+    → (s : ℕ) → number new s ≡ cond (flag active s) (t -ℤ number since s) (number new s)
+measured_again t active since held_times times long made new is s =
+    let each : number new s ≡ cond (flag active s) (t -ℤ number since s) (number held_times s) =
+    ap (λ xs. number xs s) is ∙ ap (λ xs. number xs s) made ∙ measured_is t since active held_times s long in
+    itself (flag active s) (t -ℤ number since s) (number new s) (number held_times s) each

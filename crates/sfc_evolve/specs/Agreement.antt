@@ -1,9 +1,9 @@
 -- Which scans a `Steps` agrees with.
-use Rattle.std.specs.Prelude.{ℕ, ◌≡◌, cond, List, ℤ, ◌-ℤ◌, length}
+use Rattle.std.specs.Prelude.{ℕ, ◌≡◌, ◌<◌, cond, List, ℤ, ◌-ℤ◌, length}
 use Rattle.sfc_tables.specs.Tables.{Tabled}
 use Rattle.sfc_evolve.specs.declared.steps.Steps.{Steps}
 use Rattle.sfc_evolve.specs.Clearing.{step_count, transition_count}
-use Rattle.sfc_evolve.specs.Evolution.{Scan, rows_of, step_times}
+use Rattle.sfc_evolve.specs.Evolution.{Scan}
 use Rattle.sfc_flags.specs.Flags.{flag}
 use Rattle.sfc_evolve.specs.Private.Keeping.{number, FieldsAgree}
 use Rattle.sfc_evolve.specs.Private.Proposing.{AreProposed}
@@ -38,7 +38,7 @@ pub record Keeps (tables : Tabled) (steps : Steps) (scans : List Scan) : Type 0 
 unfoldable pub StepsAgree : Tabled → Steps → List Scan → Type 0
 StepsAgree tables steps scans = Keeps tables steps scans
 
--- its times are those of all steps at t
-abbrev pub AreMeasured : ℤ → Steps → Type 0
-AreMeasured t steps = (tables : Tabled) (scans : List Scan) → StepsAgree tables steps scans →
-    measured_times steps ≡ step_times tables (rows_of tables scans) t
+-- Its times are those of all steps at t: those of active steps are worked out, and the others are what they kept. For each history
+-- that agrees they are the steps' times (`laws::shown_times`).
+unfoldable pub AreMeasured : ℤ → Steps → Type 0
+AreMeasured t steps = (s : ℕ) → s < step_total steps → number steps.held_times.items s ≡ shown_time steps t s

@@ -14,7 +14,7 @@ ghost use Rattle.sfc_evolve.specs.ScanNumbers.{scan_instant_at};
 ghost use Rattle.sfc_evolve.specs.Clearing.{step_count};
 ghost use Rattle.sfc_evolve.specs.Evolution.{rows_of, step_times};
 ghost use Rattle.sfc_evolve.specs.declared.steps.Steps.{Steps};
-ghost use Rattle.sfc_evolve.specs.Agreement.{StepsAgree, shown_time};
+ghost use Rattle.sfc_evolve.specs.Agreement.{StepsAgree, shown_time, measured_times, AreMeasured};
 ghost use Rattle.sfc_evolve.specs.Past.{steps_past, past_in};
 
 /// The pass over the transitions in rank order gives the one set in which a transition stands exactly when it may
@@ -65,9 +65,11 @@ pub fn first_scan()
         (s : ℕ) → is_active tables (row_after tables [] scan ∷ []) s ≡ flag tables.initial s }
 {}
 
-/// The time of a step that is answered is the step's time after all scans that agree (2.6.2).
+/// The time of a step that is answered is the step's time after all scans that agree, and so are those that were worked out (2.6.2).
 pub fn shown_times()
-    ensures { (tables : Tabled) (steps : Steps) (scans : List Scan) (s : ℕ) (t : ℤ) → StepsAgree tables steps scans →
+    ensures measured { (tables : Tabled) (steps : Steps) (scans : List Scan) (t : ℤ) → StepsAgree tables steps scans →
+        AreMeasured t steps → measured_times steps ≡ step_times tables (rows_of tables scans) t }
+    ensures shown { (tables : Tabled) (steps : Steps) (scans : List Scan) (s : ℕ) (t : ℤ) → StepsAgree tables steps scans →
         s < step_count tables → shown_time steps t s ≡ step_time tables (rows_of tables scans) s t }
 {}
 

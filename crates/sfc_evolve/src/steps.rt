@@ -56,10 +56,11 @@ impl Drop for Steps {
 
 #[tactic(auto, unfolding(crate::specs::Agreement::StepsAgree, crate::specs::Agreement::measured_times))]
 impl Steps {
-    ghost use Rattle.std.specs.Prelude.{◌≡◌, ◌<◌, ◌≤ℤ◌, ◌^◌, ◌+◌, ◌*◌, ◌∷◌, [], List, ℕ, pos, true, length, IfOk};
+    ghost use Rattle.std.specs.Prelude.{◌≡◌, ◌<◌, ◌≤ℤ◌, ◌^◌, ◌+◌, ◌*◌, ◌∷◌, [], List, ℕ, ℤ, pos, true, false, length, IfOk};
     ghost use Rattle.sfc_base.specs.Ticks.{Within};
     ghost use Rattle.sfc_flags.specs.Flags.{flag};
     ghost use Rattle.sfc_tables.specs.Tables.{Tabled, AreTables};
+    ghost use Rattle.sfc_evolve.specs.Lookback.{is_empty};
     ghost use Rattle.sfc_evolve.specs.Clearing.{is_enabled};
     ghost use Rattle.sfc_evolve.specs.Evolution.{Scan, rows_of, is_active, active_steps, step_time};
     ghost use Rattle.sfc_evolve.specs.Clearing.{preceding_of};
@@ -101,8 +102,15 @@ impl Steps {
 
     /// One scan at t, in microseconds from 0 to 2^62, with the condition of each transition in text order; those of
     /// transitions that aren't enabled don't matter (2.6.5). It takes no memory. Where it clears no transition the steps
-    /// stay as they are.
-    pub fn advance(&mut self, tables: &Tables, conditions: &[bool], t: i64, ticks: &mut Ticks)
+    /// stay as they are. Answers whether steps may have moved: where it answers no, the same ones are active as before, and times that
+    /// were worked out are still so.
+    pub fn advance(
+        &mut self,
+        tables: &Tables,
+        conditions: &[bool],
+        t: i64,
+        ticks: &mut Ticks,
+    ) -> bool
         requires sizes { IsFor tables.now self.old }
         requires conditions { length conditions.now ≡ length tables.now.sides }
         requires low { pos 0 ≤ℤ t }
@@ -110,6 +118,11 @@ impl Steps {
         ensures sizes { IsFor tables.now self.new }
         ensures agrees { (scans : List Scan) → StepsAgree tables.now self.old scans →
             StepsAgree tables.now self.new (record { conditions = conditions.now; at = t } ∷ scans) }
+        ensures begun { result ≡ false → (scans : List Scan) → StepsAgree tables.now self.old scans → is_empty scans ≡ false }
+        ensures same_steps { result ≡ false → (scans : List Scan) → StepsAgree tables.now self.old scans →
+            active_steps tables.now (rows_of tables.now (record { conditions = conditions.now; at = t } ∷ scans))
+            ≡ active_steps tables.now (rows_of tables.now scans) }
+        ensures measured { result ≡ false → (now : ℤ) → AreMeasured now self.old → AreMeasured now self.new }
         ensures ticks { Within (advance_work tables.now) ticks.old ticks.new }
     {
         let _steps = tables.steps();
@@ -126,7 +139,7 @@ impl Steps {
         );
         if is_blank(&self.cleared, ticks) && self.begun {
             self.on.clear_all(ticks);
-            return;
+            return false;
         }
         start(tables, !self.begun, &mut self.on, ticks);
         let scan = Cleared {
@@ -145,6 +158,7 @@ impl Steps {
         begin(&mut self.active, &mut self.since, &self.on, t, ticks);
         propose(tables, &self.active, &mut self.candidates, ticks);
         self.begun = true;
+        true
     }
 
     /// Which steps are active, by number.

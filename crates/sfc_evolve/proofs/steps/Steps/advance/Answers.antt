@@ -1,9 +1,12 @@
-use Rattle.std.proofs.Common.{◌≡◌, ◌∷◌, length, arith, ap, ◌∙◌, refl, sym, subst, SFits, w64, false, true, Bool}
+use Rattle.std.proofs.Common.{◌≡◌, ◌∷◌, length, arith, ap, ◌∙◌, refl, sym, subst, SFits, w64, false, true, not, Bool}
 use Rattle.std.proofs.lemmas.Int.{to_z-of_z}
 use Rattle.std.proofs.lemmas.List.{with_items_is, length-replicate}
 use Rattle.std.specs.Prelude.{replicate}
 use Rattle.sfc_flags.specs.Flags.{flag, places_from}
-use Rattle.sfc_evolve.specs.Agreement.{StepsAgree}
+use Rattle.sfc_evolve.specs.Agreement.{StepsAgree, AreMeasured, shown_time}
+use Rattle.sfc_evolve.specs.Lookback.{is_empty}
+use Rattle.sfc_evolve.specs.Evolution.{Scan, rows_of, is_active}
+use Rattle.sfc_evolve.proofs.Listed.{listed}
 use Rattle.sfc_evolve.specs.Clearing.{step_count, transition_count, preceding_of}
 use Rattle.sfc_evolve.specs.Private.Keeping.{AreInstants, FieldsAgree, left_by, begun_at}
 use Rattle.sfc_evolve.proofs.Next.{Advanced, advanced, fields_next, fields_at, quiet}
@@ -11,6 +14,10 @@ use Rattle.sfc_evolve.specs.Private.Proposing.{AreProposed}
 use Rattle.sfc_evolve.proofs.Proposed.{proposed}
 use Rattle.sfc_evolve.proofs.Works.{work_of_scan, clearing_is}
 use Rattle.sfc_evolve.proofs.steps.Steps.advance.Goals as goal
+
+not_true : (x : Bool) → not x ≡ true → x ≡ false
+not_true true e = absurd (let bad : false ≡ true = e in cc)
+not_true false e = refl
 
 -- the lengths of all that is kept
 record Sizes (c : goal.After-self-4-1) : Type 0 where
@@ -338,3 +345,23 @@ returns-then-self-clause-ticks c =
         c.clear_all-then-self.ensures.ticks,
       ),
     )
+
+pub returns-then-self-clause-begun : goal.returns-then-self-clause-begun
+unfolding StepsAgree
+returns-then-self-clause-begun c answer scans k = not_true (is_empty scans) (sym k.fields.has_begun ∙ c.if-self.true)
+
+-- the same flags are those of the active steps before and after
+pub returns-then-self-clause-same_steps : goal.returns-then-self-clause-same_steps
+unfolding StepsAgree
+returns-then-self-clause-same_steps c answer scans k =
+    let tables = c.args.tables.now in
+    let self = c.args.self.now in
+    let long = c.requires.sizes.same_steps in
+    let scan : Scan = record { conditions = c.args.conditions.now; at = c.args.t } in
+    let next = returns-then-self-clause-agrees c scans k in
+    sym (listed (is_active tables (rows_of tables (scan ∷ scans))) (step_count tables) self.active long next.fields.activity)
+    ∙ listed (is_active tables (rows_of tables scans)) (step_count tables) self.active long k.fields.activity
+
+pub returns-then-self-clause-measured : goal.returns-then-self-clause-measured
+unfolding AreMeasured shown_time
+returns-then-self-clause-measured c answer now measured = measured

@@ -2,10 +2,10 @@ use Rattle.std.proofs.Common.{◌≡◌, length, arith, ap, subst, ◌∙◌, re
 use Rattle.std.proofs.lemmas.Int.{to_z-of_z}
 use Rattle.std.proofs.lemmas.List.{with_items_is}
 use Rattle.sfc_flags.specs.Flags.{places_from}
-use Rattle.sfc_evolve.specs.Agreement.{StepsAgree, measured_times}
+use Rattle.sfc_evolve.specs.Agreement.{StepsAgree, AreMeasured, shown_time}
 use Rattle.sfc_evolve.specs.Private.Keeping.{AreInstants, measured_at}
 use Rattle.sfc_evolve.proofs.Next.{fields_at}
-use Rattle.sfc_evolve.proofs.Measured.{fields_still, times_are}
+use Rattle.sfc_evolve.proofs.Measured.{fields_still, measured_again}
 use Rattle.sfc_evolve.proofs.steps.Steps.measure.Goals as goal
 
 -- what was worked out
@@ -59,11 +59,8 @@ returns-clause-agrees c tables scans k =
     }
 
 pub returns-clause-measured : goal.returns-clause-measured
-unfolding StepsAgree measured_times
-returns-clause-measured c tables scans k =
+unfolding AreMeasured shown_time
+returns-clause-measured c s lt =
     let self = c.args.self.now in
     let new = with_items_is self.held_times c.measure_active.new.times (omega arith) in
-    let long : length c.measure_active.new.times ≡ length self.held_times.items = omega arith in
-    new ∙ times_are tables self.begun self.active self.since.items self.held_times.items self.cleared self.on scans c.args.t
-    c.measure_active.new.times self.held_times_len (made c) (long ∙ self.held_times_len ∙ k.size.same_steps)
-    (fields_at tables self.begun _ _ _ _ _ _ _ _ _ _ scans refl refl (sym new) refl refl k.fields)
+    measured_again c.args.t self.active self.since.items self.held_times.items c.measure_active.new.times self.held_times_len (made c) _ new s
