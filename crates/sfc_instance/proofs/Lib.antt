@@ -14,6 +14,7 @@ pub mod Outputs
 pub mod Left
 -- what the expressions of a scan read
 pub mod Readings
+pub mod Repeated
 -- how a scan ends
 pub mod Scanned
 -- the range of step times

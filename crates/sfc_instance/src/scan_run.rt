@@ -25,6 +25,7 @@ impl Drop for ScanRun {
 ghost use Rattle.std.specs.Prelude.{◌≡◌, ◌<◌, ◌+◌, ◌≤ℤ◌, ◌^◌, [], List, false, pos, length, IfOk};
 ghost use Rattle.sfc_base.specs.Ticks.{Within};
 ghost use Rattle.sfc_tables.specs.Tables.{tables_of};
+ghost use Rattle.sfc_evolve.specs.Agreement.{AreMeasured};
 ghost use Rattle.sfc_plant.specs.Plants.{PlantData};
 ghost use Rattle.sfc_image.specs.Changes.{Change, settled};
 ghost use Rattle.sfc_image.specs.Agreement.{ImageAgrees, IsAsLarge, instance_total, variable_total, is_open};
@@ -58,18 +59,20 @@ impl ScanRun {
     }
 
     // What the actions do after the scan of the steps and action control, or the fault of a body; then these are again what the spare
-    // ones are.
+    // ones are. Where no step moved the times of the steps are worked out already.
     fn finish(
         &mut self,
         context: ProgramContext<'_>,
         image: &mut Image,
         t: i64,
+        moved: bool,
         ticks: &mut Ticks,
     ) -> Result<(), Fault>
         requires tables { context.tables.now ≡ tables_of context.chart.now }
         requires sizes { IsScanRunFor context.tables.now self.old }
         requires instance { context.instance.0 < instance_total image.old }
         requires closed { is_open image.old ≡ false }
+        requires measured { moved ≡ false → AreMeasured t self.old.now.steps }
         requires low { pos 0 ≤ℤ t }
         requires high { t ≤ℤ pos (2 ^ 62) }
         ensures sizes { IsScanRunFor context.entry.tables.now self.new }
@@ -85,7 +88,7 @@ impl ScanRun {
             + actions_work context.entry.chart.now context.entry.tables.now.actions
             + variable_total image.old) ticks.old ticks.new }
     {
-        self.now.measure(context.tables, t, ticks);
+        self.now.measure_moved(moved, context.tables, t, ticks);
         let answer = act_or_undo(context, &self.now, image, ticks);
         if answer.is_err() {
             std::mem::swap(&mut self.now, &mut self.spare);
@@ -93,7 +96,8 @@ impl ScanRun {
         answer
     }
 
-    // The steps and the action control go on, and then the actions, where the buffers have the conditions and times.
+    // The steps and the action control go on, and then the actions, where the buffers have the conditions and times, and the times of the
+    // steps are worked out.
     fn go_on(
         &mut self,
         context: ProgramContext<'_>,
@@ -105,6 +109,7 @@ impl ScanRun {
         requires sizes { IsScanRunFor context.tables.now self.old }
         requires instance { context.instance.0 < instance_total image.old }
         requires closed { is_open image.old ≡ false }
+        requires measured { AreMeasured t self.old.now.steps }
         requires low { pos 0 ≤ℤ t }
         requires high { t ≤ℤ pos (2 ^ 62) }
         ensures sizes { IsScanRunFor context.entry.tables.now self.new }
@@ -128,7 +133,7 @@ impl ScanRun {
                 std::mem::swap(&mut self.now, &mut self.spare);
                 Err(ScanFault::Control(fault))
             }
-            Ok(()) => match self.finish(context, image, t, ticks) {
+            Ok(moved) => match self.finish(context, image, t, moved, ticks) {
                 Err(fault) => Err(ScanFault::Expression(fault)),
                 Ok(()) => Ok(()),
             },

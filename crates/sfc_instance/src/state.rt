@@ -19,13 +19,14 @@ impl Drop for State {
     }
 }
 
-ghost use Rattle.std.specs.Prelude.{◌≡◌, ◌≤ℤ◌, ◌^◌, ◌+◌, ◌∷◌, [], pos, length, IfOk, OnOk};
+ghost use Rattle.std.specs.Prelude.{◌≡◌, ◌≤ℤ◌, ◌^◌, ◌+◌, ◌*◌, ◌∷◌, [], List, ℤ, pos, true, false, length, None, IfOk, OnOk};
 ghost use Rattle.std.specs.Result.{result_err};
 ghost use Rattle.sfc_base.specs.Ticks.{Within};
 ghost use Rattle.sfc_tables.specs.Tables.{Tabled};
 ghost use Rattle.sfc_evolve.specs.Agreement.{AreMeasured};
 ghost use Rattle.sfc_evolve.specs.Work.{advance_work};
-ghost use Rattle.sfc_action.specs.ActionControl.{first_fault};
+ghost use Rattle.sfc_action.specs.ActionControl.{Scan, first_fault};
+ghost use Rattle.sfc_action.specs.Agreement.{IsFor, ControlsAgree, action_total};
 ghost use Rattle.sfc_action.specs.Work.{control_work};
 ghost use Rattle.sfc_instance.specs.Life.{Life, Row, control_scans};
 ghost use Rattle.sfc_instance.specs.Work.{copy_work};
@@ -35,6 +36,24 @@ use sfc_action::fault::ControlFault;
 use sfc_base::ticks::Ticks;
 use sfc_tables::tables::Tables;
 use std::alloc::{AllocError, Global};
+
+// A scan of action control in which no step moved, where that is enough: answers whether it is.
+fn repeat(controls: &mut Controls, moved: bool, ticks: &mut Ticks) -> bool
+    ensures still { result ≡ true → moved ≡ false }
+    ensures sizes { (tables : Tabled) → IsFor tables controls.old → IsFor tables controls.new }
+    ensures agrees { result ≡ true → (tables : Tabled) (scan last : Scan) (h : List Scan) → scan.active ≡ last.active →
+        ControlsAgree tables controls.old (last ∷ h) → ControlsAgree tables controls.new (scan ∷ last ∷ h) }
+    ensures faultless { result ≡ true → (tables : Tabled) (scan last : Scan) (h : List Scan) → scan.active ≡ last.active →
+        ControlsAgree tables controls.old (last ∷ h) → first_fault tables (scan ∷ last ∷ h) ≡ None }
+    ensures unchanged { result ≡ false → controls.new ≡ controls.old }
+    ensures ticks { Within (2 * action_total controls.old) ticks.old ticks.new }
+    ensures ticks_of_no { result ≡ false → Within (action_total controls.old) ticks.old ticks.new }
+{
+    if moved {
+        return false;
+    }
+    controls.repeat(ticks)
+}
 
 #[tactic(auto, unfolding(crate::specs::Agreement::StateAgrees))]
 impl State {
@@ -74,9 +93,26 @@ impl State {
         self.steps.measure(t, ticks);
     }
 
+    /// The same where steps may have moved since that was done at t; else their times stay.
+    pub fn measure_moved(&mut self, moved: bool, tables: &Tables, t: i64, ticks: &mut Ticks)
+        requires sizes { IsStateFor tables.now self.old }
+        requires measured { moved ≡ false → AreMeasured t self.old.steps }
+        requires low { pos 0 ≤ℤ t }
+        requires high { t ≤ℤ pos (2 ^ 62) }
+        ensures sizes { IsStateFor tables.now self.new }
+        ensures agrees { (life : Life) → StateAgrees tables.now self.old life → StateAgrees tables.now self.new life }
+        ensures measured { AreMeasured t self.new.steps }
+        ensures ticks { Within (length tables.now.initial) ticks.old ticks.new }
+    {
+        if moved {
+            self.measure(tables, t, ticks);
+        }
+    }
+
     /// One scan at t, in microseconds from 0 to 2^62, with the condition of each transition and the time of each
-    /// association in microseconds (2.6.5). It takes no memory. The error is the fault of action control; then the steps
-    /// have gone on and the control has not.
+    /// association in microseconds (2.6.5). It takes no memory. Answers whether steps may have moved: where it answers no, times of
+    /// steps that were worked out before are still so. The error is the fault of action control; then the steps have gone on and the
+    /// control has not.
     pub fn advance(
         &mut self,
         tables: &Tables,
@@ -84,7 +120,7 @@ impl State {
         times: &[i64],
         t: i64,
         ticks: &mut Ticks,
-    ) -> Result<(), ControlFault>
+    ) -> Result<bool, ControlFault>
         requires sizes { IsStateFor tables.now self.old }
         requires conditions { length conditions.now ≡ length tables.now.sides }
         requires times { length times.now ≡ length tables.now.associations }
@@ -95,9 +131,16 @@ impl State {
             first_fault tables.now (control_scans tables.now (record { conditions = conditions.now; times = times.now; at = t } ∷ life)) }
         ensures agrees { OnOk result ((life : Life) → StateAgrees tables.now self.old life →
             StateAgrees tables.now self.new (record { conditions = conditions.now; times = times.now; at = t } ∷ life)) }
+        ensures measured { IfOk result (λ moved. moved ≡ false → (now : ℤ) → AreMeasured now self.old.steps → AreMeasured now self.new.steps) }
         ensures ticks { Within (advance_work tables.now + control_work tables.now) ticks.old ticks.new }
     {
-        self.steps.advance(tables, conditions, t, ticks);
-        self.controls.step(tables, &self.steps, t, times, ticks)
+        let moved = self.steps.advance(tables, conditions, t, ticks);
+        if repeat(&mut self.controls, moved, ticks) {
+            return Ok(false);
+        }
+        match self.controls.step(tables, &self.steps, t, times, ticks) {
+            Err(fault) => Err(fault),
+            Ok(()) => Ok(moved),
+        }
     }
 }

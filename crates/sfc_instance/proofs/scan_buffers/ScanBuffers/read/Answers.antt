@@ -6,6 +6,7 @@ use Rattle.sfc_image.specs.Agreement.{environment_in}
 use Rattle.sfc_tables.specs.declared.step_action.StepAction.{StepAction}
 use Rattle.sfc_plant.specs.declared.chart.Chart.{Chart}
 use Rattle.sfc_tables.specs.Tables.{Tabled, tables_of}
+use Rattle.sfc_evolve.proofs.Shown.{measured_are}
 use Rattle.sfc_instance.specs.Life.{evolution_scans}
 use Rattle.sfc_plant.specs.Finding.{chart_of}
 use Rattle.sfc_instance.specs.ProgramScan.{association_times, time_of, condition_fault, condition_flags, environment}
@@ -19,7 +20,7 @@ unfolding StateAgrees
 returns-then-is_ok-clause-fault c plant life changes context state h =
     let tables = c.args.context.tables.now in
     let chart = c.args.context.chart.now in
-    let times = c.times.ensures ∙ c.requires.measured tables (evolution_scans life) state.steps in
+    let times = c.times.ensures ∙ measured_are tables c.args.state.now.steps (evolution_scans life) c.args.t state.steps c.requires.measured in
     let env = c.view-view.ensures plant (settled changes) h
     ∙ environment_is plant c.args.context life changes c.args.t false c.active_flags.result.now c.times.result.now context
     (c.active_flags.ensures.flags tables (evolution_scans life) state.steps) times in
@@ -30,7 +31,7 @@ unfolding StateAgrees
 returns-else-is_ok-clause-fault c plant life changes context state h =
     let tables = c.args.context.tables.now in
     let chart = c.args.context.chart.now in
-    let times = c.times.ensures ∙ c.requires.measured tables (evolution_scans life) state.steps in
+    let times = c.times.ensures ∙ measured_are tables c.args.state.now.steps (evolution_scans life) c.args.t state.steps c.requires.measured in
     let env = c.view-view.ensures plant (settled changes) h
     ∙ environment_is plant c.args.context life changes c.args.t false c.active_flags.result.now c.times.result.now context
     (c.active_flags.ensures.flags tables (evolution_scans life) state.steps) times in
@@ -42,7 +43,7 @@ returns-then-is_ok-clause-row c = hold_ok c.evaluate_all-answer.result _ (λ pla
     let tables = c.args.context.tables.now in
     let chart = c.args.context.chart.now in
     let p = c.args.context.instance in
-    let times = c.times.ensures ∙ c.requires.measured tables (evolution_scans life) state.steps in
+    let times = c.times.ensures ∙ measured_are tables c.args.state.now.steps (evolution_scans life) c.args.t state.steps c.requires.measured in
     let env = c.view-view.ensures plant (settled changes) h
     ∙ environment_is plant c.args.context life changes c.args.t false c.active_flags.result.now c.times.result.now context
     (c.active_flags.ensures.flags tables (evolution_scans life) state.steps) times in
