@@ -1,5 +1,5 @@
 -- A scan with the active steps of the one before, where action control is at rest, changes only which actions are executed.
-use Rattle.std.proofs.Common.{◌≡◌, ℕ, ◌<◌, ◌==◌, not, ◌&&◌, ◌||◌, Bool, true, false, List, [], ◌∷◌, length, arith, refl, sym, ◌∙◌, ap, subst, inl, inr, ℤ, Option, Some, None, nat_lt}
+use Rattle.std.proofs.Common.{◌≡◌, ℕ, ◌<◌, ◌==◌, not, ◌&&◌, ◌||◌, Bool, true, false, List, [], ◌∷◌, length, arith, refl, sym, ◌∙◌, ap, subst, inl, inr, ℤ, Option, None, nat_lt}
 use Rattle.std.specs.Prelude.{All, find, filter, map, is_some, slice_index_or, pos}
 use Rattle.std.specs.List.{list_any}
 use Rattle.std.proofs.lemmas.Bool.Decides.{nat_tests}
@@ -19,12 +19,12 @@ use Rattle.sfc_action.specs.declared.fault.ControlFault.{ControlFault}
 use Rattle.sfc_action.specs.declared.blocks.Block.{Block}
 use Rattle.sfc_action.specs.declared.control_state.ControlState.{ControlState}
 use Rattle.sfc_action.specs.ActionControl.{Scan, Letter, N, R, S, L, D, P, SD, DS, SL, P1, P0, is, acts, is_timed, input, preset}
-use Rattle.sfc_action.specs.ActionControl.{stored, on_delay, delayed, delayed_then_stored, set_reset, column, rises, q, executed, acting_times}
+use Rattle.sfc_action.specs.ActionControl.{stored, on_delay, delayed, delayed_then_stored, set_reset, column, q, executed}
 use Rattle.sfc_action.specs.ActionControl.{fault_by, fault_of, first_in, first_fault, is_two_timed}
 use Rattle.sfc_action.specs.Past.{DelayPast, delay_in}
 use Rattle.sfc_action.specs.Private.DelayLists.{same_timed}
 use Rattle.sfc_action.specs.Private.Keeping.{AreFor, IsStateAfter, BlockAgrees, IsCovered, called, readings, is_of, has_block}
-use Rattle.sfc_action.specs.Private.Live.{IsResting, IsPlain, is_stored}
+use Rattle.sfc_action.specs.Private.Live.{IsResting, is_stored}
 use Rattle.sfc_action.specs.Private.Resting.{IsAtRest, rested}
 use Rattle.sfc_action.proofs.Elapsed.{bool_cases, and_left, and_right, same_timed_is, is_on_next, never_called, never_elapsed}
 use Rattle.sfc_action.proofs.Live.{idle_stepped}

@@ -1,4 +1,4 @@
-use Rattle.std.proofs.Common.{◌≡◌, ◌∷◌, refl, sym, ◌∙◌, subst}
+use Rattle.std.proofs.Common.{◌≡◌, ◌∷◌, sym, ◌∙◌, subst}
 use Rattle.sfc_action.specs.declared.control_state.ControlState.{ControlState}
 use Rattle.sfc_action.specs.Agreement.{ControlsAgree, Keeps}
 use Rattle.sfc_action.specs.Private.Resting.{IsAtRest, rested}
