@@ -5,7 +5,7 @@ use Rattle.std.specs.Prelude.{map}
 use Rattle.sfc_tables.specs.Tables.{Tabled}
 use Rattle.sfc_action.specs.declared.control_state.ControlState.{ControlState}
 use Rattle.sfc_action.specs.Private.Keeping.{AreFor, delay_of}
-use Rattle.sfc_action.specs.Agreement.{IsFor, HasDelays, action_total}
+use Rattle.sfc_action.specs.Agreement.{IsFor, HasDelays, IsAlike, action_total}
 
 pub is_for : (tables : Tabled) (state : ControlState) → AreFor tables state → IsFor tables state
 unfolding HasDelays
@@ -33,3 +33,8 @@ same_delays tables one other h g = (are_for tables one h).delays ∙ sym (are_fo
 pub delays_prop : (tables : Tabled) (state : ControlState) → IsProp (HasDelays tables state)
 unfolding HasDelays
 delays_prop tables state = hlevel props
+
+-- and so of two that are alike
+pub alike_prop : (a b : ControlState) → IsProp (IsAlike a b)
+unfolding IsAlike
+alike_prop a b = hlevel props

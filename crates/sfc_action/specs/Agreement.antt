@@ -31,3 +31,7 @@ ControlsAgree tables state h = Keeps tables state h
 abbrev pub scan_input : Tabled → List evolution.Scan → List ℤ → ℤ → Scan
 scan_input tables scans times t =
     record { active = evolution.active_steps tables (evolution.rows_of tables scans); times = times; at = t }
+
+-- they keep the same, but for which actions the latest scan executed
+unfoldable pub IsAlike : ControlState → ControlState → Type 0
+IsAlike a b = record a { executed = b.executed } ≡ b

@@ -189,6 +189,16 @@ impl ControlState {
         self.executed.copy_from(&self.q, ticks);
     }
 
+    /// Takes over which actions the other executed, which has as many.
+    pub fn follow(&mut self, other: &ControlState, ticks: &mut Ticks)
+        requires sized { IsStateSized (length self.old.q) self.old }
+        requires other { IsStateSized (length self.old.q) other.now }
+        ensures followed { self.new ≡ record self.old { executed = other.now.executed } }
+        ensures ticks { Within (length self.old.q) ticks.old ticks.new }
+    {
+        self.executed.copy_from(&other.executed, ticks);
+    }
+
     // Takes over the flags of the other.
     fn copy_all(&mut self, other: &ControlState, ticks: &mut Ticks)
         requires sized { IsStateSized (length self.old.q) self.old }

@@ -42,7 +42,8 @@ ghost use Rattle.sfc_evolve.specs.Evolution as evolution;
 ghost use Rattle.sfc_evolve.specs.Agreement.{StepsAgree, step_total};
 ghost use Rattle.sfc_action.specs.ActionControl.{Scan, q, executed, first_fault};
 ghost use Rattle.sfc_action.specs.Work.{step_work, copy_work};
-ghost use Rattle.sfc_action.specs.Agreement.{IsFor, ControlsAgree, action_total, scan_input};
+ghost use Rattle.sfc_action.specs.declared.control_state.ControlState.{ControlState};
+ghost use Rattle.sfc_action.specs.Agreement.{IsFor, ControlsAgree, IsAlike, action_total, scan_input};
 
 use crate::fault::ControlFault;
 use crate::faults::first_fault;
@@ -134,6 +135,7 @@ impl Controls {
         ensures faultless { result ≡ true → (tables : Tabled) (scan last : Scan) (h : List Scan) → scan.active ≡ last.active →
             ControlsAgree tables self.old (last ∷ h) → first_fault tables (scan ∷ last ∷ h) ≡ None }
         ensures unchanged { result ≡ false → self.new ≡ self.old }
+        ensures alike { (other : ControlState) → IsAlike other self.old → IsAlike other self.new }
         ensures ticks { Within (2 * action_total self.old) ticks.old ticks.new }
         ensures ticks_of_no { result ≡ false → Within (action_total self.old) ticks.old ticks.new }
     {
@@ -187,8 +189,19 @@ impl Controls {
         ensures sizes { (tables : Tabled) → IsFor tables other.now → IsFor tables self.new }
         ensures agrees { (tables : Tabled) (h : List Scan) → ControlsAgree tables other.now h →
             ControlsAgree tables self.new h }
+        ensures alike { IsAlike self.new other.now }
         ensures ticks { Within (copy_work tables.now) ticks.old ticks.new }
     {
         self.state.copy_from(&other.state, ticks);
+    }
+
+    /// Takes over what the other keeps, where the two are alike, as after a scan that `repeat` did. It takes no memory.
+    pub fn follow(&mut self, other: &Controls, ticks: &mut Ticks)
+        requires actions { action_total other.now ≡ action_total self.old }
+        requires alike { IsAlike self.old other.now }
+        ensures same { self.new ≡ other.now }
+        ensures ticks { Within (action_total self.old) ticks.old ticks.new }
+    {
+        self.state.follow(&other.state, ticks);
     }
 }

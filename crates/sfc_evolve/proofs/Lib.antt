@@ -1,3 +1,4 @@
+pub mod Alike
 pub mod Cleared
 pub mod FirstScan
 pub mod Flagged

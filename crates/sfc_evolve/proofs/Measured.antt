@@ -47,3 +47,11 @@ measured_again t active since held_times times long made new is s =
     let each : number new s ≡ cond (flag active s) (t -ℤ number since s) (number held_times s) =
     ap (λ xs. number xs s) is ∙ ap (λ xs. number xs s) made ∙ measured_is t since active held_times s long in
     itself (flag active s) (t -ℤ number since s) (number new s) (number held_times s) each
+
+-- times of steps that aren't active stay
+pub others_stay : (t : ℤ) (active : List Bool) (since held_times times : List ℤ) → length held_times ≡ length active
+    → times ≡ measured_at t since (places_from active 0) held_times → (s : ℕ) → flag active s ≡ false → number held_times s ≡ number times s
+others_stay t active since held_times times long made s off =
+    let each : number times s ≡ cond (flag active s) (t -ℤ number since s) (number held_times s) =
+    ap (λ xs. number xs s) made ∙ measured_is t since active held_times s long in
+    sym (each ∙ ap (λ b. cond b (t -ℤ number since s) (number held_times s)) off)

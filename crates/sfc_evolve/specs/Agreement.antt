@@ -1,5 +1,5 @@
 -- Which scans a `Steps` agrees with.
-use Rattle.std.specs.Prelude.{ℕ, ◌≡◌, ◌<◌, cond, List, ℤ, ◌-ℤ◌, length}
+use Rattle.std.specs.Prelude.{ℕ, ◌≡◌, ◌<◌, false, cond, List, ℤ, ◌-ℤ◌, length}
 use Rattle.sfc_tables.specs.Tables.{Tabled}
 use Rattle.sfc_evolve.specs.declared.steps.Steps.{Steps}
 use Rattle.sfc_evolve.specs.Clearing.{step_count, transition_count}
@@ -42,3 +42,16 @@ StepsAgree tables steps scans = Keeps tables steps scans
 -- that agrees they are the steps' times (`laws::shown_times`).
 unfoldable pub AreMeasured : ℤ → Steps → Type 0
 AreMeasured t steps = (s : ℕ) → s < step_total steps → number steps.held_times.items s ≡ shown_time steps t s
+
+-- They keep the same, but for the transitions that the latest scan cleared, the steps that it activated, and the times of active steps,
+-- which are worked out.
+pub record Likeness (a b : Steps) : Type 0 where
+  pub begun : a.begun ≡ b.begun
+  pub active : a.active ≡ b.active
+  pub since : a.since.items ≡ b.since.items
+  pub held_times : (s : ℕ) → flag a.active s ≡ false → number a.held_times.items s ≡ number b.held_times.items s
+  pub candidates : a.candidates ≡ b.candidates
+  pub transitions : transition_total a ≡ transition_total b
+
+unfoldable pub IsLike : Steps → Steps → Type 0
+IsLike a b = Likeness a b

@@ -67,7 +67,8 @@ impl Steps {
     ghost use Rattle.sfc_evolve.specs.Evolution.{was_cleared, was_activated};
     ghost use Rattle.sfc_evolve.specs.Clearing.{of_rank};
     ghost use Rattle.sfc_evolve.specs.Work.{advance_work};
-    ghost use Rattle.sfc_evolve.specs.Agreement.{IsFor, StepsAgree, step_total, transition_total, measured_times, shown_time, AreMeasured};
+    ghost use Rattle.sfc_evolve.specs.declared.steps.Steps.{Steps};
+    ghost use Rattle.sfc_evolve.specs.Agreement.{IsFor, StepsAgree, step_total, transition_total, measured_times, shown_time, AreMeasured, IsLike};
 
     /// Before the first scan of a life. The one error is that memory was refused.
     pub fn new(alloc: Global, tables: &Tables) -> Result<Self, AllocError>
@@ -123,6 +124,7 @@ impl Steps {
             active_steps tables.now (rows_of tables.now (record { conditions = conditions.now; at = t } ∷ scans))
             ≡ active_steps tables.now (rows_of tables.now scans) }
         ensures measured { result ≡ false → (now : ℤ) → AreMeasured now self.old → AreMeasured now self.new }
+        ensures like { result ≡ false → (other : Steps) → IsLike other self.old → IsLike other self.new }
         ensures ticks { Within (advance_work tables.now) ticks.old ticks.new }
     {
         let _steps = tables.steps();
@@ -223,6 +225,7 @@ impl Steps {
         ensures agrees { (tables : Tabled) (scans : List Scan) → StepsAgree tables self.old scans →
             StepsAgree tables self.new scans }
         ensures measured { AreMeasured t self.new }
+        ensures like { (other : Steps) → IsLike other self.old → IsLike other self.new }
         ensures ticks { Within (step_total self.old) ticks.old ticks.new }
     {
         measure_active(&mut self.held_times, &self.since, &self.active, t, ticks);
@@ -270,6 +273,7 @@ impl Steps {
         ensures transitions { transition_total self.new ≡ transition_total self.old }
         ensures agrees { (tables : Tabled) (scans : List Scan) → StepsAgree tables other.now scans →
             StepsAgree tables self.new scans }
+        ensures like { IsLike self.new other.now }
         ensures ticks { Within (step_total self.old + 2 * transition_total self.old) ticks.old ticks.new }
     {
         copy_flags(&mut self.active, &mut self.on, &other.active, &other.on);
@@ -288,5 +292,19 @@ impl Steps {
             ticks,
         );
         self.begun = other.begun;
+    }
+
+    /// Takes over what the other keeps, where the two are alike, as after a scan in which no step moved. It takes no memory.
+    pub fn follow(&mut self, other: &Steps, ticks: &mut Ticks)
+        requires like { IsLike self.old other.now }
+        ensures steps { step_total self.new ≡ step_total self.old }
+        ensures transitions { transition_total self.new ≡ transition_total self.old }
+        ensures agrees { (tables : Tabled) (scans : List Scan) → StepsAgree tables other.now scans →
+            StepsAgree tables self.new scans }
+        ensures like { IsLike self.new other.now }
+        ensures ticks { Within (step_total self.old + transition_total self.old) ticks.old ticks.new }
+    {
+        self.cleared.copy_from(&other.cleared, ticks);
+        self.on.copy_from(&other.on, ticks);
     }
 }

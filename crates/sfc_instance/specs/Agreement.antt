@@ -1,5 +1,5 @@
 -- What a `Program` agrees with.
-use Rattle.std.specs.Prelude.{ℕ, ℤ, ◌≡◌, [], length}
+use Rattle.std.specs.Prelude.{ℕ, ℤ, ◌≡◌, true, [], length}
 use Rattle.sfc_tables.specs.Tables.{Tabled}
 use Rattle.sfc_evolve.specs.Agreement as evolve
 use Rattle.sfc_action.specs.Agreement as action
@@ -23,6 +23,11 @@ pub record StateKeeps (tables : Tabled) (state : State) (life : Life) : Type 0 w
 
 unfoldable pub StateAgrees : Tabled → State → Life → Type 0
 StateAgrees tables state life = StateKeeps tables state life
+
+-- apart from what the latest scan cleared, activated and executed they keep the same
+pub record IsNear (a b : State) : Type 0 where
+  pub steps : evolve.IsLike a.steps b.steps
+  pub controls : action.IsAlike a.controls b.controls
 
 -- how many steps, transitions and actions it shows
 abbrev pub step_total : Program → ℕ
@@ -51,6 +56,7 @@ pub record IsScanRunFor (tables : Tabled) (run : ScanRun) : Type 0 where
   pub now : IsStateFor tables run.now
   pub spare : IsStateFor tables run.spare
   pub buffers : AreBuffersFor tables run.buffers
+  pub near : run.near ≡ true → IsNear run.spare run.now
 
 pub record HasBuffers (tables : Tabled) (program : Program) : Type 0 where
   pub run : IsScanRunFor tables program.run

@@ -129,6 +129,7 @@ impl Program {
         ensures ticks { Within (copy_work tables.now) ticks.old ticks.new }
     {
         self.run.now.copy_from(tables, &self.fresh, ticks);
+        self.run.near = false;
         self.scans = 0;
         self.at = 0;
         self.fault = None;
@@ -144,6 +145,7 @@ impl Program {
     {
         let mut ticks = Ticks::new();
         self.run.now.copy_from(tables, &other.run.now, &mut ticks);
+        self.run.near = false;
         self.fresh.copy_from(tables, &other.fresh, &mut ticks);
         self.scans = other.scans;
         self.at = other.at;

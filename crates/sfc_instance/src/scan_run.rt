@@ -4,11 +4,13 @@ use crate::acting::act_or_undo;
 use crate::scan_buffers::ScanBuffers;
 use crate::state::State;
 
-/// The steps and the action control after the latest scan, and what they were before it, which a fault brings back.
+/// The steps and the action control after the latest scan, and what they were before it, which a fault brings back; and whether the two
+/// keep the same but for what that scan cleared, activated and executed.
 pub struct ScanRun {
     pub now: State,
     pub spare: State,
     pub buffers: ScanBuffers,
+    pub near: bool,
 }
 
 // By hand, so that a caller that drops one proves one call.
@@ -18,6 +20,7 @@ impl Drop for ScanRun {
             now: _,
             spare: _,
             buffers: _,
+            near: _,
         } = self;
     }
 }
@@ -55,6 +58,7 @@ impl ScanRun {
             now: State::new(alloc, tables)?,
             spare: State::new(alloc, tables)?,
             buffers: ScanBuffers::new(alloc, tables)?,
+            near: false,
         })
     }
 
@@ -92,6 +96,7 @@ impl ScanRun {
         let answer = act_or_undo(context, &self.now, image, ticks);
         if answer.is_err() {
             std::mem::swap(&mut self.now, &mut self.spare);
+            self.near = false;
         }
         answer
     }
@@ -121,7 +126,8 @@ impl ScanRun {
             (with_row plant context.entry.instance life changes t (row_in self.old.buffers t)) }
         ensures ticks { Within (go_work context.entry.tables.now context.entry.chart.now (variable_total image.old)) ticks.old ticks.new }
     {
-        self.spare.copy_from(context.tables, &self.now, ticks);
+        self.spare
+            .follow(self.near, context.tables, &self.now, ticks);
         match self.now.advance(
             context.tables,
             &self.buffers.conditions,
@@ -131,12 +137,16 @@ impl ScanRun {
         ) {
             Err(fault) => {
                 std::mem::swap(&mut self.now, &mut self.spare);
+                self.near = false;
                 Err(ScanFault::Control(fault))
             }
-            Ok(moved) => match self.finish(context, image, t, moved, ticks) {
-                Err(fault) => Err(ScanFault::Expression(fault)),
-                Ok(()) => Ok(()),
-            },
+            Ok(moved) => {
+                self.near = !moved;
+                match self.finish(context, image, t, moved, ticks) {
+                    Err(fault) => Err(ScanFault::Expression(fault)),
+                    Ok(()) => Ok(()),
+                }
+            }
         }
     }
 

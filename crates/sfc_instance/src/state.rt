@@ -26,11 +26,13 @@ ghost use Rattle.sfc_tables.specs.Tables.{Tabled};
 ghost use Rattle.sfc_evolve.specs.Agreement.{AreMeasured};
 ghost use Rattle.sfc_evolve.specs.Work.{advance_work};
 ghost use Rattle.sfc_action.specs.ActionControl.{Scan, first_fault};
-ghost use Rattle.sfc_action.specs.Agreement.{IsFor, ControlsAgree, action_total};
+ghost use Rattle.sfc_action.specs.declared.control_state.ControlState.{ControlState};
+ghost use Rattle.sfc_action.specs.Agreement.{IsFor, ControlsAgree, IsAlike, action_total};
 ghost use Rattle.sfc_action.specs.Work.{control_work};
 ghost use Rattle.sfc_instance.specs.Life.{Life, Row, control_scans};
 ghost use Rattle.sfc_instance.specs.Work.{copy_work};
-ghost use Rattle.sfc_instance.specs.Agreement.{IsStateFor, StateAgrees};
+ghost use Rattle.sfc_instance.specs.declared.state.State.{State};
+ghost use Rattle.sfc_instance.specs.Agreement.{IsStateFor, StateAgrees, IsNear};
 
 use sfc_action::fault::ControlFault;
 use sfc_base::ticks::Ticks;
@@ -46,6 +48,7 @@ fn repeat(controls: &mut Controls, moved: bool, ticks: &mut Ticks) -> bool
     ensures faultless { result ≡ true → (tables : Tabled) (scan last : Scan) (h : List Scan) → scan.active ≡ last.active →
         ControlsAgree tables controls.old (last ∷ h) → first_fault tables (scan ∷ last ∷ h) ≡ None }
     ensures unchanged { result ≡ false → controls.new ≡ controls.old }
+    ensures alike { (other : ControlState) → IsAlike other controls.old → IsAlike other controls.new }
     ensures ticks { Within (2 * action_total controls.old) ticks.old ticks.new }
     ensures ticks_of_no { result ≡ false → Within (action_total controls.old) ticks.old ticks.new }
 {
@@ -74,10 +77,29 @@ impl State {
         requires others { IsStateFor tables.now other.now }
         ensures sizes { IsStateFor tables.now self.new }
         ensures agrees { (life : Life) → StateAgrees tables.now other.now life → StateAgrees tables.now self.new life }
+        ensures near { IsNear self.new other.now }
         ensures ticks { Within (copy_work tables.now) ticks.old ticks.new }
     {
         self.steps.copy_from(&other.steps, ticks);
         self.controls.copy_from(tables, &other.controls, ticks);
+    }
+
+    /// The same, where `near` tells that the two keep the same but for what the latest scan cleared, activated and executed.
+    pub fn follow(&mut self, near: bool, tables: &Tables, other: &State, ticks: &mut Ticks)
+        requires own { IsStateFor tables.now self.old }
+        requires others { IsStateFor tables.now other.now }
+        requires near { near ≡ true → IsNear self.old other.now }
+        ensures sizes { IsStateFor tables.now self.new }
+        ensures agrees { (life : Life) → StateAgrees tables.now other.now life → StateAgrees tables.now self.new life }
+        ensures near { IsNear self.new other.now }
+        ensures ticks { Within (copy_work tables.now) ticks.old ticks.new }
+    {
+        if near {
+            self.steps.follow(&other.steps, ticks);
+            self.controls.follow(&other.controls, ticks);
+        } else {
+            self.copy_from(tables, other, ticks);
+        }
     }
 
     /// Works out the times of all steps at t, in microseconds from 0 to 2^62 (2.6.2). It takes no memory.
@@ -88,6 +110,7 @@ impl State {
         ensures sizes { IsStateFor tables.now self.new }
         ensures agrees { (life : Life) → StateAgrees tables.now self.old life → StateAgrees tables.now self.new life }
         ensures measured { AreMeasured t self.new.steps }
+        ensures near { (other : State) → IsNear other self.old → IsNear other self.new }
         ensures ticks { Within (length tables.now.initial) ticks.old ticks.new }
     {
         self.steps.measure(t, ticks);
@@ -102,6 +125,7 @@ impl State {
         ensures sizes { IsStateFor tables.now self.new }
         ensures agrees { (life : Life) → StateAgrees tables.now self.old life → StateAgrees tables.now self.new life }
         ensures measured { AreMeasured t self.new.steps }
+        ensures near { (other : State) → IsNear other self.old → IsNear other self.new }
         ensures ticks { Within (length tables.now.initial) ticks.old ticks.new }
     {
         if moved {
@@ -110,9 +134,9 @@ impl State {
     }
 
     /// One scan at t, in microseconds from 0 to 2^62, with the condition of each transition and the time of each
-    /// association in microseconds (2.6.5). It takes no memory. Answers whether steps may have moved: where it answers no, times of
-    /// steps that were worked out before are still so. The error is the fault of action control; then the steps have gone on and the
-    /// control has not.
+    /// association in microseconds (2.6.5). It takes no memory. Answers whether more may have changed than what a scan cleared, activated
+    /// and executed: where it answers no, times of steps that were worked out before are still so. The error is the fault of action
+    /// control; then the steps have gone on and the control has not.
     pub fn advance(
         &mut self,
         tables: &Tables,
@@ -132,6 +156,7 @@ impl State {
         ensures agrees { OnOk result ((life : Life) → StateAgrees tables.now self.old life →
             StateAgrees tables.now self.new (record { conditions = conditions.now; times = times.now; at = t } ∷ life)) }
         ensures measured { IfOk result (λ moved. moved ≡ false → (now : ℤ) → AreMeasured now self.old.steps → AreMeasured now self.new.steps) }
+        ensures near { IfOk result (λ moved. moved ≡ false → (other : State) → IsNear other self.old → IsNear other self.new) }
         ensures ticks { Within (advance_work tables.now + control_work tables.now) ticks.old ticks.new }
     {
         let moved = self.steps.advance(tables, conditions, t, ticks);
@@ -140,7 +165,7 @@ impl State {
         }
         match self.controls.step(tables, &self.steps, t, times, ticks) {
             Err(fault) => Err(fault),
-            Ok(()) => Ok(moved),
+            Ok(()) => Ok(true),
         }
     }
 }

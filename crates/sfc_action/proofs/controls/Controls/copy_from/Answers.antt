@@ -2,7 +2,7 @@ use Rattle.std.proofs.Common.{ℕ, ◌∙◌, ap, length, subst, sym}
 use Rattle.std.specs.Prelude.{map}
 use Rattle.sfc_action.specs.declared.control_state.ControlState.{ControlState}
 use Rattle.sfc_action.specs.Private.Keeping.{IsCopy, IsStateSized, delay_of}
-use Rattle.sfc_action.specs.Agreement.{ControlsAgree}
+use Rattle.sfc_action.specs.Agreement.{ControlsAgree, IsAlike}
 use Rattle.sfc_action.proofs.Fitting.{is_for, are_for, same_actions, same_delays}
 use Rattle.sfc_action.proofs.Starts.{copied_for, copied_state}
 use Rattle.sfc_action.proofs.controls.Controls.copy_from.Goals as goal
@@ -35,3 +35,19 @@ returns-clause-agrees c tables h agrees = record {
   size = copied_for tables c.args.other.now c.copy_from.new.self (copy c) agrees.size;
   each = copied_state tables c.args.other.now c.copy_from.new.self h (copy c) agrees.each;
 }
+
+pub returns-clause-alike : goal.returns-clause-alike
+unfolding IsAlike
+returns-clause-alike c =
+    let from = c.args.other.now in
+    let same = copy c in
+    (λ i. record {
+      pulse = same.pulse i;
+      rising_pulse = same.rising_pulse i;
+      falling_pulse = same.falling_pulse i;
+      stores = same.stores i;
+      delayed_stored = same.delayed_stored i;
+      q = same.q i;
+      executed = from.executed;
+      blocks = same.blocks i;
+    })

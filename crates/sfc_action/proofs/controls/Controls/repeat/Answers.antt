@@ -1,6 +1,6 @@
 use Rattle.std.proofs.Common.{◌≡◌, ◌∷◌, sym, ◌∙◌, subst}
 use Rattle.sfc_action.specs.declared.control_state.ControlState.{ControlState}
-use Rattle.sfc_action.specs.Agreement.{ControlsAgree, Keeps}
+use Rattle.sfc_action.specs.Agreement.{ControlsAgree, IsAlike, Keeps}
 use Rattle.sfc_action.specs.Private.Resting.{IsAtRest, rested}
 use Rattle.sfc_action.proofs.Resting.{rested_size, rested_state, rested_faultless}
 use Rattle.sfc_action.proofs.controls.Controls.repeat.Goals as goal
@@ -22,3 +22,14 @@ pub returns-clause-faultless : goal.returns-clause-faultless
 unfolding ControlsAgree
 returns-clause-faultless c on tables scan last h same agrees =
     rested_faultless tables c.args.self.now scan last h same agrees.size agrees.each (at_rest c)
+
+pub returns-then-not-is_at_rest-clause-alike : goal.returns-then-not-is_at_rest-clause-alike
+unfolding IsAlike
+returns-then-not-is_at_rest-clause-alike c other alike = alike
+
+pub returns-clause-alike : goal.returns-clause-alike
+unfolding IsAlike
+returns-clause-alike c other alike =
+    let old = c.args.self.now in
+    let is : c.rest.new.self ≡ rested old = c.rest.ensures.rested ∙ (λ i. rested (c.self.view_is i)) in
+    (λ i. record other { executed = (is i).executed }) ∙ (λ i. record (alike i) { executed = old.q }) ∙ sym is

@@ -3,7 +3,7 @@ use Rattle.std.proofs.lemmas.Int.{to_z-of_z}
 use Rattle.std.proofs.lemmas.List.{with_items_is, length-replicate}
 use Rattle.std.specs.Prelude.{replicate}
 use Rattle.sfc_flags.specs.Flags.{flag, places_from}
-use Rattle.sfc_evolve.specs.Agreement.{StepsAgree, AreMeasured, shown_time}
+use Rattle.sfc_evolve.specs.Agreement.{StepsAgree, AreMeasured, shown_time, IsLike}
 use Rattle.sfc_evolve.specs.Lookback.{is_empty}
 use Rattle.sfc_evolve.specs.Evolution.{Scan, rows_of, is_active}
 use Rattle.sfc_evolve.proofs.Listed.{listed}
@@ -365,3 +365,15 @@ returns-then-self-clause-same_steps c answer scans k =
 pub returns-then-self-clause-measured : goal.returns-then-self-clause-measured
 unfolding AreMeasured shown_time
 returns-then-self-clause-measured c answer now measured = measured
+
+pub returns-then-self-clause-like : goal.returns-then-self-clause-like
+unfolding IsLike
+returns-then-self-clause-like c answer other like = record {
+  begun = like.begun;
+  active = like.active;
+  since = like.since;
+  held_times = like.held_times;
+  candidates = like.candidates;
+  transitions = like.transitions
+      ∙ sym (c.clear_in_order.ensures.cleared_len ∙ ap length c.clear_all-2.ensures.flags ∙ length-replicate (length c.args.self.now.cleared) false);
+}

@@ -1,6 +1,7 @@
-use Rattle.std.proofs.Common.{arith, ap, sym, subst, length, ◌∙◌}
+use Rattle.std.proofs.Common.{arith, ap, refl, sym, subst, length, ◌∙◌}
 use Rattle.std.proofs.lemmas.List.{with_items_is}
-use Rattle.sfc_evolve.specs.Private.Keeping.{AreInstants}
+use Rattle.sfc_evolve.specs.Private.Keeping.{AreInstants, number}
+use Rattle.sfc_evolve.specs.Agreement.{IsLike}
 use Rattle.sfc_evolve.proofs.steps.Steps.copy_from.Goals as goal
 
 pub copy_flags-requires-2-clause-from_second_len : goal.copy_flags-requires-2-clause-from_second_len
@@ -69,3 +70,18 @@ returns-clause-ticks c =
         fits,
       ),
     )
+
+pub returns-clause-like : goal.returns-clause-like
+unfolding IsLike
+returns-clause-like c =
+    let self = c.args.self.now in
+    let held = with_items_is self.held_times c.copy_times.new.held_times (omega arith)
+    ∙ c.copy_times.ensures.held_times ∙ c.deref-2.ensures.value in
+    record {
+      begun = refl;
+      active = c.copy_flags.ensures.first;
+      since = with_items_is self.since c.copy_times.new.since (omega arith) ∙ c.copy_times.ensures.since ∙ c.deref.ensures.value;
+      held_times = λ s off. ap (λ xs. number xs s) held;
+      candidates = c.copy_flags-2.ensures.second;
+      transitions = ap length c.copy_flags-2.ensures.first;
+    }

@@ -1,11 +1,11 @@
 use Rattle.std.proofs.Common.{◌≡◌, length, arith, ap, subst, ◌∙◌, refl, sym, SFits, w64}
 use Rattle.std.proofs.lemmas.Int.{to_z-of_z}
 use Rattle.std.proofs.lemmas.List.{with_items_is}
-use Rattle.sfc_flags.specs.Flags.{places_from}
-use Rattle.sfc_evolve.specs.Agreement.{StepsAgree, AreMeasured, shown_time}
-use Rattle.sfc_evolve.specs.Private.Keeping.{AreInstants, measured_at}
+use Rattle.sfc_flags.specs.Flags.{flag, places_from}
+use Rattle.sfc_evolve.specs.Agreement.{StepsAgree, AreMeasured, shown_time, IsLike}
+use Rattle.sfc_evolve.specs.Private.Keeping.{AreInstants, measured_at, number}
 use Rattle.sfc_evolve.proofs.Next.{fields_at}
-use Rattle.sfc_evolve.proofs.Measured.{fields_still, measured_again}
+use Rattle.sfc_evolve.proofs.Measured.{fields_still, measured_again, others_stay}
 use Rattle.sfc_evolve.proofs.steps.Steps.measure.Goals as goal
 
 -- what was worked out
@@ -64,3 +64,21 @@ returns-clause-measured c s lt =
     let self = c.args.self.now in
     let new = with_items_is self.held_times c.measure_active.new.times (omega arith) in
     measured_again c.args.t self.active self.since.items self.held_times.items c.measure_active.new.times self.held_times_len (made c) _ new s
+
+pub returns-clause-like : goal.returns-clause-like
+unfolding IsLike
+returns-clause-like c other like =
+    let self = c.args.self.now in
+    let new = with_items_is self.held_times c.measure_active.new.times (omega arith) in
+    record {
+      begun = like.begun;
+      active = like.active;
+      since = like.since;
+      held_times = λ s off.
+          like.held_times s off
+          ∙ others_stay c.args.t self.active self.since.items self.held_times.items c.measure_active.new.times self.held_times_len (made c) s
+          (sym (ap (λ f. flag f s) like.active) ∙ off)
+          ∙ sym (ap (λ xs. number xs s) new);
+      candidates = like.candidates;
+      transitions = like.transitions;
+    }

@@ -13,7 +13,7 @@ pub returns-in-Err-clause-agrees : goal.returns-in-Err-clause-agrees
 returns-in-Err-clause-agrees c plant life changes context state h =
     let tables = c.args.context.tables.now in
     let row = row_in c.args.self.now.buffers c.args.t in
-    let agreed = c.copy_from.ensures.agrees life state in
+    let agreed = c.follow.ensures.agrees life state in
     let fault_is : result_err c.advance.result ≡ control.first_fault tables (control_scans tables (row ∷ life)) =
     simp (to_z-of_z, c.ranges.t, c.deref.ensures.value, c.deref-2.ensures.value) at (c.advance.ensures.fault life state) in
     control_ends plant c.args.context context life changes c.args.t row c.in-Err.fault c.swap.new.x c.args.image.now
@@ -23,13 +23,13 @@ pub returns-in-Err-finish-clause-agrees : goal.returns-in-Err-finish-clause-agre
 returns-in-Err-finish-clause-agrees c plant life changes context state h =
     let tables = c.args.context.tables.now in
     let row = row_in c.args.self.now.buffers c.args.t in
-    let agreed = c.copy_from.ensures.agrees life state in
+    let agreed = c.follow.ensures.agrees life state in
     let fault_is : result_err c.advance.result ≡ control.first_fault tables (control_scans tables (row ∷ life)) =
     simp (to_z-of_z, c.ranges.t, c.deref.ensures.value, c.deref-2.ensures.value) at (c.advance.ensures.fault life state) in
     let on : is_ok c.advance.result ≡ true = ap is_ok c.in-Ok.is in
     let advanced : StateAgrees tables c.advance.new.self (row ∷ life) =
     simp (to_z-of_z, c.ranges.t, c.deref.ensures.value, c.deref-2.ensures.value) at (on_ok c.advance.result _ on c.advance.ensures.agrees life state) in
-    body_ends plant c.args.context context life changes c.args.t row c.in-Err-finish.fault c.finish.result c.copy_from.new.self c.finish.new.self.now
+    body_ends plant c.args.context context life changes c.args.t row c.in-Err-finish.fault c.finish.result c.follow.new.self c.finish.new.self.now
     c.finish.new.image (ap result_err (sym c.in-Ok.is) ∙ fault_is) c.in-Err-finish.is (c.finish.ensures.now (row ∷ life) advanced)
     (simp (to_z-of_z, c.ranges.t) at (c.finish.ensures.agrees plant (row ∷ life) changes context advanced h)) agreed
 
@@ -37,12 +37,12 @@ pub returns-in-Ok-finish-clause-agrees : goal.returns-in-Ok-finish-clause-agrees
 returns-in-Ok-finish-clause-agrees c plant life changes context state h =
     let tables = c.args.context.tables.now in
     let row = row_in c.args.self.now.buffers c.args.t in
-    let agreed = c.copy_from.ensures.agrees life state in
+    let agreed = c.follow.ensures.agrees life state in
     let fault_is : result_err c.advance.result ≡ control.first_fault tables (control_scans tables (row ∷ life)) =
     simp (to_z-of_z, c.ranges.t, c.deref.ensures.value, c.deref-2.ensures.value) at (c.advance.ensures.fault life state) in
     let on : is_ok c.advance.result ≡ true = ap is_ok c.in-Ok.is in
     let advanced : StateAgrees tables c.advance.new.self (row ∷ life) =
     simp (to_z-of_z, c.ranges.t, c.deref.ensures.value, c.deref-2.ensures.value) at (on_ok c.advance.result _ on c.advance.ensures.agrees life state) in
-    ends_well plant c.args.context context life changes c.args.t row c.in-Ok-finish.field-0 c.finish.result c.copy_from.new.self c.finish.new.self.now
+    ends_well plant c.args.context context life changes c.args.t row c.in-Ok-finish.field-0 c.finish.result c.follow.new.self c.finish.new.self.now
     c.finish.new.image (ap result_err (sym c.in-Ok.is) ∙ fault_is) c.in-Ok-finish.is (c.finish.ensures.now (row ∷ life) advanced)
     (simp (to_z-of_z, c.ranges.t) at (c.finish.ensures.agrees plant (row ∷ life) changes context advanced h))
