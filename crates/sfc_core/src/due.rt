@@ -114,8 +114,9 @@ fn is_first(task: TaskId, first: Option<TaskId>) -> bool
     }
 }
 
-// Why a scan at t is not the task's turn. Where the task goes first, nothing else is asked.
+// Why a scan at t is not the task's turn. One task alone yields to none; where the task goes first, nothing else is asked.
 #[tactic(auto, unfolding(crate::specs::Verdict::turn_refusal))]
+#[inline(always)]
 fn refuse_scan(
     tasks: &TaskTable,
     singles: &[bool],
@@ -131,6 +132,9 @@ fn refuse_scan(
         result ≡ turn_refusal all singles.now (Elapsed t singles.now ∷ calls) (Event.Scan task) t }
     ensures ticks { Within (task_total tasks.now + 2) ticks.old ticks.new }
 {
+    if tasks.is_alone() {
+        return refuse_undue(tasks, singles, task, t, ticks);
+    }
     let first = tasks.pick(t, singles, ticks);
     if is_first(task, first) {
         return None;
@@ -144,6 +148,7 @@ fn refuse_scan(
 /// Why a scan at t, from 0 to 2^62 microseconds and not before the latest event, is not its task's turn: no release of it waits, or
 /// another task goes first. `singles` has what the SINGLE of each task reads. No task is told anything.
 #[tactic(auto, unfolding(crate::specs::Verdict::turn_refusal))]
+#[inline(always)]
 pub fn refuse_turn(
     tasks: &TaskTable,
     singles: &[bool],

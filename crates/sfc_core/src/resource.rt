@@ -91,6 +91,7 @@ impl Resource {
     }
 
     // Why the event at t is refused by its instant and by what it names.
+    #[inline(always)]
     fn refuse_named(&self, event: Event, t: i64) -> Option<Refusal>
         ensures value { (h : History) → Agrees self.now h → result ≡ or_then (instant_refusal (last_instant h) t)
             (event_refusal (plant_of self.now) (state_of (plant_of self.now) h).changes event) }
@@ -105,6 +106,7 @@ impl Resource {
     }
 
     // An event that is not refused, where the SINGLE of each task read so before it.
+    #[inline(always)]
     fn accept(&mut self, before: &Singles, event: Event, t: i64, ticks: &mut Ticks) -> Outcome
         requires low { pos 0 ≤ℤ t }
         requires high { t ≤ℤ pos (2 ^ 62) }
@@ -125,6 +127,38 @@ impl Resource {
         outcome(event, bits, &self.tasks, ticks)
     }
 
+    // One event, as `apply` says.
+    #[inline(always)]
+    fn decide(&mut self, event: Event, t: i64, ticks: &mut Ticks) -> Result<Outcome, Refusal>
+        ensures plant { plant_of self.new ≡ plant_of self.old }
+        ensures answer { (h : History) → Agrees self.old h → result ≡ verdict (plant_of self.old) h event t }
+        ensures ok { OnOk result ((h : History) → Agrees self.old h → Agrees self.new ((event, t) ∷ h)) }
+        ensures err { OnErr result (self.new ≡ self.old) }
+        ensures ticks { Within (event_work (plant_of self.old) event) ticks.old ticks.new }
+    {
+        if let Some(refusal) = self.refuse_named(event, t) {
+            return Err(refusal);
+        }
+        let singles = Singles::read(&self.instances, &self.plant, self.maybe_single, ticks);
+        match refuse_turn(&self.tasks, singles.as_slice(), event, t, ticks) {
+            Some(refusal) => Err(refusal),
+            None => Ok(self.accept(&singles, event, t, ticks)),
+        }
+    }
+
+    // The same of an event that is no scan, so that what a scan runs is compiled for scans alone.
+    #[cold]
+    #[inline(never)]
+    fn apply_other(&mut self, event: Event, t: i64, ticks: &mut Ticks) -> Result<Outcome, Refusal>
+        ensures plant { plant_of self.new ≡ plant_of self.old }
+        ensures answer { (h : History) → Agrees self.old h → result ≡ verdict (plant_of self.old) h event t }
+        ensures ok { OnOk result ((h : History) → Agrees self.old h → Agrees self.new ((event, t) ∷ h)) }
+        ensures err { OnErr result (self.new ≡ self.old) }
+        ensures ticks { Within (event_work (plant_of self.old) event) ticks.old ticks.new }
+    {
+        self.decide(event, t, ticks)
+    }
+
     /// One event at the instant t, in microseconds: what it is refused for, else what it answers. After a refusal the
     /// resource is as it was. It takes no memory.
     ///
@@ -141,14 +175,10 @@ impl Resource {
         ensures err { OnErr result (self.new ≡ self.old) }
         ensures ticks { Within (event_work (plant_of self.old) event) ticks.old ticks.new }
     {
-        if let Some(refusal) = self.refuse_named(event, t) {
-            return Err(refusal);
+        if event.scanned_task().is_none() {
+            return self.apply_other(event, t, ticks);
         }
-        let singles = Singles::read(&self.instances, &self.plant, self.maybe_single, ticks);
-        match refuse_turn(&self.tasks, singles.as_slice(), event, t, ticks) {
-            Some(refusal) => Err(refusal),
-            None => Ok(self.accept(&singles, event, t, ticks)),
-        }
+        self.decide(event, t, ticks)
     }
 
     // One event, and whether it is accepted.

@@ -4,7 +4,7 @@ use Rattle.sfc_core.specs.Due.{calls_of}
 use Rattle.sfc_core.specs.Private.Ready.{flags_of}
 use Rattle.sfc_core.specs.PlantState.{state_of}
 use Rattle.sfc_core.proofs.Verdicts.{none_of, singles_there, refused_named, refused_turn, granted, ready_there}
-use Rattle.sfc_core.proofs.resource.Resource.apply.Goals as goal
+use Rattle.sfc_core.proofs.resource.Resource.decide.Goals as goal
 
 pub accept-requires-clause-ready : goal.accept-requires-clause-ready
 unfolding Agrees plant_of
