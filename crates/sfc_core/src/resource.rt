@@ -158,6 +158,18 @@ impl Resource {
         }
     }
 
+    // The same of an event that is no scan. It is a function of its own, so that what a scan runs is compiled for scans alone.
+    #[inline(always)]
+    fn decide_other(&mut self, event: Event, t: i64, ticks: &mut Ticks) -> Result<Outcome, Refusal>
+        ensures plant { plant_of self.new ≡ plant_of self.old }
+        ensures answer { (h : History) → Agrees self.old h → result ≡ verdict (plant_of self.old) h event t }
+        ensures ok { OnOk result ((h : History) → Agrees self.old h → Agrees self.new ((event, t) ∷ h)) }
+        ensures err { OnErr result (self.new ≡ self.old) }
+        ensures ticks { Within (event_work (plant_of self.old) event) ticks.old ticks.new }
+    {
+        self.decide(event, t, ticks)
+    }
+
     /// One event at the instant t, in microseconds: what it is refused for, else what it answers. After a refusal the
     /// resource is as it was. It takes no memory.
     ///
@@ -174,12 +186,10 @@ impl Resource {
         ensures err { OnErr result (self.new ≡ self.old) }
         ensures ticks { Within (event_work (plant_of self.old) event) ticks.old ticks.new }
     {
-        // Twice the same, so that what a scan runs is compiled for scans alone.
-        if event.scanned_task().is_some() {
-            self.decide(event, t, ticks)
-        } else {
-            self.decide(event, t, ticks)
+        if event.scanned_task().is_none() {
+            return self.decide_other(event, t, ticks);
         }
+        self.decide(event, t, ticks)
     }
 
     // One event, and whether it is accepted.
