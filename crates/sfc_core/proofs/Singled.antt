@@ -33,3 +33,15 @@ none_read plant changes (task ∷ tasks) (x ∷ flags) off le none =
     let same : x ≡ single_in plant changes task.single = off 0 ∙ sym (no_single plant changes task.single (none 0 task (omega arith))) in
     let rest = none_read plant changes tasks flags (λ j. off (suc j)) (omega (arith, le)) (λ k d lt. none (suc k) d (omega (arith, lt))) in
     ap (λ (b : Bool). b ∷ take (length tasks) flags) same ∙ ap (λ (bs : List Bool). single_in plant changes task.single ∷ bs) rest
+
+-- so are they where there is one for each task
+pub none_read_all : (plant : PlantData) (changes : List Change) (tasks : List Task) (flags : List Bool)
+    → ((j : ℕ) → get_or flags j false ≡ false) → length flags ≡ length tasks → HaveNoSingle tasks
+    → flags ≡ map (λ (task : Task). single_in plant changes task.single) tasks
+none_read_all plant changes [] [] off e none = refl
+none_read_all plant changes [] (x ∷ flags) off e none = absurd (omega (arith, e))
+none_read_all plant changes (task ∷ tasks) [] off e none = absurd (omega (arith, e))
+none_read_all plant changes (task ∷ tasks) (x ∷ flags) off e none =
+    let same : x ≡ single_in plant changes task.single = off 0 ∙ sym (no_single plant changes task.single (none 0 task (omega arith))) in
+    let rest = none_read_all plant changes tasks flags (λ j. off (suc j)) (omega (arith, e)) (λ k d lt. none (suc k) d (omega (arith, lt))) in
+    ap (λ (b : Bool). b ∷ flags) same ∙ ap (λ (bs : List Bool). single_in plant changes task.single ∷ bs) rest

@@ -112,6 +112,28 @@ first_turn tasks singles calls task t e =
     ap (yield_to task) e ∙ ap (λ b. refused_if (not b) (Yield task)) (same_number task.0) in
     sym (λ i. or_then (due i) (turn i))
 
+yields_none : (task : TaskId) (o : Option TaskId) → ((first : TaskId) → o ≡ Some first → first.0 ≡ task.0) → yield_to task o ≡ None
+yields_none task None same = refl
+yields_none task (Some first) same =
+    ap (λ (n : ℕ). refused_if (not (n == task.0)) (Yield first)) (same first refl)
+    ∙ ap (λ b. refused_if (not b) (Yield first)) (same_number task.0)
+
+then_none : (o : Option Refusal) → o ≡ or_then o None
+then_none None = refl
+then_none (Some refusal) = refl
+
+-- one task alone yields to none
+pub alone_turn : (tasks : List Task) (singles : List Bool) (calls : List Call) (task : TaskId) (t : ℤ) → length tasks ≡ 1 → task.0 < 1
+    → due_refusal tasks singles calls task t ≡ or_then (due_refusal tasks singles calls task t) (yield_refusal tasks calls task)
+alone_turn tasks singles calls task t one lt =
+    let turn : yield_refusal tasks calls task ≡ None =
+    yields_none task (picked tasks calls)
+    (λ first is.
+    let first_is : IsPicked tasks calls first.0 = picked_is tasks calls first is in
+    omega (arith, first_is.number, one, lt)) in
+    then_none (due_refusal tasks singles calls task t)
+    ∙ sym (ap (λ (o : Option Refusal). or_then (due_refusal tasks singles calls task t) o) turn)
+
 module _ (plant : PlantData) (h : History) (task : TaskId) (t : ℤ) where
   -- the refusals of a scan, by parts
   undue : Option Refusal

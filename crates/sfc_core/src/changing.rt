@@ -21,6 +21,7 @@ use sfc_tasks::table::TaskTable;
 
 /// The event at t, from 0 to 2^62 microseconds, which the plant's variables take; how the scans of a task's instances
 /// ended. What they don't take changes nothing.
+#[inline(always)]
 pub fn change(
     instances: &mut Instances,
     plant: &Plant,

@@ -1,6 +1,6 @@
 //! The tasks at the instant of an event (2.7.2).
 
-ghost use Rattle.std.specs.Prelude.{◌≡◌, ◌<◌, ◌≤◌, ◌+◌, ◌≤ℤ◌, ◌^◌, ◌∷◌, ◌&&◌, not, pos, List, length, Some};
+ghost use Rattle.std.specs.Prelude.{◌≡◌, ◌<◌, ◌≤◌, ◌+◌, ◌*◌, ◌≤ℤ◌, ◌^◌, ◌∷◌, ◌&&◌, not, false, pos, List, length, Some};
 ghost use Rattle.std.specs.Bool.{OnTrue};
 ghost use Rattle.sfc_base.specs.declared.limits.TheConstants.{TASKS};
 ghost use Rattle.sfc_base.specs.Ticks.{Within};
@@ -8,9 +8,13 @@ ghost use Rattle.sfc_plant.specs.declared.task.Task.{Task};
 ghost use Rattle.sfc_tasks.specs.Calls.{Call, Elapsed};
 ghost use Rattle.sfc_tasks.specs.Agreement.{TasksAgree, task_total};
 ghost use Rattle.sfc_events.specs.declared.event.Event.TheVariants as Event;
+ghost use Rattle.sfc_instances.specs.Agreement.{AreInstancesOf, InstancesAgree};
+ghost use Rattle.sfc_instances.specs.PlantState.{PlantState};
+ghost use Rattle.sfc_instances.specs.Singles.{singles_in};
 ghost use Rattle.sfc_core.specs.Due.{with_rises, with_service};
 ghost use Rattle.sfc_core.specs.Verdict as verdict;
 ghost use Rattle.sfc_core.specs.Verdict.{due_refusal, turn_refusal};
+ghost use Rattle.sfc_core.specs.Private.Alone.{HaveNoSingle};
 ghost use Rattle.sfc_core.specs.Private.Naming.{NamesTask};
 ghost use Rattle.sfc_core.specs.Private.Ready.{flags_of};
 
@@ -19,6 +23,8 @@ use sfc_base::ids::TaskId;
 use sfc_base::ticks::Ticks;
 use sfc_events::event::Event;
 use sfc_events::refusal::Refusal;
+use sfc_instances::instances::Instances;
+use sfc_plant::plant::Plant;
 use sfc_tasks::table::TaskTable;
 
 // Whether it was FALSE and is TRUE.
@@ -45,25 +51,37 @@ fn tell_each(tasks: &mut TaskTable, t: i64, before: &[bool], after: &[bool], tic
     }
 }
 
-/// Each SINGLE that read FALSE before and reads TRUE after rose at t, in microseconds.
+/// What SINGLE reads after the event at t, in microseconds, in place of what it read before; each that read FALSE and reads TRUE
+/// rose at t. Where no task has one, nothing is read.
+#[inline(always)]
 pub fn tell_rises(
     tasks: &mut TaskTable,
     t: i64,
-    before: &Singles,
-    after: &Singles,
+    singles: &mut Singles,
+    instances: &Instances,
+    plant: &Plant,
     ticks: &mut Ticks,
 )
-    requires before { length (flags_of before.now) ≡ task_total tasks.old }
-    requires after { length (flags_of after.now) ≡ task_total tasks.old }
-    requires few { task_total tasks.old ≤ TASKS }
+    requires sizes { AreInstancesOf plant.now instances.now }
+    requires len { length (flags_of singles.old) ≡ length plant.now.tasks }
+    requires none { singles.old.maybe ≡ false → HaveNoSingle plant.now.tasks }
+    requires tasks { task_total tasks.old ≡ length plant.now.tasks }
     ensures size { task_total tasks.new ≡ task_total tasks.old }
+    ensures len { length (flags_of singles.new) ≡ length plant.now.tasks }
+    ensures none { singles.new.maybe ≡ false → HaveNoSingle plant.now.tasks }
+    ensures value { (state : PlantState) → InstancesAgree plant.now instances.now state →
+        flags_of singles.new ≡ singles_in plant.now state.changes }
     ensures agrees { (all : List Task) (calls : List Call) → TasksAgree all tasks.old calls →
-        TasksAgree all tasks.new (with_rises t 0 (flags_of before.now) (flags_of after.now) calls) }
-    ensures ticks { Within (task_total tasks.old) ticks.old ticks.new }
+        TasksAgree all tasks.new (with_rises t 0 (flags_of singles.old) (flags_of singles.new) calls) }
+    ensures ticks { Within (2 * length plant.now.tasks) ticks.old ticks.new }
 {
-    if after.maybe_some() {
-        tell_each(tasks, t, before.as_slice(), after.as_slice(), ticks);
+    let maybe = singles.maybe_some();
+    if !maybe {
+        return;
     }
+    let after = Singles::read(instances, plant, maybe, ticks);
+    tell_each(tasks, t, singles.as_slice(), after.as_slice(), ticks);
+    *singles = after;
 }
 
 // That no release of the task waits at t.
@@ -114,8 +132,9 @@ fn is_first(task: TaskId, first: Option<TaskId>) -> bool
     }
 }
 
-// Why a scan at t is not the task's turn. Where the task goes first, nothing else is asked.
+// Why a scan at t is not the task's turn. One task alone yields to none; where the task goes first, nothing else is asked.
 #[tactic(auto, unfolding(crate::specs::Verdict::turn_refusal))]
+#[inline(always)]
 fn refuse_scan(
     tasks: &TaskTable,
     singles: &[bool],
@@ -131,6 +150,9 @@ fn refuse_scan(
         result ≡ turn_refusal all singles.now (Elapsed t singles.now ∷ calls) (Event.Scan task) t }
     ensures ticks { Within (task_total tasks.now + 2) ticks.old ticks.new }
 {
+    if tasks.is_alone() {
+        return refuse_undue(tasks, singles, task, t, ticks);
+    }
     let first = tasks.pick(t, singles, ticks);
     if is_first(task, first) {
         return None;
@@ -144,6 +166,7 @@ fn refuse_scan(
 /// Why a scan at t, from 0 to 2^62 microseconds and not before the latest event, is not its task's turn: no release of it waits, or
 /// another task goes first. `singles` has what the SINGLE of each task reads. No task is told anything.
 #[tactic(auto, unfolding(crate::specs::Verdict::turn_refusal))]
+#[inline(always)]
 pub fn refuse_turn(
     tasks: &TaskTable,
     singles: &[bool],

@@ -88,6 +88,7 @@ fn refuse_input(plant: &Plant, instances: &Instances, id: VarId, value: Value) -
 }
 
 /// By what the event names.
+#[inline(always)]
 pub fn refuse_event(plant: &Plant, instances: &Instances, event: Event) -> Option<Refusal>
     ensures value { (state : PlantState) → InstancesAgree plant.now instances.now state →
         result ≡ verdict.event_refusal plant.now state.changes event }

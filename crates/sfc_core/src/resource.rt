@@ -1,13 +1,17 @@
 //! One resource of a controller (2.7.1): a plant that runs by events.
 
-ghost use Rattle.std.specs.Prelude.{◌≡◌, ◌<◌, ◌≤ℤ◌, ◌^◌, length, pos, negsuc, false};
+ghost use Rattle.std.specs.Prelude.{◌≡◌, ◌<◌, ◌≤◌, ◌≤ℤ◌, ◌^◌, length, pos, negsuc, false};
+ghost use Rattle.sfc_base.specs.declared.limits.TheConstants.{TASKS};
 ghost use Rattle.sfc_tasks.specs.Agreement.{task_total};
 ghost use Rattle.sfc_instance.proofs.Places.{for_prop};
 ghost use Rattle.sfc_events.specs.History.{History};
-ghost use Rattle.sfc_instances.specs.Agreement.{AreInstancesOf};
+ghost use Rattle.sfc_instances.specs.Agreement.{AreInstancesOf, InstancesAgree};
+ghost use Rattle.sfc_instances.specs.PlantState.{PlantState};
+ghost use Rattle.sfc_instances.specs.Singles.{singles_in};
 ghost use Rattle.sfc_instances.proofs.OfOnePlant.{instances_prop};
 ghost use Rattle.sfc_core.specs.Keeping.{Keeps};
 ghost use Rattle.sfc_core.specs.Private.Alone.{HaveNoSingle};
+ghost use Rattle.sfc_core.specs.Private.Ready.{flags_of};
 
 use crate::changing::{change, outcome};
 use crate::due::{refuse_turn, serve, tell_rises};
@@ -27,16 +31,19 @@ use sfc_tasks::table::TaskTable;
 use std::alloc::{AllocError, Global};
 
 /// A plant that runs by scans, inputs, forces, releases and resets. It keeps what the next event needs, and no history: what an
-/// event costs is bounded by the plant.
+/// event costs is bounded by the plant. Of each SINGLE it keeps what it read after the latest event.
 pub struct Resource {
     plant: Plant,
     instances: Instances,
     tasks: TaskTable,
-    maybe_single: bool,
+    singles: Singles,
     last: i64,
     ghost whole: { AreInstancesOf plant instances } by { instances_prop for_prop plant instances },
     ghost tasks_sized: { task_total tasks ≡ length plant.tasks },
-    ghost no_single: { maybe_single ≡ false → HaveNoSingle plant.tasks },
+    ghost singles_sized: { length (flags_of singles) ≡ length plant.tasks },
+    ghost few: { length plant.tasks ≤ TASKS },
+    ghost no_single: { singles.maybe ≡ false → HaveNoSingle plant.tasks },
+    ghost singles_read: { (state : PlantState) → InstancesAgree plant instances state → flags_of singles ≡ singles_in plant state.changes },
     ghost last_low: { negsuc 0 ≤ℤ last },
     ghost last_high: { last ≤ℤ pos (2 ^ 62) },
     ghost agrees: { ∥ ((h : History) × Keeps plant instances tasks last h) ∥₁ },
@@ -49,7 +56,7 @@ impl Drop for Resource {
             plant: _,
             instances: _,
             tasks: _,
-            maybe_single: _,
+            singles: _,
             last: _,
         } = self;
     }
@@ -70,7 +77,7 @@ impl Resource {
     ghost use Rattle.sfc_core.specs.Past.{history_past};
     ghost use Rattle.sfc_core.specs.Openings.{IsOpeningFor, past_of};
     ghost use Rattle.sfc_core.specs.Private.Naming.{IsKnown};
-    ghost use Rattle.sfc_core.specs.Private.Ready.{AreSinglesOf, IsReady};
+    ghost use Rattle.sfc_core.specs.Private.Ready.{IsReady};
 
     /// A resource that has seen no event: each variable has its initial value, none is forced, and no instance was
     /// scanned. All memory that events need is taken here; the one error is that memory was refused.
@@ -81,16 +88,18 @@ impl Resource {
         let instances = Instances::new(alloc, &plant)?;
         let tasks = TaskTable::new(&plant);
         let maybe_single = has_single(plant.tasks());
+        let singles = Singles::read(&instances, &plant, maybe_single, &mut Ticks::new());
         Ok(Resource {
             plant,
             instances,
             tasks,
-            maybe_single,
+            singles,
             last: -1,
         })
     }
 
     // Why the event at t is refused by its instant and by what it names.
+    #[inline(always)]
     fn refuse_named(&self, event: Event, t: i64) -> Option<Refusal>
         ensures value { (h : History) → Agrees self.now h → result ≡ or_then (instant_refusal (last_instant h) t)
             (event_refusal (plant_of self.now) (state_of (plant_of self.now) h).changes event) }
@@ -104,25 +113,61 @@ impl Resource {
         }
     }
 
-    // An event that is not refused, where the SINGLE of each task read so before it.
-    fn accept(&mut self, before: &Singles, event: Event, t: i64, ticks: &mut Ticks) -> Outcome
+    // An event that is not refused.
+    #[inline(always)]
+    fn accept(&mut self, event: Event, t: i64, ticks: &mut Ticks) -> Outcome
         requires low { pos 0 ≤ℤ t }
         requires high { t ≤ℤ pos (2 ^ 62) }
         requires known { IsKnown (plant_of self.old) event }
-        requires sizes { AreSinglesOf (plant_of self.old) before.now }
-        requires ready { (h : History) → Agrees self.old h → IsReady (plant_of self.old) h event before.now }
+        requires ready { (h : History) → Agrees self.old h → IsReady (plant_of self.old) h event self.old.singles }
         ensures plant { plant_of self.new ≡ plant_of self.old }
         ensures value { (h : History) → Agrees self.old h → result ≡ answer (plant_of self.old) h event t }
         ensures agrees { (h : History) → Agrees self.old h → Agrees self.new ((event, t) ∷ h) }
         ensures ticks { Within (instances_work (plant_of self.old) event + 3 * length (plant_of self.old).tasks + 2) ticks.old ticks.new }
     {
-        self.tasks.elapse(t, before.as_slice(), ticks);
+        self.tasks.elapse(t, self.singles.as_slice(), ticks);
         serve(&mut self.tasks, event, ticks);
         let bits = change(&mut self.instances, &self.plant, event, t, ticks);
-        let after = Singles::read(&self.instances, &self.plant, self.maybe_single, ticks);
-        tell_rises(&mut self.tasks, t, before, &after, ticks);
+        tell_rises(
+            &mut self.tasks,
+            t,
+            &mut self.singles,
+            &self.instances,
+            &self.plant,
+            ticks,
+        );
         self.last = t;
         outcome(event, bits, &self.tasks, ticks)
+    }
+
+    // One event, as `apply` says.
+    #[inline(always)]
+    fn decide(&mut self, event: Event, t: i64, ticks: &mut Ticks) -> Result<Outcome, Refusal>
+        ensures plant { plant_of self.new ≡ plant_of self.old }
+        ensures answer { (h : History) → Agrees self.old h → result ≡ verdict (plant_of self.old) h event t }
+        ensures ok { OnOk result ((h : History) → Agrees self.old h → Agrees self.new ((event, t) ∷ h)) }
+        ensures err { OnErr result (self.new ≡ self.old) }
+        ensures ticks { Within (event_work (plant_of self.old) event) ticks.old ticks.new }
+    {
+        if let Some(refusal) = self.refuse_named(event, t) {
+            return Err(refusal);
+        }
+        match refuse_turn(&self.tasks, self.singles.as_slice(), event, t, ticks) {
+            Some(refusal) => Err(refusal),
+            None => Ok(self.accept(event, t, ticks)),
+        }
+    }
+
+    // The same of an event that is no scan. It is a function of its own, so that what a scan runs is compiled for scans alone.
+    #[inline(always)]
+    fn decide_other(&mut self, event: Event, t: i64, ticks: &mut Ticks) -> Result<Outcome, Refusal>
+        ensures plant { plant_of self.new ≡ plant_of self.old }
+        ensures answer { (h : History) → Agrees self.old h → result ≡ verdict (plant_of self.old) h event t }
+        ensures ok { OnOk result ((h : History) → Agrees self.old h → Agrees self.new ((event, t) ∷ h)) }
+        ensures err { OnErr result (self.new ≡ self.old) }
+        ensures ticks { Within (event_work (plant_of self.old) event) ticks.old ticks.new }
+    {
+        self.decide(event, t, ticks)
     }
 
     /// One event at the instant t, in microseconds: what it is refused for, else what it answers. After a refusal the
@@ -141,14 +186,10 @@ impl Resource {
         ensures err { OnErr result (self.new ≡ self.old) }
         ensures ticks { Within (event_work (plant_of self.old) event) ticks.old ticks.new }
     {
-        if let Some(refusal) = self.refuse_named(event, t) {
-            return Err(refusal);
+        if event.scanned_task().is_none() {
+            return self.decide_other(event, t, ticks);
         }
-        let singles = Singles::read(&self.instances, &self.plant, self.maybe_single, ticks);
-        match refuse_turn(&self.tasks, singles.as_slice(), event, t, ticks) {
-            Some(refusal) => Err(refusal),
-            None => Ok(self.accept(&singles, event, t, ticks)),
-        }
+        self.decide(event, t, ticks)
     }
 
     // One event, and whether it is accepted.
@@ -249,6 +290,13 @@ impl Resource {
             past_of (plant_of self.old) opening.now ≡ history_past (plant_of self.old) h → Agrees self.new h }
     {
         self.instances.copy_from(&self.plant, &opening.instances);
+        let maybe_single = self.singles.maybe_some();
+        self.singles = Singles::read(
+            &self.instances,
+            &self.plant,
+            maybe_single,
+            &mut Ticks::new(),
+        );
         self.tasks.copy_from(&opening.tasks, &mut Ticks::new());
         self.last = opening.last;
     }

@@ -33,7 +33,7 @@ pub fn has_single(tasks: &[Task]) -> bool
 }
 
 impl Singles {
-    ghost use Rattle.std.specs.Prelude.{◌≡◌, ◌≤◌, false, length};
+    ghost use Rattle.std.specs.Prelude.{◌≡◌, ◌≤◌, false, true, length};
     ghost use Rattle.sfc_base.specs.Ticks.{Within};
     ghost use Rattle.sfc_instances.specs.Agreement.{AreInstancesOf, InstancesAgree};
     ghost use Rattle.sfc_instances.specs.Singles.{singles_in};
@@ -46,6 +46,7 @@ impl Singles {
         requires { AreInstancesOf plant.now instances.now }
         ensures len { length (flags_of result) ≡ length plant.now.tasks }
         ensures few { length plant.now.tasks ≤ TASKS }
+        ensures maybe { result.maybe ≡ true }
         ensures value { (state : PlantState) → InstancesAgree plant.now instances.now state →
             flags_of result ≡ singles_in plant.now state.changes }
         ensures ticks { Within (length plant.now.tasks) ticks.old ticks.new }
@@ -67,6 +68,7 @@ impl Singles {
         requires maybe { maybe ≡ false → HaveNoSingle plant.now.tasks }
         ensures len { length (flags_of result) ≡ length plant.now.tasks }
         ensures few { length plant.now.tasks ≤ TASKS }
+        ensures none { result.maybe ≡ false → HaveNoSingle plant.now.tasks }
         ensures value { (state : PlantState) → InstancesAgree plant.now instances.now state →
             flags_of result ≡ singles_in plant.now state.changes }
         ensures ticks { Within (length plant.now.tasks) ticks.old ticks.new }

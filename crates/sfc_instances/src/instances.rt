@@ -287,6 +287,7 @@ impl Instances {
     /// A scan of the task's instances at t, in microseconds from 0 to 2^62, one after the other in text order; it tells
     /// how each ended (2.7.2). After a fault of an instance nothing but that fault has changed, and the instance is passed
     /// over until its reset (our choice).
+    #[inline(always)]
     pub fn scan(&mut self, plant: &Plant, task: TaskId, t: i64, ticks: &mut Ticks) -> Bits
         requires sizes { AreInstancesOf plant.now self.old }
         requires low { pos 0 ≤ℤ t }

@@ -59,7 +59,8 @@ fn fill_slots(slots: &mut [TaskSlot], tasks: &[Task])
 
 #[tactic(auto, unfolding(crate::specs::Agreement::TasksAgree), using(crate::proofs::Tables::elapse_agrees, crate::proofs::Tables::rise_agrees))]
 impl TaskTable {
-    ghost use Rattle.std.specs.Prelude.{◌≡◌, ◌<◌, ◌≤ℤ◌, ◌^◌, ◌∷◌, [], List, ℕ, pos, length, is_some, IfSome};
+    ghost use Rattle.std.specs.Prelude.{◌≡◌, ◌≢◌, ◌<◌, ◌≤ℤ◌, ◌^◌, ◌∷◌, [], List, ℕ, pos, length, is_some, IfSome};
+    ghost use Rattle.std.specs.Bool.{OnTrue, OnFalse};
     ghost use Rattle.sfc_base.specs.Ticks.{Within};
     ghost use Rattle.sfc_plant.specs.declared.task.Task.{Task};
     ghost use Rattle.sfc_tasks.specs.Multiples.{next_release};
@@ -112,6 +113,14 @@ impl TaskTable {
         ticks.tick();
         let k = task.0 as usize;
         gain(&mut self.slots[k], t, 0);
+    }
+
+    /// Whether there is one task alone.
+    pub fn is_alone(&self) -> bool
+        ensures yes { OnTrue result (task_total self.now ≡ 1) }
+        ensures no { OnFalse result (task_total self.now ≢ 1) }
+    {
+        self.count == 1
     }
 
     // Of the tasks that wait at t, the one that goes first.

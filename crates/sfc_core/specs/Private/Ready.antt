@@ -1,6 +1,5 @@
 -- What the SINGLE of each task reads before an event.
-use Rattle.std.specs.Prelude.{◌≡◌, ◌≤◌, Bool, List, length, take, None}
-use Rattle.sfc_base.specs.declared.limits.TheConstants.{TASKS}
+use Rattle.std.specs.Prelude.{◌≡◌, Bool, List, take, None}
 use Rattle.sfc_plant.specs.Plants.{PlantData}
 use Rattle.sfc_events.specs.declared.event.Event.{Event}
 use Rattle.sfc_events.specs.History.{History}
@@ -12,11 +11,6 @@ use Rattle.sfc_core.specs.Verdict.{event_refusal}
 -- what the SINGLE of each task reads
 abbrev pub flags_of : Singles → List Bool
 flags_of singles = take singles.count singles.flags
-
--- for the tasks of the plant
-pub record AreSinglesOf (plant : PlantData) (singles : Singles) : Type 0 where
-  pub count : length (flags_of singles) ≡ length plant.tasks
-  pub few : length plant.tasks ≤ TASKS
 
 -- they read so after a history, and the event may be
 pub record IsReady (plant : PlantData) (h : History) (event : Event) (singles : Singles) : Type 0 where

@@ -13,15 +13,18 @@ invariant_of-self c =
     let s = c.args.self.now in
     let fits : SFits w64 c.args.t = c.ranges.t in
     let after =
-    kept_after s.plant c.args.event c.args.t s.instances c.change-bits.new.instances c.args.before.now c.read-after.result
+    kept_after s.plant c.args.event c.args.t s.instances c.change-bits.new.instances s.singles c.tell_rises.new.singles
     s.tasks c.elapse.new.self c.serve.new.tasks c.tell_rises.new.tasks
-    (simp (to_z-of_z, fits) at c.change-bits.ensures.agrees) c.read-after.ensures.value
+    (simp (to_z-of_z, fits) at c.change-bits.ensures.agrees) c.tell_rises.ensures.value
     (simp (to_z-of_z, fits, c.as_slice.ensures) at (c.elapse.ensures.agrees s.plant.tasks)) (c.serve.ensures.agrees s.plant.tasks)
     (simp (to_z-of_z, fits) at (c.tell_rises.ensures.agrees s.plant.tasks)) in
     record {
       whole = c.change-bits.ensures.sizes;
       tasks_sized = c.tell_rises.ensures.size ∙ c.serve.ensures.size ∙ c.elapse.ensures.size ∙ s.tasks_sized;
-      no_single = s.no_single;
+      singles_sized = c.tell_rises.ensures.len;
+      few = s.few;
+      no_single = c.tell_rises.ensures.none;
+      singles_read = c.tell_rises.ensures.value;
       last_low = omega (arith, ints);
       last_high = omega (arith, ints);
       agrees =
@@ -35,9 +38,9 @@ returns-clause-value c h a =
     let s = c.args.self.now in
     let fits : SFits w64 c.args.t = c.ranges.t in
     let after =
-    kept_after s.plant c.args.event c.args.t s.instances c.change-bits.new.instances c.args.before.now c.read-after.result
+    kept_after s.plant c.args.event c.args.t s.instances c.change-bits.new.instances s.singles c.tell_rises.new.singles
     s.tasks c.elapse.new.self c.serve.new.tasks c.tell_rises.new.tasks
-    (simp (to_z-of_z, fits) at c.change-bits.ensures.agrees) c.read-after.ensures.value
+    (simp (to_z-of_z, fits) at c.change-bits.ensures.agrees) c.tell_rises.ensures.value
     (simp (to_z-of_z, fits, c.as_slice.ensures) at (c.elapse.ensures.agrees s.plant.tasks)) (c.serve.ensures.agrees s.plant.tasks)
     (simp (to_z-of_z, fits) at (c.tell_rises.ensures.agrees s.plant.tasks)) in
     c.outcome.ensures.value s.plant.tasks _ (after h a.instances_agree a.tasked (c.requires.ready h a)).tasked
@@ -50,9 +53,9 @@ returns-clause-agrees c h a =
     let s = c.args.self.now in
     let fits : SFits w64 c.args.t = c.ranges.t in
     let after =
-    kept_after s.plant c.args.event c.args.t s.instances c.change-bits.new.instances c.args.before.now c.read-after.result
+    kept_after s.plant c.args.event c.args.t s.instances c.change-bits.new.instances s.singles c.tell_rises.new.singles
     s.tasks c.elapse.new.self c.serve.new.tasks c.tell_rises.new.tasks
-    (simp (to_z-of_z, fits) at c.change-bits.ensures.agrees) c.read-after.ensures.value
+    (simp (to_z-of_z, fits) at c.change-bits.ensures.agrees) c.tell_rises.ensures.value
     (simp (to_z-of_z, fits, c.as_slice.ensures) at (c.elapse.ensures.agrees s.plant.tasks)) (c.serve.ensures.agrees s.plant.tasks)
     (simp (to_z-of_z, fits) at (c.tell_rises.ensures.agrees s.plant.tasks)) in
     simp (to_z-of_z, fits) (after h a.instances_agree a.tasked (c.requires.ready h a))
@@ -67,6 +70,6 @@ returns-clause-ticks c =
     ∥∥₁_elim s.agrees (×_prop le_prop le_prop)
     (λ x.
     let changed = c.change-bits.ensures.ticks (state_of s.plant x.0) x.1.instances_agree in (
-      omega (arith, c.elapse.ensures.ticks.0, changed.0, c.serve.ensures.ticks.0, c.read-after.ensures.ticks.0, c.tell_rises.ensures.ticks.0, c.outcome.ensures.ticks.0),
-      omega (arith, c.elapse.ensures.ticks.1, changed.1, c.serve.ensures.ticks.1, c.read-after.ensures.ticks.1, c.tell_rises.ensures.ticks.1, c.outcome.ensures.ticks.1, sized, elapsed, served),
+      omega (arith, c.elapse.ensures.ticks.0, changed.0, c.serve.ensures.ticks.0, c.tell_rises.ensures.ticks.0, c.outcome.ensures.ticks.0),
+      omega (arith, c.elapse.ensures.ticks.1, changed.1, c.serve.ensures.ticks.1, c.tell_rises.ensures.ticks.1, c.outcome.ensures.ticks.1, sized, elapsed, served),
     ))

@@ -1,9 +1,7 @@
-use Rattle.std.proofs.Common.{◌≡◌, [], List, false, arith, refl, subst}
+use Rattle.std.proofs.Common.{[], arith, refl}
 use Rattle.std.proofs.lemmas.Int.{ints}
 use Rattle.sfc_core.specs.Agreement.{Agrees, plant_of}
 use Rattle.sfc_core.specs.Due.{calls_of}
-use Rattle.sfc_plant.specs.declared.task.Task.{Task}
-use Rattle.sfc_core.specs.Private.Alone.{HaveNoSingle}
 use Rattle.sfc_core.specs.PlantState.{state_of}
 use Rattle.sfc_core.proofs.resource.Resource.open.Goals as goal
 
@@ -12,9 +10,10 @@ unfolding Agrees plant_of calls_of state_of
 invariant_of-result c = record {
   whole = c.in_ok-instances.ensures.sizes;
   tasks_sized = c.new-tasks.ensures.size;
-  no_single =
-      subst (λ (tasks : List Task). c.has_single-maybe_single.result ≡ false → HaveNoSingle tasks) c.tasks.ensures.value
-      c.has_single-maybe_single.ensures;
+  singles_sized = c.read-singles.ensures.len;
+  few = c.read-singles.ensures.few;
+  no_single = c.read-singles.ensures.none;
+  singles_read = c.read-singles.ensures.value;
   last_low = omega (arith, ints);
   last_high = omega (arith, ints);
   agrees = ∣ ([], record { instant = refl; instances_agree = c.in_ok-instances.ensures.agrees; tasked = c.new-tasks.ensures.agrees }) ∣₁;

@@ -17,7 +17,10 @@ invariant_of-self c =
     record {
       whole = c.copy_from.ensures.sizes;
       tasks_sized = c.copy_from-2.ensures.size ∙ c.requires.tasks_sized;
-      no_single = c.args.self.now.no_single;
+      singles_sized = c.read-self.ensures.len;
+      few = c.args.self.now.few;
+      no_single = c.read-self.ensures.none;
+      singles_read = c.read-self.ensures.value;
       last_low = subst (λ (t : ℤ). negsuc 0 ≤ℤ t) (sym same) opening.last_low;
       last_high = subst (λ (t : ℤ). t ≤ℤ pos (2 ^ 62)) (sym same) opening.last_high;
       agrees = ∥∥₁_map c.requires.some (λ x. (
