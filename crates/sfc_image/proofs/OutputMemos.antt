@@ -10,9 +10,12 @@ use Rattle.sfc_tables.specs.Actions.{actions_of}
 use Rattle.sfc_base.specs.declared.ids.ProgId.{ProgId}
 use Rattle.sfc_plant.specs.Plants.{PlantData}
 use Rattle.sfc_plant.specs.Finding.{chart_of}
+use Rattle.sfc_image.specs.declared.image.Image.{Image}
 use Rattle.sfc_image.specs.declared.slot.Slot.{Slot}
 use Rattle.sfc_image.specs.declared.output_memo.OutputMemo.{OutputMemo}
+use Rattle.sfc_image.specs.Changes.{Changes}
 use Rattle.sfc_image.specs.Environments.{number_of}
+use Rattle.sfc_image.specs.Agreement.{ImageAgrees, instance_total}
 use Rattle.sfc_image.specs.Private.Keeping.{slot_at, MayClose}
 use Rattle.sfc_image.specs.Private.OutputMemos.{memo_at, last_generation, IsLater, IsGenerationAfter, IsAssigned, HasQ, MemosHold, Stays}
 use Rattle.sfc_image.proofs.Apart.{other_number}
@@ -137,6 +140,13 @@ memo_read memos k g lt is =
 
 pub memo_here : (memos : List OutputMemo) (k : ℕ) (g : OutputMemo) → k < length memos → memo_at (slice_set memos k g) k ≡ g
 memo_here memos k g lt = get_or-set_same memos k g (record { q = []; generation = 0 }) lt
+
+-- what was given in this generation
+pub given_holds : (plant : PlantData) (image : Image) (changes : Changes) (p : ProgId) (a : ℕ) → p.0 < instance_total image
+    → (memo_at image.memos.items p.0).generation ≡ image.generation → image.generation < last_generation → ImageAgrees plant image changes
+    → HasQ plant p image.slots.items a (flag (memo_at image.memos.items p.0).q a)
+unfolding ImageAgrees
+given_holds plant image changes p a lt now few h = h.memos.each p (omega (arith, lt, image.sized)) now few a
 
 -- where nothing was given yet
 pub no_memo : (plant : PlantData) (slots : List Slot) (memos : List OutputMemo) (generation : ℕ) → 0 < generation

@@ -11,7 +11,7 @@ use crate::output_memo::{OutputMemo, generation_after, next_generation};
 use crate::slot::{Locals, Slot, as_output, value_fault, with_force, with_value};
 use crate::step_readings::StepReadings;
 use crate::store::ImageStore;
-use crate::trying::try_store;
+use crate::trying::{try_bool, try_store};
 use crate::view::{ImageView, number_of};
 use sfc_base::ids::{ActionNumber, ProgId, VarId};
 use sfc_base::references::Variable;
@@ -61,7 +61,7 @@ impl Drop for Image {
 
 #[tactic(auto, unfolding(crate::specs::Agreement::ImageAgrees))]
 impl Image {
-    ghost use Rattle.std.specs.Prelude.{◌≡◌, ◌≢◌, ◌<◌, ◌≤◌, ◌==◌, ◌+◌, ◌^◌, ◌∷◌, ◌++◌, [], ℕ, true, false, cond, List, Option, length, is_some};
+    ghost use Rattle.std.specs.Prelude.{◌≡◌, ◌≢◌, ◌<◌, ◌≤◌, ◌==◌, ◌+◌, ◌-◌, ◌^◌, ◌∷◌, ◌++◌, [], ℕ, true, false, cond, List, Option, length, is_some};
     ghost use Rattle.std.specs.Prelude.{IfOk, OnOk, OnErr, IfSome, Some, None, slice_set};
     ghost use Rattle.sfc_base.specs.Ticks.{Within};
     ghost use Rattle.sfc_plant.specs.Plants.{PlantData};
@@ -76,6 +76,7 @@ impl Image {
     ghost use Rattle.sfc_image.specs.Outputs.{output, outputs};
     ghost use Rattle.sfc_flags.specs.Flags.{flag, places_passed};
     ghost use Rattle.sfc_plant.specs.declared.association.Target.TheVariants.{Boolean};
+    ghost use Rattle.sfc_base.specs.declared.value.Value.TheVariants.{Bool};
     ghost use Rattle.sfc_tables.specs.Tables.{tables_of};
     ghost use Rattle.sfc_plant.specs.Finding.{chart_of};
     ghost use Rattle.sfc_image.specs.Private.Keeping as keeping;
@@ -262,7 +263,7 @@ impl Image {
         if let Target::Boolean(variable) = target {
             if let Some(i) = self.place(instance, variable) {
                 self.mark_output(i);
-                self.put(i, Value::Bool(q));
+                self.put_output(i, q);
             }
         }
     }
@@ -280,22 +281,17 @@ impl Image {
             && memo.q.count() == q.count()
     }
 
-    // Whether what was last given to the outputs of the instance holds, where it has as many actions as this Q. From now on
-    // it doesn't count as given any more.
-    fn take_memo(&mut self, instance: ProgId, q: &Flags) -> bool
+    // What was last given to the outputs of the instance doesn't count as given any more.
+    fn drop_memo(&mut self, instance: ProgId)
         requires { instance.0 < instance_total self.old }
         ensures large { IsAsLarge self.old self.new }
         ensures open { is_open self.new ≡ is_open self.old }
         ensures slots { self.new.slots.items ≡ self.old.slots.items }
         ensures generation { (memo_at self.new.memos.items instance.0).generation ≡ 0 }
-        ensures sized { result ≡ true → length (memo_at self.new.memos.items instance.0).q ≡ length q.now }
+        ensures q { (memo_at self.new.memos.items instance.0).q ≡ (memo_at self.old.memos.items instance.0).q }
         ensures agrees { (plant : PlantData) (changes : Changes) → ImageAgrees plant self.old changes → ImageAgrees plant self.new changes }
-        ensures holds { (plant : PlantData) (changes : Changes) (a : ℕ) → result ≡ true → ImageAgrees plant self.old changes →
-            HasQ plant instance self.new.slots.items a (flag (memo_at self.new.memos.items instance.0).q a) }
     {
-        let holds = self.holds_memo(instance, q);
         self.memos[instance.0 as usize].generation = 0;
-        holds
     }
 
     // Notes the Q that was given to the variable of an action.
@@ -363,6 +359,48 @@ impl Image {
         }
     }
 
+    // Gives their Q to the actions from `first` on that are due: `first`, and those that `next_due` finds behind it. A scan
+    // in which none is due stays without this call.
+    #[inline(never)]
+    fn give_from(
+        &mut self,
+        instance: ProgId,
+        tables: &Tables,
+        q: &Flags,
+        holds: bool,
+        first: usize,
+        ticks: &mut Ticks,
+    )
+        requires instance { instance.0 < instance_total self.old }
+        requires open { is_open self.old ≡ true }
+        requires q { length q.now ≡ length tables.now.actions }
+        requires sized { holds ≡ true → length (memo_at self.old.memos.items instance.0).q ≡ length q.now }
+        requires given { (plant : PlantData) (changes : Changes) (a : ℕ) → holds ≡ true → ImageAgrees plant self.old changes →
+            HasQ plant instance self.old.slots.items a (flag (memo_at self.old.memos.items instance.0).q a) }
+        requires few { length q.now < 2 ^ 64 }
+        requires first { first < length q.now }
+        requires before { (j : ℕ) → j < first → (holds ≡ true) × (flag (memo_at self.old.memos.items instance.0).q j ≡ flag q.now j) }
+        ensures large { IsAsLarge self.old self.new }
+        ensures open { is_open self.new ≡ true }
+        ensures agrees { (plant : PlantData) (changes : Changes) → tables.now ≡ tables_of (chart_of plant instance) →
+            ImageAgrees plant self.old changes →
+            ImageAgrees plant self.new (with_changes (outputs plant instance q.now 0 tables.now.actions) changes) }
+        ensures ticks { Within (length q.now - (first + 1)) ticks.old ticks.new }
+    {
+        self.drop_memo(instance);
+        let mut action = first;
+        'outputs: loop {
+            let is_set = q.get(action);
+            self.give(instance, tables.target(ActionNumber(action)), is_set);
+            self.note(instance, action, is_set);
+            match self.next_due(instance, q, holds, action + 1, ticks) {
+                Some(next) => action = next,
+                None => break 'outputs,
+            }
+        }
+        self.leave_memo(instance, q);
+    }
+
     /// Assigns its Q to each variable of the instance's program that is an action by itself (2.6.4.1), one after the
     /// other, in the transaction, which is open; the Q of each action stands by its number. It takes no memory. Where
     /// no output was changed since the instance's last call, only those are handled whose Q is another now.
@@ -383,15 +421,10 @@ impl Image {
             ImageAgrees plant self.new (with_changes (outputs plant instance q.now 0 tables.now.actions) changes) }
         ensures ticks { Within (length tables.now.actions) ticks.old ticks.new }
     {
-        let holds = self.take_memo(instance, q);
-        let mut from = 0;
-        'outputs: while let Some(action) = self.next_due(instance, q, holds, from, ticks) {
-            let is_set = q.get(action);
-            self.give(instance, tables.target(ActionNumber(action)), is_set);
-            self.note(instance, action, is_set);
-            from = action + 1;
+        let holds = self.holds_memo(instance, q);
+        if let Some(first) = self.next_due(instance, q, holds, 0, ticks) {
+            self.give_from(instance, tables, q, holds, first, ticks);
         }
-        self.leave_memo(instance, q);
     }
 
     /// What is wrong with a value for the variable, by `store` or `force`: there is no such variable, or the value is not
@@ -457,6 +490,24 @@ impl Image {
             self.generation = generation_after(self.generation, self.slots[i].is_output);
             self.slots[i] = with_value(self.slots[i], value);
         }
+    }
+
+    // Stores the Q of an output, in the transaction, which is open; what is stored already is not stored again.
+    fn put_output(&mut self, i: usize, q: bool)
+        requires place { i < variable_total self.old }
+        requires open { is_open self.old ≡ true }
+        ensures large { IsAsLarge self.old self.new }
+        ensures open { is_open self.new ≡ true }
+        ensures put { IsPut i (Bool q) self.old.slots.items self.new.slots.items }
+        ensures memos { self.new.memos.items ≡ self.old.memos.items }
+        ensures agrees { (plant : PlantData) (changes : Changes) → ImageAgrees plant self.old changes →
+            ImageAgrees plant self.new (with_change (Stored (record { 0 = i }) (Bool q)) changes) }
+    {
+        if self.has_stored(i, Value::Bool(q)) {
+            return;
+        }
+        self.generation = next_generation(self.generation);
+        self.count = try_bool(&mut self.slots, &mut self.written, self.count, i, q);
     }
 
     /// Gives the variable a value, in the transaction where one is open; a force hides it until its release.
