@@ -261,6 +261,27 @@ module _ (plant : PlantData) (changes : Changes) (p : ProgId) (q : List Bool) (h
       (λ v i same number. subst (λ (b : Bool). IsAssigned (slot_at between.slots.items i) b) value (here log v i h.agrees same number))
       (λ i none. others log i h.agrees none) h)
 
+  -- what was given holds, so the variable is an output already
+  pub given_again : (old between new : Image) (a : ℕ) (target : Target) (x : Bool) → holds ≡ true → x ≡ flag q a
+      → slice_get targets a ≡ Some target → between.memos.items ≡ old.memos.items
+      → ((t : Changes) → ImageAgrees plant old t → ImageAgrees plant between (with_changes (output plant p target x) t))
+      → ((t : Changes) (v : Variable) (i : ℕ) → ImageAgrees plant old t → target ≡ Boolean v → number_of plant p v ≡ Some i
+      → (slot_at old.slots.items i).is_output ≡ true → IsAssigned (slot_at between.slots.items i) x)
+      → ((t : Changes) (i : ℕ) → ImageAgrees plant old t → ((v : Variable) → target ≡ Boolean v → number_of plant p v ≢ Some i)
+      → Stays (slot_at old.slots.items i) (slot_at between.slots.items i))
+      → new.slots.items ≡ between.slots.items
+      → length targets ≤ length (memo_at between.memos.items p.0).q
+      → ((b : ℕ) → b < length (memo_at between.memos.items p.0).q
+      → flag (memo_at new.memos.items p.0).q b ≡ cond (b == a) x (flag (memo_at between.memos.items p.0).q b))
+      → ((t : Changes) → ImageAgrees plant between t → ImageAgrees plant new t)
+      → AssignedTo plant changes p q holds targets a old → AssignedTo plant changes p q holds targets (a + 1) new
+  given_again old between new a target x on value at memos agrees here others slots capacity flags goes_on h =
+      given old between new a target x value at memos agrees
+      (λ t v i state same number. here t v i state same number
+      (h.rest on a (omega arith) v i
+      (ap (λ (ts : List Target). slice_get ts a) (sym is) ∙ at ∙ ap (λ (w : Target). Some w) same) number).output)
+      others slots (λ _. capacity) flags goes_on h
+
   -- before the first, and after the last
   pub none_assigned : (new : Image) → ImageAgrees plant new changes
       → ((a : ℕ) → holds ≡ true → HasQ plant p new.slots.items a (flag (memo_at new.memos.items p.0).q a))

@@ -263,6 +263,29 @@ impl Image {
         if let Target::Boolean(variable) = target {
             if let Some(i) = self.place(instance, variable) {
                 self.mark_output(i);
+                self.put(i, Value::Bool(q));
+            }
+        }
+    }
+
+    // Gives the variable of an action its Q, if the action is one, where it is an output already and has another value.
+    fn give_again(&mut self, instance: ProgId, target: Target, q: bool)
+        requires instance { instance.0 < instance_total self.old }
+        requires open { is_open self.old ≡ true }
+        ensures large { IsAsLarge self.old self.new }
+        ensures open { is_open self.new ≡ true }
+        ensures memos { self.new.memos.items ≡ self.old.memos.items }
+        ensures agrees { (plant : PlantData) (changes : Changes) → ImageAgrees plant self.old changes →
+            ImageAgrees plant self.new (with_changes (output plant instance target q) changes) }
+        ensures here { (plant : PlantData) (changes : Changes) (v : Variable) (i : ℕ) → ImageAgrees plant self.old changes →
+            target ≡ Boolean v → number_of plant instance v ≡ Some i →
+            (slot_at self.old.slots.items i).is_output ≡ true → IsAssigned (slot_at self.new.slots.items i) q }
+        ensures others { (plant : PlantData) (changes : Changes) (i : ℕ) → ImageAgrees plant self.old changes →
+            ((v : Variable) → target ≡ Boolean v → number_of plant instance v ≢ Some i) →
+            Stays (slot_at self.old.slots.items i) (slot_at self.new.slots.items i) }
+    {
+        if let Target::Boolean(variable) = target {
+            if let Some(i) = self.place(instance, variable) {
                 self.put_output(i, q);
             }
         }
@@ -297,6 +320,24 @@ impl Image {
     // Notes the Q that was given to the variable of an action.
     fn note(&mut self, instance: ProgId, action: usize, q: bool)
         requires instance { instance.0 < instance_total self.old }
+        requires action { action < length (memo_at self.old.memos.items instance.0).q }
+        requires taken { (memo_at self.old.memos.items instance.0).generation ≡ 0 }
+        ensures large { IsAsLarge self.old self.new }
+        ensures open { is_open self.new ≡ is_open self.old }
+        ensures slots { self.new.slots.items ≡ self.old.slots.items }
+        ensures generation { (memo_at self.new.memos.items instance.0).generation ≡ 0 }
+        ensures sized { length (memo_at self.new.memos.items instance.0).q ≡ length (memo_at self.old.memos.items instance.0).q }
+        ensures q { (a : ℕ) → a < length (memo_at self.old.memos.items instance.0).q →
+            flag (memo_at self.new.memos.items instance.0).q a
+            ≡ cond (a == action) q (flag (memo_at self.old.memos.items instance.0).q a) }
+        ensures agrees { (plant : PlantData) (changes : Changes) → ImageAgrees plant self.old changes → ImageAgrees plant self.new changes }
+    {
+        self.memos[instance.0 as usize].q.set(action, q);
+    }
+
+    // Notes the Q that was given to the variable of an action, if there is room for it.
+    fn note_if_room(&mut self, instance: ProgId, action: usize, q: bool)
+        requires instance { instance.0 < instance_total self.old }
         requires taken { (memo_at self.old.memos.items instance.0).generation ≡ 0 }
         ensures large { IsAsLarge self.old self.new }
         ensures open { is_open self.new ≡ is_open self.old }
@@ -329,57 +370,48 @@ impl Image {
         }
     }
 
-    // The next action from `from` on whose Q wasn't given yet: where what was given holds, one that has another Q now.
-    fn next_due(
+    // The next action from `from` on that has another Q now than the one that was last given.
+    fn next_changed(
         &self,
         instance: ProgId,
         q: &Flags,
-        holds: bool,
         from: usize,
         ticks: &mut Ticks,
     ) -> Option<usize>
         requires instance { instance.0 < instance_total self.now }
-        requires sized { holds ≡ true → length (memo_at self.now.memos.items instance.0).q ≡ length q.now }
+        requires sized { length (memo_at self.now.memos.items instance.0).q ≡ length q.now }
         ensures some { IfSome result (λ i. (from ≤ i) × (i < length q.now)) }
         ensures before { IfSome result (λ i. (j : ℕ) → from ≤ j → j < i →
-            (holds ≡ true) × (flag (memo_at self.now.memos.items instance.0).q j ≡ flag q.now j)) }
-        ensures none { result ≡ None → (j : ℕ) → from ≤ j → j < length q.now →
-            (holds ≡ true) × (flag (memo_at self.now.memos.items instance.0).q j ≡ flag q.now j) }
+            flag (memo_at self.now.memos.items instance.0).q j ≡ flag q.now j) }
+        ensures none { result ≡ None → (j : ℕ) → from ≤ j → flag (memo_at self.now.memos.items instance.0).q j ≡ flag q.now j }
         ensures len { length q.now < 2 ^ 64 }
         ensures ticks { Within (places_passed (length q.now) from result) ticks.old ticks.new }
     {
-        if holds {
-            return q.next_difference(&self.memos[instance.0 as usize].q, from, ticks);
-        }
-        if from < q.count() {
-            ticks.tick();
-            Some(from)
-        } else {
-            None
-        }
+        self.memos[instance.0 as usize]
+            .q
+            .next_difference(q, from, ticks)
     }
 
-    // Gives their Q to the actions from `first` on that are due: `first`, and those that `next_due` finds behind it. A scan
-    // in which none is due stays without this call.
+    // Gives their Q to those actions that have another one now than they were last given: `first` and some behind it. A
+    // scan in which there is none stays without this call.
     #[inline(never)]
-    fn give_from(
+    fn give_changed(
         &mut self,
         instance: ProgId,
         tables: &Tables,
         q: &Flags,
-        holds: bool,
         first: usize,
         ticks: &mut Ticks,
     )
         requires instance { instance.0 < instance_total self.old }
         requires open { is_open self.old ≡ true }
         requires q { length q.now ≡ length tables.now.actions }
-        requires sized { holds ≡ true → length (memo_at self.old.memos.items instance.0).q ≡ length q.now }
-        requires given { (plant : PlantData) (changes : Changes) (a : ℕ) → holds ≡ true → ImageAgrees plant self.old changes →
+        requires sized { length (memo_at self.old.memos.items instance.0).q ≡ length q.now }
+        requires given { (plant : PlantData) (changes : Changes) (a : ℕ) → ImageAgrees plant self.old changes →
             HasQ plant instance self.old.slots.items a (flag (memo_at self.old.memos.items instance.0).q a) }
         requires few { length q.now < 2 ^ 64 }
         requires first { first < length q.now }
-        requires before { (j : ℕ) → j < first → (holds ≡ true) × (flag (memo_at self.old.memos.items instance.0).q j ≡ flag q.now j) }
+        requires before { (j : ℕ) → j < first → flag (memo_at self.old.memos.items instance.0).q j ≡ flag q.now j }
         ensures large { IsAsLarge self.old self.new }
         ensures open { is_open self.new ≡ true }
         ensures agrees { (plant : PlantData) (changes : Changes) → tables.now ≡ tables_of (chart_of plant instance) →
@@ -391,12 +423,37 @@ impl Image {
         let mut action = first;
         'outputs: loop {
             let is_set = q.get(action);
-            self.give(instance, tables.target(ActionNumber(action)), is_set);
+            self.give_again(instance, tables.target(ActionNumber(action)), is_set);
             self.note(instance, action, is_set);
-            match self.next_due(instance, q, holds, action + 1, ticks) {
+            match self.next_changed(instance, q, action + 1, ticks) {
                 Some(next) => action = next,
                 None => break 'outputs,
             }
+        }
+        self.leave_memo(instance, q);
+    }
+
+    // Gives all actions their Q.
+    #[inline(never)]
+    fn give_all(&mut self, instance: ProgId, tables: &Tables, q: &Flags, ticks: &mut Ticks)
+        requires instance { instance.0 < instance_total self.old }
+        requires open { is_open self.old ≡ true }
+        requires q { length q.now ≡ length tables.now.actions }
+        ensures large { IsAsLarge self.old self.new }
+        ensures open { is_open self.new ≡ true }
+        ensures agrees { (plant : PlantData) (changes : Changes) → tables.now ≡ tables_of (chart_of plant instance) →
+            ImageAgrees plant self.old changes →
+            ImageAgrees plant self.new (with_changes (outputs plant instance q.now 0 tables.now.actions) changes) }
+        ensures ticks { Within (length q.now) ticks.old ticks.new }
+    {
+        self.drop_memo(instance);
+        let mut action = 0;
+        'outputs: while action < q.count() {
+            ticks.tick();
+            let is_set = q.get(action);
+            self.give(instance, tables.target(ActionNumber(action)), is_set);
+            self.note_if_room(instance, action, is_set);
+            action += 1;
         }
         self.leave_memo(instance, q);
     }
@@ -421,9 +478,10 @@ impl Image {
             ImageAgrees plant self.new (with_changes (outputs plant instance q.now 0 tables.now.actions) changes) }
         ensures ticks { Within (length tables.now.actions) ticks.old ticks.new }
     {
-        let holds = self.holds_memo(instance, q);
-        if let Some(first) = self.next_due(instance, q, holds, 0, ticks) {
-            self.give_from(instance, tables, q, holds, first, ticks);
+        if !self.holds_memo(instance, q) {
+            self.give_all(instance, tables, q, ticks);
+        } else if let Some(first) = self.next_changed(instance, q, 0, ticks) {
+            self.give_changed(instance, tables, q, first, ticks);
         }
     }
 
@@ -492,7 +550,7 @@ impl Image {
         }
     }
 
-    // Stores the Q of an output, in the transaction, which is open; what is stored already is not stored again.
+    // Stores the Q of an output, in the transaction, which is open.
     fn put_output(&mut self, i: usize, q: bool)
         requires place { i < variable_total self.old }
         requires open { is_open self.old ≡ true }
@@ -503,11 +561,8 @@ impl Image {
         ensures agrees { (plant : PlantData) (changes : Changes) → ImageAgrees plant self.old changes →
             ImageAgrees plant self.new (with_change (Stored (record { 0 = i }) (Bool q)) changes) }
     {
-        if self.has_stored(i, Value::Bool(q)) {
-            return;
-        }
-        self.generation = next_generation(self.generation);
         self.count = try_bool(&mut self.slots, &mut self.written, self.count, i, q);
+        self.generation = next_generation(self.generation);
     }
 
     /// Gives the variable a value, in the transaction where one is open; a force hides it until its release.

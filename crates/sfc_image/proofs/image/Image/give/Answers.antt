@@ -19,10 +19,10 @@ returns-in-Some-clause-agrees c plant changes h =
     let v = c.in-Boolean.variable in
     let change = stored_to (value.Bool c.args.q) in
     let number : number_of plant p v ≡ Some c.in-Some.i = sym (c.place.ensures.number plant changes h) ∙ c.in-Some.is in
-    subst (λ (t : Target). ImageAgrees plant c.put_output.new.self (with_changes (output plant p t c.args.q) changes)) (sym c.in-Boolean.is)
-    (subst (λ (o : Option ℕ). ImageAgrees plant c.put_output.new.self (with_changes (changes_in (option_map change o)) changes)) (sym number)
-    (subst (λ (t : Changes). ImageAgrees plant c.put_output.new.self t) (one_change (change c.in-Some.i) changes)
-    (c.put_output.ensures.agrees plant changes (c.mark_output.ensures.agrees plant changes h))))
+    subst (λ (t : Target). ImageAgrees plant c.put.new.self (with_changes (output plant p t c.args.q) changes)) (sym c.in-Boolean.is)
+    (subst (λ (o : Option ℕ). ImageAgrees plant c.put.new.self (with_changes (changes_in (option_map change o)) changes)) (sym number)
+    (subst (λ (t : Changes). ImageAgrees plant c.put.new.self t) (one_change (change c.in-Some.i) changes)
+    (c.put.ensures.agrees plant changes (c.mark_output.ensures.agrees plant changes h))))
 
 pub returns-in-Some-clause-others : goal.returns-in-Some-clause-others
 returns-in-Some-clause-others c plant changes i h none =
@@ -34,6 +34,6 @@ returns-in-Some-clause-others c plant changes i h none =
     let there : slot_at c.mark_output.new.self.slots.items i ≡ slot_at slots i =
     ap (λ xs. slot_at xs i) c.mark_output.ensures.slots ∙ slot_other slots k i (as_output (slot_at slots k)) ne in
     record {
-      stored = c.put_output.ensures.put.others i ne ∙ ap (λ (slot : Slot). slot.stored) there;
-      output = λ on. c.put_output.ensures.put.outputs i ∙ ap (λ (slot : Slot). slot.is_output) there ∙ on;
+      stored = c.put.ensures.put.others i ne ∙ ap (λ (slot : Slot). slot.stored) there;
+      output = λ on. c.put.ensures.put.outputs i ∙ ap (λ (slot : Slot). slot.is_output) there ∙ on;
     }
