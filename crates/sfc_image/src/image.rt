@@ -7,7 +7,7 @@ use crate::building::{build, build_memos};
 use crate::closing::{begin_all, close_all};
 use crate::copying::{copy_locals, copy_slots};
 use crate::image_error::ImageError;
-use crate::output_memo::{OutputMemo, generation_after, next_generation};
+use crate::output_memo::{OutputMemo, begin_generation, begin_generation_if};
 use crate::slot::{Locals, Slot, as_output, value_fault, with_force, with_value};
 use crate::step_readings::StepReadings;
 use crate::store::ImageStore;
@@ -81,7 +81,7 @@ impl Image {
     ghost use Rattle.sfc_plant.specs.Finding.{chart_of};
     ghost use Rattle.sfc_image.specs.Private.Keeping as keeping;
     ghost use Rattle.sfc_image.specs.Private.Keeping.{IsPut, slot_at};
-    ghost use Rattle.sfc_image.specs.Private.OutputMemos.{memo_at, last_generation, HasQ, IsAssigned, Stays};
+    ghost use Rattle.sfc_image.specs.Private.OutputMemos.{memo_at, HasQ, IsAssigned, Stays};
     ghost use Rattle.sfc_image.specs.Answers.{Answers, read_answer, value_fault, release_fault};
     ghost use Rattle.sfc_image.specs.Agreement.{ImageAgrees, IsAsLarge, environment_in, variable_total, instance_total, written_total, is_open};
 
@@ -295,13 +295,10 @@ impl Image {
     fn holds_memo(&self, instance: ProgId, q: &Flags) -> bool
         requires { instance.0 < instance_total self.now }
         ensures generation { result ≡ true → (memo_at self.now.memos.items instance.0).generation ≡ self.now.generation }
-        ensures few { result ≡ true → self.now.generation < last_generation }
         ensures sized { result ≡ true → length (memo_at self.now.memos.items instance.0).q ≡ length q.now }
     {
         let memo = &self.memos[instance.0 as usize];
-        memo.generation == self.generation
-            && self.generation < u64::MAX
-            && memo.q.count() == q.count()
+        memo.generation == self.generation && memo.q.count() == q.count()
     }
 
     // What was last given to the outputs of the instance doesn't count as given any more.
@@ -365,7 +362,7 @@ impl Image {
     {
         let generation = self.generation;
         let memo = &mut self.memos[instance.0 as usize];
-        if memo.q.count() == q.count() {
+        if generation < u64::MAX && memo.q.count() == q.count() {
             memo.generation = generation;
         }
     }
@@ -542,10 +539,10 @@ impl Image {
             if self.has_stored(i, value) {
                 return;
             }
-            self.generation = generation_after(self.generation, self.slots[i].is_output);
+            begin_generation_if(&mut self.generation, self.slots[i].is_output);
             self.count = try_store(&mut self.slots, &mut self.written, self.count, i, value);
         } else {
-            self.generation = generation_after(self.generation, self.slots[i].is_output);
+            begin_generation_if(&mut self.generation, self.slots[i].is_output);
             self.slots[i] = with_value(self.slots[i], value);
         }
     }
@@ -562,7 +559,7 @@ impl Image {
             ImageAgrees plant self.new (with_change (Stored (record { 0 = i }) (Bool q)) changes) }
     {
         self.count = try_bool(&mut self.slots, &mut self.written, self.count, i, q);
-        self.generation = next_generation(self.generation);
+        begin_generation(&mut self.generation);
     }
 
     /// Gives the variable a value, in the transaction where one is open; a force hides it until its release.
@@ -649,7 +646,7 @@ impl Image {
     {
         let Locals { first, count } = self.locals[instance.0 as usize];
         begin_all(&mut self.slots, first, count, ticks);
-        self.generation = next_generation(self.generation);
+        begin_generation(&mut self.generation);
     }
 
     /// Opens a transaction: what is stored from now on may still be undone. It handles no variable, so it counts
@@ -695,7 +692,7 @@ impl Image {
         ensures ticks { Within (variable_total self.old) ticks.old ticks.new }
     {
         close_all(&mut self.slots, &self.written, self.count, false, ticks);
-        self.generation = next_generation(self.generation);
+        begin_generation(&mut self.generation);
         self.count = 0;
         self.is_trying = false;
     }

@@ -83,10 +83,12 @@ pub fn store_tried(slot: &mut Slot, value: Value) -> bool
     ensures slot { slot.new ≡ keeping.tried value slot.old }
     ensures before { result ≡ slot.old.is_tried }
 {
-    let is_tried = slot.is_tried;
     slot.stored = value;
+    if slot.is_tried {
+        return true;
+    }
     slot.is_tried = true;
-    is_tried
+    false
 }
 
 /// A BOOL is stored in a transaction. It answers whether the variable was written there before.
@@ -94,10 +96,12 @@ pub fn store_tried_bool(slot: &mut Slot, value: bool) -> bool
     ensures slot { slot.new ≡ keeping.tried (Bool value) slot.old }
     ensures before { result ≡ slot.old.is_tried }
 {
-    let is_tried = slot.is_tried;
     set_bool(&mut slot.stored, value);
+    if slot.is_tried {
+        return true;
+    }
     slot.is_tried = true;
-    is_tried
+    false
 }
 
 // Replaces a value by a BOOL; of a BOOL only what changes is written.

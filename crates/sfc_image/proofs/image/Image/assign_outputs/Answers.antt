@@ -8,8 +8,7 @@ use Rattle.sfc_image.proofs.image.Image.assign_outputs.Goals as goal
 
 pub give_changed-requires-clause-given : goal.give_changed-requires-clause-given
 give_changed-requires-clause-given c plant changes a h =
-    given_holds plant c.args.self.now changes c.args.instance a c.requires.instance (c.holds_memo.ensures.generation c.if-not-holds_memo.false)
-    (c.holds_memo.ensures.few c.if-not-holds_memo.false) h
+    given_holds plant c.args.self.now changes c.args.instance a c.requires.instance (c.holds_memo.ensures.generation c.if-not-holds_memo.false) h
 
 pub returns-in_default-clause-agrees : goal.returns-in_default-clause-agrees
 returns-in_default-clause-agrees c plant changes is h =
@@ -22,5 +21,4 @@ returns-in_default-clause-agrees c plant changes is h =
     λ j le lt. (refl, c.in_default.ensures.none refl j le) in
     all_assigned plant changes p q true actions actions_is image 0 c.requires.instance c.requires.open (omega arith) same
     (none_assigned plant changes p q true actions actions_is image h
-    (λ a on. given_holds plant image changes p a c.requires.instance (c.holds_memo.ensures.generation c.if-not-holds_memo.false)
-    (c.holds_memo.ensures.few c.if-not-holds_memo.false) h))
+    (λ a on. given_holds plant image changes p a c.requires.instance (c.holds_memo.ensures.generation c.if-not-holds_memo.false) h))

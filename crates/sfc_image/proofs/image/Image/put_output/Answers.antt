@@ -31,7 +31,7 @@ returns-clause-agrees c plant changes h =
           (stored_in_transaction plant slots image.locals.items image.count more image.is_trying changes (record { 0 = i }) value
           c.requires.open c.requires.place h.slots);
       memos =
-          subst (λ (xs : List Slot). MemosHold plant xs image.memos.items c.next_generation-self.result) is
+          subst (λ (xs : List Slot). MemosHold plant xs image.memos.items c.begin_generation.new.generation) is
           (memos_later plant slots (slice_set slots i (tried value (slot_at slots i))) image.memos.items image.generation
-          c.next_generation-self.result c.next_generation-self.ensures h.memos);
+          c.begin_generation.new.generation c.begin_generation.ensures h.memos);
     }
