@@ -10,9 +10,12 @@ use Rattle.sfc_tables.specs.Actions.{actions_of}
 use Rattle.sfc_base.specs.declared.ids.ProgId.{ProgId}
 use Rattle.sfc_plant.specs.Plants.{PlantData}
 use Rattle.sfc_plant.specs.Finding.{chart_of}
+use Rattle.sfc_image.specs.declared.image.Image.{Image}
 use Rattle.sfc_image.specs.declared.slot.Slot.{Slot}
 use Rattle.sfc_image.specs.declared.output_memo.OutputMemo.{OutputMemo}
+use Rattle.sfc_image.specs.Changes.{Changes}
 use Rattle.sfc_image.specs.Environments.{number_of}
+use Rattle.sfc_image.specs.Agreement.{ImageAgrees, instance_total}
 use Rattle.sfc_image.specs.Private.Keeping.{slot_at, MayClose}
 use Rattle.sfc_image.specs.Private.OutputMemos.{memo_at, last_generation, IsLater, IsGenerationAfter, IsAssigned, HasQ, MemosHold, Stays}
 use Rattle.sfc_image.proofs.Apart.{other_number}
@@ -32,7 +35,8 @@ pub memos_stay : (plant : PlantData) (old new : List Slot) (memos : List OutputM
 memos_stay plant old new memos generation stays h = record {
   begun = h.begun;
   past = h.past;
-  each = λ p lt now few a. stays_q plant p old new a (flag (memo_at memos p.0).q a) stays (h.each p lt now few a);
+  early = h.early;
+  each = λ p lt now a. stays_q plant p old new a (flag (memo_at memos p.0).q a) stays (h.each p lt now a);
 }
 
 -- a slot that is changed in something else
@@ -60,10 +64,11 @@ pub memos_later : (plant : PlantData) (old new : List Slot) (memos : List Output
 memos_later plant old new memos generation later is h = record {
   begun = omega (arith, h.begun, is.rises);
   past = λ k lt. let before = h.past k lt in omega (arith, before, is.rises);
-  each = λ p lt now few a.
+  early = h.early;
+  each = λ p lt now a.
       let before = h.past p.0 lt in
       let same : later ≡ generation = omega (arith, before, is.rises, now) in
-      absurd (let no = is.last same in omega (arith, no, few));
+      absurd (let no = is.last same in let few = h.early p.0 lt in omega (arith, no, few, now));
 }
 
 -- one slot is changed
@@ -78,8 +83,9 @@ memos_changed plant slots memos generation after i y is h =
           (record {
             begun = h.begun;
             past = h.past;
-            each = λ p lt now few a v j at number.
-                let had = h.each p lt now few a v j at number in
+            early = h.early;
+            each = λ p lt now a v j at number.
+                let had = h.each p lt now a v j at number in
                 let ne : j ≢ i =
                 λ same. absurd (let on = ap (λ (k : ℕ). (slot_at slots k).is_output) (sym same) ∙ had.output in cc) in
                 subst (λ (slot : Slot). IsAssigned slot (flag (memo_at memos p.0).q a)) (sym (slot_other slots i j y ne)) had;
@@ -88,9 +94,9 @@ memos_changed plant slots memos generation after i y is h =
 
 -- what was given to one instance is changed
 pub memo_set : (plant : PlantData) (slots : List Slot) (memos : List OutputMemo) (generation : ℕ) (p : ProgId) (g : OutputMemo) → p.0 < length memos
-    → g.generation ≤ generation → (g.generation ≡ generation → generation < last_generation → (a : ℕ) → HasQ plant p slots a (flag g.q a))
+    → g.generation ≤ generation → g.generation < last_generation → (g.generation ≡ generation → (a : ℕ) → HasQ plant p slots a (flag g.q a))
     → MemosHold plant slots memos generation → MemosHold plant slots (slice_set memos p.0 g) generation
-memo_set plant slots memos generation p g lt few now h = record {
+memo_set plant slots memos generation p g lt few first now h = record {
   begun = h.begun;
   past = λ k klt.
       elim (eqb_tells k p.0) as (λ _. (memo_at (slice_set memos p.0 g) k).generation ≤ generation) [
@@ -105,7 +111,20 @@ memo_set plant slots memos generation p g lt few now h = record {
             let long = length-set memos p.0 g in
             let before = h.past k (omega (arith, long, klt)) in omega (arith, e, before)
       ];
-  each = λ r rlt at last a.
+  early = λ k klt.
+      elim (eqb_tells k p.0) as (λ _. (memo_at (slice_set memos p.0 g) k).generation < last_generation) [
+        | inl w ↦
+            let here : memo_at (slice_set memos p.0 g) k ≡ g =
+            ap (λ (j : ℕ). memo_at (slice_set memos p.0 g) j) w.1 ∙ get_or-set_same memos p.0 g (record { q = []; generation = 0 }) lt in
+            let e = ap (λ (x : OutputMemo). x.generation) here in omega (arith, e, first)
+        | inr w ↦
+            let there : memo_at (slice_set memos p.0 g) k ≡ memo_at memos k =
+            get_or-set_other memos p.0 k g (record { q = []; generation = 0 }) w.1 in
+            let e = ap (λ (x : OutputMemo). x.generation) there in
+            let long = length-set memos p.0 g in
+            let before = h.early k (omega (arith, long, klt)) in omega (arith, e, before)
+      ];
+  each = λ r rlt at a.
       elim (eqb_tells r.0 p.0) as (λ _. HasQ plant r slots a (flag (memo_at (slice_set memos p.0 g) r.0).q a)) [
         | inl w ↦
             let same : r ≡ p = ap (λ (k : ℕ). let id : ProgId = record { 0 = k } in id) w.1 in
@@ -113,13 +132,13 @@ memo_set plant slots memos generation p g lt few now h = record {
             ap (λ (j : ℕ). memo_at (slice_set memos p.0 g) j) w.1 ∙ get_or-set_same memos p.0 g (record { q = []; generation = 0 }) lt in
             subst (λ (x : OutputMemo). HasQ plant r slots a (flag x.q a)) (sym here)
             (subst (λ (x : ProgId). HasQ plant x slots a (flag g.q a)) (sym same)
-            (now (ap (λ (x : OutputMemo). x.generation) (sym here) ∙ at) last a))
+            (now (ap (λ (x : OutputMemo). x.generation) (sym here) ∙ at) a))
         | inr w ↦
             let there : memo_at (slice_set memos p.0 g) r.0 ≡ memo_at memos r.0 =
             get_or-set_other memos p.0 r.0 g (record { q = []; generation = 0 }) w.1 in
             let long = length-set memos p.0 g in
             subst (λ (x : OutputMemo). HasQ plant r slots a (flag x.q a)) (sym there)
-            (h.each r (omega (arith, long, rlt)) (ap (λ (x : OutputMemo). x.generation) (sym there) ∙ at) last a)
+            (h.each r (omega (arith, long, rlt)) (ap (λ (x : OutputMemo). x.generation) (sym there) ∙ at) a)
       ];
 }
 
@@ -127,8 +146,8 @@ memo_set plant slots memos generation p g lt few now h = record {
 pub memo_dropped : (plant : PlantData) (slots : List Slot) (memos : List OutputMemo) (generation : ℕ) (p : ProgId) (g : OutputMemo)
     → p.0 < length memos → g.generation ≡ 0 → MemosHold plant slots memos generation → MemosHold plant slots (slice_set memos p.0 g) generation
 memo_dropped plant slots memos generation p g lt none h =
-    memo_set plant slots memos generation p g lt (omega (arith, none))
-    (λ now few a. absurd (let some = h.begun in omega (arith, none, now, some))) h
+    memo_set plant slots memos generation p g lt (omega (arith, none)) (omega (arith, none))
+    (λ now a. absurd (let some = h.begun in omega (arith, none, now, some))) h
 
 -- what was read
 pub memo_read : (memos : List OutputMemo) (k : ℕ) (g : OutputMemo) → k < length memos → g ≡ get_or memos k g → g ≡ memo_at memos k
@@ -138,13 +157,21 @@ memo_read memos k g lt is =
 pub memo_here : (memos : List OutputMemo) (k : ℕ) (g : OutputMemo) → k < length memos → memo_at (slice_set memos k g) k ≡ g
 memo_here memos k g lt = get_or-set_same memos k g (record { q = []; generation = 0 }) lt
 
+-- what was given in this generation
+pub given_holds : (plant : PlantData) (image : Image) (changes : Changes) (p : ProgId) (a : ℕ) → p.0 < instance_total image
+    → (memo_at image.memos.items p.0).generation ≡ image.generation → ImageAgrees plant image changes
+    → HasQ plant p image.slots.items a (flag (memo_at image.memos.items p.0).q a)
+unfolding ImageAgrees
+given_holds plant image changes p a lt now h = h.memos.each p (omega (arith, lt, image.sized)) now a
+
 -- where nothing was given yet
 pub no_memo : (plant : PlantData) (slots : List Slot) (memos : List OutputMemo) (generation : ℕ) → 0 < generation
     → ((k : ℕ) → k < length memos → (memo_at memos k).generation ≡ 0) → MemosHold plant slots memos generation
 no_memo plant slots memos generation some none = record {
   begun = some;
   past = λ k lt. let e = none k lt in omega (arith, e);
-  each = λ p lt now few a. let e = none p.0 lt in absurd (omega (arith, e, now, some));
+  early = λ k lt. let e = none k lt in omega (arith, e);
+  each = λ p lt now a. let e = none p.0 lt in absurd (omega (arith, e, now, some));
 }
 
 -- ---- one output more

@@ -171,7 +171,7 @@ module _ (plant : PlantData) (changes : Changes) (p : ProgId) (q : List Bool) (h
       }
 
   -- one more is given its Q
-  pub gave : (old new : Image) (a : ℕ) (target : Target) → slice_get targets a ≡ Some target
+  gave : (old new : Image) (a : ℕ) (target : Target) → slice_get targets a ≡ Some target
       → new.memos.items ≡ old.memos.items
       → ImageAgrees plant new (with_changes (output plant p target (flag q a)) (with_changes (outputs plant p q 0 (take a targets)) changes))
       → ((v : Variable) (i : ℕ) → target ≡ Boolean v → number_of plant p v ≡ Some i → IsAssigned (slot_at new.slots.items i) (flag q a))
@@ -215,7 +215,7 @@ module _ (plant : PlantData) (changes : Changes) (p : ProgId) (q : List Bool) (h
           record { stored = s.stored ∙ before.stored; output = s.output before.output }
 
   -- and that is noted
-  pub noted : (old new : Image) (a : ℕ) (x : Bool) → new.slots.items ≡ old.slots.items
+  noted : (old new : Image) (a : ℕ) (x : Bool) → new.slots.items ≡ old.slots.items
       → (holds ≡ true → length targets ≤ length (memo_at old.memos.items p.0).q)
       → ((b : ℕ) → b < length (memo_at old.memos.items p.0).q
       → flag (memo_at new.memos.items p.0).q b ≡ cond (b == a) x (flag (memo_at old.memos.items p.0).q b))
@@ -238,6 +238,49 @@ module _ (plant : PlantData) (changes : Changes) (p : ProgId) (q : List Bool) (h
       other_numbers' : (k i : ℕ) → k ≢ i → (k == i) ≡ false
       other_numbers' k i ne =
           elim (eqb_tells k i) as (λ _. (k == i) ≡ false) [ inl w ↦ absurd (ne w.1) | inr w ↦ w.0 ]
+
+  -- both at once
+  pub given : (old between new : Image) (a : ℕ) (target : Target) (x : Bool) → x ≡ flag q a → slice_get targets a ≡ Some target
+      → between.memos.items ≡ old.memos.items
+      → ((t : Changes) → ImageAgrees plant old t → ImageAgrees plant between (with_changes (output plant p target x) t))
+      → ((t : Changes) (v : Variable) (i : ℕ) → ImageAgrees plant old t → target ≡ Boolean v → number_of plant p v ≡ Some i
+      → IsAssigned (slot_at between.slots.items i) x)
+      → ((t : Changes) (i : ℕ) → ImageAgrees plant old t → ((v : Variable) → target ≡ Boolean v → number_of plant p v ≢ Some i)
+      → Stays (slot_at old.slots.items i) (slot_at between.slots.items i))
+      → new.slots.items ≡ between.slots.items
+      → (holds ≡ true → length targets ≤ length (memo_at between.memos.items p.0).q)
+      → ((b : ℕ) → b < length (memo_at between.memos.items p.0).q
+      → flag (memo_at new.memos.items p.0).q b ≡ cond (b == a) x (flag (memo_at between.memos.items p.0).q b))
+      → ((t : Changes) → ImageAgrees plant between t → ImageAgrees plant new t)
+      → AssignedTo plant changes p q holds targets a old → AssignedTo plant changes p q holds targets (a + 1) new
+  given old between new a target x value at memos agrees here others slots capacity flags goes_on h =
+      let log : Changes = with_changes (outputs plant p q 0 (take a targets)) changes in
+      noted between new a x slots capacity flags goes_on
+      (gave old between a target at memos
+      (subst (λ (b : Bool). ImageAgrees plant between (with_changes (output plant p target b) log)) value (agrees log h.agrees))
+      (λ v i same number. subst (λ (b : Bool). IsAssigned (slot_at between.slots.items i) b) value (here log v i h.agrees same number))
+      (λ i none. others log i h.agrees none) h)
+
+  -- what was given holds, so the variable is an output already
+  pub given_again : (old between new : Image) (a : ℕ) (target : Target) (x : Bool) → holds ≡ true → x ≡ flag q a
+      → slice_get targets a ≡ Some target → between.memos.items ≡ old.memos.items
+      → ((t : Changes) → ImageAgrees plant old t → ImageAgrees plant between (with_changes (output plant p target x) t))
+      → ((t : Changes) (v : Variable) (i : ℕ) → ImageAgrees plant old t → target ≡ Boolean v → number_of plant p v ≡ Some i
+      → (slot_at old.slots.items i).is_output ≡ true → IsAssigned (slot_at between.slots.items i) x)
+      → ((t : Changes) (i : ℕ) → ImageAgrees plant old t → ((v : Variable) → target ≡ Boolean v → number_of plant p v ≢ Some i)
+      → Stays (slot_at old.slots.items i) (slot_at between.slots.items i))
+      → new.slots.items ≡ between.slots.items
+      → length targets ≤ length (memo_at between.memos.items p.0).q
+      → ((b : ℕ) → b < length (memo_at between.memos.items p.0).q
+      → flag (memo_at new.memos.items p.0).q b ≡ cond (b == a) x (flag (memo_at between.memos.items p.0).q b))
+      → ((t : Changes) → ImageAgrees plant between t → ImageAgrees plant new t)
+      → AssignedTo plant changes p q holds targets a old → AssignedTo plant changes p q holds targets (a + 1) new
+  given_again old between new a target x on value at memos agrees here others slots capacity flags goes_on h =
+      given old between new a target x value at memos agrees
+      (λ t v i state same number. here t v i state same number
+      (h.rest on a (omega arith) v i
+      (ap (λ (ts : List Target). slice_get ts a) (sym is) ∙ at ∙ ap (λ (w : Target). Some w) same) number).output)
+      others slots (λ _. capacity) flags goes_on h
 
   -- before the first, and after the last
   pub none_assigned : (new : Image) → ImageAgrees plant new changes

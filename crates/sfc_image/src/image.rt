@@ -7,11 +7,11 @@ use crate::building::{build, build_memos};
 use crate::closing::{begin_all, close_all};
 use crate::copying::{copy_locals, copy_slots};
 use crate::image_error::ImageError;
-use crate::output_memo::{OutputMemo, generation_after, next_generation};
+use crate::output_memo::{OutputMemo, begin_generation, begin_generation_if};
 use crate::slot::{Locals, Slot, as_output, value_fault, with_force, with_value};
 use crate::step_readings::StepReadings;
 use crate::store::ImageStore;
-use crate::trying::try_store;
+use crate::trying::{try_bool, try_store};
 use crate::view::{ImageView, number_of};
 use sfc_base::ids::{ActionNumber, ProgId, VarId};
 use sfc_base::references::Variable;
@@ -61,7 +61,7 @@ impl Drop for Image {
 
 #[tactic(auto, unfolding(crate::specs::Agreement::ImageAgrees))]
 impl Image {
-    ghost use Rattle.std.specs.Prelude.{◌≡◌, ◌≢◌, ◌<◌, ◌≤◌, ◌==◌, ◌+◌, ◌^◌, ◌∷◌, ◌++◌, [], ℕ, true, false, cond, List, Option, length, is_some};
+    ghost use Rattle.std.specs.Prelude.{◌≡◌, ◌≢◌, ◌<◌, ◌≤◌, ◌==◌, ◌+◌, ◌-◌, ◌^◌, ◌∷◌, ◌++◌, [], ℕ, true, false, cond, List, Option, length, is_some};
     ghost use Rattle.std.specs.Prelude.{IfOk, OnOk, OnErr, IfSome, Some, None, slice_set};
     ghost use Rattle.sfc_base.specs.Ticks.{Within};
     ghost use Rattle.sfc_plant.specs.Plants.{PlantData};
@@ -76,11 +76,12 @@ impl Image {
     ghost use Rattle.sfc_image.specs.Outputs.{output, outputs};
     ghost use Rattle.sfc_flags.specs.Flags.{flag, places_passed};
     ghost use Rattle.sfc_plant.specs.declared.association.Target.TheVariants.{Boolean};
+    ghost use Rattle.sfc_base.specs.declared.value.Value.TheVariants.{Bool};
     ghost use Rattle.sfc_tables.specs.Tables.{tables_of};
     ghost use Rattle.sfc_plant.specs.Finding.{chart_of};
     ghost use Rattle.sfc_image.specs.Private.Keeping as keeping;
     ghost use Rattle.sfc_image.specs.Private.Keeping.{IsPut, slot_at};
-    ghost use Rattle.sfc_image.specs.Private.OutputMemos.{memo_at, last_generation, HasQ, IsAssigned, Stays};
+    ghost use Rattle.sfc_image.specs.Private.OutputMemos.{memo_at, HasQ, IsAssigned, Stays};
     ghost use Rattle.sfc_image.specs.Answers.{Answers, read_answer, value_fault, release_fault};
     ghost use Rattle.sfc_image.specs.Agreement.{ImageAgrees, IsAsLarge, environment_in, variable_total, instance_total, written_total, is_open};
 
@@ -267,39 +268,72 @@ impl Image {
         }
     }
 
+    // Gives the variable of an action its Q, if the action is one, where it is an output already and has another value.
+    fn give_again(&mut self, instance: ProgId, target: Target, q: bool)
+        requires instance { instance.0 < instance_total self.old }
+        requires open { is_open self.old ≡ true }
+        ensures large { IsAsLarge self.old self.new }
+        ensures open { is_open self.new ≡ true }
+        ensures memos { self.new.memos.items ≡ self.old.memos.items }
+        ensures agrees { (plant : PlantData) (changes : Changes) → ImageAgrees plant self.old changes →
+            ImageAgrees plant self.new (with_changes (output plant instance target q) changes) }
+        ensures here { (plant : PlantData) (changes : Changes) (v : Variable) (i : ℕ) → ImageAgrees plant self.old changes →
+            target ≡ Boolean v → number_of plant instance v ≡ Some i →
+            (slot_at self.old.slots.items i).is_output ≡ true → IsAssigned (slot_at self.new.slots.items i) q }
+        ensures others { (plant : PlantData) (changes : Changes) (i : ℕ) → ImageAgrees plant self.old changes →
+            ((v : Variable) → target ≡ Boolean v → number_of plant instance v ≢ Some i) →
+            Stays (slot_at self.old.slots.items i) (slot_at self.new.slots.items i) }
+    {
+        if let Target::Boolean(variable) = target {
+            if let Some(i) = self.place(instance, variable) {
+                self.put_output(i, q);
+            }
+        }
+    }
+
     // Whether what was last given to the outputs of the instance holds, where it has as many actions as this Q.
     fn holds_memo(&self, instance: ProgId, q: &Flags) -> bool
         requires { instance.0 < instance_total self.now }
         ensures generation { result ≡ true → (memo_at self.now.memos.items instance.0).generation ≡ self.now.generation }
-        ensures few { result ≡ true → self.now.generation < last_generation }
         ensures sized { result ≡ true → length (memo_at self.now.memos.items instance.0).q ≡ length q.now }
     {
         let memo = &self.memos[instance.0 as usize];
-        memo.generation == self.generation
-            && self.generation < u64::MAX
-            && memo.q.count() == q.count()
+        memo.generation == self.generation && memo.q.count() == q.count()
     }
 
-    // Whether what was last given to the outputs of the instance holds, where it has as many actions as this Q. From now on
-    // it doesn't count as given any more.
-    fn take_memo(&mut self, instance: ProgId, q: &Flags) -> bool
+    // What was last given to the outputs of the instance doesn't count as given any more.
+    fn drop_memo(&mut self, instance: ProgId)
         requires { instance.0 < instance_total self.old }
         ensures large { IsAsLarge self.old self.new }
         ensures open { is_open self.new ≡ is_open self.old }
         ensures slots { self.new.slots.items ≡ self.old.slots.items }
         ensures generation { (memo_at self.new.memos.items instance.0).generation ≡ 0 }
-        ensures sized { result ≡ true → length (memo_at self.new.memos.items instance.0).q ≡ length q.now }
+        ensures q { (memo_at self.new.memos.items instance.0).q ≡ (memo_at self.old.memos.items instance.0).q }
         ensures agrees { (plant : PlantData) (changes : Changes) → ImageAgrees plant self.old changes → ImageAgrees plant self.new changes }
-        ensures holds { (plant : PlantData) (changes : Changes) (a : ℕ) → result ≡ true → ImageAgrees plant self.old changes →
-            HasQ plant instance self.new.slots.items a (flag (memo_at self.new.memos.items instance.0).q a) }
     {
-        let holds = self.holds_memo(instance, q);
         self.memos[instance.0 as usize].generation = 0;
-        holds
     }
 
     // Notes the Q that was given to the variable of an action.
     fn note(&mut self, instance: ProgId, action: usize, q: bool)
+        requires instance { instance.0 < instance_total self.old }
+        requires action { action < length (memo_at self.old.memos.items instance.0).q }
+        requires taken { (memo_at self.old.memos.items instance.0).generation ≡ 0 }
+        ensures large { IsAsLarge self.old self.new }
+        ensures open { is_open self.new ≡ is_open self.old }
+        ensures slots { self.new.slots.items ≡ self.old.slots.items }
+        ensures generation { (memo_at self.new.memos.items instance.0).generation ≡ 0 }
+        ensures sized { length (memo_at self.new.memos.items instance.0).q ≡ length (memo_at self.old.memos.items instance.0).q }
+        ensures q { (a : ℕ) → a < length (memo_at self.old.memos.items instance.0).q →
+            flag (memo_at self.new.memos.items instance.0).q a
+            ≡ cond (a == action) q (flag (memo_at self.old.memos.items instance.0).q a) }
+        ensures agrees { (plant : PlantData) (changes : Changes) → ImageAgrees plant self.old changes → ImageAgrees plant self.new changes }
+    {
+        self.memos[instance.0 as usize].q.set(action, q);
+    }
+
+    // Notes the Q that was given to the variable of an action, if there is room for it.
+    fn note_if_room(&mut self, instance: ProgId, action: usize, q: bool)
         requires instance { instance.0 < instance_total self.old }
         requires taken { (memo_at self.old.memos.items instance.0).generation ≡ 0 }
         ensures large { IsAsLarge self.old self.new }
@@ -328,39 +362,97 @@ impl Image {
     {
         let generation = self.generation;
         let memo = &mut self.memos[instance.0 as usize];
-        if memo.q.count() == q.count() {
+        if generation < u64::MAX && memo.q.count() == q.count() {
             memo.generation = generation;
         }
     }
 
-    // The next action from `from` on whose Q wasn't given yet: where what was given holds, one that has another Q now.
-    fn next_due(
+    // The next action from `from` on that has another Q now than the one that was last given.
+    fn next_changed(
         &self,
         instance: ProgId,
         q: &Flags,
-        holds: bool,
         from: usize,
         ticks: &mut Ticks,
     ) -> Option<usize>
         requires instance { instance.0 < instance_total self.now }
-        requires sized { holds ≡ true → length (memo_at self.now.memos.items instance.0).q ≡ length q.now }
+        requires sized { length (memo_at self.now.memos.items instance.0).q ≡ length q.now }
         ensures some { IfSome result (λ i. (from ≤ i) × (i < length q.now)) }
         ensures before { IfSome result (λ i. (j : ℕ) → from ≤ j → j < i →
-            (holds ≡ true) × (flag (memo_at self.now.memos.items instance.0).q j ≡ flag q.now j)) }
-        ensures none { result ≡ None → (j : ℕ) → from ≤ j → j < length q.now →
-            (holds ≡ true) × (flag (memo_at self.now.memos.items instance.0).q j ≡ flag q.now j) }
+            flag (memo_at self.now.memos.items instance.0).q j ≡ flag q.now j) }
+        ensures none { result ≡ None → (j : ℕ) → from ≤ j → flag (memo_at self.now.memos.items instance.0).q j ≡ flag q.now j }
         ensures len { length q.now < 2 ^ 64 }
         ensures ticks { Within (places_passed (length q.now) from result) ticks.old ticks.new }
     {
-        if holds {
-            return q.next_difference(&self.memos[instance.0 as usize].q, from, ticks);
+        self.memos[instance.0 as usize]
+            .q
+            .next_difference(q, from, ticks)
+    }
+
+    // Gives their Q to those actions that have another one now than they were last given: `first` and some behind it. A
+    // scan in which there is none stays without this call.
+    #[inline(never)]
+    fn give_changed(
+        &mut self,
+        instance: ProgId,
+        tables: &Tables,
+        q: &Flags,
+        first: usize,
+        ticks: &mut Ticks,
+    )
+        requires instance { instance.0 < instance_total self.old }
+        requires open { is_open self.old ≡ true }
+        requires q { length q.now ≡ length tables.now.actions }
+        requires sized { length (memo_at self.old.memos.items instance.0).q ≡ length q.now }
+        requires given { (plant : PlantData) (changes : Changes) (a : ℕ) → ImageAgrees plant self.old changes →
+            HasQ plant instance self.old.slots.items a (flag (memo_at self.old.memos.items instance.0).q a) }
+        requires few { length q.now < 2 ^ 64 }
+        requires first { first < length q.now }
+        requires before { (j : ℕ) → j < first → flag (memo_at self.old.memos.items instance.0).q j ≡ flag q.now j }
+        ensures large { IsAsLarge self.old self.new }
+        ensures open { is_open self.new ≡ true }
+        ensures agrees { (plant : PlantData) (changes : Changes) → tables.now ≡ tables_of (chart_of plant instance) →
+            ImageAgrees plant self.old changes →
+            ImageAgrees plant self.new (with_changes (outputs plant instance q.now 0 tables.now.actions) changes) }
+        ensures ticks { Within (length q.now - (first + 1)) ticks.old ticks.new }
+    {
+        self.drop_memo(instance);
+        let mut action = first;
+        'outputs: loop {
+            let is_set = q.get(action);
+            self.give_again(instance, tables.target(ActionNumber(action)), is_set);
+            self.note(instance, action, is_set);
+            match self.next_changed(instance, q, action + 1, ticks) {
+                Some(next) => action = next,
+                None => break 'outputs,
+            }
         }
-        if from < q.count() {
+        self.leave_memo(instance, q);
+    }
+
+    // Gives all actions their Q.
+    #[inline(never)]
+    fn give_all(&mut self, instance: ProgId, tables: &Tables, q: &Flags, ticks: &mut Ticks)
+        requires instance { instance.0 < instance_total self.old }
+        requires open { is_open self.old ≡ true }
+        requires q { length q.now ≡ length tables.now.actions }
+        ensures large { IsAsLarge self.old self.new }
+        ensures open { is_open self.new ≡ true }
+        ensures agrees { (plant : PlantData) (changes : Changes) → tables.now ≡ tables_of (chart_of plant instance) →
+            ImageAgrees plant self.old changes →
+            ImageAgrees plant self.new (with_changes (outputs plant instance q.now 0 tables.now.actions) changes) }
+        ensures ticks { Within (length q.now) ticks.old ticks.new }
+    {
+        self.drop_memo(instance);
+        let mut action = 0;
+        'outputs: while action < q.count() {
             ticks.tick();
-            Some(from)
-        } else {
-            None
+            let is_set = q.get(action);
+            self.give(instance, tables.target(ActionNumber(action)), is_set);
+            self.note_if_room(instance, action, is_set);
+            action += 1;
         }
+        self.leave_memo(instance, q);
     }
 
     /// Assigns its Q to each variable of the instance's program that is an action by itself (2.6.4.1), one after the
@@ -383,15 +475,11 @@ impl Image {
             ImageAgrees plant self.new (with_changes (outputs plant instance q.now 0 tables.now.actions) changes) }
         ensures ticks { Within (length tables.now.actions) ticks.old ticks.new }
     {
-        let holds = self.take_memo(instance, q);
-        let mut from = 0;
-        'outputs: while let Some(action) = self.next_due(instance, q, holds, from, ticks) {
-            let is_set = q.get(action);
-            self.give(instance, tables.target(ActionNumber(action)), is_set);
-            self.note(instance, action, is_set);
-            from = action + 1;
+        if !self.holds_memo(instance, q) {
+            self.give_all(instance, tables, q, ticks);
+        } else if let Some(first) = self.next_changed(instance, q, 0, ticks) {
+            self.give_changed(instance, tables, q, first, ticks);
         }
-        self.leave_memo(instance, q);
     }
 
     /// What is wrong with a value for the variable, by `store` or `force`: there is no such variable, or the value is not
@@ -451,12 +539,27 @@ impl Image {
             if self.has_stored(i, value) {
                 return;
             }
-            self.generation = generation_after(self.generation, self.slots[i].is_output);
+            begin_generation_if(&mut self.generation, self.slots[i].is_output);
             self.count = try_store(&mut self.slots, &mut self.written, self.count, i, value);
         } else {
-            self.generation = generation_after(self.generation, self.slots[i].is_output);
+            begin_generation_if(&mut self.generation, self.slots[i].is_output);
             self.slots[i] = with_value(self.slots[i], value);
         }
+    }
+
+    // Stores the Q of an output, in the transaction, which is open.
+    fn put_output(&mut self, i: usize, q: bool)
+        requires place { i < variable_total self.old }
+        requires open { is_open self.old ≡ true }
+        ensures large { IsAsLarge self.old self.new }
+        ensures open { is_open self.new ≡ true }
+        ensures put { IsPut i (Bool q) self.old.slots.items self.new.slots.items }
+        ensures memos { self.new.memos.items ≡ self.old.memos.items }
+        ensures agrees { (plant : PlantData) (changes : Changes) → ImageAgrees plant self.old changes →
+            ImageAgrees plant self.new (with_change (Stored (record { 0 = i }) (Bool q)) changes) }
+    {
+        self.count = try_bool(&mut self.slots, &mut self.written, self.count, i, q);
+        begin_generation(&mut self.generation);
     }
 
     /// Gives the variable a value, in the transaction where one is open; a force hides it until its release.
@@ -543,7 +646,7 @@ impl Image {
     {
         let Locals { first, count } = self.locals[instance.0 as usize];
         begin_all(&mut self.slots, first, count, ticks);
-        self.generation = next_generation(self.generation);
+        begin_generation(&mut self.generation);
     }
 
     /// Opens a transaction: what is stored from now on may still be undone. It handles no variable, so it counts
@@ -589,7 +692,7 @@ impl Image {
         ensures ticks { Within (variable_total self.old) ticks.old ticks.new }
     {
         close_all(&mut self.slots, &self.written, self.count, false, ticks);
-        self.generation = next_generation(self.generation);
+        begin_generation(&mut self.generation);
         self.count = 0;
         self.is_trying = false;
     }

@@ -27,20 +27,20 @@ impl OutputMemo {
     }
 }
 
-/// A generation after this one, or the last one.
-pub fn next_generation(generation: u64) -> u64
-    ensures { IsLater generation result }
+/// Begins a generation after this one; the last one stays.
+pub fn begin_generation(generation: &mut u64)
+    ensures { IsLater generation.old generation.new }
 {
-    generation.saturating_add(1)
+    if *generation < u64::MAX {
+        *generation += 1;
+    }
 }
 
-/// The generation after a change of a variable: a later one, if it is an output.
-pub fn generation_after(generation: u64, is_output: bool) -> u64
-    ensures { IsGenerationAfter is_output generation result }
+/// Begins a generation after this one, if the variable that changes is an output.
+pub fn begin_generation_if(generation: &mut u64, is_output: bool)
+    ensures { IsGenerationAfter is_output generation.old generation.new }
 {
     if is_output {
-        next_generation(generation)
-    } else {
-        generation
+        begin_generation(generation);
     }
 }

@@ -1,6 +1,7 @@
 //! What is kept for a variable (2.4).
 
 ghost use Rattle.std.specs.Prelude.{◌≡◌, ◌<◌, length, None};
+ghost use Rattle.sfc_base.specs.declared.value.Value.TheVariants.{Bool};
 ghost use Rattle.sfc_image.specs.Private.Keeping as keeping;
 
 use crate::image_error::ImageError;
@@ -77,14 +78,40 @@ pub fn with_value(slot: Slot, value: Value) -> Slot
     next
 }
 
-/// A value is stored in a transaction.
-pub fn tried(slot: Slot, value: Value) -> Slot
-    ensures { result ≡ keeping.tried value slot }
+/// A value is stored in a transaction. It answers whether the variable was written there before.
+pub fn store_tried(slot: &mut Slot, value: Value) -> bool
+    ensures slot { slot.new ≡ keeping.tried value slot.old }
+    ensures before { result ≡ slot.old.is_tried }
 {
-    let mut next = slot;
-    next.stored = value;
-    next.is_tried = true;
-    next
+    slot.stored = value;
+    if slot.is_tried {
+        return true;
+    }
+    slot.is_tried = true;
+    false
+}
+
+/// A BOOL is stored in a transaction. It answers whether the variable was written there before.
+pub fn store_tried_bool(slot: &mut Slot, value: bool) -> bool
+    ensures slot { slot.new ≡ keeping.tried (Bool value) slot.old }
+    ensures before { result ≡ slot.old.is_tried }
+{
+    set_bool(&mut slot.stored, value);
+    if slot.is_tried {
+        return true;
+    }
+    slot.is_tried = true;
+    false
+}
+
+// Replaces a value by a BOOL; of a BOOL only what changes is written.
+fn set_bool(place: &mut Value, value: bool)
+    ensures { place.new ≡ Bool value }
+{
+    match place {
+        Value::Bool(old) => *old = value,
+        other => *other = Value::Bool(value),
+    }
 }
 
 /// The variable is forced to a value, or released.

@@ -1,6 +1,6 @@
 //! What the expressions of a program instance read (2.4.3, 2.5.3).
 
-ghost use Rattle.std.specs.Prelude.{◌≡◌, ◌<◌, ◌+◌, ◌^◌};
+ghost use Rattle.std.specs.Prelude.{◌≡◌, ◌<◌, ◌≤◌, ◌+◌, ◌^◌, length};
 ghost use Rattle.sfc_image.specs.Environments.{number_among};
 ghost use Rattle.sfc_image.specs.Private.Keeping.{shown};
 
@@ -19,7 +19,8 @@ pub struct ImageView<'a> {
     pub(crate) locals: Locals,
     pub(crate) steps: StepReadings<'a>,
     pub(crate) q: bool,
-    ghost small: { locals.first + locals.count < 2 ^ 64 },
+    ghost apart: { globals ≤ locals.first },
+    ghost within: { locals.first + locals.count ≤ length slots.now },
 }
 
 /// The number of the variable in the image, if there is such a variable.
@@ -41,14 +42,15 @@ pub(crate) fn number_of(globals: usize, locals: Locals, variable: Variable) -> O
 
 /// What the variable reads: the forced value, if it is forced, else the stored one; FALSE where it is not there.
 pub(crate) fn read(slots: &[Slot], globals: usize, locals: Locals, variable: Variable) -> Value
-    requires { locals.first + locals.count < 2 ^ 64 }
+    requires apart { globals ≤ locals.first }
+    requires within { locals.first + locals.count ≤ length slots.now }
     ensures { result ≡ shown slots.now (number_among globals locals.first locals.count variable) }
 {
     match number_of(globals, locals, variable) {
-        Some(i) => match slots.get(i) {
-            Some(slot) => slot.forced.unwrap_or(slot.stored),
-            None => Value::Bool(false),
-        },
+        Some(i) => {
+            let slot = &slots[i];
+            slot.forced.unwrap_or(slot.stored)
+        }
         None => Value::Bool(false),
     }
 }

@@ -40,11 +40,12 @@ abbrev pub HasQ : PlantData → ProgId → List Slot → ℕ → Bool → Type 0
 HasQ plant p slots a q = (v : Variable) (i : ℕ) → slice_get (actions_of (chart_of plant p)) a ≡ Some (Boolean v)
     → number_of plant p v ≡ Some i → IsAssigned (slot_at slots i) q
 
--- what was given to an instance in this generation holds, unless it is the last one
+-- what was given to an instance in this generation holds; in the last one nothing is
 pub record MemosHold (plant : PlantData) (slots : List Slot) (memos : List OutputMemo) (generation : ℕ) : Type 0 where
   pub begun : 0 < generation
   pub past : (k : ℕ) → k < length memos → (memo_at memos k).generation ≤ generation
-  pub each : (p : ProgId) → p.0 < length memos → (memo_at memos p.0).generation ≡ generation → generation < last_generation → (a : ℕ)
+  pub early : (k : ℕ) → k < length memos → (memo_at memos k).generation < last_generation
+  pub each : (p : ProgId) → p.0 < length memos → (memo_at memos p.0).generation ≡ generation → (a : ℕ)
       → HasQ plant p slots a (flag (memo_at memos p.0).q a)
 
 -- a slot that keeps its value, and stays an output if it is one

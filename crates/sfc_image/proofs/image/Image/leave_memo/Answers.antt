@@ -13,12 +13,12 @@ returns-then-count-clause-agrees c plant changes h all =
     let p = c.args.instance in
     let lt : p.0 < length image.memos.items = omega (arith, c.requires.instance, image.sized) in
     let read = memo_read image.memos.items p.0 c.index_mut-memo.result.now lt c.index_mut-memo.ensures.value in
-    let long = ap (λ (g : OutputMemo). length g.q) (sym read) ∙ sym c.count.ensures ∙ c.if-count.true ∙ c.count-2.ensures in
+    let long = ap (λ (g : OutputMemo). length g.q) (sym read) ∙ sym c.count.ensures ∙ c.if-count.true ∙ c.count-then-generation-lt18446744073709551615.ensures in
     let made : OutputMemo = record { q = c.index_mut-memo.result.now.q; generation = image.generation } in
     record {
       slots = h.slots;
       memos =
-          memo_set plant image.slots.items image.memos.items image.generation p made lt (omega arith)
-          (λ now few a.
+          memo_set plant image.slots.items image.memos.items image.generation p made lt (omega arith) (omega (arith, c.if-generation-lt18446744073709551615.true))
+          (λ now a.
           subst (λ (g : OutputMemo). HasQ plant p image.slots.items a (flag g.q a)) (sym read) (all long a)) h.memos;
     }

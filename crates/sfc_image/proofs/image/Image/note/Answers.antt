@@ -11,9 +11,10 @@ returns-clause-agrees c plant changes h =
     let p = c.args.instance in
     let lt : p.0 < length image.memos.items = omega (arith, c.requires.instance, image.sized) in
     let read = memo_read image.memos.items p.0 c.index_mut.result.now lt c.index_mut.ensures.value in
+    let made : OutputMemo = record { q = c.set.new.self; generation = c.index_mut.result.now.generation } in
     record {
       slots = h.slots;
       memos =
-          memo_dropped plant image.slots.items image.memos.items image.generation p c.note.new.self lt
-          (c.note.ensures.generation ∙ ap (λ (g : OutputMemo). g.generation) read ∙ c.requires.taken) h.memos;
+          memo_dropped plant image.slots.items image.memos.items image.generation p made lt
+          (ap (λ (g : OutputMemo). g.generation) read ∙ c.requires.taken) h.memos;
     }

@@ -35,10 +35,10 @@ returns-else-self-clause-agrees c plant changes h =
           (stored_for_good plant slots image.locals.items image.count image.is_trying changes (record { 0 = i }) c.args.value
           c.if-self.false c.requires h.slots);
       memos =
-          memos_changed plant slots image.memos.items image.generation c.generation_after-self-else-self.result i c.with_value.result
-          (subst (λ (b : Bool). IsGenerationAfter b image.generation c.generation_after-self-else-self.result) (ap (λ (slot : Slot). slot.is_output)
+          memos_changed plant slots image.memos.items image.generation c.begin_generation_if-else-self.new.generation i c.with_value.result
+          (subst (λ (b : Bool). IsGenerationAfter b image.generation c.begin_generation_if-else-self.new.generation) (ap (λ (slot : Slot). slot.is_output)
           (slot_read slots i c.index-else-self.result.now c.requires c.index-else-self.ensures))
-          c.generation_after-self-else-self.ensures) h.memos;
+          c.begin_generation_if-else-self.ensures) h.memos;
     }
 
 pub returns-else-has_stored-clause-put : goal.returns-else-has_stored-clause-put
@@ -74,10 +74,10 @@ returns-else-has_stored-clause-agrees c plant changes h =
           (stored_in_transaction plant slots image.locals.items image.count more image.is_trying changes (record { 0 = i }) c.args.value
           c.if-self.true c.requires h.slots);
       memos =
-          subst (λ (xs : List Slot). MemosHold plant xs image.memos.items c.generation_after-self.result) is
-          (memos_changed plant slots image.memos.items image.generation c.generation_after-self.result i (tried c.args.value (slot_at slots i))
-          (subst (λ (b : Bool). IsGenerationAfter b image.generation c.generation_after-self.result) (ap (λ (slot : Slot). slot.is_output) read)
-          c.generation_after-self.ensures) h.memos);
+          subst (λ (xs : List Slot). MemosHold plant xs image.memos.items c.begin_generation_if.new.generation) is
+          (memos_changed plant slots image.memos.items image.generation c.begin_generation_if.new.generation i (tried c.args.value (slot_at slots i))
+          (subst (λ (b : Bool). IsGenerationAfter b image.generation c.begin_generation_if.new.generation) (ap (λ (slot : Slot). slot.is_output) read)
+          c.begin_generation_if.ensures) h.memos);
     }
 
 pub returns-then-has_stored-clause-agrees : goal.returns-then-has_stored-clause-agrees

@@ -29,6 +29,6 @@ returns-clause-agrees c plant committed h =
           subst (λ (xs : List Slot). SlotsAgree plant xs image.locals.items image.count image.is_trying (settled (Reset p ∷ committed))) items
           (reset_agrees plant slots new image.locals.items image.count image.is_trying committed p l (long ∙ image.slots.ok.0) is begun h.slots);
       memos =
-          subst (λ (xs : List Slot). MemosHold plant xs image.memos.items c.next_generation-self.result) items
-          (memos_later plant slots new image.memos.items image.generation c.next_generation-self.result c.next_generation-self.ensures h.memos);
+          subst (λ (xs : List Slot). MemosHold plant xs image.memos.items c.begin_generation.new.generation) items
+          (memos_later plant slots new image.memos.items image.generation c.begin_generation.new.generation c.begin_generation.ensures h.memos);
     }

@@ -49,6 +49,6 @@ returns-clause-agrees c plant committed tried h =
           (undo_agrees plant slots new image.locals.items written image.count image.is_trying committed tried (long ∙ image.slots.ok.0)
           image.tracked closed h.slots);
       memos =
-          subst (λ (xs : List Slot). MemosHold plant xs image.memos.items c.next_generation-self.result) is
-          (memos_later plant slots new image.memos.items image.generation c.next_generation-self.result c.next_generation-self.ensures h.memos);
+          subst (λ (xs : List Slot). MemosHold plant xs image.memos.items c.begin_generation.new.generation) is
+          (memos_later plant slots new image.memos.items image.generation c.begin_generation.new.generation c.begin_generation.ensures h.memos);
     }

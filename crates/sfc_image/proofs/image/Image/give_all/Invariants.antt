@@ -1,4 +1,4 @@
-use Rattle.std.proofs.Common.{◌≡◌, ◌<◌, ◌≤◌, ◌-◌, ℕ, true, length}
+use Rattle.std.proofs.Common.{◌≡◌, ◌<◌, ◌≤◌, ◌-◌, ℕ, true, false, length}
 use Rattle.sfc_base.specs.Ticks.{Within}
 use Rattle.sfc_flags.specs.Flags.{flag}
 use Rattle.sfc_tables.specs.Tables.{tables_of}
@@ -8,21 +8,20 @@ use Rattle.sfc_image.specs.Changes.{Changes}
 use Rattle.sfc_image.specs.Private.OutputMemos.{memo_at}
 use Rattle.sfc_image.specs.Agreement.{ImageAgrees, IsAsLarge, is_open}
 use Rattle.sfc_image.proofs.Outputs.{AssignedTo}
-use Rattle.sfc_image.proofs.image.Image.assign_outputs.Given as goal
+use Rattle.sfc_image.proofs.image.Image.give_all.Given as goal
 
 abbrev pub invariant-outputs : goal.invariant-outputs
 invariant-outputs l = record {
   large : IsAsLarge l.fn.self l.self;
   opened : is_open l.self ≡ true;
-  within : l.from ≤ length l.q;
+  within : l.action ≤ length l.q;
   taken : (memo_at l.self.memos.items l.instance.0).generation ≡ 0;
-  sized : l.holds ≡ true → length (memo_at l.self.memos.items l.instance.0).q ≡ length l.q;
-  noted : (a : ℕ) → a < l.from → a < length (memo_at l.self.memos.items l.instance.0).q
+  noted : (a : ℕ) → a < l.action → a < length (memo_at l.self.memos.items l.instance.0).q
       → flag (memo_at l.self.memos.items l.instance.0).q a ≡ flag l.q a;
   handled : (plant : PlantData) (changes : Changes) → l.tables ≡ tables_of (chart_of plant l.instance) → ImageAgrees plant l.fn.self changes
-      → AssignedTo plant changes l.instance l.q l.holds l.tables.actions l.from l.self;
-  ticks : Within l.from l.fn.ticks l.ticks;
+      → AssignedTo plant changes l.instance l.q false l.tables.actions l.action l.self;
+  ticks : Within l.action l.fn.ticks l.ticks;
 }
 
 abbrev pub decreases-outputs : goal.decreases-outputs
-decreases-outputs l = length l.q - l.from
+decreases-outputs l = length l.q - l.action
