@@ -13,3 +13,6 @@ returns-in_default-epoch_answer-clause-kept c =
     (c.save.new.opening ≡ c.args.opening.now) c.requires.some
     (λ h a. simp (to_z-of_z, fits) at (c.in_default-epoch_answer.ensures h a))
     (λ h a. (simp (to_z-of_z, fits) at (c.command.ensures.answer h a)) ∙ ap (λ command. verdict (plant_of d) (table_of d) h command c.args.raw) c.in-Epoch.is)
+
+pub returns-in_default-clause-plant : goal.returns-in_default-clause-plant
+returns-in_default-clause-plant c = c.command-in_default.ensures.plant
