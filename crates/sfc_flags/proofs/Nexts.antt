@@ -10,7 +10,8 @@ use Rattle.std.specs.Int.{bit_at, trailing_zeros}
 use Rattle.std.specs.Prelude.{Option, Some, None, IfSome}
 use Rattle.sfc_flags.specs.Flags.{flag, places_from}
 use Rattle.sfc_flags.specs.Private.Bits.{flags_of, bit, IsNext, IsTable}
-use Rattle.sfc_flags.proofs.Views.{shown, below_length}
+use mathlib.Core.Logic.{◌≢◌}
+use Rattle.sfc_flags.proofs.Views.{bit-zero, shown, below_length}
 
 -- the bits of w are those of the places from p on, up to the end of p's word
 abbrev pub Shows : List ℕ → ℕ → ℕ → Type 0
@@ -107,6 +108,10 @@ module _ (words : List ℕ) where
   pub none_shown : (p w : ℕ) → w ≡ get_or words (p / 64) 0 / 2 ^ (p % 64) → w ≡ 0 → (j : ℕ) → p ≤ j → j < p / 64 * 64 + 64 → bit words j ≡ false
   none_shown p w e none = none_in words p w (shifted words p w e) none
 
+  -- the words from number `start` up to number k have no bit
+  none_between : (start k : ℕ) → ((i : ℕ) → start ≤ i → i < k → get_or words i 0 ≡ 0) → (p : ℕ) → start * 64 ≤ p → p < k * 64 → bit words p ≡ false
+  none_between start k blank p le lt = bit-zero words p (blank (p / 64) (omega arith) (omega arith))
+
   pub next_from : (from p i : ℕ) → from ≤ p → ((j : ℕ) → from ≤ j → j < p → bit words j ≡ false) → IsNext words p i → IsNext words from i
   next_from from p i le none next = record {
     after = omega (arith, next.after);
@@ -116,6 +121,44 @@ module _ (words : List ℕ) where
       | inr ge ↦ next.first j ge b
     ];
   }
+
+-- behind the word of place `from`, which has none from there on, and the blank words that follow
+module _ (words : List ℕ) (from w k : ℕ) (e : w ≡ get_or words (from / 64) 0 / 2 ^ (from % 64)) (none : w ≡ 0)
+    (blank : (i : ℕ) → from / 64 + 1 ≤ i → i < k → get_or words i 0 ≡ 0) where
+  none_up_to : (p : ℕ) → from ≤ p → p < k * 64 → bit words p ≡ false
+  none_up_to p le lt = elim (cases_lt p (from / 64 * 64 + 64)) [
+    | inl here ↦ none_shown words from w e none p le here
+    | inr ge ↦ none_between words (from / 64 + 1) k blank p (omega arith) lt
+  ]
+
+  pub found_behind : (v : ℕ) → v ≡ get_or words k 0 → from / 64 + 1 ≤ k → v < 2 ^ 64 → v ≢ 0 → IsNext words from (k * 64 + trailing_zeros w64 v)
+  found_behind v at le fits some =
+      let same : k * 64 / 64 ≡ k = omega arith in
+      next_from words from (k * 64) (k * 64 + trailing_zeros w64 v) (omega arith) none_up_to
+      (found words (k * 64) v (rw same (omega (arith, at))) (at ∙ whole words k) (omega arith)).0
+
+  pub none_behind : length words ≤ k → (p : ℕ) → from ≤ p → bit words p ≡ false
+  none_behind le p after = elim (cases_lt p (k * 64)) [
+    | inl lt ↦ none_up_to p after lt
+    | inr ge ↦ past words p (omega arith)
+  ]
+
+-- in a table of one word
+module _ (words : List ℕ) (from w : ℕ) (within : from < 64) where
+  pub alone_found : get_or words 0 0 < 2 ^ 64 → w ≡ get_or words 0 0 / 2 ^ from → 0 < w → IsNext words from (from + trailing_zeros w64 w)
+  alone_found fits e some =
+      let a : from / 64 ≡ 0 = omega arith in
+      let b : from % 64 ≡ from = omega arith in
+      (found words from w (rw a fits) (rw (a, b) e) some).0
+
+  pub alone_none : length words ≡ 1 → w ≡ get_or words 0 0 / 2 ^ from → w ≡ 0 → (j : ℕ) → from ≤ j → bit words j ≡ false
+  alone_none one e none j le =
+      let a : from / 64 ≡ 0 = omega arith in
+      let b : from % 64 ≡ from = omega arith in
+      elim (cases_lt j 64) [
+        | inl lt ↦ none_shown words from w (rw (a, b) e) none j le (omega arith)
+        | inr ge ↦ past words j (omega arith)
+      ]
 
 module _ (n : ℕ) (words at : List ℕ) (flags : List Bool) (t : IsTable n words) (e : at ≡ words) (v : flags_of n words ≡ flags) (from : ℕ) where
   pub some_place : (o : Option ℕ) → IfSome o (λ i. IsNext at from i) → IfSome o (λ i. (from ≤ i) × (i < length flags) × (places_from flags from ≡ i ∷ places_from flags (i + 1)))

@@ -6,7 +6,7 @@ use Rattle.std.proofs.lemmas.Nat.Bits.{bit_at-zero}
 use Rattle.std.specs.Prelude.{slice_set, replicate}
 use Rattle.std.specs.Int.{div_ceil}
 use Rattle.sfc_flags.specs.Flags.{flag}
-use Rattle.sfc_flags.specs.Private.Bits.{bit, values, flags_of, IsTable}
+use Rattle.sfc_flags.specs.Private.Bits.{bit, values, flags_of, IsTable, IsFlags}
 
 length-values : (f : ℕ → Bool) (i n : ℕ) → length (values f i n) ≡ n
 length-values f i zero = refl
@@ -33,7 +33,7 @@ same_flags n words flags t sized each =
     let m = length_of n words in
     ext_get_or false (flags_of n words) flags (omega arith) (λ j lt. flag_of n words t j ∙ each j (omega arith))
 
-bit-zero : (words : List ℕ) (j : ℕ) → get_or words (j / 64) 0 ≡ 0 → bit words j ≡ false
+pub bit-zero : (words : List ℕ) (j : ℕ) → get_or words (j / 64) 0 ≡ 0 → bit words j ≡ false
 unfolding bit
 bit-zero words j e = rw (e, bit_at-zero (j % 64)) refl
 
@@ -71,6 +71,10 @@ zeros n words e =
     let none : (j : ℕ) → bit words j ≡ false = no_bit words (λ i lt. ap (λ ws. get_or ws i 0) e ∙ get_or-replicate k i 0 0 (omega (arith, ap length e, length-replicate {A = ℕ} k 0))) in
     let t : IsTable n words = record { sized = ap length e ∙ length-replicate k 0; blank = λ j le. none j } in
     (t, blank_table n n words refl t none)
+
+-- a table with other words
+pub held : {n single : ℕ} {words new : List ℕ} → IsFlags n single words → IsTable n new → IsFlags n single new
+held f t = record { table = t; within = f.within; alone = f.alone }
 
 -- what the words at hand say of the flags
 pub shown : (n : ℕ) (words at : List ℕ) (flags : List Bool) → IsTable n words → at ≡ words → flags_of n words ≡ flags → (i : ℕ) → flag flags i ≡ bit at i

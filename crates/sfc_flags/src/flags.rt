@@ -4,7 +4,7 @@ ghost use Rattle.std.specs.Prelude.{◌≡◌, ◌≢◌, ◌==◌, ◌<◌, ◌
 ghost use Rattle.sfc_base.specs.Ticks.{Within};
 ghost use Rattle.sfc_flags.specs.Flags.{flag, places_from, places_passed};
 ghost use Rattle.sfc_flags.specs.Words.{has, word_count, word_of};
-ghost use Rattle.sfc_flags.specs.Private.Bits.{flags_of, IsTable};
+ghost use Rattle.sfc_flags.specs.Private.Bits.{flags_of, IsFlags};
 
 use crate::word::Word;
 use crate::words;
@@ -17,13 +17,19 @@ use std::marker::Model;
 /// Work by words counts a tick for each word of 64 flags, which is told as at most one for each place.
 pub struct Flags {
     count: usize,
+    // the places, where one word has them all; else 0
+    single: usize,
     words: Vec<u64>,
 }
 
 // By hand, so that a caller that drops one proves one call.
 impl Drop for Flags {
     fn drop(self) {
-        let Flags { count: _, words: _ } = self;
+        let Flags {
+            count: _,
+            single: _,
+            words: _,
+        } = self;
     }
 }
 
@@ -32,7 +38,7 @@ impl Model for Flags {
 
     ghost view = { λ f. flags_of f.count f.words.items };
 
-    ghost invariant = { λ f. IsTable f.count f.words.items };
+    ghost invariant = { λ f. IsFlags f.count f.single f.words.items };
 }
 
 impl Flags {
@@ -42,6 +48,7 @@ impl Flags {
     {
         Ok(Flags {
             count,
+            single: if count <= 64 { count } else { 0 },
             words: vec![in alloc; 0; count.div_ceil(64)]?,
         })
     }
@@ -99,7 +106,11 @@ impl Flags {
         ensures flags { self.new ≡ replicate (length self.old) false }
         ensures ticks { Within (length self.old) ticks.old ticks.new }
     {
-        words::clear(&mut self.words, ticks);
+        if self.single > 0 {
+            words::clear_one(&mut self.words, ticks);
+        } else {
+            words::clear(&mut self.words, ticks);
+        }
     }
 
     /// Takes over the other's flags.
@@ -113,6 +124,7 @@ impl Flags {
 
     /// The first set place from `from` on. A walk over all set places, each time from the place behind the last one,
     /// makes at most a tick for each place of the table.
+    #[inline(always)]
     pub fn next_set(&self, from: usize, ticks: &mut Ticks) -> Option<usize>
         ensures some { IfSome result (λ i. (from ≤ i) × (i < length self.now)
             × (places_from self.now from ≡ i ∷ places_from self.now (i + 1))) }
@@ -120,6 +132,9 @@ impl Flags {
         ensures len { length self.now < 2 ^ 64 }
         ensures ticks { Within (places_passed (length self.now) from result) ticks.old ticks.new }
     {
+        if from < self.single {
+            return words::next_in_one(&self.words, from, ticks);
+        }
         let count = self.count;
         if from < count {
             words::next(&self.words, from, ticks)
@@ -130,6 +145,7 @@ impl Flags {
 
     /// The first place from `from` on at which the two tables differ. A walk over all these places, each time from the
     /// place behind the last one, makes at most a tick for each place of the table.
+    #[inline(always)]
     pub fn next_difference(&self, other: &Flags, from: usize, ticks: &mut Ticks) -> Option<usize>
         requires { length other.now ≡ length self.now }
         ensures some { IfSome result (λ i. (from ≤ i) × (i < length self.now) × (flag self.now i ≢ flag other.now i)) }
@@ -138,6 +154,9 @@ impl Flags {
         ensures len { length self.now < 2 ^ 64 }
         ensures ticks { Within (places_passed (length self.now) from result) ticks.old ticks.new }
     {
+        if from < self.single {
+            return words::next_difference_in_one(&self.words, &other.words, from, ticks);
+        }
         let count = self.count;
         if from < count {
             words::next_difference(&self.words, &other.words, from, ticks)

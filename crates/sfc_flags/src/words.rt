@@ -1,6 +1,6 @@
 //! Bits in a slice of words.
 
-ghost use Rattle.std.specs.Prelude.{◌≡◌, ◌==◌, ◌/◌, ◌<◌, ◌≤◌, ◌^◌, ◌-◌, ◌||◌, ◌&&◌, ◌↔◌, ℕ, not, true, false, length, cond, slice_index, slice_set, IfSome, None};
+ghost use Rattle.std.specs.Prelude.{◌≡◌, ◌≢◌, ◌==◌, ◌/◌, ◌<◌, ◌≤◌, ◌^◌, ◌-◌, ◌||◌, ◌&&◌, ◌↔◌, ℕ, not, true, false, length, cond, slice_index, slice_set, IfSome, None};
 ghost use Rattle.sfc_base.specs.Ticks.{Within};
 ghost use Rattle.sfc_flags.specs.Private.Bits.{bit, apart, IsNext, words_passed};
 
@@ -63,21 +63,43 @@ pub fn copy(words: &mut [u64], other: &[u64], ticks: &mut Ticks)
     }
 }
 
+/// Clears all bits of one word.
+pub fn clear_one(words: &mut [u64], ticks: &mut Ticks)
+    requires { length words.old ≡ 1 }
+    ensures len { length words.new ≡ length words.old }
+    ensures bits { (j : ℕ) → bit words.new j ≡ false }
+    ensures ticks { Within (length words.old) ticks.old ticks.new }
+{
+    words[0] = 0;
+    ticks.tick();
+}
+
 /// Clears all bits.
 pub fn clear(words: &mut [u64], ticks: &mut Ticks)
     ensures len { length words.new ≡ length words.old }
     ensures bits { (j : ℕ) → bit words.new j ≡ false }
     ensures ticks { Within (length words.old) ticks.old ticks.new }
 {
-    // One word, as up to 64 places have, without a loop.
-    if words.len() == 1 {
-        words[0] = 0;
-        ticks.tick();
-        return;
-    }
     for k in 0..words.len() {
         words[k] = 0;
         ticks.tick();
+    }
+}
+
+/// The first set place from `from` on, where there is one word.
+pub fn next_in_one(words: &[u64], from: usize, ticks: &mut Ticks) -> Option<usize>
+    requires one { length words.now ≡ 1 }
+    requires within { from < 64 }
+    ensures some { IfSome result (λ i. IsNext words.now from i) }
+    ensures none { result ≡ None → (j : ℕ) → from ≤ j → bit words.now j ≡ false }
+    ensures ticks { Within (words_passed words.now from result) ticks.old ticks.new }
+{
+    ticks.tick();
+    let rest = words[0] >> from;
+    if rest != 0 {
+        Some(from + rest.trailing_zeros() as usize)
+    } else {
+        None
     }
 }
 
@@ -95,13 +117,53 @@ pub fn next(words: &[u64], from: usize, ticks: &mut Ticks) -> Option<usize>
     if rest != 0 {
         return Some(from + rest.trailing_zeros() as usize);
     }
-    for k in first + 1..words.len() {
+    let k = first_word(words, first + 1, ticks);
+    if k < words.len() {
         ticks.tick();
-        if words[k] != 0 {
-            return Some(k * 64 + words[k].trailing_zeros() as usize);
-        }
+        Some(k * 64 + words[k].trailing_zeros() as usize)
+    } else {
+        None
     }
-    None
+}
+
+/// The first word from number `start` on that has a bit; where none has, how many words there are.
+fn first_word(words: &[u64], start: usize, ticks: &mut Ticks) -> usize
+    requires { start ≤ length words.now }
+    ensures after { start ≤ result }
+    ensures within { result ≤ length words.now }
+    ensures some { result < length words.now → slice_index words.now result ≢ 0 }
+    ensures none { (k : ℕ) → start ≤ k → k < result → slice_index words.now k ≡ 0 }
+    ensures ticks { Within (result - start) ticks.old ticks.new }
+{
+    let mut k = start;
+    'blank: while k < words.len() && words[k] == 0 {
+        ticks.tick();
+        k += 1;
+    }
+    k
+}
+
+/// The first place from `from` on at which the bits of the two differ, where each has one word.
+pub fn next_difference_in_one(
+    words: &[u64],
+    other: &[u64],
+    from: usize,
+    ticks: &mut Ticks,
+) -> Option<usize>
+    requires one { length words.now ≡ 1 }
+    requires len { length other.now ≡ length words.now }
+    requires within { from < 64 }
+    ensures some { IfSome result (λ i. IsNext (apart words.now other.now) from i) }
+    ensures none { result ≡ None → (j : ℕ) → from ≤ j → bit (apart words.now other.now) j ≡ false }
+    ensures ticks { Within (words_passed (apart words.now other.now) from result) ticks.old ticks.new }
+{
+    ticks.tick();
+    let differing = difference(words, other, 0) >> from;
+    if differing != 0 {
+        Some(from + differing.trailing_zeros() as usize)
+    } else {
+        None
+    }
 }
 
 /// The first place from `from` on at which the bits of the two differ.
@@ -124,14 +186,31 @@ pub fn next_difference(
     if differing != 0 {
         return Some(from + differing.trailing_zeros() as usize);
     }
-    for k in first + 1..words.len() {
+    let k = first_apart(words, other, first + 1, ticks);
+    if k < words.len() {
         ticks.tick();
-        let differing = difference(words, other, k);
-        if differing != 0 {
-            return Some(k * 64 + differing.trailing_zeros() as usize);
-        }
+        Some(k * 64 + difference(words, other, k).trailing_zeros() as usize)
+    } else {
+        None
     }
-    None
+}
+
+/// The first word from number `start` on in which the two differ; where they don't, how many words there are.
+fn first_apart(words: &[u64], other: &[u64], start: usize, ticks: &mut Ticks) -> usize
+    requires start { start ≤ length words.now }
+    requires len { length other.now ≡ length words.now }
+    ensures after { start ≤ result }
+    ensures within { result ≤ length words.now }
+    ensures some { result < length words.now → slice_index (apart words.now other.now) result ≢ 0 }
+    ensures none { (k : ℕ) → start ≤ k → k < result → slice_index (apart words.now other.now) k ≡ 0 }
+    ensures ticks { Within (result - start) ticks.old ticks.new }
+{
+    let mut k = start;
+    'alike: while k < words.len() && difference(words, other, k) == 0 {
+        ticks.tick();
+        k += 1;
+    }
+    k
 }
 
 /// The bits in which these words of the two differ.

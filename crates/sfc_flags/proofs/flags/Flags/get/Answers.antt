@@ -10,4 +10,4 @@ get-requires c = omega (arith, length_of c.self.inside.count c.self.inside.words
 pub returns : goal.returns
 returns c =
     c.get.ensures ∙ ap (λ w. bit w c.args.place) c.deref.ensures.value
-    ∙ sym (flag_of c.self.inside.count c.self.inside.words.items c.self.invariant c.args.place) ∙ ap (λ f. flag f c.args.place) c.self.view_is
+    ∙ sym (flag_of c.self.inside.count c.self.inside.words.items c.self.invariant.table c.args.place) ∙ ap (λ f. flag f c.args.place) c.self.view_is
