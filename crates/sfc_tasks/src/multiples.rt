@@ -1,6 +1,6 @@
 //! Multiples of an interval, in running form (2.7.2).
 
-ghost use Rattle.std.specs.Prelude.{◌≡◌, ◌<◌, ◌/◌};
+ghost use Rattle.std.specs.Prelude.{◌≡◌};
 ghost use Rattle.sfc_tasks.specs.Multiples.{multiples_to as count_to, next_multiple as next_after};
 ghost use Rattle.sfc_tasks.specs.Private.Keeping.{upcoming_after};
 
@@ -26,18 +26,6 @@ pub fn upcoming(interval: i64, t: i64) -> u64
         multiples_to(interval, t) * interval.unsigned_abs()
     } else {
         u64::MAX
-    }
-}
-
-/// How many whole intervals are in a stretch of time.
-pub fn intervals_in(interval: u64, stretch: u64) -> u64
-    requires { 0 < interval }
-    ensures { result ≡ stretch / interval }
-{
-    if stretch < interval {
-        0
-    } else {
-        stretch / interval
     }
 }
 

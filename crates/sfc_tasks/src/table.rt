@@ -46,6 +46,24 @@ fn elapse_all(slots: &mut [TaskSlot], singles: &[bool], last: i64, t: i64, ticks
     }
 }
 
+// The same of one task alone, without a loop.
+fn elapse_alone(slots: &mut [TaskSlot], singles: &[bool], last: i64, t: i64, ticks: &mut Ticks)
+    requires alone { length singles.now ≡ 1 }
+    requires len { length singles.now ≤ length slots.old }
+    requires ahead { AreAhead slots.old (length singles.now) last }
+    requires low { pos 0 ≤ℤ t }
+    requires high { t ≤ℤ pos (2 ^ 62) }
+    ensures len { length slots.new ≡ length slots.old }
+    ensures each { (k : ℕ) → k < length singles.now → Gains
+        (elapsed_releases (slot_at slots.old k).interval last t (single_of singles.now k))
+        (slot_at slots.old k) (slot_at slots.new k) }
+    ensures ahead { AreAhead slots.new (length singles.now) t }
+    ensures ticks { Within (length singles.now) ticks.old ticks.new }
+{
+    ticks.tick();
+    pass_time(&mut slots[0], last, t, singles[0]);
+}
+
 // A slot for each of these tasks.
 fn fill_slots(slots: &mut [TaskSlot], tasks: &[Task])
     requires { length tasks.now ≤ length slots.old }
@@ -88,6 +106,7 @@ impl TaskTable {
     /// Time goes on to t, in microseconds from 0 to 2^62: each multiple of a task's interval after the instant before
     /// and not after t is a release of the task, but where its SINGLE reads TRUE (2.7.2). `singles` has what the SINGLE of
     /// each task read since the instant before, and FALSE for a task without one.
+    #[inline(always)]
     pub fn elapse(&mut self, t: i64, singles: &[bool], ticks: &mut Ticks)
         requires singles { length singles.now ≡ task_total self.old }
         requires low { pos 0 ≤ℤ t }
@@ -97,8 +116,13 @@ impl TaskTable {
             TasksAgree tasks self.new (Elapsed t singles.now ∷ calls) }
         ensures ticks { Within (task_total self.old) ticks.old ticks.new }
     {
-        elapse_all(&mut self.slots, singles, self.last, t, ticks);
+        let last = self.last;
         self.last = t;
+        if self.count == 1 {
+            elapse_alone(&mut self.slots, singles, last, t, ticks);
+        } else {
+            elapse_all(&mut self.slots, singles, last, t, ticks);
+        }
     }
 
     /// What the task's SINGLE reads rose at t, in microseconds: a release of the task, also at the instant of a multiple (2.7.2;
@@ -186,6 +210,10 @@ impl TaskTable {
         ensures ticks { Within 1 ticks.old ticks.new }
     {
         ticks.tick();
+        if self.count == 1 {
+            serve_all(&mut self.slots[0]);
+            return;
+        }
         let k = task.0 as usize;
         serve_all(&mut self.slots[k]);
     }

@@ -1,10 +1,10 @@
 //! What is kept for a task (2.7.2).
 
-ghost use Rattle.std.specs.Prelude.{◌≡◌, ◌+◌, ◌^◌, ◌≤◌, ◌<ℤ◌, ◌≤ℤ◌, ◌++◌, pos, length, unsigned_abs, List, ℤ, Some};
+ghost use Rattle.std.specs.Prelude.{◌≡◌, ◌+◌, ◌-◌, ◌*◌, ◌/◌, ◌^◌, ◌≤◌, ◌<ℤ◌, ◌≤ℤ◌, ◌++◌, pos, length, unsigned_abs, List, ℤ, Some};
 ghost use Rattle.sfc_tasks.specs.Releases.{capped, first_of};
 ghost use Rattle.sfc_tasks.specs.Private.Keeping.{blank_slot, empty_slot, upcoming_after, Gains, HoldsReleases, IsAhead, SameTask, elapsed_releases};
 
-use crate::multiples::{intervals_in, upcoming};
+use crate::multiples::upcoming;
 use sfc_plant::task::Task;
 
 /// The interval and the priority of a task, and the next multiple of the interval; since when it waits for a scan, and how many
@@ -92,6 +92,29 @@ fn pass_none(slot: &mut TaskSlot, last: i64, t: i64)
     }
 }
 
+// The next multiple is not later than t: it is passed, and each beyond it that isn't later either. It tells how many these are.
+fn skip(slot: &mut TaskSlot, t: i64) -> u64
+    requires low { pos 0 ≤ℤ t }
+    requires high { t ≤ℤ pos (2 ^ 62) }
+    requires some { pos 0 <ℤ slot.old.interval }
+    requires reached { slot.old.next ≤ unsigned_abs t }
+    ensures beyond { result ≡ (unsigned_abs t - slot.old.next) / unsigned_abs slot.old.interval }
+    ensures slot { slot.new ≡ record slot.old {
+      next = slot.old.next + (result * unsigned_abs slot.old.interval + unsigned_abs slot.old.interval);
+    } }
+{
+    let interval = slot.interval as u64;
+    let stretch = t.unsigned_abs() - slot.next;
+    if stretch < interval {
+        slot.next += interval;
+        return 0;
+    }
+    let first = slot.next;
+    let beyond = stretch / interval;
+    slot.next = first + (beyond * interval + interval);
+    beyond
+}
+
 // The next multiple is not later than t, and maybe others beyond it.
 fn pass_multiples(slot: &mut TaskSlot, t: i64, single: bool)
     requires low { pos 0 ≤ℤ t }
@@ -101,10 +124,8 @@ fn pass_multiples(slot: &mut TaskSlot, t: i64, single: bool)
     ensures gains { (last : ℤ) → IsAhead slot.old last → Gains (elapsed_releases slot.old.interval last t single) slot.old slot.new }
     ensures ahead { (last : ℤ) → IsAhead slot.old last → IsAhead slot.new t }
 {
-    let interval = slot.interval.unsigned_abs();
     let first = slot.next;
-    let beyond = intervals_in(interval, t.unsigned_abs() - first);
-    slot.next = first + (beyond * interval + interval);
+    let beyond = skip(slot, t);
     if !single {
         gain(slot, first as i64, beyond);
     }
