@@ -1,4 +1,5 @@
 pub mod Alike
+pub mod Begun
 pub mod Cleared
 pub mod FirstScan
 pub mod Flagged
@@ -12,6 +13,7 @@ pub mod Pasts
 pub mod Placed
 pub mod Proposed
 pub mod Skipped
+pub mod Stayed
 pub mod TableFacts
 pub mod Tested
 pub mod Works

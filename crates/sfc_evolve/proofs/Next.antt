@@ -171,14 +171,19 @@ not_not : (b : Bool) → not (not b) ≡ b
 not_not true = refl
 not_not false = refl
 
+-- what one scan does to the steps, where it clears these transitions and activates these steps
+pub record HasMoved (tables : Tabled) (active : List Bool) (since held_times : List ℤ) (t : ℤ)
+    (cleared' on' active' : List Bool) (since' held_times' : List ℤ) : Type 0 where
+  pub held_times_are : (s : ℕ) → s < step_count tables → number held_times' s ≡ cond (leaves tables cleared' s) (t -ℤ number since s) (number held_times s)
+  pub since_is : (s : ℕ) → s < step_count tables → number since' s ≡ cond (flag on' s) t (number since s)
+  pub active_is : (s : ℕ) → s < step_count tables → flag active' s ≡ ((not (leaves tables cleared' s) && flag active s) || flag on' s)
+
 -- what one scan does to what is kept
 pub record Advanced (tables : Tabled) (begun : Bool) (active : List Bool) (since held_times : List ℤ) (conditions : List Bool) (t : ℤ)
     (cleared' on' active' : List Bool) (since' held_times' : List ℤ) : Type 0 where
   pub cleared_is : cleared' ≡ cleared_set tables (flag active) conditions
   pub on_is : (s : ℕ) → s < step_count tables → flag on' s ≡ activates tables (not begun) cleared' s
-  pub held_times_are : (s : ℕ) → s < step_count tables → number held_times' s ≡ cond (leaves tables cleared' s) (t -ℤ number since s) (number held_times s)
-  pub since_is : (s : ℕ) → s < step_count tables → number since' s ≡ cond (flag on' s) t (number since s)
-  pub active_is : (s : ℕ) → s < step_count tables → flag active' s ≡ ((not (leaves tables cleared' s) && flag active s) || flag on' s)
+  pub moved : HasMoved tables active since held_times t cleared' on' active' since' held_times'
 
 pub fields_next : (tables : Tabled) → AreTables tables
     → (begun : Bool) (active : List Bool) (since held_times : List ℤ) (cleared on conditions : List Bool) (t : ℤ)
@@ -203,13 +208,13 @@ fields_next tables sound begun active since held_times cleared on conditions t c
     λ s e. left_active tables (flag active) conditions s (ap (λ c. leaves tables c s) (sym a.cleared_is) ∙ e) in
     record {
       has_begun = refl;
-      activity = λ s lt. a.active_is s lt
+      activity = λ s lt. a.moved.active_is s lt
           ∙ next_active tables s row rows (flag on' s) (leaves tables cleared' s) (flag active s) (goes_on s lt) (goes_off s)
           (k.activity s lt);
       time = λ s lt now.
-          (let ea = a.active_is s lt in
-          let es = a.since_is s lt in
-          let ek = a.held_times_are s lt in
+          (let ea = a.moved.active_is s lt in
+          let es = a.moved.since_is s lt in
+          let ek = a.moved.held_times_are s lt in
           next_time tables s row rows (flag on' s) (leaves tables cleared' s) (flag active s) (number since s) (number held_times s) now
           (goes_on s lt) (goes_off s) (was_in s) (k.activity s lt) (k.time s lt)
           ∙ (λ i. cond (sym ea i) (now -ℤ sym es i) (sym ek i)));
@@ -228,28 +233,18 @@ fields_at tables begun active active' since since' held_times held_times' cleare
 module _ (tables : Tabled) (sound : AreTables tables) (begun : Bool) (active : List Bool) (since held_times : List ℤ) (conditions : List Bool)
     (t : ℤ)
     (used cleared cleared' active1 on1 on' active' : List Bool) (since' held_times' : List ℤ) where
-  pub advanced : length active ≡ step_count tables → length since ≡ step_count tables → length held_times ≡ step_count tables
-      → length on1 ≡ step_count tables → length on' ≡ step_count tables
-      → used ≡ replicate (step_count tables) false → cleared ≡ replicate (transition_count tables) false
-      → cleared' ≡ cleared_in tables.sides (flag active) conditions tables.ranked used cleared
+  pub moved_on : length active ≡ step_count tables → length since ≡ step_count tables → length held_times ≡ step_count tables
+      → length on' ≡ step_count tables
       → held_times' ≡ left_by t since (preceding_of tables.sides) (places_from cleared' 0) held_times
       → active1 ≡ changed_by unmarked (preceding_of tables.sides) (places_from cleared' 0) active
-      → ((s : ℕ) → s < step_count tables → flag on1 s ≡ (not begun && flag tables.initial s))
-      → on' ≡ changed_by marked (following_of tables.sides) (places_from cleared' 0) on1
       → length active1 ≡ step_count tables
       → active' ≡ set_at (places_from on' 0) active1
       → since' ≡ begun_at t (places_from on' 0) since
-      → Advanced tables begun active since held_times conditions t cleared' on' active' since' held_times'
-  advanced la ls lk lo lo' eu ec clears keeps leaves1 starts marks la1 joins begins =
+      → HasMoved tables active since held_times t cleared' on' active' since' held_times'
+  moved_on la ls lk lo' keeps leaves1 la1 joins begins =
       let n = step_count tables in
       let pre : (tr : ℕ) → AllBelow n (preceding_of tables.sides tr) = λ tr. all_preceding_below tables sound record { 0 = tr } in
-      let fol : (tr : ℕ) → AllBelow n (following_of tables.sides tr) = λ tr. all_following_below tables sound record { 0 = tr } in
       record {
-        cleared_is = clears ∙ (λ i. cleared_in tables.sides (flag active) conditions tables.ranked (eu i) (ec i));
-        on_is = λ s lt.
-            ap (λ f. flag f s) marks
-            ∙ flag-marked_by n (following_of tables.sides) fol (places_from cleared' 0) on1 s lo
-            ∙ ap (λ b. some_cleared (following_of tables.sides) cleared' s || b) (starts s lt);
         held_times_are = λ s lt. ap (λ xs. number xs s) keeps
             ∙ number-left_by n (preceding_of tables.sides) pre t since (places_from cleared' 0) held_times s lk;
         since_is = λ s lt.
@@ -271,12 +266,31 @@ module _ (tables : Tabled) (sound : AreTables tables) (begun : Bool) (active : L
       either_way false true = refl
       either_way false false = refl
 
+  pub advanced : length on1 ≡ step_count tables
+      → used ≡ replicate (step_count tables) false → cleared ≡ replicate (transition_count tables) false
+      → cleared' ≡ cleared_in tables.sides (flag active) conditions tables.ranked used cleared
+      → ((s : ℕ) → s < step_count tables → flag on1 s ≡ (not begun && flag tables.initial s))
+      → on' ≡ changed_by marked (following_of tables.sides) (places_from cleared' 0) on1
+      → HasMoved tables active since held_times t cleared' on' active' since' held_times'
+      → Advanced tables begun active since held_times conditions t cleared' on' active' since' held_times'
+  advanced lo eu ec clears starts marks moves =
+      let n = step_count tables in
+      let fol : (tr : ℕ) → AllBelow n (following_of tables.sides tr) = λ tr. all_following_below tables sound record { 0 = tr } in
+      record {
+        cleared_is = clears ∙ (λ i. cleared_in tables.sides (flag active) conditions tables.ranked (eu i) (ec i));
+        on_is = λ s lt.
+            ap (λ f. flag f s) marks
+            ∙ flag-marked_by n (following_of tables.sides) fol (places_from cleared' 0) on1 s lo
+            ∙ ap (λ b. some_cleared (following_of tables.sides) cleared' s || b) (starts s lt);
+        moved = moves;
+      }
+
 -- no place is set where no flag is
 none_from : (n i : ℕ) → set_from i (replicate n false) ≡ []
 none_from zero i = refl
 none_from (suc n) i = none_from n (suc i)
 
-no_places : (k : ℕ) (flags : List Bool) → flags ≡ replicate k false → places_from flags 0 ≡ []
+pub no_places : (k : ℕ) (flags : List Bool) → flags ≡ replicate k false → places_from flags 0 ≡ []
 no_places k flags e = ap (λ (f : List Bool). places_from f 0) e ∙ none_from k 0
 
 -- a later scan that clears nothing leaves all as it is
@@ -292,11 +306,13 @@ quiet tables sound begun active since held_times conditions t used cleared clear
     let empty = no_places k on' off in
     let pre : ℕ → List StepId = preceding_of tables.sides in
     advanced tables sound begun active since held_times conditions t used cleared cleared' active on' on' active since held_times
-    la ls lk lo lo eu ec clears
-    (ap (λ (places : List ℕ). left_by t since pre places held_times) (sym none))
-    (ap (λ (places : List ℕ). changed_by unmarked pre places active) (sym none))
+    lo eu ec clears
     (λ s lt. ap (λ (f : List Bool). flag f s) off ∙ none_set k s ∙ ap (λ (b : Bool). not b && flag tables.initial s) (sym goes))
     (ap (λ (places : List ℕ). changed_by marked (following_of tables.sides) places on') (sym none))
+    (moved_on tables sound begun active since held_times conditions t used cleared cleared' active on' on' active since held_times
+    la ls lk lo
+    (ap (λ (places : List ℕ). left_by t since pre places held_times) (sym none))
+    (ap (λ (places : List ℕ). changed_by unmarked pre places active) (sym none))
     la
     (ap (λ (places : List ℕ). set_at places active) (sym empty))
-    (ap (λ (places : List ℕ). begun_at t places since) (sym empty))
+    (ap (λ (places : List ℕ). begun_at t places since) (sym empty)))

@@ -1,5 +1,5 @@
 -- Which transitions a scan clears, which steps are active, and for how long (2.6.2, 2.6.3, 2.6.5).
-use Rattle.std.specs.Prelude.{ℕ, Bool, false, not, ◌&&◌, ◌||◌, List, [], ◌∷◌, map, ℤ}
+use Rattle.std.specs.Prelude.{◌≡◌, ℕ, Bool, false, not, ◌&&◌, ◌||◌, List, [], ◌∷◌, map, ℤ}
 use Rattle.std.specs.List.{list_any, range_with_len}
 use Rattle.sfc_base.specs.declared.references.StepId.{StepId}
 use Rattle.sfc_flags.specs.Flags.{flag, places_from}
@@ -12,6 +12,10 @@ use Rattle.sfc_evolve.specs.Clearing.{step_count, preceding_of, following_of, cl
 pub record Scan : Type 0 where
   pub conditions : List Bool
   pub at : ℤ
+
+-- none of these conditions is TRUE
+abbrev pub AreFalse : List Bool → Type 0
+AreFalse conditions = (tr : ℕ) → flag conditions tr ≡ false
 
 -- One scan of a program: its instant, whether it is the first of a life, and which transitions it cleared. The scans of
 -- a life are listed newest first.

@@ -10,7 +10,7 @@ use crate::marks::{all_set, is_blank};
 use crate::new_sets::{three_sets, two_lists, two_sets};
 use crate::proposing::propose;
 use crate::starting::start;
-use crate::times::{begin, measure_active, time_since};
+use crate::times::{Activated, begin, measure_active, time_since};
 use sfc_base::ids::TransitionId;
 use sfc_base::references::StepId;
 use sfc_base::ticks::Ticks;
@@ -62,7 +62,7 @@ impl Steps {
     ghost use Rattle.sfc_tables.specs.Tables.{Tabled, AreTables};
     ghost use Rattle.sfc_evolve.specs.Lookback.{is_empty};
     ghost use Rattle.sfc_evolve.specs.Clearing.{is_enabled};
-    ghost use Rattle.sfc_evolve.specs.Evolution.{Scan, rows_of, is_active, active_steps, step_time};
+    ghost use Rattle.sfc_evolve.specs.Evolution.{Scan, AreFalse, rows_of, is_active, active_steps, step_time};
     ghost use Rattle.sfc_evolve.specs.Clearing.{preceding_of};
     ghost use Rattle.sfc_evolve.specs.Evolution.{was_cleared, was_activated};
     ghost use Rattle.sfc_evolve.specs.Clearing.{of_rank};
@@ -103,8 +103,8 @@ impl Steps {
 
     /// One scan at t, in microseconds from 0 to 2^62, with the condition of each transition in text order; those of
     /// transitions that aren't enabled don't matter (2.6.5). It takes no memory. Where it clears no transition the steps
-    /// stay as they are. Answers whether steps may have moved: where it answers no, the same ones are active as before, and times that
-    /// were worked out are still so.
+    /// stay as they are. Times that were worked out at t are still so. Answers whether steps may have moved: where it answers no, the
+    /// same ones are active as before, and times that were worked out at any instant are still so.
     pub fn advance(
         &mut self,
         tables: &Tables,
@@ -123,7 +123,8 @@ impl Steps {
         ensures same_steps { result ≡ false → (scans : List Scan) → StepsAgree tables.now self.old scans →
             active_steps tables.now (rows_of tables.now (record { conditions = conditions.now; at = t } ∷ scans))
             ≡ active_steps tables.now (rows_of tables.now scans) }
-        ensures measured { result ≡ false → (now : ℤ) → AreMeasured now self.old → AreMeasured now self.new }
+        ensures measured { AreMeasured t self.old → AreMeasured t self.new }
+        ensures measured_still { result ≡ false → (now : ℤ) → AreMeasured now self.old → AreMeasured now self.new }
         ensures like { result ≡ false → (other : Steps) → IsLike other self.old → IsLike other self.new }
         ensures ticks { Within (advance_work tables.now) ticks.old ticks.new }
     {
@@ -157,9 +158,43 @@ impl Steps {
             &mut self.on,
             ticks,
         );
-        begin(&mut self.active, &mut self.since, &self.on, t, ticks);
+        let activated = Activated { flags: &self.on, t };
+        begin(
+            &mut self.active,
+            &mut self.since,
+            &mut self.held_times,
+            activated,
+            ticks,
+        );
         propose(tables, &self.active, &mut self.candidates, ticks);
         self.begun = true;
+        true
+    }
+
+    /// One scan in which no condition is TRUE: answers whether it is done, with the outcome that `advance` has. It clears nothing, and the
+    /// steps and their times stay as they are (2.6.5). Where it answers no nothing has changed, since the life has not begun, and the scan
+    /// wants `advance`. It takes no memory.
+    pub fn stay(&mut self, tables: &Tables, ticks: &mut Ticks) -> bool
+        requires sizes { IsFor tables.now self.old }
+        ensures sizes { IsFor tables.now self.new }
+        ensures agrees { result ≡ true → (scan : Scan) (scans : List Scan) → AreFalse scan.conditions →
+            StepsAgree tables.now self.old scans → StepsAgree tables.now self.new (scan ∷ scans) }
+        ensures begun { result ≡ true → (scans : List Scan) → StepsAgree tables.now self.old scans → is_empty scans ≡ false }
+        ensures same_steps { result ≡ true → (scan : Scan) (scans : List Scan) → AreFalse scan.conditions →
+            StepsAgree tables.now self.old scans →
+            active_steps tables.now (rows_of tables.now (scan ∷ scans)) ≡ active_steps tables.now (rows_of tables.now scans) }
+        ensures unchanged { result ≡ false → self.new ≡ self.old }
+        ensures measured { (now : ℤ) → AreMeasured now self.old → AreMeasured now self.new }
+        ensures like { (other : Steps) → IsLike other self.old → IsLike other self.new }
+        ensures ticks { Within (step_total self.old + transition_total self.old) ticks.old ticks.new }
+        ensures ticks_of_no { result ≡ false → Within 0 ticks.old ticks.new }
+    {
+        let _steps = tables.steps();
+        if !self.begun {
+            return false;
+        }
+        self.cleared.clear_all(ticks);
+        self.on.clear_all(ticks);
         true
     }
 

@@ -55,23 +55,41 @@ pub fn measure_active(times: &mut [i64], since: &[i64], active: &Flags, t: i64, 
     }
 }
 
-/// The steps with flags become active, and begin at t.
-pub fn begin(active: &mut Flags, since: &mut [i64], on: &Flags, t: i64, ticks: &mut Ticks)
-    requires low { pos 0 ≤ℤ t }
-    requires high { t ≤ℤ pos (2 ^ 62) }
+/// The steps that a scan activates, and its instant.
+#[derive(Clone, Copy)]
+pub struct Activated<'a> {
+    pub flags: &'a Flags,
+    pub t: i64,
+}
+
+/// These steps become active, and begin at the scan's instant, when their time is 0.
+pub fn begin(
+    active: &mut Flags,
+    since: &mut [i64],
+    times: &mut [i64],
+    activated: Activated<'_>,
+    ticks: &mut Ticks,
+)
+    requires low { pos 0 ≤ℤ activated.t }
+    requires high { activated.t ≤ℤ pos (2 ^ 62) }
     requires instants { AreInstants since.old }
-    requires on_len { length on.now ≡ length since.old }
-    requires active_len { length active.old ≡ length on.now }
-    ensures active { active.new ≡ set_at (places_from on.now 0) active.old }
+    requires on_len { length activated.flags.now ≡ length since.old }
+    requires active_len { length active.old ≡ length activated.flags.now }
+    requires times_len { length times.old ≡ length since.old }
+    ensures active { active.new ≡ set_at (places_from activated.entry.flags.now 0) active.old }
     ensures active_len { length active.new ≡ length active.old }
-    ensures since { since.new ≡ begun_at t (places_from on.now 0) since.old }
+    ensures since { since.new ≡ begun_at activated.entry.t (places_from activated.entry.flags.now 0) since.old }
+    ensures times { times.new ≡ begun_at (pos 0) (places_from activated.entry.flags.now 0) times.old }
+    ensures times_len { length times.new ≡ length times.old }
     ensures instants { AreInstants since.new }
-    ensures ticks { Within (length on.now) ticks.old ticks.new }
+    ensures ticks { Within (length activated.entry.flags.now) ticks.old ticks.new }
 {
+    let Activated { flags, t } = activated;
     let mut at = 0;
-    'places: while let Some(s) = on.next_set(at, ticks) {
+    'places: while let Some(s) = flags.next_set(at, ticks) {
         active.set(s, true);
         since[s] = t;
+        times[s] = 0;
         at = s + 1;
     }
 }

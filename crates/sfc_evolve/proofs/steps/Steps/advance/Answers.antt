@@ -1,15 +1,17 @@
-use Rattle.std.proofs.Common.{◌≡◌, ◌∷◌, length, arith, ap, ◌∙◌, refl, sym, subst, SFits, w64, false, true, not, Bool}
+use Rattle.std.proofs.Common.{◌≡◌, ◌∷◌, length, arith, ap, ◌∙◌, refl, sym, subst, SFits, w64, false, true, not, Bool, pos}
 use Rattle.std.proofs.lemmas.Int.{to_z-of_z}
 use Rattle.std.proofs.lemmas.List.{with_items_is, length-replicate}
-use Rattle.std.specs.Prelude.{replicate}
+use Rattle.std.specs.Prelude.{replicate, cond, ◌-ℤ◌}
+use Rattle.std.specs.Vec.{with_items}
 use Rattle.sfc_flags.specs.Flags.{flag, places_from}
 use Rattle.sfc_evolve.specs.Agreement.{StepsAgree, AreMeasured, shown_time, IsLike}
 use Rattle.sfc_evolve.specs.Lookback.{is_empty}
 use Rattle.sfc_evolve.specs.Evolution.{Scan, rows_of, is_active}
 use Rattle.sfc_evolve.proofs.Listed.{listed}
 use Rattle.sfc_evolve.specs.Clearing.{step_count, transition_count, preceding_of}
-use Rattle.sfc_evolve.specs.Private.Keeping.{AreInstants, FieldsAgree, left_by, begun_at}
-use Rattle.sfc_evolve.proofs.Next.{Advanced, advanced, fields_next, fields_at, quiet}
+use Rattle.sfc_evolve.specs.Private.Keeping.{AreInstants, FieldsAgree, left_by, begun_at, number}
+use Rattle.sfc_evolve.proofs.Begun.{fields_begun, begun_measured}
+use Rattle.sfc_evolve.proofs.Next.{Advanced, HasMoved, advanced, moved_on, fields_next, fields_at, quiet}
 use Rattle.sfc_evolve.specs.Private.Proposing.{AreProposed}
 use Rattle.sfc_evolve.proofs.Proposed.{proposed}
 use Rattle.sfc_evolve.proofs.Works.{work_of_scan, clearing_is}
@@ -20,7 +22,7 @@ not_true true e = absurd (let bad : false ≡ true = e in cc)
 not_true false e = refl
 
 -- the lengths of all that is kept
-record Sizes (c : goal.After-self-4-1) : Type 0 where
+record Sizes (c : goal.After-self-5-1) : Type 0 where
   active : length c.args.self.now.active ≡ step_count c.args.tables.now
   used : length c.args.self.now.used ≡ step_count c.args.tables.now
   on : length c.args.self.now.on ≡ step_count c.args.tables.now
@@ -28,7 +30,7 @@ record Sizes (c : goal.After-self-4-1) : Type 0 where
   held_times : length c.args.self.now.held_times.items ≡ step_count c.args.tables.now
   cleared : length c.args.self.now.cleared ≡ transition_count c.args.tables.now
 
-sizes : (c : goal.After-self-4-1) → Sizes c
+sizes : (c : goal.After-self-5-1) → Sizes c
 sizes c =
     let la = c.requires.sizes.same_steps in
     record {
@@ -40,11 +42,11 @@ sizes c =
       cleared = c.requires.sizes.same_transitions;
     }
 
-scanned : (c : goal.After-self-4-1) → AreProposed c.args.tables.now (flag c.args.self.now.active) c.args.self.now.candidates
-    → Advanced c.args.tables.now c.args.self.now.begun c.args.self.now.active c.args.self.now.since.items
-    c.args.self.now.held_times.items c.args.conditions.now c.args.t
-    c.clear_in_order.new.cleared c.move_on.new.on c.begin.new.active c.begin.new.since c.move_on.new.held_times
-scanned c proposes =
+-- how the steps moved
+moved : (c : goal.After-self-5-1) → HasMoved c.args.tables.now c.args.self.now.active c.args.self.now.since.items
+    c.args.self.now.held_times.items c.args.t c.clear_in_order.new.cleared c.move_on.new.on c.begin.new.active c.begin.new.since
+    c.move_on.new.held_times
+moved c =
     let tables = c.args.tables.now in
     let self = c.args.self.now in
     let n = sizes c in
@@ -56,21 +58,49 @@ scanned c proposes =
     simp to_z-of_z at c.move_on.ensures.held_times in
     let begins : c.begin.new.since ≡ begun_at c.args.t (places_from on 0) c.deref_mut-2.result.now =
     simp to_z-of_z at c.begin.ensures.since in
-    advanced tables c.steps-steps.ensures.tables self.begun self.active self.since.items self.held_times.items c.args.conditions.now c.args.t
+    moved_on tables c.steps-steps.ensures.tables self.begun self.active self.since.items self.held_times.items c.args.conditions.now c.args.t
     c.clear_all.new.self c.clear_all-2.new.self cleared c.move_on.new.active c.start.new.on on c.begin.new.active
     c.begin.new.since c.move_on.new.held_times
-    n.active n.since n.held_times (c.start.ensures.len ∙ n.on) (c.move_on.ensures.on_len ∙ c.start.ensures.len ∙ n.on)
-    (c.clear_all.ensures.flags ∙ ap (λ k. replicate k false) n.used)
-    (c.clear_all-2.ensures.flags ∙ ap (λ k. replicate k false) n.cleared)
-    (c.clear_in_order.ensures.cleared proposes)
+    n.active n.since n.held_times (c.move_on.ensures.on_len ∙ c.start.ensures.len ∙ n.on)
     (keeps ∙ (λ i. left_by c.args.t (c.deref.ensures.value i) (preceding_of tables.sides) (places_from cleared 0)
     (c.deref_mut.ensures.value i)))
     c.move_on.ensures.active
-    (λ s lt. c.start.ensures.flags s (omega (arith, n.on)))
-    c.move_on.ensures.on
     (c.move_on.ensures.active_len ∙ n.active)
     c.begin.ensures.active
     (begins ∙ ap (begun_at c.args.t (places_from on 0)) c.deref_mut-2.ensures.value)
+
+scanned : (c : goal.After-self-5-1) → AreProposed c.args.tables.now (flag c.args.self.now.active) c.args.self.now.candidates
+    → Advanced c.args.tables.now c.args.self.now.begun c.args.self.now.active c.args.self.now.since.items
+    c.args.self.now.held_times.items c.args.conditions.now c.args.t
+    c.clear_in_order.new.cleared c.move_on.new.on c.begin.new.active c.begin.new.since c.move_on.new.held_times
+scanned c proposes =
+    let tables = c.args.tables.now in
+    let self = c.args.self.now in
+    let n = sizes c in
+    advanced tables c.steps-steps.ensures.tables self.begun self.active self.since.items self.held_times.items c.args.conditions.now c.args.t
+    c.clear_all.new.self c.clear_all-2.new.self c.clear_in_order.new.cleared c.move_on.new.active c.start.new.on c.move_on.new.on c.begin.new.active
+    c.begin.new.since c.move_on.new.held_times
+    (c.start.ensures.len ∙ n.on)
+    (c.clear_all.ensures.flags ∙ ap (λ k. replicate k false) n.used)
+    (c.clear_all-2.ensures.flags ∙ ap (λ k. replicate k false) n.cleared)
+    (c.clear_in_order.ensures.cleared proposes)
+    (λ s lt. c.start.ensures.flags s (omega (arith, n.on)))
+    c.move_on.ensures.on
+    (moved c)
+
+zeros : (c : goal.After-self-5-1) → c.begin.new.times ≡ begun_at (pos 0) (places_from c.move_on.new.on 0) c.move_on.new.held_times
+zeros c =
+    c.begin.ensures.times
+    ∙ ap (begun_at (pos 0) (places_from c.move_on.new.on 0))
+    (c.deref_mut-3.ensures.value ∙ with_items_is c.args.self.now.held_times c.move_on.new.held_times (omega arith))
+
+-- the times after the scan are those that the last part leaves
+times_are : (c : goal.After-self-5-1)
+    → (with_items (with_items c.args.self.now.held_times c.move_on.new.held_times) c.begin.new.times).items ≡ c.begin.new.times
+times_are c =
+    let kept = with_items_is c.args.self.now.held_times c.move_on.new.held_times (omega arith) in
+    with_items_is (with_items c.args.self.now.held_times c.move_on.new.held_times) c.begin.new.times
+    (omega (arith, ap length kept, c.begin.ensures.times_len, ap length (c.deref_mut-3.ensures.value ∙ kept)))
 
 pub clear_in_order-requires-clause-tables : goal.clear_in_order-requires-clause-tables
 clear_in_order-requires-clause-tables c = c.steps-steps.ensures.tables
@@ -156,6 +186,11 @@ begin-requires-clause-on_len c =
     let self = c.args.self.now in
     c.move_on.ensures.on_len ∙ c.start.ensures.len ∙ self.on_len ∙ sym (ap length c.deref_mut-2.ensures.value ∙ self.since_len)
 
+pub begin-requires-clause-times_len : goal.begin-requires-clause-times_len
+begin-requires-clause-times_len c =
+    let self = c.args.self.now in
+    omega (arith, self.held_times_len, self.since_len)
+
 pub begin-requires-clause-active_len : goal.begin-requires-clause-active_len
 begin-requires-clause-active_len c =
     c.move_on.ensures.active_len ∙ sym (c.move_on.ensures.on_len ∙ c.start.ensures.len ∙ c.args.self.now.on_len)
@@ -206,11 +241,16 @@ unfolding StepsAgree
 returns-clause-agrees c scans k =
     let tables = c.args.tables.now in
     let self = c.args.self.now in
+    let n = sizes c in
+    let went = scanned c k.proposed in
+    let scan : Scan = record { conditions = c.args.conditions.now; at = c.args.t } in
     let next =
-    fields_next tables c.steps-steps.ensures.tables self.begun self.active self.since.items self.held_times.items self.cleared self.on
+    fields_begun tables self.active self.since.items self.held_times.items c.args.t c.clear_in_order.new.cleared c.move_on.new.on
+    c.begin.new.active c.begin.new.since c.move_on.new.held_times went.moved c.begin.new.times
+    (omega (arith, n.held_times)) (c.move_on.ensures.on_len ∙ c.start.ensures.len ∙ n.on) (zeros c) true (scan ∷ scans)
+    (fields_next tables c.steps-steps.ensures.tables self.begun self.active self.since.items self.held_times.items self.cleared self.on
     c.args.conditions.now c.args.t
-    c.clear_in_order.new.cleared c.move_on.new.on c.begin.new.active c.begin.new.since c.move_on.new.held_times scans
-    (scanned c k.proposed) k.fields in
+    c.clear_in_order.new.cleared c.move_on.new.on c.begin.new.active c.begin.new.since c.move_on.new.held_times scans went k.fields) in
     record {
       size = record {
         same_steps = c.begin.ensures.active_len ∙ c.move_on.ensures.active_len ∙ c.requires.sizes.same_steps;
@@ -221,10 +261,27 @@ returns-clause-agrees c scans k =
             ∙ c.requires.sizes.same_transitions;
       };
       fields = fields_at tables true _ _ _ _ _ _ _ _ _ _ _ refl (with_items_is self.since _ (omega arith))
-          (with_items_is self.held_times _ (omega arith)) refl refl next;
+          (times_are c) refl refl next;
       proposed = proposed tables c.steps-steps.ensures.tables c.begin.new.active c.propose.new.candidates (length self.candidates)
           (self.candidates_len ∙ c.requires.sizes.same_transitions) c.propose.ensures.flags;
     }
+
+pub returns-clause-measured : goal.returns-clause-measured
+unfolding AreMeasured shown_time
+returns-clause-measured c measured s lt =
+    let tables = c.args.tables.now in
+    let self = c.args.self.now in
+    let n = sizes c in
+    let went = moved c in
+    let same : c.begin.new.since ≡ (with_items self.since c.begin.new.since).items = sym (with_items_is self.since _ (omega arith)) in
+    let times : c.begin.new.times ≡ (with_items (with_items self.held_times c.move_on.new.held_times) c.begin.new.times).items = sym (times_are c) in
+    let is =
+    begun_measured tables self.active self.since.items self.held_times.items c.args.t c.clear_in_order.new.cleared c.move_on.new.on
+    c.begin.new.active c.begin.new.since c.move_on.new.held_times went c.begin.new.times
+    (omega (arith, n.held_times)) (c.move_on.ensures.on_len ∙ c.start.ensures.len ∙ n.on) (zeros c)
+    (λ p within. measured p (omega (arith, n.active))) s (omega (arith, n.active, c.begin.ensures.active_len, c.move_on.ensures.active_len)) in
+    ap (λ xs. number xs s) (sym times) ∙ is
+    ∙ (λ i. cond (flag c.begin.new.active s) (c.args.t -ℤ number (same i) s) (number (times i) s))
 
 pub returns-clause-ticks : goal.returns-clause-ticks
 returns-clause-ticks c =
@@ -273,9 +330,12 @@ invariant_of-self-2-clause-candidates_len c =
 pub invariant_of-self-2-clause-held_times_len : goal.invariant_of-self-2-clause-held_times_len
 invariant_of-self-2-clause-held_times_len c =
     let self = c.args.self.now in
-    let same : length c.move_on.new.held_times ≡ length c.begin.new.active =
-    omega (arith, self.held_times_len, c.begin.ensures.active_len, c.move_on.ensures.active_len) in
-    ap length (with_items_is self.held_times c.move_on.new.held_times (omega arith)) ∙ same
+    let kept = with_items_is self.held_times c.move_on.new.held_times (omega arith) in
+    let same : length c.begin.new.times ≡ length c.begin.new.active =
+    omega (arith, self.held_times_len, c.begin.ensures.active_len, c.move_on.ensures.active_len, c.begin.ensures.times_len,
+    ap length (c.deref_mut-3.ensures.value ∙ kept)) in
+    ap length (with_items_is (with_items self.held_times c.move_on.new.held_times) c.begin.new.times
+    (omega (arith, ap length kept, c.begin.ensures.times_len, ap length (c.deref_mut-3.ensures.value ∙ kept)))) ∙ same
 
 pub invariant_of-self-2-clause-instants : goal.invariant_of-self-2-clause-instants
 invariant_of-self-2-clause-instants c =
@@ -364,7 +424,11 @@ returns-then-self-clause-same_steps c answer scans k =
 
 pub returns-then-self-clause-measured : goal.returns-then-self-clause-measured
 unfolding AreMeasured shown_time
-returns-then-self-clause-measured c answer now measured = measured
+returns-then-self-clause-measured c measured = measured
+
+pub returns-then-self-clause-measured_still : goal.returns-then-self-clause-measured_still
+unfolding AreMeasured shown_time
+returns-then-self-clause-measured_still c answer now measured = measured
 
 pub returns-then-self-clause-like : goal.returns-then-self-clause-like
 unfolding IsLike
