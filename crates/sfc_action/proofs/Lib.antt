@@ -17,6 +17,7 @@ pub mod Numbers
 pub mod Sizes
 pub mod Starts
 pub mod StoredTimes
+pub mod SingleTimes
 pub mod Timings
 pub mod ScanInputs
 pub mod Walks

@@ -215,6 +215,7 @@ module _ (tables : Tabled) (state new : ControlState) (i : Inputs) (ps : List �
         ∙ size.delays;
     few = let e = acted.same_blocks in let few = size.few in omega arith;
     covered = covered;
+    single = λ on. size.single (sym acted.single ∙ on);
   }
 
 -- ---- on-delays

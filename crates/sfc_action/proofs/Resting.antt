@@ -1,8 +1,9 @@
 -- A scan with the active steps of the one before, where action control is at rest, changes only which actions are executed.
-use Rattle.std.proofs.Common.{◌≡◌, ℕ, ◌<◌, ◌==◌, not, ◌&&◌, ◌||◌, Bool, true, false, List, [], ◌∷◌, length, arith, refl, sym, ◌∙◌, ap, subst, inl, inr, ℤ, Option, None, nat_lt}
+use Rattle.std.proofs.Common.{◌≡◌, ℕ, ◌<◌, ◌≤◌, ◌==◌, not, ◌&&◌, ◌||◌, Bool, true, false, List, [], ◌∷◌, length, arith, refl, sym, ◌∙◌, ap, subst, inl, inr, ℤ, Option, None, nat_lt}
 use Rattle.std.specs.Prelude.{All, find, filter, map, is_some, slice_index_or, pos}
 use Rattle.std.specs.List.{list_any}
 use Rattle.std.proofs.lemmas.Bool.Decides.{nat_tests}
+use Rattle.std.proofs.lemmas.List.{length-map}
 use Rattle.std.proofs.lemmas.List.Elements.{All-head, All-tail}
 use Rattle.sfc_base.specs.declared.qualifier.TimedQualifier.{TimedQualifier}
 use Rattle.sfc_base.specs.declared.qualifier.TimedQualifier.TheVariants.{Limited, Delayed, StoredDelayed, DelayedStored, StoredLimited}
@@ -10,23 +11,21 @@ use Rattle.sfc_flags.specs.Flags.{flag}
 use Rattle.sfc_timers.specs.Timers.{Reading, has_elapsed, is_on}
 use Rattle.sfc_timers.specs.Past.{on_delay_past}
 use Rattle.sfc_timers.specs.Agreement.{OnDelayAgrees}
-use Rattle.sfc_plant.specs.declared.association.Qualifier.{Qualifier}
-use Rattle.sfc_plant.specs.declared.association.Qualifier.TheVariants as qualifier
 use Rattle.sfc_tables.specs.declared.step_action.StepAction.{StepAction}
 use Rattle.sfc_tables.specs.Tables.{Tabled}
 use Rattle.sfc_evolve.specs.Lookback.{or_else}
 use Rattle.sfc_action.specs.declared.fault.ControlFault.{ControlFault}
 use Rattle.sfc_action.specs.declared.blocks.Block.{Block}
 use Rattle.sfc_action.specs.declared.control_state.ControlState.{ControlState}
-use Rattle.sfc_action.specs.ActionControl.{Scan, Letter, N, R, S, L, D, P, SD, DS, SL, P1, P0, is, acts, is_timed, input, preset}
+use Rattle.sfc_action.specs.ActionControl.{Scan, Letter, N, R, S, L, D, P, SD, DS, SL, P1, P0, is, input, preset}
 use Rattle.sfc_action.specs.ActionControl.{stored, on_delay, delayed, delayed_then_stored, set_reset, column, q, executed}
 use Rattle.sfc_action.specs.ActionControl.{fault_by, fault_of, first_in, first_fault, is_two_timed}
 use Rattle.sfc_action.specs.Past.{DelayPast, delay_in}
-use Rattle.sfc_action.specs.Private.DelayLists.{same_timed}
-use Rattle.sfc_action.specs.Private.Keeping.{AreFor, IsStateAfter, BlockAgrees, IsCovered, called, readings, is_of, has_block}
-use Rattle.sfc_action.specs.Private.Live.{IsResting, is_stored}
+use Rattle.sfc_action.specs.Private.Keeping.{AreFor, IsStateAfter, BlockAgrees, called, readings, is_of}
+use Rattle.sfc_action.specs.Private.Live.{IsIdle}
 use Rattle.sfc_action.specs.Private.Resting.{IsAtRest, rested}
-use Rattle.sfc_action.proofs.Elapsed.{bool_cases, and_left, and_right, same_timed_is, is_on_next, never_called, never_elapsed}
+use Rattle.sfc_action.proofs.Elapsed.{bool_cases, is_on_next, never_elapsed}
+use Rattle.sfc_action.proofs.SingleTimes.{AreOff, times, few_times}
 use Rattle.sfc_action.proofs.Live.{idle_stepped}
 use Rattle.sfc_action.proofs.Pasts.{delay_kept}
 
@@ -85,83 +84,21 @@ input_off : (x : Bool) (p t : ℤ) (rs : List Reading) → is_some (on_delay_pas
 input_off true p t rs e = absurd (let bad : true ≡ false = e in cc)
 input_off false p t rs e = refl
 
-find_idle : (is : Block → Bool) (blocks : List Block) → All IsResting blocks → is_some (delay_in (find is blocks)).begun ≡ false
+find_idle : (is : Block → Bool) (blocks : List Block) → All IsIdle blocks → is_some (delay_in (find is blocks)).begun ≡ false
 find_idle is [] rest = refl
 find_idle is (block ∷ blocks) rest = elim (bool_cases (is block)) [
-  | inl here ↦ (rw here (All-head IsResting block blocks rest).idle.runs)
-  | inr other ↦ (rw other (find_idle is blocks (All-tail IsResting block blocks rest)))
+  | inl here ↦ (rw here (All-head IsIdle block blocks rest).runs)
+  | inr other ↦ (rw other (find_idle is blocks (All-tail IsIdle block blocks rest)))
 ]
 
-no_stored : (a : ℕ) (p : TimedQualifier) (blocks : List Block) → is_stored p ≡ true → All IsResting blocks
-    → list_any (is_of a p) blocks ≡ false
-no_stored a p [] e rest = refl
-no_stored a p (block ∷ blocks) e rest =
-    let later = no_stored a p blocks e (All-tail IsResting block blocks rest) in
-    let plain = (All-head IsResting block blocks rest).plain in
-    elim (bool_cases (is_of a p block)) [
-      | inl here ↦ absurd (
-          let same : block.qualifier ≡ p = same_timed_is p block.qualifier (and_right (block.action.0 == a) (same_timed p block.qualifier) here) in
-          let bad : true ≡ false = sym e ∙ ap is_stored (sym same) ∙ plain in
-          cc)
-      | inr other ↦ (λ i. other i || later i)
-    ]
-
 -- ---- faults
-
-or_left : (x y : Bool) → (x || y) ≡ false → x ≡ false
-or_left true y e = e
-or_left false y e = refl
-
-or_right : (x y : Bool) → (x || y) ≡ false → y ≡ false
-or_right true y e = absurd (let bad : true ≡ false = e in cc)
-or_right false y e = e
-
--- an association of a qualifier with a time doesn't act where none of its letters does
-one_silent : (blocks : List Block) (a : ℕ) (v : Bool) (q : Qualifier) → All IsResting blocks → has_block blocks a q ≡ true
-    → (v && is L q) ≡ false → (v && is D q) ≡ false → (v && is DS q) ≡ false → (v && is_timed q) ≡ false
-one_silent blocks a v (qualifier.Timed Limited t) rest there l d ds = l
-one_silent blocks a v (qualifier.Timed Delayed t) rest there l d ds = d
-one_silent blocks a v (qualifier.Timed DelayedStored t) rest there l d ds = ds
-one_silent blocks a v (qualifier.Timed StoredDelayed t) rest there l d ds =
-    absurd (let bad : true ≡ false = sym there ∙ no_stored a StoredDelayed blocks refl rest in cc)
-one_silent blocks a v (qualifier.Timed StoredLimited t) rest there l d ds =
-    absurd (let bad : true ≡ false = sym there ∙ no_stored a StoredLimited blocks refl rest in cc)
-one_silent blocks a v qualifier.NonStored rest there l d ds = and_false v
-one_silent blocks a v qualifier.Reset rest there l d ds = and_false v
-one_silent blocks a v qualifier.Set rest there l d ds = and_false v
-one_silent blocks a v qualifier.Pulse rest there l d ds = and_false v
-one_silent blocks a v qualifier.RisingPulse rest there l d ds = and_false v
-one_silent blocks a v qualifier.FallingPulse rest there l d ds = and_false v
-
-silent : (blocks : List Block) (a : ℕ) (scan : Scan) (xs : List StepAction) → All IsResting blocks → All (IsCovered blocks) xs
-    → list_any (λ x. acts a scan x && is L x.qualifier) xs ≡ false → list_any (λ x. acts a scan x && is D x.qualifier) xs ≡ false
-    → list_any (λ x. acts a scan x && is DS x.qualifier) xs ≡ false
-    → filter (λ x. acts a scan x && is_timed x.qualifier) xs ≡ []
-silent blocks a scan [] rest covered l d ds = refl
-silent blocks a scan (x ∷ xs) rest covered l d ds =
-    let here = All-head (IsCovered blocks) x xs covered in
-    let ll = or_left (acts a scan x && is L x.qualifier) (list_any (λ x. acts a scan x && is L x.qualifier) xs) l in
-    let dd = or_left (acts a scan x && is D x.qualifier) (list_any (λ x. acts a scan x && is D x.qualifier) xs) d in
-    let ss = or_left (acts a scan x && is DS x.qualifier) (list_any (λ x. acts a scan x && is DS x.qualifier) xs) ds in
-    let later = silent blocks a scan xs rest (All-tail (IsCovered blocks) x xs covered)
-    (or_right (acts a scan x && is L x.qualifier) (list_any (λ x. acts a scan x && is L x.qualifier) xs) l)
-    (or_right (acts a scan x && is D x.qualifier) (list_any (λ x. acts a scan x && is D x.qualifier) xs) d)
-    (or_right (acts a scan x && is DS x.qualifier) (list_any (λ x. acts a scan x && is DS x.qualifier) xs) ds) in
-    elim (bool_cases (acts a scan x)) [
-      | inr other ↦ (rw other later)
-      | inl on ↦ (
-          let at : x.action.0 ≡ a = let t = and_left (x.action.0 == a) (flag scan.active x.step.0) on in grind (arith, nat_tests) in
-          let covered_here : has_block blocks a x.qualifier ≡ true = subst (λ (b : ℕ). has_block blocks b x.qualifier ≡ true) at here in
-          let off = one_silent blocks a (acts a scan x) x.qualifier rest covered_here ll dd ss in
-          rw off later)
-    ]
 
 no_fault : (fault : ℕ → Option ControlFault) (xs : List StepAction) → ((a : ℕ) → fault a ≡ None) → first_in fault xs ≡ None
 no_fault fault [] none = refl
 no_fault fault (x ∷ xs) none = (λ i. or_else (none x.action.0 i) (no_fault fault xs none i))
 
-none_more : nat_lt 1 0 ≡ false
-none_more = grind (arith, nat_tests)
+not_more : (n : ℕ) → n ≤ 1 → nat_lt 1 n ≡ false
+not_more n le = grind (arith, nat_tests)
 
 -- ---- a scan at rest
 
@@ -180,6 +117,15 @@ module _ (tables : Tabled) (state : ControlState) (scan last : Scan) (h : List S
   input_same a letter =
       λ i. list_any (λ (x : StepAction). ((x.action.0 == a) && flag (same i) x.step.0) && is letter x.qualifier) tables.associations
 
+  stored_same : (a : ℕ) (letter : Letter) → stored tables a letter now ≡ stored tables a letter before
+  stored_same a letter =
+      let s = input tables a letter before in
+      let r = input tables a R before in
+      let was = column (set_reset tables a (input tables a letter)) h in
+      is_on_next (input tables a letter now) (input tables a R now) (column (set_reset tables a (input tables a letter)) before)
+      ∙ (λ i. (is_on_next s r was i || input_same a letter i) && not (input_same a R i))
+      ∙ again (is_on was) s r ∙ sym (is_on_next s r was)
+
   called_before : (a : ℕ) (p : TimedQualifier) → called tables a p before ≡ false
   called_before a p =
       input_off (called tables a p before) (preset tables a last) last.at (readings tables a p h)
@@ -190,10 +136,8 @@ module _ (tables : Tabled) (state : ControlState) (scan last : Scan) (h : List S
   called_now a Limited = input_same a L ∙ called_before a Limited
   called_now a Delayed = input_same a D ∙ called_before a Delayed
   called_now a DelayedStored = input_same a DS ∙ called_before a DelayedStored
-  called_now a StoredDelayed =
-      never_called tables state.blocks a StoredDelayed size.covered (no_stored a StoredDelayed state.blocks refl rest.delays) now
-  called_now a StoredLimited =
-      never_called tables state.blocks a StoredLimited size.covered (no_stored a StoredLimited state.blocks refl rest.delays) now
+  called_now a StoredDelayed = stored_same a SD ∙ called_before a StoredDelayed
+  called_now a StoredLimited = stored_same a SL ∙ called_before a StoredLimited
 
   elapsed_before : (a : ℕ) (p : TimedQualifier) → on_delay tables a (called tables a p) before ≡ false
   elapsed_before a p = never_elapsed (called tables a p before) (preset tables a last) last.at (readings tables a p h) (called_before a p)
@@ -201,27 +145,18 @@ module _ (tables : Tabled) (state : ControlState) (scan last : Scan) (h : List S
   elapsed_now : (a : ℕ) (p : TimedQualifier) → on_delay tables a (called tables a p) now ≡ false
   elapsed_now a p = never_elapsed (called tables a p now) (preset tables a scan) scan.at (readings tables a p before) (called_now a p)
 
-  one_rests : (block : Block) → BlockAgrees tables before block → IsResting block → BlockAgrees tables now block
-  one_rests block agrees resting =
+  one_rests : (block : Block) → BlockAgrees tables before block → IsIdle block → BlockAgrees tables now block
+  one_rests block agrees idle =
       let a = block.action.0 in
       let p = block.qualifier in
       let col = readings tables a p before in
       let pt = preset tables a scan in
-      let stepped = idle_stepped pt scan.at block resting.idle in
+      let stepped = idle_stepped pt scan.at block idle in
       let is : ((false, pt, scan.at) ∷ col) ≡ readings tables a p now = (λ i. (sym (called_now a p) i, pt, scan.at) ∷ col) in
       record {
         delay = subst (OnDelayAgrees block.delay) is (stepped.agrees col agrees.delay);
         elapsed = stepped.answer col agrees.delay ∙ ap has_elapsed is;
       }
-
-  stored_same : (a : ℕ) (letter : Letter) → stored tables a letter now ≡ stored tables a letter before
-  stored_same a letter =
-      let s = input tables a letter before in
-      let r = input tables a R before in
-      let was = column (set_reset tables a (input tables a letter)) h in
-      is_on_next (input tables a letter now) (input tables a R now) (column (set_reset tables a (input tables a letter)) before)
-      ∙ (λ i. (is_on_next s r was i || input_same a letter i) && not (input_same a R i))
-      ∙ again (is_on was) s r ∙ sym (is_on_next s r was)
 
   delayed_stored_same : (a : ℕ) → delayed_then_stored tables a DS now ≡ delayed_then_stored tables a DS before
   delayed_stored_same a =
@@ -288,11 +223,16 @@ module _ (tables : Tabled) (state : ControlState) (scan last : Scan) (h : List S
 
   one_faultless : (a : ℕ) → fault_of tables a now ≡ None
   one_faultless a =
-      let few : is_two_timed tables a now ≡ false =
-      ap (λ (xs : List StepAction). nat_lt 1 (length (map (λ x. slice_index_or scan.times x.number.0 (pos 0)) xs)))
-      (silent state.blocks a scan tables.associations rest.delays size.covered (called_now a Limited) (called_now a Delayed)
-      (called_now a DelayedStored))
-      ∙ none_more in
+      let time : StepAction → ℤ = λ x. slice_index_or scan.times x.number.0 (pos 0) in
+      let off : AreOff a scan tables.associations = record {
+        limited = called_now a Limited;
+        delayed = called_now a Delayed;
+        delayed_stored = called_now a DelayedStored;
+      } in
+      let acting = filter (times a scan) tables.associations in
+      let same_length : length (map time acting) ≡ length acting = length-map acting time in
+      let one = few_times a scan tables.associations off (size.single rest.single) in
+      let few : is_two_timed tables a now ≡ false = not_more (length (map time acting)) (omega (arith, same_length, one)) in
       (λ i. fault_by (few i) (input tables a SD now && called_now a StoredLimited i) (input tables a SL now && called_now a StoredDelayed i))
       ∙ (λ i. fault_by false (and_false (input tables a SD now) i) (and_false (input tables a SL now) i))
 
@@ -314,4 +254,5 @@ rested_size tables state size = record {
   delays = size.delays;
   few = size.few;
   covered = size.covered;
+  single = size.single;
 }

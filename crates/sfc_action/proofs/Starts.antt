@@ -1,5 +1,5 @@
 -- Before the first scan, and copies.
-use Rattle.std.proofs.Common.{◌≡◌, ℕ, Bool, false, List, [], length, arith, sym, subst, ◌∙◌, ap}
+use Rattle.std.proofs.Common.{◌≡◌, ℕ, Bool, true, false, List, [], length, arith, sym, subst, ◌∙◌, ap}
 use Rattle.std.specs.Prelude.{All, map, replicate}
 use Rattle.std.proofs.lemmas.List.{length-replicate}
 use Rattle.sfc_flags.specs.Flags.{flag}
@@ -16,6 +16,7 @@ use Rattle.sfc_action.specs.Private.Delays.{AreOf}
 use Rattle.sfc_action.specs.Private.Keeping.{IsStateSized, IsFresh, IsCopy, AreFor, IsStateAfter, BlockAgrees, IsCovered, delay_of}
 use Rattle.sfc_action.specs.Private.DelayLists.{with_delays}
 use Rattle.sfc_action.specs.Private.Listing.{IsNew, IsList}
+use Rattle.sfc_action.specs.Private.Singles.{AreSingle}
 use Rattle.sfc_action.proofs.Sizes.{sized_stores}
 use Rattle.sfc_action.proofs.Timings.{flag-replicate}
 
@@ -33,8 +34,8 @@ sized_flags n flags e = ap length e ∙ length-replicate n false
 no_flag : (n a : ℕ) (flags : List Bool) → flags ≡ replicate n false → flag flags a ≡ false
 no_flag n a flags e = ap (λ xs. flag xs a) e ∙ flag-replicate n a
 
-pub fresh_sized : (n : ℕ) (blocks : List Block) (state : ControlState) → IsFresh n blocks state → AreOf n blocks → IsStateSized n state
-fresh_sized n blocks state fresh of = record {
+pub fresh_sized : (n : ℕ) (blocks : List Block) (is_single : Bool) (state : ControlState) → IsFresh n blocks is_single state → AreOf n blocks → IsStateSized n state
+fresh_sized n blocks is_single state fresh of = record {
   pulse = sized_flags n state.pulse fresh.pulse;
   rising_pulse = sized_flags n state.rising_pulse fresh.rising_pulse;
   falling_pulse = sized_flags n state.falling_pulse fresh.falling_pulse;
@@ -45,20 +46,22 @@ fresh_sized n blocks state fresh of = record {
   blocks = subst (AreOf n) (sym fresh.blocks) of;
 }
 
-pub fresh_for : (tables : Tabled) (n : ℕ) (associations : List StepAction) (blocks : List Block) (state : ControlState)
-    → n ≡ length tables.actions → associations ≡ tables.associations → IsFresh n blocks state → IsList n associations blocks
-    → AreFor tables state
-fresh_for tables n associations blocks state en ea fresh listed = record {
-  sized = subst (λ k. IsStateSized k state) en (fresh_sized n blocks state fresh listed.actions);
+pub fresh_for : (tables : Tabled) (n : ℕ) (associations : List StepAction) (blocks : List Block) (is_single : Bool)
+    (state : ControlState) → n ≡ length tables.actions → associations ≡ tables.associations → IsFresh n blocks is_single state
+    → IsList n associations blocks → (is_single ≡ true → AreSingle associations) → AreFor tables state
+fresh_for tables n associations blocks is_single state en ea fresh listed single = record {
+  sized = subst (λ k. IsStateSized k state) en (fresh_sized n blocks is_single state fresh listed.actions);
   delays = ap (map delay_of) fresh.blocks ∙ listed.delays ∙ ap (with_delays []) ea;
   few = let e = ap length fresh.blocks in let same = ap length ea in let few = listed.few in omega arith;
   covered = subst (λ (xs : List Block). All (IsCovered xs) tables.associations) (sym fresh.blocks)
       (subst (λ (xs : List StepAction). All (IsCovered blocks) xs) ea listed.covered);
+  single = λ on. subst AreSingle ea (single (sym fresh.single ∙ on));
 }
 
-pub fresh_state : (tables : Tabled) (n : ℕ) (blocks : List Block) (state : ControlState) → IsFresh n blocks state → All IsNew blocks
+pub fresh_state : (tables : Tabled) (n : ℕ) (blocks : List Block) (is_single : Bool) (state : ControlState)
+    → IsFresh n blocks is_single state → All IsNew blocks
     → IsStateAfter tables state []
-fresh_state tables n blocks state fresh all = record {
+fresh_state tables n blocks is_single state fresh all = record {
   pulse = λ a lt. no_flag n a state.pulse fresh.pulse;
   rising_pulse = λ a lt. no_flag n a state.rising_pulse fresh.rising_pulse;
   falling_pulse = λ a lt. no_flag n a state.falling_pulse fresh.falling_pulse;
@@ -92,6 +95,7 @@ copied_for tables from to copy for = record {
   delays = ap (map delay_of) copy.blocks ∙ for.delays;
   few = let e = ap length copy.blocks in let few = for.few in omega arith;
   covered = subst (λ (xs : List Block). All (IsCovered xs) tables.associations) (sym copy.blocks) for.covered;
+  single = λ on. for.single (sym copy.single ∙ on);
 }
 
 pub copied_state : (tables : Tabled) (from to : ControlState) (h : List Scan) → IsCopy from to → IsStateAfter tables from h → IsStateAfter tables to h

@@ -18,3 +18,4 @@ pub mod Calling
 pub mod Keeping
 pub mod Listing
 pub mod Resting
+pub mod Singles

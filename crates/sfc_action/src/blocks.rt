@@ -8,7 +8,7 @@ ghost use Rattle.sfc_action.specs.Private.TimedSets.{AreAll, with_action};
 ghost use Rattle.sfc_action.specs.Private.Marking.{AreSized};
 ghost use Rattle.sfc_action.specs.Private.Storing.{AreStores};
 ghost use Rattle.sfc_action.specs.Private.Delays.{input_of, preset_of, IsStepped, AreStepped, gathered, AreOf};
-ghost use Rattle.sfc_action.specs.Private.Live.{AreIdle, IsIdle, IsPlain, is_stored};
+ghost use Rattle.sfc_action.specs.Private.Live.{AreIdle, IsIdle};
 ghost use Rattle.sfc_action.specs.Private.Calling.{AreAwake};
 
 use crate::inputs::Inputs;
@@ -36,28 +36,6 @@ pub struct DelayCall<'a> {
     pub stores: &'a Stores,
     pub presets: &'a [i64],
     pub t: i64,
-}
-
-// Whether it is SD or SL.
-fn is_stored(qualifier: TimedQualifier) -> bool
-    ensures { result ≡ is_stored qualifier }
-{
-    match qualifier {
-        TimedQualifier::StoredDelayed | TimedQualifier::StoredLimited => true,
-        TimedQualifier::Limited | TimedQualifier::Delayed | TimedQualifier::DelayedStored => false,
-    }
-}
-
-/// Whether none of these is by SD or SL.
-pub fn are_plain(blocks: &[Block]) -> bool
-    ensures { result ≡ true → All IsPlain blocks.now }
-{
-    for block in blocks {
-        if is_stored(block.qualifier) {
-            return false;
-        }
-    }
-    true
 }
 
 // Whether the on-delay of the action by this qualifier has its input: that of the block, or what it stores.

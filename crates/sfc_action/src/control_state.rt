@@ -11,7 +11,7 @@ use sfc_flags::flags::Flags;
 use std::alloc::{AllocError, Global};
 
 /// Of each action the inputs P, P1 and P0 of the newest scan, its flip-flops, its Q and whether it was executed, and the
-/// on-delays of all.
+/// on-delays of all. `is_single` tells that no action has two associations by SD or SL.
 pub struct ControlState {
     pub pulse: Flags,
     pub rising_pulse: Flags,
@@ -21,6 +21,7 @@ pub struct ControlState {
     pub q: Flags,
     pub executed: Flags,
     pub blocks: Delays,
+    pub is_single: bool,
 }
 
 // By hand, so that a caller that drops one proves one call.
@@ -35,6 +36,7 @@ impl Drop for ControlState {
             q: _,
             executed: _,
             blocks: _,
+            is_single: _,
         } = self;
     }
 }
@@ -54,10 +56,15 @@ impl ControlState {
     ghost use Rattle.sfc_action.specs.Private.Rows.{state_in, state_row, nothing, state_row_after};
 
     /// Before the first scan of a life, with these on-delays. The one error is that memory was refused.
-    pub fn new(alloc: Global, actions: usize, blocks: Vec<Block>) -> Result<Self, AllocError>
+    pub fn new(
+        alloc: Global,
+        actions: usize,
+        blocks: Vec<Block>,
+        is_single: bool,
+    ) -> Result<Self, AllocError>
         requires actions { AreOf actions blocks.items }
         requires fresh { All IsNew blocks.items }
-        ensures { IfOk result (λ state. IsFresh actions blocks.items state) }
+        ensures { IfOk result (λ state. IsFresh actions blocks.items is_single state) }
     {
         let blocks = Delays::new(alloc, actions, blocks)?;
         let stores = Stores::new(alloc, actions)?;
@@ -72,6 +79,7 @@ impl ControlState {
             q,
             executed,
             blocks,
+            is_single,
         })
     }
 
@@ -99,6 +107,7 @@ impl ControlState {
         requires past { (a : ℕ) → word_of a ≡ number → length self.old.q ≤ a → state_in words a ≡ nothing }
         ensures sized { IsStateSized (length self.old.q) self.new }
         ensures blocks { self.new.blocks ≡ self.old.blocks }
+        ensures single { self.new.is_single ≡ self.old.is_single }
         ensures put { ArePut number (state_in words) (state_row self.old) (state_row self.new) }
     {
         self.pulse.put_word(number, words.pulse);
@@ -117,6 +126,7 @@ impl ControlState {
         requires number { number < word_count self.old.q }
         ensures sized { IsStateSized (length self.old.q) self.new }
         ensures blocks { self.new.blocks ≡ self.old.blocks }
+        ensures single { self.new.is_single ≡ self.old.is_single }
         ensures put { ArePut number (state_row_after control_scan.now (state_row self.old)) (state_row self.old) (state_row self.new) }
     {
         let words = self.words(number).after(control_scan.words(number));
@@ -129,9 +139,16 @@ impl ControlState {
         requires control_scan { IsControlScan (length self.old.q) control_scan.now }
         ensures sized { IsStateSized (length self.old.q) self.new }
         ensures blocks { self.new.blocks ≡ self.old.blocks }
+        ensures single { self.new.is_single ≡ self.old.is_single }
         ensures rows { (a : ℕ) → state_row self.new a ≡ state_row_after control_scan.now (state_row self.old) a }
         ensures ticks { Within (length self.old.q) ticks.old ticks.new }
     {
+        // One word, as up to 64 actions have, without a loop.
+        if self.q.words() == 1 {
+            ticks.tick();
+            self.act_word(control_scan, 0);
+            return;
+        }
         for number in 0..self.q.words() {
             ticks.tick();
             self.act_word(control_scan, number);
@@ -177,7 +194,7 @@ impl ControlState {
         ensures rest { result ≡ true → IsAtRest self.now }
         ensures ticks { Within (length self.now.q) ticks.old ticks.new }
     {
-        self.blocks.are_resting() && self.are_pulses_over(ticks)
+        self.is_single && self.blocks.are_idle() && self.are_pulses_over(ticks)
     }
 
     /// What such a scan makes of all: the actions with Q are executed.
@@ -205,6 +222,7 @@ impl ControlState {
         requires other { IsStateSized (length self.old.q) other.now }
         ensures sized { IsStateSized (length self.old.q) self.new }
         ensures blocks { self.new.blocks ≡ self.old.blocks }
+        ensures single { self.new.is_single ≡ self.old.is_single }
         ensures rows { (a : ℕ) → state_row self.new a ≡ state_row other.now a }
         ensures ticks { Within (length self.old.q) ticks.old ticks.new }
     {
@@ -224,5 +242,6 @@ impl ControlState {
     {
         self.copy_all(other, ticks);
         self.blocks.copy_from(&other.blocks, ticks);
+        self.is_single = other.is_single;
     }
 }

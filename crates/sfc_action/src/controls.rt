@@ -48,6 +48,7 @@ ghost use Rattle.sfc_action.specs.Agreement.{IsFor, ControlsAgree, IsAlike, acti
 use crate::fault::ControlFault;
 use crate::faults::first_fault;
 use crate::listing::list_blocks;
+use crate::singles::are_single;
 use crate::timed::Timed;
 use sfc_base::ids::ActionNumber;
 use sfc_base::ticks::Ticks;
@@ -67,7 +68,8 @@ impl Controls {
         let n = tables.actions();
         let mut seen = Timed::new(alloc, n)?;
         let blocks = list_blocks(alloc, tables.step_actions(), &mut seen)?;
-        let state = ControlState::new(alloc, n, blocks)?;
+        let is_single = are_single(alloc, n, tables.step_actions())?;
+        let state = ControlState::new(alloc, n, blocks, is_single)?;
         let control_scan = ControlScan::new(alloc, n)?;
         Ok(Controls {
             state,
@@ -127,7 +129,7 @@ impl Controls {
 
     /// One scan whose active steps are those of the scan before: answers whether it is done, without a fault, and with the outcome that
     /// `step` has. Where it answers no nothing has changed, and the scan wants `step`. It is done where no on-delay runs or has elapsed,
-    /// none is by SD or SL, and no pulse gives Q (2.6.4.5). It takes no memory.
+    /// no action has two associations by SD or SL, and no pulse gives Q (2.6.4.5). It takes no memory.
     pub fn repeat(&mut self, ticks: &mut Ticks) -> bool
         ensures sizes { (tables : Tabled) → IsFor tables self.old → IsFor tables self.new }
         ensures agrees { result ≡ true → (tables : Tabled) (scan last : Scan) (h : List Scan) → scan.active ≡ last.active →

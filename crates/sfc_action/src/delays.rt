@@ -11,8 +11,7 @@ pub struct Delays {
     // The places of those that a scan handles, whatever its inputs are: those that aren't idle.
     live: Flags,
     places: GroupedPlaces,
-    // No on-delay is by SD or SL, and none runs or has elapsed.
-    is_plain: bool,
+    // None runs or has elapsed.
     is_idle: bool,
 }
 
@@ -23,7 +22,6 @@ impl Drop for Delays {
             blocks: _,
             live: _,
             places: _,
-            is_plain: _,
             is_idle: _,
         } = self;
     }
@@ -38,10 +36,10 @@ impl Model for Delays {
 
     ghost view = { λ delays. delays.blocks.items };
 
-    ghost invariant = { λ delays. AreKept delays.blocks.items delays.live delays.places delays.is_plain delays.is_idle };
+    ghost invariant = { λ delays. AreKept delays.blocks.items delays.live delays.places delays.is_idle };
 }
 
-use crate::blocks::{DelayCall, are_plain, step_live};
+use crate::blocks::{DelayCall, step_live};
 use crate::control_scan::ControlScan;
 use crate::places::list_places;
 use crate::waking::{copy_live, wake};
@@ -57,7 +55,7 @@ impl Delays {
     ghost use Rattle.sfc_action.specs.Private.Keeping.{delay_of};
     ghost use Rattle.sfc_action.specs.Private.Listing.{IsNew};
     ghost use Rattle.sfc_action.specs.Private.Calling.{AreCalled};
-    ghost use Rattle.sfc_action.specs.Private.Live.{IsResting};
+    ghost use Rattle.sfc_action.specs.Private.Live.{IsIdle};
 
     /// These on-delays, which are of so many actions and have seen no call. The one error is that memory was refused.
     pub fn new(alloc: Global, actions: usize, blocks: Vec<Block>) -> Result<Delays, AllocError>
@@ -67,12 +65,10 @@ impl Delays {
     {
         let places = list_places(alloc, actions, &blocks)?;
         let live = Flags::new(alloc, blocks.len())?;
-        let is_plain = are_plain(&blocks);
         Ok(Delays {
             blocks,
             live,
             places,
-            is_plain,
             is_idle: true,
         })
     }
@@ -109,11 +105,11 @@ impl Delays {
         );
     }
 
-    /// Whether none runs or has elapsed, and none is by SD or SL: where it answers no, they may be so all the same.
-    pub fn are_resting(&self) -> bool
-        ensures { result ≡ true → All IsResting self.now }
+    /// Whether none runs or has elapsed: where it answers no, that may be so all the same.
+    pub fn are_idle(&self) -> bool
+        ensures { result ≡ true → All IsIdle self.now }
     {
-        self.is_plain && self.is_idle
+        self.is_idle
     }
 
     /// Takes over what the other has seen, which has the same on-delays.
@@ -124,7 +120,6 @@ impl Delays {
     {
         self.blocks.copy_from_slice(&other.blocks);
         copy_live(&mut self.live, &other.live);
-        self.is_plain = other.is_plain;
         self.is_idle = other.is_idle;
         ticks.tick_all(self.blocks.len());
     }

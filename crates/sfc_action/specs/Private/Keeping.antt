@@ -25,6 +25,7 @@ use Rattle.sfc_action.specs.Private.Storing.{AreStores, no_stores, IsNext}
 use Rattle.sfc_action.specs.Private.Delays.{AreStepped, AreOf, gathered}
 use Rattle.sfc_action.specs.Private.ControlScans.{IsControlScan}
 use Rattle.sfc_action.specs.Private.Outputs.{q_at}
+use Rattle.sfc_action.specs.Private.Singles.{AreSingle}
 
 -- for n actions
 pub record IsStateSized (n : ℕ) (state : ControlState) : Type 0 where
@@ -42,8 +43,8 @@ pub record AreOfOneSize (state : ControlState) (control_scan : ControlScan) : Ty
   pub state_sized : IsStateSized (length state.q) state
   pub control_scan_sized : IsControlScan (length state.q) control_scan
 
--- with no flag, and these on-delays
-pub record IsFresh (n : ℕ) (delays : List Block) (state : ControlState) : Type 0 where
+-- with no flag, these on-delays, and this of its associations by SD and SL
+pub record IsFresh (n : ℕ) (delays : List Block) (is_single : Bool) (state : ControlState) : Type 0 where
   pub pulse : state.pulse ≡ replicate n false
   pub rising_pulse : state.rising_pulse ≡ replicate n false
   pub falling_pulse : state.falling_pulse ≡ replicate n false
@@ -52,6 +53,7 @@ pub record IsFresh (n : ℕ) (delays : List Block) (state : ControlState) : Type
   pub q : state.q ≡ replicate n false
   pub executed : state.executed ≡ replicate n false
   pub blocks : state.blocks ≡ delays
+  pub single : state.is_single ≡ is_single
 
 -- what a scan at t made of all, with these inputs, flip-flops and times
 pub record IsActed (inputs : Inputs) (next : Stores) (presets : List ℤ) (t : ℤ) (old new : ControlState) : Type 0 where
@@ -69,6 +71,7 @@ pub record IsActed (inputs : Inputs) (next : Stores) (presets : List ℤ) (t : �
   pub rising_pulse : new.rising_pulse ≡ inputs.rising_pulse
   pub falling_pulse : new.falling_pulse ≡ inputs.falling_pulse
   pub stores : new.stores ≡ next
+  pub single : new.is_single ≡ old.is_single
 
 pub record IsCopy (from to : ControlState) : Type 0 where
   pub pulse : to.pulse ≡ from.pulse
@@ -79,6 +82,7 @@ pub record IsCopy (from to : ControlState) : Type 0 where
   pub q : to.q ≡ from.q
   pub executed : to.executed ≡ from.executed
   pub blocks : to.blocks ≡ from.blocks
+  pub single : to.is_single ≡ from.is_single
 
 -- ---- which on-delays there are
 
@@ -102,6 +106,7 @@ pub record AreFor (tables : Tabled) (state : ControlState) : Type 0 where
   pub delays : map delay_of state.blocks ≡ with_delays [] tables.associations
   pub few : length state.blocks ≤ length tables.associations
   pub covered : All (IsCovered state.blocks) tables.associations
+  pub single : state.is_single ≡ true → AreSingle tables.associations
 
 -- ---- what is kept after these scans
 

@@ -1,8 +1,6 @@
 -- The on-delays that a scan handles whatever its inputs are: those that run.
 use Rattle.std.specs.Prelude.{ℕ, ◌≡◌, ◌<◌, ◌==◌, Bool, true, false, List, [], length, slice_index_or, is_some, All}
 use Rattle.std.specs.List.{list_any}
-use Rattle.sfc_base.specs.declared.qualifier.TimedQualifier.{TimedQualifier}
-use Rattle.sfc_base.specs.declared.qualifier.TimedQualifier.TheVariants.{StoredDelayed, StoredLimited}
 use Rattle.sfc_flags.specs.Flags.{flag}
 use Rattle.sfc_timers.specs.Past.{on_delay_in}
 use Rattle.sfc_action.specs.declared.blocks.Block.{Block}
@@ -11,19 +9,6 @@ use Rattle.sfc_action.specs.declared.blocks.Block.{Block}
 pub record IsIdle (block : Block) : Type 0 where
   pub runs : is_some (on_delay_in block.delay) ≡ false
   pub elapsed : block.elapsed ≡ false
-
-abbrev pub is_stored : TimedQualifier → Bool
-is_stored StoredDelayed = true
-is_stored StoredLimited = true
-is_stored _ = false
-
--- its input is not what a flip-flop stores
-abbrev pub IsPlain : Block → Type 0
-IsPlain block = is_stored block.qualifier ≡ false
-
-pub record IsResting (block : Block) : Type 0 where
-  pub idle : IsIdle block
-  pub plain : IsPlain block
 
 -- ---- the places of on-delays, by action
 
@@ -44,9 +29,8 @@ AreListed blocks places = (k : ℕ) (d : Block) → k < length blocks → has_pl
 abbrev pub AreIdle : List Block → List Bool → Type 0
 AreIdle blocks live = (k : ℕ) (d : Block) → k < length blocks → flag live k ≡ false → IsIdle (slice_index_or blocks k d)
 
-pub record AreKept (blocks : List Block) (live : List Bool) (places : List (List ℕ)) (is_plain is_idle : Bool) : Type 0 where
+pub record AreKept (blocks : List Block) (live : List Bool) (places : List (List ℕ)) (is_idle : Bool) : Type 0 where
   pub size : length live ≡ length blocks
   pub idle : AreIdle blocks live
   pub listed : AreListed blocks places
-  pub all_plain : is_plain ≡ true → All IsPlain blocks
   pub all_idle : is_idle ≡ true → All IsIdle blocks

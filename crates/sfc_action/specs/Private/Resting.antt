@@ -1,12 +1,13 @@
 -- When a scan with the active steps of the one before changes only which actions are executed.
-use Rattle.std.specs.Prelude.{ℕ, ◌≡◌, false, ◌&&◌, All}
+use Rattle.std.specs.Prelude.{ℕ, ◌≡◌, true, false, ◌&&◌, All}
 use Rattle.sfc_flags.specs.Flags.{flag}
 use Rattle.sfc_action.specs.declared.control_state.ControlState.{ControlState}
-use Rattle.sfc_action.specs.Private.Live.{IsResting}
+use Rattle.sfc_action.specs.Private.Live.{IsIdle}
 
--- each on-delay rests, and no action with an input P has Q
+-- no on-delay runs or has elapsed, no action with an input P has Q, and none has two associations by SD or SL
 pub record IsAtRest (state : ControlState) : Type 0 where
-  pub delays : All IsResting state.blocks
+  pub single : state.is_single ≡ true
+  pub delays : All IsIdle state.blocks
   pub pulses : (a : ℕ) → (flag state.pulse a && flag state.q a) ≡ false
 
 -- what a scan at rest makes of it

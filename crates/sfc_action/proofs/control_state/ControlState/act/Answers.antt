@@ -87,4 +87,5 @@ returns-clause-acted c =
       falling_pulse = same_flags n new.falling_pulse s.inputs.falling_pulse sized.falling_pulse
           c.requires.control_scan.inputs.falling_pulse (λ a. ap (λ r. r.falling_pulse) (rows a));
       stores = same_stores n new.stores s.stores sized.stores c.requires.control_scan.stores (λ a. ap (λ r. r.stores) (rows a));
+      single = c.act_all.ensures.single;
     }

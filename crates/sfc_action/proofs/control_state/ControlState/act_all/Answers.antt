@@ -10,13 +10,14 @@ loop-number-preserved c =
     let was = c.loop-number.invariant in
     let s = c.args.control_scan.now in
     record {
-      sized = subst (λ (n : ℕ). IsStateSized n c.act_word.new.self) was.sized.q c.act_word.ensures.sized;
-      blocks = c.act_word.ensures.blocks ∙ was.blocks;
+      sized = subst (λ (n : ℕ). IsStateSized n c.act_word-in-loop-number.new.self) was.sized.q c.act_word-in-loop-number.ensures.sized;
+      blocks = c.act_word-in-loop-number.ensures.blocks ∙ was.blocks;
+      single = c.act_word-in-loop-number.ensures.single ∙ was.single;
       rows = more_by (state_row_after s (state_row c.args.self.now)) (state_row c.args.self.now)
-          (state_row_after s (state_row c.loop-number.self)) (state_row c.loop-number.self) (state_row c.act_word.new.self) c.loop-number.number
-          was.rows c.act_word.ensures.put
+          (state_row_after s (state_row c.loop-number.self)) (state_row c.loop-number.self) (state_row c.act_word-in-loop-number.new.self) c.loop-number.number
+          was.rows c.act_word-in-loop-number.ensures.put
           (λ a at. ap (state_after (input_row s.inputs a) (store_row s.stores a) (timed_row s.elapsed a)) (was.rows.rest a (omega (arith, at))));
-      ticks = (omega (arith, c.tick.ensures, was.ticks.0), omega (arith, c.tick.ensures, was.ticks.1));
+      ticks = (omega (arith, c.tick-in-loop-number.ensures, was.ticks.0), omega (arith, c.tick-in-loop-number.ensures, was.ticks.1));
     }
 
 pub returns-clause-rows : goal.returns-clause-rows

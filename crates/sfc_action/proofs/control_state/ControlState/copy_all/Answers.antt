@@ -25,6 +25,7 @@ loop-number-preserved c =
     record {
       sized = subst (λ (n : ℕ). IsStateSized n c.put.new.self) was.sized.q c.put.ensures.sized;
       blocks = c.put.ensures.blocks ∙ was.blocks;
+      single = c.put.ensures.single ∙ was.single;
       rows = more_by (state_row c.args.other.now) (state_row c.args.self.now) (state_in c.words.result) (state_row c.loop-number.self)
           (state_row c.put.new.self) c.loop-number.number was.rows c.put.ensures.put c.words.ensures;
       ticks = (omega (arith, c.tick.ensures, was.ticks.0), omega (arith, c.tick.ensures, was.ticks.1));

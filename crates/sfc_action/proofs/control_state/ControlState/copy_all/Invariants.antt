@@ -9,6 +9,7 @@ abbrev pub invariant-loop-number : goal.invariant-loop-number
 invariant-loop-number l = record {
   sized : IsStateSized (length l.initial.self.q) l.self;
   blocks : l.self.blocks ≡ l.initial.self.blocks;
+  single : l.self.is_single ≡ l.initial.self.is_single;
   rows : AreDone l.number (state_row l.other) (state_row l.initial.self) (state_row l.self);
   ticks : Within l.number l.initial.ticks l.ticks;
 }

@@ -50,4 +50,5 @@ returns-clause-alike c =
       q = same.q i;
       executed = from.executed;
       blocks = same.blocks i;
+      is_single = same.single i;
     })

@@ -15,14 +15,13 @@ invariant_of-self c =
     ap (map delay_of) c.other.view_is ∙ c.requires ∙ ap (map delay_of) (sym c.self.view_is) in
     let long : length from ≡ length own = sym (length-map from delay_of) ∙ ap length same ∙ length-map own delay_of in
     let items : c.copy_from_slice.new.self.items ≡ from = c.copy_from_slice.ensures.items ∙ c.deref.ensures.value in
-    let kept : AreKept from c.other.inside.live c.self.inside.places c.other.inside.is_plain c.other.inside.is_idle = record {
+    let kept : AreKept from c.other.inside.live c.self.inside.places c.other.inside.is_idle = record {
       size = c.other.invariant.size;
       idle = c.other.invariant.idle;
       listed = λ k d lt.
           ap (λ a. has_place c.self.inside.places a k) (same_actions from own same k d)
           ∙ c.self.invariant.listed k d (omega (arith, lt, long));
-      all_plain = c.other.invariant.all_plain;
       all_idle = c.other.invariant.all_idle;
     } in
-    subst (λ (xs : List Block). AreKept xs c.copy_live.new.live c.self.inside.places c.other.inside.is_plain c.other.inside.is_idle) (sym items)
-    (subst (λ live. AreKept from live c.self.inside.places c.other.inside.is_plain c.other.inside.is_idle) (sym c.copy_live.ensures) kept)
+    subst (λ (xs : List Block). AreKept xs c.copy_live.new.live c.self.inside.places c.other.inside.is_idle) (sym items)
+    (subst (λ live. AreKept from live c.self.inside.places c.other.inside.is_idle) (sym c.copy_live.ensures) kept)
