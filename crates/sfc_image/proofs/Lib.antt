@@ -3,6 +3,7 @@ pub mod Built
 pub mod Apart
 pub mod Counting
 pub mod OutputMemos
+pub mod StoredQ
 pub mod Happened
 pub mod Left
 pub mod LocalNumbers
@@ -11,6 +12,7 @@ pub mod Outputs
 pub mod Pasts
 pub mod Puts
 pub mod Tracked
+pub mod Turned
 pub mod Typed
 pub mod Viewed
 pub mod Written

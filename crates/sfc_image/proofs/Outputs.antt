@@ -2,38 +2,31 @@
 use Rattle.std.proofs.Common.{◌≡◌, ◌≢◌, inl, inr, ℕ, zero, suc, ◌+◌, ◌-◌, ◌<◌, ◌≤◌, ◌==◌, ◌++◌, ◌∷◌, [], arith, Bool, true, false, cond, List, length, take, slice_get, Option, Some, None, refl, sym, ap, subst, ◌∙◌, append_assoc, append-nil}
 use Rattle.std.proofs.lemmas.Bool.{cases_lt}
 use Rattle.std.proofs.lemmas.Bool.Decides.{eqb_tells}
-use Rattle.std.specs.Prelude.{IfSome}
 use Rattle.std.proofs.lemmas.List.{take_all}
 use Rattle.std.proofs.lemmas.Option.{slice_get_within}
 use Rattle.std.specs.Option.{option_map}
 use Rattle.sfc_base.specs.declared.references.Variable.{Variable}
+use Rattle.sfc_base.specs.declared.value.Value.{Value}
 use Rattle.sfc_flags.specs.Flags.{flag}
 use Rattle.sfc_plant.specs.declared.association.Target.{Target}
 use Rattle.sfc_base.specs.declared.ids.ProgId.{ProgId}
 use Rattle.sfc_plant.specs.Plants.{PlantData}
-use Rattle.sfc_image.specs.Changes.{Change, Changes}
+use Rattle.sfc_image.specs.Changes.{Change, Changes, Stored, with_change}
 use Rattle.sfc_image.specs.Bodies.{with_changes}
 use Rattle.sfc_image.specs.Outputs.{output, outputs}
 use Rattle.sfc_plant.specs.declared.association.Target.TheVariants.{Boolean, Declared}
 use Rattle.sfc_tables.specs.Actions.{actions_of}
-use Rattle.sfc_plant.specs.Finding.{chart_of, first_local, instance_locals}
+use Rattle.sfc_plant.specs.Finding.{chart_of}
 use Rattle.sfc_base.specs.declared.value.Value.TheVariants as value
-use Rattle.sfc_image.specs.declared.image.Image.{Image}
-use Rattle.sfc_image.specs.declared.output_memo.OutputMemo.{OutputMemo}
 use Rattle.sfc_image.specs.declared.slot.Slot.{Slot}
-use Rattle.sfc_image.specs.declared.slot.Locals.{Locals}
 use Rattle.sfc_image.specs.Environments.{number_of}
 use Rattle.sfc_image.specs.Bodies.{changes_in, stored_to}
-use Rattle.sfc_image.specs.Agreement.{ImageAgrees, is_open}
 use Rattle.sfc_image.specs.Private.Keeping.{slot_at}
-use Rattle.sfc_image.specs.Private.OutputMemos.{memo_at, IsAssigned, HasQ, Stays}
+use Rattle.sfc_image.specs.Private.OutputMemos.{IsAssigned, HasQ, Stays}
 use Rattle.sfc_image.specs.Private.Stores.{both_more}
-use Rattle.sfc_image.proofs.Agreed.{stored_again}
 use Rattle.sfc_image.proofs.Apart.{same_action}
 use Rattle.sfc_image.proofs.OutputMemos.{others_have, here_has}
 use Rattle.sfc_image.proofs.Left.{no_change, one_change}
-use Rattle.sfc_image.proofs.Numbers.{of_number}
-use Rattle.sfc_image.proofs.Viewed.{first_of_all}
 
 module _ (plant : PlantData) (p : ProgId) (flags : List Bool) where
   -- one action more
@@ -76,94 +69,71 @@ outputs_after plant p q targets k target log at =
 
 -- ---- what is given already
 
--- the number of a variable is that of one of the slots
-number_within : (plant : PlantData) (p : ProgId) (image : Image) (changes : Changes) (v : Variable) (i : ℕ) → p.0 < length image.locals.items
-    → ImageAgrees plant image changes → number_of plant p v ≡ Some i → i < length image.slots.items
-unfolding ImageAgrees
-number_within plant p image changes v i lt h number =
-    let is = h.slots.locals_are p lt in
-    let bounds = image.within p.0 lt in
-    let first = ap (λ (l : Locals). l.first) is in
-    let count = ap (λ (l : Locals). l.count) is in
-    let zeroth = ap (λ (l : Locals). l.first) (h.slots.locals_are (record { 0 = 0 }) (omega (arith, lt))) in
-    let globals = first_of_all plant in
-    by_number (number_of plant p v) refl number
-    (of_number (λ o. IfSome o (λ k. k < length image.slots.items)) (length image.slots.items) (length plant.globals)
-    (first_local plant p) (length (instance_locals plant p)) (omega (arith, bounds.0, bounds.1, first, count, zeroth, globals))
-    (omega (arith, bounds.1, first, count)) (λ k klt. klt) tt v)
-  where
-    by_number : (o : Option ℕ) → number_of plant p v ≡ o → o ≡ Some i → IfSome o (λ k. k < length image.slots.items)
-        → i < length image.slots.items
-    by_number None e is within = absurd cc
-    by_number (Some k) e is within = let same : k ≡ i = cc in subst (λ (n : ℕ). n < length image.slots.items) same within
+-- what agrees with changes agrees with one more that stores what these slots of the program's variables have
+abbrev pub StoresAgain : PlantData → ProgId → List Slot → (Changes → Type 0) → Type 0
+StoresAgain plant p slots Agrees = (t : Changes) (v : Variable) (i : ℕ) (x : Value) → number_of plant p v ≡ Some i
+    → (slot_at slots i).stored ≡ x → Agrees t → Agrees (with_change (Stored (record { 0 = i }) x) t)
 
 module _ (plant : PlantData) (p : ProgId) (q : List Bool) (targets : List Target) (is : targets ≡ actions_of (chart_of plant p))
-    (image : Image) (lt : p.0 < length image.locals.items) (opened : is_open image ≡ true) where
+    (slots : List Slot) (Agrees : Changes → Type 0) (stays : StoresAgain plant p slots Agrees) where
   -- a variable that has the value already is assigned it
   one_again : (changes : Changes) (k : ℕ) (target : Target) → slice_get targets k ≡ Some target
-      → HasQ plant p image.slots.items k (flag q k) → ImageAgrees plant image changes
-      → ImageAgrees plant image (with_changes (output plant p target (flag q k)) changes)
-  unfolding ImageAgrees
-  one_again changes k (Declared id) at has h = subst (λ (t : Changes). ImageAgrees plant image t) (sym (no_change changes)) h
+      → HasQ plant p slots k (flag q k) → Agrees changes → Agrees (with_changes (output plant p target (flag q k)) changes)
+  one_again changes k (Declared id) at has h = subst Agrees (sym (no_change changes)) h
   one_again changes k (Boolean v) at has h = by_number (number_of plant p v) refl where
     by_number : (o : Option ℕ) → number_of plant p v ≡ o
-        → ImageAgrees plant image (with_changes (changes_in (option_map (stored_to (value.Bool (flag q k))) o)) changes)
-    by_number None e = subst (λ (t : Changes). ImageAgrees plant image t) (sym (no_change changes)) h
+        → Agrees (with_changes (changes_in (option_map (stored_to (value.Bool (flag q k))) o)) changes)
+    by_number None e = subst Agrees (sym (no_change changes)) h
     by_number (Some i) e =
         let had = has v i (ap (λ (ts : List Target). slice_get ts k) (sym is) ∙ at) e in
-        subst (λ (t : Changes). ImageAgrees plant image t) (one_change (stored_to (value.Bool (flag q k)) i) changes)
-        (record {
-          slots =
-              stored_again plant image.slots.items image.locals.items image.count image.is_trying changes (record { 0 = i })
-              (value.Bool (flag q k)) opened (number_within plant p image changes v i lt h e) had.stored h.slots;
-          memos = h.memos;
-        })
+        subst Agrees (one_change (stored_to (value.Bool (flag q k)) i) changes)
+        (stays changes v i (value.Bool (flag q k)) e had.stored h)
 
   -- so are several
   again : (changes : Changes) (n from : ℕ) → from + n ≤ length targets
-      → ((j : ℕ) → from ≤ j → j < from + n → HasQ plant p image.slots.items j (flag q j))
-      → ImageAgrees plant image (with_changes (outputs plant p q 0 (take from targets)) changes)
-      → ImageAgrees plant image (with_changes (outputs plant p q 0 (take (from + n) targets)) changes)
+      → ((j : ℕ) → from ≤ j → j < from + n → HasQ plant p slots j (flag q j))
+      → Agrees (with_changes (outputs plant p q 0 (take from targets)) changes)
+      → Agrees (with_changes (outputs plant p q 0 (take (from + n) targets)) changes)
   again changes zero from le has h =
       let here : from ≡ from + 0 = omega arith in
-      subst (λ (k : ℕ). ImageAgrees plant image (with_changes (outputs plant p q 0 (take k targets)) changes)) here h
+      subst (λ (k : ℕ). Agrees (with_changes (outputs plant p q 0 (take k targets)) changes)) here h
   again changes (suc n) from le has h =
       let k : ℕ = from + n in
       let target = some_target targets k (omega (arith, le)) in
       let before = again changes n from (omega (arith, le)) (λ j a b. has j a (omega (arith, b))) h in
       let next : k + 1 ≡ from + suc n = omega arith in
-      subst (λ (m : ℕ). ImageAgrees plant image (with_changes (outputs plant p q 0 (take m targets)) changes)) next
-      (subst (λ (t : Changes). ImageAgrees plant image t) (sym (outputs_after plant p q targets k target.0 changes target.1))
+      subst (λ (m : ℕ). Agrees (with_changes (outputs plant p q 0 (take m targets)) changes)) next
+      (subst Agrees (sym (outputs_after plant p q targets k target.0 changes target.1))
       (one_again (with_changes (outputs plant p q 0 (take k targets)) changes) k target.0 target.1
       (has k (omega arith) (omega arith)) before))
 
 -- ---- one after the other
 
--- the first `from` actions of the instance were given their Q; where what was given before holds, the others have that
+-- The first `from` actions of the instance were given their Q, and what was done agrees; where what was given before
+-- holds, the others have that.
 pub record AssignedTo (plant : PlantData) (changes : Changes) (p : ProgId) (q : List Bool) (holds : Bool) (targets : List Target) (from : ℕ)
-    (image : Image) : Type 0 where
-  pub agrees : ImageAgrees plant image (with_changes (outputs plant p q 0 (take from targets)) changes)
-  pub done : (a : ℕ) → a < from → HasQ plant p image.slots.items a (flag q a)
-  pub rest : holds ≡ true → (a : ℕ) → from ≤ a → HasQ plant p image.slots.items a (flag (memo_at image.memos.items p.0).q a)
+    (slots : List Slot) (given : List Bool) (Agrees : Changes → Type 0) : Type 0 where
+  pub agrees : Agrees (with_changes (outputs plant p q 0 (take from targets)) changes)
+  pub done : (a : ℕ) → a < from → HasQ plant p slots a (flag q a)
+  pub rest : holds ≡ true → (a : ℕ) → from ≤ a → HasQ plant p slots a (flag given a)
 
 module _ (plant : PlantData) (changes : Changes) (p : ProgId) (q : List Bool) (holds : Bool) (targets : List Target)
     (is : targets ≡ actions_of (chart_of plant p)) where
   -- those that have it already are passed over
-  pub passed : (image : Image) (from to : ℕ) → p.0 < length image.locals.items → is_open image ≡ true → from ≤ to
-      → to ≤ length targets
-      → ((j : ℕ) → from ≤ j → j < to → (holds ≡ true) × (flag (memo_at image.memos.items p.0).q j ≡ flag q j))
-      → AssignedTo plant changes p q holds targets from image → AssignedTo plant changes p q holds targets to image
-  passed image from to lt opened le fits same h =
-      let has : (j : ℕ) → from ≤ j → j < to → HasQ plant p image.slots.items j (flag q j) =
-      λ j a b. (let s = same j a b in subst (λ (x : Bool). HasQ plant p image.slots.items j x) s.1 (h.rest s.0 j a)) in
+  pub passed : (slots : List Slot) (given : List Bool) (Agrees : Changes → Type 0) (from to : ℕ) → StoresAgain plant p slots Agrees
+      → from ≤ to → to ≤ length targets → ((j : ℕ) → from ≤ j → j < to → (holds ≡ true) × (flag given j ≡ flag q j))
+      → AssignedTo plant changes p q holds targets from slots given Agrees → AssignedTo plant changes p q holds targets to slots given Agrees
+  passed slots given Agrees from to stays le fits same h =
+      let has : (j : ℕ) → from ≤ j → j < to → HasQ plant p slots j (flag q j) =
+      λ j a b. (let s = same j a b in subst (λ (x : Bool). HasQ plant p slots j x) s.1 (h.rest s.0 j a)) in
       let all : from + (to - from) ≡ to = omega (arith, le) in
       record {
         agrees =
-            subst (λ (k : ℕ). ImageAgrees plant image (with_changes (outputs plant p q 0 (take k targets)) changes)) all
-            (again plant p q targets is image lt opened changes (to - from) from (omega (arith, le, fits))
+            subst (λ (k : ℕ). Agrees (with_changes (outputs plant p q 0 (take k targets)) changes)) all
+            (again plant p q targets is slots Agrees stays changes (to - from) from (omega (arith, le, fits))
             (λ j a b. has j a (omega (arith, b, le))) h.agrees);
         done = λ a below.
-            elim (cases_lt a from) as (λ _. HasQ plant p image.slots.items a (flag q a)) [
+            elim (cases_lt a from) as (λ _. HasQ plant p slots a (flag q a)) [
               | inl before ↦ h.done a before
               | inr ge ↦ has a ge below
             ];
@@ -171,43 +141,36 @@ module _ (plant : PlantData) (changes : Changes) (p : ProgId) (q : List Bool) (h
       }
 
   -- one more is given its Q
-  gave : (old new : Image) (a : ℕ) (target : Target) → slice_get targets a ≡ Some target
-      → new.memos.items ≡ old.memos.items
-      → ImageAgrees plant new (with_changes (output plant p target (flag q a)) (with_changes (outputs plant p q 0 (take a targets)) changes))
-      → ((v : Variable) (i : ℕ) → target ≡ Boolean v → number_of plant p v ≡ Some i → IsAssigned (slot_at new.slots.items i) (flag q a))
-      → ((i : ℕ) → ((v : Variable) → target ≡ Boolean v → number_of plant p v ≢ Some i)
-      → Stays (slot_at old.slots.items i) (slot_at new.slots.items i))
-      → AssignedTo plant changes p q holds targets a old → AssignedTo plant changes p q holds targets (a + 1) new
-  gave old new a target at memos agrees here others h = record {
-    agrees = subst (λ (t : Changes). ImageAgrees plant new t) (sym (outputs_after plant p q targets a target changes at)) agrees;
+  gave : (old new : List Slot) (given : List Bool) (Old New : Changes → Type 0) (a : ℕ) (target : Target) → slice_get targets a ≡ Some target
+      → New (with_changes (output plant p target (flag q a)) (with_changes (outputs plant p q 0 (take a targets)) changes))
+      → ((v : Variable) (i : ℕ) → target ≡ Boolean v → number_of plant p v ≡ Some i → IsAssigned (slot_at new i) (flag q a))
+      → ((i : ℕ) → ((v : Variable) → target ≡ Boolean v → number_of plant p v ≢ Some i) → Stays (slot_at old i) (slot_at new i))
+      → AssignedTo plant changes p q holds targets a old given Old → AssignedTo plant changes p q holds targets (a + 1) new given New
+  gave old new given Old New a target at agrees here others h = record {
+    agrees = subst New (sym (outputs_after plant p q targets a target changes at)) agrees;
     done = λ b below.
-        elim (eqb_tells b a) as (λ _. HasQ plant p new.slots.items b (flag q b)) [
-          | inl w ↦ subst (λ (k : ℕ). HasQ plant p new.slots.items k (flag q k)) (sym w.1) (has_now target at here)
+        elim (eqb_tells b a) as (λ _. HasQ plant p new b (flag q b)) [
+          | inl w ↦ subst (λ (k : ℕ). HasQ plant p new k (flag q k)) (sym w.1) (has_now target at here)
           | inr w ↦ still target at others b w.1 (flag q b) (h.done b (omega (arith, below, w.1)))
         ];
-    rest = λ on b ge.
-        subst (λ (q' : Bool). HasQ plant p new.slots.items b q')
-        (ap (λ (xs : List OutputMemo). flag (memo_at xs p.0).q b) (sym memos))
-        (still target at others b (λ e. absurd (omega (arith, e, ge))) (flag (memo_at old.memos.items p.0).q b)
-        (h.rest on b (omega (arith, ge))));
+    rest = λ on b ge. still target at others b (λ e. absurd (omega (arith, e, ge))) (flag given b) (h.rest on b (omega (arith, ge)));
   }
     where
       at_actions : (t : Target) → slice_get targets a ≡ Some t → slice_get (actions_of (chart_of plant p)) a ≡ Some t
       at_actions t e = ap (λ (ts : List Target). slice_get ts a) (sym is) ∙ e
 
       has_now : (t : Target) → slice_get targets a ≡ Some t
-          → ((v : Variable) (i : ℕ) → t ≡ Boolean v → number_of plant p v ≡ Some i → IsAssigned (slot_at new.slots.items i) (flag q a))
-          → HasQ plant p new.slots.items a (flag q a)
+          → ((v : Variable) (i : ℕ) → t ≡ Boolean v → number_of plant p v ≡ Some i → IsAssigned (slot_at new i) (flag q a))
+          → HasQ plant p new a (flag q a)
       has_now (Boolean v) e memo_here =
-          here_has plant p old.slots.items new.slots.items a v (at_actions (Boolean v) e) (flag q a) (λ i number. memo_here v i refl number)
+          here_has plant p old new a v (at_actions (Boolean v) e) (flag q a) (λ i number. memo_here v i refl number)
       has_now (Declared id) e memo_here = λ v i found number. absurd (let other = at_actions (Declared id) e in cc)
 
       still : (t : Target) → slice_get targets a ≡ Some t
-          → ((i : ℕ) → ((v : Variable) → t ≡ Boolean v → number_of plant p v ≢ Some i)
-          → Stays (slot_at old.slots.items i) (slot_at new.slots.items i))
-          → (b : ℕ) → b ≢ a → (x : Bool) → HasQ plant p old.slots.items b x → HasQ plant p new.slots.items b x
+          → ((i : ℕ) → ((v : Variable) → t ≡ Boolean v → number_of plant p v ≢ Some i) → Stays (slot_at old i) (slot_at new i))
+          → (b : ℕ) → b ≢ a → (x : Bool) → HasQ plant p old b x → HasQ plant p new b x
       still (Boolean v) e stay b ne x had =
-          others_have plant p old.slots.items new.slots.items a v (at_actions (Boolean v) e)
+          others_have plant p old new a v (at_actions (Boolean v) e)
           (λ i none. stay i (λ w same. subst (λ (u : Variable). number_of plant p u ≢ Some i) (same_action v w same) none)) b ne x had
       still (Declared id) e stay b ne x had = λ w i found number.
           let before = had w i found number in
@@ -215,24 +178,22 @@ module _ (plant : PlantData) (changes : Changes) (p : ProgId) (q : List Bool) (h
           record { stored = s.stored ∙ before.stored; output = s.output before.output }
 
   -- and that is noted
-  noted : (old new : Image) (a : ℕ) (x : Bool) → new.slots.items ≡ old.slots.items
-      → (holds ≡ true → length targets ≤ length (memo_at old.memos.items p.0).q)
-      → ((b : ℕ) → b < length (memo_at old.memos.items p.0).q
-      → flag (memo_at new.memos.items p.0).q b ≡ cond (b == a) x (flag (memo_at old.memos.items p.0).q b))
-      → ((t : Changes) → ImageAgrees plant old t → ImageAgrees plant new t)
-      → AssignedTo plant changes p q holds targets (a + 1) old → AssignedTo plant changes p q holds targets (a + 1) new
-  noted old new a x slots capacity flags goes_on h = record {
+  noted : (slots : List Slot) (before after : List Bool) (Old New : Changes → Type 0) (a : ℕ) (x : Bool)
+      → (holds ≡ true → length targets ≤ length before)
+      → ((b : ℕ) → b < length before → flag after b ≡ cond (b == a) x (flag before b))
+      → ((t : Changes) → Old t → New t)
+      → AssignedTo plant changes p q holds targets (a + 1) slots before Old → AssignedTo plant changes p q holds targets (a + 1) slots after New
+  noted slots before after Old New a x capacity flags goes_on h = record {
     agrees = goes_on (with_changes (outputs plant p q 0 (take (a + 1) targets)) changes) h.agrees;
-    done = λ b below. subst (λ (xs : List Slot). HasQ plant p xs b (flag q b)) (sym slots) (h.done b below);
+    done = h.done;
     rest = λ on b ge v i at number.
         let within : b < length targets =
         slice_get_within targets b (Boolean v) (ap (λ (ts : List Target). slice_get ts b) is ∙ at) in
         let fits = capacity on in
-        let same : flag (memo_at new.memos.items p.0).q b ≡ flag (memo_at old.memos.items p.0).q b =
+        let same : flag after b ≡ flag before b =
         flags b (omega (arith, within, fits))
-        ∙ ap (λ (c : Bool). cond c x (flag (memo_at old.memos.items p.0).q b)) (other_numbers' b a (λ e. absurd (omega (arith, e, ge)))) in
-        subst (λ (xs : List Slot). IsAssigned (slot_at xs i) (flag (memo_at new.memos.items p.0).q b)) (sym slots)
-        (subst (λ (y : Bool). IsAssigned (slot_at old.slots.items i) y) (sym same) (h.rest on b ge v i at number));
+        ∙ ap (λ (c : Bool). cond c x (flag before b)) (other_numbers' b a (λ e. absurd (omega (arith, e, ge)))) in
+        subst (λ (y : Bool). IsAssigned (slot_at slots i) y) (sym same) (h.rest on b ge v i at number);
   }
     where
       other_numbers' : (k i : ℕ) → k ≢ i → (k == i) ≡ false
@@ -240,78 +201,69 @@ module _ (plant : PlantData) (changes : Changes) (p : ProgId) (q : List Bool) (h
           elim (eqb_tells k i) as (λ _. (k == i) ≡ false) [ inl w ↦ absurd (ne w.1) | inr w ↦ w.0 ]
 
   -- both at once
-  pub given : (old between new : Image) (a : ℕ) (target : Target) (x : Bool) → x ≡ flag q a → slice_get targets a ≡ Some target
-      → between.memos.items ≡ old.memos.items
-      → ((t : Changes) → ImageAgrees plant old t → ImageAgrees plant between (with_changes (output plant p target x) t))
-      → ((t : Changes) (v : Variable) (i : ℕ) → ImageAgrees plant old t → target ≡ Boolean v → number_of plant p v ≡ Some i
-      → IsAssigned (slot_at between.slots.items i) x)
-      → ((t : Changes) (i : ℕ) → ImageAgrees plant old t → ((v : Variable) → target ≡ Boolean v → number_of plant p v ≢ Some i)
-      → Stays (slot_at old.slots.items i) (slot_at between.slots.items i))
-      → new.slots.items ≡ between.slots.items
-      → (holds ≡ true → length targets ≤ length (memo_at between.memos.items p.0).q)
-      → ((b : ℕ) → b < length (memo_at between.memos.items p.0).q
-      → flag (memo_at new.memos.items p.0).q b ≡ cond (b == a) x (flag (memo_at between.memos.items p.0).q b))
-      → ((t : Changes) → ImageAgrees plant between t → ImageAgrees plant new t)
-      → AssignedTo plant changes p q holds targets a old → AssignedTo plant changes p q holds targets (a + 1) new
-  given old between new a target x value at memos agrees here others slots capacity flags goes_on h =
+  pub given : (old new : List Slot) (before after : List Bool) (Old Between New : Changes → Type 0) (a : ℕ) (target : Target) (x : Bool)
+      → x ≡ flag q a → slice_get targets a ≡ Some target
+      → ((t : Changes) → Old t → Between (with_changes (output plant p target x) t))
+      → ((t : Changes) (v : Variable) (i : ℕ) → Old t → target ≡ Boolean v → number_of plant p v ≡ Some i → IsAssigned (slot_at new i) x)
+      → ((t : Changes) (i : ℕ) → Old t → ((v : Variable) → target ≡ Boolean v → number_of plant p v ≢ Some i)
+      → Stays (slot_at old i) (slot_at new i))
+      → (holds ≡ true → length targets ≤ length before)
+      → ((b : ℕ) → b < length before → flag after b ≡ cond (b == a) x (flag before b))
+      → ((t : Changes) → Between t → New t)
+      → AssignedTo plant changes p q holds targets a old before Old → AssignedTo plant changes p q holds targets (a + 1) new after New
+  given old new before after Old Between New a target x value at agrees here others capacity flags goes_on h =
       let log : Changes = with_changes (outputs plant p q 0 (take a targets)) changes in
-      noted between new a x slots capacity flags goes_on
-      (gave old between a target at memos
-      (subst (λ (b : Bool). ImageAgrees plant between (with_changes (output plant p target b) log)) value (agrees log h.agrees))
-      (λ v i same number. subst (λ (b : Bool). IsAssigned (slot_at between.slots.items i) b) value (here log v i h.agrees same number))
+      noted new before after Between New a x capacity flags goes_on
+      (gave old new before Old Between a target at
+      (subst (λ (b : Bool). Between (with_changes (output plant p target b) log)) value (agrees log h.agrees))
+      (λ v i same number. subst (λ (b : Bool). IsAssigned (slot_at new i) b) value (here log v i h.agrees same number))
       (λ i none. others log i h.agrees none) h)
 
   -- what was given holds, so the variable is an output already
-  pub given_again : (old between new : Image) (a : ℕ) (target : Target) (x : Bool) → holds ≡ true → x ≡ flag q a
-      → slice_get targets a ≡ Some target → between.memos.items ≡ old.memos.items
-      → ((t : Changes) → ImageAgrees plant old t → ImageAgrees plant between (with_changes (output plant p target x) t))
-      → ((t : Changes) (v : Variable) (i : ℕ) → ImageAgrees plant old t → target ≡ Boolean v → number_of plant p v ≡ Some i
-      → (slot_at old.slots.items i).is_output ≡ true → IsAssigned (slot_at between.slots.items i) x)
-      → ((t : Changes) (i : ℕ) → ImageAgrees plant old t → ((v : Variable) → target ≡ Boolean v → number_of plant p v ≢ Some i)
-      → Stays (slot_at old.slots.items i) (slot_at between.slots.items i))
-      → new.slots.items ≡ between.slots.items
-      → length targets ≤ length (memo_at between.memos.items p.0).q
-      → ((b : ℕ) → b < length (memo_at between.memos.items p.0).q
-      → flag (memo_at new.memos.items p.0).q b ≡ cond (b == a) x (flag (memo_at between.memos.items p.0).q b))
-      → ((t : Changes) → ImageAgrees plant between t → ImageAgrees plant new t)
-      → AssignedTo plant changes p q holds targets a old → AssignedTo plant changes p q holds targets (a + 1) new
-  given_again old between new a target x on value at memos agrees here others slots capacity flags goes_on h =
-      given old between new a target x value at memos agrees
-      (λ t v i state same number. here t v i state same number
+  pub given_again : (old new : List Slot) (before after : List Bool) (Old New : Changes → Type 0) (a : ℕ) (target : Target) (x : Bool)
+      → holds ≡ true → x ≡ flag q a → slice_get targets a ≡ Some target
+      → ((t : Changes) → Old t → New (with_changes (output plant p target x) t))
+      → ((v : Variable) (i : ℕ) → target ≡ Boolean v → number_of plant p v ≡ Some i → (slot_at old i).is_output ≡ true
+      → IsAssigned (slot_at new i) x)
+      → ((i : ℕ) → ((v : Variable) → target ≡ Boolean v → number_of plant p v ≢ Some i) → Stays (slot_at old i) (slot_at new i))
+      → length targets ≤ length before
+      → ((b : ℕ) → b < length before → flag after b ≡ cond (b == a) x (flag before b))
+      → AssignedTo plant changes p q holds targets a old before Old → AssignedTo plant changes p q holds targets (a + 1) new after New
+  given_again old new before after Old New a target x on value at agrees here others capacity flags h =
+      given old new before after Old New New a target x value at agrees
+      (λ t v i state same number. here v i same number
       (h.rest on a (omega arith) v i
       (ap (λ (ts : List Target). slice_get ts a) (sym is) ∙ at ∙ ap (λ (w : Target). Some w) same) number).output)
-      others slots (λ _. capacity) flags goes_on h
+      (λ t i state none. others i none) (λ _. capacity) flags (λ t k. k) h
 
   -- before the first, and after the last
-  pub none_assigned : (new : Image) → ImageAgrees plant new changes
-      → ((a : ℕ) → holds ≡ true → HasQ plant p new.slots.items a (flag (memo_at new.memos.items p.0).q a))
-      → AssignedTo plant changes p q holds targets 0 new
-  none_assigned new h all = record {
-    agrees = subst (λ (t : Changes). ImageAgrees plant new t) (sym (no_change changes)) h;
+  pub none_assigned : (slots : List Slot) (given : List Bool) (Agrees : Changes → Type 0) → Agrees changes
+      → ((a : ℕ) → holds ≡ true → HasQ plant p slots a (flag given a))
+      → AssignedTo plant changes p q holds targets 0 slots given Agrees
+  none_assigned slots given Agrees h all = record {
+    agrees = subst Agrees (sym (no_change changes)) h;
     done = λ a lt. absurd (omega (arith, lt));
     rest = λ on a le. all a on;
   }
 
-  pub all_assigned : (image : Image) (from : ℕ) → p.0 < length image.locals.items → is_open image ≡ true → from ≤ length targets
-      → ((j : ℕ) → from ≤ j → j < length targets → (holds ≡ true) × (flag (memo_at image.memos.items p.0).q j ≡ flag q j))
-      → AssignedTo plant changes p q holds targets from image
-      → ImageAgrees plant image (with_changes (outputs plant p q 0 targets) changes)
-  all_assigned image from lt opened fits same h =
-      subst (λ (xs : List Target). ImageAgrees plant image (with_changes (outputs plant p q 0 xs) changes))
+  pub all_assigned : (slots : List Slot) (given : List Bool) (Agrees : Changes → Type 0) (from : ℕ) → StoresAgain plant p slots Agrees
+      → from ≤ length targets → ((j : ℕ) → from ≤ j → j < length targets → (holds ≡ true) × (flag given j ≡ flag q j))
+      → AssignedTo plant changes p q holds targets from slots given Agrees → Agrees (with_changes (outputs plant p q 0 targets) changes)
+  all_assigned slots given Agrees from stays fits same h =
+      subst (λ (xs : List Target). Agrees (with_changes (outputs plant p q 0 xs) changes))
       (take_all (length targets) targets (omega arith))
-      (passed image from (length targets) lt opened fits (omega arith) same h).agrees
+      (passed slots given Agrees from (length targets) stays fits (omega arith) same h).agrees
 
   -- each variable has what was noted of it
-  pub all_noted : (image : Image) (from : ℕ) → length q ≡ length targets
-      → ((a : ℕ) → a < from → a < length (memo_at image.memos.items p.0).q → flag (memo_at image.memos.items p.0).q a ≡ flag q a)
-      → ((j : ℕ) → from ≤ j → j < length targets → (holds ≡ true) × (flag (memo_at image.memos.items p.0).q j ≡ flag q j))
-      → AssignedTo plant changes p q holds targets from image
-      → length (memo_at image.memos.items p.0).q ≡ length q
-      → (a : ℕ) → HasQ plant p image.slots.items a (flag (memo_at image.memos.items p.0).q a)
-  all_noted image from sized before same h long a v i at number =
-      elim (cases_lt a from) as (λ _. IsAssigned (slot_at image.slots.items i) (flag (memo_at image.memos.items p.0).q a)) [
+  pub all_noted : (slots : List Slot) (given : List Bool) (Agrees : Changes → Type 0) (from : ℕ) → length q ≡ length targets
+      → ((a : ℕ) → a < from → a < length given → flag given a ≡ flag q a)
+      → ((j : ℕ) → from ≤ j → j < length targets → (holds ≡ true) × (flag given j ≡ flag q j))
+      → AssignedTo plant changes p q holds targets from slots given Agrees → length given ≡ length q
+      → (a : ℕ) → HasQ plant p slots a (flag given a)
+  all_noted slots given Agrees from sized before same h long a v i at number =
+      elim (cases_lt a from) as (λ _. IsAssigned (slot_at slots i) (flag given a)) [
         | inl lt ↦
-            subst (λ (x : Bool). IsAssigned (slot_at image.slots.items i) x)
+            subst (λ (x : Bool). IsAssigned (slot_at slots i) x)
             (sym (before a lt (omega (arith, within a v at, long, sized)))) (h.done a lt v i at number)
         | inr ge ↦ h.rest (same a ge (within a v at)).0 a ge v i at number
       ]
@@ -320,21 +272,21 @@ module _ (plant : PlantData) (changes : Changes) (p : ProgId) (q : List Bool) (h
       within a v at = slice_get_within targets a (Boolean v) (ap (λ (ts : List Target). slice_get ts a) is ∙ at)
 
 -- one more is noted
-pub noted_one : (q : List Bool) (a from : ℕ) (first old new : OutputMemo) (x : Bool) → old ≡ first → x ≡ flag q a
-    → length new.q ≡ length old.q
-    → ((b : ℕ) → b < length old.q → flag new.q b ≡ cond (b == a) x (flag old.q b))
-    → ((b : ℕ) → b < from → b < length first.q → flag first.q b ≡ flag q b)
-    → ((j : ℕ) → from ≤ j → j < a → flag first.q j ≡ flag q j)
-    → (b : ℕ) → b < a + 1 → b < length new.q → flag new.q b ≡ flag q b
+pub noted_one : (q : List Bool) (a from : ℕ) (first old new : List Bool) (x : Bool) → old ≡ first → x ≡ flag q a
+    → length new ≡ length old
+    → ((b : ℕ) → b < length old → flag new b ≡ cond (b == a) x (flag old b))
+    → ((b : ℕ) → b < from → b < length first → flag first b ≡ flag q b)
+    → ((j : ℕ) → from ≤ j → j < a → flag first j ≡ flag q j)
+    → (b : ℕ) → b < a + 1 → b < length new → flag new b ≡ flag q b
 noted_one q a from first old new x is value long flags before between b lt fits =
-    let within : b < length old.q = omega (arith, fits, long) in
-    elim (eqb_tells b a) as (λ _. flag new.q b ≡ flag q b) [
+    let within : b < length old = omega (arith, fits, long) in
+    elim (eqb_tells b a) as (λ _. flag new b ≡ flag q b) [
       | inl w ↦
-          flags b within ∙ ap (λ (c : Bool). cond c x (flag old.q b)) w.0 ∙ value ∙ ap (λ (k : ℕ). flag q k) (sym w.1)
+          flags b within ∙ ap (λ (c : Bool). cond c x (flag old b)) w.0 ∙ value ∙ ap (λ (k : ℕ). flag q k) (sym w.1)
       | inr w ↦
-          flags b within ∙ ap (λ (c : Bool). cond c x (flag old.q b)) w.0 ∙ ap (λ (g : OutputMemo). flag g.q b) is
-          ∙ elim (cases_lt b from) as (λ _. flag first.q b ≡ flag q b) [
-            | inl below ↦ before b below (omega (arith, within, ap (λ (g : OutputMemo). length g.q) is))
+          flags b within ∙ ap (λ (c : Bool). cond c x (flag old b)) w.0 ∙ ap (λ (g : List Bool). flag g b) is
+          ∙ elim (cases_lt b from) as (λ _. flag first b ≡ flag q b) [
+            | inl below ↦ before b below (omega (arith, within, ap (λ (g : List Bool). length g) is))
             | inr ge ↦ between b ge (omega (arith, lt, w.1))
           ]
     ]

@@ -6,12 +6,13 @@ ghost use Rattle.sfc_image.specs.Private.Keeping.{AreTracked, AreWithin};
 use crate::building::{build, build_memos};
 use crate::closing::{begin_all, close_all};
 use crate::copying::{copy_locals, copy_slots};
+use crate::giving::Outputs;
 use crate::image_error::ImageError;
 use crate::output_memo::{OutputMemo, begin_generation, begin_generation_if};
 use crate::slot::{Locals, Slot, as_output, value_fault, with_force, with_value};
 use crate::step_readings::StepReadings;
 use crate::store::ImageStore;
-use crate::trying::{try_bool, try_store};
+use crate::trying::try_store;
 use crate::view::{ImageView, number_of};
 use sfc_base::ids::{ActionNumber, ProgId, VarId};
 use sfc_base::references::Variable;
@@ -268,29 +269,6 @@ impl Image {
         }
     }
 
-    // Gives the variable of an action its Q, if the action is one, where it is an output already and has another value.
-    fn give_again(&mut self, instance: ProgId, target: Target, q: bool)
-        requires instance { instance.0 < instance_total self.old }
-        requires open { is_open self.old ≡ true }
-        ensures large { IsAsLarge self.old self.new }
-        ensures open { is_open self.new ≡ true }
-        ensures memos { self.new.memos.items ≡ self.old.memos.items }
-        ensures agrees { (plant : PlantData) (changes : Changes) → ImageAgrees plant self.old changes →
-            ImageAgrees plant self.new (with_changes (output plant instance target q) changes) }
-        ensures here { (plant : PlantData) (changes : Changes) (v : Variable) (i : ℕ) → ImageAgrees plant self.old changes →
-            target ≡ Boolean v → number_of plant instance v ≡ Some i →
-            (slot_at self.old.slots.items i).is_output ≡ true → IsAssigned (slot_at self.new.slots.items i) q }
-        ensures others { (plant : PlantData) (changes : Changes) (i : ℕ) → ImageAgrees plant self.old changes →
-            ((v : Variable) → target ≡ Boolean v → number_of plant instance v ≢ Some i) →
-            Stays (slot_at self.old.slots.items i) (slot_at self.new.slots.items i) }
-    {
-        if let Target::Boolean(variable) = target {
-            if let Some(i) = self.place(instance, variable) {
-                self.put_output(i, q);
-            }
-        }
-    }
-
     // Whether what was last given to the outputs of the instance holds, where it has as many actions as this Q.
     fn holds_memo(&self, instance: ProgId, q: &Flags) -> bool
         requires { instance.0 < instance_total self.now }
@@ -314,24 +292,6 @@ impl Image {
         self.memos[instance.0 as usize].generation = 0;
     }
 
-    // Notes the Q that was given to the variable of an action.
-    fn note(&mut self, instance: ProgId, action: usize, q: bool)
-        requires instance { instance.0 < instance_total self.old }
-        requires action { action < length (memo_at self.old.memos.items instance.0).q }
-        requires taken { (memo_at self.old.memos.items instance.0).generation ≡ 0 }
-        ensures large { IsAsLarge self.old self.new }
-        ensures open { is_open self.new ≡ is_open self.old }
-        ensures slots { self.new.slots.items ≡ self.old.slots.items }
-        ensures generation { (memo_at self.new.memos.items instance.0).generation ≡ 0 }
-        ensures sized { length (memo_at self.new.memos.items instance.0).q ≡ length (memo_at self.old.memos.items instance.0).q }
-        ensures q { (a : ℕ) → a < length (memo_at self.old.memos.items instance.0).q →
-            flag (memo_at self.new.memos.items instance.0).q a
-            ≡ cond (a == action) q (flag (memo_at self.old.memos.items instance.0).q a) }
-        ensures agrees { (plant : PlantData) (changes : Changes) → ImageAgrees plant self.old changes → ImageAgrees plant self.new changes }
-    {
-        self.memos[instance.0 as usize].q.set(action, q);
-    }
-
     // Notes the Q that was given to the variable of an action, if there is room for it.
     fn note_if_room(&mut self, instance: ProgId, action: usize, q: bool)
         requires instance { instance.0 < instance_total self.old }
@@ -351,8 +311,7 @@ impl Image {
 
     // What was noted is what the outputs of the instance have now, if all actions had room.
     fn leave_memo(&mut self, instance: ProgId, q: &Flags)
-        requires instance { instance.0 < instance_total self.old }
-        requires taken { (memo_at self.old.memos.items instance.0).generation ≡ 0 }
+        requires { instance.0 < instance_total self.old }
         ensures large { IsAsLarge self.old self.new }
         ensures open { is_open self.new ≡ is_open self.old }
         ensures agrees { (plant : PlantData) (changes : Changes) → ImageAgrees plant self.old changes →
@@ -377,7 +336,8 @@ impl Image {
     ) -> Option<usize>
         requires instance { instance.0 < instance_total self.now }
         requires sized { length (memo_at self.now.memos.items instance.0).q ≡ length q.now }
-        ensures some { IfSome result (λ i. (from ≤ i) × (i < length q.now)) }
+        ensures some { IfSome result (λ i. (from ≤ i) × (i < length q.now)
+            × (flag (memo_at self.now.memos.items instance.0).q i ≢ flag q.now i)) }
         ensures before { IfSome result (λ i. (j : ℕ) → from ≤ j → j < i →
             flag (memo_at self.now.memos.items instance.0).q j ≡ flag q.now j) }
         ensures none { result ≡ None → (j : ℕ) → from ≤ j → flag (memo_at self.now.memos.items instance.0).q j ≡ flag q.now j }
@@ -408,6 +368,7 @@ impl Image {
             HasQ plant instance self.old.slots.items a (flag (memo_at self.old.memos.items instance.0).q a) }
         requires few { length q.now < 2 ^ 64 }
         requires first { first < length q.now }
+        requires differs { flag (memo_at self.old.memos.items instance.0).q first ≢ flag q.now first }
         requires before { (j : ℕ) → j < first → flag (memo_at self.old.memos.items instance.0).q j ≡ flag q.now j }
         ensures large { IsAsLarge self.old self.new }
         ensures open { is_open self.new ≡ true }
@@ -416,17 +377,21 @@ impl Image {
             ImageAgrees plant self.new (with_changes (outputs plant instance q.now 0 tables.now.actions) changes) }
         ensures ticks { Within (length q.now - (first + 1)) ticks.old ticks.new }
     {
-        self.drop_memo(instance);
-        let mut action = first;
-        'outputs: loop {
-            let is_set = q.get(action);
-            self.give_again(instance, tables.target(ActionNumber(action)), is_set);
-            self.note(instance, action, is_set);
-            match self.next_changed(instance, q, action + 1, ticks) {
-                Some(next) => action = next,
-                None => break 'outputs,
-            }
-        }
+        begin_generation(&mut self.generation);
+        let outputs = Outputs {
+            globals: self.locals[0].first,
+            locals: self.locals[instance.0 as usize],
+            tables,
+            q,
+            first,
+        };
+        self.count = outputs.give_differing(
+            &mut self.slots,
+            &mut self.written,
+            self.count,
+            &mut self.memos[instance.0 as usize],
+            ticks,
+        );
         self.leave_memo(instance, q);
     }
 
@@ -458,6 +423,7 @@ impl Image {
     /// Assigns its Q to each variable of the instance's program that is an action by itself (2.6.4.1), one after the
     /// other, in the transaction, which is open; the Q of each action stands by its number. It takes no memory. Where
     /// no output was changed since the instance's last call, only those are handled whose Q is another now.
+    #[inline(always)]
     pub fn assign_outputs(
         &mut self,
         instance: ProgId,
@@ -545,21 +511,6 @@ impl Image {
             begin_generation_if(&mut self.generation, self.slots[i].is_output);
             self.slots[i] = with_value(self.slots[i], value);
         }
-    }
-
-    // Stores the Q of an output, in the transaction, which is open.
-    fn put_output(&mut self, i: usize, q: bool)
-        requires place { i < variable_total self.old }
-        requires open { is_open self.old ≡ true }
-        ensures large { IsAsLarge self.old self.new }
-        ensures open { is_open self.new ≡ true }
-        ensures put { IsPut i (Bool q) self.old.slots.items self.new.slots.items }
-        ensures memos { self.new.memos.items ≡ self.old.memos.items }
-        ensures agrees { (plant : PlantData) (changes : Changes) → ImageAgrees plant self.old changes →
-            ImageAgrees plant self.new (with_change (Stored (record { 0 = i }) (Bool q)) changes) }
-    {
-        self.count = try_bool(&mut self.slots, &mut self.written, self.count, i, q);
-        begin_generation(&mut self.generation);
     }
 
     /// Gives the variable a value, in the transaction where one is open; a force hides it until its release.

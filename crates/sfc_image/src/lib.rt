@@ -4,6 +4,7 @@
 //! - `building`: the slots of a plant's variables.
 //! - `closing`: what was tried is committed, or given up.
 //! - `copying`: what one image takes over from another.
+//! - `giving`: what the outputs of an instance are given again.
 //! - `output_memo`: what an instance last gave the variables of its Boolean actions.
 //! - `image`: the variables of a plant.
 //! - `image_error`: why a call is refused.
@@ -18,6 +19,7 @@
 mod building;
 mod closing;
 mod copying;
+mod giving;
 pub mod image;
 pub mod image_error;
 pub mod laws;

@@ -1,10 +1,11 @@
 //! What an instance last gave its outputs: the variables of its Boolean actions (2.6.4.1).
 
-ghost use Rattle.std.specs.Prelude.{◌≡◌, ◌<◌, ◌==◌, ℕ, cond, length, IfOk};
+ghost use Rattle.std.specs.Prelude.{◌≡◌, ◌<◌, ◌==◌, ℕ, cond, not, length, IfOk};
 ghost use Rattle.sfc_flags.specs.Flags.{flag};
 ghost use Rattle.sfc_image.specs.Private.OutputMemos.{IsLater, IsGenerationAfter};
 
 use sfc_flags::flags::Flags;
+use sfc_flags::word::Word;
 
 /// The Q that was last given to the variable of each action, by the action's number, and the generation of the image in
 /// which that was; 0 where nothing is known to hold.
@@ -24,6 +25,20 @@ impl OutputMemo {
         if action < self.q.count() {
             self.q.set(action, q);
         }
+    }
+
+    /// Notes that the Q of an action is another now.
+    pub fn turn(&mut self, action: usize)
+        requires { action < length self.old.q }
+        ensures generation { self.new.generation ≡ self.old.generation }
+        ensures len { length self.new.q ≡ length self.old.q }
+        ensures q { (a : ℕ) → flag self.new.q a ≡ cond (a == action) (not (flag self.old.q a)) (flag self.old.q a) }
+    {
+        let number = action / 64;
+        let here = Word::none().plus(action);
+        let word = self.q.word(number);
+        self.q
+            .put_word(number, word.without(here).or(here.without(word)));
     }
 }
 

@@ -1,17 +1,19 @@
 -- What was last given to the outputs of an instance, and how long that holds.
-use Rattle.std.specs.Prelude.{ℕ, ◌≡◌, ◌<◌, ◌≤◌, Bool, true, false, List, [], length, Some, slice_get, slice_index_or}
+use Rattle.std.specs.Prelude.{ℕ, ◌≡◌, ◌<◌, ◌≤◌, Bool, true, false, List, [], length, Option, Some, None, slice_get, slice_set, slice_index_or}
 use Rattle.sfc_base.specs.declared.value.Value.TheVariants as value
 use Rattle.sfc_base.specs.declared.references.Variable.{Variable}
 use Rattle.sfc_flags.specs.Flags.{flag}
-use Rattle.sfc_plant.specs.declared.association.Target.TheVariants.{Boolean}
+use Rattle.sfc_plant.specs.declared.association.Target.{Target}
+use Rattle.sfc_plant.specs.declared.association.Target.TheVariants.{Boolean, Declared}
 use Rattle.sfc_tables.specs.Actions.{actions_of}
 use Rattle.sfc_base.specs.declared.ids.ProgId.{ProgId}
 use Rattle.sfc_plant.specs.Plants.{PlantData}
 use Rattle.sfc_plant.specs.Finding.{chart_of}
-use Rattle.sfc_image.specs.Environments.{number_of}
+use Rattle.sfc_image.specs.Environments.{number_among, number_of}
 use Rattle.sfc_image.specs.declared.slot.Slot.{Slot}
+use Rattle.sfc_image.specs.declared.slot.Locals.{Locals}
 use Rattle.sfc_image.specs.declared.output_memo.OutputMemo.{OutputMemo}
-use Rattle.sfc_image.specs.Private.Keeping.{slot_at}
+use Rattle.sfc_image.specs.Private.Keeping.{slot_at, tried}
 
 abbrev pub memo_at : List OutputMemo → ℕ → OutputMemo
 memo_at memos k = slice_index_or memos k (record { q = []; generation = 0 })
@@ -52,3 +54,13 @@ pub record MemosHold (plant : PlantData) (slots : List Slot) (memos : List Outpu
 pub record Stays (old new : Slot) : Type 0 where
   pub stored : new.stored ≡ old.stored
   pub output : old.is_output ≡ true → new.is_output ≡ true
+
+-- the number of the variable of an action, if the action is one, among so many globals and these locals
+abbrev pub number_in : ℕ → Locals → Target → Option ℕ
+number_in globals locals (Boolean v) = number_among globals locals.first locals.count v
+number_in globals locals (Declared id) = None
+
+-- an action's Q is stored in the variable of this number, in a transaction
+abbrev pub with_output : Option ℕ → Bool → List Slot → List Slot
+with_output None q slots = slots
+with_output (Some i) q slots = slice_set slots i (tried (value.Bool q) (slot_at slots i))

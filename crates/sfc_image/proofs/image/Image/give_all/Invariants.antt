@@ -19,7 +19,8 @@ invariant-outputs l = record {
   noted : (a : ℕ) → a < l.action → a < length (memo_at l.self.memos.items l.instance.0).q
       → flag (memo_at l.self.memos.items l.instance.0).q a ≡ flag l.q a;
   handled : (plant : PlantData) (changes : Changes) → l.tables ≡ tables_of (chart_of plant l.instance) → ImageAgrees plant l.fn.self changes
-      → AssignedTo plant changes l.instance l.q false l.tables.actions l.action l.self;
+      → AssignedTo plant changes l.instance l.q false l.tables.actions l.action l.self.slots.items
+      (memo_at l.self.memos.items l.instance.0).q (λ t. ImageAgrees plant l.self t);
   ticks : Within l.action l.fn.ticks l.ticks;
 }
 

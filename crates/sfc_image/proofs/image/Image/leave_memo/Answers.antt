@@ -11,7 +11,7 @@ unfolding ImageAgrees
 returns-then-count-clause-agrees c plant changes h all =
     let image = c.args.self.now in
     let p = c.args.instance in
-    let lt : p.0 < length image.memos.items = omega (arith, c.requires.instance, image.sized) in
+    let lt : p.0 < length image.memos.items = omega (arith, c.requires, image.sized) in
     let read = memo_read image.memos.items p.0 c.index_mut-memo.result.now lt c.index_mut-memo.ensures.value in
     let long = ap (λ (g : OutputMemo). length g.q) (sym read) ∙ sym c.count.ensures ∙ c.if-count.true ∙ c.count-then-generation-lt18446744073709551615.ensures in
     let made : OutputMemo = record { q = c.index_mut-memo.result.now.q; generation = image.generation } in
