@@ -1,3 +1,5 @@
+-- states that differ by what a scan may have changed
+pub mod Apart
 -- conditions of all transitions
 pub mod Evaluated
 -- those that may be enabled

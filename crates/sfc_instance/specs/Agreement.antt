@@ -1,8 +1,10 @@
 -- What a `Program` agrees with.
-use Rattle.std.specs.Prelude.{ℕ, ℤ, ◌≡◌, true, [], length}
+use Rattle.std.specs.Prelude.{ℕ, ℤ, ◌≡◌, false, [], length, replicate}
 use Rattle.sfc_tables.specs.Tables.{Tabled}
 use Rattle.sfc_evolve.specs.Agreement as evolve
 use Rattle.sfc_action.specs.Agreement as action
+use Rattle.sfc_instance.specs.declared.moved.Moved.{Moved}
+use Rattle.sfc_instance.specs.declared.moved.Moved.TheVariants.{Nothing, Controls, Steps}
 use Rattle.sfc_instance.specs.declared.state.State.{State}
 use Rattle.sfc_instance.specs.declared.scan_buffers.ScanBuffers.{ScanBuffers}
 use Rattle.sfc_instance.specs.declared.scan_run.ScanRun.{ScanRun}
@@ -29,6 +31,12 @@ pub record IsNear (a b : State) : Type 0 where
   pub steps : evolve.IsLike a.steps b.steps
   pub controls : action.IsAlike a.controls b.controls
 
+-- they keep the same but for what such a scan may have changed
+abbrev pub AreApart : Moved → State → State → Type 0
+AreApart Nothing a b = IsNear a b
+AreApart Controls a b = evolve.IsLike a.steps b.steps
+AreApart Steps a b = Unit {0}
+
 -- how many steps, transitions and actions it shows
 abbrev pub step_total : Program → ℕ
 step_total program = evolve.step_total program.run.now.steps
@@ -50,13 +58,14 @@ elapsed_at program t s = evolve.shown_time program.run.now.steps t s
 -- it is large enough for what these tables show, and the times that no scan has to read
 pub record AreBuffersFor (tables : Tabled) (buffers : ScanBuffers) : Type 0 where
   pub conditions : length buffers.conditions.items ≡ length tables.sides
+  pub none_holds : buffers.some_hold ≡ false → buffers.conditions.items ≡ replicate (length tables.sides) false
   pub times : AreTimes tables.associations buffers.times.items buffers.varied.items
 
 pub record IsScanRunFor (tables : Tabled) (run : ScanRun) : Type 0 where
   pub now : IsStateFor tables run.now
   pub spare : IsStateFor tables run.spare
   pub buffers : AreBuffersFor tables run.buffers
-  pub near : run.near ≡ true → IsNear run.spare run.now
+  pub apart : AreApart run.moved run.spare run.now
 
 pub record HasBuffers (tables : Tabled) (program : Program) : Type 0 where
   pub run : IsScanRunFor tables program.run

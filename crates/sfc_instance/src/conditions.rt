@@ -1,6 +1,6 @@
 //! The conditions of transitions (2.6.3).
 
-ghost use Rattle.std.specs.Prelude.{◌≡◌, ◌<◌, false, length, replicate, slice_get, OnOk};
+ghost use Rattle.std.specs.Prelude.{◌≡◌, ◌<◌, false, length, replicate, slice_get, IfOk, OnOk};
 ghost use Rattle.std.specs.Result.{result_err};
 ghost use Rattle.sfc_expr.specs.Meaning.{truth_of};
 ghost use Rattle.sfc_expr.specs.Nodes.{nodes};
@@ -57,40 +57,48 @@ fn evaluate<V: View>(
     condition_holds(context, view, transition, ticks)
 }
 
-// No flag is set.
-fn clear(flags: &mut [bool])
+/// No flag is set, where some may have been.
+pub fn blank(flags: &mut [bool], some_set: bool)
+    requires { some_set ≡ false → flags.old ≡ replicate (length flags.old) false }
     ensures { flags.new ≡ replicate (length flags.old) false }
 {
-    flags.fill(false);
+    if some_set {
+        flags.fill(false);
+    }
 }
 
-/// The conditions of all enabled transitions, by number, and FALSE for the others; or the first fault in rank order.
+/// The conditions of all enabled transitions, by number, and FALSE for the others, as all are before; or the first fault in rank order.
+/// Answers whether one of them may be TRUE.
 pub fn evaluate_all<V: View>(
     context: ProgramContext<'_>,
     steps: &Steps,
     view: &V,
     conditions: &mut [bool],
     ticks: &mut Ticks,
-) -> Result<(), Fault>
+) -> Result<bool, Fault>
     requires tables { context.tables.now ≡ tables_of context.chart.now }
     requires sizes { IsFor context.tables.now steps.now }
     requires len { length conditions.old ≡ length context.tables.now.sides }
+    requires blank { conditions.old ≡ replicate (length conditions.old) false }
     ensures len { length conditions.new ≡ length conditions.old }
     ensures fault { (life : Life) → StepsAgree context.entry.tables.now steps.now (evolution_scans life) →
         result_err result
         ≡ condition_fault context.entry.tables.now context.entry.chart.now (V.environment view.now) life context.entry.tables.now.ranked }
     ensures flags { OnOk result ((life : Life) → StepsAgree context.entry.tables.now steps.now (evolution_scans life) →
         conditions.new ≡ condition_flags context.entry.tables.now context.entry.chart.now (V.environment view.now) life) }
+    ensures none { IfOk result (λ some_hold. some_hold ≡ false → conditions.new ≡ replicate (length conditions.old) false) }
     ensures ticks { Within (condition_work context.entry.tables.now context.entry.chart.now context.entry.tables.now.ranked) ticks.old ticks.new }
 {
-    clear(conditions);
     let ranked = context.tables.ranked();
     let candidates = steps.candidates();
+    let mut some_hold = false;
     let mut at = 0;
     'candidates: while let Some(j) = candidates.next_set(at, ticks) {
         let transition = ranked[j];
-        conditions[transition.0 as usize] = evaluate(context, steps, view, transition, ticks)?;
+        let holds = evaluate(context, steps, view, transition, ticks)?;
+        conditions[transition.0 as usize] = holds;
+        some_hold |= holds;
         at = j + 1;
     }
-    Ok(())
+    Ok(some_hold)
 }

@@ -5,6 +5,7 @@
 //! - `conditions`: the conditions of transitions.
 //! - `scan_end`: how a scan ended.
 //! - `laws`: what the definitions mean.
+//! - `moved`: what a scan may have changed.
 //! - `program`: a program instance, in running form; `program_view`: a window on one;
 //!   `program_moment`: what its conditions read at an instant.
 //! - `reading`: the times of associations.
@@ -18,6 +19,7 @@
 mod acting;
 mod conditions;
 pub mod laws;
+pub mod moved;
 pub mod program;
 pub mod program_context;
 pub mod program_moment;

@@ -2,6 +2,7 @@
 
 ghost use Rattle.std.specs.Prelude.{◌≤ℤ◌, ◌^◌, pos};
 
+use crate::moved::Moved;
 use crate::program_context::ProgramContext;
 use crate::scan_end::ScanEnd;
 use crate::scan_fault::ScanFault;
@@ -129,7 +130,7 @@ impl Program {
         ensures ticks { Within (copy_work tables.now) ticks.old ticks.new }
     {
         self.run.now.copy_from(tables, &self.fresh, ticks);
-        self.run.near = false;
+        self.run.moved = Moved::Steps;
         self.scans = 0;
         self.at = 0;
         self.fault = None;
@@ -145,7 +146,7 @@ impl Program {
     {
         let mut ticks = Ticks::new();
         self.run.now.copy_from(tables, &other.run.now, &mut ticks);
-        self.run.near = false;
+        self.run.moved = Moved::Steps;
         self.fresh.copy_from(tables, &other.fresh, &mut ticks);
         self.scans = other.scans;
         self.at = other.at;

@@ -1,10 +1,11 @@
 //! The buffers of a scan of a program instance.
 
-/// Of each transition the condition and of each association the time, by number; and the numbers of the associations whose
-/// time a scan reads.
+/// Of each transition the condition, by number, and whether one of them may be TRUE; of each association the time, by number; and the
+/// numbers of the associations whose time a scan reads.
 #[derive(Drop)]
 pub struct ScanBuffers {
     pub conditions: Vec<bool>,
+    pub some_hold: bool,
     pub times: Vec<i64>,
     pub varied: Vec<usize>,
 }
@@ -23,7 +24,7 @@ ghost use Rattle.sfc_instance.specs.ProgramScan.{environment, condition_fault, n
 ghost use Rattle.sfc_instance.specs.Work.{condition_work};
 ghost use Rattle.sfc_instance.specs.Agreement.{IsStateFor, AreBuffersFor, StateAgrees};
 
-use crate::conditions::evaluate_all;
+use crate::conditions::{blank, evaluate_all};
 use crate::program_context::ProgramContext;
 use crate::reading::{list_varied, read_association_times};
 use crate::state::State;
@@ -43,6 +44,7 @@ impl ScanBuffers {
         let varied = list_varied(alloc, tables.step_actions(), &mut times)?;
         Ok(ScanBuffers {
             conditions: vec![in alloc; false; tables.transitions()]?,
+            some_hold: false,
             times,
             varied,
         })
@@ -82,16 +84,21 @@ impl ScanBuffers {
             times: state.steps.times(),
         };
         let view = image.view(context.instance, readings, false);
-        let answer = evaluate_all(context, &state.steps, &view, &mut self.conditions, ticks);
-        if answer.is_ok() {
-            read_association_times(
-                &mut self.times,
-                &self.varied,
-                context.tables.step_actions(),
-                &view,
-                ticks,
-            );
+        blank(&mut self.conditions, self.some_hold);
+        self.some_hold = true;
+        match evaluate_all(context, &state.steps, &view, &mut self.conditions, ticks) {
+            Err(fault) => Err(fault),
+            Ok(some_hold) => {
+                self.some_hold = some_hold;
+                read_association_times(
+                    &mut self.times,
+                    &self.varied,
+                    context.tables.step_actions(),
+                    &view,
+                    ticks,
+                );
+                Ok(())
+            }
         }
-        answer
     }
 }

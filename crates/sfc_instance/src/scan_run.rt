@@ -1,16 +1,17 @@
 //! A scan of a program instance: what it works on.
 
 use crate::acting::act_or_undo;
+use crate::moved::Moved;
 use crate::scan_buffers::ScanBuffers;
 use crate::state::State;
 
-/// The steps and the action control after the latest scan, and what they were before it, which a fault brings back; and whether the two
-/// keep the same but for what that scan cleared, activated and executed.
+/// The steps and the action control after the latest scan, and what they were before it, which a fault brings back; and what that scan
+/// may have changed.
 pub struct ScanRun {
     pub now: State,
     pub spare: State,
     pub buffers: ScanBuffers,
-    pub near: bool,
+    pub moved: Moved,
 }
 
 // By hand, so that a caller that drops one proves one call.
@@ -20,7 +21,7 @@ impl Drop for ScanRun {
             now: _,
             spare: _,
             buffers: _,
-            near: _,
+            moved: _,
         } = self;
     }
 }
@@ -58,25 +59,24 @@ impl ScanRun {
             now: State::new(alloc, tables)?,
             spare: State::new(alloc, tables)?,
             buffers: ScanBuffers::new(alloc, tables)?,
-            near: false,
+            moved: Moved::Steps,
         })
     }
 
     // What the actions do after the scan of the steps and action control, or the fault of a body; then these are again what the spare
-    // ones are. Where no step moved the times of the steps are worked out already.
+    // ones are. The times of the steps are worked out already.
     fn finish(
         &mut self,
         context: ProgramContext<'_>,
         image: &mut Image,
         t: i64,
-        moved: bool,
         ticks: &mut Ticks,
     ) -> Result<(), Fault>
         requires tables { context.tables.now ≡ tables_of context.chart.now }
         requires sizes { IsScanRunFor context.tables.now self.old }
         requires instance { context.instance.0 < instance_total image.old }
         requires closed { is_open image.old ≡ false }
-        requires measured { moved ≡ false → AreMeasured t self.old.now.steps }
+        requires measured { AreMeasured t self.old.now.steps }
         requires low { pos 0 ≤ℤ t }
         requires high { t ≤ℤ pos (2 ^ 62) }
         ensures sizes { IsScanRunFor context.entry.tables.now self.new }
@@ -88,15 +88,13 @@ impl ScanRun {
             StateAgrees context.entry.tables.now self.old.now life → ImageAgrees plant image.old (settled changes) →
             HasActed plant changes image.new result
             (after_actions plant context.entry.instance life t 0 context.entry.tables.now.actions changes) }
-        ensures ticks { Within (length context.entry.tables.now.initial
-            + actions_work context.entry.chart.now context.entry.tables.now.actions
+        ensures ticks { Within (actions_work context.entry.chart.now context.entry.tables.now.actions
             + variable_total image.old) ticks.old ticks.new }
     {
-        self.now.measure_moved(moved, context.tables, t, ticks);
         let answer = act_or_undo(context, &self.now, image, ticks);
         if answer.is_err() {
             std::mem::swap(&mut self.now, &mut self.spare);
-            self.near = false;
+            self.moved = Moved::Steps;
         }
         answer
     }
@@ -127,22 +125,16 @@ impl ScanRun {
         ensures ticks { Within (go_work context.entry.tables.now context.entry.chart.now (variable_total image.old)) ticks.old ticks.new }
     {
         self.spare
-            .follow(self.near, context.tables, &self.now, ticks);
-        match self.now.advance(
-            context.tables,
-            &self.buffers.conditions,
-            &self.buffers.times,
-            t,
-            ticks,
-        ) {
+            .follow(self.moved, context.tables, &self.now, ticks);
+        match self.now.advance(context.tables, &self.buffers, t, ticks) {
             Err(fault) => {
                 std::mem::swap(&mut self.now, &mut self.spare);
-                self.near = false;
+                self.moved = Moved::Steps;
                 Err(ScanFault::Control(fault))
             }
             Ok(moved) => {
-                self.near = !moved;
-                match self.finish(context, image, t, moved, ticks) {
+                self.moved = moved;
+                match self.finish(context, image, t, ticks) {
                     Err(fault) => Err(ScanFault::Expression(fault)),
                     Ok(()) => Ok(()),
                 }

@@ -23,17 +23,26 @@ ghost use Rattle.std.specs.Prelude.{◌≡◌, ◌≤ℤ◌, ◌^◌, ◌+◌, �
 ghost use Rattle.std.specs.Result.{result_err};
 ghost use Rattle.sfc_base.specs.Ticks.{Within};
 ghost use Rattle.sfc_tables.specs.Tables.{Tabled};
+ghost use Rattle.sfc_evolve.specs.declared.steps.Steps.{Steps};
+ghost use Rattle.sfc_evolve.specs.Lookback.{is_empty};
+ghost use Rattle.sfc_evolve.specs.Evolution as evolution;
+ghost use Rattle.sfc_evolve.specs.Evolution.{active_steps, rows_of};
+ghost use Rattle.sfc_evolve.specs.Agreement as evolve;
 ghost use Rattle.sfc_evolve.specs.Agreement.{AreMeasured};
 ghost use Rattle.sfc_evolve.specs.Work.{advance_work};
 ghost use Rattle.sfc_action.specs.ActionControl.{Scan, first_fault};
 ghost use Rattle.sfc_action.specs.declared.control_state.ControlState.{ControlState};
 ghost use Rattle.sfc_action.specs.Agreement.{IsFor, ControlsAgree, IsAlike, action_total};
 ghost use Rattle.sfc_action.specs.Work.{control_work};
-ghost use Rattle.sfc_instance.specs.Life.{Life, Row, control_scans};
+ghost use Rattle.sfc_instance.specs.Life.{Life, control_scans};
+ghost use Rattle.sfc_instance.specs.Private.Scanning.{row_in};
 ghost use Rattle.sfc_instance.specs.Work.{copy_work};
 ghost use Rattle.sfc_instance.specs.declared.state.State.{State};
-ghost use Rattle.sfc_instance.specs.Agreement.{IsStateFor, StateAgrees, IsNear};
+ghost use Rattle.sfc_instance.specs.declared.moved.Moved.{Moved};
+ghost use Rattle.sfc_instance.specs.Agreement.{AreBuffersFor, IsStateFor, StateAgrees, IsNear, AreApart};
 
+use crate::moved::Moved;
+use crate::scan_buffers::ScanBuffers;
 use sfc_action::fault::ControlFault;
 use sfc_base::ticks::Ticks;
 use sfc_tables::tables::Tables;
@@ -56,6 +65,61 @@ fn repeat(controls: &mut Controls, moved: bool, ticks: &mut Ticks) -> bool
         return false;
     }
     controls.repeat(ticks)
+}
+
+// The short way of a scan of the steps, where no condition is TRUE: answers whether it is done.
+fn stay(steps: &mut Steps, tables: &Tables, buffers: &ScanBuffers, ticks: &mut Ticks) -> bool
+    requires sizes { evolve.IsFor tables.now steps.old }
+    requires buffers { AreBuffersFor tables.now buffers.now }
+    ensures done { result ≡ true → evolution.AreFalse buffers.now.conditions.items }
+    ensures sizes { evolve.IsFor tables.now steps.new }
+    ensures agrees { result ≡ true → (scan : evolution.Scan) (scans : List evolution.Scan) → evolution.AreFalse scan.conditions →
+        evolve.StepsAgree tables.now steps.old scans → evolve.StepsAgree tables.now steps.new (scan ∷ scans) }
+    ensures begun { result ≡ true → (scans : List evolution.Scan) → evolve.StepsAgree tables.now steps.old scans →
+        is_empty scans ≡ false }
+    ensures same_steps { result ≡ true → (scan : evolution.Scan) (scans : List evolution.Scan) → evolution.AreFalse scan.conditions →
+        evolve.StepsAgree tables.now steps.old scans →
+        active_steps tables.now (rows_of tables.now (scan ∷ scans)) ≡ active_steps tables.now (rows_of tables.now scans) }
+    ensures unchanged { result ≡ false → steps.new ≡ steps.old }
+    ensures measured { (now : ℤ) → AreMeasured now steps.old → AreMeasured now steps.new }
+    ensures like { (other : Steps) → evolve.IsLike other steps.old → evolve.IsLike other steps.new }
+    ensures ticks { Within (advance_work tables.now) ticks.old ticks.new }
+    ensures ticks_of_no { result ≡ false → Within 0 ticks.old ticks.new }
+{
+    if buffers.some_hold {
+        return false;
+    }
+    steps.stay(tables, ticks)
+}
+
+// One scan of the steps, the short way where no condition is TRUE and that is enough. Answers whether steps may have moved.
+fn go_on(
+    steps: &mut Steps,
+    tables: &Tables,
+    buffers: &ScanBuffers,
+    t: i64,
+    ticks: &mut Ticks,
+) -> bool
+    requires sizes { evolve.IsFor tables.now steps.old }
+    requires buffers { AreBuffersFor tables.now buffers.now }
+    requires low { pos 0 ≤ℤ t }
+    requires high { t ≤ℤ pos (2 ^ 62) }
+    ensures sizes { evolve.IsFor tables.now steps.new }
+    ensures agrees { (scans : List evolution.Scan) → evolve.StepsAgree tables.now steps.old scans →
+        evolve.StepsAgree tables.now steps.new (record { conditions = buffers.now.conditions.items; at = t } ∷ scans) }
+    ensures begun { result ≡ false → (scans : List evolution.Scan) → evolve.StepsAgree tables.now steps.old scans →
+        is_empty scans ≡ false }
+    ensures same_steps { result ≡ false → (scans : List evolution.Scan) → evolve.StepsAgree tables.now steps.old scans →
+        active_steps tables.now (rows_of tables.now (record { conditions = buffers.now.conditions.items; at = t } ∷ scans))
+        ≡ active_steps tables.now (rows_of tables.now scans) }
+    ensures measured { AreMeasured t steps.old → AreMeasured t steps.new }
+    ensures like { result ≡ false → (other : Steps) → evolve.IsLike other steps.old → evolve.IsLike other steps.new }
+    ensures ticks { Within (advance_work tables.now) ticks.old ticks.new }
+{
+    if stay(steps, tables, buffers, ticks) {
+        return false;
+    }
+    steps.advance(tables, &buffers.conditions, t, ticks)
 }
 
 #[tactic(auto, unfolding(crate::specs::Agreement::StateAgrees))]
@@ -84,21 +148,26 @@ impl State {
         self.controls.copy_from(tables, &other.controls, ticks);
     }
 
-    /// The same, where `near` tells that the two keep the same but for what the latest scan cleared, activated and executed.
-    pub fn follow(&mut self, near: bool, tables: &Tables, other: &State, ticks: &mut Ticks)
+    /// The same, where the two keep the same but for what a scan of this kind changes.
+    pub fn follow(&mut self, moved: Moved, tables: &Tables, other: &State, ticks: &mut Ticks)
         requires own { IsStateFor tables.now self.old }
         requires others { IsStateFor tables.now other.now }
-        requires near { near ≡ true → IsNear self.old other.now }
+        requires apart { AreApart moved self.old other.now }
         ensures sizes { IsStateFor tables.now self.new }
         ensures agrees { (life : Life) → StateAgrees tables.now other.now life → StateAgrees tables.now self.new life }
         ensures near { IsNear self.new other.now }
         ensures ticks { Within (copy_work tables.now) ticks.old ticks.new }
     {
-        if near {
-            self.steps.follow(&other.steps, ticks);
-            self.controls.follow(&other.controls, ticks);
-        } else {
-            self.copy_from(tables, other, ticks);
+        match moved {
+            Moved::Nothing => {
+                self.steps.follow(&other.steps, ticks);
+                self.controls.follow(&other.controls, ticks);
+            }
+            Moved::Controls => {
+                self.steps.follow(&other.steps, ticks);
+                self.controls.copy_from(tables, &other.controls, ticks);
+            }
+            Moved::Steps => self.copy_from(tables, other, ticks),
         }
     }
 
@@ -110,62 +179,43 @@ impl State {
         ensures sizes { IsStateFor tables.now self.new }
         ensures agrees { (life : Life) → StateAgrees tables.now self.old life → StateAgrees tables.now self.new life }
         ensures measured { AreMeasured t self.new.steps }
-        ensures near { (other : State) → IsNear other self.old → IsNear other self.new }
+        ensures apart { (kind : Moved) (other : State) → AreApart kind other self.old → AreApart kind other self.new }
         ensures ticks { Within (length tables.now.initial) ticks.old ticks.new }
     {
         self.steps.measure(t, ticks);
     }
 
-    /// The same where steps may have moved since that was done at t; else their times stay.
-    pub fn measure_moved(&mut self, moved: bool, tables: &Tables, t: i64, ticks: &mut Ticks)
-        requires sizes { IsStateFor tables.now self.old }
-        requires measured { moved ≡ false → AreMeasured t self.old.steps }
-        requires low { pos 0 ≤ℤ t }
-        requires high { t ≤ℤ pos (2 ^ 62) }
-        ensures sizes { IsStateFor tables.now self.new }
-        ensures agrees { (life : Life) → StateAgrees tables.now self.old life → StateAgrees tables.now self.new life }
-        ensures measured { AreMeasured t self.new.steps }
-        ensures near { (other : State) → IsNear other self.old → IsNear other self.new }
-        ensures ticks { Within (length tables.now.initial) ticks.old ticks.new }
-    {
-        if moved {
-            self.measure(tables, t, ticks);
-        }
-    }
-
     /// One scan at t, in microseconds from 0 to 2^62, with the condition of each transition and the time of each
-    /// association in microseconds (2.6.5). It takes no memory. Answers whether more may have changed than what a scan cleared, activated
-    /// and executed: where it answers no, times of steps that were worked out before are still so. The error is the fault of action
-    /// control; then the steps have gone on and the control has not.
+    /// association in microseconds, which the buffers have (2.6.5). It takes no memory. Times of steps that were worked out at t are still so.
+    /// Answers what may have changed. The error is the fault of action control; then the steps have gone on and the control has not.
     pub fn advance(
         &mut self,
         tables: &Tables,
-        conditions: &[bool],
-        times: &[i64],
+        buffers: &ScanBuffers,
         t: i64,
         ticks: &mut Ticks,
-    ) -> Result<bool, ControlFault>
+    ) -> Result<Moved, ControlFault>
         requires sizes { IsStateFor tables.now self.old }
-        requires conditions { length conditions.now ≡ length tables.now.sides }
-        requires times { length times.now ≡ length tables.now.associations }
+        requires buffers { AreBuffersFor tables.now buffers.now }
         requires low { pos 0 ≤ℤ t }
         requires high { t ≤ℤ pos (2 ^ 62) }
         ensures sizes { IsStateFor tables.now self.new }
         ensures fault { (life : Life) → StateAgrees tables.now self.old life → result_err result ≡
-            first_fault tables.now (control_scans tables.now (record { conditions = conditions.now; times = times.now; at = t } ∷ life)) }
+            first_fault tables.now (control_scans tables.now (row_in buffers.now t ∷ life)) }
         ensures agrees { OnOk result ((life : Life) → StateAgrees tables.now self.old life →
-            StateAgrees tables.now self.new (record { conditions = conditions.now; times = times.now; at = t } ∷ life)) }
-        ensures measured { IfOk result (λ moved. moved ≡ false → (now : ℤ) → AreMeasured now self.old.steps → AreMeasured now self.new.steps) }
-        ensures near { IfOk result (λ moved. moved ≡ false → (other : State) → IsNear other self.old → IsNear other self.new) }
+            StateAgrees tables.now self.new (row_in buffers.now t ∷ life)) }
+        ensures measured { AreMeasured t self.old.steps → AreMeasured t self.new.steps }
+        ensures apart { IfOk result (λ moved. (other : State) → IsNear other self.old → AreApart moved other self.new) }
         ensures ticks { Within (advance_work tables.now + control_work tables.now) ticks.old ticks.new }
     {
-        let moved = self.steps.advance(tables, conditions, t, ticks);
+        let moved = go_on(&mut self.steps, tables, buffers, t, ticks);
         if repeat(&mut self.controls, moved, ticks) {
-            return Ok(false);
+            return Ok(Moved::Nothing);
         }
-        match self.controls.step(tables, &self.steps, t, times, ticks) {
+        match self.controls.step(tables, &self.steps, t, &buffers.times, ticks) {
             Err(fault) => Err(fault),
-            Ok(()) => Ok(true),
+            Ok(()) if moved => Ok(Moved::Steps),
+            Ok(()) => Ok(Moved::Controls),
         }
     }
 }

@@ -31,8 +31,7 @@ Moves tables life answer old new = Moved tables life answer old new
 -- what a scan handles behind the conditions and times
 abbrev pub go_work : Tabled → Chart → ℕ → ℕ
 go_work tables chart variables =
-    copy_work tables + advance_work tables + control_work tables
-    + (length tables.initial + actions_work chart tables.actions + variables)
+    copy_work tables + advance_work tables + control_work tables + (actions_work chart tables.actions + variables)
 
 abbrev pub Leaves_scan : PlantData → Tabled → Life → List Change → Row → State → Image → Result (Unit {0}) ScanFault
     → Result (List Change) ScanFault → Type 0

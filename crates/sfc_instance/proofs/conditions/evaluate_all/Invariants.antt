@@ -1,4 +1,4 @@
-use Rattle.std.proofs.Common.{◌≡◌, ◌<◌, ◌≤◌, ◌+◌, ◌-◌, ℕ, drop, length, false}
+use Rattle.std.proofs.Common.{◌≡◌, ◌<◌, ◌≤◌, ◌+◌, ◌-◌, ℕ, drop, length, false, replicate}
 use Rattle.sfc_flags.specs.Flags.{flag, places_from}
 use Rattle.sfc_evolve.specs.Agreement.{StepsAgree}
 use Rattle.sfc_evolve.specs.Private.Proposing.{at_places}
@@ -21,6 +21,7 @@ invariant-candidates g l =
       flags : (life : Life) → StepsAgree tables l.steps (evolution_scans life) → (tr : ℕ) → tr < length tables.sides →
           is_among (at_places tables.ranked (places_from l.candidates l.at)) tr ≡ false →
           flag l.conditions tr ≡ condition_flag tables chart env life tr;
+      blank : l.some_hold ≡ false → l.conditions ≡ replicate (length l.initial.conditions) false;
       within : l.at ≤ length l.candidates;
       rises : l.initial.ticks.count ≤ l.ticks.count;
       ticks : l.ticks.count + condition_work tables chart (drop l.at tables.ranked)

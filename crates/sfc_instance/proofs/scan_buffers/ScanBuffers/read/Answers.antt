@@ -1,5 +1,7 @@
-use Rattle.std.proofs.Common.{false, arith, map, List, sym, ap, ◌∙◌}
+use Rattle.std.proofs.Common.{false, is_ok, arith, map, List, sym, ap, ◌∙◌}
 use Rattle.std.proofs.lemmas.List.{with_items_is}
+use Rattle.std.specs.Result.{result_err}
+use Rattle.std.specs.Vec.{with_items}
 use Rattle.sfc_expr.specs.Environment.{Environment}
 use Rattle.sfc_image.specs.Changes.{settled}
 use Rattle.sfc_image.specs.Agreement.{environment_in}
@@ -11,35 +13,35 @@ use Rattle.sfc_instance.specs.Life.{evolution_scans}
 use Rattle.sfc_plant.specs.Finding.{chart_of}
 use Rattle.sfc_instance.specs.ProgramScan.{association_times, time_of, condition_fault, condition_flags, environment}
 use Rattle.sfc_instance.specs.Agreement.{StateAgrees}
-use Rattle.sfc_instance.proofs.Left.{on_ok, hold_ok}
+use Rattle.sfc_instance.proofs.Left.{on_ok}
 use Rattle.sfc_instance.proofs.Readings.{environment_is, tables_is}
 use Rattle.sfc_instance.proofs.scan_buffers.ScanBuffers.read.Goals as goal
 
-pub returns-then-is_ok-clause-fault : goal.returns-then-is_ok-clause-fault
+pub returns-in-Err-clause-fault : goal.returns-in-Err-clause-fault
 unfolding StateAgrees
-returns-then-is_ok-clause-fault c plant life changes context state h =
+returns-in-Err-clause-fault c plant life changes context state h =
     let tables = c.args.context.tables.now in
     let chart = c.args.context.chart.now in
     let times = c.times.ensures ∙ measured_are tables c.args.state.now.steps (evolution_scans life) c.args.t state.steps c.requires.measured in
     let env = c.view-view.ensures plant (settled changes) h
     ∙ environment_is plant c.args.context life changes c.args.t false c.active_flags.result.now c.times.result.now context
     (c.active_flags.ensures.flags tables (evolution_scans life) state.steps) times in
-    c.evaluate_all-answer.ensures.fault life state.steps ∙ ap (λ (e : Environment). condition_fault tables chart e life tables.ranked) env
+    ap result_err (sym c.in-Err.is) ∙ c.evaluate_all.ensures.fault life state.steps ∙ ap (λ (e : Environment). condition_fault tables chart e life tables.ranked) env
 
-pub returns-else-is_ok-clause-fault : goal.returns-else-is_ok-clause-fault
+pub returns-in-Ok-clause-fault : goal.returns-in-Ok-clause-fault
 unfolding StateAgrees
-returns-else-is_ok-clause-fault c plant life changes context state h =
+returns-in-Ok-clause-fault c plant life changes context state h =
     let tables = c.args.context.tables.now in
     let chart = c.args.context.chart.now in
     let times = c.times.ensures ∙ measured_are tables c.args.state.now.steps (evolution_scans life) c.args.t state.steps c.requires.measured in
     let env = c.view-view.ensures plant (settled changes) h
     ∙ environment_is plant c.args.context life changes c.args.t false c.active_flags.result.now c.times.result.now context
     (c.active_flags.ensures.flags tables (evolution_scans life) state.steps) times in
-    c.evaluate_all-answer.ensures.fault life state.steps ∙ ap (λ (e : Environment). condition_fault tables chart e life tables.ranked) env
+    ap result_err (sym c.in-Ok.is) ∙ c.evaluate_all.ensures.fault life state.steps ∙ ap (λ (e : Environment). condition_fault tables chart e life tables.ranked) env
 
-pub returns-then-is_ok-clause-row : goal.returns-then-is_ok-clause-row
+pub returns-in-Ok-clause-row : goal.returns-in-Ok-clause-row
 unfolding StateAgrees
-returns-then-is_ok-clause-row c = hold_ok c.evaluate_all-answer.result _ (λ plant life changes context state h.
+returns-in-Ok-clause-row c plant life changes context state h =
     let tables = c.args.context.tables.now in
     let chart = c.args.context.chart.now in
     let p = c.args.context.instance in
@@ -47,8 +49,8 @@ returns-then-is_ok-clause-row c = hold_ok c.evaluate_all-answer.result _ (λ pla
     let env = c.view-view.ensures plant (settled changes) h
     ∙ environment_is plant c.args.context life changes c.args.t false c.active_flags.result.now c.times.result.now context
     (c.active_flags.ensures.flags tables (evolution_scans life) state.steps) times in
-    let flags = with_items_is c.args.self.now.conditions c.evaluate_all-answer.new.conditions (omega arith)
-    ∙ on_ok c.evaluate_all-answer.result _ (sym c.is_ok.ensures.value ∙ c.if-is_ok.true) c.evaluate_all-answer.ensures.flags life state.steps
+    let flags = with_items_is (with_items c.args.self.now.conditions c.blank.new.flags) c.evaluate_all.new.conditions (omega arith)
+    ∙ on_ok c.evaluate_all.result _ (ap is_ok c.in-Ok.is) c.evaluate_all.ensures.flags life state.steps
     ∙ ap (λ (e : Environment). condition_flags tables chart e life) env
     ∙ ap (λ (x : Tabled). condition_flags x chart (environment plant p life changes c.args.t false) life) (tables_is plant c.args.context context)
     ∙ ap (λ (x : Chart). condition_flags (tables_of (chart_of plant p)) x (environment plant p life changes c.args.t false) life) context.chart in
@@ -57,4 +59,4 @@ returns-then-is_ok-clause-row c = hold_ok c.evaluate_all-answer.result _ (λ pla
     ∙ ap (λ (xs : List StepAction). map (λ x. time_of (environment_in c.view-view.result) x.qualifier) xs) c.step_actions.ensures
     ∙ ap (λ (e : Environment). association_times tables e) env
     ∙ ap (λ (x : Tabled). association_times x (environment plant p life changes c.args.t false)) (tables_is plant c.args.context context) in
-    (λ i. record { conditions = flags i; times = association i; at = c.args.t }))
+    (λ i. record { conditions = flags i; times = association i; at = c.args.t })

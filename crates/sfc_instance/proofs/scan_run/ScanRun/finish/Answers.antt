@@ -9,15 +9,15 @@ returns-then-is_err-clause-now c life h =
 
 pub returns-else-is_err-clause-now : goal.returns-else-is_err-clause-now
 returns-else-is_err-clause-now c life h =
-    moved_ok c.args.context.tables.now life c.act_or_undo-answer.result c.args.self.now.spare c.measure_moved.new.self
-    (sym c.is_err.ensures.value ∙ c.if-is_err.false) (c.measure_moved.ensures.agrees life h)
+    moved_ok c.args.context.tables.now life c.act_or_undo-answer.result c.args.self.now.spare c.args.self.now.now
+    (sym c.is_err.ensures.value ∙ c.if-is_err.false) h
 
 pub returns-then-is_err-clause-agrees : goal.returns-then-is_err-clause-agrees
 returns-then-is_err-clause-agrees c plant life changes context state h =
-    c.act_or_undo-answer.ensures.agrees plant life c.args.t changes context (c.measure_moved.ensures.agrees life state)
-    (simp (to_z-of_z, c.ranges.t) at c.measure_moved.ensures.measured) h
+    c.act_or_undo-answer.ensures.agrees plant life c.args.t changes context state
+    c.requires.measured h
 
 pub returns-else-is_err-clause-agrees : goal.returns-else-is_err-clause-agrees
 returns-else-is_err-clause-agrees c plant life changes context state h =
-    c.act_or_undo-answer.ensures.agrees plant life c.args.t changes context (c.measure_moved.ensures.agrees life state)
-    (simp (to_z-of_z, c.ranges.t) at c.measure_moved.ensures.measured) h
+    c.act_or_undo-answer.ensures.agrees plant life c.args.t changes context state
+    c.requires.measured h

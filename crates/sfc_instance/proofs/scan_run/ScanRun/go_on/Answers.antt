@@ -15,7 +15,7 @@ returns-in-Err-clause-agrees c plant life changes context state h =
     let row = row_in c.args.self.now.buffers c.args.t in
     let agreed = c.follow.ensures.agrees life state in
     let fault_is : result_err c.advance.result ≡ control.first_fault tables (control_scans tables (row ∷ life)) =
-    simp (to_z-of_z, c.ranges.t, c.deref.ensures.value, c.deref-2.ensures.value) at (c.advance.ensures.fault life state) in
+    simp (to_z-of_z, c.ranges.t) at (c.advance.ensures.fault life state) in
     control_ends plant c.args.context context life changes c.args.t row c.in-Err.fault c.swap.new.x c.args.image.now
     (ap result_err (sym c.in-Err.is) ∙ fault_is) (subst (λ (x : State). StateAgrees tables x life) (sym c.swap.ensures.x_after) agreed) h
 
@@ -25,10 +25,10 @@ returns-in-Err-finish-clause-agrees c plant life changes context state h =
     let row = row_in c.args.self.now.buffers c.args.t in
     let agreed = c.follow.ensures.agrees life state in
     let fault_is : result_err c.advance.result ≡ control.first_fault tables (control_scans tables (row ∷ life)) =
-    simp (to_z-of_z, c.ranges.t, c.deref.ensures.value, c.deref-2.ensures.value) at (c.advance.ensures.fault life state) in
+    simp (to_z-of_z, c.ranges.t) at (c.advance.ensures.fault life state) in
     let on : is_ok c.advance.result ≡ true = ap is_ok c.in-Ok.is in
     let advanced : StateAgrees tables c.advance.new.self (row ∷ life) =
-    simp (to_z-of_z, c.ranges.t, c.deref.ensures.value, c.deref-2.ensures.value) at (on_ok c.advance.result _ on c.advance.ensures.agrees life state) in
+    simp (to_z-of_z, c.ranges.t) at (on_ok c.advance.result _ on c.advance.ensures.agrees life state) in
     body_ends plant c.args.context context life changes c.args.t row c.in-Err-finish.fault c.finish.result c.follow.new.self c.finish.new.self.now
     c.finish.new.image (ap result_err (sym c.in-Ok.is) ∙ fault_is) c.in-Err-finish.is (c.finish.ensures.now (row ∷ life) advanced)
     (simp (to_z-of_z, c.ranges.t) at (c.finish.ensures.agrees plant (row ∷ life) changes context advanced h)) agreed
@@ -39,10 +39,10 @@ returns-in-Ok-finish-clause-agrees c plant life changes context state h =
     let row = row_in c.args.self.now.buffers c.args.t in
     let agreed = c.follow.ensures.agrees life state in
     let fault_is : result_err c.advance.result ≡ control.first_fault tables (control_scans tables (row ∷ life)) =
-    simp (to_z-of_z, c.ranges.t, c.deref.ensures.value, c.deref-2.ensures.value) at (c.advance.ensures.fault life state) in
+    simp (to_z-of_z, c.ranges.t) at (c.advance.ensures.fault life state) in
     let on : is_ok c.advance.result ≡ true = ap is_ok c.in-Ok.is in
     let advanced : StateAgrees tables c.advance.new.self (row ∷ life) =
-    simp (to_z-of_z, c.ranges.t, c.deref.ensures.value, c.deref-2.ensures.value) at (on_ok c.advance.result _ on c.advance.ensures.agrees life state) in
+    simp (to_z-of_z, c.ranges.t) at (on_ok c.advance.result _ on c.advance.ensures.agrees life state) in
     ends_well plant c.args.context context life changes c.args.t row c.in-Ok-finish.field-0 c.finish.result c.follow.new.self c.finish.new.self.now
     c.finish.new.image (ap result_err (sym c.in-Ok.is) ∙ fault_is) c.in-Ok-finish.is (c.finish.ensures.now (row ∷ life) advanced)
     (simp (to_z-of_z, c.ranges.t) at (c.finish.ensures.agrees plant (row ∷ life) changes context advanced h))

@@ -1,9 +1,9 @@
 use Rattle.sfc_action.specs.Agreement.{IsAlike}
 use Rattle.sfc_instance.proofs.state.State.follow.Goals as goal
 
-pub returns-then-near-clause-near : goal.returns-then-near-clause-near
+pub returns-in-Nothing-clause-near : goal.returns-in-Nothing-clause-near
 unfolding IsAlike
-returns-then-near-clause-near c = record {
+returns-in-Nothing-clause-near c = record {
   steps = c.follow.ensures.like;
-  controls = λ i. record (c.follow-then-near.ensures.same i) { executed = c.args.other.now.controls.executed };
+  controls = λ i. record (c.follow-in-Nothing.ensures.same i) { executed = c.args.other.now.controls.executed };
 }

@@ -1,0 +1,12 @@
+//! What a scan may have changed.
+
+/// What a scan may have changed besides which transitions it cleared, which steps it activated and which actions it executed.
+#[derive(Clone, Copy)]
+pub enum Moved {
+    /// Nothing else.
+    Nothing,
+    /// Action control, but no step.
+    Controls,
+    /// Steps and action control.
+    Steps,
+}
