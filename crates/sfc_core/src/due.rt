@@ -132,7 +132,36 @@ fn is_first(task: TaskId, first: Option<TaskId>) -> bool
     }
 }
 
-// Why a scan at t is not the task's turn. One task alone yields to none; where the task goes first, nothing else is asked.
+// Why a scan at t is not the task's turn. Where the task goes first, nothing else is asked. It is a function of its own, so that a
+// task alone is compiled without it.
+#[tactic(auto, unfolding(crate::specs::Verdict::turn_refusal))]
+#[inline(never)]
+fn refuse_among(
+    tasks: &TaskTable,
+    singles: &[bool],
+    task: TaskId,
+    t: i64,
+    ticks: &mut Ticks,
+) -> Option<Refusal>
+    requires task { task.0 < task_total tasks.now }
+    requires singles { length singles.now ≡ task_total tasks.now }
+    requires low { pos 0 ≤ℤ t }
+    requires high { t ≤ℤ pos (2 ^ 62) }
+    ensures value { (all : List Task) (calls : List Call) → TasksAgree all tasks.now calls →
+        result ≡ turn_refusal all singles.now (Elapsed t singles.now ∷ calls) (Event.Scan task) t }
+    ensures ticks { Within (task_total tasks.now + 2) ticks.old ticks.new }
+{
+    let first = tasks.pick(t, singles, ticks);
+    if is_first(task, first) {
+        return None;
+    }
+    match refuse_undue(tasks, singles, task, t, ticks) {
+        Some(refusal) => Some(refusal),
+        None => yield_to(task, first),
+    }
+}
+
+// The same, where one task alone yields to none.
 #[tactic(auto, unfolding(crate::specs::Verdict::turn_refusal))]
 #[inline(always)]
 fn refuse_scan(
@@ -153,14 +182,7 @@ fn refuse_scan(
     if tasks.is_alone() {
         return refuse_undue(tasks, singles, task, t, ticks);
     }
-    let first = tasks.pick(t, singles, ticks);
-    if is_first(task, first) {
-        return None;
-    }
-    match refuse_undue(tasks, singles, task, t, ticks) {
-        Some(refusal) => Some(refusal),
-        None => yield_to(task, first),
-    }
+    refuse_among(tasks, singles, task, t, ticks)
 }
 
 /// Why a scan at t, from 0 to 2^62 microseconds and not before the latest event, is not its task's turn: no release of it waits, or

@@ -3,7 +3,7 @@ use Rattle.std.proofs.lemmas.Bool.{OnTrue_at}
 use Rattle.sfc_tasks.specs.Agreement.{TasksAgree}
 use Rattle.sfc_tasks.specs.Calls.{Elapsed}
 use Rattle.sfc_core.specs.Verdict.{turn_refusal}
-use Rattle.sfc_core.proofs.Turns.{alone_turn, first_turn}
+use Rattle.sfc_core.proofs.Turns.{alone_turn}
 use Rattle.sfc_core.proofs.due.refuse_scan.Goals as goal
 
 pub returns-then-is_alone-clause-value : goal.returns-then-is_alone-clause-value
@@ -15,11 +15,3 @@ returns-then-is_alone-clause-value c all calls agrees =
     let task : c.args.task.0 < 1 = omega (arith, c.requires.task, one) in
     simp to_z-of_z at (c.refuse_undue.ensures.value all calls agrees)
     ∙ alone_turn all c.args.singles.now (Elapsed c.args.t c.args.singles.now ∷ calls) c.args.task c.args.t alone task
-
-pub returns-then-is_first-clause-value : goal.returns-then-is_first-clause-value
-unfolding turn_refusal
-returns-then-is_first-clause-value c all calls agrees =
-    let fits : SFits w64 c.args.t = c.ranges.t in
-    let picks = simp to_z-of_z at (c.pick-first.ensures.value all calls agrees) in
-    let is = OnTrue_at c.if-is_first.true c.is_first.ensures in
-    first_turn all c.args.singles.now (Elapsed c.args.t c.args.singles.now ∷ calls) c.args.task c.args.t (sym picks ∙ is)
