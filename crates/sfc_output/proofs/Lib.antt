@@ -1,5 +1,11 @@
 -- texts put at the end, one after the other
 pub mod Appended
+-- decimal digits, as they are put
+pub mod Numbers
+-- the table of the digits of numbers below a hundred
+pub mod Pairs
+-- text that was put in two pieces
+pub mod Overlaps
 -- texts of numbered places, one after the other
 pub mod Texts
 -- what stands at the end of a buffer and in a line behind it

@@ -21,15 +21,15 @@ one_more is_first out text texts =
     ∙ ap (λ (xs : List ℕ). out ++ xs) (behind is_first text texts)
 
 -- the text of the next place stands, behind what parts it from those before it
-pub placed : (text : ℕ → List ℕ) (flags : List Bool) (from i : ℕ) (is_first : Bool) (all out parted new : List ℕ)
-    → places_from flags from ≡ i ∷ places_from flags (i + 1) → parted ≡ out ++ separator is_first → new ≡ parted ++ text i
+pub placed : (text : ℕ → List ℕ) (flags : List Bool) (from i : ℕ) (is_first : Bool) (all out new : List ℕ)
+    → places_from flags from ≡ i ∷ places_from flags (i + 1) → new ≡ out ++ (separator is_first ++ text i)
     → all ≡ out ++ continued is_first (map text (places_from flags from))
     → all ≡ new ++ continued false (map text (places_from flags (i + 1)))
-placed text flags from i is_first all out parted new found s e h =
+placed text flags from i is_first all out new found e h =
     let rest = map text (places_from flags (i + 1)) in
     h ∙ ap (λ (places : List ℕ). out ++ continued is_first (map text places)) found
     ∙ sym (one_more is_first out (text i) rest)
-    ∙ ap (λ (x : List ℕ). x ++ continued false rest) (sym (e ∙ ap (λ (x : List ℕ). x ++ text i) s))
+    ∙ ap (λ (x : List ℕ). x ++ continued false rest) (append_assoc out (separator is_first) (text i) ∙ sym e)
 
 module _ (is_in : ℕ → Bool) (text : ℕ → List ℕ) where
   head_by : (b : Bool) (k : ℕ) (ks : List ℕ) (texts : List (List ℕ)) → map text ks ≡ texts

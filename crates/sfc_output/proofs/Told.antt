@@ -1,13 +1,15 @@
 -- What stands at the end of a buffer and in a line behind it.
-use Rattle.std.proofs.Common.{◌≡◌, ◌≢◌, ◌<◌, ◌/◌, ◌%◌, ℕ, List, [], ◌∷◌, ◌++◌, append_assoc, sym, refl, ◌∙◌, ap, codes, eqb, Bool, cond, false, arith}
+use Rattle.std.proofs.Common.{◌≡◌, ◌≢◌, ◌<◌, ◌/◌, ◌%◌, ℕ, ℤ, List, [], ◌∷◌, ◌++◌, append_assoc, sym, refl, ◌∙◌, ap, codes, eqb, Bool, cond, false, arith}
 use Rattle.std.proofs.lemmas.Bool.{ne_eqb}
 use Rattle.std.proofs.lemmas.List.{append-nil}
 use Rattle.std.proofs.Math.Nat.{div-eq_of_lt, mod-eq_of_lt}
 use Rattle.sfc_base.specs.declared.unit.Unit.{Unit}
 use Rattle.sfc_base.specs.declared.unit.Unit.TheVariants.{Day, Hour, Minute, Second}
 use Rattle.sfc_base.specs.Durations.{micros_of}
-use Rattle.sfc_base.specs.TimeText.{part_text, parts_text, magnitude_text, above_milliseconds}
-use Rattle.sfc_output.specs.Private.Told.{told, seconds_text}
+use Rattle.sfc_base.specs.TimeText.{part_text, parts_text, magnitude_text, above_milliseconds, time_text}
+use Rattle.sfc_output.specs.Private.Told.{told, seconds_text, scanned_text, scanned_line}
+use Rattle.sfc_output.specs.Values.{line_end}
+use Rattle.std.specs.Fmt.{decimal}
 
 pub told_none : (items : List ℕ) → told items [] ≡ items
 unfolding told
@@ -16,6 +18,16 @@ told_none items = append-nil items
 pub told_more : (items line text : List ℕ) → told items (line ++ text) ≡ told items line ++ text
 unfolding told
 told_more items line text = sym (append_assoc items line text)
+
+-- ---- scans
+
+regrouped : (time scan task word number last : List ℕ)
+    → time ++ scan ++ task ++ word ++ number ++ last ≡ time ++ (scan ++ task) ++ (word ++ number ++ []) ++ last
+regrouped time scan task word number last = simp append_assoc
+
+pub scanned_regrouped : (t : ℤ) (task : List ℕ) (overruns : ℕ) → scanned_text t task overruns ≡ scanned_line t task overruns
+unfolding scanned_text scanned_line
+scanned_regrouped t task overruns = regrouped (time_text t) (codes " SCAN ") task (codes " overruns ") (decimal overruns) line_end
 
 -- ---- times
 

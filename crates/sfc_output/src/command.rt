@@ -5,7 +5,7 @@ ghost use Rattle.std.specs.Fmt.{decimal};
 ghost use Rattle.sfc_events.specs.declared.command.Command.TheVariants.{BreakIf};
 ghost use Rattle.sfc_output.specs.Commands as output;
 ghost use Rattle.sfc_output.specs.Names.{image_name};
-ghost use Rattle.sfc_output.specs.Private.Told.{told};
+ghost use Rattle.sfc_output.specs.Private.Told.{told, scanned_line};
 ghost use Rattle.sfc_output.specs.Steered.{steered_by};
 ghost use Rattle.sfc_output.specs.Values.{value_text};
 
@@ -199,10 +199,21 @@ fn put_command(
     line.put(out, b"\n")
 }
 
-/// Puts the line of an accepted command at the end: its run instant in microseconds, its words, and what its answer adds. The
-/// one error is that memory was refused; then a front of it may stand there.
+// The line of a scan that hit no breakpoint.
+#[tactic(auto, using(crate::proofs::Told::told_none, crate::proofs::Told::scanned_regrouped))]
+#[inline(always)]
+fn append_scanned(out: &mut Vec<u8>, t: i64, task: &[u8], overruns: u64) -> Result<(), AllocError>
+    ensures { OnOk result (out.new.items ≡ out.old.items ++ scanned_line t task.now overruns) }
+{
+    let mut line = Line::new();
+    line.put_scanned(out, t, task, overruns)?;
+    line.pass_on(out)
+}
+
+// The line of any accepted command.
 #[tactic(auto, using(crate::proofs::Told::told_none))]
-pub fn append_command(
+#[inline(always)]
+fn append_any(
     out: &mut Vec<u8>,
     debugger: &Debugger,
     command: Command,
@@ -214,6 +225,31 @@ pub fn append_command(
     let mut line = Line::new();
     put_command(&mut line, out, debugger, (command, t), answer)?;
     line.pass_on(out)
+}
+
+/// Puts the line of an accepted command at the end: its run instant in microseconds, its words, and what its answer adds. The
+/// one error is that memory was refused; then a front of it may stand there.
+#[tactic(auto, unfolding(crate::specs::Commands::command_line, crate::specs::Private::Told::scanned_line))]
+pub fn append_command(
+    out: &mut Vec<u8>,
+    debugger: &Debugger,
+    command: Command,
+    t: i64,
+    answer: Answer,
+) -> Result<(), AllocError>
+    ensures { OnOk result (out.new.items ≡ out.old.items ++ output.command_line (steered_by debugger.now) command t answer) }
+{
+    if let Command::Scan(task) = command
+        && let Answer::Scanned {
+            overruns,
+            hit: false,
+            ..
+        } = answer
+    {
+        let name = task_name(debugger.resource().plant(), task);
+        return append_scanned(out, t, name, overruns);
+    }
+    append_any(out, debugger, command, t, answer)
 }
 
 /// Puts the line of a row of the trace at the end: its number, and the line of its command. The one error is that memory was

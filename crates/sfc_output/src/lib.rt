@@ -8,6 +8,7 @@
 //! - `line`: the end of a text, put together before it goes to a buffer.
 //! - `list`: lists in a line.
 //! - `naming`: names as they were declared.
+//! - `pieces`: pieces of text in a line that has room for them.
 //! - `program`: the line of a program after a scan.
 #![tactic(auto)]
 
@@ -18,4 +19,5 @@ pub mod image_line;
 mod line;
 mod list;
 mod naming;
+mod pieces;
 pub mod program;

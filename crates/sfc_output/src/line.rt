@@ -1,76 +1,33 @@
 //! The end of a text, put together before it goes to a buffer.
 
-ghost use Rattle.std.specs.Prelude.{◌≡◌, ◌+◌, ◌<◌, ◌≤◌, ◌++◌, ◌%◌, ◌/◌, ◌∷◌, [], List, ℕ, length, take, OnOk, IsTrue};
+ghost use Rattle.std.specs.Prelude.{◌≡◌, ◌+◌, ◌<◌, ◌≤◌, ◌++◌, ◌∷◌, [], List, ℕ, length, take, codes, unsigned_abs, OnOk, IsTrue};
 ghost use Rattle.std.specs.Fmt.{decimal};
 ghost use Rattle.sfc_base.specs.TimeText as text;
-ghost use Rattle.sfc_output.specs.Private.Told.{told, seconds_text};
+ghost use Rattle.sfc_output.specs.Private.ListParts.{separator};
+ghost use Rattle.sfc_output.specs.Private.Told.{told, scans_text, timed_text, scanned_text};
 
 use crate::append::{append, append_number};
-use sfc_base::unit::Unit;
+use crate::pieces;
+use sfc_base::time_text;
 use std::alloc::AllocError;
 use std::marker::Model;
 
 /// How many bytes a line holds at the most.
 const ROOM: usize = 128;
 
-/// The units of times, in microseconds.
-const SECOND: u64 = 1_000_000;
+// A time of less than so many microseconds, which are a thousand days, has at most 34 bytes.
+const LONG_TIME: i64 = 86_400_000_000_000;
 
-const MINUTE: u64 = 60_000_000;
+// Numbers below have at most six digits.
+const LONG_NUMBER: u64 = 1_000_000;
 
-const HOUR: u64 = 3_600_000_000;
-
-const DAY: u64 = 86_400_000_000;
-
-// Puts bytes in the place of those behind the first `count`.
+// Whether a time is not negative, and has at most 34 bytes.
 #[inline(always)]
-fn copy_all(bytes: &mut [u8], count: usize, text: &[u8])
-    requires { count + length text.now ≤ length bytes.old }
-    ensures { take (count + length text.now) bytes.new ≡ take count bytes.old ++ text.now }
+fn is_short(micros: i64) -> bool
+    ensures front { IsTrue result → text.front_of micros ≡ codes "T#" }
+    ensures limit { IsTrue result → unsigned_abs micros < 86400000000000 }
 {
-    for (i, byte) in text.iter().enumerate() {
-        bytes[count + i] = *byte;
-    }
-}
-
-// The same of less than four bytes.
-#[inline(always)]
-fn copy_few(bytes: &mut [u8], count: usize, text: &[u8])
-    requires few { length text.now < 4 }
-    requires room { count + length text.now ≤ length bytes.old }
-    ensures { take (count + length text.now) bytes.new ≡ take count bytes.old ++ text.now }
-{
-    match text {
-        [] => (),
-        [a] => copy_all(bytes, count, &[*a]),
-        [a, b] => copy_all(bytes, count, &[*a, *b]),
-        [a, b, c] => copy_all(bytes, count, &[*a, *b, *c]),
-        _ => (),
-    }
-}
-
-// The same, fast where there are few.
-#[inline(always)]
-fn copy_behind(bytes: &mut [u8], count: usize, text: &[u8])
-    requires { count + length text.now ≤ length bytes.old }
-    ensures { take (count + length text.now) bytes.new ≡ take count bytes.old ++ text.now }
-{
-    match text {
-        [a, b, c, d, rest @ ..] if rest.len() < 4 => {
-            copy_all(bytes, count, &[*a, *b, *c, *d]);
-            copy_few(bytes, count + 4, rest);
-        }
-        _ if text.len() < 4 => copy_few(bytes, count, text),
-        _ => copy_all(bytes, count, text),
-    }
-}
-
-// The digit of ones, of tens and of hundreds.
-#[inline(always)]
-fn digit(number: u64) -> u8
-    ensures { result ≡ text.digit (number % 10) }
-{
-    b'0' + (number % 10) as u8
+    micros >= 0 && micros < LONG_TIME
 }
 
 /// The last bytes of a text, which are not yet in the buffer.
@@ -103,20 +60,19 @@ impl Line {
     // Whether so many bytes more have room.
     #[inline(always)]
     fn has_room(&self, count: usize) -> bool
+        requires { count ≤ 128 }
         ensures { IsTrue result → length self.now + count ≤ 128 }
     {
-        count <= ROOM - self.count
+        self.count <= ROOM - count
     }
 
-    // Bytes that have room.
+    // Whether a text and so many bytes have room.
     #[inline(always)]
-    fn push_all(&mut self, text: &[u8])
-        requires { length self.old + length text.now ≤ 128 }
-        ensures { self.new ≡ self.old ++ text.now }
+    fn has_room_behind(&self, text: &[u8], count: usize) -> bool
+        requires { count ≤ 128 }
+        ensures { IsTrue result → length self.now + (length text.now + count) ≤ 128 }
     {
-        let count = self.count;
-        copy_behind(&mut self.bytes, count, text);
-        self.count = count + text.len();
+        self.count + text.len() <= ROOM - count
     }
 
     /// Puts the line at the end of the buffer, and holds nothing then. The one error is that memory was refused; then a front of
@@ -130,6 +86,16 @@ impl Line {
         let count = self.count;
         self.count = 0;
         append(out, &self.bytes[..count])
+    }
+
+    // Bytes that have room.
+    #[inline(always)]
+    fn push(&mut self, text: &[u8])
+        requires { length self.old + length text.now ≤ 128 }
+        ensures { self.new ≡ self.old ++ text.now }
+    {
+        let count = self.count;
+        self.count = pieces::put_name(&mut self.bytes, count, text);
     }
 
     // Bytes that have no room.
@@ -150,193 +116,323 @@ impl Line {
     pub fn put(&mut self, out: &mut Vec<u8>, text: &[u8]) -> Result<(), AllocError>
         ensures { OnOk result (told out.new.items self.new ≡ told out.old.items self.old ++ text.now) }
     {
-        if self.has_room(text.len()) {
-            self.push_all(text);
+        if self.has_room_behind(text, 0) {
+            self.push(text);
             return Ok(());
         }
         self.put_long(out, text)
     }
 
-    // A number of at most three digits.
-    #[tactic(auto, using(sfc_base::proofs::Decimals::two_digits, sfc_base::proofs::Decimals::three_digits, std::proofs::lemmas::Fmt::decimal_digit))]
+    // A number that has room.
     #[inline(always)]
-    fn put_short(&mut self, out: &mut Vec<u8>, number: u64) -> Result<(), AllocError>
-        requires { number < 1000 }
-        ensures { OnOk result (told out.new.items self.new ≡ told out.old.items self.old ++ decimal number) }
+    fn push_number(&mut self, number: u32)
+        requires short { number < 1000000 }
+        requires room { length self.old + 6 ≤ 128 }
+        ensures { self.new ≡ self.old ++ decimal number }
     {
-        let ones = digit(number);
-        if number < 10 {
-            return self.put(out, &[ones]);
-        }
-        let tens = digit(number / 10);
-        if number < 100 {
-            return self.put(out, &[tens, ones]);
-        }
-        self.put(out, &[digit(number / 100), tens, ones])
+        let count = self.count;
+        self.count = pieces::put_number(&mut self.bytes, count, number);
     }
 
-    // The last three digits of a number.
-    #[inline(always)]
-    fn put_group(&mut self, out: &mut Vec<u8>, number: u64) -> Result<(), AllocError>
-        ensures { OnOk result (told out.new.items self.new ≡ told out.old.items self.old ++
-            text.digit (number / 100 % 10) ∷ text.digit (number / 10 % 10) ∷ text.digit (number % 10) ∷ []) }
-    {
-        self.put(
-            out,
-            &[digit(number / 100), digit(number / 10), digit(number)],
-        )
-    }
-
-    // A number of four digits or more.
-    #[inline(never)]
+    // A number that may have no room.
     #[tactic(auto, using(crate::proofs::Told::told_none))]
-    fn put_large(&mut self, out: &mut Vec<u8>, number: u64) -> Result<(), AllocError>
-        requires { 1000 ≤ number }
+    #[cold]
+    #[inline(never)]
+    fn put_long_number(&mut self, out: &mut Vec<u8>, number: u64) -> Result<(), AllocError>
         ensures { OnOk result (told out.new.items self.new ≡ told out.old.items self.old ++ decimal number) }
     {
-        if number >= 1_000_000 {
-            self.pass_on(out)?;
-            return append_number(out, number);
-        }
-        self.put_short(out, number / 1000)?;
-        self.put_group(out, number)
+        self.pass_on(out)?;
+        append_number(out, number)
     }
 
     /// Puts a number in decimal digits behind the line, as `put` does.
+    #[tactic(auto, using(crate::proofs::Told::told_more))]
     #[inline(always)]
     pub fn put_number(&mut self, out: &mut Vec<u8>, number: u64) -> Result<(), AllocError>
         ensures { OnOk result (told out.new.items self.new ≡ told out.old.items self.old ++ decimal number) }
     {
-        if number < 1000 {
-            return self.put_short(out, number);
+        if number < LONG_NUMBER && self.has_room(6) {
+            self.push_number(number as u32);
+            return Ok(());
         }
-        self.put_large(out, number)
+        self.put_long_number(out, number)
     }
 
-    // The unit of the milliseconds, with thousandths before it.
+    // A time that has room.
+    #[inline(always)]
+    fn push_time(&mut self, micros: i64)
+        requires front { text.front_of micros ≡ codes "T#" }
+        requires short { unsigned_abs micros < 86400000000000 }
+        requires room { length self.old + 34 ≤ 128 }
+        ensures { self.new ≡ self.old ++ text.time_text micros }
+    {
+        let count = self.count;
+        self.count = pieces::put_time(&mut self.bytes, count, micros.unsigned_abs());
+    }
+
+    // A time that may have no room.
+    #[tactic(auto, using(crate::proofs::Told::told_none))]
     #[cold]
     #[inline(never)]
-    fn put_fraction(&mut self, out: &mut Vec<u8>, count: u64) -> Result<(), AllocError>
-        requires { count < 1000 }
-        ensures { OnOk result (told out.new.items self.new ≡ told out.old.items self.old ++ text.thousandths count) }
+    fn put_long_time(&mut self, out: &mut Vec<u8>, micros: i64) -> Result<(), AllocError>
+        ensures { OnOk result (told out.new.items self.new ≡ told out.old.items self.old ++ text.time_text micros) }
     {
-        let first = b'0' + (count / 100) as u8;
-        let second = b'0' + (count / 10 % 10) as u8;
-        let third = b'0' + (count % 10) as u8;
-        if count == 0 {
-            self.put(out, b"ms")
-        } else if count % 100 == 0 {
-            self.put(out, &[b'.', first, b'm', b's'])
-        } else if count % 10 == 0 {
-            self.put(out, &[b'.', first, second, b'm', b's'])
-        } else {
-            self.put(out, &[b'.', first, second, third, b'm', b's'])
-        }
-    }
-
-    // The milliseconds of less than a second.
-    #[inline(always)]
-    fn put_milliseconds(&mut self, out: &mut Vec<u8>, micros: u64) -> Result<(), AllocError>
-        requires { micros < 1000000 }
-        ensures { OnOk result (told out.new.items self.new ≡ told out.old.items self.old ++ text.milliseconds_text micros) }
-    {
-        if micros == 0 {
-            return Ok(());
-        }
-        self.put_short(out, micros / 1000)?;
-        let count = micros % 1000;
-        if count == 0 {
-            return self.put(out, b"ms");
-        }
-        self.put_fraction(out, count)
-    }
-
-    // The seconds and the milliseconds of less than a minute.
-    #[inline(always)]
-    #[tactic(auto, unfolding(crate::specs::Private::Told::seconds_text))]
-    fn put_seconds(&mut self, out: &mut Vec<u8>, micros: u64) -> Result<(), AllocError>
-        requires { micros < 60000000 }
-        ensures { OnOk result (told out.new.items self.new ≡ told out.old.items self.old ++ seconds_text micros) }
-    {
-        let seconds = micros / SECOND;
-        let left = micros % SECOND;
-        if seconds == 0 {
-            return self.put_milliseconds(out, left);
-        }
-        self.put_short(out, seconds)?;
-        if left == 0 {
-            return self.put(out, b"s");
-        }
-        self.put(out, b"s_")?;
-        self.put_milliseconds(out, left)
-    }
-
-    // One part, and `_` where more follows; nothing of zero.
-    fn put_part(
-        &mut self,
-        out: &mut Vec<u8>,
-        count: u64,
-        unit: Unit,
-        is_last: bool,
-    ) -> Result<(), AllocError>
-        ensures { OnOk result (told out.new.items self.new ≡ told out.old.items self.old ++ text.part_text count unit is_last) }
-    {
-        if count == 0 {
-            return Ok(());
-        }
-        self.put_number(out, count)?;
-        self.put(out, unit.spelling())?;
-        if is_last { Ok(()) } else { self.put(out, b"_") }
-    }
-
-    // The parts of a minute or more.
-    #[inline(never)]
-    #[tactic(auto, unfolding(sfc_base::specs::TimeText::parts_text, crate::specs::Private::Told::seconds_text))]
-    fn put_parts(&mut self, out: &mut Vec<u8>, micros: u64) -> Result<(), AllocError>
-        ensures { OnOk result (told out.new.items self.new ≡ told out.old.items self.old ++ text.parts_text text.above_milliseconds micros) }
-    {
-        let of_day = micros % DAY;
-        self.put_part(out, micros / DAY, Unit::Day, of_day == 0)?;
-        let of_hour = of_day % HOUR;
-        self.put_part(out, of_day / HOUR, Unit::Hour, of_hour == 0)?;
-        let of_minute = of_hour % MINUTE;
-        self.put_part(out, of_hour / MINUTE, Unit::Minute, of_minute == 0)?;
-        self.put_seconds(out, of_minute)
-    }
-
-    // The parts without their sign.
-    #[inline(always)]
-    #[tactic(auto, using(crate::proofs::Told::below_minute))]
-    fn put_magnitude(&mut self, out: &mut Vec<u8>, micros: u64) -> Result<(), AllocError>
-        ensures { OnOk result (told out.new.items self.new ≡ told out.old.items self.old ++ text.magnitude_text micros) }
-    {
-        if micros == 0 {
-            return self.put(out, b"0s");
-        }
-        if micros < MINUTE {
-            return self.put_seconds(out, micros);
-        }
-        self.put_parts(out, micros)
-    }
-
-    // What stands in front of the parts.
-    #[inline(always)]
-    fn put_front(&mut self, out: &mut Vec<u8>, micros: i64) -> Result<(), AllocError>
-        ensures { OnOk result (told out.new.items self.new ≡ told out.old.items self.old ++ text.front_of micros) }
-    {
-        if micros < 0 {
-            self.put(out, b"T#-")
-        } else {
-            self.put(out, b"T#")
+        self.pass_on(out)?;
+        match time_text::put_time(micros, out) {
+            Ok(()) => Ok(()),
+            Err(_) => Err(AllocError),
         }
     }
 
     /// Puts the TIME text of so many microseconds behind the line, as `put` does.
+    #[tactic(auto, using(crate::proofs::Told::told_more))]
     #[inline(always)]
     pub fn put_time(&mut self, out: &mut Vec<u8>, micros: i64) -> Result<(), AllocError>
         ensures { OnOk result (told out.new.items self.new ≡ told out.old.items self.old ++ text.time_text micros) }
     {
-        self.put_front(out, micros)?;
-        self.put_magnitude(out, micros.unsigned_abs())
+        if is_short(micros) && self.has_room(34) {
+            self.push_time(micros);
+            return Ok(());
+        }
+        self.put_long_time(out, micros)
+    }
+
+    // The number of scans, which has room.
+    #[tactic(auto, unfolding(crate::specs::Private::Told::scans_text))]
+    #[inline(always)]
+    fn push_scans(&mut self, scans: u32)
+        requires short { scans < 1000000 }
+        requires room { length self.old + 14 ≤ 128 }
+        ensures { self.new ≡ self.old ++ scans_text scans }
+    {
+        let count = pieces::put_text(&mut self.bytes, self.count, b" ");
+        let count = pieces::put_number(&mut self.bytes, count, scans);
+        self.count = pieces::put_text(&mut self.bytes, count, b" steps ");
+    }
+
+    // The same of what may have no room.
+    #[tactic(auto, unfolding(crate::specs::Private::Told::scans_text))]
+    #[cold]
+    #[inline(never)]
+    fn put_long_scans(&mut self, out: &mut Vec<u8>, scans: u64) -> Result<(), AllocError>
+        ensures { OnOk result (told out.new.items self.new ≡ told out.old.items self.old ++ scans_text scans) }
+    {
+        self.put(out, b" ")?;
+        self.put_long_number(out, scans)?;
+        self.put(out, b" steps ")
+    }
+
+    /// Puts the number of scans behind the line, and the word before the steps.
+    #[tactic(auto, using(crate::proofs::Told::told_more))]
+    #[inline(always)]
+    pub fn put_scans(&mut self, out: &mut Vec<u8>, scans: u64) -> Result<(), AllocError>
+        ensures { OnOk result (told out.new.items self.new ≡ told out.old.items self.old ++ scans_text scans) }
+    {
+        if scans < LONG_NUMBER && self.has_room(14) {
+            self.push_scans(scans as u32);
+            return Ok(());
+        }
+        self.put_long_scans(out, scans)
+    }
+
+    // What parts a name from one before it, and the name, which have room.
+    #[inline(always)]
+    fn push_next(&mut self, is_first: bool, name: &[u8])
+        requires { length self.old + (length name.now + 1) ≤ 128 }
+        ensures { self.new ≡ self.old ++ (separator is_first ++ name.now) }
+    {
+        let count = pieces::put_separator(&mut self.bytes, self.count, is_first);
+        self.count = pieces::put_name(&mut self.bytes, count, name);
+    }
+
+    // The same of what has no room.
+    #[cold]
+    #[inline(never)]
+    fn put_long_next(
+        &mut self,
+        out: &mut Vec<u8>,
+        is_first: bool,
+        name: &[u8],
+    ) -> Result<(), AllocError>
+        ensures { OnOk result (told out.new.items self.new ≡ told out.old.items self.old ++ (separator is_first ++ name.now)) }
+    {
+        if !is_first {
+            self.put(out, b",")?;
+        }
+        self.put(out, name)
+    }
+
+    /// Puts a name behind the line, and before it what parts it from one before it.
+    #[tactic(auto, using(crate::proofs::Told::told_more))]
+    #[inline(always)]
+    pub fn put_next(
+        &mut self,
+        out: &mut Vec<u8>,
+        is_first: bool,
+        name: &[u8],
+    ) -> Result<(), AllocError>
+        ensures { OnOk result (told out.new.items self.new ≡ told out.old.items self.old ++ (separator is_first ++ name.now)) }
+    {
+        if self.has_room_behind(name, 1) {
+            self.push_next(is_first, name);
+            return Ok(());
+        }
+        self.put_long_next(out, is_first, name)
+    }
+
+    // The same of a number.
+    #[inline(always)]
+    fn push_next_number(&mut self, is_first: bool, number: u32)
+        requires short { number < 1000000 }
+        requires room { length self.old + 7 ≤ 128 }
+        ensures { self.new ≡ self.old ++ (separator is_first ++ decimal number) }
+    {
+        let count = pieces::put_separator(&mut self.bytes, self.count, is_first);
+        self.count = pieces::put_number(&mut self.bytes, count, number);
+    }
+
+    // The same of what may have no room.
+    #[cold]
+    #[inline(never)]
+    fn put_long_next_number(
+        &mut self,
+        out: &mut Vec<u8>,
+        is_first: bool,
+        number: u64,
+    ) -> Result<(), AllocError>
+        ensures { OnOk result (told out.new.items self.new ≡ told out.old.items self.old ++ (separator is_first ++ decimal number)) }
+    {
+        if !is_first {
+            self.put(out, b",")?;
+        }
+        self.put_number(out, number)
+    }
+
+    /// Puts a number in decimal digits behind the line, and before it what parts it from one before it.
+    #[tactic(auto, using(crate::proofs::Told::told_more))]
+    #[inline(always)]
+    pub fn put_next_number(
+        &mut self,
+        out: &mut Vec<u8>,
+        is_first: bool,
+        number: u64,
+    ) -> Result<(), AllocError>
+        ensures { OnOk result (told out.new.items self.new ≡ told out.old.items self.old ++ (separator is_first ++ decimal number)) }
+    {
+        if number < LONG_NUMBER && self.has_room(7) {
+            self.push_next_number(is_first, number as u32);
+            return Ok(());
+        }
+        self.put_long_next_number(out, is_first, number)
+    }
+
+    // What parts a name from one before it, the name and a time, which have room.
+    #[tactic(auto, unfolding(crate::specs::Private::Told::timed_text))]
+    #[inline(always)]
+    fn push_timed(&mut self, is_first: bool, name: &[u8], micros: i64)
+        requires front { text.front_of micros ≡ codes "T#" }
+        requires short { unsigned_abs micros < 86400000000000 }
+        requires room { length self.old + (length name.now + 36) ≤ 128 }
+        ensures { self.new ≡ self.old ++ (separator is_first ++ timed_text name.now micros) }
+    {
+        let count = pieces::put_separator(&mut self.bytes, self.count, is_first);
+        let count = pieces::put_name(&mut self.bytes, count, name);
+        let count = pieces::put_text(&mut self.bytes, count, b"=");
+        self.count = pieces::put_time(&mut self.bytes, count, micros.unsigned_abs());
+    }
+
+    // The same of what may have no room.
+    #[tactic(auto, unfolding(crate::specs::Private::Told::timed_text))]
+    #[cold]
+    #[inline(never)]
+    fn put_long_timed(
+        &mut self,
+        out: &mut Vec<u8>,
+        is_first: bool,
+        name: &[u8],
+        micros: i64,
+    ) -> Result<(), AllocError>
+        ensures { OnOk result (told out.new.items self.new ≡ told out.old.items self.old ++ (separator is_first ++ timed_text name.now micros)) }
+    {
+        self.put_long_next(out, is_first, name)?;
+        self.put(out, b"=")?;
+        self.put_long_time(out, micros)
+    }
+
+    /// Puts a name and a time behind the line, and before them what parts them from those before them.
+    #[tactic(auto, using(crate::proofs::Told::told_more))]
+    #[inline(always)]
+    pub fn put_timed(
+        &mut self,
+        out: &mut Vec<u8>,
+        is_first: bool,
+        name: &[u8],
+        micros: i64,
+    ) -> Result<(), AllocError>
+        ensures { OnOk result (told out.new.items self.new ≡ told out.old.items self.old ++ (separator is_first ++ timed_text name.now micros)) }
+    {
+        if is_short(micros) && self.has_room_behind(name, 36) {
+            self.push_timed(is_first, name, micros);
+            return Ok(());
+        }
+        self.put_long_timed(out, is_first, name, micros)
+    }
+
+    // The line of a scan that hit no breakpoint, which has room.
+    #[tactic(auto, unfolding(crate::specs::Private::Told::scanned_text))]
+    #[inline(always)]
+    fn push_scanned(&mut self, micros: i64, task: &[u8], overruns: u32)
+        requires front { text.front_of micros ≡ codes "T#" }
+        requires short_time { unsigned_abs micros < 86400000000000 }
+        requires short_number { overruns < 1000000 }
+        requires room { length self.old + (length task.now + 57) ≤ 128 }
+        ensures { self.new ≡ self.old ++ scanned_text micros task.now overruns }
+    {
+        let count = pieces::put_time(&mut self.bytes, self.count, micros.unsigned_abs());
+        let count = pieces::put_text(&mut self.bytes, count, b" SCAN ");
+        let count = pieces::put_name(&mut self.bytes, count, task);
+        let count = pieces::put_text(&mut self.bytes, count, b" overruns ");
+        let count = pieces::put_number(&mut self.bytes, count, overruns);
+        self.count = pieces::put_text(&mut self.bytes, count, b"\n");
+    }
+
+    // The same of what may have no room.
+    #[tactic(auto, unfolding(crate::specs::Private::Told::scanned_text))]
+    #[cold]
+    #[inline(never)]
+    fn put_long_scanned(
+        &mut self,
+        out: &mut Vec<u8>,
+        micros: i64,
+        task: &[u8],
+        overruns: u64,
+    ) -> Result<(), AllocError>
+        ensures { OnOk result (told out.new.items self.new ≡ told out.old.items self.old ++ scanned_text micros task.now overruns) }
+    {
+        self.put_long_time(out, micros)?;
+        self.put(out, b" SCAN ")?;
+        self.put(out, task)?;
+        self.put(out, b" overruns ")?;
+        self.put_number(out, overruns)?;
+        self.put(out, b"\n")
+    }
+
+    /// Puts the line of a scan that hit no breakpoint behind the line.
+    #[tactic(auto, using(crate::proofs::Told::told_more))]
+    #[inline(always)]
+    pub fn put_scanned(
+        &mut self,
+        out: &mut Vec<u8>,
+        micros: i64,
+        task: &[u8],
+        overruns: u64,
+    ) -> Result<(), AllocError>
+        ensures { OnOk result (told out.new.items self.new ≡ told out.old.items self.old ++ scanned_text micros task.now overruns) }
+    {
+        if is_short(micros) && overruns < LONG_NUMBER && self.has_room_behind(task, 57) {
+            self.push_scanned(micros, task, overruns as u32);
+            return Ok(());
+        }
+        self.put_long_scanned(out, micros, task, overruns)
     }
 }

@@ -1,24 +1,11 @@
 //! Lists in a line of text.
 
 ghost use Rattle.std.specs.Prelude.{◌≡◌, ◌++◌, [], OnOk};
-ghost use Rattle.sfc_output.specs.Private.ListParts.{continued, separator};
+ghost use Rattle.sfc_output.specs.Private.ListParts.{continued};
 ghost use Rattle.sfc_output.specs.Private.Told.{told};
 
 use crate::line::Line;
 use std::alloc::AllocError;
-
-/// What parts the next text from one before it. The one error is that memory was refused; then a front of it may
-/// stand there.
-#[inline(always)]
-pub fn put_separator(line: &mut Line, out: &mut Vec<u8>, is_first: bool) -> Result<(), AllocError>
-    ensures { OnOk result (told out.new.items line.new ≡ told out.old.items line.old ++ separator is_first) }
-{
-    if is_first {
-        Ok(())
-    } else {
-        line.put(out, b",")
-    }
-}
 
 /// The end of a list: a dash where it is empty. The one error is that memory was refused; then a front of it may
 /// stand there.

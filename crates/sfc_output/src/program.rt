@@ -1,16 +1,17 @@
 //! The line of a program after a scan.
 
-ghost use Rattle.std.specs.Prelude.{◌≡◌, ◌<◌, ◌^◌, ◌++◌, List, length, OnOk};
+ghost use Rattle.std.specs.Prelude.{◌≡◌, ◌<◌, ◌^◌, ◌++◌, List, length, suc, OnOk};
 ghost use Rattle.sfc_image.specs.Changes.{Change};
 ghost use Rattle.sfc_instance.specs.Life.{InstanceState};
 ghost use Rattle.sfc_instance.specs.Views.{plant_in, instance_in, tables_in, Shows};
 ghost use Rattle.sfc_output.specs.Lists.{listed};
 ghost use Rattle.sfc_output.specs.Names.{numbered_action};
 ghost use Rattle.sfc_output.specs.Programs as output;
+ghost use Rattle.sfc_output.specs.Private.ListParts.{separator};
 ghost use Rattle.sfc_output.specs.Private.Told.{told};
 
 use crate::line::Line;
-use crate::list::{put_end, put_separator};
+use crate::list::put_end;
 use crate::naming::{names_of, program_name, target_name};
 use sfc_action::fault::ControlFault;
 use sfc_base::ids::ActionNumber;
@@ -23,23 +24,23 @@ use sfc_instance::scan_fault::ScanFault;
 use sfc_plant::names::Names;
 use std::alloc::AllocError;
 
-// Puts a step with its time.
+// Puts a step with its time, and before it what parts it from one before it; whether it is the first is told with it.
+#[tactic(auto, unfolding(crate::specs::Private::Told::timed_text))]
 #[inline(always)]
 fn put_step(
     line: &mut Line,
     out: &mut Vec<u8>,
     view: &ProgramView<'_>,
     names: &Names<'_>,
-    step: StepId,
+    place: (bool, StepId),
 ) -> Result<(), AllocError>
-    requires { step.0 < length (tables_in view.now).initial }
+    requires { place.1.0 < length (tables_in view.now).initial }
     ensures { (changes : List Change) (instance_state : InstanceState) → Shows view.now changes instance_state →
-        OnOk result (told out.new.items line.new ≡
-        told out.old.items line.old ++ output.step_text names.now (tables_in view.now) instance_state step.0) }
+        OnOk result (told out.new.items line.new ≡ told out.old.items line.old
+        ++ (separator place.0 ++ output.step_text names.now (tables_in view.now) instance_state place.1.0)) }
 {
-    line.put(out, names.step(step))?;
-    line.put(out, b"=")?;
-    line.put_time(out, view.elapsed(step))
+    let (is_first, step) = place;
+    line.put_timed(out, is_first, names.step(step), view.elapsed(step))
 }
 
 // The active steps with their times.
@@ -60,21 +61,19 @@ fn put_steps(
     let mut is_first = true;
     let mut from = 0;
     'places: while let Some(s) = active.next_set(from, &mut ticks) {
-        put_separator(line, out, is_first)?;
-        put_step(line, out, view, names, StepId(s as u16))?;
+        put_step(line, out, view, names, (is_first, StepId(s as u16)))?;
         is_first = false;
         from = s + 1;
     }
     put_end(line, out, is_first)
 }
 
-// Puts the number of a transition.
+// The number of a transition as it is written.
 #[inline(always)]
-fn put_transition(line: &mut Line, out: &mut Vec<u8>, transition: usize) -> Result<(), AllocError>
-    ensures { transition < 2 ^ 63 → OnOk result (told out.new.items line.new ≡
-        told out.old.items line.old ++ output.transition_text transition) }
+fn number_of(transition: usize) -> u64
+    ensures { transition < 2 ^ 63 → result ≡ suc transition }
 {
-    line.put_number(out, (transition as u64).saturating_add(1))
+    (transition as u64).saturating_add(1)
 }
 
 // The numbers of the cleared transitions.
@@ -90,28 +89,11 @@ fn put_cleared(line: &mut Line, out: &mut Vec<u8>, view: &ProgramView<'_>) -> Re
     let mut is_first = true;
     let mut from = 0;
     'places: while let Some(tr) = cleared.next_set(from, &mut ticks) {
-        put_separator(line, out, is_first)?;
-        put_transition(line, out, tr)?;
+        line.put_next_number(out, is_first, number_of(tr))?;
         is_first = false;
         from = tr + 1;
     }
     put_end(line, out, is_first)
-}
-
-// Puts the name of an action.
-#[inline(always)]
-fn put_action(
-    line: &mut Line,
-    out: &mut Vec<u8>,
-    view: &ProgramView<'_>,
-    names: &Names<'_>,
-    action: ActionNumber,
-) -> Result<(), AllocError>
-    requires { action.0 < length (tables_in view.now).actions }
-    ensures { OnOk result (told out.new.items line.new ≡
-        told out.old.items line.old ++ numbered_action names.now (tables_in view.now) action.0) }
-{
-    line.put(out, target_name(names, view.tables().target(action)))
 }
 
 // The names of the executed actions.
@@ -131,8 +113,8 @@ fn put_executed(
     let mut is_first = true;
     let mut from = 0;
     'places: while let Some(action) = executed.next_set(from, &mut ticks) {
-        put_separator(line, out, is_first)?;
-        put_action(line, out, view, names, ActionNumber(action))?;
+        let target = view.tables().target(ActionNumber(action));
+        line.put_next(out, is_first, target_name(&*names, target))?;
         is_first = false;
         from = action + 1;
     }
@@ -140,6 +122,7 @@ fn put_executed(
 }
 
 // What a scan did.
+#[tactic(auto, unfolding(crate::specs::Private::Told::scans_text))]
 #[inline(always)]
 fn put_scan(
     line: &mut Line,
@@ -151,9 +134,7 @@ fn put_scan(
         OnOk result (told out.new.items line.new ≡
         told out.old.items line.old ++ output.scan_text names.now (tables_in view.now) instance_state) }
 {
-    line.put(out, b" ")?;
-    line.put_number(out, view.scans())?;
-    line.put(out, b" steps ")?;
+    line.put_scans(out, view.scans())?;
     put_steps(line, out, view, names)?;
     line.put(out, b" cleared ")?;
     put_cleared(line, out, view)?;

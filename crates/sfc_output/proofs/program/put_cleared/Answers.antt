@@ -1,9 +1,11 @@
-use Rattle.std.proofs.Common.{◌≡◌, ◌<◌, ◌∙◌, ap, length, arith}
+use Rattle.std.proofs.Common.{◌≡◌, ◌<◌, ◌++◌, ℕ, List, ◌∙◌, ap, length, arith}
+use Rattle.std.specs.Fmt.{decimal}
 use Rattle.std.proofs.lemmas.Result.{on_ok_weaker}
 use Rattle.sfc_tables.specs.Tables.{Tabled}
 use Rattle.sfc_instance.specs.Answers.{is_transition_cleared}
 use Rattle.sfc_instance.specs.Views.{tables_in}
 use Rattle.sfc_output.specs.Programs.{transition_text}
+use Rattle.sfc_output.specs.Private.ListParts.{separator}
 use Rattle.sfc_output.specs.Private.Told.{told}
 use Rattle.sfc_output.proofs.Texts.{placed, all_placed}
 use Rattle.sfc_output.proofs.program.put_cleared.Goals as goal
@@ -15,11 +17,14 @@ places-preserved c =
     ap (λ (t : Tabled). length t.sides) c.tables.ensures in
     let small : c.in-Some.tr < 9223372036854775808 =
     omega (arith, whole, found.1, c.cleared_flags-cleared.ensures.len, c.transitions-transitions.ensures.limit, c.transitions-transitions.ensures.count) in
+    let number : decimal c.number_of.result ≡ transition_text c.in-Some.tr = ap decimal (c.number_of.ensures small) in
     record {
       within = omega (arith, found.1);
       rest =
           placed transition_text c.cleared_flags-cleared.result.now c.places.from c.in-Some.tr c.places.is_first _ (told c.places.out.items c.places.line)
-          (told c.put_separator.new.out.items c.put_separator.new.line) (told c.put_transition.new.out.items c.put_transition.new.line) found.2 c.in_ok-put_separator.ensures (c.in_ok-put_transition.ensures small) c.places.invariant.rest;
+          (told c.put_next_number.new.out.items c.put_next_number.new.self) found.2
+          (c.in_ok-put_next_number.ensures ∙ ap (λ (t : List ℕ). told c.places.out.items c.places.line ++ (separator c.places.is_first ++ t)) number)
+          c.places.invariant.rest;
     }
 
 pub returns : goal.returns

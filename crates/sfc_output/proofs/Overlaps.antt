@@ -1,0 +1,38 @@
+-- Text that was put in two pieces, which may have bytes in common.
+use Rattle.std.proofs.Common.{◌≡◌, ◌≤◌, ◌+◌, ◌-◌, ℕ, List, ◌++◌, length, take, drop, sym, ap, ◌∙◌, append_assoc, length-append, arith}
+use Rattle.std.proofs.lemmas.List.{take-append-drop, take_rest, length-take-le}
+use Rattle.std.proofs.Math.Seq.{take-append_seam, take-add}
+
+-- fronts of the same length of one list
+fronts : (p q r s : List ℕ) → length p ≡ length q → p ++ r ≡ q ++ s → p ≡ q
+fronts p q r s len e =
+    sym (take-append_seam p r) ∙ ap (λ (l : List ℕ). take (length p) l) e ∙ ap (λ (n : ℕ). take n (q ++ s)) len ∙ take-append_seam q s
+
+-- the same, of a front of what was put
+shorter : (old one text : List ℕ) (count j m : ℕ) → count ≤ length old → count + (j + m) ≤ length one → j + m ≤ length text
+    → take (count + (j + m)) one ≡ take count old ++ take (j + m) text → take (count + j) one ≡ take count old ++ take j text
+shorter old one text count j m within fits le e =
+    let split : take (count + j) one ++ take m (drop (count + j) one) ≡ take (count + (j + m)) one =
+    sym (take-add (count + j) m one) ∙ ap (λ (n : ℕ). take n one) (omega arith) in
+    let parts : take count old ++ take (j + m) text ≡ (take count old ++ take j text) ++ take m (drop j text) =
+    ap (λ (l : List ℕ). take count old ++ l) (take-add j m text) ∙ sym (append_assoc (take count old) (take j text) (take m (drop j text))) in
+    fronts (take (count + j) one) (take count old ++ take j text) (take m (drop (count + j) one)) (take m (drop j text))
+    (length-take-le (count + j) one (omega arith)
+    ∙ sym (length-append (take count old) (take j text)
+    ∙ (λ i. length-take-le count old within i + length-take-le j text (omega arith) i)))
+    (split ∙ e ∙ parts)
+
+-- first k bytes, and then the last k, which are all
+pub overlapped : (old one two text : List ℕ) (count k j : ℕ) → count ≤ length old → j + k ≡ length text → j ≤ k → count + k ≤ length one
+    → take (count + k) one ≡ take count old ++ take k text → take (count + j + k) two ≡ take (count + j) one ++ take (length text - j) (drop j text)
+    → take (count + length text) two ≡ take count old ++ text
+overlapped old one two text count k j within whole le fits first last =
+    let m = k - j in
+    let same : j + m ≡ k = omega arith in
+    let front : take (count + j) one ≡ take count old ++ take j text =
+    shorter old one text count j m within (omega arith) (omega arith)
+    (ap (λ (n : ℕ). take (count + n) one) same ∙ first ∙ ap (λ (n : ℕ). take count old ++ take n text) (sym same)) in
+    ap (λ (n : ℕ). take n two) (omega arith) ∙ last ∙ ap (λ (l : List ℕ). take (count + j) one ++ l) (take_rest text j)
+    ∙ ap (λ (l : List ℕ). l ++ drop j text) front
+    ∙ append_assoc (take count old) (take j text) (drop j text)
+    ∙ ap (λ (l : List ℕ). take count old ++ l) (take-append-drop j text)
