@@ -12,5 +12,6 @@ is_stored _ = false
 
 -- no action has two of these associations by SD or SL
 abbrev pub AreSingle : List StepAction → Type 0
-AreSingle xs = (j k : ℕ) (d : StepAction) → j < k → k < length xs → (slice_index_or xs j d).action.0 ≡ (slice_index_or xs k d).action.0
+AreSingle xs = (j k : ℕ) (d : StepAction) → j < k → k < length xs
+    → (slice_index_or xs j d).action.0 ≡ (slice_index_or xs k d).action.0
     → is_stored (slice_index_or xs j d).qualifier ≡ true → is_stored (slice_index_or xs k d).qualifier ≡ false
