@@ -56,7 +56,7 @@ impl Drop for Steps {
 
 #[tactic(auto, unfolding(crate::specs::Agreement::StepsAgree, crate::specs::Agreement::measured_times))]
 impl Steps {
-    ghost use Rattle.std.specs.Prelude.{◌≡◌, ◌<◌, ◌≤ℤ◌, ◌^◌, ◌+◌, ◌*◌, ◌∷◌, [], List, ℕ, ℤ, pos, true, false, length, IfOk};
+    ghost use Rattle.std.specs.Prelude.{◌≡◌, ◌<◌, ◌≤ℤ◌, ◌^◌, ◌+◌, ◌*◌, ◌∷◌, [], List, ℕ, ℤ, pos, not, true, false, length, IfOk};
     ghost use Rattle.sfc_base.specs.Ticks.{Within};
     ghost use Rattle.sfc_flags.specs.Flags.{flag};
     ghost use Rattle.sfc_tables.specs.Tables.{Tabled, AreTables};
@@ -172,14 +172,14 @@ impl Steps {
     }
 
     /// One scan in which no condition is TRUE: answers whether it is done, with the outcome that `advance` has. It clears nothing, and the
-    /// steps and their times stay as they are (2.6.5). Where it answers no nothing has changed, since the life has not begun, and the scan
-    /// wants `advance`. It takes no memory.
+    /// steps and their times stay as they are (2.6.5). It answers no in the first scan of a life alone: then nothing has changed, and the
+    /// scan wants `advance`. It takes no memory.
     pub fn stay(&mut self, tables: &Tables, ticks: &mut Ticks) -> bool
         requires sizes { IsFor tables.now self.old }
         ensures sizes { IsFor tables.now self.new }
         ensures agrees { result ≡ true → (scan : Scan) (scans : List Scan) → AreFalse scan.conditions →
             StepsAgree tables.now self.old scans → StepsAgree tables.now self.new (scan ∷ scans) }
-        ensures begun { result ≡ true → (scans : List Scan) → StepsAgree tables.now self.old scans → is_empty scans ≡ false }
+        ensures begun { (scans : List Scan) → StepsAgree tables.now self.old scans → result ≡ not (is_empty scans) }
         ensures same_steps { result ≡ true → (scan : Scan) (scans : List Scan) → AreFalse scan.conditions →
             StepsAgree tables.now self.old scans →
             active_steps tables.now (rows_of tables.now (scan ∷ scans)) ≡ active_steps tables.now (rows_of tables.now scans) }

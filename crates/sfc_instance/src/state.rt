@@ -212,7 +212,10 @@ impl State {
         if repeat(&mut self.controls, moved, ticks) {
             return Ok(Moved::Nothing);
         }
-        match self.controls.step(tables, &self.steps, t, &buffers.times, ticks) {
+        match self
+            .controls
+            .step(tables, &self.steps, t, &buffers.times, ticks)
+        {
             Err(fault) => Err(fault),
             Ok(()) if moved => Ok(Moved::Steps),
             Ok(()) => Ok(Moved::Controls),

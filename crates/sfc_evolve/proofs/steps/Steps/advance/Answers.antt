@@ -332,8 +332,14 @@ invariant_of-self-2-clause-held_times_len c =
     let self = c.args.self.now in
     let kept = with_items_is self.held_times c.move_on.new.held_times (omega arith) in
     let same : length c.begin.new.times ≡ length c.begin.new.active =
-    omega (arith, self.held_times_len, c.begin.ensures.active_len, c.move_on.ensures.active_len, c.begin.ensures.times_len,
-    ap length (c.deref_mut-3.ensures.value ∙ kept)) in
+    omega (
+      arith,
+      self.held_times_len,
+      c.begin.ensures.active_len,
+      c.move_on.ensures.active_len,
+      c.begin.ensures.times_len,
+      ap length (c.deref_mut-3.ensures.value ∙ kept),
+    ) in
     ap length (with_items_is (with_items self.held_times c.move_on.new.held_times) c.begin.new.times
     (omega (arith, ap length kept, c.begin.ensures.times_len, ap length (c.deref_mut-3.ensures.value ∙ kept)))) ∙ same
 

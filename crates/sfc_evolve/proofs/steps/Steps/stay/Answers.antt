@@ -1,17 +1,12 @@
-use Rattle.std.proofs.Common.{◌≡◌, ◌∷◌, length, ap, ◌∙◌, refl, sym, true, false, not, Bool}
+use Rattle.std.proofs.Common.{◌∷◌, length, ap, ◌∙◌, sym, false}
 use Rattle.std.proofs.lemmas.List.{length-replicate}
-use Rattle.std.specs.Prelude.{replicate, List}
-use Rattle.sfc_evolve.specs.Agreement.{StepsAgree, Keeps, AreMeasured, shown_time, IsLike}
-use Rattle.sfc_evolve.specs.Clearing.{step_count, transition_count}
-use Rattle.sfc_evolve.specs.Evolution.{Scan, AreFalse, rows_of, is_active}
-use Rattle.sfc_evolve.specs.Lookback.{is_empty}
+use Rattle.std.specs.Prelude.{replicate}
+use Rattle.sfc_evolve.specs.Agreement.{StepsAgree, AreMeasured, shown_time, IsLike}
+use Rattle.sfc_evolve.specs.Clearing.{step_count}
+use Rattle.sfc_evolve.specs.Evolution.{rows_of, is_active}
 use Rattle.sfc_evolve.proofs.Listed.{listed}
 use Rattle.sfc_evolve.proofs.Stayed.{stayed}
 use Rattle.sfc_evolve.proofs.steps.Steps.stay.Goals as goal
-
-not_true : (x : Bool) → not x ≡ true → x ≡ false
-not_true true e = absurd (let bad : false ≡ true = e in cc)
-not_true false e = refl
 
 pub returns-clause-agrees : goal.returns-clause-agrees
 unfolding StepsAgree
@@ -34,7 +29,11 @@ returns-clause-agrees c answer scan scans off k =
 
 pub returns-clause-begun : goal.returns-clause-begun
 unfolding StepsAgree
-returns-clause-begun c answer scans k = not_true (is_empty scans) (sym k.fields.has_begun ∙ c.if-not-self.false)
+returns-clause-begun c scans k = sym c.if-not-self.false ∙ k.fields.has_begun
+
+pub returns-then-not-self-clause-begun : goal.returns-then-not-self-clause-begun
+unfolding StepsAgree
+returns-then-not-self-clause-begun c scans k = sym c.if-not-self.true ∙ k.fields.has_begun
 
 -- the same flags are those of the active steps before and after
 pub returns-clause-same_steps : goal.returns-clause-same_steps
