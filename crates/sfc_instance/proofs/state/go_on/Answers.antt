@@ -1,4 +1,4 @@
-use Rattle.std.proofs.Common.{◌≡◌, sym, subst, to_z-of_z}
+use Rattle.std.proofs.Common.{sym, subst, to_z-of_z}
 use Rattle.sfc_evolve.specs.declared.steps.Steps.{Steps}
 use Rattle.sfc_evolve.specs.Agreement.{StepsAgree}
 use Rattle.sfc_instance.proofs.state.go_on.Goals as goal

@@ -1,4 +1,4 @@
-use Rattle.std.proofs.Common.{sym, ◌∙◌, to_z-of_z}
+use Rattle.std.proofs.Common.{sym, ◌∙◌}
 use Rattle.sfc_instance.proofs.Scanned.{moved_ok, moved_err}
 use Rattle.sfc_instance.proofs.scan_run.ScanRun.finish.Goals as goal
 
