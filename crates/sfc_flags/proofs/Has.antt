@@ -1,10 +1,11 @@
 -- What the operations on a word do to its flags, and what a table shows of its words.
-use Rattle.std.proofs.Common.{◌≡◌, ℕ, ◌/◌, ◌%◌, ◌^◌, ◌<◌, ◌≤◌, ◌&&◌, ◌↔◌, ◌*◌, ◌==◌, true, false, cond, List, length, get_or, ◌∙◌, ap, refl, sym, inl, inr, arith, w64, eq-eqb}
+use Rattle.std.proofs.Common.{◌≡◌, ℕ, Bool, not, ◌/◌, ◌%◌, ◌^◌, ◌<◌, ◌≤◌, ◌&&◌, ◌↔◌, ◌*◌, ◌==◌, true, false, cond, List, length, get_or, ◌∙◌, ap, refl, sym, inl, inr, arith, w64, eq-eqb}
 use Rattle.std.proofs.lemmas.Bool.{cases_eq, ne_eqb}
 use Rattle.std.proofs.lemmas.List.{get_or-set_same, get_or-set_other, length-set}
 use Rattle.std.proofs.lemmas.Nat.Bits.{bit_at_and, bit_at-zero, bit_at-trailing_zeros, bit_at_set_same, bit_at_set_other}
 use Rattle.std.specs.Prelude.{slice_set, bit_and, bit_or}
 use Rattle.std.specs.Int.{bit_at, trailing_zeros}
+use lib.Count.{count_trailing_zeros}
 use Rattle.sfc_flags.specs.Flags.{flag}
 use Rattle.sfc_flags.specs.Private.Bits.{bit, flags_of, IsTable}
 use Rattle.sfc_flags.proofs.Tables.{zero_or_one}
@@ -78,4 +79,20 @@ plus_shows w i j same = elim (cases_eq (j % 64) (i % 64)) [
   | inl e ↦ (let here : j ≡ i = omega arith in
       rw (eq-eqb j i here, e, bit_at_set_same w64 w (i % 64) (omega arith)) refl)
   | inr d ↦ rw (ne_eqb j i (λ e. d (ap (λ x. x % 64) e)), bit_at_set_other w64 w (i % 64) (omega arith) (j % 64) d) refl
+]
+
+-- the place of the lowest bit of a word that has one
+pub lowest : (a : ℕ) → 0 < a → a < 2 ^ 64 → (count_trailing_zeros 64 a < 64) × ((bit_at a (count_trailing_zeros 64 a % 64) == 1) ≡ true)
+    × ((j : ℕ) → j < count_trailing_zeros 64 a → (bit_at a (j % 64) == 1) ≡ false)
+lowest a some fits =
+    let is = bit_at-trailing_zeros w64 a some fits in
+    let within : count_trailing_zeros 64 a < 64 = is.0 in
+    let here : count_trailing_zeros 64 a % 64 ≡ count_trailing_zeros 64 a = omega arith in
+    (within, rw (here, is.1) refl, λ j lt. (let there : j % 64 ≡ j = omega arith in rw (there, is.2 j lt) refl))
+
+-- a word without the bit of place i
+pub minus_shows : (b x : Bool) (place i : ℕ) → i < 64 → x ≡ cond (place % 64 == i) true false → (b && not x) ≡ (b && not (place % 64 == i))
+minus_shows b x place i lt e = elim (cases_eq (place % 64) i) [
+  | inl same ↦ rw (e, eq-eqb (place % 64) i same) refl
+  | inr apart ↦ rw (e, ne_eqb (place % 64) i apart) refl
 ]

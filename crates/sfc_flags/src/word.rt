@@ -1,6 +1,6 @@
 //! The flags of 64 places at once.
 
-ghost use Rattle.std.specs.Prelude.{◌≡◌, ◌==◌, ◌||◌, ◌&&◌, ◌↔◌, ℕ, not, cond, true, false};
+ghost use Rattle.std.specs.Prelude.{◌≡◌, ◌==◌, ◌<◌, ◌%◌, ◌||◌, ◌&&◌, ◌↔◌, ℕ, not, cond, true, false, IfSome, None};
 ghost use Rattle.sfc_flags.specs.Words.{has, word_of};
 
 /// The flags of 64 places that follow each other. Clauses ask for the flag of a place by its number in the table; the
@@ -56,5 +56,27 @@ impl Word {
         ensures { (place : ℕ) → has result place ≡ (has self place && not (has other place)) }
     {
         Word(self.0 & !other.0)
+    }
+
+    /// The flags that one of the two has and the other hasn't.
+    pub fn apart(self, other: Word) -> Word
+        ensures { (place : ℕ) → has result place ≡ cond (has other place) (not (has self place)) (has self place) }
+    {
+        self.without(other).or(other.without(self))
+    }
+
+    /// The first place within the word that has its flag, from 0 to 63, and the flags without that one.
+    #[inline(always)]
+    pub fn split_first(self) -> Option<(usize, Word)>
+        ensures first { IfSome result (λ p. (p.0 < 64) × (has self p.0 ≡ true) × ((j : ℕ) → j < p.0 → has self j ≡ false)) }
+        ensures rest { IfSome result (λ p. (place : ℕ) → has p.1 place ≡ (has self place && not (place % 64 == p.0))) }
+        ensures none { result ≡ None → (place : ℕ) → has self place ≡ false }
+    {
+        if self.0 == 0 {
+            return None;
+        }
+        let place = self.0.trailing_zeros() as usize;
+        let first = Word::none().plus(place);
+        Some((place, self.without(first)))
     }
 }
