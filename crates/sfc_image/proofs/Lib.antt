@@ -9,10 +9,10 @@ pub mod Left
 pub mod LocalNumbers
 pub mod Numbers
 pub mod Outputs
+pub mod Places
 pub mod Pasts
 pub mod Puts
 pub mod Tracked
-pub mod Turned
 pub mod Typed
 pub mod Viewed
 pub mod Written

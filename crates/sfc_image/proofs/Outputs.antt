@@ -21,6 +21,7 @@ use Rattle.sfc_base.specs.declared.value.Value.TheVariants as value
 use Rattle.sfc_image.specs.declared.slot.Slot.{Slot}
 use Rattle.sfc_image.specs.Environments.{number_of}
 use Rattle.sfc_image.specs.Bodies.{changes_in, stored_to}
+use Rattle.sfc_image.specs.Private.Giving.{AssignedTo}
 use Rattle.sfc_image.specs.Private.Keeping.{slot_at}
 use Rattle.sfc_image.specs.Private.OutputMemos.{IsAssigned, HasQ, Stays}
 use Rattle.sfc_image.specs.Private.Stores.{both_more}
@@ -90,48 +91,45 @@ module _ (plant : PlantData) (p : ProgId) (q : List Bool) (targets : List Target
         (stays changes v i (value.Bool (flag q k)) e had.stored h)
 
   -- so are several
-  again : (changes : Changes) (n from : ℕ) → from + n ≤ length targets
-      → ((j : ℕ) → from ≤ j → j < from + n → HasQ plant p slots j (flag q j))
+  again : (changes : Changes) (n from : ℕ) → ((j : ℕ) → from ≤ j → j < from + n → HasQ plant p slots j (flag q j))
       → Agrees (with_changes (outputs plant p q 0 (take from targets)) changes)
       → Agrees (with_changes (outputs plant p q 0 (take (from + n) targets)) changes)
-  again changes zero from le has h =
+  again changes zero from has h =
       let here : from ≡ from + 0 = omega arith in
       subst (λ (k : ℕ). Agrees (with_changes (outputs plant p q 0 (take k targets)) changes)) here h
-  again changes (suc n) from le has h =
+  again changes (suc n) from has h =
       let k : ℕ = from + n in
-      let target = some_target targets k (omega (arith, le)) in
-      let before = again changes n from (omega (arith, le)) (λ j a b. has j a (omega (arith, b))) h in
+      let before = again changes n from (λ j a b. has j a (omega (arith, b))) h in
       let next : k + 1 ≡ from + suc n = omega arith in
       subst (λ (m : ℕ). Agrees (with_changes (outputs plant p q 0 (take m targets)) changes)) next
-      (subst Agrees (sym (outputs_after plant p q targets k target.0 changes target.1))
-      (one_again (with_changes (outputs plant p q 0 (take k targets)) changes) k target.0 target.1
-      (has k (omega arith) (omega arith)) before))
+      (elim (cases_lt k (length targets)) as (λ _. Agrees (with_changes (outputs plant p q 0 (take (k + 1) targets)) changes)) [
+        | inl lt ↦
+            let target = some_target targets k lt in
+            subst Agrees (sym (outputs_after plant p q targets k target.0 changes target.1))
+            (one_again (with_changes (outputs plant p q 0 (take k targets)) changes) k target.0 target.1
+            (has k (omega arith) (omega arith)) before)
+        | inr past ↦
+            let same : take k targets ≡ take (k + 1) targets =
+            take_all k targets past ∙ sym (take_all (k + 1) targets (omega (arith, past))) in
+            subst (λ (ts : List Target). Agrees (with_changes (outputs plant p q 0 ts) changes)) same before
+      ])
 
 -- ---- one after the other
-
--- The first `from` actions of the instance were given their Q, and what was done agrees; where what was given before
--- holds, the others have that.
-pub record AssignedTo (plant : PlantData) (changes : Changes) (p : ProgId) (q : List Bool) (holds : Bool) (targets : List Target) (from : ℕ)
-    (slots : List Slot) (given : List Bool) (Agrees : Changes → Type 0) : Type 0 where
-  pub agrees : Agrees (with_changes (outputs plant p q 0 (take from targets)) changes)
-  pub done : (a : ℕ) → a < from → HasQ plant p slots a (flag q a)
-  pub rest : holds ≡ true → (a : ℕ) → from ≤ a → HasQ plant p slots a (flag given a)
 
 module _ (plant : PlantData) (changes : Changes) (p : ProgId) (q : List Bool) (holds : Bool) (targets : List Target)
     (is : targets ≡ actions_of (chart_of plant p)) where
   -- those that have it already are passed over
   pub passed : (slots : List Slot) (given : List Bool) (Agrees : Changes → Type 0) (from to : ℕ) → StoresAgain plant p slots Agrees
-      → from ≤ to → to ≤ length targets → ((j : ℕ) → from ≤ j → j < to → (holds ≡ true) × (flag given j ≡ flag q j))
+      → from ≤ to → ((j : ℕ) → from ≤ j → j < to → (holds ≡ true) × (flag given j ≡ flag q j))
       → AssignedTo plant changes p q holds targets from slots given Agrees → AssignedTo plant changes p q holds targets to slots given Agrees
-  passed slots given Agrees from to stays le fits same h =
+  passed slots given Agrees from to stays le same h =
       let has : (j : ℕ) → from ≤ j → j < to → HasQ plant p slots j (flag q j) =
       λ j a b. (let s = same j a b in subst (λ (x : Bool). HasQ plant p slots j x) s.1 (h.rest s.0 j a)) in
       let all : from + (to - from) ≡ to = omega (arith, le) in
       record {
         agrees =
             subst (λ (k : ℕ). Agrees (with_changes (outputs plant p q 0 (take k targets)) changes)) all
-            (again plant p q targets is slots Agrees stays changes (to - from) from (omega (arith, le, fits))
-            (λ j a b. has j a (omega (arith, b, le))) h.agrees);
+            (again plant p q targets is slots Agrees stays changes (to - from) from (λ j a b. has j a (omega (arith, b, le))) h.agrees);
         done = λ a below.
             elim (cases_lt a from) as (λ _. HasQ plant p slots a (flag q a)) [
               | inl before ↦ h.done a before
@@ -220,21 +218,32 @@ module _ (plant : PlantData) (changes : Changes) (p : ProgId) (q : List Bool) (h
       (λ i none. others log i h.agrees none) h)
 
   -- what was given holds, so the variable is an output already
-  pub given_again : (old new : List Slot) (before after : List Bool) (Old New : Changes → Type 0) (a : ℕ) (target : Target) (x : Bool)
+  pub gave_again : (old new : List Slot) (before : List Bool) (Old New : Changes → Type 0) (a : ℕ) (target : Target) (x : Bool)
       → holds ≡ true → x ≡ flag q a → slice_get targets a ≡ Some target
       → ((t : Changes) → Old t → New (with_changes (output plant p target x) t))
       → ((v : Variable) (i : ℕ) → target ≡ Boolean v → number_of plant p v ≡ Some i → (slot_at old i).is_output ≡ true
       → IsAssigned (slot_at new i) x)
       → ((i : ℕ) → ((v : Variable) → target ≡ Boolean v → number_of plant p v ≢ Some i) → Stays (slot_at old i) (slot_at new i))
-      → length targets ≤ length before
-      → ((b : ℕ) → b < length before → flag after b ≡ cond (b == a) x (flag before b))
-      → AssignedTo plant changes p q holds targets a old before Old → AssignedTo plant changes p q holds targets (a + 1) new after New
-  given_again old new before after Old New a target x on value at agrees here others capacity flags h =
-      given old new before after Old New New a target x value at agrees
-      (λ t v i state same number. here v i same number
+      → AssignedTo plant changes p q holds targets a old before Old → AssignedTo plant changes p q holds targets (a + 1) new before New
+  gave_again old new before Old New a target x on value at agrees here others h =
+      gave old new before Old New a target at
+      (subst (λ (b : Bool). New (with_changes (output plant p target b) (with_changes (outputs plant p q 0 (take a targets)) changes))) value
+      (agrees (with_changes (outputs plant p q 0 (take a targets)) changes) h.agrees))
+      (λ v i same number. subst (λ (b : Bool). IsAssigned (slot_at new i) b) value
+      (here v i same number
       (h.rest on a (omega arith) v i
-      (ap (λ (ts : List Target). slice_get ts a) (sym is) ∙ at ∙ ap (λ (w : Target). Some w) same) number).output)
-      (λ t i state none. others i none) (λ _. capacity) flags (λ t k. k) h
+      (ap (λ (ts : List Target). slice_get ts a) (sym is) ∙ at ∙ ap (λ (w : Target). Some w) same) number).output))
+      others h
+
+  -- what was given to the others alone counts
+  pub noted_again : (slots : List Slot) (before after : List Bool) (Agrees : Changes → Type 0) (from : ℕ)
+      → ((a : ℕ) → from ≤ a → flag after a ≡ flag before a)
+      → AssignedTo plant changes p q holds targets from slots before Agrees → AssignedTo plant changes p q holds targets from slots after Agrees
+  noted_again slots before after Agrees from same h = record {
+    agrees = h.agrees;
+    done = h.done;
+    rest = λ on a ge. subst (λ (x : Bool). HasQ plant p slots a x) (sym (same a ge)) (h.rest on a ge);
+  }
 
   -- before the first, and after the last
   pub none_assigned : (slots : List Slot) (given : List Bool) (Agrees : Changes → Type 0) → Agrees changes
@@ -252,7 +261,12 @@ module _ (plant : PlantData) (changes : Changes) (p : ProgId) (q : List Bool) (h
   all_assigned slots given Agrees from stays fits same h =
       subst (λ (xs : List Target). Agrees (with_changes (outputs plant p q 0 xs) changes))
       (take_all (length targets) targets (omega arith))
-      (passed slots given Agrees from (length targets) stays fits (omega arith) same h).agrees
+      (passed slots given Agrees from (length targets) stays fits same h).agrees
+
+  pub all_given : (slots : List Slot) (given : List Bool) (Agrees : Changes → Type 0) (from : ℕ) → length targets ≤ from
+      → AssignedTo plant changes p q holds targets from slots given Agrees → Agrees (with_changes (outputs plant p q 0 targets) changes)
+  all_given slots given Agrees from past h =
+      subst (λ (xs : List Target). Agrees (with_changes (outputs plant p q 0 xs) changes)) (take_all from targets past) h.agrees
 
   -- each variable has what was noted of it
   pub all_noted : (slots : List Slot) (given : List Bool) (Agrees : Changes → Type 0) (from : ℕ) → length q ≡ length targets
@@ -270,6 +284,15 @@ module _ (plant : PlantData) (changes : Changes) (p : ProgId) (q : List Bool) (h
     where
       within : (a : ℕ) (v : Variable) → slice_get (actions_of (chart_of plant p)) a ≡ Some (Boolean v) → a < length targets
       within a v at = slice_get_within targets a (Boolean v) (ap (λ (ts : List Target). slice_get ts a) is ∙ at)
+
+  pub all_kept : (slots : List Slot) (given : List Bool) (Agrees : Changes → Type 0) (from : ℕ) → holds ≡ true
+      → ((a : ℕ) → flag given a ≡ flag q a) → AssignedTo plant changes p q holds targets from slots given Agrees
+      → (a : ℕ) → HasQ plant p slots a (flag given a)
+  all_kept slots given Agrees from on same h a =
+      elim (cases_lt a from) as (λ _. HasQ plant p slots a (flag given a)) [
+        | inl lt ↦ subst (λ (x : Bool). HasQ plant p slots a x) (sym (same a)) (h.done a lt)
+        | inr ge ↦ h.rest on a ge
+      ]
 
 -- one more is noted
 pub noted_one : (q : List Bool) (a from : ℕ) (first old new : List Bool) (x : Bool) → old ≡ first → x ≡ flag q a

@@ -368,7 +368,6 @@ impl Image {
             HasQ plant instance self.old.slots.items a (flag (memo_at self.old.memos.items instance.0).q a) }
         requires few { length q.now < 2 ^ 64 }
         requires first { first < length q.now }
-        requires differs { flag (memo_at self.old.memos.items instance.0).q first ≢ flag q.now first }
         requires before { (j : ℕ) → j < first → flag (memo_at self.old.memos.items instance.0).q j ≡ flag q.now j }
         ensures large { IsAsLarge self.old self.new }
         ensures open { is_open self.new ≡ true }

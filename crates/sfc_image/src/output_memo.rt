@@ -1,7 +1,8 @@
 //! What an instance last gave its outputs: the variables of its Boolean actions (2.6.4.1).
 
-ghost use Rattle.std.specs.Prelude.{◌≡◌, ◌<◌, ◌==◌, ℕ, cond, not, length, IfOk};
+ghost use Rattle.std.specs.Prelude.{◌≡◌, ◌<◌, ◌≤◌, ◌==◌, ℕ, cond, false, length, IfOk};
 ghost use Rattle.sfc_flags.specs.Flags.{flag};
+ghost use Rattle.sfc_flags.specs.Words.{has, word_count, word_of, ArePut};
 ghost use Rattle.sfc_image.specs.Private.OutputMemos.{IsLater, IsGenerationAfter};
 
 use sfc_flags::flags::Flags;
@@ -27,18 +28,15 @@ impl OutputMemo {
         }
     }
 
-    /// Notes that the Q of an action is another now.
-    pub fn turn(&mut self, action: usize)
-        requires { action < length self.old.q }
+    /// Notes the Q of the 64 actions of this word.
+    pub fn take(&mut self, number: usize, q: Word)
+        requires number { number < word_count self.old.q }
+        requires past { (a : ℕ) → word_of a ≡ number → length self.old.q ≤ a → has q a ≡ false }
         ensures generation { self.new.generation ≡ self.old.generation }
         ensures len { length self.new.q ≡ length self.old.q }
-        ensures q { (a : ℕ) → flag self.new.q a ≡ cond (a == action) (not (flag self.old.q a)) (flag self.old.q a) }
+        ensures q { ArePut number (has q) (flag self.old.q) (flag self.new.q) }
     {
-        let number = action / 64;
-        let here = Word::none().plus(action);
-        let word = self.q.word(number);
-        self.q
-            .put_word(number, word.without(here).or(here.without(word)));
+        self.q.put_word(number, q);
     }
 }
 

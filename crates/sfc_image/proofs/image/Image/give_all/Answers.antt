@@ -8,7 +8,8 @@ use Rattle.sfc_image.specs.Private.OutputMemos.{memo_at}
 use Rattle.sfc_image.specs.declared.slot.Slot.{Slot}
 use Rattle.sfc_image.specs.Agreement.{ImageAgrees}
 use Rattle.sfc_image.proofs.StoredQ.{image_stores}
-use Rattle.sfc_image.proofs.Outputs.{AssignedTo, none_assigned, given, all_assigned, all_noted, noted_one}
+use Rattle.sfc_image.specs.Private.Giving.{AssignedTo}
+use Rattle.sfc_image.proofs.Outputs.{none_assigned, given, all_assigned, all_noted, noted_one}
 use Rattle.sfc_image.proofs.image.Image.give_all.Goals as goal
 
 pub outputs-init : goal.outputs-init

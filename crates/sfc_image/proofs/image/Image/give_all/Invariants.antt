@@ -7,7 +7,7 @@ use Rattle.sfc_plant.specs.Plants.{PlantData}
 use Rattle.sfc_image.specs.Changes.{Changes}
 use Rattle.sfc_image.specs.Private.OutputMemos.{memo_at}
 use Rattle.sfc_image.specs.Agreement.{ImageAgrees, IsAsLarge, is_open}
-use Rattle.sfc_image.proofs.Outputs.{AssignedTo}
+use Rattle.sfc_image.specs.Private.Giving.{AssignedTo}
 use Rattle.sfc_image.proofs.image.Image.give_all.Given as goal
 
 abbrev pub invariant-outputs : goal.invariant-outputs
