@@ -1,3 +1,4 @@
+pub mod Alike
 pub mod Cuts
 mod Numbers
 pub mod Pasts

@@ -30,6 +30,11 @@ pub fn kept_past()
     ensures edge { (edge : Edge) (h : List Bool) → EdgeAgrees edge h ↔ (edge_in edge ≡ edge_past h) }
 {}
 
+/// An on-delay keeps nothing but the past of its calls: two that keep the same past are equal.
+pub fn alike()
+    ensures { (a b : OnDelay) → on_delay_in a ≡ on_delay_in b → a ≡ b }
+{}
+
 /// A history may be cut at any place: after one of the same past the same calls give the same past, and the same
 /// answers.
 pub fn cut()

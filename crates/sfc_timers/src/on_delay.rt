@@ -1,6 +1,6 @@
 //! On-delay timers (2.5.2.3.4).
 
-ghost use Rattle.std.specs.Prelude.{◌≡◌, ◌^◌, ◌-ℤ◌, pos, ◌≤ℤ◌, int_le};
+ghost use Rattle.std.specs.Prelude.{◌≡◌, ◌^◌, ◌-ℤ◌, pos, ◌≤ℤ◌, int_le, false};
 
 use sfc_base::ticks::Ticks;
 
@@ -13,6 +13,9 @@ pub struct OnDelay {
     preset: i64,
     ghost start_low: { pos 0 ≤ℤ start },
     ghost start_high: { start ≤ℤ pos (2 ^ 62) },
+    // All that don't run are the same.
+    ghost no_start: { is_running ≡ false → start ≡ pos 0 },
+    ghost no_preset: { is_running ≡ false → preset ≡ pos 0 },
 }
 
 #[tactic(auto, unfolding(crate::specs::Agreement::OnDelayAgrees))]
@@ -46,6 +49,8 @@ impl OnDelay {
         ticks.tick();
         if !input {
             self.is_running = false;
+            self.start = 0;
+            self.preset = 0;
             return false;
         }
         if !self.is_running {
