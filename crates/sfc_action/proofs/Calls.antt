@@ -61,6 +61,14 @@ module _ (n k : ℕ) (inputs : Inputs) (stored new : Stores) (old : ℕ → Stor
         ∙ sym (λ j. called_of (inputs_past n b le inputs i j) (stores_after_past n b le inputs stored i s j))) a
         ∙ ap (called_of (input_row inputs a)) (sym (rows a))
 
+    -- where no action of these words is called, none is
+    pub uncalled_at : ((a : ℕ) → word_of a < k → called_of (input_row inputs a) (stores_after (input_row inputs a) (store_row stored a)) ≡ false)
+        → (a : ℕ) → flag called a ≡ false
+    uncalled_at none a = elim (cases_lt a n) [
+      | inl lt ↦ (let near : word_of a < k = omega (arith, enough, lt) in flags.done a near ∙ none a near)
+      | inr ge ↦ past n a called size ge
+    ]
+
     pub are_called : AreCalled inputs new called
     are_called Limited a e =
         each a ∙ or_before _ _ (or_before _ _ (or_before _ _ (or_before _ _ e)))

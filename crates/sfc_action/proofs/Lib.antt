@@ -5,6 +5,7 @@ pub mod Elapsed
 pub mod Elements
 pub mod Failures
 pub mod Fitting
+pub mod Idle
 pub mod Live
 pub mod Moments
 pub mod Next

@@ -46,7 +46,7 @@ none_behind flags at e k le = sym (at_place flags at k le) ∙ with_none at (dro
 
 -- ---- idle on-delays
 
-none_is : {A : Type 0} (o : Option A) → is_some o ≡ false → o ≡ None
+pub none_is : {A : Type 0} (o : Option A) → is_some o ≡ false → o ≡ None
 none_is None e = refl
 none_is (Some x) e = absurd cc
 
@@ -67,11 +67,11 @@ idle_apart false live pt t block idle off wakes = idle_stepped pt t block idle
 pub new_idle : (block : Block) → IsNew block → IsIdle block
 new_idle block new = record { runs = ap is_some (on_delay_keeps block.delay [] new.delay); elapsed = new.elapsed }
 
-or_left : (x y : Bool) → (x || y) ≡ false → x ≡ false
+pub or_left : (x y : Bool) → (x || y) ≡ false → x ≡ false
 or_left true y e = e
 or_left false y e = refl
 
-or_right : (x y : Bool) → (x || y) ≡ false → y ≡ false
+pub or_right : (x y : Bool) → (x || y) ≡ false → y ≡ false
 or_right true y e = absurd cc
 or_right false y e = e
 

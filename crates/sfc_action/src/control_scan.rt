@@ -3,6 +3,7 @@
 use crate::inputs::Inputs;
 use crate::marking::mark_active;
 use crate::scan_words::ScanWords;
+use crate::settled::Settled;
 use crate::stores::Stores;
 use crate::timed::Timed;
 use crate::timed_words::TimedWords;
@@ -65,9 +66,8 @@ impl ControlScan {
         })
     }
 
-    // Of the 64 actions of this word what the flip-flops become and which are called; no on-delay has elapsed yet. Answers whether none
-    // of them has a fault: where it answers no, one may have.
-    fn settle_word(&mut self, stored: &Stores, number: usize) -> bool
+    // Of the 64 actions of this word what the flip-flops become and which are called; no on-delay has elapsed yet.
+    fn settle_word(&mut self, stored: &Stores, number: usize) -> Settled
         requires sized { IsControlScan (length self.old.called) self.old }
         requires stored { AreStores (length self.old.called) stored.now }
         requires number { number < word_count self.old.called }
@@ -79,20 +79,25 @@ impl ControlScan {
         ensures called { ArePut number (λ a. called_of (input_row self.old.inputs a)
             (stores_after (input_row self.old.inputs a) (store_row stored.now a))) (flag self.old.called) (flag self.new.called) }
         ensures elapsed { ArePut number (λ a. no_times) (timed_row self.old.elapsed) (timed_row self.new.elapsed) }
-        ensures faultless { result ≡ true → (a : ℕ) → word_of a ≡ number → has_fault (input_row self.old.inputs a)
+        ensures faultless { result.is_faultless ≡ true → (a : ℕ) → word_of a ≡ number → has_fault (input_row self.old.inputs a)
+            (stores_after (input_row self.old.inputs a) (store_row stored.now a)) ≡ false }
+        ensures uncalled { result.is_called ≡ false → (a : ℕ) → word_of a ≡ number → called_of (input_row self.old.inputs a)
             (stores_after (input_row self.old.inputs a) (store_row stored.now a)) ≡ false }
     {
         let inputs = self.inputs.words(number);
         let stores = stored.words(number).after(inputs);
         self.stores.put(number, stores);
-        self.called.put_word(number, inputs.called(stores));
+        let called = inputs.called(stores);
+        self.called.put_word(number, called);
         self.elapsed.put(number, TimedWords::none());
-        inputs.are_faultless(stores)
+        Settled {
+            is_faultless: inputs.are_faultless(stores),
+            is_called: !called.is_none(),
+        }
     }
 
-    // What the flip-flops become and which actions are called; no on-delay has elapsed yet. Answers whether no action has a fault: where
-    // it answers no, one may have.
-    fn settle(&mut self, stored: &Stores, ticks: &mut Ticks) -> bool
+    // What the flip-flops become and which actions are called; no on-delay has elapsed yet.
+    fn settle(&mut self, stored: &Stores, ticks: &mut Ticks) -> Settled
         requires sized { IsControlScan (length self.old.called) self.old }
         requires stored { AreStores (length self.old.called) stored.now }
         ensures sized { IsControlScan (length self.old.called) self.new }
@@ -101,19 +106,25 @@ impl ControlScan {
         ensures next { AreNext stored.now self.new.inputs self.new.stores }
         ensures called { AreCalled self.new.inputs self.new.stores self.new.called }
         ensures elapsed { self.new.elapsed ≡ none (length self.old.called) }
-        ensures faultless { result ≡ true → (a : ℕ) → fault_at self.new.inputs self.new.stores a ≡ None }
+        ensures faultless { result.is_faultless ≡ true → (a : ℕ) → fault_at self.new.inputs self.new.stores a ≡ None }
+        ensures uncalled { result.is_called ≡ false → (a : ℕ) → flag self.new.called a ≡ false }
         ensures ticks { Within (length self.old.called) ticks.old ticks.new }
     {
-        let mut is_faultless = true;
+        // One word, as up to 64 actions have, without a loop.
+        if self.called.words() == 1 {
+            ticks.tick();
+            return self.settle_word(stored, 0);
+        }
+        let mut settled = Settled::of_none();
         for number in 0..self.called.words() {
             ticks.tick();
-            is_faultless &= self.settle_word(stored, number);
+            settled = settled.and(self.settle_word(stored, number));
         }
-        is_faultless
+        settled
     }
 
     /// Reads the input of a scan: the inputs of all blocks, the times, what the flip-flops become, and which actions are called; no
-    /// on-delay has elapsed yet. Answers whether no action has a fault: where it answers no, one may have.
+    /// on-delay has elapsed yet.
     pub fn read(
         &mut self,
         stored: &Stores,
@@ -121,7 +132,7 @@ impl ControlScan {
         active: &Flags,
         times: &[i64],
         ticks: &mut Ticks,
-    ) -> bool
+    ) -> Settled
         requires tables { AreTables tables.now }
         requires sized { IsControlScan (length tables.now.actions) self.old }
         requires stored { AreStores (length tables.now.actions) stored.now }
@@ -135,7 +146,8 @@ impl ControlScan {
         ensures next { AreNext stored.now self.new.inputs self.new.stores }
         ensures called { AreCalled self.new.inputs self.new.stores self.new.called }
         ensures elapsed { self.new.elapsed ≡ none (length tables.now.actions) }
-        ensures faultless { result ≡ true → (a : ℕ) → fault_at self.new.inputs self.new.stores a ≡ None }
+        ensures faultless { result.is_faultless ≡ true → (a : ℕ) → fault_at self.new.inputs self.new.stores a ≡ None }
+        ensures uncalled { result.is_called ≡ false → (a : ℕ) → flag self.new.called a ≡ false }
         ensures ticks { Within (2 * length tables.now.actions + length active.now + length tables.now.associations)
             ticks.old ticks.new }
     {

@@ -155,11 +155,18 @@ impl ControlState {
         }
     }
 
-    /// What a scan at t makes of all, where the control scan has read its input.
-    pub fn act(&mut self, control_scan: &mut ControlScan, t: i64, ticks: &mut Ticks)
+    /// What a scan at t makes of all, where the control scan has read its input, and no on-delay has its input unless `is_called`.
+    pub fn act(
+        &mut self,
+        control_scan: &mut ControlScan,
+        is_called: bool,
+        t: i64,
+        ticks: &mut Ticks,
+    )
         requires sized { IsStateSized (length self.old.q) self.old }
         requires control_scan { IsControlScan (length self.old.q) control_scan.old }
         requires called { AreCalled control_scan.old.inputs control_scan.old.stores control_scan.old.called }
+        requires uncalled { is_called ≡ false → (a : ℕ) → flag control_scan.old.called a ≡ false }
         requires elapsed { control_scan.old.elapsed ≡ none (length self.old.q) }
         requires low { pos 0 ≤ℤ t }
         requires high { t ≤ℤ pos (2 ^ 62) }
@@ -167,7 +174,7 @@ impl ControlState {
         ensures acted { IsActed control_scan.old.inputs control_scan.old.stores control_scan.old.presets.items t self.old self.new }
         ensures ticks { Within (2 * length self.old.q + 2 * length self.old.blocks) ticks.old ticks.new }
     {
-        self.blocks.step(control_scan, t, ticks);
+        self.blocks.step(control_scan, is_called, t, ticks);
         self.act_all(control_scan, ticks);
     }
 

@@ -107,7 +107,7 @@ impl Controls {
         ensures ticks { Within (step_work tables.now) ticks.old ticks.new }
     {
         let _steps = tables.steps();
-        let is_faultless = self.control_scan.read(
+        let settled = self.control_scan.read(
             &self.state.stores,
             tables,
             steps.active_flags(),
@@ -115,7 +115,7 @@ impl Controls {
             ticks,
         );
         if let Some(fault) = first_fault(
-            is_faultless,
+            settled.is_faultless,
             &self.control_scan.inputs,
             &self.control_scan.stores,
             tables.step_actions(),
@@ -123,7 +123,8 @@ impl Controls {
         ) {
             return Err(fault);
         }
-        self.state.act(&mut self.control_scan, t, ticks);
+        self.state
+            .act(&mut self.control_scan, settled.is_called, t, ticks);
         Ok(())
     }
 

@@ -47,8 +47,9 @@ use sfc_base::ticks::Ticks;
 use std::alloc::{AllocError, Global};
 
 impl Delays {
-    ghost use Rattle.std.specs.Prelude.{◌≡◌, ◌≤ℤ◌, ◌^◌, ◌+◌, ◌*◌, pos, true, length, map, All, IfOk};
+    ghost use Rattle.std.specs.Prelude.{◌≡◌, ◌≤ℤ◌, ◌^◌, ◌+◌, ◌*◌, ℕ, pos, true, false, length, map, All, IfOk};
     ghost use Rattle.sfc_base.specs.Ticks.{Within};
+    ghost use Rattle.sfc_flags.specs.Flags.{flag};
     ghost use Rattle.sfc_action.specs.Private.ControlScans.{IsControlScan};
     ghost use Rattle.sfc_action.specs.Private.TimedSets.{none};
     ghost use Rattle.sfc_action.specs.Private.Delays.{AreOf, AreStepped, gathered};
@@ -73,9 +74,8 @@ impl Delays {
         })
     }
 
-    /// One scan of all on-delays at t, with the inputs, the flip-flops and the times of the control scan, which gets the sets of those
-    /// that have elapsed.
-    pub fn step(&mut self, control_scan: &mut ControlScan, t: i64, ticks: &mut Ticks)
+    // One scan of the on-delays, some of which may run, have elapsed or have their input.
+    fn step_awake(&mut self, control_scan: &mut ControlScan, t: i64, ticks: &mut Ticks)
         requires sized { IsControlScan (length control_scan.old.presets.items) control_scan.old }
         requires actions { AreOf (length control_scan.old.presets.items) self.old }
         requires called { AreCalled control_scan.old.inputs control_scan.old.stores control_scan.old.called }
@@ -105,6 +105,36 @@ impl Delays {
         );
     }
 
+    /// One scan of all on-delays at t, with the inputs, the flip-flops and the times of the control scan, which gets the sets of those
+    /// that have elapsed. None has its input unless `is_called`.
+    #[inline(always)]
+    pub fn step(
+        &mut self,
+        control_scan: &mut ControlScan,
+        is_called: bool,
+        t: i64,
+        ticks: &mut Ticks,
+    )
+        requires sized { IsControlScan (length control_scan.old.presets.items) control_scan.old }
+        requires actions { AreOf (length control_scan.old.presets.items) self.old }
+        requires called { AreCalled control_scan.old.inputs control_scan.old.stores control_scan.old.called }
+        requires uncalled { is_called ≡ false → (a : ℕ) → flag control_scan.old.called a ≡ false }
+        requires elapsed { control_scan.old.elapsed ≡ none (length control_scan.old.presets.items) }
+        requires low { pos 0 ≤ℤ t }
+        requires high { t ≤ℤ pos (2 ^ 62) }
+        ensures sized { IsControlScan (length control_scan.old.presets.items) control_scan.new }
+        ensures len { length self.new ≡ length self.old }
+        ensures stepped { AreStepped control_scan.old.inputs control_scan.old.stores control_scan.old.presets.items t self.old self.new }
+        ensures control_scan { control_scan.new
+            ≡ record control_scan.old { elapsed = gathered self.new (none (length control_scan.old.presets.items)) } }
+        ensures ticks { Within (length control_scan.old.presets.items + 2 * length self.old) ticks.old ticks.new }
+    {
+        // Idle on-delays stay as they are without their input.
+        if is_called || !self.is_idle {
+            self.step_awake(control_scan, t, ticks);
+        }
+    }
+
     /// Whether none runs or has elapsed: where it answers no, that may be so all the same.
     pub fn are_idle(&self) -> bool
         ensures { result ≡ true → All IsIdle self.now }
@@ -118,6 +148,10 @@ impl Delays {
         ensures copy { self.new ≡ other.now }
         ensures ticks { Within (length self.old) ticks.old ticks.new }
     {
+        // Idle on-delays of the same action and qualifier are equal.
+        if self.is_idle && other.is_idle {
+            return;
+        }
         self.blocks.copy_from_slice(&other.blocks);
         copy_live(&mut self.live, &other.live);
         self.is_idle = other.is_idle;

@@ -13,6 +13,7 @@
 //! - `listing`: which on-delays there are.
 //! - `places`: where the on-delays of each action stand.
 //! - `marking`: what the active steps give as inputs.
+//! - `settled`: what is known of a scan before its on-delays are handled.
 //! - `singles`: whether actions have more than one association by SD or SL.
 //! - `scan_words`: of 64 actions the inputs of a scan, its flip-flops and its on-delays.
 //! - `control_scan`: one scan of action control.
@@ -37,6 +38,7 @@ mod listing;
 mod marking;
 mod places;
 mod scan_words;
+mod settled;
 mod singles;
 mod state_words;
 mod store_words;

@@ -18,7 +18,9 @@ invariant-loop-number l = record {
       (stores_after (input_row l.initial.self.inputs a) (store_row l.stored a)))
       (flag l.initial.self.called) (flag l.self.called);
   elapsed : AreDone l.number (λ (a : ℕ). no_times) (timed_row l.initial.self.elapsed) (timed_row l.self.elapsed);
-  faultless : l.is_faultless ≡ true → (a : ℕ) → word_of a < l.number → has_fault (input_row l.initial.self.inputs a)
+  faultless : l.settled.is_faultless ≡ true → (a : ℕ) → word_of a < l.number → has_fault (input_row l.initial.self.inputs a)
+      (stores_after (input_row l.initial.self.inputs a) (store_row l.stored a)) ≡ false;
+  uncalled : l.settled.is_called ≡ false → (a : ℕ) → word_of a < l.number → called_of (input_row l.initial.self.inputs a)
       (stores_after (input_row l.initial.self.inputs a) (store_row l.stored a)) ≡ false;
   ticks : Within l.number l.initial.ticks l.ticks;
 }

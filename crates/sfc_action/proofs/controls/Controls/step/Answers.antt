@@ -16,33 +16,33 @@ use Rattle.sfc_action.proofs.Next.{IsRead, fault_read, state_read, next_size}
 use Rattle.sfc_action.proofs.Works.{within}
 use Rattle.sfc_action.proofs.controls.Controls.step.Goals as goal
 
-pub read-is_faultless-requires-clause-sized : goal.read-is_faultless-requires-clause-sized
-read-is_faultless-requires-clause-sized c =
+pub read-settled-requires-clause-sized : goal.read-settled-requires-clause-sized
+read-settled-requires-clause-sized c =
     subst (λ (n : ℕ). IsControlScan n c.self.inside.control_scan)
     (actions_for c.args.tables.now c.self.inside.state c.args.self.now c.self.view_is c.requires.sizes)
     c.self.invariant.control_scan_sized
 
-pub read-is_faultless-requires-clause-stored : goal.read-is_faultless-requires-clause-stored
-read-is_faultless-requires-clause-stored c =
+pub read-settled-requires-clause-stored : goal.read-settled-requires-clause-stored
+read-settled-requires-clause-stored c =
     subst (λ (n : ℕ). AreStores n c.self.inside.state.stores)
     (actions_for c.args.tables.now c.self.inside.state c.args.self.now c.self.view_is c.requires.sizes)
     c.self.invariant.state_sized.stores
 
 pub first_fault-requires-clause-inputs : goal.first_fault-requires-clause-inputs
 first_fault-requires-clause-inputs c =
-    let sized = c.read-is_faultless.ensures.sized in
-    subst (λ (n : ℕ). AreSized n c.read-is_faultless.new.self.inputs) (sym sized.inputs.any_time) sized.inputs
+    let sized = c.read-settled.ensures.sized in
+    subst (λ (n : ℕ). AreSized n c.read-settled.new.self.inputs) (sym sized.inputs.any_time) sized.inputs
 
 pub first_fault-requires-clause-stores : goal.first_fault-requires-clause-stores
 first_fault-requires-clause-stores c =
-    let sized = c.read-is_faultless.ensures.sized in
-    subst (λ (n : ℕ). AreStores n c.read-is_faultless.new.self.stores) (sym sized.inputs.any_time) sized.stores
+    let sized = c.read-settled.ensures.sized in
+    subst (λ (n : ℕ). AreStores n c.read-settled.new.self.stores) (sym sized.inputs.any_time) sized.stores
 
 pub first_fault-requires-clause-actions : goal.first_fault-requires-clause-actions
 first_fault-requires-clause-actions c =
     let tables = c.args.tables.now in
-    let n = length c.read-is_faultless.new.self.inputs.any_time in
-    let same = c.read-is_faultless.ensures.sized.inputs.any_time in
+    let n = length c.read-settled.new.self.inputs.any_time in
+    let same = c.read-settled.ensures.sized.inputs.any_time in
     subst (λ (xs : List StepAction). All (λ (x : StepAction). x.action.0 < n) xs) (sym c.step_actions.ensures)
     (λ k d lt. (within tables c.steps-steps.ensures.tables n (length tables.associations) same refl k d lt).action)
 
@@ -51,9 +51,9 @@ act-requires-clause-sized c = c.self.invariant.state_sized
 
 pub act-requires-clause-control_scan : goal.act-requires-clause-control_scan
 act-requires-clause-control_scan c =
-    subst (λ (n : ℕ). IsControlScan n c.read-is_faultless.new.self)
+    subst (λ (n : ℕ). IsControlScan n c.read-settled.new.self)
     (sym (actions_for c.args.tables.now c.self.inside.state c.args.self.now c.self.view_is c.requires.sizes))
-    c.read-is_faultless.ensures.sized
+    c.read-settled.ensures.sized
 
 pub invariant_of-self-2 : goal.invariant_of-self-2
 invariant_of-self-2 c =
@@ -67,15 +67,15 @@ pub returns-in-Some-clause-fault : goal.returns-in-Some-clause-fault
 unfolding ControlsAgree
 returns-in-Some-clause-fault c scans h steps agrees =
     let tables = c.args.tables.now in
-    let control_scan = c.read-is_faultless.new.self in
+    let control_scan = c.read-settled.new.self in
     let read : IsRead tables c.args.self.now c.active_flags.result.now c.args.times.now c.self.inside.control_scan.presets.items
     control_scan.inputs control_scan.presets.items control_scan.stores = record {
       sound = c.steps-steps.ensures.tables;
       same_times = c.requires.times;
       presets_len = c.self.invariant.control_scan_sized.presets ∙ ap (λ (k : ControlState). length k.q) c.self.view_is ∙ c.requires.sizes.same_actions;
-      inputs = c.read-is_faultless.ensures.inputs;
-      presets = c.read-is_faultless.ensures.presets;
-      stores = subst (λ (k : ControlState). AreNext k.stores control_scan.inputs control_scan.stores) c.self.view_is c.read-is_faultless.ensures.next;
+      inputs = c.read-settled.ensures.inputs;
+      presets = c.read-settled.ensures.presets;
+      stores = subst (λ (k : ControlState). AreNext k.stores control_scan.inputs control_scan.stores) c.self.view_is c.read-settled.ensures.next;
     } in
     sym c.in-Some.is ∙ c.first_fault.ensures.fault
     ∙ ap (first_in (fault_at control_scan.inputs control_scan.stores)) c.step_actions.ensures
@@ -85,7 +85,7 @@ returns-in-Some-clause-fault c scans h steps agrees =
 
 pub returns-clause-sizes : goal.returns-clause-sizes
 returns-clause-sizes c =
-    let control_scan = c.read-is_faultless.new.self in
+    let control_scan = c.read-settled.new.self in
     let same : c.self.inside.state ≡ c.args.self.now = c.self.view_is in
     let t = to_z w64 (of_z w64 c.args.t) in
     is_for c.args.tables.now c.act.new.self (next_size c.args.tables.now c.args.self.now c.act.new.self control_scan.inputs control_scan.presets.items control_scan.stores t
@@ -94,21 +94,21 @@ returns-clause-sizes c =
 
 -- what the control scan has read
 read_of : (c : goal.After-act) → IsRead c.args.tables.now c.args.self.now c.active_flags.result.now c.args.times.now
-    c.self.inside.control_scan.presets.items c.read-is_faultless.new.self.inputs c.read-is_faultless.new.self.presets.items c.read-is_faultless.new.self.stores
+    c.self.inside.control_scan.presets.items c.read-settled.new.self.inputs c.read-settled.new.self.presets.items c.read-settled.new.self.stores
 read_of c = record {
   sound = c.steps-steps.ensures.tables;
   same_times = c.requires.times;
   presets_len = c.self.invariant.control_scan_sized.presets ∙ ap (λ (k : ControlState). length k.q) c.self.view_is ∙ c.requires.sizes.same_actions;
-  inputs = c.read-is_faultless.ensures.inputs;
-  presets = c.read-is_faultless.ensures.presets;
-  stores = subst (λ (k : ControlState). AreNext k.stores c.read-is_faultless.new.self.inputs c.read-is_faultless.new.self.stores) c.self.view_is c.read-is_faultless.ensures.next;
+  inputs = c.read-settled.ensures.inputs;
+  presets = c.read-settled.ensures.presets;
+  stores = subst (λ (k : ControlState). AreNext k.stores c.read-settled.new.self.inputs c.read-settled.new.self.stores) c.self.view_is c.read-settled.ensures.next;
 }
 
 pub returns-clause-fault : goal.returns-clause-fault
 unfolding ControlsAgree
 returns-clause-fault c scans h steps agrees =
     let tables = c.args.tables.now in
-    let control_scan = c.read-is_faultless.new.self in
+    let control_scan = c.read-settled.new.self in
     sym c.in_default.is ∙ c.first_fault.ensures.fault
     ∙ ap (first_in (fault_at control_scan.inputs control_scan.stores)) c.step_actions.ensures
     ∙ fault_read tables c.args.self.now c.active_flags.result.now c.args.times.now c.self.inside.control_scan.presets.items control_scan.inputs
@@ -119,7 +119,7 @@ pub returns-clause-agrees : goal.returns-clause-agrees
 unfolding ControlsAgree
 returns-clause-agrees c scans h steps agrees =
     let tables = c.args.tables.now in
-    let control_scan = c.read-is_faultless.new.self in
+    let control_scan = c.read-settled.new.self in
     let same : c.self.inside.state ≡ c.args.self.now = c.self.view_is in
     let fits : SFits w64 c.args.t = c.ranges.t in
     let there = to_z w64 (of_z w64 c.args.t) in

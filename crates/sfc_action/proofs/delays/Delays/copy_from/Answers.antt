@@ -4,6 +4,7 @@ use Rattle.std.proofs.lemmas.List.{length-map}
 use Rattle.sfc_action.specs.declared.blocks.Block.{Block}
 use Rattle.sfc_action.specs.Private.Keeping.{delay_of}
 use Rattle.sfc_action.specs.Private.Live.{AreKept, has_place}
+use Rattle.sfc_action.proofs.Idle.{same_idle}
 use Rattle.sfc_action.proofs.Live.{same_actions}
 use Rattle.sfc_action.proofs.delays.Delays.copy_from.Goals as goal
 
@@ -25,3 +26,12 @@ invariant_of-self c =
     } in
     subst (λ (xs : List Block). AreKept xs c.copy_live.new.live c.self.inside.places c.other.inside.is_idle) (sym items)
     (subst (λ live. AreKept from live c.self.inside.places c.other.inside.is_idle) (sym c.copy_live.ensures) kept)
+
+pub returns-then-other-clause-copy : goal.returns-then-other-clause-copy
+returns-then-other-clause-copy c =
+    let own = c.self.inside.blocks.items in
+    let from = c.other.inside.blocks.items in
+    let same : map delay_of own ≡ map delay_of from =
+    ap (map delay_of) c.self.view_is ∙ sym c.requires ∙ ap (map delay_of) (sym c.other.view_is) in
+    sym c.self.view_is ∙ same_idle own from same (c.self.invariant.all_idle c.if-self.true) (c.other.invariant.all_idle c.if-other.true)
+    ∙ c.other.view_is

@@ -1,36 +1,26 @@
-use Rattle.std.proofs.Common.{◌≡◌, ◌∙◌, ℕ, ℤ, List, length, ap, sym, subst, arith, SFits, w64, to_z, of_z}
-use Rattle.std.specs.Vec.{with_items}
-use Rattle.std.proofs.lemmas.Int.{to_z-of_z}
-use Rattle.std.proofs.lemmas.List.{with_items_is}
-use Rattle.sfc_action.specs.declared.blocks.Block.{Block}
-use Rattle.sfc_action.specs.Private.TimedSets.{AreAll}
-use Rattle.sfc_action.specs.Private.Delays.{AreStepped}
+use Rattle.std.proofs.Common.{◌∙◌, length, subst}
+use Rattle.std.specs.Prelude.{All}
+use Rattle.sfc_action.specs.Private.TimedSets.{none}
+use Rattle.sfc_action.specs.Private.Live.{IsIdle}
+use Rattle.sfc_action.proofs.Idle.{uncalled_stepped, none_gathered}
 use Rattle.sfc_action.proofs.delays.Delays.step.Goals as goal
 
-pub returns-clause-sized : goal.returns-clause-sized
-returns-clause-sized c =
-    let was = c.requires.sized in
-    record {
-      inputs = was.inputs;
-      presets = was.presets;
-      stores = was.stores;
-      called = was.called;
-      elapsed = subst (λ (n : ℕ). AreAll n c.step_live-self-inside.new.elapsed) (ap length c.deref.ensures.value) c.step_live-self-inside.ensures.sized;
-    }
+pub returns-else-not-self-clause-stepped : goal.returns-else-not-self-clause-stepped
+returns-else-not-self-clause-stepped c =
+    let s = c.args.control_scan.now in
+    let idle : All IsIdle c.args.self.now =
+    subst (All IsIdle) c.self.view_is (c.self.invariant.all_idle c.if-not-self.false) in
+    uncalled_stepped s.inputs s.stores s.presets.items c.args.t s.called c.args.self.now c.requires.called (c.requires.uncalled c.if-is_called.false) idle
 
-pub returns-clause-stepped : goal.returns-clause-stepped
-returns-clause-stepped c =
-    let i = c.args.control_scan.now.inputs in
-    let s = c.args.control_scan.now.stores in
-    let old = c.args.self.now in
-    let new = c.step_live-self-inside.new.blocks in
-    let items = with_items_is c.self.inside.blocks new (omega arith) in
-    let was : c.deref_mut.result.now ≡ old = c.deref_mut.ensures.value ∙ c.self.view_is in
-    let there = to_z w64 (of_z w64 c.args.t) in
-    let stepped : AreStepped i s c.args.control_scan.now.presets.items there old
-    (with_items c.self.inside.blocks new).items =
-    subst (λ (xs : List Block). AreStepped i s c.args.control_scan.now.presets.items there old xs) (sym items)
-    (subst (λ (xs : List Block). AreStepped i s c.args.control_scan.now.presets.items there xs new) was
-    (subst (λ (ps : List ℤ). AreStepped i s ps there c.deref_mut.result.now new) c.deref.ensures.value c.step_live-self-inside.ensures.stepped)) in
-    let fits : SFits w64 c.args.t = c.ranges.t in
-    simp to_z-of_z at stepped
+pub returns-else-not-self-clause-control_scan : goal.returns-else-not-self-clause-control_scan
+returns-else-not-self-clause-control_scan c =
+    let s = c.args.control_scan.now in
+    let idle : All IsIdle c.args.self.now =
+    subst (All IsIdle) c.self.view_is (c.self.invariant.all_idle c.if-not-self.false) in
+    (λ i. record {
+      inputs = s.inputs;
+      presets = s.presets;
+      stores = s.stores;
+      called = s.called;
+      elapsed = (c.requires.elapsed ∙ none_gathered c.args.self.now (none (length s.presets.items)) idle) i;
+    })
