@@ -1,13 +1,15 @@
--- Steps that are alike agree with the same scans.
+-- Steps that are alike agree with the same scans, and what is alike before a scan is close after it.
 use denote.Struct.Props.{props}
-use Rattle.std.proofs.Common.{◌≡◌, Bool, true, false, cond, List, length, ℤ, ◌-ℤ◌, refl, sym, ◌∙◌, ap, subst}
+use Rattle.std.proofs.Common.{◌≡◌, ℕ, ◌<◌, Bool, true, false, cond, List, length, ℤ, ◌-ℤ◌, refl, sym, ◌∙◌, ap, subst, arith}
 use Rattle.sfc_flags.specs.Flags.{flag}
 use Rattle.sfc_tables.specs.Tables.{Tabled}
 use Rattle.sfc_evolve.specs.declared.steps.Steps.{Steps}
 use Rattle.sfc_evolve.specs.Evolution.{Scan}
-use Rattle.sfc_evolve.specs.Agreement.{StepsAgree, Likeness, IsLike}
+use Rattle.sfc_evolve.specs.Agreement.{StepsAgree, Likeness, IsLike, IsClose, step_total, transition_total}
 use Rattle.sfc_evolve.specs.Private.Keeping.{number}
 use Rattle.sfc_evolve.specs.Private.Proposing.{AreProposed}
+use Rattle.sfc_evolve.proofs.Close.{Kept}
+use Rattle.sfc_evolve.proofs.Copied.{joined, all_taken}
 
 time_of : (b : Bool) (x y k l : ℤ) → x ≡ y → (b ≡ false → k ≡ l) → cond b x k ≡ cond b y l
 time_of true x y k l same off = same
@@ -37,3 +39,41 @@ followed tables a b scans like cleared on k = record {
 pub like_prop : (a b : Steps) → IsProp (IsLike a b)
 unfolding IsLike
 like_prop a b = hlevel props
+
+-- what is alike before a scan is close after it
+pub close_after : (other old new : Steps) → IsLike other old → step_total new ≡ step_total old → transition_total new ≡ transition_total old
+    → ((s : ℕ) → s < step_total old → flag old.active s ≡ false → flag new.on s ≡ false
+    → Kept old.since.items old.held_times.items new.active new.since.items new.held_times.items s)
+    → IsClose other new
+unfolding IsLike IsClose
+close_after other old new like steps transitions keeps =
+    let size : step_total other ≡ step_total old = ap length like.active in
+    let off : (s : ℕ) → flag other.active s ≡ false → flag old.active s ≡ false = λ s e. ap (λ f. flag f s) (sym like.active) ∙ e in
+    record {
+      steps = size ∙ sym steps;
+      transitions = like.transitions ∙ sym transitions;
+      active = λ s lt e quiet. (keeps s (omega (arith, lt, size)) (off s e) quiet).inactive;
+      since = λ s lt e quiet.
+          ap (λ xs. number xs s) like.since ∙ (keeps s (omega (arith, lt, size)) (off s e) quiet).since_is;
+      held_times = λ s lt e quiet. like.held_times s e ∙ (keeps s (omega (arith, lt, size)) (off s e) quiet).time_is;
+    }
+
+-- where the two are close, with the times of some steps taken over all are
+pub close_since : (a b : Steps) → IsClose a b → (new : List ℤ) → length new ≡ step_total a
+    → ((s : ℕ) → s < step_total a → number new s ≡ joined a.active b.on b.since.items a.since.items s) → new ≡ b.since.items
+unfolding IsClose
+close_since a b close new long each =
+    all_taken a.active b.on b.since.items a.since.items new (step_total a) long (b.since_len ∙ sym close.steps) each close.since
+
+pub close_held_times : (a b : Steps) → IsClose a b → (new : List ℤ) → length new ≡ step_total a
+    → ((s : ℕ) → s < step_total a → number new s ≡ joined a.active b.on b.held_times.items a.held_times.items s)
+    → new ≡ b.held_times.items
+unfolding IsClose
+close_held_times a b close new long each =
+    all_taken a.active b.on b.held_times.items a.held_times.items new (step_total a) long (b.held_times_len ∙ sym close.steps) each
+    close.held_times
+
+-- they are close in one way at most
+pub close_prop : (a b : Steps) → IsProp (IsClose a b)
+unfolding IsClose
+close_prop a b = hlevel props

@@ -29,16 +29,18 @@ one_measured false true active t since k e = refl
 one_measured false false true t since k e = e
 one_measured false false false t since k e = refl
 
+-- the times after steps have begun
+pub zeroed : (n : ℕ) (on' : List Bool) (held_times' times : List ℤ) → length held_times' ≡ n → length on' ≡ n
+    → times ≡ begun_at (pos 0) (places_from on' 0) held_times' → (s : ℕ)
+    → number times s ≡ cond (flag on' s) (pos 0) (number held_times' s)
+zeroed n on' held_times' times long on_long made s =
+    ap (λ xs. number xs s) made
+    ∙ number-begun_at n (pos 0) (places_from on' 0) held_times' s long (members_below on' n on_long)
+    ∙ ap (λ b. cond b (pos 0) (number held_times' s)) (is_member on' s)
+
 module _ (tables : Tabled) (active : List Bool) (since held_times : List ℤ) (t : ℤ) (cleared' on' active' : List Bool)
     (since' held_times' : List ℤ) (moved : HasMoved tables active since held_times t cleared' on' active' since' held_times')
-    (times : List ℤ) (long : length held_times' ≡ step_count tables) (on_long : length on' ≡ step_count tables)
-    (made : times ≡ begun_at (pos 0) (places_from on' 0) held_times') where
-  each : (s : ℕ) → number times s ≡ cond (flag on' s) (pos 0) (number held_times' s)
-  each s =
-      ap (λ xs. number xs s) made
-      ∙ number-begun_at (step_count tables) (pos 0) (places_from on' 0) held_times' s long (members_below on' (step_count tables) on_long)
-      ∙ ap (λ b. cond b (pos 0) (number held_times' s)) (is_member on' s)
-
+    (times : List ℤ) (each : (s : ℕ) → number times s ≡ cond (flag on' s) (pos 0) (number held_times' s)) where
   abbrev stays : ℕ → Bool
   stays s = not (leaves tables cleared' s) && flag active s
 

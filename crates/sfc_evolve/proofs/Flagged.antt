@@ -10,7 +10,7 @@ use Rattle.std.proofs.lemmas.List.Elements.{All-nil, All-cons, All-head, All-tai
 use Rattle.sfc_base.specs.declared.references.StepId.{StepId}
 use Rattle.sfc_flags.specs.Flags.{flag, set_from, places_from}
 use Rattle.sfc_evolve.specs.Marks.{has, marked}
-use Rattle.sfc_evolve.specs.Private.Keeping.{AllBelow, number, unmarked, changed_by, left_at, left_by, begun_at, set_at, measured_at}
+use Rattle.sfc_evolve.specs.Private.Keeping.{AllBelow, number, unmarked, changed_by, left_at, left_by, put_at, begun_at, set_at, measured_at}
 use Rattle.sfc_evolve.proofs.Looks.{bool_cases}
 
 -- ---- one write
@@ -23,7 +23,7 @@ one_set flags b p s lt = elim (bool_cases (p == s)) [
       rw e (grind (arith, common_steps)))
 ]
 
-one_put : (xs : List ℤ) (v : ℤ) (p s : ℕ) → p < length xs → number (slice_set xs p v) s ≡ cond (p == s) v (number xs s)
+pub one_put : (xs : List ℤ) (v : ℤ) (p s : ℕ) → p < length xs → number (slice_set xs p v) s ≡ cond (p == s) v (number xs s)
 one_put xs v p s lt = elim (bool_cases (p == s)) [
   | inl e ↦ (let same : p ≡ s = grind (arith, nat_tests) in rw e (grind (arith, common_steps)))
   | inr e ↦ (let apart : p ≡ s
@@ -37,7 +37,7 @@ pub length-marked : (steps : List StepId) (flags : List Bool) → length (marked
 length-marked [] flags = refl
 length-marked (p ∷ steps) flags = length-marked steps (slice_set flags p.0 true) ∙ length-set _ _ _
 
-length-unmarked : (steps : List StepId) (flags : List Bool) → length (unmarked steps flags) ≡ length flags
+pub length-unmarked : (steps : List StepId) (flags : List Bool) → length (unmarked steps flags) ≡ length flags
 length-unmarked [] flags = refl
 length-unmarked (p ∷ steps) flags = length-unmarked steps (slice_set flags p.0 false) ∙ length-set _ _ _
 
@@ -62,7 +62,7 @@ clear_step true false f = refl
 clear_step false true f = refl
 clear_step false false f = refl
 
-flag-unmarked : (n : ℕ) (steps : List StepId) (flags : List Bool) (s : ℕ) → length flags ≡ n → AllBelow n steps
+pub flag-unmarked : (n : ℕ) (steps : List StepId) (flags : List Bool) (s : ℕ) → length flags ≡ n → AllBelow n steps
     → flag (unmarked steps flags) s ≡ (not (has steps s) && flag flags s)
 flag-unmarked n [] flags s long below = refl
 flag-unmarked n (p ∷ steps) flags s long below =
@@ -73,7 +73,7 @@ flag-unmarked n (p ∷ steps) flags s long below =
 
 -- ---- times of listed steps
 
-length-left_at : (t : ℤ) (since : List ℤ) (steps : List StepId) (held_times : List ℤ) → length (left_at t since steps held_times) ≡ length held_times
+pub length-left_at : (t : ℤ) (since : List ℤ) (steps : List StepId) (held_times : List ℤ) → length (left_at t since steps held_times) ≡ length held_times
 length-left_at t since [] held_times = refl
 length-left_at t since (p ∷ steps) held_times = length-left_at t since steps (slice_set held_times p.0 (t -ℤ number since p.0)) ∙ length-set _ _ _
 
@@ -83,7 +83,7 @@ put_step true false x y k same = refl
 put_step false true x y k same = same refl
 put_step false false x y k same = refl
 
-number-left_at : (n : ℕ) (t : ℤ) (since : List ℤ) (steps : List StepId) (held_times : List ℤ) (s : ℕ) → length held_times ≡ n → AllBelow n steps
+pub number-left_at : (n : ℕ) (t : ℤ) (since : List ℤ) (steps : List StepId) (held_times : List ℤ) (s : ℕ) → length held_times ≡ n → AllBelow n steps
     → number (left_at t since steps held_times) s ≡ cond (has steps s) (t -ℤ number since s) (number held_times s)
 number-left_at n t since [] held_times s long below = refl
 number-left_at n t since (p ∷ steps) held_times s long below =
@@ -94,6 +94,15 @@ number-left_at n t since (p ∷ steps) held_times s long below =
     ∙ ap (λ k. cond (has steps s) (t -ℤ number since s) k) (one_put held_times v p.0 s (omega arith))
     ∙ put_step (has steps s) (p.0 == s) (t -ℤ number since s) v (number held_times s)
     (λ e. let same : p.0 ≡ s = grind (arith, nat_tests) in ap (λ k. t -ℤ number since k) same)
+
+pub number-put_at : (n : ℕ) (t : ℤ) (steps : List StepId) (times : List ℤ) (s : ℕ) → length times ≡ n → AllBelow n steps
+    → number (put_at t steps times) s ≡ cond (has steps s) t (number times s)
+number-put_at n t [] times s long below = refl
+number-put_at n t (p ∷ steps) times s long below =
+    let here = All-head (λ (step : StepId). step.0 < n) p steps below in
+    number-put_at n t steps (slice_set times p.0 t) s (length-set _ _ _ ∙ long) (All-tail (λ (step : StepId). step.0 < n) p steps below)
+    ∙ ap (λ k. cond (has steps s) t k) (one_put times t p.0 s (omega arith))
+    ∙ put_step (has steps s) (p.0 == s) t t (number times s) (λ e. refl)
 
 pub number-begun_at : (n : ℕ) (t : ℤ) (places : List ℕ) (since : List ℤ) (s : ℕ) → length since ≡ n → All (λ p. p < n) places
     → number (begun_at t places since) s ≡ cond (list_any (λ p. p == s) places) t (number since s)

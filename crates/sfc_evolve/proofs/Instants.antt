@@ -7,7 +7,7 @@ use Rattle.std.proofs.Math.Seq.{drop-cons}
 use Rattle.std.proofs.lemmas.Int.{ints}
 use Rattle.std.proofs.lemmas.List.{drop_all}
 use Rattle.sfc_base.specs.declared.references.StepId.{StepId}
-use Rattle.sfc_evolve.specs.Private.Keeping.{AreInstants, number, left_at, begun_at, measured_at}
+use Rattle.sfc_evolve.specs.Private.Keeping.{AreInstants, number, left_at, put_at, begun_at, measured_at}
 
 -- an instant fits in 64 bits
 pub same_instant : (x : ℤ) → pos 0 ≤ℤ x → x ≤ℤ pos (2 ^ 62) → to_z w64 (of_z w64 x) ≡ x
@@ -38,6 +38,18 @@ module _ (t t' : ℤ) (same : t' ≡ t) (since : List ℤ) where
   left_all steps i held_times before le rest =
       sym (ap (λ (xs : List StepId). left_at t' since xs held_times) (drop_all i steps le)) ∙ rest
       ∙ ap (λ (x : ℤ). left_at x since steps before) same
+
+  -- one step more is put
+  pub put_one : (steps : List StepId) (i : ℕ) (times : List ℤ) → i < length steps
+      → put_at t' (drop (i + 1) steps) (slice_set times (get_or steps i record { 0 = 0 }).0 t') ≡ put_at t' (drop i steps) times
+  put_one steps i times lt = rw (add-one, drop-cons steps i record { 0 = 0 }) refl
+
+  -- all steps are put
+  pub put_all : (steps : List StepId) (i : ℕ) (times before : List ℤ) → length steps ≤ i
+      → put_at t' (drop i steps) times ≡ put_at t' steps before → times ≡ put_at t steps before
+  put_all steps i times before le rest =
+      sym (ap (λ (xs : List StepId). put_at t' xs times) (drop_all i steps le)) ∙ rest
+      ∙ ap (λ (x : ℤ). put_at x steps before) same
 
   -- one place more is measured
   pub measured_one : (places more : List ℕ) (s : ℕ) (times : List ℤ) (v : ℤ) → places ≡ s ∷ more → v ≡ (t -ℤ number since s)

@@ -1,6 +1,9 @@
 pub mod Alike
+pub mod Alone
 pub mod Begun
 pub mod Cleared
+pub mod Close
+pub mod Copied
 pub mod FirstScan
 pub mod Flagged
 pub mod Instants

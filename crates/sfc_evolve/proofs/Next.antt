@@ -58,6 +58,12 @@ pub and_left : (a b : Bool) → (a && b) ≡ true → a ≡ true
 and_left true b e = refl
 and_left false b e = e
 
+pub clears_enabled : (active : ℕ → Bool) (condition : Bool) (preceding : List StepId) (used : List Bool)
+    → is_cleared active condition preceding used ≡ true → is_enabled active preceding ≡ true
+clears_enabled active condition preceding used e =
+    and_left (is_enabled active preceding) condition
+    (and_left (is_enabled active preceding && condition) (not (list_any (λ (step : StepId). flag used step.0) preceding)) e)
+
 cleared_enabled : (sides : List Sides) (active : ℕ → Bool) (conditions : List Bool) (ranked : List TransitionId)
     (used cleared : List Bool) (tr : ℕ)
     → flag (cleared_in sides active conditions ranked used cleared) tr ≡ true
@@ -69,9 +75,7 @@ cleared_enabled sides active conditions (r ∷ ranked) used cleared tr e =
     elim (cleared_enabled sides active conditions ranked (cond go (marked preceding used) used) (slice_set cleared r.0 go) tr e) [
       | inl was ↦ elim (set_where cleared go r.0 tr was) [
         | inl here ↦ inr (subst (λ (k : ℕ). is_enabled active (preceding_of sides k) ≡ true) here.0
-            (and_left (is_enabled active preceding) (flag conditions r.0)
-            (and_left (is_enabled active preceding && flag conditions r.0)
-            (not (list_any (λ (step : StepId). flag used step.0) preceding)) here.1)))
+            (clears_enabled active (flag conditions r.0) preceding used here.1))
         | inr there ↦ inl there
       ]
       | inr enabled ↦ inr enabled
@@ -104,14 +108,14 @@ set_enabled tables active conditions tr is_set =
       | inr enabled ↦ enabled
     ]
 
--- a step that a scan leaves was active
-left_active : (tables : Tabled) (active : ℕ → Bool) (conditions : List Bool) (s : ℕ)
-    → leaves tables (cleared_set tables active conditions) s ≡ true → active s ≡ true
-left_active tables active conditions s e =
-    let set = cleared_set tables active conditions in
+-- a step that a scan leaves was active, where all that it clears was enabled
+pub left_active : (tables : Tabled) (active : ℕ → Bool) (set : List Bool)
+    → ((tr : ℕ) → flag set tr ≡ true → is_enabled active (preceding_of tables.sides tr) ≡ true) → (s : ℕ)
+    → leaves tables set s ≡ true → active s ≡ true
+left_active tables active set enabled s e =
     let (tr, among, member) = any_where (λ tr. has (preceding_of tables.sides tr) s) (places_from set 0) e in
     let is_set : flag set tr ≡ true = sym (is_member set tr) ∙ member in
-    all_has active (preceding_of tables.sides tr) s (set_enabled tables active conditions tr is_set) among
+    all_has active (preceding_of tables.sides tr) s (enabled tr is_set) among
 
 -- ---- one row more
 
@@ -205,7 +209,8 @@ fields_next tables sound begun active since held_times cleared on conditions t c
     λ s lt. ap (λ b. activates tables b row.cleared s) first ∙ ap (λ c. activates tables (not begun) c s) same ∙ sym (a.on_is s lt) in
     let goes_off : (s : ℕ) → leaves tables row.cleared s ≡ leaves tables cleared' s = λ s. ap (λ c. leaves tables c s) same in
     let was_in : (s : ℕ) → leaves tables cleared' s ≡ true → flag active s ≡ true =
-    λ s e. left_active tables (flag active) conditions s (ap (λ c. leaves tables c s) (sym a.cleared_is) ∙ e) in
+    λ s e. left_active tables (flag active) (cleared_set tables (flag active) conditions) (set_enabled tables (flag active) conditions) s
+    (ap (λ c. leaves tables c s) (sym a.cleared_is) ∙ e) in
     record {
       has_begun = refl;
       activity = λ s lt. a.moved.active_is s lt
@@ -286,7 +291,7 @@ module _ (tables : Tabled) (sound : AreTables tables) (begun : Bool) (active : L
       }
 
 -- no place is set where no flag is
-none_from : (n i : ℕ) → set_from i (replicate n false) ≡ []
+pub none_from : (n i : ℕ) → set_from i (replicate n false) ≡ []
 none_from zero i = refl
 none_from (suc n) i = none_from n (suc i)
 

@@ -10,7 +10,7 @@ use Rattle.std.proofs.lemmas.List.{length-map, get_or-map, length-set, length-re
 use Rattle.std.proofs.lemmas.List.Elements.{All-head, All-tail, All-map}
 use Rattle.std.proofs.lemmas.List.FromFn.{length-map-range_with_len}
 use Rattle.std.proofs.lemmas.List.Sorted.{IsPermutation-map, length_permutation, list_any-IsPermutation}
-use Rattle.std.proofs.lemmas.Map.Keys.{IsDistinct-IsPermutation, IsDistinct-head, IsDistinct-tail}
+use Rattle.std.proofs.lemmas.Map.Keys.{IsDistinct-IsPermutation, IsDistinct-head, IsDistinct-tail, apart_from_distinct}
 use Rattle.sfc_base.specs.declared.references.StepId.{StepId}
 use Rattle.sfc_flags.specs.Flags.{flag}
 use Rattle.sfc_base.specs.declared.ids.TransitionId.{TransitionId}
@@ -152,6 +152,17 @@ named a (suc n) s le lt = by (a == s) refl (λ more. named (a + 1) n s more (ome
 
 abbrev first_id : TransitionId
 first_id = record { 0 = 0 }
+
+-- no transition has two ranks
+pub one_rank : (tables : Tabled) → AreTables tables → (i j : ℕ) → i < j → j < transition_count tables
+    → (of_rank tables i == of_rank tables j) ≡ false
+one_rank tables sound i j less lt =
+    let long = ranks_long tables sound in
+    let first : get_or (map number tables.ranked) i 0 ≡ of_rank tables i = get_or-map number tables.ranked i first_id 0 (omega arith) in
+    let second : get_or (map number tables.ranked) j 0 ≡ of_rank tables j = get_or-map number tables.ranked j first_id 0 (omega arith) in
+    (λ k. nat_eq (sym first k) (sym second k))
+    ∙ apart_from_distinct nat_eq (map number tables.ranked) i j 0 (ranks_distinct tables sound) less
+    (omega (arith, long, length-map tables.ranked number))
 
 abbrev members : List Bool → List TransitionId → List Bool
 members set ranked = map (λ tr. flag set tr.0) ranked

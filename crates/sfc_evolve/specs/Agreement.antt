@@ -1,8 +1,8 @@
 -- Which scans a `Steps` agrees with.
-use Rattle.std.specs.Prelude.{ℕ, ◌≡◌, ◌<◌, false, cond, List, ℤ, ◌-ℤ◌, length}
+use Rattle.std.specs.Prelude.{ℕ, ◌≡◌, ◌<◌, true, false, cond, List, ℤ, ◌-ℤ◌, length}
 use Rattle.sfc_tables.specs.Tables.{Tabled}
 use Rattle.sfc_evolve.specs.declared.steps.Steps.{Steps}
-use Rattle.sfc_evolve.specs.Clearing.{step_count, transition_count}
+use Rattle.sfc_evolve.specs.Clearing.{step_count, transition_count, preceding_of, is_enabled}
 use Rattle.sfc_evolve.specs.Evolution.{Scan}
 use Rattle.sfc_flags.specs.Flags.{flag}
 use Rattle.sfc_evolve.specs.Private.Keeping.{number, FieldsAgree}
@@ -38,6 +38,10 @@ pub record Keeps (tables : Tabled) (steps : Steps) (scans : List Scan) : Type 0 
 unfoldable pub StepsAgree : Tabled → Steps → List Scan → Type 0
 StepsAgree tables steps scans = Keeps tables steps scans
 
+-- all preceding steps of the transition are active in what it keeps (2.6.3)
+unfoldable pub Enables : Tabled → Steps → ℕ → Type 0
+Enables tables steps transition = is_enabled (flag steps.active) (preceding_of tables.sides transition) ≡ true
+
 -- Its times are those of all steps at t: those of active steps are worked out, and the others are what they kept. For each history
 -- that agrees they are the steps' times (`laws::shown_times`).
 unfoldable pub AreMeasured : ℤ → Steps → Type 0
@@ -55,3 +59,17 @@ pub record Likeness (a b : Steps) : Type 0 where
 
 unfoldable pub IsLike : Steps → Steps → Type 0
 IsLike a b = Likeness a b
+
+-- They are of the same size, and of each step that isn't active in a and wasn't activated in b by the latest scan they keep the same times;
+-- it isn't active in b either.
+pub record Closeness (a b : Steps) : Type 0 where
+  pub steps : step_total a ≡ step_total b
+  pub transitions : transition_total a ≡ transition_total b
+  pub active : (s : ℕ) → s < step_total a → flag a.active s ≡ false → flag b.on s ≡ false → flag b.active s ≡ false
+  pub since : (s : ℕ) → s < step_total a → flag a.active s ≡ false → flag b.on s ≡ false
+      → number a.since.items s ≡ number b.since.items s
+  pub held_times : (s : ℕ) → s < step_total a → flag a.active s ≡ false → flag b.on s ≡ false
+      → number a.held_times.items s ≡ number b.held_times.items s
+
+unfoldable pub IsClose : Steps → Steps → Type 0
+IsClose a b = Closeness a b

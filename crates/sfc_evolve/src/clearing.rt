@@ -1,11 +1,11 @@
 //! Which transitions a scan clears (2.6.5).
 
-ghost use Rattle.std.specs.Prelude.{◌≡◌, ◌*◌, false, length, cond, replicate};
+ghost use Rattle.std.specs.Prelude.{◌≡◌, ◌*◌, ℕ, true, false, length, cond, replicate};
 ghost use Rattle.sfc_base.specs.Ticks.{Within};
 ghost use Rattle.sfc_flags.specs.Flags.{flag};
 ghost use Rattle.sfc_tables.specs.Tables.{AreTables};
 ghost use Rattle.sfc_evolve.specs.Marks.{marked};
-ghost use Rattle.sfc_evolve.specs.Clearing.{is_cleared, cleared_in};
+ghost use Rattle.sfc_evolve.specs.Clearing.{preceding_of, is_enabled, is_cleared, cleared_in};
 ghost use Rattle.sfc_evolve.specs.Private.Keeping.{AllBelow, clearing_work};
 ghost use Rattle.sfc_evolve.specs.Private.Proposing.{AreProposed};
 
@@ -58,6 +58,7 @@ pub fn clear_in_order(
     requires candidates_len { length candidates.now ≡ length tables.now.sides }
     ensures cleared { AreProposed tables.now (flag active.now) candidates.now → cleared.new
         ≡ cleared_in tables.now.sides (flag active.now) conditions.now tables.now.ranked used.old cleared.old }
+    ensures enabled { (tr : ℕ) → flag cleared.new tr ≡ true → is_enabled (flag active.now) (preceding_of tables.now.sides tr) ≡ true }
     ensures used_len { length used.new ≡ length used.old }
     ensures cleared_len { length cleared.new ≡ length cleared.old }
     ensures ticks { Within (clearing_work tables.now.sides tables.now.ranked) ticks.old ticks.new }

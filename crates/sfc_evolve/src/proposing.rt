@@ -26,6 +26,7 @@ fn set_places(flags: &mut Flags, places: &[usize], ticks: &mut Ticks)
 }
 
 /// Proposes, by place in rank order, the transitions whose first preceding step is active, and no others.
+#[inline(always)]
 pub fn propose(tables: &Tables, active: &Flags, candidates: &mut Flags, ticks: &mut Ticks)
     requires tables { AreTables tables.now }
     requires active_len { length active.now ≡ length tables.now.initial }

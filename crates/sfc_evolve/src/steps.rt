@@ -4,13 +4,13 @@ ghost use Rattle.std.specs.Prelude.{◌≡◌, length};
 ghost use Rattle.sfc_evolve.specs.Private.Keeping.{AreInstants};
 
 use crate::clearing::clear_in_order;
-use crate::copying::{copy_flags, copy_times};
+use crate::copying::{KeptTimes, copy_flags, copy_moved, copy_times};
 use crate::marking::{Cleared, move_on};
-use crate::marks::{all_set, is_blank};
+use crate::marks::{all_set, is_blank, mark, unmark};
 use crate::new_sets::{three_sets, two_lists, two_sets};
 use crate::proposing::propose;
 use crate::starting::start;
-use crate::times::{Activated, begin, measure_active, time_since};
+use crate::times::{Activated, begin, begin_steps, leave, measure_active, time_since};
 use sfc_base::ids::TransitionId;
 use sfc_base::references::StepId;
 use sfc_base::ticks::Ticks;
@@ -56,19 +56,19 @@ impl Drop for Steps {
 
 #[tactic(auto, unfolding(crate::specs::Agreement::StepsAgree, crate::specs::Agreement::measured_times))]
 impl Steps {
-    ghost use Rattle.std.specs.Prelude.{◌≡◌, ◌<◌, ◌≤ℤ◌, ◌^◌, ◌+◌, ◌*◌, ◌∷◌, [], List, ℕ, ℤ, pos, not, true, false, length, IfOk};
+    ghost use Rattle.std.specs.Prelude.{◌≡◌, ◌<◌, ◌≤ℤ◌, ◌^◌, ◌+◌, ◌*◌, ◌∷◌, [], List, Bool, ℕ, ℤ, pos, not, true, false, length, IfOk};
     ghost use Rattle.sfc_base.specs.Ticks.{Within};
     ghost use Rattle.sfc_flags.specs.Flags.{flag};
     ghost use Rattle.sfc_tables.specs.Tables.{Tabled, AreTables};
     ghost use Rattle.sfc_evolve.specs.Lookback.{is_empty};
     ghost use Rattle.sfc_evolve.specs.Clearing.{is_enabled};
-    ghost use Rattle.sfc_evolve.specs.Evolution.{Scan, AreFalse, rows_of, is_active, active_steps, step_time};
+    ghost use Rattle.sfc_evolve.specs.Evolution.{Scan, AreFalse, IsAlone, rows_of, is_active, active_steps, step_time};
     ghost use Rattle.sfc_evolve.specs.Clearing.{preceding_of};
     ghost use Rattle.sfc_evolve.specs.Evolution.{was_cleared, was_activated};
     ghost use Rattle.sfc_evolve.specs.Clearing.{of_rank};
     ghost use Rattle.sfc_evolve.specs.Work.{advance_work};
     ghost use Rattle.sfc_evolve.specs.declared.steps.Steps.{Steps};
-    ghost use Rattle.sfc_evolve.specs.Agreement.{IsFor, StepsAgree, step_total, transition_total, measured_times, shown_time, AreMeasured, IsLike};
+    ghost use Rattle.sfc_evolve.specs.Agreement.{IsFor, StepsAgree, step_total, transition_total, measured_times, shown_time, AreMeasured, Enables, IsLike, IsClose};
 
     /// Before the first scan of a life. The one error is that memory was refused.
     pub fn new(alloc: Global, tables: &Tables) -> Result<Self, AllocError>
@@ -126,6 +126,7 @@ impl Steps {
         ensures measured { AreMeasured t self.old → AreMeasured t self.new }
         ensures measured_still { result ≡ false → (now : ℤ) → AreMeasured now self.old → AreMeasured now self.new }
         ensures like { result ≡ false → (other : Steps) → IsLike other self.old → IsLike other self.new }
+        ensures close { result ≡ true → (other : Steps) → IsLike other self.old → IsClose other self.new }
         ensures ticks { Within (advance_work tables.now) ticks.old ticks.new }
     {
         let _steps = tables.steps();
@@ -198,6 +199,49 @@ impl Steps {
         true
     }
 
+    /// One scan at t in which the condition of this enabled transition alone is TRUE, t in microseconds from 0 to 2^62: answers whether it
+    /// is done, with the outcome that `advance` has. It clears this transition (2.6.5). It answers no in the first scan of a life alone: then
+    /// nothing has changed, and the scan wants `advance`. It takes no memory. Times that were worked out at t are still so.
+    pub fn clear(
+        &mut self,
+        tables: &Tables,
+        transition: TransitionId,
+        t: i64,
+        ticks: &mut Ticks,
+    ) -> bool
+        requires sizes { IsFor tables.now self.old }
+        requires transition { transition.0 < length tables.now.sides }
+        requires enabled { Enables tables.now self.old transition.0 }
+        requires low { pos 0 ≤ℤ t }
+        requires high { t ≤ℤ pos (2 ^ 62) }
+        ensures sizes { IsFor tables.now self.new }
+        ensures agrees { result ≡ true → (conditions : List Bool) (scans : List Scan) → IsAlone transition.0 conditions →
+            StepsAgree tables.now self.old scans → StepsAgree tables.now self.new (record { conditions = conditions; at = t } ∷ scans) }
+        ensures begun { (scans : List Scan) → StepsAgree tables.now self.old scans → result ≡ not (is_empty scans) }
+        ensures unchanged { result ≡ false → self.new ≡ self.old }
+        ensures measured { AreMeasured t self.old → AreMeasured t self.new }
+        ensures close { result ≡ true → (other : Steps) → IsLike other self.old → IsClose other self.new }
+        ensures ticks { Within (advance_work tables.now) ticks.old ticks.new }
+        ensures ticks_of_no { result ≡ false → Within 0 ticks.old ticks.new }
+    {
+        let _steps = tables.steps();
+        if !self.begun {
+            return false;
+        }
+        self.cleared.clear_all(ticks);
+        self.cleared.set(transition.0 as usize, true);
+        self.on.clear_all(ticks);
+        let preceding = tables.preceding(transition);
+        let following = tables.following(transition);
+        leave(&mut self.held_times, &self.since, preceding, t, ticks);
+        unmark(&mut self.active, preceding, ticks);
+        mark(&mut self.on, following, ticks);
+        mark(&mut self.active, following, ticks);
+        begin_steps(&mut self.since, &mut self.held_times, following, t, ticks);
+        propose(tables, &self.active, &mut self.candidates, ticks);
+        true
+    }
+
     /// Which steps are active, by number.
     pub fn active_flags(&self) -> &Flags
         ensures len { length result.now ≡ step_total self.now }
@@ -225,6 +269,7 @@ impl Steps {
         ensures value { (scans : List Scan) → StepsAgree tables.now self.now scans →
             result ≡ is_enabled (is_active tables.now (rows_of tables.now scans))
             (preceding_of tables.now.sides transition.0) }
+        ensures enables { result ≡ true → Enables tables.now self.now transition.0 }
         ensures ticks { Within (length (preceding_of tables.now.sides transition.0)) ticks.old ticks.new }
     {
         let _steps = tables.steps();
@@ -261,6 +306,7 @@ impl Steps {
             StepsAgree tables self.new scans }
         ensures measured { AreMeasured t self.new }
         ensures like { (other : Steps) → IsLike other self.old → IsLike other self.new }
+        ensures close { (other : Steps) → IsClose other self.old → IsClose other self.new }
         ensures ticks { Within (step_total self.old) ticks.old ticks.new }
     {
         measure_active(&mut self.held_times, &self.since, &self.active, t, ticks);
@@ -326,6 +372,40 @@ impl Steps {
             &other.held_times,
             ticks,
         );
+        self.begun = other.begun;
+    }
+
+    /// Takes over what the other keeps, where the two are close, as after a scan in which steps moved: times of steps that neither was
+    /// active here nor was activated there are the same. It takes no memory.
+    pub fn follow_moved(&mut self, other: &Steps, ticks: &mut Ticks)
+        requires close { IsClose self.old other.now }
+        ensures steps { step_total self.new ≡ step_total self.old }
+        ensures transitions { transition_total self.new ≡ transition_total self.old }
+        ensures agrees { (tables : Tabled) (scans : List Scan) → StepsAgree tables other.now scans →
+            StepsAgree tables self.new scans }
+        ensures like { IsLike self.new other.now }
+        ensures ticks { Within (step_total self.old + 2 * transition_total self.old) ticks.old ticks.new }
+    {
+        let from = KeptTimes {
+            since: &other.since,
+            held_times: &other.held_times,
+        };
+        copy_moved(
+            &mut self.since,
+            &mut self.held_times,
+            from,
+            &self.active,
+            &other.on,
+        );
+        copy_flags(&mut self.active, &mut self.on, &other.active, &other.on);
+        copy_flags(
+            &mut self.cleared,
+            &mut self.candidates,
+            &other.cleared,
+            &other.candidates,
+        );
+        ticks.tick_all(self.active.count());
+        ticks.tick_all(self.cleared.count());
         self.begun = other.begun;
     }
 

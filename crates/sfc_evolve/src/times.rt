@@ -3,7 +3,7 @@
 ghost use Rattle.std.specs.Prelude.{◌≡◌, ◌≤ℤ◌, ◌-ℤ◌, ◌^◌, pos, length};
 ghost use Rattle.sfc_base.specs.Ticks.{Within};
 ghost use Rattle.sfc_flags.specs.Flags.{places_from};
-ghost use Rattle.sfc_evolve.specs.Private.Keeping.{AllBelow, AreInstants, left_at, begun_at, set_at, measured_at};
+ghost use Rattle.sfc_evolve.specs.Private.Keeping.{AllBelow, AreInstants, left_at, put_at, begun_at, set_at, measured_at};
 
 use sfc_base::references::StepId;
 use sfc_base::ticks::Ticks;
@@ -52,6 +52,34 @@ pub fn measure_active(times: &mut [i64], since: &[i64], active: &Flags, t: i64, 
     'places: while let Some(s) = active.next_set(at, ticks) {
         times[s] = time_since(since[s], t);
         at = s + 1;
+    }
+}
+
+/// These steps begin at t, when their time is 0.
+pub fn begin_steps(
+    since: &mut [i64],
+    times: &mut [i64],
+    steps: &[StepId],
+    t: i64,
+    ticks: &mut Ticks,
+)
+    requires low { pos 0 ≤ℤ t }
+    requires high { t ≤ℤ pos (2 ^ 62) }
+    requires instants { AreInstants since.old }
+    requires times_len { length times.old ≡ length since.old }
+    requires steps { AllBelow (length since.old) steps.now }
+    ensures since { since.new ≡ put_at t steps.now since.old }
+    ensures since_len { length since.new ≡ length since.old }
+    ensures times { times.new ≡ put_at (pos 0) steps.now times.old }
+    ensures times_len { length times.new ≡ length times.old }
+    ensures instants { AreInstants since.new }
+    ensures ticks { Within (length steps.now) ticks.old ticks.new }
+{
+    for step in steps {
+        ticks.tick();
+        let s = step.0 as usize;
+        since[s] = t;
+        times[s] = 0;
     }
 }
 

@@ -50,6 +50,11 @@ abbrev pub begun_at : ℤ → List ℕ → List ℤ → List ℤ
 begun_at t [] since = since
 begun_at t (s ∷ places) since = begun_at t places (slice_set since s t)
 
+-- the instants or times with those of these steps set
+abbrev pub put_at : ℤ → List StepId → List ℤ → List ℤ
+put_at t [] times = times
+put_at t (step ∷ steps) times = put_at t steps (slice_set times step.0 t)
+
 -- the flags with those of these places set
 abbrev pub set_at : List ℕ → List Bool → List Bool
 set_at [] flags = flags

@@ -1,10 +1,10 @@
-use Rattle.std.proofs.Common.{◌≡◌, ◌∙◌, ◌<◌, ◌+◌, suc, List, ap, refl, sym, length, get_or, arith, drop, false, Bool}
+use Rattle.std.proofs.Common.{◌≡◌, ◌∙◌, ◌<◌, ◌+◌, inl, inr, ℕ, suc, List, ap, refl, sym, subst, length, get_or, arith, drop, true, false, Bool}
 use Rattle.std.proofs.lemmas.List.{length-drop, length-replicate, length-set}
 use Rattle.sfc_flags.specs.Flags.{flag, places_passed}
 use Rattle.sfc_base.specs.declared.ids.TransitionId.{TransitionId}
-use Rattle.sfc_evolve.specs.Clearing.{preceding_of}
+use Rattle.sfc_evolve.specs.Clearing.{preceding_of, is_enabled, is_cleared}
 use Rattle.sfc_evolve.specs.Private.Keeping.{clearing_work}
-use Rattle.sfc_evolve.proofs.Next.{none_set}
+use Rattle.sfc_evolve.proofs.Next.{none_set, set_where, clears_enabled}
 use Rattle.sfc_evolve.proofs.Placed.{ranks_long}
 use Rattle.sfc_evolve.proofs.Skipped.{skipped, clearing_left, clearing_covers}
 use Rattle.sfc_evolve.proofs.TableFacts.{ranked_at, preceding_below}
@@ -52,6 +52,20 @@ clear_one-clears-requires-clause-within c =
     preceding_below c.args.tables.now c.requires.tables (length c.args.active.now) c.requires.active_len
     (get_or c.ranked-ranked.result.now c.in-Some.j record { 0 = 0 }) below c.preceding.result.now c.preceding.ensures
 
+pub candidates-init : goal.candidates-init
+candidates-init c = record {
+  rest = refl;
+  enabled = λ tr on. absurd (
+      let bad : false ≡ true =
+      sym (ap (λ (l : List Bool). flag l tr) c.requires.cleared ∙ none_set (length c.args.tables.now.sides) tr) ∙ on in
+      cc);
+  used_len = refl;
+  cleared_len = refl;
+  within = omega arith;
+  rises = omega arith;
+  ticks = omega arith;
+}
+
 pub candidates-preserved : goal.candidates-preserved
 candidates-preserved c =
     let tables = c.args.tables.now in
@@ -68,6 +82,17 @@ candidates-preserved c =
     record {
       rest = rw (c.set.ensures, c.clear_one-clears.ensures.used, c.clear_one-clears.ensures.value, c.preceding.ensures, is)
           (rw c.in-Some.ensures.some.2 at c.candidates.invariant.rest);
+      enabled = λ k on. elim (set_where c.candidates.cleared c.clear_one-clears.result _ k
+          (sym (ap (λ (l : List Bool). flag l k) c.set.ensures) ∙ on)) [
+            | inl put ↦ (
+                let clears : is_cleared (flag c.args.active.now) _ c.preceding.result.now c.candidates.used ≡ true =
+                sym c.clear_one-clears.ensures.value ∙ put.1 in
+                let all : is_enabled (flag c.args.active.now) c.preceding.result.now ≡ true =
+                clears_enabled (flag c.args.active.now) _ c.preceding.result.now c.candidates.used clears in
+                subst (λ (i : ℕ). is_enabled (flag c.args.active.now) (preceding_of tables.sides i) ≡ true) put.0
+                (rw c.preceding.ensures at all))
+            | inr kept ↦ c.candidates.invariant.enabled k kept
+          ];
       used_len = omega (arith, c.clear_one-clears.ensures.len, c.candidates.invariant.used_len);
       cleared_len =
           ap (λ (l : List Bool). length l) c.set.ensures ∙ length-set c.candidates.cleared _ _ ∙ c.candidates.invariant.cleared_len;

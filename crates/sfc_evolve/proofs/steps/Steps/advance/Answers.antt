@@ -1,17 +1,19 @@
-use Rattle.std.proofs.Common.{◌≡◌, ◌∷◌, length, arith, ap, ◌∙◌, refl, sym, subst, SFits, w64, false, true, not, Bool, pos}
+use Rattle.std.proofs.Common.{◌≡◌, ℕ, ◌∷◌, length, arith, ap, ◌∙◌, refl, sym, subst, SFits, w64, false, true, not, Bool, pos}
 use Rattle.std.proofs.lemmas.Int.{to_z-of_z}
 use Rattle.std.proofs.lemmas.List.{with_items_is, length-replicate}
 use Rattle.std.specs.Prelude.{replicate, cond, ◌-ℤ◌}
 use Rattle.std.specs.Vec.{with_items}
 use Rattle.sfc_flags.specs.Flags.{flag, places_from}
-use Rattle.sfc_evolve.specs.Agreement.{StepsAgree, AreMeasured, shown_time, IsLike}
+use Rattle.sfc_evolve.specs.Agreement.{StepsAgree, AreMeasured, shown_time, IsLike, IsClose}
 use Rattle.sfc_evolve.specs.Lookback.{is_empty}
 use Rattle.sfc_evolve.specs.Evolution.{Scan, rows_of, is_active}
+use Rattle.sfc_evolve.proofs.Alike.{close_after}
+use Rattle.sfc_evolve.proofs.Close.{kept}
 use Rattle.sfc_evolve.proofs.Listed.{listed}
 use Rattle.sfc_evolve.specs.Clearing.{step_count, transition_count, preceding_of}
 use Rattle.sfc_evolve.specs.Private.Keeping.{AreInstants, FieldsAgree, left_by, begun_at, number}
-use Rattle.sfc_evolve.proofs.Begun.{fields_begun, begun_measured}
-use Rattle.sfc_evolve.proofs.Next.{Advanced, HasMoved, advanced, moved_on, fields_next, fields_at, quiet}
+use Rattle.sfc_evolve.proofs.Begun.{fields_begun, begun_measured, zeroed}
+use Rattle.sfc_evolve.proofs.Next.{Advanced, HasMoved, advanced, moved_on, fields_next, fields_at, quiet, left_active}
 use Rattle.sfc_evolve.specs.Private.Proposing.{AreProposed}
 use Rattle.sfc_evolve.proofs.Proposed.{proposed}
 use Rattle.sfc_evolve.proofs.Works.{work_of_scan, clearing_is}
@@ -101,6 +103,14 @@ times_are c =
     let kept = with_items_is c.args.self.now.held_times c.move_on.new.held_times (omega arith) in
     with_items_is (with_items c.args.self.now.held_times c.move_on.new.held_times) c.begin.new.times
     (omega (arith, ap length kept, c.begin.ensures.times_len, ap length (c.deref_mut-3.ensures.value ∙ kept)))
+
+-- so do those of each step
+each : (c : goal.After-self-5-1) → (s : ℕ)
+    → number c.begin.new.times s ≡ cond (flag c.move_on.new.on s) (pos 0) (number c.move_on.new.held_times s)
+each c =
+    let n = sizes c in
+    zeroed (step_count c.args.tables.now) c.move_on.new.on c.move_on.new.held_times c.begin.new.times
+    (omega (arith, n.held_times)) (c.move_on.ensures.on_len ∙ c.start.ensures.len ∙ n.on) (zeros c)
 
 pub clear_in_order-requires-clause-tables : goal.clear_in_order-requires-clause-tables
 clear_in_order-requires-clause-tables c = c.steps-steps.ensures.tables
@@ -247,7 +257,7 @@ returns-clause-agrees c scans k =
     let next =
     fields_begun tables self.active self.since.items self.held_times.items c.args.t c.clear_in_order.new.cleared c.move_on.new.on
     c.begin.new.active c.begin.new.since c.move_on.new.held_times went.moved c.begin.new.times
-    (omega (arith, n.held_times)) (c.move_on.ensures.on_len ∙ c.start.ensures.len ∙ n.on) (zeros c) true (scan ∷ scans)
+    (each c) true (scan ∷ scans)
     (fields_next tables c.steps-steps.ensures.tables self.begun self.active self.since.items self.held_times.items self.cleared self.on
     c.args.conditions.now c.args.t
     c.clear_in_order.new.cleared c.move_on.new.on c.begin.new.active c.begin.new.since c.move_on.new.held_times scans went k.fields) in
@@ -277,8 +287,7 @@ returns-clause-measured c measured s lt =
     let times : c.begin.new.times ≡ (with_items (with_items self.held_times c.move_on.new.held_times) c.begin.new.times).items = sym (times_are c) in
     let is =
     begun_measured tables self.active self.since.items self.held_times.items c.args.t c.clear_in_order.new.cleared c.move_on.new.on
-    c.begin.new.active c.begin.new.since c.move_on.new.held_times went c.begin.new.times
-    (omega (arith, n.held_times)) (c.move_on.ensures.on_len ∙ c.start.ensures.len ∙ n.on) (zeros c)
+    c.begin.new.active c.begin.new.since c.move_on.new.held_times went c.begin.new.times (each c)
     (λ p within. measured p (omega (arith, n.active))) s (omega (arith, n.active, c.begin.ensures.active_len, c.move_on.ensures.active_len)) in
     ap (λ xs. number xs s) (sym times) ∙ is
     ∙ (λ i. cond (flag c.begin.new.active s) (c.args.t -ℤ number (same i) s) (number (times i) s))
@@ -346,6 +355,26 @@ invariant_of-self-2-clause-held_times_len c =
 pub invariant_of-self-2-clause-instants : goal.invariant_of-self-2-clause-instants
 invariant_of-self-2-clause-instants c =
     subst AreInstants (sym (with_items_is c.args.self.now.since c.begin.new.since (omega arith))) c.begin.ensures.instants
+
+pub returns-clause-close : goal.returns-clause-close
+unfolding IsClose
+returns-clause-close c answer other like =
+    let tables = c.args.tables.now in
+    let self = c.args.self.now in
+    let n = sizes c in
+    let same = sym (with_items_is self.since c.begin.new.since (omega arith)) in
+    close_after other self _ like (c.begin.ensures.active_len ∙ c.move_on.ensures.active_len)
+    (c.clear_in_order.ensures.cleared_len ∙ ap length c.clear_all-2.ensures.flags ∙ length-replicate (length self.cleared) false)
+    (λ s lt off quiet.
+    let is = kept tables self.active self.since.items self.held_times.items c.args.t c.clear_in_order.new.cleared c.move_on.new.on
+    c.begin.new.active c.begin.new.since c.move_on.new.held_times c.begin.new.times (moved c) (each c)
+    (left_active tables (flag self.active) c.clear_in_order.new.cleared c.clear_in_order.ensures.enabled)
+    s (omega (arith, lt, n.active)) off quiet in
+    record {
+      since_is = is.since_is ∙ ap (λ xs. number xs s) same;
+      time_is = is.time_is ∙ ap (λ xs. number xs s) (sym (times_are c));
+      inactive = is.inactive;
+    })
 
 -- ---- where no transition is cleared
 

@@ -2,7 +2,7 @@ use Rattle.std.proofs.Common.{◌≡◌, length, arith, ap, subst, ◌∙◌, re
 use Rattle.std.proofs.lemmas.Int.{to_z-of_z}
 use Rattle.std.proofs.lemmas.List.{with_items_is}
 use Rattle.sfc_flags.specs.Flags.{flag, places_from}
-use Rattle.sfc_evolve.specs.Agreement.{StepsAgree, AreMeasured, shown_time, IsLike}
+use Rattle.sfc_evolve.specs.Agreement.{StepsAgree, AreMeasured, shown_time, IsLike, IsClose}
 use Rattle.sfc_evolve.specs.Private.Keeping.{AreInstants, measured_at, number}
 use Rattle.sfc_evolve.proofs.Next.{fields_at}
 use Rattle.sfc_evolve.proofs.Measured.{fields_still, measured_again, others_stay}
@@ -81,4 +81,21 @@ returns-clause-like c other like =
           ∙ sym (ap (λ xs. number xs s) new);
       candidates = like.candidates;
       transitions = like.transitions;
+    }
+
+pub returns-clause-close : goal.returns-clause-close
+unfolding IsClose
+returns-clause-close c other close =
+    let self = c.args.self.now in
+    let new = with_items_is self.held_times c.measure_active.new.times (omega arith) in
+    record {
+      steps = close.steps;
+      transitions = close.transitions;
+      active = close.active;
+      since = close.since;
+      held_times = λ s lt off quiet.
+          close.held_times s lt off quiet
+          ∙ others_stay c.args.t self.active self.since.items self.held_times.items c.measure_active.new.times self.held_times_len (made c) s
+          (close.active s lt off quiet)
+          ∙ sym (ap (λ xs. number xs s) new);
     }
