@@ -138,6 +138,36 @@ module _ (tables : Tabled) (chart : Chart) (env : Environment) (life : Life) whe
         | inr other ↦ rw other (old (rw (other, apart) refl))
       ]
 
+  -- one whose condition isn't TRUE changes nothing
+  pub flag_kept : (t : TransitionId) (rest : List TransitionId) (flags : List Bool) (tr : ℕ) → Ok false ≡ evaluated tables chart env life t.0
+      → (flag flags t.0 ≡ true → condition_flag tables chart env life t.0 ≡ true)
+      → (is_among (t ∷ rest) tr ≡ false → flag flags tr ≡ condition_flag tables chart env life tr)
+      → is_among rest tr ≡ false → flag flags tr ≡ condition_flag tables chart env life tr
+  flag_kept t rest flags tr e sound old apart = elim (bool_cases (t.0 == tr)) [
+    | inl here ↦ (
+        let same : t.0 ≡ tr = grind (arith, nat_tests) in
+        let off : false ≡ condition_flag tables chart env life t.0 = flag_of (enabled tables life t.0) (condition_result chart env t.0) false e in
+        elim (bool_cases (flag flags t.0)) [
+          | inl on ↦ absurd (let bad : false ≡ true = off ∙ sound on in cc)
+          | inr none ↦ sym (ap (flag flags) same) ∙ none ∙ off ∙ ap (condition_flag tables chart env life) same
+        ])
+    | inr other ↦ old (rw (other, apart) refl)
+  ]
+
+  -- and one whose condition is TRUE sets a flag that is right
+  pub sound_next : (t : TransitionId) (flags : List Bool) (tr : ℕ) → t.0 < length flags → Ok true ≡ evaluated tables chart env life t.0
+      → ((i : ℕ) → flag flags i ≡ true → condition_flag tables chart env life i ≡ true)
+      → flag (slice_set flags t.0 true) tr ≡ true → condition_flag tables chart env life tr ≡ true
+  sound_next t flags tr within e old on = elim (bool_cases (t.0 == tr)) [
+    | inl here ↦ (
+        let same : t.0 ≡ tr = grind (arith, nat_tests) in
+        ap (condition_flag tables chart env life) (sym same)
+        ∙ sym (flag_of (enabled tables life t.0) (condition_result chart env t.0) true e))
+    | inr other ↦ (
+        let kept : flag (slice_set flags t.0 true) tr ≡ flag flags tr = one_set flags true t.0 tr within ∙ rw other refl in
+        old tr (sym kept ∙ on))
+  ]
+
   pub fault_next : (t : TransitionId) (rest : List TransitionId) (x : Bool) → Ok x ≡ evaluated tables chart env life t.0
       → condition_fault tables chart env life (t ∷ rest) ≡ condition_fault tables chart env life rest
   fault_next t rest x e = ap (λ (o : Option Fault). or_else o (condition_fault tables chart env life rest))

@@ -25,6 +25,7 @@ pub mod StepTimes
 pub mod Typed
 -- what stays of a scan that faults
 pub mod Faults
+pub mod Held
 -- what a program shows of its tables
 pub mod Places
 pub mod Bounds

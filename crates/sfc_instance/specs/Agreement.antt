@@ -1,16 +1,17 @@
 -- What a `Program` agrees with.
-use Rattle.std.specs.Prelude.{ℕ, ℤ, ◌≡◌, false, [], length, replicate}
+use Rattle.std.specs.Prelude.{ℕ, ℤ, ◌≡◌, [], length}
 use Rattle.sfc_tables.specs.Tables.{Tabled}
 use Rattle.sfc_evolve.specs.Agreement as evolve
 use Rattle.sfc_action.specs.Agreement as action
 use Rattle.sfc_instance.specs.declared.moved.Moved.{Moved}
-use Rattle.sfc_instance.specs.declared.moved.Moved.TheVariants.{Nothing, Controls, Steps}
+use Rattle.sfc_instance.specs.declared.moved.Moved.TheVariants.{Nothing, Controls, Steps, All}
 use Rattle.sfc_instance.specs.declared.state.State.{State}
 use Rattle.sfc_instance.specs.declared.scan_buffers.ScanBuffers.{ScanBuffers}
 use Rattle.sfc_instance.specs.declared.scan_run.ScanRun.{ScanRun}
 use Rattle.sfc_instance.specs.declared.program.Program.{Program}
 use Rattle.sfc_instance.specs.Life.{Life, InstanceState, evolution_scans, control_scans, latest_instant}
 use Rattle.sfc_instance.specs.Answers.{scan_count}
+use Rattle.sfc_instance.specs.Private.Holding.{AreHeld}
 use Rattle.sfc_instance.specs.Private.Timing.{AreTimes}
 
 -- it is large enough for what these tables show
@@ -35,7 +36,8 @@ pub record IsNear (a b : State) : Type 0 where
 abbrev pub AreApart : Moved → State → State → Type 0
 AreApart Nothing a b = IsNear a b
 AreApart Controls a b = evolve.IsLike a.steps b.steps
-AreApart Steps a b = Unit {0}
+AreApart Steps a b = evolve.IsClose a.steps b.steps
+AreApart All a b = Unit {0}
 
 -- how many steps, transitions and actions it shows
 abbrev pub step_total : Program → ℕ
@@ -58,7 +60,7 @@ elapsed_at program t s = evolve.shown_time program.run.now.steps t s
 -- it is large enough for what these tables show, and the times that no scan has to read
 pub record AreBuffersFor (tables : Tabled) (buffers : ScanBuffers) : Type 0 where
   pub conditions : length buffers.conditions.items ≡ length tables.sides
-  pub none_holds : buffers.some_hold ≡ false → buffers.conditions.items ≡ replicate (length tables.sides) false
+  pub held : AreHeld (length tables.sides) buffers.holding buffers.conditions.items
   pub times : AreTimes tables.associations buffers.times.items buffers.varied.items
 
 pub record IsScanRunFor (tables : Tabled) (run : ScanRun) : Type 0 where

@@ -2,6 +2,8 @@
 
 -- of which associations a scan reads the time
 pub mod Timing
+-- which conditions are TRUE
+pub mod Holding
 -- one transition of a scan
 pub mod Evaluating
 -- what the actions of a scan do with the variables

@@ -1,17 +1,19 @@
 //! The conditions of transitions (2.6.3).
 
-ghost use Rattle.std.specs.Prelude.{◌≡◌, ◌<◌, false, length, replicate, slice_get, IfOk, OnOk};
+ghost use Rattle.std.specs.Prelude.{◌≡◌, ◌<◌, true, false, length, replicate, slice_get, IfOk, OnOk};
 ghost use Rattle.std.specs.Result.{result_err};
 ghost use Rattle.sfc_expr.specs.Meaning.{truth_of};
 ghost use Rattle.sfc_expr.specs.Nodes.{nodes};
 ghost use Rattle.sfc_base.specs.Ticks.{Within};
 ghost use Rattle.sfc_tables.specs.Tables.{tables_of};
-ghost use Rattle.sfc_evolve.specs.Agreement.{IsFor, StepsAgree};
+ghost use Rattle.sfc_evolve.specs.Agreement.{IsFor, StepsAgree, Enables};
 ghost use Rattle.sfc_instance.specs.Life.{Life, evolution_scans};
 ghost use Rattle.sfc_instance.specs.ProgramScan.{condition_fault, condition_flags, condition_in, condition_result};
 ghost use Rattle.sfc_instance.specs.Private.Evaluating.{evaluated, test_work};
+ghost use Rattle.sfc_instance.specs.Private.Holding.{AreHeld, IsReady};
 ghost use Rattle.sfc_instance.specs.Work.{condition_work};
 
+use crate::holding::Holding;
 use crate::program_context::ProgramContext;
 use sfc_base::ids::TransitionId;
 use sfc_base::ticks::Ticks;
@@ -49,6 +51,7 @@ fn evaluate<V: View>(
     requires transition { transition.0 < length context.tables.now.sides }
     ensures value { (life : Life) → StepsAgree context.entry.tables.now steps.now (evolution_scans life) →
         result ≡ evaluated context.entry.tables.now context.entry.chart.now (V.environment view.now) life transition.0 }
+    ensures enables { IfOk result (λ holds. holds ≡ true → Enables context.entry.tables.now steps.now transition.0) }
     ensures ticks { Within (test_work context.entry.tables.now context.entry.chart.now transition) ticks.old ticks.new }
 {
     if !steps.enabled(context.tables, transition, ticks) {
@@ -57,25 +60,27 @@ fn evaluate<V: View>(
     condition_holds(context, view, transition, ticks)
 }
 
-/// No flag is set, where some may have been.
-pub fn blank(flags: &mut [bool], some_set: bool)
-    requires { some_set ≡ false → flags.old ≡ replicate (length flags.old) false }
-    ensures { flags.new ≡ replicate (length flags.old) false }
+/// No condition is TRUE, where those were that are told.
+pub fn blank(conditions: &mut [bool], holding: Holding)
+    requires { AreHeld (length conditions.old) holding conditions.old }
+    ensures { conditions.new ≡ replicate (length conditions.old) false }
 {
-    if some_set {
-        flags.fill(false);
+    match holding {
+        Holding::Nothing => {}
+        Holding::One(transition) => conditions[transition.0 as usize] = false,
+        Holding::Any => conditions.fill(false),
     }
 }
 
 /// The conditions of all enabled transitions, by number, and FALSE for the others, as all are before; or the first fault in rank order.
-/// Answers whether one of them may be TRUE.
+/// Answers which of them are TRUE.
 pub fn evaluate_all<V: View>(
     context: ProgramContext<'_>,
     steps: &Steps,
     view: &V,
     conditions: &mut [bool],
     ticks: &mut Ticks,
-) -> Result<bool, Fault>
+) -> Result<Holding, Fault>
     requires tables { context.tables.now ≡ tables_of context.chart.now }
     requires sizes { IsFor context.tables.now steps.now }
     requires len { length conditions.old ≡ length context.tables.now.sides }
@@ -86,19 +91,21 @@ pub fn evaluate_all<V: View>(
         ≡ condition_fault context.entry.tables.now context.entry.chart.now (V.environment view.now) life context.entry.tables.now.ranked }
     ensures flags { OnOk result ((life : Life) → StepsAgree context.entry.tables.now steps.now (evolution_scans life) →
         conditions.new ≡ condition_flags context.entry.tables.now context.entry.chart.now (V.environment view.now) life) }
-    ensures none { IfOk result (λ some_hold. some_hold ≡ false → conditions.new ≡ replicate (length conditions.old) false) }
+    ensures held { IfOk result (λ holding. AreHeld (length conditions.old) holding conditions.new) }
+    ensures ready { IfOk result (λ holding. IsReady context.entry.tables.now steps.now holding) }
     ensures ticks { Within (condition_work context.entry.tables.now context.entry.chart.now context.entry.tables.now.ranked) ticks.old ticks.new }
 {
     let ranked = context.tables.ranked();
     let candidates = steps.candidates();
-    let mut some_hold = false;
+    let mut holding = Holding::Nothing;
     let mut at = 0;
     'candidates: while let Some(j) = candidates.next_set(at, ticks) {
         let transition = ranked[j];
-        let holds = evaluate(context, steps, view, transition, ticks)?;
-        conditions[transition.0 as usize] = holds;
-        some_hold |= holds;
+        if evaluate(context, steps, view, transition, ticks)? {
+            conditions[transition.0 as usize] = true;
+            holding = holding.with(transition);
+        }
         at = j + 1;
     }
-    Ok(some_hold)
+    Ok(holding)
 }

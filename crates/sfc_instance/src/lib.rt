@@ -18,6 +18,7 @@
 
 mod acting;
 mod conditions;
+mod holding;
 pub mod laws;
 pub mod moved;
 pub mod program;

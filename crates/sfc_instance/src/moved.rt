@@ -7,6 +7,8 @@ pub enum Moved {
     Nothing,
     /// Action control, but no step.
     Controls,
-    /// Steps and action control.
+    /// Action control, and the steps that it left and activated.
     Steps,
+    /// All.
+    All,
 }

@@ -130,7 +130,7 @@ impl Program {
         ensures ticks { Within (copy_work tables.now) ticks.old ticks.new }
     {
         self.run.now.copy_from(tables, &self.fresh, ticks);
-        self.run.moved = Moved::Steps;
+        self.run.moved = Moved::All;
         self.scans = 0;
         self.at = 0;
         self.fault = None;
@@ -146,7 +146,7 @@ impl Program {
     {
         let mut ticks = Ticks::new();
         self.run.now.copy_from(tables, &other.run.now, &mut ticks);
-        self.run.moved = Moved::Steps;
+        self.run.moved = Moved::All;
         self.fresh.copy_from(tables, &other.fresh, &mut ticks);
         self.scans = other.scans;
         self.at = other.at;

@@ -1,11 +1,11 @@
 //! The buffers of a scan of a program instance.
 
-/// Of each transition the condition, by number, and whether one of them may be TRUE; of each association the time, by number; and the
+/// Of each transition the condition, by number, and which of them are TRUE; of each association the time, by number; and the
 /// numbers of the associations whose time a scan reads.
 #[derive(Drop)]
 pub struct ScanBuffers {
     pub conditions: Vec<bool>,
-    pub some_hold: bool,
+    pub holding: Holding,
     pub times: Vec<i64>,
     pub varied: Vec<usize>,
 }
@@ -21,10 +21,12 @@ ghost use Rattle.sfc_image.specs.Agreement.{ImageAgrees, instance_total};
 ghost use Rattle.sfc_instance.specs.Life.{Life};
 ghost use Rattle.sfc_instance.specs.Contexts.{IsContextOf};
 ghost use Rattle.sfc_instance.specs.ProgramScan.{environment, condition_fault, next_row};
+ghost use Rattle.sfc_instance.specs.Private.Holding.{IsReady};
 ghost use Rattle.sfc_instance.specs.Work.{condition_work};
 ghost use Rattle.sfc_instance.specs.Agreement.{IsStateFor, AreBuffersFor, StateAgrees};
 
 use crate::conditions::{blank, evaluate_all};
+use crate::holding::Holding;
 use crate::program_context::ProgramContext;
 use crate::reading::{list_varied, read_association_times};
 use crate::state::State;
@@ -44,7 +46,7 @@ impl ScanBuffers {
         let varied = list_varied(alloc, tables.step_actions(), &mut times)?;
         Ok(ScanBuffers {
             conditions: vec![in alloc; false; tables.transitions()]?,
-            some_hold: false,
+            holding: Holding::Nothing,
             times,
             varied,
         })
@@ -76,6 +78,7 @@ impl ScanBuffers {
             StateAgrees context.entry.tables.now state.now life → ImageAgrees plant image.now (settled changes) →
             record { conditions = self.new.conditions.items; times = self.new.times.items; at = t }
             ≡ next_row plant context.entry.instance life changes t) }
+        ensures ready { OnOk result (IsReady context.entry.tables.now state.now.steps self.new.holding) }
         ensures ticks { Within (condition_work context.entry.tables.now context.entry.chart.now context.entry.tables.now.ranked
             + length context.entry.tables.now.associations) ticks.old ticks.new }
     {
@@ -84,12 +87,12 @@ impl ScanBuffers {
             times: state.steps.times(),
         };
         let view = image.view(context.instance, readings, false);
-        blank(&mut self.conditions, self.some_hold);
-        self.some_hold = true;
+        blank(&mut self.conditions, self.holding);
+        self.holding = Holding::Any;
         match evaluate_all(context, &state.steps, &view, &mut self.conditions, ticks) {
             Err(fault) => Err(fault),
-            Ok(some_hold) => {
-                self.some_hold = some_hold;
+            Ok(holding) => {
+                self.holding = holding;
                 read_association_times(
                     &mut self.times,
                     &self.varied,

@@ -39,6 +39,7 @@ ghost use Rattle.sfc_instance.specs.ProgramScan.{after_actions, attempt, next_ro
 ghost use Rattle.sfc_instance.specs.Work.{actions_work, scan_work};
 ghost use Rattle.sfc_instance.specs.Agreement.{IsScanRunFor, StateAgrees};
 ghost use Rattle.sfc_instance.specs.Private.Acting.{HasActed};
+ghost use Rattle.sfc_instance.specs.Private.Holding.{IsReady};
 ghost use Rattle.sfc_instance.specs.Private.Scanning.{HasScanned, Moves, go_work, row_in};
 
 use crate::program_context::ProgramContext;
@@ -59,7 +60,7 @@ impl ScanRun {
             now: State::new(alloc, tables)?,
             spare: State::new(alloc, tables)?,
             buffers: ScanBuffers::new(alloc, tables)?,
-            moved: Moved::Steps,
+            moved: Moved::All,
         })
     }
 
@@ -94,7 +95,7 @@ impl ScanRun {
         let answer = act_or_undo(context, &self.now, image, ticks);
         if answer.is_err() {
             std::mem::swap(&mut self.now, &mut self.spare);
-            self.moved = Moved::Steps;
+            self.moved = Moved::All;
         }
         answer
     }
@@ -113,6 +114,7 @@ impl ScanRun {
         requires instance { context.instance.0 < instance_total image.old }
         requires closed { is_open image.old ≡ false }
         requires measured { AreMeasured t self.old.now.steps }
+        requires ready { IsReady context.tables.now self.old.now.steps self.old.buffers.holding }
         requires low { pos 0 ≤ℤ t }
         requires high { t ≤ℤ pos (2 ^ 62) }
         ensures sizes { IsScanRunFor context.entry.tables.now self.new }
@@ -129,7 +131,7 @@ impl ScanRun {
         match self.now.advance(context.tables, &self.buffers, t, ticks) {
             Err(fault) => {
                 std::mem::swap(&mut self.now, &mut self.spare);
-                self.moved = Moved::Steps;
+                self.moved = Moved::All;
                 Err(ScanFault::Control(fault))
             }
             Ok(moved) => {

@@ -35,12 +35,14 @@ ghost use Rattle.sfc_action.specs.declared.control_state.ControlState.{ControlSt
 ghost use Rattle.sfc_action.specs.Agreement.{IsFor, ControlsAgree, IsAlike, action_total};
 ghost use Rattle.sfc_action.specs.Work.{control_work};
 ghost use Rattle.sfc_instance.specs.Life.{Life, control_scans};
+ghost use Rattle.sfc_instance.specs.Private.Holding.{IsReady};
 ghost use Rattle.sfc_instance.specs.Private.Scanning.{row_in};
 ghost use Rattle.sfc_instance.specs.Work.{copy_work};
 ghost use Rattle.sfc_instance.specs.declared.state.State.{State};
 ghost use Rattle.sfc_instance.specs.declared.moved.Moved.{Moved};
 ghost use Rattle.sfc_instance.specs.Agreement.{AreBuffersFor, IsStateFor, StateAgrees, IsNear, AreApart};
 
+use crate::holding::Holding;
 use crate::moved::Moved;
 use crate::scan_buffers::ScanBuffers;
 use sfc_action::fault::ControlFault;
@@ -86,13 +88,41 @@ fn stay(steps: &mut Steps, tables: &Tables, buffers: &ScanBuffers, ticks: &mut T
     ensures ticks { Within (advance_work tables.now) ticks.old ticks.new }
     ensures ticks_of_no { result ≡ false → Within 0 ticks.old ticks.new }
 {
-    if buffers.some_hold {
-        return false;
+    match buffers.holding {
+        Holding::Nothing => steps.stay(tables, ticks),
+        Holding::One(_) | Holding::Any => false,
     }
-    steps.stay(tables, ticks)
 }
 
-// One scan of the steps, the short way where no condition is TRUE and that is enough. Answers whether steps may have moved.
+// The short way of a scan of the steps, where the condition of one transition alone is TRUE: answers whether it is done.
+fn clear(
+    steps: &mut Steps,
+    tables: &Tables,
+    buffers: &ScanBuffers,
+    t: i64,
+    ticks: &mut Ticks,
+) -> bool
+    requires sizes { evolve.IsFor tables.now steps.old }
+    requires buffers { AreBuffersFor tables.now buffers.now }
+    requires ready { IsReady tables.now steps.old buffers.now.holding }
+    requires low { pos 0 ≤ℤ t }
+    requires high { t ≤ℤ pos (2 ^ 62) }
+    ensures sizes { evolve.IsFor tables.now steps.new }
+    ensures agrees { result ≡ true → (scans : List evolution.Scan) → evolve.StepsAgree tables.now steps.old scans →
+        evolve.StepsAgree tables.now steps.new (record { conditions = buffers.now.conditions.items; at = t } ∷ scans) }
+    ensures unchanged { result ≡ false → steps.new ≡ steps.old }
+    ensures measured { AreMeasured t steps.old → AreMeasured t steps.new }
+    ensures close { result ≡ true → (other : Steps) → evolve.IsLike other steps.old → evolve.IsClose other steps.new }
+    ensures ticks { Within (advance_work tables.now) ticks.old ticks.new }
+    ensures ticks_of_no { result ≡ false → Within 0 ticks.old ticks.new }
+{
+    match buffers.holding {
+        Holding::One(transition) => steps.clear(tables, transition, t, ticks),
+        Holding::Nothing | Holding::Any => false,
+    }
+}
+
+// One scan of the steps, a short way where that is enough. Answers whether steps may have moved.
 fn go_on(
     steps: &mut Steps,
     tables: &Tables,
@@ -102,6 +132,7 @@ fn go_on(
 ) -> bool
     requires sizes { evolve.IsFor tables.now steps.old }
     requires buffers { AreBuffersFor tables.now buffers.now }
+    requires ready { IsReady tables.now steps.old buffers.now.holding }
     requires low { pos 0 ≤ℤ t }
     requires high { t ≤ℤ pos (2 ^ 62) }
     ensures sizes { evolve.IsFor tables.now steps.new }
@@ -114,10 +145,14 @@ fn go_on(
         ≡ active_steps tables.now (rows_of tables.now scans) }
     ensures measured { AreMeasured t steps.old → AreMeasured t steps.new }
     ensures like { result ≡ false → (other : Steps) → evolve.IsLike other steps.old → evolve.IsLike other steps.new }
+    ensures close { result ≡ true → (other : Steps) → evolve.IsLike other steps.old → evolve.IsClose other steps.new }
     ensures ticks { Within (advance_work tables.now) ticks.old ticks.new }
 {
     if stay(steps, tables, buffers, ticks) {
         return false;
+    }
+    if clear(steps, tables, buffers, t, ticks) {
+        return true;
     }
     steps.advance(tables, &buffers.conditions, t, ticks)
 }
@@ -167,7 +202,11 @@ impl State {
                 self.steps.follow(&other.steps, ticks);
                 self.controls.copy_from(tables, &other.controls, ticks);
             }
-            Moved::Steps => self.copy_from(tables, other, ticks),
+            Moved::Steps => {
+                self.steps.follow_moved(&other.steps, ticks);
+                self.controls.copy_from(tables, &other.controls, ticks);
+            }
+            Moved::All => self.copy_from(tables, other, ticks),
         }
     }
 
@@ -197,6 +236,7 @@ impl State {
     ) -> Result<Moved, ControlFault>
         requires sizes { IsStateFor tables.now self.old }
         requires buffers { AreBuffersFor tables.now buffers.now }
+        requires ready { IsReady tables.now self.old.steps buffers.now.holding }
         requires low { pos 0 ≤ℤ t }
         requires high { t ≤ℤ pos (2 ^ 62) }
         ensures sizes { IsStateFor tables.now self.new }

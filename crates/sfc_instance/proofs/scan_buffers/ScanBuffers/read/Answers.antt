@@ -49,7 +49,7 @@ returns-in-Ok-clause-row c plant life changes context state h =
     let env = c.view-view.ensures plant (settled changes) h
     ∙ environment_is plant c.args.context life changes c.args.t false c.active_flags.result.now c.times.result.now context
     (c.active_flags.ensures.flags tables (evolution_scans life) state.steps) times in
-    let flags = with_items_is (with_items c.args.self.now.conditions c.blank.new.flags) c.evaluate_all.new.conditions (omega arith)
+    let flags = with_items_is (with_items c.args.self.now.conditions c.blank.new.conditions) c.evaluate_all.new.conditions (omega arith)
     ∙ on_ok c.evaluate_all.result _ (ap is_ok c.in-Ok.is) c.evaluate_all.ensures.flags life state.steps
     ∙ ap (λ (e : Environment). condition_flags tables chart e life) env
     ∙ ap (λ (x : Tabled). condition_flags x chart (environment plant p life changes c.args.t false) life) (tables_is plant c.args.context context)
