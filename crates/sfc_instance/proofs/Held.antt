@@ -1,6 +1,6 @@
 -- Which conditions are TRUE.
 use denote.Struct.Props.{props}
-use Rattle.std.proofs.Common.{◌≡◌, ℕ, zero, suc, ◌==◌, Bool, true, false, List, ◌∷◌, refl, ap, slice_set}
+use Rattle.std.proofs.Common.{◌≡◌, ℕ, zero, suc, Bool, true, false, List, ◌∷◌, refl, ap, slice_set}
 use Rattle.std.specs.Prelude.{replicate}
 use Rattle.sfc_instance.specs.declared.holding.Holding.{Holding}
 use Rattle.sfc_instance.specs.declared.holding.Holding.TheVariants as holding

@@ -1,4 +1,4 @@
-use Rattle.std.proofs.Common.{◌≡◌, Bool, List, false, length, slice_set, subst, ap, ◌∙◌}
+use Rattle.std.proofs.Common.{Bool, List, false, length, slice_set, subst, ap, ◌∙◌}
 use Rattle.sfc_instance.specs.declared.holding.Holding.{Holding}
 use Rattle.sfc_instance.specs.declared.holding.Holding.TheVariants.{One}
 use Rattle.sfc_instance.specs.Private.Holding.{AreHeld}

@@ -1,5 +1,4 @@
-use Rattle.std.proofs.Common.{◌≡◌, ◌%◌, ◌/◌, ◌<◌, ◌==◌, ◌&&◌, ℕ, not, cond, true, false, Bool, refl, ◌∙◌, sym, ap, inl, inr, arith, eq-eqb}
-use Rattle.std.proofs.lemmas.Bool.{cases_eq, ne_eqb}
+use Rattle.std.proofs.Common.{◌≡◌, ◌%◌, ◌==◌, cond, true, ◌∙◌, sym, ap, arith, eq-eqb}
 use Rattle.std.specs.Int.{bit_at}
 use lib.Count.{count_trailing_zeros}
 use Rattle.sfc_flags.specs.Words.{has, word_of}
