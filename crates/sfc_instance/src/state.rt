@@ -19,7 +19,7 @@ impl Drop for State {
     }
 }
 
-ghost use Rattle.std.specs.Prelude.{◌≡◌, ◌≤ℤ◌, ◌^◌, ◌+◌, ◌*◌, ◌∷◌, [], List, ℤ, pos, true, false, length, None, IfOk, OnOk};
+ghost use Rattle.std.specs.Prelude.{◌≡◌, ◌≤ℤ◌, ◌^◌, ◌+◌, ◌*◌, ◌∷◌, [], List, ℤ, pos, not, true, false, length, None, IfOk, OnOk};
 ghost use Rattle.std.specs.Result.{result_err};
 ghost use Rattle.sfc_base.specs.Ticks.{Within};
 ghost use Rattle.sfc_tables.specs.Tables.{Tabled};
@@ -35,6 +35,8 @@ ghost use Rattle.sfc_action.specs.declared.control_state.ControlState.{ControlSt
 ghost use Rattle.sfc_action.specs.Agreement.{IsFor, ControlsAgree, IsAlike, action_total};
 ghost use Rattle.sfc_action.specs.Work.{control_work};
 ghost use Rattle.sfc_instance.specs.Life.{Life, control_scans};
+ghost use Rattle.sfc_base.specs.declared.ids.TransitionId.{TransitionId};
+ghost use Rattle.sfc_instance.specs.declared.holding.Holding.TheVariants as holding;
 ghost use Rattle.sfc_instance.specs.Private.Holding.{IsReady};
 ghost use Rattle.sfc_instance.specs.Private.Scanning.{row_in};
 ghost use Rattle.sfc_instance.specs.Work.{copy_work};
@@ -79,6 +81,8 @@ fn stay(steps: &mut Steps, tables: &Tables, buffers: &ScanBuffers, ticks: &mut T
         evolve.StepsAgree tables.now steps.old scans → evolve.StepsAgree tables.now steps.new (scan ∷ scans) }
     ensures begun { result ≡ true → (scans : List evolution.Scan) → evolve.StepsAgree tables.now steps.old scans →
         is_empty scans ≡ false }
+    ensures wanted { (scans : List evolution.Scan) → buffers.now.holding ≡ holding.Nothing → evolve.StepsAgree tables.now steps.old scans →
+        result ≡ not (is_empty scans) }
     ensures same_steps { result ≡ true → (scan : evolution.Scan) (scans : List evolution.Scan) → evolution.AreFalse scan.conditions →
         evolve.StepsAgree tables.now steps.old scans →
         active_steps tables.now (rows_of tables.now (scan ∷ scans)) ≡ active_steps tables.now (rows_of tables.now scans) }
@@ -110,6 +114,8 @@ fn clear(
     ensures sizes { evolve.IsFor tables.now steps.new }
     ensures agrees { result ≡ true → (scans : List evolution.Scan) → evolve.StepsAgree tables.now steps.old scans →
         evolve.StepsAgree tables.now steps.new (record { conditions = buffers.now.conditions.items; at = t } ∷ scans) }
+    ensures wanted { (transition : TransitionId) (scans : List evolution.Scan) → buffers.now.holding ≡ holding.One transition →
+        evolve.StepsAgree tables.now steps.old scans → result ≡ not (is_empty scans) }
     ensures unchanged { result ≡ false → steps.new ≡ steps.old }
     ensures measured { AreMeasured t steps.old → AreMeasured t steps.new }
     ensures close { result ≡ true → (other : Steps) → evolve.IsLike other steps.old → evolve.IsClose other steps.new }
