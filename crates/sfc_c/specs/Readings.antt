@@ -1,5 +1,6 @@
 -- What is read without a command: what the rules say of the commands that were accepted.
-use Rattle.std.specs.Prelude.{◌≡◌, ℕ, nat_lt, cond, is_some, List, length, map, take, drop, MatchBool, ℤ, pos, negsuc, Option, Some, None}
+use Rattle.std.specs.Prelude.{◌≡◌, ℕ, nat_lt, cond, is_some, List, length, map, take, drop, MatchBool}
+use Rattle.std.specs.Prelude.{ℤ, pos, negsuc, Option, Some, None}
 use Rattle.std.specs.List.{range_with_len}
 use Rattle.sfc_base.specs.declared.ids.ProgId.{ProgId}
 use Rattle.sfc_base.specs.declared.ids.TaskId.{TaskId}

@@ -25,8 +25,8 @@ index_after low (receipt ∷ receipts) = index_after receipt.index receipts
 abbrev pub held_from : ℕ → List Receipt → List Receipt
 held_from first receipts = filter (λ receipt. nat_le first receipt.index) receipts
 
--- The receipts of a seat's accepted scans of a task: as many as it has counted since, with rising indices. Those from before the first entry
--- that is held are let go, since nothing compares them, and all others are kept.
+-- The receipts of a seat's accepted scans of a task: as many as it has counted since, with rising indices. Those from
+-- before the first entry that is held are let go, since nothing compares them, and all others are kept.
 pub record Receives (number : ℕ) (task : TaskId) (low before after first : ℕ) (kept : List Receipt) : Type 0 where
   pub all : List Receipt
   pub count : length all + before ≡ after
