@@ -72,7 +72,7 @@ both_none (Some f) rest e = absurd cc
 -- ---- flip-flops
 
 module _ (tables : Tabled) (state : ControlState) (scan : Scan) (h : List Scan) (i : Inputs) (ps : List ℤ) (next : Stores)
-    (each : IsStateAfter tables state h) (scan_input : AreScanInputs tables scan i ps) (stores : AreNext state.stores i next) where
+    (each : IsStateAfter tables state h) (scan_input : AreScanInputs tables scan i ps) (stores : AreNext state.kept.stores i next) where
   abbrev n : ℕ
   n = length tables.actions
 
@@ -222,7 +222,7 @@ module _ (tables : Tabled) (state new : ControlState) (i : Inputs) (ps : List �
 
 module _ (tables : Tabled) (state new : ControlState) (scan : Scan) (h : List Scan) (i : Inputs) (ps : List ℤ) (next : Stores)
     (size : AreFor tables state) (each : IsStateAfter tables state h) (scan_input : AreScanInputs tables scan i ps)
-    (stores : AreNext state.stores i next) (faultless : first_in (fault_at i next) tables.associations ≡ None)
+    (stores : AreNext state.kept.stores i next) (faultless : first_in (fault_at i next) tables.associations ≡ None)
     (acted : IsActed i next ps scan.at state new) where
   abbrev m : ℕ
   m = length tables.actions
@@ -271,7 +271,7 @@ module _ (tables : Tabled) (state new : ControlState) (scan : Scan) (h : List Sc
   elapsed_is p a = elapsed_are tables scan h (length state.q) new.blocks p a acted.sized.blocks blocks_agree
       (covered tables state new i ps next scan.at size acted)
 
-  delayed_stored_is : (a : ℕ) → a < m → flag new.delayed_stored a ≡ delayed_then_stored tables a DS now
+  delayed_stored_is : (a : ℕ) → a < m → flag new.kept.delayed_stored a ≡ delayed_then_stored tables a DS now
   delayed_stored_is a lt =
       acted.delayed_stored a
       ∙ (λ k. (each.delayed_stored a lt k || elapsed_is DelayedStored a k) && not (scan_input.letters a R k))
@@ -324,7 +324,7 @@ pub record IsRead (tables : Tabled) (state : ControlState) (active : List Bool) 
   pub presets_len : length ps ≡ length tables.actions
   pub inputs : i ≡ marked_at tables.associations (places_from active 0) (cleared (length tables.actions))
   pub presets : new_ps ≡ presets_at times tables.associations (places_from active 0) ps
-  pub stores : AreNext state.stores i next
+  pub stores : AreNext state.kept.stores i next
 
 -- the scan with these active steps
 abbrev pub scan_of : List Bool → List ℤ → ℤ → Scan

@@ -242,11 +242,7 @@ module _ (tables : Tabled) (state : ControlState) (scan last : Scan) (h : List S
 pub rested_size : (tables : Tabled) (state : ControlState) → AreFor tables state → AreFor tables (rested state)
 rested_size tables state size = record {
   sized = record {
-    pulse = size.sized.pulse;
-    rising_pulse = size.sized.rising_pulse;
-    falling_pulse = size.sized.falling_pulse;
-    stores = size.sized.stores;
-    delayed_stored = size.sized.delayed_stored;
+    kept = size.sized.kept;
     q = size.sized.q;
     executed = size.sized.q;
     blocks = size.sized.blocks;

@@ -10,14 +10,16 @@ use Rattle.sfc_flags.proofs.Wordwise.{all_done, past, same_flags}
 use Rattle.sfc_action.specs.declared.timed.Timed.{Timed}
 use Rattle.sfc_action.specs.declared.stores.Stores.{Stores}
 use Rattle.sfc_action.specs.declared.inputs.Inputs.{Inputs}
+use Rattle.sfc_action.specs.declared.kept.Kept.{Kept}
 use Rattle.sfc_action.specs.declared.control_scan.ControlScan.{ControlScan}
 use Rattle.sfc_action.specs.declared.control_state.ControlState.{ControlState}
 use Rattle.sfc_action.specs.Private.TimedSets.{AreAll, none}
-use Rattle.sfc_action.specs.Private.Storing.{AreStores, no_stores}
+use Rattle.sfc_action.specs.Private.Storing.{AreStores, no_stores, IsKept, none_kept}
 use Rattle.sfc_action.specs.Private.Marking.{AreSized, cleared}
 use Rattle.sfc_action.specs.Private.ControlScans.{IsControlScan}
 use Rattle.sfc_action.specs.Private.Keeping.{IsStateSized}
-use Rattle.sfc_action.specs.Private.Rows.{timed_row, store_row, input_row, state_row, no_times, no_store, no_inputs, nothing, state_row_after, state_after, stores_after}
+use Rattle.sfc_action.specs.Private.Rows.{timed_row, store_row, input_row, kept_row, state_row, no_times, no_store, no_inputs, nothing_kept, nothing}
+use Rattle.sfc_action.specs.Private.Rows.{state_row_after, state_after, stores_after}
 use Rattle.sfc_action.proofs.Sizes.{all_none, are_sized}
 
 -- ---- past the last action
@@ -52,13 +54,18 @@ module _ (n a : ℕ) (le : n ≤ a) where
     more_times = past n a inputs.more_times h.more_times le i;
   }
 
-  pub kept_past : (state : ControlState) → IsStateSized n state → state_row state a ≡ nothing
-  kept_past state h = λ i. record {
-    pulse = past n a state.pulse h.pulse le i;
-    rising_pulse = past n a state.rising_pulse h.rising_pulse le i;
-    falling_pulse = past n a state.falling_pulse h.falling_pulse le i;
-    stores = stores_past state.stores h.stores i;
-    delayed_stored = past n a state.delayed_stored h.delayed_stored le i;
+  pub kept_past : (kept : Kept) → IsKept n kept → kept_row kept a ≡ nothing_kept
+  kept_past kept h = λ i. record {
+    pulse = past n a kept.pulse h.pulse le i;
+    rising_pulse = past n a kept.rising_pulse h.rising_pulse le i;
+    falling_pulse = past n a kept.falling_pulse h.falling_pulse le i;
+    stores = stores_past kept.stores h.stores i;
+    delayed_stored = past n a kept.delayed_stored h.delayed_stored le i;
+  }
+
+  pub state_past : (state : ControlState) → IsStateSized n state → state_row state a ≡ nothing
+  state_past state h = λ i. record {
+    kept = kept_past state.kept h.kept i;
     q = past n a state.q h.q le i;
     executed = past n a state.executed h.executed le i;
   }
@@ -72,7 +79,7 @@ module _ (n a : ℕ) (le : n ≤ a) where
       → state_row_after control_scan (state_row state) a ≡ nothing
   after_past control_scan state s k = λ j.
       state_after (inputs_past control_scan.inputs s.inputs j) (stores_past control_scan.stores s.stores j)
-      (timed_past control_scan.elapsed s.elapsed j) (kept_past state k j)
+      (timed_past control_scan.elapsed s.elapsed j) (state_past state k j)
 
 -- ---- tables with the same rows are the same
 
@@ -91,6 +98,15 @@ module _ (n : ℕ) where
     set = same_flags n x.set y.set hx.set hy.set (λ a. ap (λ r. r.set) (each a)) i;
     stored_delayed = same_flags n x.stored_delayed y.stored_delayed hx.stored_delayed hy.stored_delayed (λ a. ap (λ r. r.stored_delayed) (each a)) i;
     stored_limited = same_flags n x.stored_limited y.stored_limited hx.stored_limited hy.stored_limited (λ a. ap (λ r. r.stored_limited) (each a)) i;
+  }
+
+  pub same_kept : (x y : Kept) → IsKept n x → IsKept n y → ((a : ℕ) → kept_row x a ≡ kept_row y a) → x ≡ y
+  same_kept x y hx hy each = λ i. record {
+    pulse = same_flags n x.pulse y.pulse hx.pulse hy.pulse (λ a. ap (λ r. r.pulse) (each a)) i;
+    rising_pulse = same_flags n x.rising_pulse y.rising_pulse hx.rising_pulse hy.rising_pulse (λ a. ap (λ r. r.rising_pulse) (each a)) i;
+    falling_pulse = same_flags n x.falling_pulse y.falling_pulse hx.falling_pulse hy.falling_pulse (λ a. ap (λ r. r.falling_pulse) (each a)) i;
+    stores = same_stores x.stores y.stores hx.stores hy.stores (λ a. ap (λ r. r.stores) (each a)) i;
+    delayed_stored = same_flags n x.delayed_stored y.delayed_stored hx.delayed_stored hy.delayed_stored (λ a. ap (λ r. r.delayed_stored) (each a)) i;
   }
 
   pub same_inputs : (x y : Inputs) → AreSized n x → AreSized n y → ((a : ℕ) → input_row x a ≡ input_row y a) → x ≡ y
@@ -117,6 +133,15 @@ module _ (n : ℕ) where
 
   pub no_store_rows : (a : ℕ) → store_row (no_stores n) a ≡ no_store
   no_store_rows a = λ i. record { set = no_flag a i; stored_delayed = no_flag a i; stored_limited = no_flag a i }
+
+  pub none_kept_rows : (a : ℕ) → kept_row (none_kept n) a ≡ nothing_kept
+  none_kept_rows a = λ i. record {
+    pulse = no_flag a i;
+    rising_pulse = no_flag a i;
+    falling_pulse = no_flag a i;
+    stores = no_store_rows a i;
+    delayed_stored = no_flag a i;
+  }
 
   pub cleared_rows : (a : ℕ) → input_row (cleared n) a ≡ no_inputs
   cleared_rows a = λ i. record {

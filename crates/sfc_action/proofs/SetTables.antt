@@ -13,17 +13,20 @@ use Rattle.sfc_flags.specs.Words.{word_of}
 use Rattle.sfc_action.specs.declared.timed_words.TimedWords.{TimedWords}
 use Rattle.sfc_action.specs.declared.store_words.StoreWords.{StoreWords}
 use Rattle.sfc_action.specs.declared.input_words.InputWords.{InputWords}
-use Rattle.sfc_action.specs.Private.Sets.{TimedSets, StoreSets, InputSets}
+use Rattle.sfc_action.specs.declared.kept_words.KeptWords.{KeptWords}
+use Rattle.sfc_action.specs.Private.Sets.{TimedSets, StoreSets, InputSets, KeptSets}
 use Rattle.sfc_action.specs.Private.RowTables.{row_at}
-use Rattle.sfc_action.specs.Private.SetTables.{timed_by_rows, stores_by_rows, inputs_by_rows, timed_of, stores_of, inputs_of}
-use Rattle.sfc_action.specs.Private.SetTables.{IsTimedTable, IsStoreTable, IsInputTable}
+use Rattle.sfc_action.specs.Private.SetTables.{timed_by_rows, stores_by_rows, inputs_by_rows, kept_by_rows}
+use Rattle.sfc_action.specs.Private.SetTables.{timed_of, stores_of, inputs_of, kept_of}
+use Rattle.sfc_action.specs.Private.SetTables.{IsTimedTable, IsStoreTable, IsInputTable, IsKeptTable}
 use Rattle.sfc_action.specs.Private.TimedSets.{AreAll, none, with_action, by}
-use Rattle.sfc_action.specs.Private.Storing.{AreStores, no_stores}
+use Rattle.sfc_action.specs.Private.Storing.{AreStores, no_stores, IsKept, none_kept}
 use Rattle.sfc_action.specs.Private.Marking.{AreSized, cleared, marked}
 use Rattle.sfc_action.specs.Private.Marks.{timed_by, with_timed, with_input}
-use Rattle.sfc_action.specs.Private.Rows.{TimedRow, StoreRow, InputRow, timed_row, store_row, input_row, timed_in, stores_in, inputs_in, no_times, no_store, no_inputs}
-use Rattle.sfc_action.proofs.Sizes.{all_added, all_none, sized_marked, sized_cleared, sized_stores}
-use Rattle.sfc_action.proofs.Rows.{same_timed, same_stores, same_inputs, none_rows, no_store_rows, cleared_rows}
+use Rattle.sfc_action.specs.Private.Rows.{TimedRow, StoreRow, InputRow, KeptRow, timed_row, store_row, input_row, kept_row}
+use Rattle.sfc_action.specs.Private.Rows.{timed_in, stores_in, inputs_in, kept_in, no_times, no_store, no_inputs, nothing_kept}
+use Rattle.sfc_action.proofs.Sizes.{all_added, all_none, sized_marked, sized_cleared, sized_stores, sized_kept}
+use Rattle.sfc_action.proofs.Rows.{same_timed, same_stores, same_inputs, same_kept, none_rows, no_store_rows, cleared_rows, none_kept_rows}
 use Rattle.sfc_action.proofs.RowTables.{set_length, set_flag, row_here, row_set, row_none, table_none, all_equal, table_put}
 
 -- ---- sets by rows
@@ -84,6 +87,24 @@ inputs_rows_by n row blank a = λ i. record {
   any_time = set_flag n (λ b. (row b).any_time) (λ b le. ap (λ r. r.any_time) (blank b le)) a i;
   more_times = set_flag n (λ b. (row b).more_times) (λ b le. ap (λ r. r.more_times) (blank b le)) a i;
   timed = timed_rows_by n (λ b. (row b).timed) (λ b le. ap (λ r. r.timed) (blank b le)) a i;
+}
+
+kept_sized_by : (n : ℕ) (row : ℕ → KeptRow) → IsKept n (kept_by_rows n row)
+kept_sized_by n row = record {
+  pulse = set_length n (λ a. (row a).pulse);
+  rising_pulse = set_length n (λ a. (row a).rising_pulse);
+  falling_pulse = set_length n (λ a. (row a).falling_pulse);
+  stores = stores_sized_by n (λ a. (row a).stores);
+  delayed_stored = set_length n (λ a. (row a).delayed_stored);
+}
+
+kept_rows_by : (n : ℕ) (row : ℕ → KeptRow) → ((a : ℕ) → n ≤ a → row a ≡ nothing_kept) → (a : ℕ) → kept_row (kept_by_rows n row) a ≡ row a
+kept_rows_by n row blank a = λ i. record {
+  pulse = set_flag n (λ b. (row b).pulse) (λ b le. ap (λ r. r.pulse) (blank b le)) a i;
+  rising_pulse = set_flag n (λ b. (row b).rising_pulse) (λ b le. ap (λ r. r.rising_pulse) (blank b le)) a i;
+  falling_pulse = set_flag n (λ b. (row b).falling_pulse) (λ b le. ap (λ r. r.falling_pulse) (blank b le)) a i;
+  stores = stores_rows_by n (λ b. (row b).stores) (λ b le. ap (λ r. r.stores) (blank b le)) a i;
+  delayed_stored = set_flag n (λ b. (row b).delayed_stored) (λ b le. ap (λ r. r.delayed_stored) (blank b le)) a i;
 }
 
 -- ---- sets by the qualifiers with a time
@@ -171,6 +192,49 @@ pub stores_put : (n : ℕ) (words : List StoreWords) (sets : StoreSets) (k : ℕ
 stores_put n words sets k w t e lt past a =
     stores_rows n (slice_set words k w) (table_put stores_in no_store n words k w t lt past) a ∙ row_set stores_in no_store words k a w lt
     ∙ ap (λ r. cond (word_of a == k) (stores_in w a) r) (sym (stores_rows n words t a) ∙ ap (λ (s : StoreSets). store_row s a) e)
+
+-- ---- what is kept from scan to scan
+
+pub kept_sized : (n : ℕ) (words : List KeptWords) → IsKept n (kept_of n words)
+unfolding kept_of
+kept_sized n words = kept_sized_by n (row_at kept_in nothing_kept words)
+
+pub kept_rows : (n : ℕ) (words : List KeptWords) → IsKeptTable n words → (a : ℕ) → kept_row (kept_of n words) a ≡ row_at kept_in nothing_kept words a
+unfolding kept_of
+kept_rows n words t a = kept_rows_by n (row_at kept_in nothing_kept words) t.blank a
+
+-- the row of an action in its word
+pub kept_word : (n : ℕ) (words : List KeptWords) (sets : KeptSets) → IsKeptTable n words → kept_of n words ≡ sets
+    → (k a : ℕ) (d : KeptWords) → word_of a ≡ k → k < length words → kept_in (get_or words k d) a ≡ kept_row sets a
+kept_word n words sets t e k a d at lt =
+    sym (row_here kept_in nothing_kept words k a d at lt) ∙ sym (kept_rows n words t a) ∙ ap (λ (s : KeptSets). kept_row s a) e
+
+-- as many words as the sets take
+pub kept_size : (n : ℕ) (words : List KeptWords) (sets : KeptSets) → IsKeptTable n words → kept_of n words ≡ sets
+    → (length words ≡ div_ceil (length sets.pulse) 64) × (n ≡ length sets.pulse)
+kept_size n words sets t e =
+    let size : length sets.pulse ≡ n = ap (λ (s : KeptSets). length s.pulse) (sym e) ∙ (kept_sized n words).pulse in
+    (omega (arith, t.sized, size), sym size)
+
+pub kept_clear : (n : ℕ) (words : List KeptWords) → length words ≡ div_ceil n 64
+    → All (λ (word : KeptWords). (a : ℕ) → kept_in word a ≡ nothing_kept) words → IsKeptTable n words × (kept_of n words ≡ none_kept n)
+kept_clear n words size all =
+    let t : IsKeptTable n words = table_none kept_in nothing_kept n words size all in (
+      t,
+      same_kept n (kept_of n words) (none_kept n) (kept_sized n words) (sized_kept n)
+          (λ a. kept_rows n words t a ∙ row_none kept_in nothing_kept words all a ∙ sym (none_kept_rows n a)),
+    )
+
+pub kept_new : (n : ℕ) (word : KeptWords) (words : List KeptWords) → ((a : ℕ) → kept_in word a ≡ nothing_kept)
+    → words ≡ replicate (div_ceil n 64) word → IsKeptTable n words × (kept_of n words ≡ none_kept n)
+kept_new n word words clear e = let all = all_equal kept_in nothing_kept n word words clear e in kept_clear n words all.0 all.1
+
+pub kept_put : (n : ℕ) (words : List KeptWords) (sets : KeptSets) (k : ℕ) (w : KeptWords) → IsKeptTable n words → kept_of n words ≡ sets → k < length words
+    → ((a : ℕ) → word_of a ≡ k → n ≤ a → kept_in w a ≡ nothing_kept) → (a : ℕ)
+    → kept_row (kept_of n (slice_set words k w)) a ≡ cond (word_of a == k) (kept_in w a) (kept_row sets a)
+kept_put n words sets k w t e lt past a =
+    kept_rows n (slice_set words k w) (table_put kept_in nothing_kept n words k w t lt past) a ∙ row_set kept_in nothing_kept words k a w lt
+    ∙ ap (λ r. cond (word_of a == k) (kept_in w a) r) (sym (kept_rows n words t a) ∙ ap (λ (s : KeptSets). kept_row s a) e)
 
 -- ---- inputs
 

@@ -11,8 +11,9 @@ use Rattle.sfc_plant.specs.declared.association.Qualifier.TheVariants.{NonStored
 use Rattle.sfc_action.specs.declared.inputs.Inputs.{Inputs}
 use Rattle.sfc_action.specs.declared.timed.Timed as timed
 use Rattle.sfc_action.specs.declared.stores.Stores.{Stores}
+use Rattle.sfc_action.specs.declared.kept.Kept.{Kept}
 use Rattle.sfc_action.specs.declared.blocks.Block.{Block}
-use Rattle.sfc_action.specs.Private.Storing.{AreStores, no_stores}
+use Rattle.sfc_action.specs.Private.Storing.{AreStores, no_stores, IsKept, none_kept}
 use Rattle.sfc_action.specs.Private.TimedSets.{AreAll, none, with_action}
 use Rattle.sfc_action.specs.Private.Marking.{AreSized, cleared, marked}
 use Rattle.sfc_action.specs.Private.Delays.{AreOf}
@@ -172,12 +173,24 @@ sized_stores n = record {
   stored_limited = length-replicate n false;
 }
 
+pub sized_kept : (n : ℕ) → IsKept n (none_kept n)
+sized_kept n = record {
+  pulse = length-replicate n false;
+  rising_pulse = length-replicate n false;
+  falling_pulse = length-replicate n false;
+  stores = sized_stores n;
+  delayed_stored = length-replicate n false;
+}
+
 -- what is equal to empty tables is as large
 pub are_sized : (n : ℕ) (i : Inputs) → i ≡ cleared n → AreSized n i
 are_sized n i e = rw e (sized_cleared n)
 
 pub are_stores : (n : ℕ) (stores : Stores) → stores ≡ no_stores n → AreStores n stores
 are_stores n stores e = rw e (sized_stores n)
+
+pub is_kept : (n : ℕ) (kept : Kept) → kept ≡ none_kept n → IsKept n kept
+is_kept n kept e = rw e (sized_kept n)
 
 pub are_all : (n : ℕ) (sets : Sets) → sets ≡ none n → AreAll n sets
 are_all n sets e = rw e (all_none n)

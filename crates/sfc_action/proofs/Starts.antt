@@ -5,19 +5,19 @@ use Rattle.std.proofs.lemmas.List.{length-replicate}
 use Rattle.sfc_flags.specs.Flags.{flag}
 use Rattle.sfc_tables.specs.declared.step_action.StepAction.{StepAction}
 use Rattle.sfc_tables.specs.Tables.{Tabled}
-use Rattle.sfc_action.specs.declared.stores.Stores.{Stores}
+use Rattle.sfc_action.specs.declared.kept.Kept.{Kept}
 use Rattle.sfc_action.specs.declared.timed.Timed.{Timed}
 use Rattle.sfc_action.specs.declared.blocks.Block.{Block}
 use Rattle.sfc_action.specs.declared.control_state.ControlState.{ControlState}
 use Rattle.sfc_action.specs.ActionControl.{Scan}
 use Rattle.sfc_action.specs.Private.TimedSets.{none}
-use Rattle.sfc_action.specs.Private.Storing.{AreStores}
+use Rattle.sfc_action.specs.Private.Storing.{IsKept}
 use Rattle.sfc_action.specs.Private.Delays.{AreOf}
 use Rattle.sfc_action.specs.Private.Keeping.{IsStateSized, IsFresh, IsCopy, AreFor, IsStateAfter, BlockAgrees, IsCovered, delay_of}
 use Rattle.sfc_action.specs.Private.DelayLists.{with_delays}
 use Rattle.sfc_action.specs.Private.Listing.{IsNew, IsList}
 use Rattle.sfc_action.specs.Private.Singles.{AreSingle}
-use Rattle.sfc_action.proofs.Sizes.{sized_stores}
+use Rattle.sfc_action.proofs.Sizes.{is_kept}
 use Rattle.sfc_action.proofs.Timings.{flag-replicate}
 
 -- ---- before the first scan
@@ -36,11 +36,7 @@ no_flag n a flags e = ap (λ xs. flag xs a) e ∙ flag-replicate n a
 
 pub fresh_sized : (n : ℕ) (blocks : List Block) (is_single : Bool) (state : ControlState) → IsFresh n blocks is_single state → AreOf n blocks → IsStateSized n state
 fresh_sized n blocks is_single state fresh of = record {
-  pulse = sized_flags n state.pulse fresh.pulse;
-  rising_pulse = sized_flags n state.rising_pulse fresh.rising_pulse;
-  falling_pulse = sized_flags n state.falling_pulse fresh.falling_pulse;
-  stores = subst (AreStores n) (sym fresh.stores) (sized_stores n);
-  delayed_stored = sized_flags n state.delayed_stored fresh.delayed_stored;
+  kept = is_kept n state.kept fresh.kept;
   q = sized_flags n state.q fresh.q;
   executed = sized_flags n state.executed fresh.executed;
   blocks = subst (AreOf n) (sym fresh.blocks) of;
@@ -62,13 +58,13 @@ pub fresh_state : (tables : Tabled) (n : ℕ) (blocks : List Block) (is_single :
     → IsFresh n blocks is_single state → All IsNew blocks
     → IsStateAfter tables state []
 fresh_state tables n blocks is_single state fresh all = record {
-  pulse = λ a lt. no_flag n a state.pulse fresh.pulse;
-  rising_pulse = λ a lt. no_flag n a state.rising_pulse fresh.rising_pulse;
-  falling_pulse = λ a lt. no_flag n a state.falling_pulse fresh.falling_pulse;
-  set = λ a lt. ap (λ (s : Stores). flag s.set a) fresh.stores ∙ flag-replicate n a;
-  stored_delayed = λ a lt. ap (λ (s : Stores). flag s.stored_delayed a) fresh.stores ∙ flag-replicate n a;
-  stored_limited = λ a lt. ap (λ (s : Stores). flag s.stored_limited a) fresh.stores ∙ flag-replicate n a;
-  delayed_stored = λ a lt. no_flag n a state.delayed_stored fresh.delayed_stored;
+  pulse = λ a lt. ap (λ (k : Kept). flag k.pulse a) fresh.kept ∙ flag-replicate n a;
+  rising_pulse = λ a lt. ap (λ (k : Kept). flag k.rising_pulse a) fresh.kept ∙ flag-replicate n a;
+  falling_pulse = λ a lt. ap (λ (k : Kept). flag k.falling_pulse a) fresh.kept ∙ flag-replicate n a;
+  set = λ a lt. ap (λ (k : Kept). flag k.stores.set a) fresh.kept ∙ flag-replicate n a;
+  stored_delayed = λ a lt. ap (λ (k : Kept). flag k.stores.stored_delayed a) fresh.kept ∙ flag-replicate n a;
+  stored_limited = λ a lt. ap (λ (k : Kept). flag k.stores.stored_limited a) fresh.kept ∙ flag-replicate n a;
+  delayed_stored = λ a lt. ap (λ (k : Kept). flag k.delayed_stored a) fresh.kept ∙ flag-replicate n a;
   q = λ a lt. no_flag n a state.q fresh.q;
   executed = λ a lt. no_flag n a state.executed fresh.executed;
   blocks = subst (λ (xs : List Block). All (BlockAgrees tables []) xs) (sym fresh.blocks)
@@ -79,11 +75,7 @@ fresh_state tables n blocks is_single state fresh all = record {
 
 copied_sized : (n : ℕ) (from to : ControlState) → IsCopy from to → IsStateSized n from → IsStateSized n to
 copied_sized n from to copy sized = record {
-  pulse = ap length copy.pulse ∙ sized.pulse;
-  rising_pulse = ap length copy.rising_pulse ∙ sized.rising_pulse;
-  falling_pulse = ap length copy.falling_pulse ∙ sized.falling_pulse;
-  stores = subst (AreStores n) (sym copy.stores) sized.stores;
-  delayed_stored = ap length copy.delayed_stored ∙ sized.delayed_stored;
+  kept = subst (IsKept n) (sym copy.kept) sized.kept;
   q = ap length copy.q ∙ sized.q;
   executed = ap length copy.executed ∙ sized.executed;
   blocks = subst (AreOf n) (sym copy.blocks) sized.blocks;
@@ -100,13 +92,13 @@ copied_for tables from to copy for = record {
 
 pub copied_state : (tables : Tabled) (from to : ControlState) (h : List Scan) → IsCopy from to → IsStateAfter tables from h → IsStateAfter tables to h
 copied_state tables from to h copy each = record {
-  pulse = λ a lt. ap (λ xs. flag xs a) copy.pulse ∙ each.pulse a lt;
-  rising_pulse = λ a lt. ap (λ xs. flag xs a) copy.rising_pulse ∙ each.rising_pulse a lt;
-  falling_pulse = λ a lt. ap (λ xs. flag xs a) copy.falling_pulse ∙ each.falling_pulse a lt;
-  set = λ a lt. ap (λ (s : Stores). flag s.set a) copy.stores ∙ each.set a lt;
-  stored_delayed = λ a lt. ap (λ (s : Stores). flag s.stored_delayed a) copy.stores ∙ each.stored_delayed a lt;
-  stored_limited = λ a lt. ap (λ (s : Stores). flag s.stored_limited a) copy.stores ∙ each.stored_limited a lt;
-  delayed_stored = λ a lt. ap (λ xs. flag xs a) copy.delayed_stored ∙ each.delayed_stored a lt;
+  pulse = λ a lt. ap (λ (k : Kept). flag k.pulse a) copy.kept ∙ each.pulse a lt;
+  rising_pulse = λ a lt. ap (λ (k : Kept). flag k.rising_pulse a) copy.kept ∙ each.rising_pulse a lt;
+  falling_pulse = λ a lt. ap (λ (k : Kept). flag k.falling_pulse a) copy.kept ∙ each.falling_pulse a lt;
+  set = λ a lt. ap (λ (k : Kept). flag k.stores.set a) copy.kept ∙ each.set a lt;
+  stored_delayed = λ a lt. ap (λ (k : Kept). flag k.stores.stored_delayed a) copy.kept ∙ each.stored_delayed a lt;
+  stored_limited = λ a lt. ap (λ (k : Kept). flag k.stores.stored_limited a) copy.kept ∙ each.stored_limited a lt;
+  delayed_stored = λ a lt. ap (λ (k : Kept). flag k.delayed_stored a) copy.kept ∙ each.delayed_stored a lt;
   q = λ a lt. ap (λ xs. flag xs a) copy.q ∙ each.q a lt;
   executed = λ a lt. ap (λ xs. flag xs a) copy.executed ∙ each.executed a lt;
   blocks = subst (λ (xs : List Block). All (BlockAgrees tables h) xs) (sym copy.blocks) each.blocks;

@@ -62,13 +62,13 @@ delay_in (Some block) = record { begun = on_delay_in block.delay; elapsed = bloc
 
 abbrev pub action_in : ControlState → ℕ → ActionPast
 action_in state a = record {
-  pulse = flag state.pulse a;
-  rising_pulse = flag state.rising_pulse a;
-  falling_pulse = flag state.falling_pulse a;
-  set = flag state.stores.set a;
-  stored_delayed = flag state.stores.stored_delayed a;
-  stored_limited = flag state.stores.stored_limited a;
-  delayed_stored = flag state.delayed_stored a;
+  pulse = flag state.kept.pulse a;
+  rising_pulse = flag state.kept.rising_pulse a;
+  falling_pulse = flag state.kept.falling_pulse a;
+  set = flag state.kept.stores.set a;
+  stored_delayed = flag state.kept.stores.stored_delayed a;
+  stored_limited = flag state.kept.stores.stored_limited a;
+  delayed_stored = flag state.kept.delayed_stored a;
   q = flag state.q a;
   executed = flag state.executed a;
   delay = λ qualifier. delay_in (find (is_of a qualifier) state.blocks);

@@ -1,6 +1,7 @@
 //! One scan of action control.
 
 use crate::inputs::Inputs;
+use crate::kept::Kept;
 use crate::marking::mark_active;
 use crate::scan_words::ScanWords;
 use crate::settled::Settled;
@@ -49,7 +50,7 @@ impl ControlScan {
     ghost use Rattle.sfc_flags.specs.Words.{word_of};
     ghost use Rattle.sfc_tables.specs.Tables.{AreTables};
     ghost use Rattle.sfc_action.specs.Private.Marking.{cleared, marked_at, presets_at};
-    ghost use Rattle.sfc_action.specs.Private.Storing.{AreStores, AreNext};
+    ghost use Rattle.sfc_action.specs.Private.Storing.{IsKept, AreNext};
     ghost use Rattle.sfc_action.specs.Private.ControlScans.{IsControlScan};
     ghost use Rattle.sfc_action.specs.Private.Rows.{inputs_in, input_row, stores_in, store_row, timed_in, timed_row};
 
@@ -67,25 +68,25 @@ impl ControlScan {
     }
 
     // Of the 64 actions of this word what the flip-flops become and which are called; no on-delay has elapsed yet.
-    fn settle_word(&mut self, stored: &Stores, number: usize) -> Settled
+    fn settle_word(&mut self, stored: &Kept, number: usize) -> Settled
         requires sized { IsControlScan (length self.old.called) self.old }
-        requires stored { AreStores (length self.old.called) stored.now }
+        requires stored { IsKept (length self.old.called) stored.now }
         requires number { number < word_count self.old.called }
         ensures sized { IsControlScan (length self.old.called) self.new }
         ensures inputs { self.new.inputs ≡ self.old.inputs }
         ensures presets { self.new.presets ≡ self.old.presets }
-        ensures stores { ArePut number (λ a. stores_after (input_row self.old.inputs a) (store_row stored.now a))
+        ensures stores { ArePut number (λ a. stores_after (input_row self.old.inputs a) (store_row stored.now.stores a))
             (store_row self.old.stores) (store_row self.new.stores) }
         ensures called { ArePut number (λ a. called_of (input_row self.old.inputs a)
-            (stores_after (input_row self.old.inputs a) (store_row stored.now a))) (flag self.old.called) (flag self.new.called) }
+            (stores_after (input_row self.old.inputs a) (store_row stored.now.stores a))) (flag self.old.called) (flag self.new.called) }
         ensures elapsed { ArePut number (λ a. no_times) (timed_row self.old.elapsed) (timed_row self.new.elapsed) }
         ensures faultless { result.is_faultless ≡ true → (a : ℕ) → word_of a ≡ number → has_fault (input_row self.old.inputs a)
-            (stores_after (input_row self.old.inputs a) (store_row stored.now a)) ≡ false }
+            (stores_after (input_row self.old.inputs a) (store_row stored.now.stores a)) ≡ false }
         ensures uncalled { result.is_called ≡ false → (a : ℕ) → word_of a ≡ number → called_of (input_row self.old.inputs a)
-            (stores_after (input_row self.old.inputs a) (store_row stored.now a)) ≡ false }
+            (stores_after (input_row self.old.inputs a) (store_row stored.now.stores a)) ≡ false }
     {
         let inputs = self.inputs.words(number);
-        let stores = stored.words(number).after(inputs);
+        let stores = stored.words(number).stores.after(inputs);
         self.stores.put(number, stores);
         let called = inputs.called(stores);
         self.called.put_word(number, called);
@@ -97,13 +98,13 @@ impl ControlScan {
     }
 
     // What the flip-flops become and which actions are called; no on-delay has elapsed yet.
-    fn settle(&mut self, stored: &Stores, ticks: &mut Ticks) -> Settled
+    fn settle(&mut self, stored: &Kept, ticks: &mut Ticks) -> Settled
         requires sized { IsControlScan (length self.old.called) self.old }
-        requires stored { AreStores (length self.old.called) stored.now }
+        requires stored { IsKept (length self.old.called) stored.now }
         ensures sized { IsControlScan (length self.old.called) self.new }
         ensures inputs { self.new.inputs ≡ self.old.inputs }
         ensures presets { self.new.presets ≡ self.old.presets }
-        ensures next { AreNext stored.now self.new.inputs self.new.stores }
+        ensures next { AreNext stored.now.stores self.new.inputs self.new.stores }
         ensures called { AreCalled self.new.inputs self.new.stores self.new.called }
         ensures elapsed { self.new.elapsed ≡ none (length self.old.called) }
         ensures faultless { result.is_faultless ≡ true → (a : ℕ) → fault_at self.new.inputs self.new.stores a ≡ None }
@@ -127,7 +128,7 @@ impl ControlScan {
     /// on-delay has elapsed yet.
     pub fn read(
         &mut self,
-        stored: &Stores,
+        stored: &Kept,
         tables: &Tables,
         active: &Flags,
         times: &[i64],
@@ -135,7 +136,7 @@ impl ControlScan {
     ) -> Settled
         requires tables { AreTables tables.now }
         requires sized { IsControlScan (length tables.now.actions) self.old }
-        requires stored { AreStores (length tables.now.actions) stored.now }
+        requires stored { IsKept (length tables.now.actions) stored.now }
         requires steps { length active.now ≡ length tables.now.initial }
         requires times { length times.now ≡ length tables.now.associations }
         ensures sized { IsControlScan (length tables.now.actions) self.new }
@@ -143,7 +144,7 @@ impl ControlScan {
             ≡ marked_at tables.now.associations (places_from active.now 0) (cleared (length tables.now.actions)) }
         ensures presets { self.new.presets.items
             ≡ presets_at times.now tables.now.associations (places_from active.now 0) self.old.presets.items }
-        ensures next { AreNext stored.now self.new.inputs self.new.stores }
+        ensures next { AreNext stored.now.stores self.new.inputs self.new.stores }
         ensures called { AreCalled self.new.inputs self.new.stores self.new.called }
         ensures elapsed { self.new.elapsed ≡ none (length tables.now.actions) }
         ensures faultless { result.is_faultless ≡ true → (a : ℕ) → fault_at self.new.inputs self.new.stores a ≡ None }

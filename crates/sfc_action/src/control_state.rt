@@ -3,21 +3,16 @@
 use crate::blocks::Block;
 use crate::control_scan::ControlScan;
 use crate::delays::Delays;
+use crate::kept::Kept;
 use crate::state_words::StateWords;
-use crate::stores::Stores;
 use sfc_base::ticks::Ticks;
-use sfc_evolve::new_sets::three_sets;
 use sfc_flags::flags::Flags;
 use std::alloc::{AllocError, Global};
 
 /// Of each action the inputs P, P1 and P0 of the newest scan, its flip-flops, its Q and whether it was executed, and the
 /// on-delays of all. `is_single` tells that no action has two associations by SD or SL.
 pub struct ControlState {
-    pub pulse: Flags,
-    pub rising_pulse: Flags,
-    pub falling_pulse: Flags,
-    pub stores: Stores,
-    pub delayed_stored: Flags,
+    pub kept: Kept,
     pub q: Flags,
     pub executed: Flags,
     pub blocks: Delays,
@@ -28,11 +23,7 @@ pub struct ControlState {
 impl Drop for ControlState {
     fn drop(self) {
         let ControlState {
-            pulse: _,
-            rising_pulse: _,
-            falling_pulse: _,
-            stores: _,
-            delayed_stored: _,
+            kept: _,
             q: _,
             executed: _,
             blocks: _,
@@ -67,17 +58,10 @@ impl ControlState {
         ensures { IfOk result (λ state. IsFresh actions blocks.items is_single state) }
     {
         let blocks = Delays::new(alloc, actions, blocks)?;
-        let stores = Stores::new(alloc, actions)?;
-        let (delayed_stored, q, executed) = three_sets(alloc, actions)?;
-        let (pulse, rising_pulse, falling_pulse) = three_sets(alloc, actions)?;
         Ok(ControlState {
-            pulse,
-            rising_pulse,
-            falling_pulse,
-            stores,
-            delayed_stored,
-            q,
-            executed,
+            kept: Kept::new(alloc, actions)?,
+            q: Flags::new(alloc, actions)?,
+            executed: Flags::new(alloc, actions)?,
             blocks,
             is_single,
         })
@@ -90,11 +74,7 @@ impl ControlState {
         ensures { (a : ℕ) → word_of a ≡ number → state_in result a ≡ state_row self.now a }
     {
         StateWords {
-            pulse: self.pulse.word(number),
-            rising_pulse: self.rising_pulse.word(number),
-            falling_pulse: self.falling_pulse.word(number),
-            stores: self.stores.words(number),
-            delayed_stored: self.delayed_stored.word(number),
+            kept: self.kept.words(number),
             q: self.q.word(number),
             executed: self.executed.word(number),
         }
@@ -110,11 +90,7 @@ impl ControlState {
         ensures single { self.new.is_single ≡ self.old.is_single }
         ensures put { ArePut number (state_in words) (state_row self.old) (state_row self.new) }
     {
-        self.pulse.put_word(number, words.pulse);
-        self.rising_pulse.put_word(number, words.rising_pulse);
-        self.falling_pulse.put_word(number, words.falling_pulse);
-        self.stores.put(number, words.stores);
-        self.delayed_stored.put_word(number, words.delayed_stored);
+        self.kept.put(number, words.kept);
         self.q.put_word(number, words.q);
         self.executed.put_word(number, words.executed);
     }
@@ -181,12 +157,13 @@ impl ControlState {
     // Whether no action with an input P has Q: a pulse gives Q for one scan.
     fn are_pulses_over(&self, ticks: &mut Ticks) -> bool
         requires sized { IsStateSized (length self.now.q) self.now }
-        ensures over { result ≡ true → (a : ℕ) → (flag self.now.pulse a && flag self.now.q a) ≡ false }
+        ensures over { result ≡ true → (a : ℕ) → (flag self.now.kept.pulse a && flag self.now.q a) ≡ false }
         ensures ticks { Within (length self.now.q) ticks.old ticks.new }
     {
         for number in 0..self.q.words() {
             ticks.tick();
-            let pulses = self.pulse.word(number).and(self.q.word(number));
+            let pulse = self.kept.words(number).pulse;
+            let pulses = pulse.and(self.q.word(number));
             if !pulses.is_none() {
                 return false;
             }
@@ -223,6 +200,19 @@ impl ControlState {
         self.executed.copy_from(&other.executed, ticks);
     }
 
+    // Takes over the flags of the 64 actions of this word.
+    fn copy_word(&mut self, other: &ControlState, number: usize)
+        requires sized { IsStateSized (length self.old.q) self.old }
+        requires other { IsStateSized (length self.old.q) other.now }
+        requires number { number < word_count self.old.q }
+        ensures sized { IsStateSized (length self.old.q) self.new }
+        ensures blocks { self.new.blocks ≡ self.old.blocks }
+        ensures single { self.new.is_single ≡ self.old.is_single }
+        ensures put { ArePut number (state_row other.now) (state_row self.old) (state_row self.new) }
+    {
+        self.put(number, other.words(number));
+    }
+
     // Takes over the flags of the other.
     fn copy_all(&mut self, other: &ControlState, ticks: &mut Ticks)
         requires sized { IsStateSized (length self.old.q) self.old }
@@ -233,9 +223,15 @@ impl ControlState {
         ensures rows { (a : ℕ) → state_row self.new a ≡ state_row other.now a }
         ensures ticks { Within (length self.old.q) ticks.old ticks.new }
     {
+        // One word, as up to 64 actions have, without a loop.
+        if self.q.words() == 1 {
+            ticks.tick();
+            self.copy_word(other, 0);
+            return;
+        }
         for number in 0..self.q.words() {
             ticks.tick();
-            self.put(number, other.words(number));
+            self.copy_word(other, number);
         }
     }
 

@@ -108,7 +108,7 @@ impl Controls {
     {
         let _steps = tables.steps();
         let settled = self.control_scan.read(
-            &self.state.stores,
+            &self.state.kept,
             tables,
             steps.active_flags(),
             times,

@@ -9,6 +9,8 @@
 //! - `inputs`: the inputs of all blocks in one scan.
 //! - `control_state`: its state from scan to scan.
 //! - `state_words`: the same of 64 actions.
+//! - `kept`: what is kept of actions, beside Q and whether they were executed.
+//! - `kept_words`: the same of 64 actions.
 //! - `laws`: what holds of the definitions themselves.
 //! - `listing`: which on-delays there are.
 //! - `places`: where the on-delays of each action stand.
@@ -33,6 +35,8 @@ pub mod fault;
 mod faults;
 mod input_words;
 mod inputs;
+mod kept;
+mod kept_words;
 pub mod laws;
 mod listing;
 mod marking;

@@ -5,18 +5,15 @@ ghost use Rattle.sfc_flags.specs.Words.{has};
 ghost use Rattle.sfc_action.specs.Private.Rows.{timed_in, stores_in, inputs_in, state_in, q_of, executed_of, state_after};
 
 use crate::input_words::InputWords;
+use crate::kept_words::KeptWords;
 use crate::scan_words::ScanWords;
-use crate::store_words::{StoreWords, store};
+use crate::store_words::store;
 use sfc_flags::word::Word;
 
 /// Of 64 actions the inputs P, P1 and P0 of the newest scan, the flip-flops, Q, and whether they were executed.
 #[derive(Clone, Copy)]
 pub struct StateWords {
-    pub pulse: Word,
-    pub rising_pulse: Word,
-    pub falling_pulse: Word,
-    pub stores: StoreWords,
-    pub delayed_stored: Word,
+    pub kept: KeptWords,
     pub q: Word,
     pub executed: Word,
 }
@@ -51,8 +48,8 @@ fn q_after(scan: ScanWords, pulse: Word, delayed_stored: Word) -> Word
 fn executed_after(was: StateWords, inputs: InputWords, q: Word) -> Word
     ensures { (a : ℕ) → has result a ≡ executed_of (inputs_in inputs a) (state_in was a) (has q a) }
 {
-    let rises = inputs.rising_pulse.without(was.rising_pulse);
-    let falls = was.falling_pulse.without(inputs.falling_pulse);
+    let rises = inputs.rising_pulse.without(was.kept.rising_pulse);
+    let falls = was.kept.falling_pulse.without(inputs.falling_pulse);
     was.q.or(q).or(rises).or(falls)
 }
 
@@ -64,17 +61,19 @@ impl StateWords {
     {
         let inputs = scan.inputs;
         let delayed_stored = store(
-            self.delayed_stored,
+            self.kept.delayed_stored,
             scan.elapsed.delayed_stored,
             inputs.reset,
         );
-        let q = q_after(scan, self.pulse, delayed_stored);
+        let q = q_after(scan, self.kept.pulse, delayed_stored);
         StateWords {
-            pulse: inputs.pulse,
-            rising_pulse: inputs.rising_pulse,
-            falling_pulse: inputs.falling_pulse,
-            stores: scan.stores,
-            delayed_stored,
+            kept: KeptWords {
+                pulse: inputs.pulse,
+                rising_pulse: inputs.rising_pulse,
+                falling_pulse: inputs.falling_pulse,
+                stores: scan.stores,
+                delayed_stored,
+            },
             q,
             executed: executed_after(self, inputs, q),
         }

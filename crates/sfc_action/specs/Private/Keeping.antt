@@ -21,7 +21,7 @@ use Rattle.sfc_action.specs.ActionControl.{Scan, S, L, D, P, SD, DS, SL, P1, P0}
 use Rattle.sfc_action.specs.ActionControl.{input, stored, delayed_then_stored, reading, column, q, executed}
 use Rattle.sfc_action.specs.Private.DelayLists.{Delay, is_delay, with_delays}
 use Rattle.sfc_action.specs.Private.TimedSets.{none}
-use Rattle.sfc_action.specs.Private.Storing.{AreStores, no_stores, IsNext}
+use Rattle.sfc_action.specs.Private.Storing.{IsKept, none_kept, IsNext}
 use Rattle.sfc_action.specs.Private.Delays.{AreStepped, AreOf, gathered}
 use Rattle.sfc_action.specs.Private.ControlScans.{IsControlScan}
 use Rattle.sfc_action.specs.Private.Outputs.{q_at}
@@ -29,11 +29,7 @@ use Rattle.sfc_action.specs.Private.Singles.{AreSingle}
 
 -- for n actions
 pub record IsStateSized (n : ℕ) (state : ControlState) : Type 0 where
-  pub pulse : length state.pulse ≡ n
-  pub rising_pulse : length state.rising_pulse ≡ n
-  pub falling_pulse : length state.falling_pulse ≡ n
-  pub stores : AreStores n state.stores
-  pub delayed_stored : length state.delayed_stored ≡ n
+  pub kept : IsKept n state.kept
   pub q : length state.q ≡ n
   pub executed : length state.executed ≡ n
   pub blocks : AreOf n state.blocks
@@ -45,11 +41,7 @@ pub record AreOfOneSize (state : ControlState) (control_scan : ControlScan) : Ty
 
 -- with no flag, these on-delays, and this of its associations by SD and SL
 pub record IsFresh (n : ℕ) (delays : List Block) (is_single : Bool) (state : ControlState) : Type 0 where
-  pub pulse : state.pulse ≡ replicate n false
-  pub rising_pulse : state.rising_pulse ≡ replicate n false
-  pub falling_pulse : state.falling_pulse ≡ replicate n false
-  pub stores : state.stores ≡ no_stores n
-  pub delayed_stored : state.delayed_stored ≡ replicate n false
+  pub kept : state.kept ≡ none_kept n
   pub q : state.q ≡ replicate n false
   pub executed : state.executed ≡ replicate n false
   pub blocks : state.blocks ≡ delays
@@ -60,25 +52,21 @@ pub record IsActed (inputs : Inputs) (next : Stores) (presets : List ℤ) (t : �
   pub sized : IsStateSized (length old.q) new
   pub same_blocks : length new.blocks ≡ length old.blocks
   pub blocks : AreStepped inputs next presets t old.blocks new.blocks
-  pub delayed_stored : IsNext old.delayed_stored (gathered new.blocks (none (length old.q))).delayed_stored
-      inputs.reset new.delayed_stored
+  pub delayed_stored : IsNext old.kept.delayed_stored (gathered new.blocks (none (length old.q))).delayed_stored
+      inputs.reset new.kept.delayed_stored
   pub outputs : (a : ℕ) → flag new.q a
-      ≡ q_at inputs next (gathered new.blocks (none (length old.q))) old.pulse new.delayed_stored a
+      ≡ q_at inputs next (gathered new.blocks (none (length old.q))) old.kept.pulse new.kept.delayed_stored a
   pub executions : (a : ℕ) → flag new.executed a
-      ≡ (((flag old.q a || flag new.q a) || (flag inputs.rising_pulse a && not (flag old.rising_pulse a)))
-      || (flag old.falling_pulse a && not (flag inputs.falling_pulse a)))
-  pub pulse : new.pulse ≡ inputs.pulse
-  pub rising_pulse : new.rising_pulse ≡ inputs.rising_pulse
-  pub falling_pulse : new.falling_pulse ≡ inputs.falling_pulse
-  pub stores : new.stores ≡ next
+      ≡ (((flag old.q a || flag new.q a) || (flag inputs.rising_pulse a && not (flag old.kept.rising_pulse a)))
+      || (flag old.kept.falling_pulse a && not (flag inputs.falling_pulse a)))
+  pub pulse : new.kept.pulse ≡ inputs.pulse
+  pub rising_pulse : new.kept.rising_pulse ≡ inputs.rising_pulse
+  pub falling_pulse : new.kept.falling_pulse ≡ inputs.falling_pulse
+  pub stores : new.kept.stores ≡ next
   pub single : new.is_single ≡ old.is_single
 
 pub record IsCopy (from to : ControlState) : Type 0 where
-  pub pulse : to.pulse ≡ from.pulse
-  pub rising_pulse : to.rising_pulse ≡ from.rising_pulse
-  pub falling_pulse : to.falling_pulse ≡ from.falling_pulse
-  pub stores : to.stores ≡ from.stores
-  pub delayed_stored : to.delayed_stored ≡ from.delayed_stored
+  pub kept : to.kept ≡ from.kept
   pub q : to.q ≡ from.q
   pub executed : to.executed ≡ from.executed
   pub blocks : to.blocks ≡ from.blocks
@@ -130,13 +118,13 @@ abbrev pub AreEach : ℕ → List Bool → (ℕ → Bool) → Type 0
 AreEach n flags value = (a : ℕ) → a < n → flag flags a ≡ value a
 
 pub record IsStateAfter (tables : Tabled) (state : ControlState) (h : List Scan) : Type 0 where
-  pub pulse : AreEach (length tables.actions) state.pulse (λ a. input tables a P h)
-  pub rising_pulse : AreEach (length tables.actions) state.rising_pulse (λ a. input tables a P1 h)
-  pub falling_pulse : AreEach (length tables.actions) state.falling_pulse (λ a. input tables a P0 h)
-  pub set : AreEach (length tables.actions) state.stores.set (λ a. stored tables a S h)
-  pub stored_delayed : AreEach (length tables.actions) state.stores.stored_delayed (λ a. stored tables a SD h)
-  pub stored_limited : AreEach (length tables.actions) state.stores.stored_limited (λ a. stored tables a SL h)
-  pub delayed_stored : AreEach (length tables.actions) state.delayed_stored (λ a. delayed_then_stored tables a DS h)
+  pub pulse : AreEach (length tables.actions) state.kept.pulse (λ a. input tables a P h)
+  pub rising_pulse : AreEach (length tables.actions) state.kept.rising_pulse (λ a. input tables a P1 h)
+  pub falling_pulse : AreEach (length tables.actions) state.kept.falling_pulse (λ a. input tables a P0 h)
+  pub set : AreEach (length tables.actions) state.kept.stores.set (λ a. stored tables a S h)
+  pub stored_delayed : AreEach (length tables.actions) state.kept.stores.stored_delayed (λ a. stored tables a SD h)
+  pub stored_limited : AreEach (length tables.actions) state.kept.stores.stored_limited (λ a. stored tables a SL h)
+  pub delayed_stored : AreEach (length tables.actions) state.kept.delayed_stored (λ a. delayed_then_stored tables a DS h)
   pub q : AreEach (length tables.actions) state.q (λ a. q tables a h)
   pub executed : AreEach (length tables.actions) state.executed (λ a. executed tables a h)
   pub blocks : All (BlockAgrees tables h) state.blocks

@@ -8,7 +8,7 @@ use Rattle.sfc_action.specs.Private.Live.{IsIdle}
 pub record IsAtRest (state : ControlState) : Type 0 where
   pub single : state.is_single ≡ true
   pub delays : All IsIdle state.blocks
-  pub pulses : (a : ℕ) → (flag state.pulse a && flag state.q a) ≡ false
+  pub pulses : (a : ℕ) → (flag state.kept.pulse a && flag state.q a) ≡ false
 
 -- what a scan at rest makes of it
 abbrev pub rested : ControlState → ControlState

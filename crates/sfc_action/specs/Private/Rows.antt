@@ -1,11 +1,13 @@
 -- Flags of one action, taken out of the tables of all.
-pub use Rattle.sfc_action.specs.Private.WordRows.{TimedRow, StoreRow, InputRow, StateRow}
-pub use Rattle.sfc_action.specs.Private.WordRows.{timed_in, stores_in, inputs_in, state_in, no_times, no_store, no_inputs, nothing}
+pub use Rattle.sfc_action.specs.Private.WordRows.{TimedRow, StoreRow, InputRow, KeptRow, StateRow}
+pub use Rattle.sfc_action.specs.Private.WordRows.{timed_in, stores_in, inputs_in, kept_in, state_in}
+pub use Rattle.sfc_action.specs.Private.WordRows.{no_times, no_store, no_inputs, nothing_kept, nothing}
 use Rattle.std.specs.Prelude.{ℕ, Bool, not, ◌&&◌, ◌||◌}
 use Rattle.sfc_flags.specs.Flags.{flag}
 use Rattle.sfc_action.specs.declared.timed.Timed.{Timed}
 use Rattle.sfc_action.specs.declared.stores.Stores.{Stores}
 use Rattle.sfc_action.specs.declared.inputs.Inputs.{Inputs}
+use Rattle.sfc_action.specs.declared.kept.Kept.{Kept}
 use Rattle.sfc_action.specs.declared.control_scan.ControlScan.{ControlScan}
 use Rattle.sfc_action.specs.declared.control_state.ControlState.{ControlState}
 
@@ -40,13 +42,18 @@ input_row inputs a = record {
   more_times = flag inputs.more_times a;
 }
 
+abbrev pub kept_row : Kept → ℕ → KeptRow
+kept_row kept a = record {
+  pulse = flag kept.pulse a;
+  rising_pulse = flag kept.rising_pulse a;
+  falling_pulse = flag kept.falling_pulse a;
+  stores = store_row kept.stores a;
+  delayed_stored = flag kept.delayed_stored a;
+}
+
 abbrev pub state_row : ControlState → ℕ → StateRow
 state_row state a = record {
-  pulse = flag state.pulse a;
-  rising_pulse = flag state.rising_pulse a;
-  falling_pulse = flag state.falling_pulse a;
-  stores = store_row state.stores a;
-  delayed_stored = flag state.delayed_stored a;
+  kept = kept_row state.kept a;
   q = flag state.q a;
   executed = flag state.executed a;
 }
@@ -79,18 +86,20 @@ q_of i s e pulse delayed_stored = not i.reset && (
 -- whether it is executed, where it had `was` and has `q`
 abbrev pub executed_of : InputRow → StateRow → Bool → Bool
 executed_of i was q =
-    ((was.q || q) || (i.rising_pulse && not was.rising_pulse)) || (was.falling_pulse && not i.falling_pulse)
+    ((was.q || q) || (i.rising_pulse && not was.kept.rising_pulse)) || (was.kept.falling_pulse && not i.falling_pulse)
 
 abbrev pub state_after : InputRow → StoreRow → TimedRow → StateRow → StateRow
 state_after i s e was =
-    let stored = stored_after was.delayed_stored e.delayed_stored i.reset in
-    let q = q_of i s e was.pulse stored in
+    let stored = stored_after was.kept.delayed_stored e.delayed_stored i.reset in
+    let q = q_of i s e was.kept.pulse stored in
     record {
-      pulse = i.pulse;
-      rising_pulse = i.rising_pulse;
-      falling_pulse = i.falling_pulse;
-      stores = s;
-      delayed_stored = stored;
+      kept = record {
+        pulse = i.pulse;
+        rising_pulse = i.rising_pulse;
+        falling_pulse = i.falling_pulse;
+        stores = s;
+        delayed_stored = stored;
+      };
       q = q;
       executed = executed_of i was q;
     }

@@ -3,8 +3,10 @@ use Rattle.std.specs.Prelude.{ℕ, List}
 use Rattle.sfc_action.specs.declared.timed_words.TimedWords.{TimedWords}
 use Rattle.sfc_action.specs.declared.store_words.StoreWords.{StoreWords}
 use Rattle.sfc_action.specs.declared.input_words.InputWords.{InputWords}
-use Rattle.sfc_action.specs.Private.Sets.{TimedSets, StoreSets, InputSets}
-use Rattle.sfc_action.specs.Private.WordRows.{TimedRow, StoreRow, InputRow, timed_in, stores_in, inputs_in, no_times, no_store, no_inputs}
+use Rattle.sfc_action.specs.declared.kept_words.KeptWords.{KeptWords}
+use Rattle.sfc_action.specs.Private.Sets.{TimedSets, StoreSets, InputSets, KeptSets}
+use Rattle.sfc_action.specs.Private.WordRows.{TimedRow, StoreRow, InputRow, KeptRow, timed_in, stores_in, inputs_in, kept_in}
+use Rattle.sfc_action.specs.Private.WordRows.{no_times, no_store, no_inputs, nothing_kept}
 use Rattle.sfc_action.specs.Private.RowTables.{row_at, IsTable, set_of}
 
 -- ---- the sets of n actions with these rows
@@ -38,6 +40,15 @@ inputs_by_rows n row = record {
   timed = timed_by_rows n (λ a. (row a).timed);
 }
 
+abbrev pub kept_by_rows : ℕ → (ℕ → KeptRow) → KeptSets
+kept_by_rows n row = record {
+  pulse = set_of n (λ a. (row a).pulse);
+  rising_pulse = set_of n (λ a. (row a).rising_pulse);
+  falling_pulse = set_of n (λ a. (row a).falling_pulse);
+  stores = stores_by_rows n (λ a. (row a).stores);
+  delayed_stored = set_of n (λ a. (row a).delayed_stored);
+}
+
 -- ---- and with these words
 
 abbrev pub IsTimedTable : ℕ → List TimedWords → Type 0
@@ -49,6 +60,9 @@ IsStoreTable n words = IsTable stores_in no_store n words
 abbrev pub IsInputTable : ℕ → List InputWords → Type 0
 IsInputTable n words = IsTable inputs_in no_inputs n words
 
+abbrev pub IsKeptTable : ℕ → List KeptWords → Type 0
+IsKeptTable n words = IsTable kept_in nothing_kept n words
+
 unfoldable pub timed_of : ℕ → List TimedWords → TimedSets
 timed_of n words = timed_by_rows n (row_at timed_in no_times words)
 
@@ -57,3 +71,6 @@ stores_of n words = stores_by_rows n (row_at stores_in no_store words)
 
 unfoldable pub inputs_of : ℕ → List InputWords → InputSets
 inputs_of n words = inputs_by_rows n (row_at inputs_in no_inputs words)
+
+unfoldable pub kept_of : ℕ → List KeptWords → KeptSets
+kept_of n words = kept_by_rows n (row_at kept_in nothing_kept words)

@@ -26,3 +26,11 @@ pub record InputSets : Type 0 where
   pub timed : TimedSets
   pub any_time : List Bool
   pub more_times : List Bool
+
+-- those with an input P, P1 or P0 in the newest scan, and those whose flip-flops are set
+pub record KeptSets : Type 0 where
+  pub pulse : List Bool
+  pub rising_pulse : List Bool
+  pub falling_pulse : List Bool
+  pub stores : StoreSets
+  pub delayed_stored : List Bool

@@ -1,8 +1,9 @@
--- Flip-flops of actions.
+-- Flip-flops of actions, and what else is kept from scan to scan.
 use Rattle.std.specs.Prelude.{ℕ, ◌≡◌, Bool, false, not, ◌&&◌, ◌||◌, List, length, replicate}
 use Rattle.sfc_flags.specs.Flags.{flag}
 use Rattle.sfc_action.specs.declared.inputs.Inputs.{Inputs}
 use Rattle.sfc_action.specs.declared.stores.Stores.{Stores}
+use Rattle.sfc_action.specs.declared.kept.Kept.{Kept}
 
 -- each is a table of n actions
 pub record AreStores (n : ℕ) (stores : Stores) : Type 0 where
@@ -12,6 +13,23 @@ pub record AreStores (n : ℕ) (stores : Stores) : Type 0 where
 
 abbrev pub no_stores : ℕ → Stores
 no_stores n = record { set = replicate n false; stored_delayed = replicate n false; stored_limited = replicate n false }
+
+-- the same with the inputs P, P1 and P0 of the newest scan
+pub record IsKept (n : ℕ) (kept : Kept) : Type 0 where
+  pub pulse : length kept.pulse ≡ n
+  pub rising_pulse : length kept.rising_pulse ≡ n
+  pub falling_pulse : length kept.falling_pulse ≡ n
+  pub stores : AreStores n kept.stores
+  pub delayed_stored : length kept.delayed_stored ≡ n
+
+abbrev pub none_kept : ℕ → Kept
+none_kept n = record {
+  pulse = replicate n false;
+  rising_pulse = replicate n false;
+  falling_pulse = replicate n false;
+  stores = no_stores n;
+  delayed_stored = replicate n false;
+}
 
 -- a flip-flop of each action after this scan: set by these, reset by those
 abbrev pub IsNext : List Bool → List Bool → List Bool → List Bool → Type 0

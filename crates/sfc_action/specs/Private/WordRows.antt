@@ -4,6 +4,7 @@ use Rattle.sfc_flags.specs.Words.{has}
 use Rattle.sfc_action.specs.declared.timed_words.TimedWords.{TimedWords}
 use Rattle.sfc_action.specs.declared.store_words.StoreWords.{StoreWords}
 use Rattle.sfc_action.specs.declared.input_words.InputWords.{InputWords}
+use Rattle.sfc_action.specs.declared.kept_words.KeptWords.{KeptWords}
 use Rattle.sfc_action.specs.declared.state_words.StateWords.{StateWords}
 
 -- by the qualifiers with a time
@@ -32,13 +33,17 @@ pub record InputRow : Type 0 where
   pub any_time : Bool
   pub more_times : Bool
 
--- its state from scan to scan
-pub record StateRow : Type 0 where
+-- its inputs P, P1 and P0 of the newest scan, and its flip-flops
+pub record KeptRow : Type 0 where
   pub pulse : Bool
   pub rising_pulse : Bool
   pub falling_pulse : Bool
   pub stores : StoreRow
   pub delayed_stored : Bool
+
+-- its state from scan to scan
+pub record StateRow : Type 0 where
+  pub kept : KeptRow
   pub q : Bool
   pub executed : Bool
 
@@ -73,13 +78,18 @@ inputs_in words a = record {
   more_times = has words.more_times a;
 }
 
-abbrev pub state_in : StateWords → ℕ → StateRow
-state_in words a = record {
+abbrev pub kept_in : KeptWords → ℕ → KeptRow
+kept_in words a = record {
   pulse = has words.pulse a;
   rising_pulse = has words.rising_pulse a;
   falling_pulse = has words.falling_pulse a;
   stores = stores_in words.stores a;
   delayed_stored = has words.delayed_stored a;
+}
+
+abbrev pub state_in : StateWords → ℕ → StateRow
+state_in words a = record {
+  kept = kept_in words.kept a;
   q = has words.q a;
   executed = has words.executed a;
 }
@@ -105,13 +115,8 @@ no_inputs = record {
   more_times = false;
 }
 
+abbrev pub nothing_kept : KeptRow
+nothing_kept = record { pulse = false; rising_pulse = false; falling_pulse = false; stores = no_store; delayed_stored = false }
+
 abbrev pub nothing : StateRow
-nothing = record {
-  pulse = false;
-  rising_pulse = false;
-  falling_pulse = false;
-  stores = no_store;
-  delayed_stored = false;
-  q = false;
-  executed = false;
-}
+nothing = record { kept = nothing_kept; q = false; executed = false }

@@ -2,7 +2,7 @@ use Rattle.std.proofs.Common.{◌≡◌, ℕ, length, ◌∙◌, ap, refl, sym, 
 use Rattle.std.proofs.lemmas.List.{with_items_is}
 use Rattle.sfc_flags.specs.Flags.{places_from}
 use Rattle.sfc_action.specs.Private.Marking.{AreSized, cleared, marked_at, presets_at}
-use Rattle.sfc_action.specs.Private.Storing.{AreStores}
+use Rattle.sfc_action.specs.Private.Storing.{AreStores, IsKept}
 use Rattle.sfc_action.specs.Private.TimedSets.{AreAll, none}
 use Rattle.sfc_action.specs.Private.ControlScans.{IsControlScan}
 use Rattle.sfc_action.proofs.Sizes.{are_sized}
@@ -29,7 +29,7 @@ settle-requires-clause-sized c =
 
 pub settle-requires-clause-stored : goal.settle-requires-clause-stored
 settle-requires-clause-stored c =
-    subst (λ (n : ℕ). AreStores n c.args.stored.now) (sym c.requires.sized.called) c.requires.stored
+    subst (λ (n : ℕ). IsKept n c.args.stored.now) (sym c.requires.sized.called) c.requires.stored
 
 pub returns-clause-sized : goal.returns-clause-sized
 returns-clause-sized c =

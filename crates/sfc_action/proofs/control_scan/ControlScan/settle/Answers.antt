@@ -19,7 +19,7 @@ pub loop-number-preserved : goal.loop-number-preserved
 loop-number-preserved c =
     let was = c.loop-number.invariant in
     let inputs = c.args.self.now.inputs in
-    let stored = c.args.stored.now in
+    let stored = c.args.stored.now.stores in
     let put = c.settle_word-in-loop-number.ensures in
     let same = was.inputs in
     let word = c.settle_word-in-loop-number.result in
@@ -56,9 +56,9 @@ returns-clause-next c =
     let inputs = c.args.self.now.inputs in
     let n = length c.args.self.now.called in
     let k = c.loop-number.number in
-    subst (λ i. AreNext c.args.stored.now i c.loop-number.self.stores) (sym was.inputs)
-    (next_stores n k inputs c.args.stored.now c.loop-number.self.stores (store_row c.args.self.now.stores)
-    (omega (arith, c.words-number-end.ensures, was.sized.called)) c.requires.sized.inputs c.requires.stored
+    subst (λ i. AreNext c.args.stored.now.stores i c.loop-number.self.stores) (sym was.inputs)
+    (next_stores n k inputs c.args.stored.now.stores c.loop-number.self.stores (store_row c.args.self.now.stores)
+    (omega (arith, c.words-number-end.ensures, was.sized.called)) c.requires.sized.inputs c.requires.stored.stores
     was.sized.stores was.stores)
 
 pub returns-clause-called : goal.returns-clause-called
@@ -68,8 +68,8 @@ returns-clause-called c =
     let n = length c.args.self.now.called in
     let k = c.loop-number.number in
     subst (λ i. AreCalled i c.loop-number.self.stores c.loop-number.self.called) (sym was.inputs)
-    (are_called n k inputs c.args.stored.now c.loop-number.self.stores (store_row c.args.self.now.stores)
-    (omega (arith, c.words-number-end.ensures, was.sized.called)) c.requires.sized.inputs c.requires.stored
+    (are_called n k inputs c.args.stored.now.stores c.loop-number.self.stores (store_row c.args.self.now.stores)
+    (omega (arith, c.words-number-end.ensures, was.sized.called)) c.requires.sized.inputs c.requires.stored.stores
     was.sized.stores was.stores c.loop-number.self.called (flag c.args.self.now.called) was.sized.called was.called)
 
 pub returns-clause-faultless : goal.returns-clause-faultless
@@ -79,8 +79,8 @@ returns-clause-faultless c ok a =
     let n = length c.args.self.now.called in
     let k = c.loop-number.number in
     ap (λ i. fault_at i c.loop-number.self.stores a) was.inputs
-    ∙ faultless_at n k inputs c.args.stored.now c.loop-number.self.stores (store_row c.args.self.now.stores)
-    (omega (arith, c.words-number-end.ensures, was.sized.called)) c.requires.sized.inputs c.requires.stored was.sized.stores was.stores
+    ∙ faultless_at n k inputs c.args.stored.now.stores c.loop-number.self.stores (store_row c.args.self.now.stores)
+    (omega (arith, c.words-number-end.ensures, was.sized.called)) c.requires.sized.inputs c.requires.stored.stores was.sized.stores was.stores
     (was.faultless ok) a
 
 pub returns-clause-elapsed : goal.returns-clause-elapsed
@@ -94,8 +94,8 @@ returns-clause-uncalled c ok =
     let inputs = c.args.self.now.inputs in
     let n = length c.args.self.now.called in
     let k = c.loop-number.number in
-    uncalled_at n k inputs c.args.stored.now c.loop-number.self.stores (store_row c.args.self.now.stores)
-    (omega (arith, c.words-number-end.ensures, was.sized.called)) c.requires.sized.inputs c.requires.stored was.sized.stores was.stores
+    uncalled_at n k inputs c.args.stored.now.stores c.loop-number.self.stores (store_row c.args.self.now.stores)
+    (omega (arith, c.words-number-end.ensures, was.sized.called)) c.requires.sized.inputs c.requires.stored.stores was.sized.stores was.stores
     c.loop-number.self.called (flag c.args.self.now.called) was.sized.called was.called (was.uncalled ok)
 
 -- ---- one word
@@ -103,35 +103,35 @@ returns-clause-uncalled c ok =
 enough : (c : goal.After-settle_word) → div_ceil (length c.args.self.now.called) 64 ≤ 1
 enough c = omega (arith, c.words.ensures, c.if-words-eq1.true)
 
-stores_done : (c : goal.After-settle_word) → AreDone 1 (λ (a : ℕ). stores_after (input_row c.args.self.now.inputs a) (store_row c.args.stored.now a))
+stores_done : (c : goal.After-settle_word) → AreDone 1 (λ (a : ℕ). stores_after (input_row c.args.self.now.inputs a) (store_row c.args.stored.now.stores a))
     (store_row c.args.self.now.stores) (store_row c.settle_word.new.self.stores)
 stores_done c =
-    let rows = λ (a : ℕ). stores_after (input_row c.args.self.now.inputs a) (store_row c.args.stored.now a) in
+    let rows = λ (a : ℕ). stores_after (input_row c.args.self.now.inputs a) (store_row c.args.stored.now.stores a) in
     let was = store_row c.args.self.now.stores in
     more rows was was (store_row c.settle_word.new.self.stores) 0 (begun rows was) c.settle_word.ensures.stores
 
 called_done : (c : goal.After-settle_word) → AreDone 1 (λ (a : ℕ). called_of (input_row c.args.self.now.inputs a)
-    (stores_after (input_row c.args.self.now.inputs a) (store_row c.args.stored.now a)))
+    (stores_after (input_row c.args.self.now.inputs a) (store_row c.args.stored.now.stores a)))
     (flag c.args.self.now.called) (flag c.settle_word.new.self.called)
 called_done c =
     let rows = λ (a : ℕ). called_of (input_row c.args.self.now.inputs a)
-    (stores_after (input_row c.args.self.now.inputs a) (store_row c.args.stored.now a)) in
+    (stores_after (input_row c.args.self.now.inputs a) (store_row c.args.stored.now.stores a)) in
     let was = flag c.args.self.now.called in
     more rows was was (flag c.settle_word.new.self.called) 0 (begun rows was) c.settle_word.ensures.called
 
 pub returns-then-words-eq1-clause-next : goal.returns-then-words-eq1-clause-next
 returns-then-words-eq1-clause-next c =
     let new = c.settle_word.new.self in
-    subst (λ i. AreNext c.args.stored.now i new.stores) (sym c.settle_word.ensures.inputs)
-    (next_stores (length c.args.self.now.called) 1 c.args.self.now.inputs c.args.stored.now new.stores (store_row c.args.self.now.stores)
-    (enough c) c.requires.sized.inputs c.requires.stored c.settle_word.ensures.sized.stores (stores_done c))
+    subst (λ i. AreNext c.args.stored.now.stores i new.stores) (sym c.settle_word.ensures.inputs)
+    (next_stores (length c.args.self.now.called) 1 c.args.self.now.inputs c.args.stored.now.stores new.stores (store_row c.args.self.now.stores)
+    (enough c) c.requires.sized.inputs c.requires.stored.stores c.settle_word.ensures.sized.stores (stores_done c))
 
 pub returns-then-words-eq1-clause-called : goal.returns-then-words-eq1-clause-called
 returns-then-words-eq1-clause-called c =
     let new = c.settle_word.new.self in
     subst (λ i. AreCalled i new.stores new.called) (sym c.settle_word.ensures.inputs)
-    (are_called (length c.args.self.now.called) 1 c.args.self.now.inputs c.args.stored.now new.stores (store_row c.args.self.now.stores)
-    (enough c) c.requires.sized.inputs c.requires.stored c.settle_word.ensures.sized.stores (stores_done c)
+    (are_called (length c.args.self.now.called) 1 c.args.self.now.inputs c.args.stored.now.stores new.stores (store_row c.args.self.now.stores)
+    (enough c) c.requires.sized.inputs c.requires.stored.stores c.settle_word.ensures.sized.stores (stores_done c)
     new.called (flag c.args.self.now.called) c.settle_word.ensures.sized.called (called_done c))
 
 pub returns-then-words-eq1-clause-elapsed : goal.returns-then-words-eq1-clause-elapsed
@@ -146,14 +146,14 @@ pub returns-then-words-eq1-clause-faultless : goal.returns-then-words-eq1-clause
 returns-then-words-eq1-clause-faultless c ok a =
     let new = c.settle_word.new.self in
     ap (λ i. fault_at i new.stores a) c.settle_word.ensures.inputs
-    ∙ faultless_at (length c.args.self.now.called) 1 c.args.self.now.inputs c.args.stored.now new.stores (store_row c.args.self.now.stores)
-    (enough c) c.requires.sized.inputs c.requires.stored c.settle_word.ensures.sized.stores (stores_done c)
+    ∙ faultless_at (length c.args.self.now.called) 1 c.args.self.now.inputs c.args.stored.now.stores new.stores (store_row c.args.self.now.stores)
+    (enough c) c.requires.sized.inputs c.requires.stored.stores c.settle_word.ensures.sized.stores (stores_done c)
     (λ b lt. c.settle_word.ensures.faultless ok b (omega arith)) a
 
 pub returns-then-words-eq1-clause-uncalled : goal.returns-then-words-eq1-clause-uncalled
 returns-then-words-eq1-clause-uncalled c ok =
     let new = c.settle_word.new.self in
-    uncalled_at (length c.args.self.now.called) 1 c.args.self.now.inputs c.args.stored.now new.stores (store_row c.args.self.now.stores)
-    (enough c) c.requires.sized.inputs c.requires.stored c.settle_word.ensures.sized.stores (stores_done c)
+    uncalled_at (length c.args.self.now.called) 1 c.args.self.now.inputs c.args.stored.now.stores new.stores (store_row c.args.self.now.stores)
+    (enough c) c.requires.sized.inputs c.requires.stored.stores c.settle_word.ensures.sized.stores (stores_done c)
     new.called (flag c.args.self.now.called) c.settle_word.ensures.sized.called (called_done c)
     (λ b lt. c.settle_word.ensures.uncalled ok b (omega arith))

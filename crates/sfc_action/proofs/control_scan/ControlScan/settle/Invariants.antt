@@ -12,15 +12,15 @@ invariant-loop-number l = record {
   sized : IsControlScan (length l.initial.self.called) l.self;
   inputs : l.self.inputs ≡ l.initial.self.inputs;
   presets : l.self.presets ≡ l.initial.self.presets;
-  stores : AreDone l.number (λ (a : ℕ). stores_after (input_row l.initial.self.inputs a) (store_row l.stored a))
+  stores : AreDone l.number (λ (a : ℕ). stores_after (input_row l.initial.self.inputs a) (store_row l.stored.stores a))
       (store_row l.initial.self.stores) (store_row l.self.stores);
   called : AreDone l.number (λ (a : ℕ). called_of (input_row l.initial.self.inputs a)
-      (stores_after (input_row l.initial.self.inputs a) (store_row l.stored a)))
+      (stores_after (input_row l.initial.self.inputs a) (store_row l.stored.stores a)))
       (flag l.initial.self.called) (flag l.self.called);
   elapsed : AreDone l.number (λ (a : ℕ). no_times) (timed_row l.initial.self.elapsed) (timed_row l.self.elapsed);
   faultless : l.settled.is_faultless ≡ true → (a : ℕ) → word_of a < l.number → has_fault (input_row l.initial.self.inputs a)
-      (stores_after (input_row l.initial.self.inputs a) (store_row l.stored a)) ≡ false;
+      (stores_after (input_row l.initial.self.inputs a) (store_row l.stored.stores a)) ≡ false;
   uncalled : l.settled.is_called ≡ false → (a : ℕ) → word_of a < l.number → called_of (input_row l.initial.self.inputs a)
-      (stores_after (input_row l.initial.self.inputs a) (store_row l.stored a)) ≡ false;
+      (stores_after (input_row l.initial.self.inputs a) (store_row l.stored.stores a)) ≡ false;
   ticks : Within l.number l.initial.ticks l.ticks;
 }

@@ -28,11 +28,7 @@ act_all-requires-clause-sized c =
     let n = length c.args.self.now.q in
     let sized = c.requires.sized in
     record {
-      pulse = sized.pulse;
-      rising_pulse = sized.rising_pulse;
-      falling_pulse = sized.falling_pulse;
-      stores = sized.stores;
-      delayed_stored = sized.delayed_stored;
+      kept = sized.kept;
       q = sized.q;
       executed = sized.executed;
       blocks = still_of n c.args.self.now.blocks c.step.new.self c.step.ensures.len (λ k d lt. (c.step.ensures.stepped k d lt).action)
@@ -75,17 +71,17 @@ returns-clause-acted c =
       sized = sized;
       same_blocks = same_blocks;
       blocks = stepped_at;
-      delayed_stored = λ a. ap (λ r. r.delayed_stored) (rows a);
+      delayed_stored = λ a. ap (λ r. r.kept.delayed_stored) (rows a);
       outputs = λ a. ap (λ r. r.q) (rows a)
-          ∙ ap (q_of (input_row s.inputs a) (store_row s.stores a) (timed_row (gathered new.blocks (none n)) a) (flag old.pulse a))
-          (sym (ap (λ r. r.delayed_stored) (rows a)));
+          ∙ ap (q_of (input_row s.inputs a) (store_row s.stores a) (timed_row (gathered new.blocks (none n)) a) (flag old.kept.pulse a))
+          (sym (ap (λ r. r.kept.delayed_stored) (rows a)));
       executions = λ a. ap (λ r. r.executed) (rows a)
           ∙ ap (executed_of (input_row s.inputs a) (state_row old a)) (sym (ap (λ r. r.q) (rows a)));
-      pulse = same_flags n new.pulse s.inputs.pulse sized.pulse c.requires.control_scan.inputs.pulse (λ a. ap (λ r. r.pulse) (rows a));
-      rising_pulse = same_flags n new.rising_pulse s.inputs.rising_pulse sized.rising_pulse c.requires.control_scan.inputs.rising_pulse
-          (λ a. ap (λ r. r.rising_pulse) (rows a));
-      falling_pulse = same_flags n new.falling_pulse s.inputs.falling_pulse sized.falling_pulse
-          c.requires.control_scan.inputs.falling_pulse (λ a. ap (λ r. r.falling_pulse) (rows a));
-      stores = same_stores n new.stores s.stores sized.stores c.requires.control_scan.stores (λ a. ap (λ r. r.stores) (rows a));
+      pulse = same_flags n new.kept.pulse s.inputs.pulse sized.kept.pulse c.requires.control_scan.inputs.pulse (λ a. ap (λ r. r.kept.pulse) (rows a));
+      rising_pulse = same_flags n new.kept.rising_pulse s.inputs.rising_pulse sized.kept.rising_pulse c.requires.control_scan.inputs.rising_pulse
+          (λ a. ap (λ r. r.kept.rising_pulse) (rows a));
+      falling_pulse = same_flags n new.kept.falling_pulse s.inputs.falling_pulse sized.kept.falling_pulse
+          c.requires.control_scan.inputs.falling_pulse (λ a. ap (λ r. r.kept.falling_pulse) (rows a));
+      stores = same_stores n new.kept.stores s.stores sized.kept.stores c.requires.control_scan.stores (λ a. ap (λ r. r.kept.stores) (rows a));
       single = c.act_all.ensures.single;
     }

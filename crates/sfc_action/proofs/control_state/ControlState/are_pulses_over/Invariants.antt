@@ -6,6 +6,6 @@ use Rattle.sfc_action.proofs.control_state.ControlState.are_pulses_over.Given as
 
 abbrev pub invariant-loop-number : goal.invariant-loop-number
 invariant-loop-number l = record {
-  over : (a : ℕ) → word_of a < l.number → (flag l.self.pulse a && flag l.self.q a) ≡ false;
+  over : (a : ℕ) → word_of a < l.number → (flag l.self.kept.pulse a && flag l.self.q a) ≡ false;
   ticks : Within l.number l.initial.ticks l.ticks;
 }

@@ -42,11 +42,7 @@ returns-clause-alike c =
     let from = c.args.other.now in
     let same = copy c in
     (λ i. record {
-      pulse = same.pulse i;
-      rising_pulse = same.rising_pulse i;
-      falling_pulse = same.falling_pulse i;
-      stores = same.stores i;
-      delayed_stored = same.delayed_stored i;
+      kept = same.kept i;
       q = same.q i;
       executed = from.executed;
       blocks = same.blocks i;

@@ -6,7 +6,7 @@ use Rattle.sfc_tables.specs.declared.step_action.StepAction.{StepAction}
 use Rattle.sfc_action.specs.declared.control_state.ControlState.{ControlState}
 use Rattle.sfc_action.specs.ActionControl.{first_in}
 use Rattle.sfc_action.specs.Private.Failing.{fault_at}
-use Rattle.sfc_action.specs.Private.Storing.{AreStores, AreNext}
+use Rattle.sfc_action.specs.Private.Storing.{AreStores, IsKept, AreNext}
 use Rattle.sfc_action.specs.Private.Marking.{AreSized}
 use Rattle.sfc_action.specs.Private.ControlScans.{IsControlScan}
 use Rattle.sfc_action.specs.Private.Keeping.{IsStateSized, IsActed}
@@ -24,9 +24,9 @@ read-settled-requires-clause-sized c =
 
 pub read-settled-requires-clause-stored : goal.read-settled-requires-clause-stored
 read-settled-requires-clause-stored c =
-    subst (λ (n : ℕ). AreStores n c.self.inside.state.stores)
+    subst (λ (n : ℕ). IsKept n c.self.inside.state.kept)
     (actions_for c.args.tables.now c.self.inside.state c.args.self.now c.self.view_is c.requires.sizes)
-    c.self.invariant.state_sized.stores
+    c.self.invariant.state_sized.kept
 
 pub first_fault-requires-clause-inputs : goal.first_fault-requires-clause-inputs
 first_fault-requires-clause-inputs c =
@@ -75,7 +75,7 @@ returns-in-Some-clause-fault c scans h steps agrees =
       presets_len = c.self.invariant.control_scan_sized.presets ∙ ap (λ (k : ControlState). length k.q) c.self.view_is ∙ c.requires.sizes.same_actions;
       inputs = c.read-settled.ensures.inputs;
       presets = c.read-settled.ensures.presets;
-      stores = subst (λ (k : ControlState). AreNext k.stores control_scan.inputs control_scan.stores) c.self.view_is c.read-settled.ensures.next;
+      stores = subst (λ (k : ControlState). AreNext k.kept.stores control_scan.inputs control_scan.stores) c.self.view_is c.read-settled.ensures.next;
     } in
     sym c.in-Some.is ∙ c.first_fault.ensures.fault
     ∙ ap (first_in (fault_at control_scan.inputs control_scan.stores)) c.step_actions.ensures
@@ -101,7 +101,7 @@ read_of c = record {
   presets_len = c.self.invariant.control_scan_sized.presets ∙ ap (λ (k : ControlState). length k.q) c.self.view_is ∙ c.requires.sizes.same_actions;
   inputs = c.read-settled.ensures.inputs;
   presets = c.read-settled.ensures.presets;
-  stores = subst (λ (k : ControlState). AreNext k.stores c.read-settled.new.self.inputs c.read-settled.new.self.stores) c.self.view_is c.read-settled.ensures.next;
+  stores = subst (λ (k : ControlState). AreNext k.kept.stores c.read-settled.new.self.inputs c.read-settled.new.self.stores) c.self.view_is c.read-settled.ensures.next;
 }
 
 pub returns-clause-fault : goal.returns-clause-fault
