@@ -349,9 +349,8 @@ impl Image {
             .next_difference(q, from, ticks)
     }
 
-    // Gives their Q to those actions that have another one now than they were last given: `first` and some behind it. A
-    // scan in which there is none stays without this call.
-    #[inline(never)]
+    // Gives their Q to those actions that have another one now than they were last given: `first` and some behind it.
+    #[inline(always)]
     fn give_changed(
         &mut self,
         instance: ProgId,
