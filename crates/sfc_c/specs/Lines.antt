@@ -1,25 +1,19 @@
 -- A line of a script, obeyed: its command's answer, and the lines that replay prints for it.
-use Rattle.std.specs.Prelude.{◌≡◌, ◌⊎◌, ℕ, ◌<◌, List, [], ◌∷◌, flat_map, ℤ, pos, slice_get}
+use Rattle.std.specs.Prelude.{◌≡◌, ◌⊎◌, ℕ, ◌<◌, List, [], ◌∷◌, ℤ, pos, slice_get}
 use Rattle.std.specs.Prelude.{Option, Some, Result, Ok, Err}
-use Rattle.std.specs.List.{range_with_len}
 use Rattle.sfc_base.specs.declared.ids.ProgId.{ProgId}
-use Rattle.sfc_plant.specs.Plants.{PlantData}
-use Rattle.sfc_image.specs.Values.{variable_count, value_of, forced_value}
 use Rattle.sfc_events.specs.declared.command.Answer.{Answer}
 use Rattle.sfc_events.specs.declared.command.Command.{Command}
 use Rattle.sfc_events.specs.declared.command.Command.TheVariants.{BreakIf}
 use Rattle.sfc_events.specs.declared.command.Point.{Point}
 use Rattle.sfc_events.specs.declared.refusal.Refusal.{Refusal}
-use Rattle.sfc_instances.specs.PlantState.{PlantState}
-use Rattle.sfc_core.specs.PlantState as core
 use Rattle.sfc_debug.specs.declared.break_condition.BreakCondition.{BreakCondition}
 use Rattle.sfc_debug.specs.declared.debugger.Debugger.{Debugger}
 use Rattle.sfc_debug.specs.Histories.{CommandHistory, TimedCommand}
-use Rattle.sfc_debug.specs.States.{DebugState, state_of}
+use Rattle.sfc_debug.specs.States.{state_of}
 use Rattle.sfc_debug.specs.Verdict.{verdict, after}
 use Rattle.sfc_script.specs.Scripts.{ScriptData, ScriptReads}
-use Rattle.sfc_output.specs.Commands.{answer_lines}
-use Rattle.sfc_output.specs.ImageLines.{image_line}
+use Rattle.sfc_output.specs.Commands.{lines_at}
 use Rattle.sfc_output.specs.Steered.{Steered}
 use Rattle.sfc_c.specs.declared.asked.Asked.{Asked}
 use Rattle.sfc_c.specs.declared.asked.Asked.TheVariants.{Nothing, Says, NoLine, NoCondition, NoMemory}
@@ -59,11 +53,6 @@ Asks s line asked =
 
 -- ---- what is told of a command
 
--- its lines, where the debugger stands so after it
-abbrev pub lines_at : Steered → DebugState → Command → Result Answer Refusal → List ℕ
-lines_at s state command answer =
-    answer_lines s (core.state_of s.plant state.events).instance_state command state.clock.instant answer
-
 -- the lines that replay prints for a command after others
 abbrev pub told_lines : Steered → CommandHistory → TimedCommand → List ℕ
 told_lines s h timed =
@@ -95,13 +84,3 @@ Does s h Nothing old new needed held result = (result ≡ pos 0) × IsIdle s h o
 Does s h NoLine old new needed held result = (result ≡ no_line) × IsIdle s h old new needed held
 Does s h NoCondition old new needed held result = (result ≡ unknown) × IsIdle s h old new needed held
 Does s h NoMemory old new needed held result = (result ≡ no_memory) × IsIdle s h old new needed held
-
--- ---- the image
-
--- the line of a variable
-abbrev pub variable_line : PlantData → PlantState → ℕ → List ℕ
-variable_line plant state v = image_line plant (record { 0 = v }) (value_of plant state.changes v) (forced_value state.changes v)
-
--- a line for each variable, as replay prints them at its end
-abbrev pub image_lines : PlantData → PlantState → List ℕ
-image_lines plant state = flat_map (variable_line plant state) (range_with_len 0 (variable_count plant))

@@ -2,8 +2,8 @@
 //!
 //! - `life`: opening, closing and checking; `opening`, `fault`: texts to debuggers, and why a text is none.
 //! - `commands`: commands by number; `reply`, `point`: what C reads of answers and points.
-//! - `scripting`: lines of scripts, and the image as text; `asked`: what a line asks; `obeying`: what is done for it; `telling`: the lines
-//!   that are told; `same`: expressions that are the same.
+//! - `scripting`: lines of scripts, and the image as text; `asked`: what a line asks; `obeying`: what is done for it; `same`: expressions
+//!   that are the same.
 //! - `finding`: numbers by names; `locating`: variables by locations; `naming`: counts and names; `kind`, `charts`: what has a name.
 //! - `reading`: what is read without a command; `showing`: steps, transitions and actions; `image`: all variables; `tasks`: tasks.
 //! - `explaining`: what numbers mean.
@@ -36,4 +36,3 @@ pub mod scripting;
 pub mod showing;
 mod status;
 pub mod tasks;
-mod telling;

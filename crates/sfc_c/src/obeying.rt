@@ -15,12 +15,12 @@ use crate::asked::{Asked, asked_by};
 use crate::giving::give;
 use crate::reply::code;
 use crate::status::{NO_LINE, NO_MEMORY, TOO_SHORT, UNKNOWN};
-use crate::telling::append_answer;
 use sfc_base::ticks::Ticks;
 use sfc_debug::debugger::Debugger;
 use sfc_debug::opening::DebugOpening;
 use sfc_events::command::{Answer, Command};
 use sfc_events::refusal::Refusal;
+use sfc_output::answer::append_answer;
 use std::alloc::{AllocError, Global};
 
 /// What came of a command whose lines are to be written to a buffer.

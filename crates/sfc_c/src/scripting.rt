@@ -4,6 +4,7 @@ ghost use Rattle.std.specs.Prelude.{◌≡◌, None, Ok, OnOk};
 ghost use Rattle.sfc_core.specs.PlantState.{state_of};
 ghost use Rattle.sfc_debug.specs.Agreement.{Agrees, plant_of};
 ghost use Rattle.sfc_debug.specs.Histories.{CommandHistory};
+ghost use Rattle.sfc_output.specs.ImageLines.{image_lines};
 ghost use Rattle.sfc_output.specs.Steered.{Steered, steered_by};
 ghost use Rattle.sfc_c.specs.declared.asked.Asked.{Asked as AskedData};
 ghost use Rattle.sfc_c.specs.Codes as codes;
@@ -15,8 +16,8 @@ use crate::giving::give_or;
 use crate::handle::Handle;
 use crate::obeying::obey_line;
 use crate::status::{CLOSED, NO_MEMORY};
-use crate::telling::append_image;
 use sfc_debug::debugger::Debugger;
+use sfc_output::image_line::append_image;
 use std::alloc::Global;
 
 /// Obeys a line of a script, at the instant that it has, and writes the lines that `sfcmon replay` prints for it.
@@ -53,7 +54,7 @@ pub extern "C" fn sfc_command(
 // The lines of the image; -4 where memory was refused.
 fn image_in(alloc: Global, debugger: &Debugger) -> Result<Vec<u8>, i32>
     ensures { (h : CommandHistory) → Agrees debugger.now h → Tells (λ text. text.items)
-        (Ok (lines.image_lines (plant_of debugger.now) (state_of (plant_of debugger.now) (events_of (steered_by debugger.now) h)))) result }
+        (Ok (image_lines (plant_of debugger.now) (state_of (plant_of debugger.now) (events_of (steered_by debugger.now) h)))) result }
 {
     let mut text = Vec::new(alloc);
     match append_image(&mut text, debugger.resource()) {
@@ -72,7 +73,7 @@ pub extern "C" fn sfc_image_text(
     needed: &mut usize,
 ) -> i32
     ensures text { (s : Steered) (h : CommandHistory) → Holds plc.old.value s h →
-        GivesOr (Ok (lines.image_lines s.plant (state_of s.plant (events_of s h)))) into.old into.new needed.new result }
+        GivesOr (Ok (image_lines s.plant (state_of s.plant (events_of s h)))) into.old into.new needed.new result }
     ensures kept { plc.new.value ≡ plc.old.value }
     ensures closed { plc.old.value ≡ None → IsNone codes.closed into.old into.new needed.new result }
 {

@@ -2,8 +2,6 @@
 pub mod Ends
 -- which values may go to another thread
 pub mod Crosses
--- lines of numbered places, one after the other
-pub mod Numbered
 -- a script that is being played
 pub mod Playing
 -- bytes that were taken from a reader

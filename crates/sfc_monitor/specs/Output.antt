@@ -1,8 +1,6 @@
 -- What is written of a session: of each command with its answer, and of how the session stands at the end.
-use Rattle.std.specs.Prelude.{ℕ, ◌==◌, Bool, true, false, not, ◌||◌, List, [], ◌∷◌, ◌++◌, flat_map, Result, Ok, Err}
-use Rattle.std.specs.List.{range_with_len}
+use Rattle.std.specs.Prelude.{ℕ, ◌==◌, Bool, true, false, not, ◌||◌, List, [], ◌∷◌, ◌++◌, Result, Ok, Err}
 use Rattle.sfc_plant.specs.Plants.{PlantData}
-use Rattle.sfc_image.specs.Values.{variable_count, value_of, forced_value}
 use Rattle.sfc_events.specs.declared.command.Answer.{Answer}
 use Rattle.sfc_events.specs.declared.command.Answer.TheVariants.{Scanned}
 use Rattle.sfc_events.specs.declared.refusal.Refusal.{Refusal}
@@ -11,8 +9,8 @@ use Rattle.sfc_core.specs.PlantState as core
 use Rattle.sfc_debug.specs.Histories.{TimedCommand}
 use Rattle.sfc_debug.specs.States.{DebugState, state_of}
 use Rattle.sfc_debug.specs.Verdict.{verdict, after}
-use Rattle.sfc_output.specs.Commands.{answer_lines}
-use Rattle.sfc_output.specs.ImageLines.{image_line}
+use Rattle.sfc_output.specs.Commands.{lines_at}
+use Rattle.sfc_output.specs.ImageLines.{image_lines}
 use Rattle.sfc_output.specs.Steered.{Steered}
 
 -- ---- for whatever answers commands
@@ -69,19 +67,10 @@ debugger_of steered = record {
 abbrev pub plant_state : Steered → DebugState → PlantState
 plant_state steered state = core.state_of steered.plant state.events
 
--- the line of a variable
-abbrev pub variable_line : PlantData → PlantState → ℕ → List ℕ
-variable_line plant state v = image_line plant (record { 0 = v }) (value_of plant state.changes v) (forced_value state.changes v)
-
--- a line for each variable of the image
-abbrev pub image_lines : PlantData → PlantState → List ℕ
-image_lines plant state = flat_map (variable_line plant state) (range_with_len 0 (variable_count plant))
-
 -- the text of a debugger: the lines of each command, at its run instant, and at the end those of the image
 abbrev pub text_of : Steered → Lines TimedCommand Verdict DebugState
 text_of steered = record {
-  command = λ state timed answer.
-      answer_lines steered (plant_state steered state).instance_state timed.0 state.clock.instant answer;
+  command = λ state timed answer. lines_at steered state timed.0 answer;
   closing = λ state. image_lines steered.plant (plant_state steered state);
 }
 

@@ -8,5 +8,7 @@ pub mod Pairs
 pub mod Overlaps
 -- texts of numbered places, one after the other
 pub mod Texts
+-- lines of numbered places, one after the other
+pub mod Numbered
 -- what stands at the end of a buffer and in a line behind it
 pub mod Told

@@ -30,7 +30,9 @@ use Rattle.sfc_instance.specs.declared.scan_end.ScanEnd.{ScanEnd}
 use Rattle.sfc_instance.specs.declared.scan_end.ScanEnd.TheVariants.{Ran, Faulted, Skipped}
 use Rattle.sfc_instance.specs.Life.{InstanceState}
 use Rattle.sfc_expr.specs.Trees.{Expression}
+use Rattle.sfc_core.specs.PlantState as core
 use Rattle.sfc_debug.specs.Hits.{shown_condition}
+use Rattle.sfc_debug.specs.States.{DebugState}
 use Rattle.sfc_list.specs.Expressions.{expression_text}
 use Rattle.sfc_output.specs.Names.{task_name, program_name, image_name, numbered_action}
 use Rattle.sfc_output.specs.Programs.{program_line}
@@ -152,3 +154,8 @@ abbrev pub answer_lines : Steered → (ℕ → InstanceState) → Command → �
 answer_lines steered instance_state command t (Ok answer) =
     command_line steered command t answer ++ program_lines steered.plant instance_state answer
 answer_lines steered instance_state command t (Err refusal) = refusal_line steered.plant refusal
+
+-- The lines of a command that was answered so, where the debugger stands so after it.
+abbrev pub lines_at : Steered → DebugState → Command → Result Answer Refusal → List ℕ
+lines_at steered state command answer =
+    answer_lines steered (core.state_of steered.plant state.events).instance_state command state.clock.instant answer

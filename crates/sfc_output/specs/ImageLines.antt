@@ -1,8 +1,11 @@
 -- The lines of the image (our choice of format).
-use Rattle.std.specs.Prelude.{ℕ, List, [], ◌++◌, codes, Option, Some, None}
+use Rattle.std.specs.Prelude.{ℕ, List, [], ◌++◌, flat_map, codes, Option, Some, None}
+use Rattle.std.specs.List.{range_with_len}
 use Rattle.sfc_base.specs.declared.value.Value.{Value}
 use Rattle.sfc_base.specs.declared.ids.VarId.{VarId}
 use Rattle.sfc_plant.specs.Plants.{PlantData}
+use Rattle.sfc_image.specs.Values.{variable_count, value_of, forced_value}
+use Rattle.sfc_instances.specs.PlantState.{PlantState}
 use Rattle.sfc_output.specs.Names.{image_name}
 use Rattle.sfc_output.specs.Values.{line_end, value_text}
 
@@ -14,3 +17,11 @@ forced_text (Some v) = codes " forced"
 unfoldable pub image_line : PlantData → VarId → Value → Option Value → List ℕ
 image_line plant id v forced =
     codes "image " ++ image_name plant id ++ codes " " ++ value_text v ++ forced_text forced ++ line_end
+
+-- the line of the variable with this number, where the plant stands so
+abbrev pub variable_line : PlantData → PlantState → ℕ → List ℕ
+variable_line plant state v = image_line plant (record { 0 = v }) (value_of plant state.changes v) (forced_value state.changes v)
+
+-- a line for each variable of the image
+abbrev pub image_lines : PlantData → PlantState → List ℕ
+image_lines plant state = flat_map (variable_line plant state) (range_with_len 0 (variable_count plant))

@@ -180,9 +180,9 @@ fn put_answer(line: &mut Line, out: &mut Vec<u8>, answer: Answer) -> Result<(), 
     }
 }
 
-// The line of an accepted command.
+// The line of any accepted command.
 #[tactic(auto, unfolding(crate::specs::Commands::command_line))]
-fn put_command(
+fn put_any(
     line: &mut Line,
     out: &mut Vec<u8>,
     debugger: &Debugger,
@@ -200,20 +200,51 @@ fn put_command(
 }
 
 // The line of a scan that hit no breakpoint.
-#[tactic(auto, using(crate::proofs::Told::told_none, crate::proofs::Told::scanned_regrouped))]
+#[tactic(auto, using(crate::proofs::Told::scanned_regrouped))]
 #[inline(always)]
-fn append_scanned(out: &mut Vec<u8>, t: i64, task: &[u8], overruns: u64) -> Result<(), AllocError>
-    ensures { OnOk result (out.new.items ≡ out.old.items ++ scanned_line t task.now overruns) }
+fn put_scan(
+    line: &mut Line,
+    out: &mut Vec<u8>,
+    t: i64,
+    task: &[u8],
+    overruns: u64,
+) -> Result<(), AllocError>
+    ensures { OnOk result (told out.new.items line.new ≡ told out.old.items line.old ++ scanned_line t task.now overruns) }
 {
-    let mut line = Line::new();
-    line.put_scanned(out, t, task, overruns)?;
-    line.pass_on(out)
+    line.put_scanned(out, t, task, overruns)
 }
 
-// The line of any accepted command.
-#[tactic(auto, using(crate::proofs::Told::told_none))]
+/// Puts the line of an accepted command behind the line, with its run instant in microseconds. The one error is that memory was refused;
+/// then a front of it may stand there.
+#[tactic(auto, unfolding(crate::specs::Commands::command_line, crate::specs::Private::Told::scanned_line))]
 #[inline(always)]
-fn append_any(
+pub(crate) fn put_command(
+    line: &mut Line,
+    out: &mut Vec<u8>,
+    debugger: &Debugger,
+    timed: (Command, i64),
+    answer: Answer,
+) -> Result<(), AllocError>
+    ensures { OnOk result (told out.new.items line.new ≡
+        told out.old.items line.old ++ output.command_line (steered_by debugger.now) timed.0 timed.1 answer) }
+{
+    if let Command::Scan(task) = timed.0
+        && let Answer::Scanned {
+            overruns,
+            hit: false,
+            ..
+        } = answer
+    {
+        let name = task_name(debugger.resource().plant(), task);
+        return put_scan(line, out, timed.1, name, overruns);
+    }
+    put_any(line, out, debugger, timed, answer)
+}
+
+/// Puts the line of an accepted command at the end: its run instant in microseconds, its words, and what its answer adds. The
+/// one error is that memory was refused; then a front of it may stand there.
+#[tactic(auto, using(crate::proofs::Told::told_none))]
+pub fn append_command(
     out: &mut Vec<u8>,
     debugger: &Debugger,
     command: Command,
@@ -225,31 +256,6 @@ fn append_any(
     let mut line = Line::new();
     put_command(&mut line, out, debugger, (command, t), answer)?;
     line.pass_on(out)
-}
-
-/// Puts the line of an accepted command at the end: its run instant in microseconds, its words, and what its answer adds. The
-/// one error is that memory was refused; then a front of it may stand there.
-#[tactic(auto, unfolding(crate::specs::Commands::command_line, crate::specs::Private::Told::scanned_line))]
-pub fn append_command(
-    out: &mut Vec<u8>,
-    debugger: &Debugger,
-    command: Command,
-    t: i64,
-    answer: Answer,
-) -> Result<(), AllocError>
-    ensures { OnOk result (out.new.items ≡ out.old.items ++ output.command_line (steered_by debugger.now) command t answer) }
-{
-    if let Command::Scan(task) = command
-        && let Answer::Scanned {
-            overruns,
-            hit: false,
-            ..
-        } = answer
-    {
-        let name = task_name(debugger.resource().plant(), task);
-        return append_scanned(out, t, name, overruns);
-    }
-    append_any(out, debugger, command, t, answer)
 }
 
 /// Puts the line of a row of the trace at the end: its number, and the line of its command. The one error is that memory was
@@ -297,8 +303,8 @@ pub fn append_refusal(
     append(out, b"\n")
 }
 
-/// How the answer to a scan tells that the scan of instance k ended; `None` where it doesn't tell of it.
-pub fn scan_end_in(answer: Answer, k: u32) -> Option<ScanEnd>
+// How the answer to a scan tells that the scan of instance k ended; `None` where it doesn't tell of it.
+pub(crate) fn scan_end_in(answer: Answer, k: u32) -> Option<ScanEnd>
     requires { k < 64 }
     ensures { result ≡ output.scan_end_in answer k }
 {

@@ -1,12 +1,17 @@
 //! The lines of the image.
 
-ghost use Rattle.std.specs.Prelude.{◌≡◌, ◌++◌, OnOk};
+ghost use Rattle.std.specs.Prelude.{◌≡◌, ◌<◌, ◌++◌, OnOk};
+ghost use Rattle.sfc_image.specs.Values.{variable_count};
+ghost use Rattle.sfc_events.specs.History.{History};
+ghost use Rattle.sfc_core.specs.Agreement as core;
+ghost use Rattle.sfc_core.specs.PlantState.{state_of};
 ghost use Rattle.sfc_output.specs.ImageLines as output;
 
 use crate::append::{append, append_value};
 use crate::naming::append_image_name;
 use sfc_base::ids::VarId;
 use sfc_base::value::Value;
+use sfc_core::resource::Resource;
 use sfc_plant::plant::Plant;
 use std::alloc::AllocError;
 
@@ -38,4 +43,26 @@ pub fn append_variable(
     append_value(out, value)?;
     append_forced(out, forced)?;
     append(out, b"\n")
+}
+
+// The line of the variable with this number.
+fn append_numbered(out: &mut Vec<u8>, resource: &Resource, id: VarId) -> Result<(), AllocError>
+    requires { id.0 < variable_count (core.plant_of resource.now) }
+    ensures { (h : History) → core.Agrees resource.now h → OnOk result (out.new.items ≡
+        out.old.items ++ output.variable_line (core.plant_of resource.now) (state_of (core.plant_of resource.now) h) id.0) }
+{
+    let read = (resource.value(id), resource.forced(id));
+    append_variable(out, resource.plant(), id, read)
+}
+
+/// Puts a line for each variable at the end, in the order of the image: its name, what it reads, and whether it is forced. The one error
+/// is that memory was refused; then a front of them may stand there.
+pub fn append_image(out: &mut Vec<u8>, resource: &Resource) -> Result<(), AllocError>
+    ensures { (h : History) → core.Agrees resource.now h → OnOk result (out.new.items ≡
+        out.old.items ++ output.image_lines (core.plant_of resource.now) (state_of (core.plant_of resource.now) h)) }
+{
+    for v in 0..resource.variables() {
+        append_numbered(out, resource, VarId(v as u16))?;
+    }
+    Ok(())
 }

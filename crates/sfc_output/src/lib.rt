@@ -1,6 +1,7 @@
 //! What is written of commands, of their answers, of program instances and of the image, as lines of text (our choice of
 //! format). The names, times and marks are those of IEC 61131-3:2003.
 //!
+//! - `answer`: the lines of a command and of its answer, with those of the instances that were scanned.
 //! - `append`: pieces of text, put at the end of a buffer.
 //! - `breakpoint`: where breakpoints stand, and their conditions.
 //! - `command`: the lines of commands and of their answers; of rows of the trace.
@@ -12,6 +13,7 @@
 //! - `program`: the line of a program after a scan.
 #![tactic(auto)]
 
+pub mod answer;
 pub mod append;
 mod breakpoint;
 pub mod command;

@@ -166,6 +166,7 @@ fn fault_text(fault: Option<ScanFault>) -> &'static [u8]
 }
 
 // What is written of a scan that ended so.
+#[inline(always)]
 fn put_scan_end(
     line: &mut Line,
     out: &mut Vec<u8>,
@@ -190,9 +191,9 @@ fn put_scan_end(
     }
 }
 
-// Puts the line of the program instance.
+/// Puts the line of the program instance behind the line, as `append_program` does at the end.
 #[inline(always)]
-fn put_program(
+pub(crate) fn put_program(
     line: &mut Line,
     out: &mut Vec<u8>,
     view: &ProgramView<'_>,

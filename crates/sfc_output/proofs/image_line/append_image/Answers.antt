@@ -3,9 +3,9 @@ use Rattle.std.specs.List.{flat_map, range_with_len}
 use Rattle.sfc_image.specs.Values.{variable_count}
 use Rattle.sfc_core.specs.PlantState.{state_of}
 use Rattle.sfc_core.specs.Agreement.{plant_of}
-use Rattle.sfc_monitor.specs.Output.{variable_line}
-use Rattle.sfc_monitor.proofs.Numbered.{lines_head}
-use Rattle.sfc_monitor.proofs.text.append_image.Goals as goal
+use Rattle.sfc_output.specs.ImageLines.{variable_line}
+use Rattle.sfc_output.proofs.Numbered.{lines_head}
+use Rattle.sfc_output.proofs.image_line.append_image.Goals as goal
 
 pub loop-v-preserved : goal.loop-v-preserved
 loop-v-preserved c h agrees =

@@ -5,8 +5,9 @@ use Rattle.sfc_instance.specs.declared.scan_end.ScanEnd.{ScanEnd}
 use Rattle.sfc_core.specs.Agreement.{plant_of}
 use Rattle.sfc_core.specs.PlantState.{state_of}
 use Rattle.sfc_output.specs.Commands.{scan_end_in, written_line}
-use Rattle.sfc_monitor.proofs.Numbered.{lines_head}
-use Rattle.sfc_monitor.proofs.text.append_programs.Goals as goal
+use Rattle.sfc_output.specs.Private.Told.{told}
+use Rattle.sfc_output.proofs.Numbered.{lines_head}
+use Rattle.sfc_output.proofs.answer.put_programs.Goals as goal
 
 pub loop-k-preserved : goal.loop-k-preserved
 loop-k-preserved c h agrees =
@@ -15,10 +16,10 @@ loop-k-preserved c h agrees =
     let line = λ (k : ℕ). written_line plant instance_state k (scan_end_in c.args.answer k) in
     let n = length plant.instances in
     let k = c.loop-k.k in
-    let out = c.loop-k.out.items in
+    let old = told c.loop-k.out.items c.loop-k.line in
     let lt : k < n = omega (arith, c.loop-k-test.true, ap (λ (p : PlantData). length p.instances) c.plant.ensures, ap length c.instances-k-end.ensures.value) in
     let rest = flat_map line (range_with_len (k + 1) (n - (k + 1))) in
-    let written : c.append_written.new.out.items ≡ out ++ line k =
-    c.in_ok-append_written.ensures h agrees ∙ ap (λ (e : Option ScanEnd). out ++ written_line plant instance_state k e) c.scan_end_in-scan_end.ensures in
-    c.loop-k.invariant h agrees ∙ ap (λ (xs : List ℕ). out ++ xs) (lines_head line k n lt) ∙ sym (append_assoc out (line k) rest)
+    let written : told c.put_written.new.out.items c.put_written.new.line ≡ old ++ line k =
+    c.in_ok-put_written.ensures h agrees ∙ ap (λ (e : Option ScanEnd). old ++ written_line plant instance_state k e) c.scan_end_in-scan_end.ensures in
+    c.loop-k.invariant h agrees ∙ ap (λ (xs : List ℕ). old ++ xs) (lines_head line k n lt) ∙ sym (append_assoc old (line k) rest)
     ∙ ap (λ (x : List ℕ). x ++ rest) (sym written)

@@ -4,8 +4,8 @@ use Rattle.sfc_image.specs.Values.{variable_count}
 use Rattle.sfc_events.specs.History.{History}
 use Rattle.sfc_core.specs.PlantState.{state_of}
 use Rattle.sfc_core.specs.Agreement.{Agrees, plant_of}
-use Rattle.sfc_monitor.specs.Output.{variable_line}
-use Rattle.sfc_monitor.proofs.text.append_image.Given as goal
+use Rattle.sfc_output.specs.ImageLines.{variable_line}
+use Rattle.sfc_output.proofs.image_line.append_image.Given as goal
 
 abbrev pub invariant-loop-v : goal.invariant-loop-v
 invariant-loop-v l = (h : History) → Agrees l.resource h →
