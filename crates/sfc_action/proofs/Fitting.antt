@@ -4,8 +4,9 @@ use Rattle.std.proofs.Common.{◌≡◌, length, ◌∙◌, ap, sym}
 use Rattle.std.specs.Prelude.{map}
 use Rattle.sfc_tables.specs.Tables.{Tabled}
 use Rattle.sfc_action.specs.declared.control_state.ControlState.{ControlState}
+use Rattle.sfc_action.specs.declared.step_inputs.StepInputs.{StepInputs}
 use Rattle.sfc_action.specs.Private.Keeping.{AreFor, delay_of}
-use Rattle.sfc_action.specs.Agreement.{IsFor, HasDelays, IsAlike, action_total}
+use Rattle.sfc_action.specs.Agreement.{IsFor, HasDelays, AreInputsOf, IsAlike, action_total}
 
 pub is_for : (tables : Tabled) (state : ControlState) → AreFor tables state → IsFor tables state
 unfolding HasDelays
@@ -33,6 +34,11 @@ same_delays tables one other h g = (are_for tables one h).delays ∙ sym (are_fo
 pub delays_prop : (tables : Tabled) (state : ControlState) → IsProp (HasDelays tables state)
 unfolding HasDelays
 delays_prop tables state = hlevel props
+
+-- and so what the associations give
+pub inputs_prop : (tables : Tabled) (step_inputs : StepInputs) → IsProp (AreInputsOf tables step_inputs)
+unfolding AreInputsOf
+inputs_prop tables step_inputs = hlevel props
 
 -- and so of two that are alike
 pub alike_prop : (a b : ControlState) → IsProp (IsAlike a b)

@@ -14,6 +14,9 @@ pub mod Rows
 pub mod Resting
 pub mod RowTables
 pub mod SetTables
+pub mod Joins
+pub mod StepGiving
+pub mod Spans
 pub mod Numbers
 pub mod Sizes
 pub mod Starts

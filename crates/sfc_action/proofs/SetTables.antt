@@ -344,7 +344,7 @@ module _ (n a b : ℕ) where
     more_times = more_there (flag sets.any_time a) sets.more_times apart i;
   }
 
-  marked_row : (q : Qualifier) (sets : InputSets) → AreSized n sets → a < n
+  pub marked_row : (q : Qualifier) (sets : InputSets) → AreSized n sets → a < n
       → input_row (marked q a sets) b ≡ cond (b == a) (with_input q (input_row sets b)) (input_row sets b)
   marked_row q sets h lt = elim (cases_eq b a) [
     | inl e ↦ rw (eq-eqb b a e) (marked_here q sets h lt e)

@@ -1,9 +1,10 @@
--- Which scans a `Controls` agrees with.
+-- Which scans a `Controls` agrees with, and which tables a `StepInputs` is for.
 use Rattle.std.specs.Prelude.{ℕ, ◌≡◌, List, length, ℤ}
 use Rattle.sfc_tables.specs.Tables.{Tabled}
 use Rattle.sfc_evolve.specs.Evolution as evolution
 use Rattle.sfc_action.specs.declared.control_state.ControlState.{ControlState}
 use Rattle.sfc_action.specs.ActionControl.{Scan}
+use Rattle.sfc_action.specs.Private.StepGiving.{StepGiven, AreGivenTo}
 use Rattle.sfc_action.specs.Private.Keeping.{AreFor, IsStateAfter}
 
 -- how many actions it is for
@@ -35,3 +36,7 @@ scan_input tables scans times t =
 -- they keep the same, but for which actions the latest scan executed
 unfoldable pub IsAlike : ControlState → ControlState → Type 0
 IsAlike a b = record a { executed = b.executed } ≡ b
+
+-- they are what the associations of each step of these tables give
+unfoldable pub AreInputsOf : Tabled → List StepGiven → Type 0
+AreInputsOf tables steps_given = AreGivenTo tables (length tables.initial) steps_given

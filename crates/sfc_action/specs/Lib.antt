@@ -6,7 +6,7 @@ pub mod ActionControl
 pub mod ScanNumbers
 -- how much a scan handles
 pub mod Work
--- what a `Controls` agrees with
+-- what a `Controls` agrees with, and what a `StepInputs` is for
 pub mod Agreement
 -- what later answers need of a history
 pub mod Past

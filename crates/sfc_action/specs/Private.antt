@@ -13,6 +13,7 @@ pub mod Sets
 pub mod SetTables
 pub mod Marks
 pub mod Rows
+pub mod StepGiving
 pub mod Live
 pub mod Calling
 pub mod Keeping

@@ -1,5 +1,6 @@
 //! One scan of action control.
 
+use crate::associations::Associations;
 use crate::inputs::Inputs;
 use crate::kept::Kept;
 use crate::marking::mark_active;
@@ -49,6 +50,7 @@ impl ControlScan {
     ghost use Rattle.sfc_flags.specs.Flags.{places_from};
     ghost use Rattle.sfc_flags.specs.Words.{word_of};
     ghost use Rattle.sfc_tables.specs.Tables.{AreTables};
+    ghost use Rattle.sfc_action.specs.Agreement.{AreInputsOf};
     ghost use Rattle.sfc_action.specs.Private.Marking.{cleared, marked_at, presets_at};
     ghost use Rattle.sfc_action.specs.Private.Storing.{IsKept, AreNext};
     ghost use Rattle.sfc_action.specs.Private.ControlScans.{IsControlScan};
@@ -131,19 +133,20 @@ impl ControlScan {
         stored: &Kept,
         tables: &Tables,
         active: &Flags,
-        times: &[i64],
+        associations: Associations<'_>,
         ticks: &mut Ticks,
     ) -> Settled
         requires tables { AreTables tables.now }
         requires sized { IsControlScan (length tables.now.actions) self.old }
         requires stored { IsKept (length tables.now.actions) stored.now }
         requires steps { length active.now ≡ length tables.now.initial }
-        requires times { length times.now ≡ length tables.now.associations }
+        requires step_inputs { AreInputsOf tables.now associations.step_inputs.now }
+        requires times { length associations.times.now ≡ length tables.now.associations }
         ensures sized { IsControlScan (length tables.now.actions) self.new }
         ensures inputs { self.new.inputs
             ≡ marked_at tables.now.associations (places_from active.now 0) (cleared (length tables.now.actions)) }
         ensures presets { self.new.presets.items
-            ≡ presets_at times.now tables.now.associations (places_from active.now 0) self.old.presets.items }
+            ≡ presets_at associations.entry.times.now tables.now.associations (places_from active.now 0) self.old.presets.items }
         ensures next { AreNext stored.now.stores self.new.inputs self.new.stores }
         ensures called { AreCalled self.new.inputs self.new.stores self.new.called }
         ensures elapsed { self.new.elapsed ≡ none (length tables.now.actions) }
@@ -158,7 +161,7 @@ impl ControlScan {
             &mut self.presets,
             tables,
             active,
-            times,
+            associations,
             ticks,
         );
         self.settle(stored, ticks)

@@ -43,8 +43,9 @@ ghost use Rattle.sfc_evolve.specs.Agreement.{StepsAgree, step_total};
 ghost use Rattle.sfc_action.specs.ActionControl.{Scan, q, executed, first_fault};
 ghost use Rattle.sfc_action.specs.Work.{step_work, copy_work};
 ghost use Rattle.sfc_action.specs.declared.control_state.ControlState.{ControlState};
-ghost use Rattle.sfc_action.specs.Agreement.{IsFor, ControlsAgree, IsAlike, action_total, scan_input};
+ghost use Rattle.sfc_action.specs.Agreement.{IsFor, AreInputsOf, ControlsAgree, IsAlike, action_total, scan_input};
 
+use crate::associations::Associations;
 use crate::fault::ControlFault;
 use crate::faults::first_fault;
 use crate::listing::list_blocks;
@@ -77,9 +78,9 @@ impl Controls {
         })
     }
 
-    /// One scan at t, after the steps' own: which actions have Q, and which are executed (2.6.4.5). `times` has the time
-    /// of each association, by number; those of associations without a time don't matter. Times and instants are in
-    /// microseconds, and instants from 0 to 2^62. It takes no memory.
+    /// One scan at t, after the steps' own: which actions have Q, and which are executed (2.6.4.5). `associations` has the
+    /// time of each association, by number, and what those of each step give; times of associations without a time don't
+    /// matter. Times and instants are in microseconds, and instants from 0 to 2^62. It takes no memory.
     ///
     /// The error is the first fault: of the actions in the order of their first association in the text, that of the
     /// first that has one. Then nothing has changed.
@@ -88,21 +89,22 @@ impl Controls {
         tables: &Tables,
         steps: &Steps,
         t: i64,
-        times: &[i64],
+        associations: Associations<'_>,
         ticks: &mut Ticks,
     ) -> Result<(), ControlFault>
         requires sizes { IsFor tables.now self.old }
         requires steps { step_total steps.now ≡ length tables.now.initial }
-        requires times { length times.now ≡ length tables.now.associations }
+        requires step_inputs { AreInputsOf tables.now associations.step_inputs.now }
+        requires times { length associations.times.now ≡ length tables.now.associations }
         requires low { pos 0 ≤ℤ t }
         requires high { t ≤ℤ pos (2 ^ 62) }
         ensures sizes { IsFor tables.now self.new }
         ensures fault { (scans : List evolution.Scan) (h : List Scan) → StepsAgree tables.now steps.now scans →
             ControlsAgree tables.now self.old h →
-            result_err result ≡ first_fault tables.now (scan_input tables.now scans times.now t ∷ h) }
+            result_err result ≡ first_fault tables.now (scan_input tables.now scans associations.entry.times.now t ∷ h) }
         ensures agrees { OnOk result ((scans : List evolution.Scan) (h : List Scan) →
             StepsAgree tables.now steps.now scans → ControlsAgree tables.now self.old h →
-            ControlsAgree tables.now self.new (scan_input tables.now scans times.now t ∷ h)) }
+            ControlsAgree tables.now self.new (scan_input tables.now scans associations.entry.times.now t ∷ h)) }
         ensures err { OnErr result (self.new ≡ self.old) }
         ensures ticks { Within (step_work tables.now) ticks.old ticks.new }
     {
@@ -111,7 +113,7 @@ impl Controls {
             &self.state.kept,
             tables,
             steps.active_flags(),
-            times,
+            associations,
             ticks,
         );
         if let Some(fault) = first_fault(

@@ -2,25 +2,20 @@
 
 ghost use Rattle.std.specs.Prelude.{◌≡◌, ◌==◌, ℕ, cond, true, false};
 ghost use Rattle.sfc_flags.specs.Words.{has, word_of};
-ghost use Rattle.sfc_action.specs.Private.Rows.{inputs_in, stores_in, no_inputs, has_fault};
-ghost use Rattle.sfc_action.specs.Private.Marks.{with_input, with_time};
+ghost use Rattle.sfc_action.specs.Private.Rows.{plain_in, inputs_in, stores_in, no_inputs, has_fault};
+ghost use Rattle.sfc_action.specs.Private.Marks.{with_time, with_all_plain};
 ghost use Rattle.sfc_action.specs.Private.Calling.{called_of};
 
+use crate::plain_words::PlainWords;
 use crate::store_words::StoreWords;
 use crate::timed_words::TimedWords;
 use sfc_base::qualifier::TimedQualifier;
 use sfc_flags::word::Word;
-use sfc_plant::association::Qualifier;
 
 /// Of 64 actions the inputs, whether an association that acts has a time, and whether more than one such does.
 #[derive(Clone, Copy)]
 pub struct InputWords {
-    pub non_stored: Word,
-    pub reset: Word,
-    pub set: Word,
-    pub pulse: Word,
-    pub rising_pulse: Word,
-    pub falling_pulse: Word,
+    pub plain: PlainWords,
     pub timed: TimedWords,
     pub any_time: Word,
     pub more_times: Word,
@@ -32,36 +27,22 @@ impl InputWords {
         ensures { (a : ℕ) → inputs_in result a ≡ no_inputs }
     {
         InputWords {
-            non_stored: Word::none(),
-            reset: Word::none(),
-            set: Word::none(),
-            pulse: Word::none(),
-            rising_pulse: Word::none(),
-            falling_pulse: Word::none(),
+            plain: PlainWords::none(),
             timed: TimedWords::none(),
             any_time: Word::none(),
             more_times: Word::none(),
         }
     }
 
-    /// The action has the input of this qualifier.
-    pub fn mark(&mut self, qualifier: Qualifier, action: usize)
-        ensures { (a : ℕ) → word_of a ≡ word_of action → inputs_in self.new a
-            ≡ cond (a == action) (with_input qualifier (inputs_in self.old a)) (inputs_in self.old a) }
+    /// The actions have these inputs without a time too.
+    pub fn join(&mut self, plain: PlainWords)
+        ensures { (a : ℕ) → inputs_in self.new a ≡ with_all_plain (plain_in plain a) (inputs_in self.old a) }
     {
-        match qualifier {
-            Qualifier::NonStored => self.non_stored = self.non_stored.plus(action),
-            Qualifier::Reset => self.reset = self.reset.plus(action),
-            Qualifier::Set => self.set = self.set.plus(action),
-            Qualifier::Pulse => self.pulse = self.pulse.plus(action),
-            Qualifier::RisingPulse => self.rising_pulse = self.rising_pulse.plus(action),
-            Qualifier::FallingPulse => self.falling_pulse = self.falling_pulse.plus(action),
-            Qualifier::Timed(timed, _) => self.mark_timed(timed, action),
-        }
+        self.plain = self.plain.or(plain);
     }
 
-    // The action has the input of this qualifier, and a time.
-    fn mark_timed(&mut self, qualifier: TimedQualifier, action: usize)
+    /// The action has the input of this qualifier, and a time.
+    pub fn mark_timed(&mut self, qualifier: TimedQualifier, action: usize)
         ensures { (a : ℕ) → word_of a ≡ word_of action → inputs_in self.new a
             ≡ cond (a == action) (with_time qualifier (inputs_in self.old a)) (inputs_in self.old a) }
     {

@@ -34,12 +34,13 @@ ghost use Rattle.sfc_base.specs.Ticks.{Within};
 ghost use Rattle.sfc_flags.specs.Flags.{flag};
 ghost use Rattle.sfc_flags.specs.Words.{word_count, word_of};
 ghost use Rattle.sfc_action.specs.Private.TimedSets.{by};
-ghost use Rattle.sfc_action.specs.Private.Marking.{AreSized, cleared, marked};
+ghost use Rattle.sfc_action.specs.Private.Marking.{AreSized, cleared, marked_timed};
 ghost use Rattle.sfc_action.specs.Private.Rows.{inputs_in, input_row, no_inputs};
+ghost use Rattle.sfc_action.specs.Private.StepGiving.{IsRunOf, joined};
 
+use crate::step_input::PlainRun;
 use sfc_base::qualifier::TimedQualifier;
 use sfc_base::ticks::Ticks;
-use sfc_plant::association::Qualifier;
 use std::alloc::{AllocError, Global};
 
 // None of the actions of these words has an input.
@@ -88,12 +89,21 @@ impl Inputs {
         clear_words(&mut self.words, ticks);
     }
 
-    /// The action has the input of this qualifier.
-    pub fn mark(&mut self, qualifier: Qualifier, action: usize)
+    /// The action has the input of this qualifier, and a time.
+    pub fn mark_timed(&mut self, qualifier: TimedQualifier, action: usize)
         requires { action < length self.old.any_time }
-        ensures { self.new ≡ marked qualifier action self.old }
+        ensures { self.new ≡ marked_timed qualifier action self.old }
     {
-        self.words[action / 64].mark(qualifier, action);
+        self.words[action / 64].mark_timed(qualifier, action);
+    }
+
+    /// The actions of a word have these inputs without a time too.
+    pub fn join(&mut self, run: &PlainRun)
+        requires { IsRunOf (length self.old.any_time) run.now }
+        ensures sized { AreSized (length self.old.any_time) self.new }
+        ensures rows { (a : ℕ) → input_row self.new a ≡ joined a run.now (input_row self.old a) }
+    {
+        self.words[run.number].join(run.plain);
     }
 
     /// Whether the action has the input of this qualifier with a time.

@@ -1,14 +1,19 @@
 //! What the active steps give as inputs.
 
-ghost use Rattle.std.specs.Prelude.{◌≡◌, ◌<◌, ◌+◌, All, length};
+ghost use Rattle.std.specs.Prelude.{◌≡◌, ◌<◌, ◌+◌, ℕ, All, true, length};
 ghost use Rattle.sfc_base.specs.Ticks.{Within};
 ghost use Rattle.sfc_flags.specs.Flags.{places_from};
 ghost use Rattle.sfc_tables.specs.Tables.{AreTables};
+ghost use Rattle.sfc_action.specs.ActionControl.{is_timed};
+ghost use Rattle.sfc_action.specs.Agreement.{AreInputsOf};
+ghost use Rattle.sfc_action.specs.Private.Rows.{input_row};
+ghost use Rattle.sfc_action.specs.Private.StepGiving.{IsRunOf, all_joined};
 ghost use Rattle.sfc_action.specs.Private.Marking.{AreSized, IsWithin, marked, all_marked, marked_at};
 ghost use Rattle.sfc_action.specs.Private.Marking.{with_preset, all_presets, presets_at};
 
+use crate::associations::Associations;
 use crate::inputs::Inputs;
-use sfc_base::references::StepId;
+use crate::step_input::PlainRun;
 use sfc_base::ticks::Ticks;
 use sfc_flags::flags::Flags;
 use sfc_plant::association::Qualifier;
@@ -20,14 +25,29 @@ use sfc_tables::tables::Tables;
 fn note(inputs: &mut Inputs, presets: &mut [i64], association: &StepAction, times: &[i64])
     requires sized { AreSized (length presets.old) inputs.old }
     requires within { IsWithin (length presets.old) (length times.now) association.now }
+    requires timed { is_timed association.now.qualifier ≡ true }
     ensures sized { AreSized (length presets.old) inputs.new }
     ensures inputs { inputs.new ≡ marked association.now.qualifier association.now.action.0 inputs.old }
     ensures presets { presets.new ≡ with_preset times.now association.now presets.old }
 {
-    let action = association.action.0;
-    inputs.mark(association.qualifier, action);
-    if let Qualifier::Timed(_, _) = association.qualifier {
+    if let Qualifier::Timed(qualifier, _) = association.qualifier {
+        let action = association.action.0;
+        inputs.mark_timed(qualifier, action);
         presets[action] = times[association.number.0 as usize];
+    }
+}
+
+// The actions have the inputs without a time of these words.
+fn join_all(inputs: &mut Inputs, runs: &[PlainRun], ticks: &mut Ticks)
+    requires sized { AreSized (length inputs.old.any_time) inputs.old }
+    requires within { All (IsRunOf (length inputs.old.any_time)) runs.now }
+    ensures sized { AreSized (length inputs.old.any_time) inputs.new }
+    ensures rows { (a : ℕ) → input_row inputs.new a ≡ all_joined a runs.now (input_row inputs.old a) }
+    ensures ticks { Within (length runs.now) ticks.old ticks.new }
+{
+    for run in runs {
+        ticks.tick();
+        inputs.join(run);
     }
 }
 
@@ -41,6 +61,7 @@ fn note_all(
 )
     requires sized { AreSized (length presets.old) inputs.old }
     requires within { All (IsWithin (length presets.old) (length times.now)) associations.now }
+    requires timed { All (λ x. is_timed x.qualifier ≡ true) associations.now }
     ensures sized { AreSized (length presets.old) inputs.new }
     ensures inputs { inputs.new ≡ all_marked associations.now inputs.old }
     ensures presets { presets.new ≡ all_presets times.now associations.now presets.old }
@@ -59,27 +80,30 @@ pub fn mark_active(
     presets: &mut [i64],
     tables: &Tables,
     active: &Flags,
-    times: &[i64],
+    associations: Associations<'_>,
     ticks: &mut Ticks,
 )
     requires tables { AreTables tables.now }
     requires sized { AreSized (length presets.old) inputs.old }
     requires actions { length presets.old ≡ length tables.now.actions }
     requires steps { length active.now ≡ length tables.now.initial }
-    requires times { length times.now ≡ length tables.now.associations }
+    requires step_inputs { AreInputsOf tables.now associations.step_inputs.now }
+    requires times { length associations.times.now ≡ length tables.now.associations }
     ensures sized { AreSized (length presets.old) inputs.new }
     ensures inputs { inputs.new ≡ marked_at tables.now.associations (places_from active.now 0) inputs.old }
     ensures presets { presets.new
-        ≡ presets_at times.now tables.now.associations (places_from active.now 0) presets.old }
+        ≡ presets_at associations.entry.times.now tables.now.associations (places_from active.now 0) presets.old }
     ensures ticks { Within (length active.now + length tables.now.associations) ticks.old ticks.new }
 {
     let mut at = 0;
     'steps: while let Some(s) = active.next_set(at, ticks) {
+        let step_inputs = associations.step_inputs;
+        join_all(inputs, step_inputs.plain(s), ticks);
         note_all(
             inputs,
             presets,
-            tables.of_step(StepId(s as u16)),
-            times,
+            step_inputs.timed(s),
+            associations.times,
             ticks,
         );
         at = s + 1;

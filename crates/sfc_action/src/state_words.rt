@@ -29,9 +29,10 @@ fn q_after(scan: ScanWords, pulse: Word, delayed_stored: Word) -> Word
         elapsed,
     } = scan;
     let limited = inputs.timed.limited.without(elapsed.limited);
-    let begun = inputs.pulse.without(pulse);
+    let begun = inputs.plain.pulse.without(pulse);
     let stored_limited = stores.stored_limited.without(elapsed.stored_limited);
     inputs
+        .plain
         .non_stored
         .or(stores.set)
         .or(limited)
@@ -40,7 +41,7 @@ fn q_after(scan: ScanWords, pulse: Word, delayed_stored: Word) -> Word
         .or(elapsed.stored_delayed)
         .or(delayed_stored)
         .or(stored_limited)
-        .without(inputs.reset)
+        .without(inputs.plain.reset)
 }
 
 // Which actions are executed: those that have Q or had it in the scan before, and those with a rising edge of P1 or a
@@ -48,8 +49,8 @@ fn q_after(scan: ScanWords, pulse: Word, delayed_stored: Word) -> Word
 fn executed_after(was: StateWords, inputs: InputWords, q: Word) -> Word
     ensures { (a : ℕ) → has result a ≡ executed_of (inputs_in inputs a) (state_in was a) (has q a) }
 {
-    let rises = inputs.rising_pulse.without(was.kept.rising_pulse);
-    let falls = was.kept.falling_pulse.without(inputs.falling_pulse);
+    let rises = inputs.plain.rising_pulse.without(was.kept.rising_pulse);
+    let falls = was.kept.falling_pulse.without(inputs.plain.falling_pulse);
     was.q.or(q).or(rises).or(falls)
 }
 
@@ -63,14 +64,14 @@ impl StateWords {
         let delayed_stored = store(
             self.kept.delayed_stored,
             scan.elapsed.delayed_stored,
-            inputs.reset,
+            inputs.plain.reset,
         );
         let q = q_after(scan, self.kept.pulse, delayed_stored);
         StateWords {
             kept: KeptWords {
-                pulse: inputs.pulse,
-                rising_pulse: inputs.rising_pulse,
-                falling_pulse: inputs.falling_pulse,
+                pulse: inputs.plain.pulse,
+                rising_pulse: inputs.plain.rising_pulse,
+                falling_pulse: inputs.plain.falling_pulse,
                 stores: scan.stores,
                 delayed_stored,
             },

@@ -38,9 +38,9 @@ impl StoreWords {
     pub fn after(self, inputs: InputWords) -> StoreWords
         ensures { (a : ℕ) → stores_in result a ≡ stores_after (inputs_in inputs a) (stores_in self a) }
     {
-        let resets = inputs.reset;
+        let resets = inputs.plain.reset;
         StoreWords {
-            set: store(self.set, inputs.set, resets),
+            set: store(self.set, inputs.plain.set, resets),
             stored_delayed: store(self.stored_delayed, inputs.timed.stored_delayed, resets),
             stored_limited: store(self.stored_limited, inputs.timed.stored_limited, resets),
         }

@@ -2,7 +2,7 @@
 use denote.Struct.Props.{props}
 use Rattle.std.proofs.Common.{◌≡◌, length}
 use Rattle.sfc_tables.specs.Tables.{Tabled}
-use Rattle.sfc_action.proofs.Fitting.{delays_prop}
+use Rattle.sfc_action.proofs.Fitting.{delays_prop, inputs_prop}
 use Rattle.sfc_instance.proofs.Apart.{apart_prop}
 use Rattle.sfc_instance.proofs.Held.{held_prop}
 use Rattle.sfc_instance.specs.declared.program.Program.{Program}
@@ -24,4 +24,4 @@ module _ (tables : Tabled) (program : Program) where
   -- it is for them in one way at most
   pub for_prop : IsProp (IsFor tables program)
   unfolding IsFor
-  for_prop = hlevel (props, delays_prop, apart_prop, held_prop)
+  for_prop = hlevel (props, delays_prop, inputs_prop, apart_prop, held_prop)

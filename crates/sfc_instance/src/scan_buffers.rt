@@ -1,13 +1,14 @@
 //! The buffers of a scan of a program instance.
 
 /// Of each transition the condition, by number, and which of them are TRUE; of each association the time, by number; and the
-/// numbers of the associations whose time a scan reads.
+/// numbers of the associations whose time a scan reads; and what the associations of each step give as inputs.
 #[derive(Drop)]
 pub struct ScanBuffers {
     pub conditions: Vec<bool>,
     pub holding: Holding,
     pub times: Vec<i64>,
     pub varied: Vec<usize>,
+    pub step_inputs: StepInputs,
 }
 
 ghost use Rattle.std.specs.Prelude.{◌≡◌, ◌<◌, ◌≤ℤ◌, ◌^◌, ◌+◌, List, false, pos, length, IfOk, OnOk};
@@ -30,6 +31,7 @@ use crate::holding::Holding;
 use crate::program_context::ProgramContext;
 use crate::reading::{list_varied, read_association_times};
 use crate::state::State;
+use sfc_action::step_inputs::StepInputs;
 use sfc_base::ticks::Ticks;
 use sfc_expr::fault::Fault;
 use sfc_image::image::Image;
@@ -49,6 +51,7 @@ impl ScanBuffers {
             holding: Holding::Nothing,
             times,
             varied,
+            step_inputs: StepInputs::new(alloc, tables)?,
         })
     }
 

@@ -47,6 +47,7 @@ ghost use Rattle.sfc_instance.specs.Agreement.{AreBuffersFor, IsStateFor, StateA
 use crate::holding::Holding;
 use crate::moved::Moved;
 use crate::scan_buffers::ScanBuffers;
+use sfc_action::associations::Associations;
 use sfc_action::fault::ControlFault;
 use sfc_base::ticks::Ticks;
 use sfc_tables::tables::Tables;
@@ -258,9 +259,13 @@ impl State {
         if repeat(&mut self.controls, moved, ticks) {
             return Ok(Moved::Nothing);
         }
+        let associations = Associations {
+            times: &buffers.times,
+            step_inputs: &buffers.step_inputs,
+        };
         match self
             .controls
-            .step(tables, &self.steps, t, &buffers.times, ticks)
+            .step(tables, &self.steps, t, associations, ticks)
         {
             Err(fault) => Err(fault),
             Ok(()) if moved => Ok(Moved::Steps),

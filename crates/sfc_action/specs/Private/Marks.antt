@@ -1,12 +1,12 @@
 -- What an association that acts gives its action.
-use Rattle.std.specs.Prelude.{Bool, true, cond}
+use Rattle.std.specs.Prelude.{Bool, true, cond, ◌||◌}
 use Rattle.sfc_base.specs.declared.qualifier.TimedQualifier.{TimedQualifier}
 use Rattle.sfc_base.specs.declared.qualifier.TimedQualifier.TheVariants.{Limited, Delayed, StoredDelayed}
 use Rattle.sfc_base.specs.declared.qualifier.TimedQualifier.TheVariants.{DelayedStored, StoredLimited}
 use Rattle.sfc_plant.specs.declared.association.Qualifier.{Qualifier}
 use Rattle.sfc_plant.specs.declared.association.Qualifier.TheVariants.{NonStored, Reset, Set, Pulse}
 use Rattle.sfc_plant.specs.declared.association.Qualifier.TheVariants.{RisingPulse, FallingPulse, Timed}
-use Rattle.sfc_action.specs.Private.WordRows.{TimedRow, InputRow}
+use Rattle.sfc_action.specs.Private.WordRows.{TimedRow, PlainRow, InputRow}
 
 abbrev pub timed_by : TimedQualifier → TimedRow → Bool
 timed_by Limited r = r.limited
@@ -37,3 +37,34 @@ with_input Pulse r = record r { pulse = true }
 with_input RisingPulse r = record r { rising_pulse = true }
 with_input FallingPulse r = record r { falling_pulse = true }
 with_input (Timed qualifier time) r = with_time qualifier r
+
+-- the same of inputs without a time, to which a qualifier with a time gives nothing
+abbrev pub with_plain : Qualifier → PlainRow → PlainRow
+with_plain NonStored r = record r { non_stored = true }
+with_plain Reset r = record r { reset = true }
+with_plain Set r = record r { set = true }
+with_plain Pulse r = record r { pulse = true }
+with_plain RisingPulse r = record r { rising_pulse = true }
+with_plain FallingPulse r = record r { falling_pulse = true }
+with_plain (Timed qualifier time) r = r
+
+-- the inputs of both
+abbrev pub both_plain : PlainRow → PlainRow → PlainRow
+both_plain r p = record {
+  non_stored = r.non_stored || p.non_stored;
+  reset = r.reset || p.reset;
+  set = r.set || p.set;
+  pulse = r.pulse || p.pulse;
+  rising_pulse = r.rising_pulse || p.rising_pulse;
+  falling_pulse = r.falling_pulse || p.falling_pulse;
+}
+
+abbrev pub with_all_plain : PlainRow → InputRow → InputRow
+with_all_plain p r = record r {
+  non_stored = r.non_stored || p.non_stored;
+  reset = r.reset || p.reset;
+  set = r.set || p.set;
+  pulse = r.pulse || p.pulse;
+  rising_pulse = r.rising_pulse || p.rising_pulse;
+  falling_pulse = r.falling_pulse || p.falling_pulse;
+}

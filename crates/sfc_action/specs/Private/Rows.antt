@@ -1,7 +1,7 @@
 -- Flags of one action, taken out of the tables of all.
-pub use Rattle.sfc_action.specs.Private.WordRows.{TimedRow, StoreRow, InputRow, KeptRow, StateRow}
-pub use Rattle.sfc_action.specs.Private.WordRows.{timed_in, stores_in, inputs_in, kept_in, state_in}
-pub use Rattle.sfc_action.specs.Private.WordRows.{no_times, no_store, no_inputs, nothing_kept, nothing}
+pub use Rattle.sfc_action.specs.Private.WordRows.{TimedRow, StoreRow, PlainRow, InputRow, KeptRow, StateRow}
+pub use Rattle.sfc_action.specs.Private.WordRows.{timed_in, stores_in, plain_in, inputs_in, kept_in, state_in}
+pub use Rattle.sfc_action.specs.Private.WordRows.{no_times, no_store, no_plain, no_inputs, nothing_kept, nothing}
 use Rattle.std.specs.Prelude.{ℕ, Bool, not, ◌&&◌, ◌||◌}
 use Rattle.sfc_flags.specs.Flags.{flag}
 use Rattle.sfc_action.specs.declared.timed.Timed.{Timed}

@@ -3,6 +3,7 @@ use Rattle.std.specs.Prelude.{ℕ, Bool, false}
 use Rattle.sfc_flags.specs.Words.{has}
 use Rattle.sfc_action.specs.declared.timed_words.TimedWords.{TimedWords}
 use Rattle.sfc_action.specs.declared.store_words.StoreWords.{StoreWords}
+use Rattle.sfc_action.specs.declared.plain_words.PlainWords.{PlainWords}
 use Rattle.sfc_action.specs.declared.input_words.InputWords.{InputWords}
 use Rattle.sfc_action.specs.declared.kept_words.KeptWords.{KeptWords}
 use Rattle.sfc_action.specs.declared.state_words.StateWords.{StateWords}
@@ -20,6 +21,15 @@ pub record StoreRow : Type 0 where
   pub set : Bool
   pub stored_delayed : Bool
   pub stored_limited : Bool
+
+-- inputs without a time
+pub record PlainRow : Type 0 where
+  pub non_stored : Bool
+  pub reset : Bool
+  pub set : Bool
+  pub pulse : Bool
+  pub rising_pulse : Bool
+  pub falling_pulse : Bool
 
 -- its inputs in a scan
 pub record InputRow : Type 0 where
@@ -65,14 +75,24 @@ stores_in words a = record {
   stored_limited = has words.stored_limited a;
 }
 
-abbrev pub inputs_in : InputWords → ℕ → InputRow
-inputs_in words a = record {
+abbrev pub plain_in : PlainWords → ℕ → PlainRow
+plain_in words a = record {
   non_stored = has words.non_stored a;
   reset = has words.reset a;
   set = has words.set a;
   pulse = has words.pulse a;
   rising_pulse = has words.rising_pulse a;
   falling_pulse = has words.falling_pulse a;
+}
+
+abbrev pub inputs_in : InputWords → ℕ → InputRow
+inputs_in words a = record {
+  non_stored = has words.plain.non_stored a;
+  reset = has words.plain.reset a;
+  set = has words.plain.set a;
+  pulse = has words.plain.pulse a;
+  rising_pulse = has words.plain.rising_pulse a;
+  falling_pulse = has words.plain.falling_pulse a;
   timed = timed_in words.timed a;
   any_time = has words.any_time a;
   more_times = has words.more_times a;
@@ -101,6 +121,9 @@ no_times = record { limited = false; delayed = false; stored_delayed = false; de
 
 abbrev pub no_store : StoreRow
 no_store = record { set = false; stored_delayed = false; stored_limited = false }
+
+abbrev pub no_plain : PlainRow
+no_plain = record { non_stored = false; reset = false; set = false; pulse = false; rising_pulse = false; falling_pulse = false }
 
 abbrev pub no_inputs : InputRow
 no_inputs = record {

@@ -9,8 +9,8 @@ invariant-steps l = record {
   sized : AreSized (length l.presets) l.inputs;
   inputs : marked_at l.tables.associations (places_from l.active l.at) l.inputs
       ≡ marked_at l.tables.associations (places_from l.active 0) l.initial.inputs;
-  presets : presets_at l.times l.tables.associations (places_from l.active l.at) l.presets
-      ≡ presets_at l.times l.tables.associations (places_from l.active 0) l.initial.presets;
+  presets : presets_at l.associations.times.now l.tables.associations (places_from l.active l.at) l.presets
+      ≡ presets_at l.associations.times.now l.tables.associations (places_from l.active 0) l.initial.presets;
   within : l.at ≤ length l.active;
   rises : l.initial.ticks.count ≤ l.ticks.count;
   ticks : l.ticks.count + (length l.active - l.at) + left l.tables.associations l.at

@@ -39,7 +39,7 @@ pub returns-clause-presets : goal.returns-clause-presets
 returns-clause-presets c =
     ap (λ v. v.items) c.settle.ensures.presets
     ∙ with_items_is c.args.self.now.presets c.mark_active.new.presets (omega arith) ∙ c.mark_active.ensures.presets
-    ∙ ap (presets_at c.args.times.now c.args.tables.now.associations (places_from c.args.active.now 0))
+    ∙ ap (presets_at c.args.associations.times.now c.args.tables.now.associations (places_from c.args.active.now 0))
     c.deref_mut.ensures.value
 
 pub returns-clause-inputs : goal.returns-clause-inputs

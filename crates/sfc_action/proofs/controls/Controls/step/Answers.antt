@@ -68,7 +68,7 @@ unfolding ControlsAgree
 returns-in-Some-clause-fault c scans h steps agrees =
     let tables = c.args.tables.now in
     let control_scan = c.read-settled.new.self in
-    let read : IsRead tables c.args.self.now c.active_flags.result.now c.args.times.now c.self.inside.control_scan.presets.items
+    let read : IsRead tables c.args.self.now c.active_flags.result.now c.args.associations.times.now c.self.inside.control_scan.presets.items
     control_scan.inputs control_scan.presets.items control_scan.stores = record {
       sound = c.steps-steps.ensures.tables;
       same_times = c.requires.times;
@@ -79,7 +79,7 @@ returns-in-Some-clause-fault c scans h steps agrees =
     } in
     sym c.in-Some.is ∙ c.first_fault.ensures.fault
     ∙ ap (first_in (fault_at control_scan.inputs control_scan.stores)) c.step_actions.ensures
-    ∙ fault_read tables c.args.self.now c.active_flags.result.now c.args.times.now c.self.inside.control_scan.presets.items control_scan.inputs
+    ∙ fault_read tables c.args.self.now c.active_flags.result.now c.args.associations.times.now c.self.inside.control_scan.presets.items control_scan.inputs
     control_scan.presets.items control_scan.stores c.args.t h read agrees.each
     (evolution.active_steps tables (evolution.rows_of tables scans)) (c.active_flags.ensures.flags tables scans steps)
 
@@ -93,7 +93,7 @@ returns-clause-sizes c =
     (subst (λ (k : ControlState). IsActed control_scan.inputs control_scan.stores control_scan.presets.items t k c.act.new.self) same c.act.ensures.acted))
 
 -- what the control scan has read
-read_of : (c : goal.After-act) → IsRead c.args.tables.now c.args.self.now c.active_flags.result.now c.args.times.now
+read_of : (c : goal.After-act) → IsRead c.args.tables.now c.args.self.now c.active_flags.result.now c.args.associations.times.now
     c.self.inside.control_scan.presets.items c.read-settled.new.self.inputs c.read-settled.new.self.presets.items c.read-settled.new.self.stores
 read_of c = record {
   sound = c.steps-steps.ensures.tables;
@@ -111,7 +111,7 @@ returns-clause-fault c scans h steps agrees =
     let control_scan = c.read-settled.new.self in
     sym c.in_default.is ∙ c.first_fault.ensures.fault
     ∙ ap (first_in (fault_at control_scan.inputs control_scan.stores)) c.step_actions.ensures
-    ∙ fault_read tables c.args.self.now c.active_flags.result.now c.args.times.now c.self.inside.control_scan.presets.items control_scan.inputs
+    ∙ fault_read tables c.args.self.now c.active_flags.result.now c.args.associations.times.now c.self.inside.control_scan.presets.items control_scan.inputs
     control_scan.presets.items control_scan.stores c.args.t h (read_of c) agrees.each
     (evolution.active_steps tables (evolution.rows_of tables scans)) (c.active_flags.ensures.flags tables scans steps)
 
@@ -133,7 +133,7 @@ returns-clause-agrees c scans h steps agrees =
     record {
       size = next_size tables c.args.self.now c.act.new.self control_scan.inputs control_scan.presets.items control_scan.stores c.args.t
           (are_for tables c.args.self.now c.requires.sizes) at;
-      each = state_read tables c.args.self.now c.active_flags.result.now c.args.times.now c.self.inside.control_scan.presets.items
+      each = state_read tables c.args.self.now c.active_flags.result.now c.args.associations.times.now c.self.inside.control_scan.presets.items
           control_scan.inputs control_scan.presets.items control_scan.stores c.args.t h (read_of c) agrees.each c.act.new.self
           (evolution.active_steps tables (evolution.rows_of tables scans)) (c.active_flags.ensures.flags tables scans steps)
           (are_for tables c.args.self.now c.requires.sizes) faultless at;
