@@ -2,11 +2,8 @@
 use Rattle.std.specs.Prelude.{◌≡◌, ◌⊎◌, ℕ, ◌<◌, List, [], ◌∷◌, ℤ, pos, slice_get}
 use Rattle.std.specs.Prelude.{Option, Some, Result, Ok, Err}
 use Rattle.sfc_base.specs.declared.ids.ProgId.{ProgId}
-use Rattle.sfc_events.specs.declared.command.Answer.{Answer}
-use Rattle.sfc_events.specs.declared.command.Command.{Command}
 use Rattle.sfc_events.specs.declared.command.Command.TheVariants.{BreakIf}
 use Rattle.sfc_events.specs.declared.command.Point.{Point}
-use Rattle.sfc_events.specs.declared.refusal.Refusal.{Refusal}
 use Rattle.sfc_debug.specs.declared.break_condition.BreakCondition.{BreakCondition}
 use Rattle.sfc_debug.specs.declared.debugger.Debugger.{Debugger}
 use Rattle.sfc_debug.specs.Histories.{CommandHistory, TimedCommand}
