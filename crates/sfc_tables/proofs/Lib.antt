@@ -8,3 +8,5 @@ pub mod Places
 pub mod RankOrders
 pub mod Rankings
 pub mod Sound
+-- conditions that ask for a least time of a step
+pub mod LeastTimes

@@ -106,4 +106,11 @@ module _ (counts : Counts) (chart : Chart) (sound : IsChart counts chart)
 -- the tables that the definitions give are the tables of the chart
 pub tables_of_made : (chart : Chart) → IsTablesOf chart (tables_of chart)
 tables_of_made chart =
-    record { initial = refl; sides = refl; ranked = rank_order_ranks (priorities_of chart.transitions); actions = refl; associations = refl }
+    record {
+      initial = refl;
+      sides = refl;
+      least_times = refl;
+      ranked = rank_order_ranks (priorities_of chart.transitions);
+      actions = refl;
+      associations = refl;
+    }

@@ -4,6 +4,8 @@
 pub mod Ranks
 -- the actions of a chart and their numbers
 pub mod Actions
+-- conditions that ask for a least time of a step
+pub mod LeastTimes
 -- the tables of a chart
 pub mod Tables
 -- the transitions that a step is the first to precede

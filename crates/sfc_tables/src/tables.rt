@@ -12,6 +12,7 @@ use std::marker::Model;
 pub struct Tables {
     initial: Vec<bool>,
     links: Links,
+    least_times: Vec<Option<LeastTime>>,
     ranked: Vec<TransitionId>,
     blocks: ActionBlocks,
     departures: GroupedPlaces,
@@ -23,6 +24,7 @@ impl Drop for Tables {
         let Tables {
             initial: _,
             links: _,
+            least_times: _,
             ranked: _,
             blocks: _,
             departures: _,
@@ -36,10 +38,11 @@ impl Model for Tables {
 
     ghost Value = { Tabled };
 
-    ghost view = { λ tables. tabled tables.initial.items tables.links tables.ranked.items tables.blocks };
+    ghost view = { λ tables. tabled tables.initial.items tables.links tables.least_times.items tables.ranked.items
+        tables.blocks };
 
-    ghost invariant = { λ tables. AreKept tables.initial.items tables.links tables.ranked.items tables.blocks
-        tables.departures };
+    ghost invariant = { λ tables. AreKept tables.initial.items tables.links tables.least_times.items tables.ranked.items
+        tables.blocks tables.departures };
 }
 
 ghost use Rattle.std.specs.Prelude.{◌≡◌, ◌<◌, ◌≤◌, ◌==◌, ◌-◌, map, filter, length, slice_get, Some, IfOk};
@@ -47,9 +50,10 @@ ghost use Rattle.sfc_flags.specs.Flags.{flag};
 ghost use Rattle.sfc_tables.specs.Actions.{number_of};
 ghost use Rattle.sfc_plant.specs.Chart.{Counts, IsChart};
 ghost use Rattle.sfc_tables.specs.Departures.{departures};
-ghost use Rattle.sfc_tables.specs.Tables.{sides_at, tables_of, IsTablesOf, AreTables};
+ghost use Rattle.sfc_tables.specs.Tables.{sides_at, least_time_at, tables_of, IsTablesOf, AreTables};
 
 use crate::departures::list_departures;
+use crate::least_time::{LeastTime, list_least_times};
 use crate::rank;
 use crate::step_action::StepAction;
 use sfc_base::ids::ActionNumber;
@@ -74,12 +78,14 @@ impl Tables {
     {
         let initial = initial_steps(alloc, chart.steps.as_slice())?;
         let links = Links::build(alloc, chart.transitions.as_slice())?;
+        let least_times = list_least_times(alloc, chart.transitions.as_slice())?;
         let ranked = rank::rank_order(alloc, chart.transitions.as_slice())?;
         let blocks = ActionBlocks::build(alloc, chart)?;
         let departures = list_departures(alloc, initial.len(), &links, &ranked)?;
         Ok(Tables {
             initial,
             links,
+            least_times,
             ranked,
             blocks,
             departures,
@@ -139,6 +145,14 @@ impl Tables {
         ensures { result.now ≡ (sides_at self.now.sides transition).following }
     {
         self.links.following(transition)
+    }
+
+    /// The least time of a step for which the condition of this transition asks, if it asks for that alone (2.6.2, 2.6.3).
+    pub fn least_time(&self, transition: TransitionId) -> Option<LeastTime>
+        requires { transition.0 < length self.now.sides }
+        ensures { result ≡ least_time_at self.now.least_times transition }
+    {
+        self.least_times[transition.0 as usize]
     }
 
     /// All transitions in rank order: those of lower priority numbers first, then those without a number, and each time

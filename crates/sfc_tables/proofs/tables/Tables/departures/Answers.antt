@@ -1,7 +1,6 @@
-use Rattle.std.proofs.Common.{◌≡◌, ◌<◌, ◌∙◌, ap, length, List, ℕ, [], arith}
-use Rattle.std.specs.Prelude.{map, slice_index_or}
-use Rattle.std.specs.List.{range_with_len}
-use Rattle.std.proofs.lemmas.List.FromFn.{length-map-range_with_len, get_or-map-range_with_len}
+use Rattle.std.proofs.Common.{◌<◌, ◌∙◌, ap, length, List, ℕ, [], arith}
+use Rattle.std.specs.Prelude.{slice_index_or}
+use Rattle.std.proofs.lemmas.List.FromFn.{get_or-map-range_with_len}
 use Rattle.sfc_tables.specs.Departures.{departures}
 use Rattle.sfc_tables.specs.Tables.{Tabled}
 use Rattle.sfc_tables.specs.Private.Blocks.{tabled}
@@ -10,7 +9,7 @@ use Rattle.sfc_tables.proofs.tables.Tables.departures.Goals as goal
 pub returns : goal.returns
 returns c =
     let s = c.args.step.0 in
-    let tables : Tabled = tabled c.self.inside.initial.items c.self.inside.links c.self.inside.ranked.items c.self.inside.blocks in
+    let tables : Tabled = tabled c.self.inside.initial.items c.self.inside.links c.self.inside.least_times.items c.self.inside.ranked.items c.self.inside.blocks in
     let same = ap (λ (t : Tabled). length t.initial) c.self.view_is in
     let lt : s < length tables.initial = omega (arith, same, c.requires) in
     c.of_group.ensures
