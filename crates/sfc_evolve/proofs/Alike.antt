@@ -1,6 +1,6 @@
 -- Steps that are alike agree with the same scans, and what is alike before a scan is close after it.
 use denote.Struct.Props.{props}
-use Rattle.std.proofs.Common.{◌≡◌, ℕ, ◌<◌, Bool, true, false, cond, List, length, ℤ, ◌-ℤ◌, refl, sym, ◌∙◌, ap, subst, arith}
+use Rattle.std.proofs.Common.{◌≡◌, ℕ, ◌<◌, false, cond, List, length, ℤ, ◌-ℤ◌, sym, ◌∙◌, ap, subst, arith}
 use Rattle.sfc_flags.specs.Flags.{flag}
 use Rattle.sfc_tables.specs.Tables.{Tabled}
 use Rattle.sfc_evolve.specs.declared.steps.Steps.{Steps}
@@ -10,10 +10,6 @@ use Rattle.sfc_evolve.specs.Private.Keeping.{number}
 use Rattle.sfc_evolve.specs.Private.Proposing.{AreProposed}
 use Rattle.sfc_evolve.proofs.Close.{Kept}
 use Rattle.sfc_evolve.proofs.Copied.{joined, all_taken}
-
-time_of : (b : Bool) (x y k l : ℤ) → x ≡ y → (b ≡ false → k ≡ l) → cond b x k ≡ cond b y l
-time_of true x y k l same off = same
-time_of false x y k l same off = off refl
 
 pub followed : (tables : Tabled) (a b : Steps) (scans : List Scan) → Likeness a b → a.cleared ≡ b.cleared → a.on ≡ b.on
     → StepsAgree tables b scans → StepsAgree tables a scans
@@ -25,9 +21,7 @@ followed tables a b scans like cleared on k = record {
     activity = λ s lt. ap (λ f. flag f s) like.active ∙ k.fields.activity s lt;
     time = λ s lt now.
         k.fields.time s lt now
-        ∙ ap (λ f. cond (flag f s) (now -ℤ number b.since.items s) (number b.held_times.items s)) (sym like.active)
-        ∙ time_of (flag a.active s) (now -ℤ number b.since.items s) (now -ℤ number a.since.items s) (number b.held_times.items s)
-        (number a.held_times.items s) (ap (λ xs. now -ℤ number xs s) (sym like.since)) (λ off. sym (like.held_times s off));
+        ∙ (λ i. cond (flag (sym like.active i) s) (now -ℤ number (sym like.since i) s) (number (sym like.held_times i) s));
     clearing = λ tr. ap (λ f. flag f tr) cleared ∙ k.fields.clearing tr;
     activation = λ s lt. ap (λ f. flag f s) on ∙ k.fields.activation s lt;
   };
@@ -55,7 +49,8 @@ close_after other old new like steps transitions keeps =
       active = λ s lt e quiet. (keeps s (omega (arith, lt, size)) (off s e) quiet).inactive;
       since = λ s lt e quiet.
           ap (λ xs. number xs s) like.since ∙ (keeps s (omega (arith, lt, size)) (off s e) quiet).since_is;
-      held_times = λ s lt e quiet. like.held_times s e ∙ (keeps s (omega (arith, lt, size)) (off s e) quiet).time_is;
+      held_times = λ s lt e quiet.
+          ap (λ xs. number xs s) like.held_times ∙ (keeps s (omega (arith, lt, size)) (off s e) quiet).time_is;
     }
 
 -- where the two are close, with the times of some steps taken over all are

@@ -1,6 +1,6 @@
 -- A scan in which the condition of one enabled transition alone is TRUE clears it, and no other.
 use Rattle.std.proofs.Common.{◌≡◌, ℕ, zero, suc, ◌+◌, ◌<◌, ◌==◌, ◌||◌, ◌&&◌, not, Bool, true, false, cond, List, [], ◌∷◌, length}
-use Rattle.std.proofs.Common.{refl, sym, ap, ◌∙◌, arith, ℤ, pos, ◌-ℤ◌}
+use Rattle.std.proofs.Common.{refl, sym, ap, ◌∙◌, arith, ℤ, ◌-ℤ◌}
 use Rattle.std.specs.Prelude.{replicate, slice_set}
 use Rattle.std.specs.List.{list_any}
 use Rattle.std.proofs.lemmas.Bool.Decides.{nat_tests}
@@ -12,7 +12,7 @@ use Rattle.sfc_evolve.specs.Marks.{has, marked}
 use Rattle.sfc_evolve.specs.Clearing.{step_count, transition_count, preceding_of, following_of, is_enabled, of_rank, cleared_set, MayClear}
 use Rattle.sfc_evolve.specs.Evolution.{IsAlone, some_cleared}
 use Rattle.sfc_evolve.specs.Private.Keeping.{AllBelow, number, unmarked, left_at, put_at}
-use Rattle.sfc_evolve.proofs.Flagged.{one_set, flag-marked, flag-unmarked, length-unmarked, number-left_at, number-put_at, length-left_at}
+use Rattle.sfc_evolve.proofs.Flagged.{one_set, flag-marked, flag-unmarked, length-unmarked, number-left_at, number-put_at}
 use Rattle.sfc_evolve.proofs.Next.{HasMoved, Advanced, none_set, none_from}
 use Rattle.sfc_evolve.proofs.Placed.{one_rank, only_set}
 use Rattle.sfc_evolve.proofs.TableFacts.{all_preceding_below, all_following_below}
@@ -140,14 +140,6 @@ module _ (tables : Tabled) (sound : AreTables tables) (active : List Bool) (sinc
         ∙ (λ i. flag-unmarked n pre active s la pre_below i || sym (comes s) i)
         ∙ ap (λ b. (not b && flag active s) || flag on' s) (sym (counts (preceding_of tables.sides) s));
   }
-
-  -- the times of steps that begin are 0
-  pub zeroed_alone : (times : List ℤ) → times ≡ put_at (pos 0) fol held_times' → (s : ℕ)
-      → number times s ≡ cond (flag on' s) (pos 0) (number held_times' s)
-  zeroed_alone times zeros s =
-      ap (λ xs. number xs s) zeros
-      ∙ number-put_at n (pos 0) fol held_times' s (ap length keeps ∙ length-left_at t since pre held_times ∙ lk) fol_below
-      ∙ ap (λ b. cond b (pos 0) (number held_times' s)) (sym (comes s))
 
   -- it was enabled
   pub enabled_alone : (x : ℕ → Bool) → is_enabled x pre ≡ true → (tr : ℕ) → flag cleared' tr ≡ true

@@ -10,7 +10,7 @@ use Rattle.std.proofs.lemmas.List.Elements.{All-nil, All-cons, All-head, All-tai
 use Rattle.sfc_base.specs.declared.references.StepId.{StepId}
 use Rattle.sfc_flags.specs.Flags.{flag, set_from, places_from}
 use Rattle.sfc_evolve.specs.Marks.{has, marked}
-use Rattle.sfc_evolve.specs.Private.Keeping.{AllBelow, number, unmarked, changed_by, left_at, left_by, put_at, begun_at, set_at, measured_at}
+use Rattle.sfc_evolve.specs.Private.Keeping.{AllBelow, number, unmarked, changed_by, left_at, left_by, put_at, begun_at, set_at}
 use Rattle.sfc_evolve.proofs.Looks.{bool_cases}
 
 -- ---- one write
@@ -112,17 +112,6 @@ number-begun_at n t (p ∷ places) since s long below =
     number-begun_at n t places (slice_set since p t) s (length-set _ _ _ ∙ long) (All-tail (λ p. p < n) p places below)
     ∙ ap (λ k. cond (list_any (λ p. p == s) places) t k) (one_put since t p s (omega arith))
     ∙ put_step (list_any (λ p. p == s) places) (p == s) t t (number since s) (λ e. refl)
-
-pub number-measured_at : (n : ℕ) (t : ℤ) (since : List ℤ) (places : List ℕ) (times : List ℤ) (s : ℕ) → length times ≡ n → All (λ p. p < n) places
-    → number (measured_at t since places times) s ≡ cond (list_any (λ p. p == s) places) (t -ℤ number since s) (number times s)
-number-measured_at n t since [] times s long below = refl
-number-measured_at n t since (p ∷ places) times s long below =
-    let here = All-head (λ p. p < n) p places below in
-    let v = t -ℤ number since p in
-    number-measured_at n t since places (slice_set times p v) s (length-set _ _ _ ∙ long) (All-tail (λ p. p < n) p places below)
-    ∙ ap (λ k. cond (list_any (λ p. p == s) places) (t -ℤ number since s) k) (one_put times v p s (omega arith))
-    ∙ put_step (list_any (λ p. p == s) places) (p == s) (t -ℤ number since s) v (number times s)
-    (λ e. let same : p ≡ s = grind (arith, nat_tests) in ap (λ k. t -ℤ number since k) same)
 
 pub flag-set_at : (n : ℕ) (places : List ℕ) (flags : List Bool) (s : ℕ) → length flags ≡ n → All (λ p. p < n) places
     → flag (set_at places flags) s ≡ (list_any (λ p. p == s) places || flag flags s)

@@ -7,7 +7,8 @@ use Rattle.std.proofs.Math.Seq.{drop-cons}
 use Rattle.std.proofs.lemmas.Int.{ints}
 use Rattle.std.proofs.lemmas.List.{drop_all}
 use Rattle.sfc_base.specs.declared.references.StepId.{StepId}
-use Rattle.sfc_evolve.specs.Private.Keeping.{AreInstants, number, left_at, put_at, begun_at, measured_at}
+use Rattle.sfc_evolve.specs.Evolution.{AreInstants}
+use Rattle.sfc_evolve.specs.Private.Keeping.{number, left_at, put_at, begun_at}
 
 -- an instant fits in 64 bits
 pub same_instant : (x : ℤ) → pos 0 ≤ℤ x → x ≤ℤ pos (2 ^ 62) → to_z w64 (of_z w64 x) ≡ x
@@ -51,23 +52,11 @@ module _ (t t' : ℤ) (same : t' ≡ t) (since : List ℤ) where
       sym (ap (λ (xs : List StepId). put_at t' xs times) (drop_all i steps le)) ∙ rest
       ∙ ap (λ (x : ℤ). put_at x steps before) same
 
-  -- one place more is measured
-  pub measured_one : (places more : List ℕ) (s : ℕ) (times : List ℤ) (v : ℤ) → places ≡ s ∷ more → v ≡ (t -ℤ number since s)
-      → measured_at t' since more (slice_set times s v) ≡ measured_at t' since places times
-  measured_one places more s times v is e = rw (e, same, is) refl
-
   -- all places have begun
   pub begun_all : (left all : List ℕ) (before : List ℤ) → left ≡ [] → begun_at t' left since ≡ begun_at t' all before
       → since ≡ begun_at t all before
   begun_all left all before none rest =
       sym (ap (λ (places : List ℕ). begun_at t' places since) none) ∙ rest ∙ ap (λ (x : ℤ). begun_at x all before) same
-
-  -- all places are measured
-  pub measured_all : (left all : List ℕ) (times before : List ℤ) → left ≡ []
-      → measured_at t' since left times ≡ measured_at t' since all before → times ≡ measured_at t since all before
-  measured_all left all times before none rest =
-      sym (ap (λ (places : List ℕ). measured_at t' since places times) none) ∙ rest
-      ∙ ap (λ (x : ℤ). measured_at x since all before) same
 
 -- an instant set keeps them instants
 pub begun_instants : (t t' : ℤ) (since : List ℤ) (s : ℕ) → t' ≡ t → pos 0 ≤ℤ t → t ≤ℤ pos (2 ^ 62) → AreInstants since

@@ -1,6 +1,5 @@
 pub mod Alike
 pub mod Alone
-pub mod Begun
 pub mod Cleared
 pub mod Close
 pub mod Copied
@@ -9,7 +8,6 @@ pub mod Flagged
 pub mod Instants
 pub mod Listed
 pub mod Looks
-pub mod Measured
 pub mod Next
 pub mod NumberedLooks
 pub mod Pasts
@@ -19,5 +17,6 @@ pub mod Skipped
 pub mod Stayed
 pub mod TableFacts
 pub mod Tested
+pub mod Walked
 pub mod Works
 pub mod Shown

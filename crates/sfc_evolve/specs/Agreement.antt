@@ -15,13 +15,17 @@ step_total steps = length steps.active
 abbrev pub transition_total : Steps → ℕ
 transition_total steps = length steps.cleared
 
--- the times of its steps, as they were last worked out
-unfoldable pub measured_times : Steps → List ℤ
-measured_times steps = steps.held_times.items
+-- when each step was last activated
+unfoldable pub since_of : Steps → List ℤ
+since_of steps = steps.since.items
+
+-- the time that each step kept when it was left
+unfoldable pub held_times_of : Steps → List ℤ
+held_times_of steps = steps.held_times.items
 
 -- the time of a step at t, as it is answered: for each history that agrees it is the step's time (`laws::shown_times`)
 unfoldable pub shown_time : Steps → ℤ → ℕ → ℤ
-shown_time steps t s = cond (flag steps.active s) (t -ℤ number steps.since.items s) (number steps.held_times.items s)
+shown_time steps t s = cond (flag steps.active s) (t -ℤ number (since_of steps) s) (number (held_times_of steps) s)
 
 -- it is as large as the tables
 pub record IsFor (tables : Tabled) (steps : Steps) : Type 0 where
@@ -42,18 +46,12 @@ StepsAgree tables steps scans = Keeps tables steps scans
 unfoldable pub Enables : Tabled → Steps → ℕ → Type 0
 Enables tables steps transition = is_enabled (flag steps.active) (preceding_of tables.sides transition) ≡ true
 
--- Its times are those of all steps at t: those of active steps are worked out, and the others are what they kept. For each history
--- that agrees they are the steps' times (`laws::shown_times`).
-unfoldable pub AreMeasured : ℤ → Steps → Type 0
-AreMeasured t steps = (s : ℕ) → s < step_total steps → number steps.held_times.items s ≡ shown_time steps t s
-
--- They keep the same, but for the transitions that the latest scan cleared, the steps that it activated, and the times of active steps,
--- which are worked out.
+-- They keep the same, but for the transitions that the latest scan cleared and the steps that it activated.
 pub record Likeness (a b : Steps) : Type 0 where
   pub begun : a.begun ≡ b.begun
   pub active : a.active ≡ b.active
   pub since : a.since.items ≡ b.since.items
-  pub held_times : (s : ℕ) → flag a.active s ≡ false → number a.held_times.items s ≡ number b.held_times.items s
+  pub held_times : a.held_times.items ≡ b.held_times.items
   pub candidates : a.candidates ≡ b.candidates
   pub transitions : transition_total a ≡ transition_total b
 

@@ -113,6 +113,12 @@ pub fn copy_moved(
     ensures held_times { (s : ℕ) → s < length since.old → number held_times.new s
         ≡ cond (flag active.now s || flag on.now s) (number from.entry.held_times.now s) (number held_times.old s) }
 {
+    // One word, as up to 64 steps have, without a loop.
+    if active.words() == 1 {
+        let moved = active.word(0).or(on.word(0));
+        copy_word(since, held_times, from, 0, moved);
+        return;
+    }
     for number in 0..active.words() {
         let moved = active.word(number).or(on.word(number));
         copy_word(since, held_times, from, number, moved);

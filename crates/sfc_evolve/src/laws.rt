@@ -1,7 +1,7 @@
 //! What holds of the definitions themselves. Each law is a function with an empty body, whose contract is the law.
 
 ghost use Rattle.std.specs.Prelude.{◌≡◌, ◌<◌, ◌≤◌, ◌↔◌, ◌∷◌, ◌++◌, ◌-ℤ◌, ◌&&◌};
-ghost use Rattle.std.specs.Prelude.{[], ℕ, ℤ, Bool, List, length, pos, true, false};
+ghost use Rattle.std.specs.Prelude.{[], ℕ, ℤ, Bool, List, length, pos, true, false, cond, slice_index_or};
 ghost use Rattle.sfc_flags.specs.Flags.{flag};
 ghost use Rattle.sfc_tables.specs.Tables.{Tabled, AreTables};
 ghost use Rattle.sfc_evolve.specs.Clearing.{transition_count};
@@ -12,9 +12,9 @@ ghost use Rattle.sfc_evolve.specs.Clearing.{of_rank, shares, IsClearedSet};
 ghost use Rattle.sfc_evolve.specs.ScanNumbers.{IsActiveSince, IsLatest, NoneBetween, activated_at, deactivated_at};
 ghost use Rattle.sfc_evolve.specs.ScanNumbers.{scan_instant_at};
 ghost use Rattle.sfc_evolve.specs.Clearing.{step_count};
-ghost use Rattle.sfc_evolve.specs.Evolution.{rows_of, step_times};
+ghost use Rattle.sfc_evolve.specs.Evolution.{rows_of, active_steps, step_times};
 ghost use Rattle.sfc_evolve.specs.declared.steps.Steps.{Steps};
-ghost use Rattle.sfc_evolve.specs.Agreement.{StepsAgree, shown_time, measured_times, AreMeasured};
+ghost use Rattle.sfc_evolve.specs.Agreement.{StepsAgree, shown_time, since_of, held_times_of};
 ghost use Rattle.sfc_evolve.specs.Past.{steps_past, past_in};
 
 /// The pass over the transitions in rank order gives the one set in which a transition stands exactly when it may
@@ -65,12 +65,15 @@ pub fn first_scan()
         (s : ℕ) → is_active tables (row_after tables [] scan ∷ []) s ≡ flag tables.initial s }
 {}
 
-/// The time of a step that is answered is the step's time after all scans that agree, and so are those that were worked out (2.6.2).
+/// The time of a step that is answered is the step's time after all scans that agree, and so is that worked out by its flag
+/// among those of active steps, when it was last activated, and the time that it kept (2.6.2).
 pub fn shown_times()
-    ensures measured { (tables : Tabled) (steps : Steps) (scans : List Scan) (t : ℤ) → StepsAgree tables steps scans →
-        AreMeasured t steps → measured_times steps ≡ step_times tables (rows_of tables scans) t }
     ensures shown { (tables : Tabled) (steps : Steps) (scans : List Scan) (s : ℕ) (t : ℤ) → StepsAgree tables steps scans →
         s < step_count tables → shown_time steps t s ≡ step_time tables (rows_of tables scans) s t }
+    ensures worked_out { (tables : Tabled) (steps : Steps) (scans : List Scan) (s : ℕ) (t : ℤ) → StepsAgree tables steps scans →
+        s < step_count tables → cond (flag (active_steps tables (rows_of tables scans)) s)
+        (t -ℤ slice_index_or (since_of steps) s (pos 0)) (slice_index_or (held_times_of steps) s (pos 0))
+        ≡ step_time tables (rows_of tables scans) s t }
 {}
 
 /// What is kept is the past of the scans: all that later answers need, and for all lists of scans of this past the same.

@@ -3,6 +3,7 @@
 ghost use Rattle.std.specs.Prelude.{All, ◌≡◌, ◌<◌, ◌+◌, ◌*◌, ℕ, false, true, length, replicate};
 ghost use Rattle.sfc_base.specs.Ticks.{Within};
 ghost use Rattle.sfc_flags.specs.Flags.{flag, places_from};
+ghost use Rattle.sfc_flags.specs.Words.{word_count};
 ghost use Rattle.sfc_tables.specs.Tables.{AreTables};
 ghost use Rattle.sfc_evolve.specs.Private.Keeping.{set_at};
 ghost use Rattle.sfc_evolve.specs.Private.Proposing.{proposed_by};
@@ -25,6 +26,24 @@ fn set_places(flags: &mut Flags, places: &[usize], ticks: &mut Ticks)
     }
 }
 
+// Proposes the transitions whose first preceding step is active, where one word has all steps.
+fn propose_word(tables: &Tables, active: &Flags, candidates: &mut Flags, ticks: &mut Ticks)
+    requires tables { AreTables tables.now }
+    requires one { word_count active.now ≡ 1 }
+    requires active_len { length active.now ≡ length tables.now.initial }
+    requires candidates_len { length candidates.old ≡ length tables.now.sides }
+    ensures flags { candidates.new ≡ proposed_by tables.now (places_from active.now 0) candidates.old }
+    ensures len { length candidates.new ≡ length candidates.old }
+    ensures ticks { Within (1 + length tables.now.sides) ticks.old ticks.new }
+{
+    ticks.tick();
+    let mut left = active.word(0);
+    'steps: while let Some((s, rest)) = left.split_first() {
+        set_places(candidates, tables.departures(StepId(s as u16)), ticks);
+        left = rest;
+    }
+}
+
 /// Proposes, by place in rank order, the transitions whose first preceding step is active, and no others.
 #[inline(always)]
 pub fn propose(tables: &Tables, active: &Flags, candidates: &mut Flags, ticks: &mut Ticks)
@@ -37,6 +56,11 @@ pub fn propose(tables: &Tables, active: &Flags, candidates: &mut Flags, ticks: &
     ensures ticks { Within (length tables.now.initial + 2 * length tables.now.sides) ticks.old ticks.new }
 {
     candidates.clear_all(ticks);
+    // One word, as up to 64 steps have, is walked by itself.
+    if active.words() == 1 {
+        propose_word(tables, active, candidates, ticks);
+        return;
+    }
     let mut at = 0;
     'steps: while let Some(s) = active.next_set(at, ticks) {
         set_places(candidates, tables.departures(StepId(s as u16)), ticks);

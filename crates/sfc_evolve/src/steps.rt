@@ -1,7 +1,7 @@
 //! The steps of a program instance, in running form.
 
 ghost use Rattle.std.specs.Prelude.{◌≡◌, length};
-ghost use Rattle.sfc_evolve.specs.Private.Keeping.{AreInstants};
+ghost use Rattle.sfc_evolve.specs.Evolution.{AreInstants};
 
 use crate::clearing::clear_in_order;
 use crate::copying::{KeptTimes, copy_flags, copy_moved, copy_times};
@@ -10,7 +10,7 @@ use crate::marks::{all_set, is_blank, mark, unmark};
 use crate::new_sets::{three_sets, two_lists, two_sets};
 use crate::proposing::propose;
 use crate::starting::start;
-use crate::times::{Activated, begin, begin_steps, leave, measure_active, time_since};
+use crate::times::{Activated, begin, begin_steps, leave, time_since};
 use sfc_base::ids::TransitionId;
 use sfc_base::references::StepId;
 use sfc_base::ticks::Ticks;
@@ -54,7 +54,7 @@ impl Drop for Steps {
     }
 }
 
-#[tactic(auto, unfolding(crate::specs::Agreement::StepsAgree, crate::specs::Agreement::measured_times))]
+#[tactic(auto, unfolding(crate::specs::Agreement::StepsAgree, crate::specs::Agreement::since_of, crate::specs::Agreement::held_times_of))]
 impl Steps {
     ghost use Rattle.std.specs.Prelude.{◌≡◌, ◌<◌, ◌≤ℤ◌, ◌^◌, ◌+◌, ◌*◌, ◌∷◌, [], List, Bool, ℕ, ℤ, pos, not, true, false, length, IfOk};
     ghost use Rattle.sfc_base.specs.Ticks.{Within};
@@ -62,13 +62,15 @@ impl Steps {
     ghost use Rattle.sfc_tables.specs.Tables.{Tabled, AreTables};
     ghost use Rattle.sfc_evolve.specs.Lookback.{is_empty};
     ghost use Rattle.sfc_evolve.specs.Clearing.{is_enabled};
-    ghost use Rattle.sfc_evolve.specs.Evolution.{Scan, AreFalse, IsAlone, rows_of, is_active, active_steps, step_time};
+    ghost use Rattle.sfc_evolve.specs.Evolution.{Scan, AreFalse, IsAlone, AreInstants, rows_of, is_active, active_steps, step_time};
     ghost use Rattle.sfc_evolve.specs.Clearing.{preceding_of};
     ghost use Rattle.sfc_evolve.specs.Evolution.{was_cleared, was_activated};
     ghost use Rattle.sfc_evolve.specs.Clearing.{of_rank};
     ghost use Rattle.sfc_evolve.specs.Work.{advance_work};
+    ghost use Rattle.sfc_evolve.specs.Marks.{marked};
+    ghost use Rattle.sfc_evolve.specs.Private.Keeping.{AllBelow, unmarked, left_at, put_at};
     ghost use Rattle.sfc_evolve.specs.declared.steps.Steps.{Steps};
-    ghost use Rattle.sfc_evolve.specs.Agreement.{IsFor, StepsAgree, step_total, transition_total, measured_times, shown_time, AreMeasured, Enables, IsLike, IsClose};
+    ghost use Rattle.sfc_evolve.specs.Agreement.{IsFor, StepsAgree, step_total, transition_total, since_of, held_times_of, shown_time, Enables, IsLike, IsClose};
 
     /// Before the first scan of a life. The one error is that memory was refused.
     pub fn new(alloc: Global, tables: &Tables) -> Result<Self, AllocError>
@@ -103,8 +105,7 @@ impl Steps {
 
     /// One scan at t, in microseconds from 0 to 2^62, with the condition of each transition in text order; those of
     /// transitions that aren't enabled don't matter (2.6.5). It takes no memory. Where it clears no transition the steps
-    /// stay as they are. Times that were worked out at t are still so. Answers whether steps may have moved: where it answers no, the
-    /// same ones are active as before, and times that were worked out at any instant are still so.
+    /// stay as they are. Answers whether steps may have moved: where it answers no, the same ones are active as before.
     pub fn advance(
         &mut self,
         tables: &Tables,
@@ -123,8 +124,6 @@ impl Steps {
         ensures same_steps { result ≡ false → (scans : List Scan) → StepsAgree tables.now self.old scans →
             active_steps tables.now (rows_of tables.now (record { conditions = conditions.now; at = t } ∷ scans))
             ≡ active_steps tables.now (rows_of tables.now scans) }
-        ensures measured { AreMeasured t self.old → AreMeasured t self.new }
-        ensures measured_still { result ≡ false → (now : ℤ) → AreMeasured now self.old → AreMeasured now self.new }
         ensures like { result ≡ false → (other : Steps) → IsLike other self.old → IsLike other self.new }
         ensures close { result ≡ true → (other : Steps) → IsLike other self.old → IsClose other self.new }
         ensures ticks { Within (advance_work tables.now) ticks.old ticks.new }
@@ -160,13 +159,7 @@ impl Steps {
             ticks,
         );
         let activated = Activated { flags: &self.on, t };
-        begin(
-            &mut self.active,
-            &mut self.since,
-            &mut self.held_times,
-            activated,
-            ticks,
-        );
+        begin(&mut self.active, &mut self.since, activated, ticks);
         propose(tables, &self.active, &mut self.candidates, ticks);
         self.begun = true;
         true
@@ -185,7 +178,6 @@ impl Steps {
             StepsAgree tables.now self.old scans →
             active_steps tables.now (rows_of tables.now (scan ∷ scans)) ≡ active_steps tables.now (rows_of tables.now scans) }
         ensures unchanged { result ≡ false → self.new ≡ self.old }
-        ensures measured { (now : ℤ) → AreMeasured now self.old → AreMeasured now self.new }
         ensures like { (other : Steps) → IsLike other self.old → IsLike other self.new }
         ensures ticks { Within (step_total self.old + transition_total self.old) ticks.old ticks.new }
         ensures ticks_of_no { result ≡ false → Within 0 ticks.old ticks.new }
@@ -199,9 +191,69 @@ impl Steps {
         true
     }
 
+    // This step is left at t, and that one begins.
+    fn leave_and_begin_one(&mut self, from: StepId, to: StepId, t: i64, ticks: &mut Ticks)
+        requires from { from.0 < step_total self.old }
+        requires to { to.0 < step_total self.old }
+        requires low { pos 0 ≤ℤ t }
+        requires high { t ≤ℤ pos (2 ^ 62) }
+        ensures active { self.new.active ≡ marked (to ∷ []) (unmarked (from ∷ []) self.old.active) }
+        ensures on { self.new.on ≡ marked (to ∷ []) self.old.on }
+        ensures since { self.new.since.items ≡ put_at t (to ∷ []) self.old.since.items }
+        ensures held_times { self.new.held_times.items ≡ left_at t self.old.since.items (from ∷ []) self.old.held_times.items }
+        ensures active_len { length self.new.active ≡ length self.old.active }
+        ensures cleared { self.new.cleared ≡ self.old.cleared }
+        ensures candidates { self.new.candidates ≡ self.old.candidates }
+        ensures begun { self.new.begun ≡ self.old.begun }
+        ensures ticks { Within 5 ticks.old ticks.new }
+    {
+        let left = from.0 as usize;
+        let begun = to.0 as usize;
+        self.held_times[left] = time_since(self.since[left], t);
+        self.active.set(left, false);
+        self.on.set(begun, true);
+        self.active.set(begun, true);
+        self.since[begun] = t;
+        ticks.tick_all(5);
+    }
+
+    // The preceding steps of a transition are left at t, and the following ones begin.
+    fn leave_and_begin(
+        &mut self,
+        preceding: &[StepId],
+        following: &[StepId],
+        t: i64,
+        ticks: &mut Ticks,
+    )
+        requires preceding { AllBelow (step_total self.old) preceding.now }
+        requires following { AllBelow (step_total self.old) following.now }
+        requires low { pos 0 ≤ℤ t }
+        requires high { t ≤ℤ pos (2 ^ 62) }
+        ensures active { self.new.active ≡ marked following.now (unmarked preceding.now self.old.active) }
+        ensures on { self.new.on ≡ marked following.now self.old.on }
+        ensures since { self.new.since.items ≡ put_at t following.now self.old.since.items }
+        ensures held_times { self.new.held_times.items ≡ left_at t self.old.since.items preceding.now self.old.held_times.items }
+        ensures active_len { length self.new.active ≡ length self.old.active }
+        ensures cleared { self.new.cleared ≡ self.old.cleared }
+        ensures candidates { self.new.candidates ≡ self.old.candidates }
+        ensures begun { self.new.begun ≡ self.old.begun }
+        ensures ticks { Within (2 * length preceding.now + 3 * length following.now) ticks.old ticks.new }
+    {
+        // One step before and one after, as most transitions have, without a loop.
+        if let ([from], [to]) = (preceding, following) {
+            self.leave_and_begin_one(*from, *to, t, ticks);
+            return;
+        }
+        leave(&mut self.held_times, &self.since, preceding, t, ticks);
+        unmark(&mut self.active, preceding, ticks);
+        mark(&mut self.on, following, ticks);
+        mark(&mut self.active, following, ticks);
+        begin_steps(&mut self.since, following, t, ticks);
+    }
+
     /// One scan at t in which the condition of this enabled transition alone is TRUE, t in microseconds from 0 to 2^62: answers whether it
     /// is done, with the outcome that `advance` has. It clears this transition (2.6.5). It answers no in the first scan of a life alone: then
-    /// nothing has changed, and the scan wants `advance`. It takes no memory. Times that were worked out at t are still so.
+    /// nothing has changed, and the scan wants `advance`. It takes no memory.
     pub fn clear(
         &mut self,
         tables: &Tables,
@@ -219,7 +271,6 @@ impl Steps {
             StepsAgree tables.now self.old scans → StepsAgree tables.now self.new (record { conditions = conditions; at = t } ∷ scans) }
         ensures begun { (scans : List Scan) → StepsAgree tables.now self.old scans → result ≡ not (is_empty scans) }
         ensures unchanged { result ≡ false → self.new ≡ self.old }
-        ensures measured { AreMeasured t self.old → AreMeasured t self.new }
         ensures close { result ≡ true → (other : Steps) → IsLike other self.old → IsClose other self.new }
         ensures ticks { Within (advance_work tables.now) ticks.old ticks.new }
         ensures ticks_of_no { result ≡ false → Within 0 ticks.old ticks.new }
@@ -233,11 +284,7 @@ impl Steps {
         self.on.clear_all(ticks);
         let preceding = tables.preceding(transition);
         let following = tables.following(transition);
-        leave(&mut self.held_times, &self.since, preceding, t, ticks);
-        unmark(&mut self.active, preceding, ticks);
-        mark(&mut self.on, following, ticks);
-        mark(&mut self.active, following, ticks);
-        begin_steps(&mut self.since, &mut self.held_times, following, t, ticks);
+        self.leave_and_begin(preceding, following, t, ticks);
         propose(tables, &self.active, &mut self.candidates, ticks);
         true
     }
@@ -278,7 +325,7 @@ impl Steps {
 
     /// The step's time at t: the time since its latest activation, and for a step that was left what it was then; 0
     /// where it was never active (2.6.2). In microseconds.
-    #[tactic(auto, unfolding(crate::specs::Agreement::StepsAgree, crate::specs::Agreement::shown_time))]
+    #[tactic(auto, unfolding(crate::specs::Agreement::StepsAgree, crate::specs::Agreement::shown_time, crate::specs::Agreement::since_of, crate::specs::Agreement::held_times_of))]
     pub fn elapsed(&self, step: StepId, t: i64) -> i64
         requires place { step.0 < step_total self.now }
         requires low { pos 0 ≤ℤ t }
@@ -295,26 +342,19 @@ impl Steps {
         }
     }
 
-    /// Works out the times of all steps at t, in microseconds from 0 to 2^62: those of steps that aren't active are what
-    /// they kept, so that only active ones are handled (2.6.2). It takes no memory.
-    pub fn measure(&mut self, t: i64, ticks: &mut Ticks)
-        requires low { pos 0 ≤ℤ t }
-        requires high { t ≤ℤ pos (2 ^ 62) }
-        ensures steps { step_total self.new ≡ step_total self.old }
-        ensures transitions { transition_total self.new ≡ transition_total self.old }
-        ensures agrees { (tables : Tabled) (scans : List Scan) → StepsAgree tables self.old scans →
-            StepsAgree tables self.new scans }
-        ensures measured { AreMeasured t self.new }
-        ensures like { (other : Steps) → IsLike other self.old → IsLike other self.new }
-        ensures close { (other : Steps) → IsClose other self.old → IsClose other self.new }
-        ensures ticks { Within (step_total self.old) ticks.old ticks.new }
+    /// When each step was last activated, in microseconds, by number (2.6.2).
+    pub fn since(&self) -> &[i64]
+        ensures value { result.now ≡ since_of self.now }
+        ensures len { length result.now ≡ step_total self.now }
+        ensures instants { AreInstants result.now }
     {
-        measure_active(&mut self.held_times, &self.since, &self.active, t, ticks);
+        &self.since
     }
 
-    /// The times of all steps by number, in microseconds, as they were last worked out.
-    pub fn times(&self) -> &[i64]
-        ensures { result.now ≡ measured_times self.now }
+    /// The time that each step kept when it was left, in microseconds, by number (2.6.2).
+    pub fn held_times(&self) -> &[i64]
+        ensures value { result.now ≡ held_times_of self.now }
+        ensures len { length result.now ≡ step_total self.now }
     {
         &self.held_times
     }

@@ -3,7 +3,8 @@
 ghost use Rattle.std.specs.Prelude.{◌≡◌, ◌≤ℤ◌, ◌-ℤ◌, ◌^◌, pos, length};
 ghost use Rattle.sfc_base.specs.Ticks.{Within};
 ghost use Rattle.sfc_flags.specs.Flags.{places_from};
-ghost use Rattle.sfc_evolve.specs.Private.Keeping.{AllBelow, AreInstants, left_at, put_at, begun_at, set_at, measured_at};
+ghost use Rattle.sfc_evolve.specs.Evolution.{AreInstants};
+ghost use Rattle.sfc_evolve.specs.Private.Keeping.{AllBelow, left_at, put_at, begun_at, set_at};
 
 use sfc_base::references::StepId;
 use sfc_base::ticks::Ticks;
@@ -37,41 +38,14 @@ pub fn leave(held_times: &mut [i64], since: &[i64], steps: &[StepId], t: i64, ti
     }
 }
 
-/// Gives each active step the time since it was last activated, as it is at t.
-pub fn measure_active(times: &mut [i64], since: &[i64], active: &Flags, t: i64, ticks: &mut Ticks)
-    requires low { pos 0 ≤ℤ t }
-    requires high { t ≤ℤ pos (2 ^ 62) }
-    requires instants { AreInstants since.now }
-    requires active_len { length active.now ≡ length since.now }
-    requires times_len { length times.old ≡ length since.now }
-    ensures times { times.new ≡ measured_at t since.now (places_from active.now 0) times.old }
-    ensures len { length times.new ≡ length times.old }
-    ensures ticks { Within (length active.now) ticks.old ticks.new }
-{
-    let mut at = 0;
-    'places: while let Some(s) = active.next_set(at, ticks) {
-        times[s] = time_since(since[s], t);
-        at = s + 1;
-    }
-}
-
-/// These steps begin at t, when their time is 0.
-pub fn begin_steps(
-    since: &mut [i64],
-    times: &mut [i64],
-    steps: &[StepId],
-    t: i64,
-    ticks: &mut Ticks,
-)
+/// These steps begin at t.
+pub fn begin_steps(since: &mut [i64], steps: &[StepId], t: i64, ticks: &mut Ticks)
     requires low { pos 0 ≤ℤ t }
     requires high { t ≤ℤ pos (2 ^ 62) }
     requires instants { AreInstants since.old }
-    requires times_len { length times.old ≡ length since.old }
     requires steps { AllBelow (length since.old) steps.now }
     ensures since { since.new ≡ put_at t steps.now since.old }
     ensures since_len { length since.new ≡ length since.old }
-    ensures times { times.new ≡ put_at (pos 0) steps.now times.old }
-    ensures times_len { length times.new ≡ length times.old }
     ensures instants { AreInstants since.new }
     ensures ticks { Within (length steps.now) ticks.old ticks.new }
 {
@@ -79,7 +53,6 @@ pub fn begin_steps(
         ticks.tick();
         let s = step.0 as usize;
         since[s] = t;
-        times[s] = 0;
     }
 }
 
@@ -90,25 +63,16 @@ pub struct Activated<'a> {
     pub t: i64,
 }
 
-/// These steps become active, and begin at the scan's instant, when their time is 0.
-pub fn begin(
-    active: &mut Flags,
-    since: &mut [i64],
-    times: &mut [i64],
-    activated: Activated<'_>,
-    ticks: &mut Ticks,
-)
+/// These steps become active, and begin at the scan's instant.
+pub fn begin(active: &mut Flags, since: &mut [i64], activated: Activated<'_>, ticks: &mut Ticks)
     requires low { pos 0 ≤ℤ activated.t }
     requires high { activated.t ≤ℤ pos (2 ^ 62) }
     requires instants { AreInstants since.old }
     requires on_len { length activated.flags.now ≡ length since.old }
     requires active_len { length active.old ≡ length activated.flags.now }
-    requires times_len { length times.old ≡ length since.old }
     ensures active { active.new ≡ set_at (places_from activated.entry.flags.now 0) active.old }
     ensures active_len { length active.new ≡ length active.old }
     ensures since { since.new ≡ begun_at activated.entry.t (places_from activated.entry.flags.now 0) since.old }
-    ensures times { times.new ≡ begun_at (pos 0) (places_from activated.entry.flags.now 0) times.old }
-    ensures times_len { length times.new ≡ length times.old }
     ensures instants { AreInstants since.new }
     ensures ticks { Within (length activated.entry.flags.now) ticks.old ticks.new }
 {
@@ -117,7 +81,6 @@ pub fn begin(
     'places: while let Some(s) = flags.next_set(at, ticks) {
         active.set(s, true);
         since[s] = t;
-        times[s] = 0;
         at = s + 1;
     }
 }

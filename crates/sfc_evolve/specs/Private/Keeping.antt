@@ -1,6 +1,6 @@
 -- What is kept of the scans of a life, in place of their rows.
-use Rattle.std.specs.Prelude.{All, ℕ, ◌≡◌, ◌<◌, ◌^◌, ◌+◌, ◌*◌, Bool, true, false, not, cond}
-use Rattle.std.specs.Prelude.{List, [], ◌∷◌, ℤ, pos, ◌-ℤ◌, ◌≤ℤ◌, length, slice_index_or, slice_set, sum_by}
+use Rattle.std.specs.Prelude.{All, ℕ, ◌≡◌, ◌<◌, ◌+◌, ◌*◌, Bool, true, false, not, cond}
+use Rattle.std.specs.Prelude.{List, [], ◌∷◌, ℤ, pos, ◌-ℤ◌, length, slice_index_or, slice_set, sum_by}
 use Rattle.sfc_base.specs.declared.references.StepId.{StepId}
 use Rattle.sfc_flags.specs.Flags.{flag}
 use Rattle.sfc_base.specs.declared.ids.TransitionId.{TransitionId}
@@ -15,10 +15,6 @@ AllBelow n steps = All (λ (step : StepId). step.0 < n) steps
 
 abbrev pub number : List ℤ → ℕ → ℤ
 number xs s = slice_index_or xs s (pos 0)
-
--- each is from 0 to 2^62
-abbrev pub AreInstants : List ℤ → Type 0
-AreInstants xs = (s : ℕ) → (pos 0 ≤ℤ number xs s) × (number xs s ≤ℤ pos (2 ^ 62))
 
 -- the flags with those of these steps cleared
 abbrev pub unmarked : List StepId → List Bool → List Bool
@@ -40,20 +36,15 @@ abbrev pub left_by : ℤ → List ℤ → (ℕ → List StepId) → List ℕ →
 left_by t since side [] held_times = held_times
 left_by t since side (tr ∷ trs) held_times = left_by t since side trs (left_at t since (side tr) held_times)
 
--- the times with those of these places as they are at t
-abbrev pub measured_at : ℤ → List ℤ → List ℕ → List ℤ → List ℤ
-measured_at t since [] times = times
-measured_at t since (s ∷ places) times = measured_at t since places (slice_set times s (t -ℤ number since s))
-
 -- the instants with those of these steps set
 abbrev pub begun_at : ℤ → List ℕ → List ℤ → List ℤ
 begun_at t [] since = since
 begun_at t (s ∷ places) since = begun_at t places (slice_set since s t)
 
--- the instants or times with those of these steps set
+-- the instants with those of these steps set
 abbrev pub put_at : ℤ → List StepId → List ℤ → List ℤ
-put_at t [] times = times
-put_at t (step ∷ steps) times = put_at t steps (slice_set times step.0 t)
+put_at t [] since = since
+put_at t (step ∷ steps) since = put_at t steps (slice_set since step.0 t)
 
 -- the flags with those of these places set
 abbrev pub set_at : List ℕ → List Bool → List Bool

@@ -1,7 +1,7 @@
-use Rattle.std.proofs.Common.{arith, ap, sym, length, List, ℕ, ◌+◌, ◌∙◌, pos}
+use Rattle.std.proofs.Common.{arith, ap, sym, length, List, ℕ, ◌+◌, ◌∙◌}
 use Rattle.std.proofs.lemmas.List.{length-set}
 use Rattle.sfc_flags.specs.Flags.{places_from, places_passed}
-use Rattle.sfc_evolve.specs.Private.Keeping.{begun_at, set_at}
+use Rattle.sfc_evolve.specs.Private.Keeping.{set_at}
 use Rattle.sfc_evolve.proofs.Instants.{same_instant, begun_all, begun_instants}
 use Rattle.sfc_evolve.proofs.times.begin.Goals as goal
 
@@ -11,14 +11,11 @@ places-preserved c =
     let was = c.places.invariant in
     let found = c.in-Some.ensures.some in
     let begun = rw found.2 at was.rest in
-    let zeros = rw found.2 at was.zeros in
     let marked = rw found.2 at was.marks in
     record {
       rest = cc;
-      zeros = zeros;
       marks = ap (set_at (places_from c.args.activated.flags.now (c.in-Some.s + 1))) c.set.ensures ∙ marked;
       active_length = ap length c.set.ensures ∙ length-set _ _ _ ∙ was.active_length;
-      times_length = length-set _ _ _ ∙ was.times_length;
       instants = begun_instants t _ c.places.since c.in-Some.s (same_instant t c.requires.low c.requires.high) c.requires.low
           c.requires.high was.instants;
       within = omega (arith, found.1);
@@ -35,10 +32,6 @@ pub returns-clause-since : goal.returns-clause-since
 returns-clause-since c =
     begun_all c.args.activated.t _ (same_instant c.args.activated.t c.requires.low c.requires.high) c.places.since _ (places_from c.args.activated.flags.now 0) c.args.since.now
     (c.next_set.ensures.none c.in_default.is) c.places.invariant.rest
-
-pub returns-clause-times : goal.returns-clause-times
-returns-clause-times c =
-    sym (ap (λ (places : List ℕ). begun_at (pos 0) places c.places.times) (c.next_set.ensures.none c.in_default.is)) ∙ c.places.invariant.zeros
 
 pub returns-clause-ticks : goal.returns-clause-ticks
 returns-clause-ticks c =

@@ -1,15 +1,14 @@
-use Rattle.std.proofs.Common.{◌≡◌, ◌≤◌, ◌+◌, ◌-◌, length, pos}
+use Rattle.std.proofs.Common.{◌≡◌, ◌≤◌, ◌+◌, ◌-◌, length}
 use Rattle.sfc_flags.specs.Flags.{places_from}
-use Rattle.sfc_evolve.specs.Private.Keeping.{AreInstants, begun_at, set_at}
+use Rattle.sfc_evolve.specs.Evolution.{AreInstants}
+use Rattle.sfc_evolve.specs.Private.Keeping.{begun_at, set_at}
 use Rattle.sfc_evolve.proofs.times.begin.Given as goal
 
 abbrev pub invariant-places : goal.invariant-places
 invariant-places l = record {
   rest : begun_at l.t (places_from l.flags l.at) l.since ≡ begun_at l.t (places_from l.flags 0) l.initial.since;
-  zeros : begun_at (pos 0) (places_from l.flags l.at) l.times ≡ begun_at (pos 0) (places_from l.flags 0) l.initial.times;
   marks : set_at (places_from l.flags l.at) l.active ≡ set_at (places_from l.flags 0) l.initial.active;
   active_length : length l.active ≡ length l.initial.active;
-  times_length : length l.times ≡ length l.initial.times;
   instants : AreInstants l.since;
   within : l.at ≤ length l.flags;
   rises : l.initial.ticks.count ≤ l.ticks.count;

@@ -1,4 +1,4 @@
-use Rattle.std.proofs.Common.{arith, get_or, length, ◌<◌, ◌∙◌, refl, pos}
+use Rattle.std.proofs.Common.{arith, get_or, length, ◌<◌, ◌∙◌}
 use Rattle.std.proofs.lemmas.List.{length-set}
 use Rattle.std.proofs.lemmas.List.Elements.{All-get_or}
 use Rattle.sfc_base.specs.declared.references.StepId.{StepId}
@@ -15,9 +15,7 @@ loop-step-preserved c =
     let same = same_instant t c.requires.low c.requires.high in
     record {
       rest = put_one t _ same c.args.since.now steps i c.loop-step.since c.loop-step-test.true ∙ was.rest;
-      zeros = put_one (pos 0) _ refl c.args.since.now steps i c.loop-step.times c.loop-step-test.true ∙ was.zeros;
       since_length = length-set _ _ _ ∙ was.since_length;
-      times_length = length-set _ _ _ ∙ was.times_length;
       instants = begun_instants t _ c.loop-step.since s same c.requires.low c.requires.high was.instants;
       ticks = (omega (arith, was.ticks.0), omega (arith, was.ticks.1));
     }
@@ -26,11 +24,6 @@ pub returns-clause-since : goal.returns-clause-since
 returns-clause-since c =
     put_all c.args.t _ (same_instant c.args.t c.requires.low c.requires.high) c.args.since.now c.args.steps.now
     c.loop-step.step-index c.loop-step.since c.args.since.now (omega arith) c.loop-step.invariant.rest
-
-pub returns-clause-times : goal.returns-clause-times
-returns-clause-times c =
-    put_all (pos 0) _ refl c.args.since.now c.args.steps.now
-    c.loop-step.step-index c.loop-step.times c.args.times.now (omega arith) c.loop-step.invariant.zeros
 
 pub bounds-since-s : goal.bounds-since-s
 bounds-since-s c =

@@ -1,14 +1,13 @@
-use Rattle.std.proofs.Common.{◌≡◌, drop, length, pos}
+use Rattle.std.proofs.Common.{◌≡◌, drop, length}
 use Rattle.sfc_base.specs.Ticks.{Within}
-use Rattle.sfc_evolve.specs.Private.Keeping.{AreInstants, put_at}
+use Rattle.sfc_evolve.specs.Evolution.{AreInstants}
+use Rattle.sfc_evolve.specs.Private.Keeping.{put_at}
 use Rattle.sfc_evolve.proofs.times.begin_steps.Given as goal
 
 abbrev pub invariant-loop-step : goal.invariant-loop-step
 invariant-loop-step l = record {
   rest : put_at l.t (drop l.step-index l.steps) l.since ≡ put_at l.t l.steps l.initial.since;
-  zeros : put_at (pos 0) (drop l.step-index l.steps) l.times ≡ put_at (pos 0) l.steps l.initial.times;
   since_length : length l.since ≡ length l.initial.since;
-  times_length : length l.times ≡ length l.initial.times;
   instants : AreInstants l.since;
   ticks : Within l.step-index l.initial.ticks l.ticks;
 }

@@ -1,18 +1,16 @@
-use Rattle.std.proofs.Common.{◌≡◌, ℕ, ◌∷◌, length, arith, ap, ◌∙◌, refl, sym, subst, SFits, w64, false, true, not, Bool, pos}
+use Rattle.std.proofs.Common.{◌≡◌, ◌∷◌, length, arith, ap, ◌∙◌, refl, sym, subst, SFits, w64, false, true, not, Bool}
 use Rattle.std.proofs.lemmas.Int.{to_z-of_z}
 use Rattle.std.proofs.lemmas.List.{with_items_is, length-replicate}
-use Rattle.std.specs.Prelude.{replicate, cond, ◌-ℤ◌}
-use Rattle.std.specs.Vec.{with_items}
+use Rattle.std.specs.Prelude.{replicate}
 use Rattle.sfc_flags.specs.Flags.{flag, places_from}
-use Rattle.sfc_evolve.specs.Agreement.{StepsAgree, AreMeasured, shown_time, IsLike, IsClose}
+use Rattle.sfc_evolve.specs.Agreement.{StepsAgree, IsLike, IsClose}
 use Rattle.sfc_evolve.specs.Lookback.{is_empty}
-use Rattle.sfc_evolve.specs.Evolution.{Scan, rows_of, is_active}
+use Rattle.sfc_evolve.specs.Evolution.{Scan, AreInstants, rows_of, is_active}
 use Rattle.sfc_evolve.proofs.Alike.{close_after}
 use Rattle.sfc_evolve.proofs.Close.{kept}
 use Rattle.sfc_evolve.proofs.Listed.{listed}
 use Rattle.sfc_evolve.specs.Clearing.{step_count, transition_count, preceding_of}
-use Rattle.sfc_evolve.specs.Private.Keeping.{AreInstants, FieldsAgree, left_by, begun_at, number}
-use Rattle.sfc_evolve.proofs.Begun.{fields_begun, begun_measured, zeroed}
+use Rattle.sfc_evolve.specs.Private.Keeping.{FieldsAgree, left_by, begun_at, number}
 use Rattle.sfc_evolve.proofs.Next.{Advanced, HasMoved, advanced, moved_on, fields_next, fields_at, quiet, left_active}
 use Rattle.sfc_evolve.specs.Private.Proposing.{AreProposed}
 use Rattle.sfc_evolve.proofs.Proposed.{proposed}
@@ -24,7 +22,7 @@ not_true true e = absurd (let bad : false ≡ true = e in cc)
 not_true false e = refl
 
 -- the lengths of all that is kept
-record Sizes (c : goal.After-self-5-1) : Type 0 where
+record Sizes (c : goal.After-self-4-1) : Type 0 where
   active : length c.args.self.now.active ≡ step_count c.args.tables.now
   used : length c.args.self.now.used ≡ step_count c.args.tables.now
   on : length c.args.self.now.on ≡ step_count c.args.tables.now
@@ -32,7 +30,7 @@ record Sizes (c : goal.After-self-5-1) : Type 0 where
   held_times : length c.args.self.now.held_times.items ≡ step_count c.args.tables.now
   cleared : length c.args.self.now.cleared ≡ transition_count c.args.tables.now
 
-sizes : (c : goal.After-self-5-1) → Sizes c
+sizes : (c : goal.After-self-4-1) → Sizes c
 sizes c =
     let la = c.requires.sizes.same_steps in
     record {
@@ -45,7 +43,7 @@ sizes c =
     }
 
 -- how the steps moved
-moved : (c : goal.After-self-5-1) → HasMoved c.args.tables.now c.args.self.now.active c.args.self.now.since.items
+moved : (c : goal.After-self-4-1) → HasMoved c.args.tables.now c.args.self.now.active c.args.self.now.since.items
     c.args.self.now.held_times.items c.args.t c.clear_in_order.new.cleared c.move_on.new.on c.begin.new.active c.begin.new.since
     c.move_on.new.held_times
 moved c =
@@ -71,7 +69,7 @@ moved c =
     c.begin.ensures.active
     (begins ∙ ap (begun_at c.args.t (places_from on 0)) c.deref_mut-2.ensures.value)
 
-scanned : (c : goal.After-self-5-1) → AreProposed c.args.tables.now (flag c.args.self.now.active) c.args.self.now.candidates
+scanned : (c : goal.After-self-4-1) → AreProposed c.args.tables.now (flag c.args.self.now.active) c.args.self.now.candidates
     → Advanced c.args.tables.now c.args.self.now.begun c.args.self.now.active c.args.self.now.since.items
     c.args.self.now.held_times.items c.args.conditions.now c.args.t
     c.clear_in_order.new.cleared c.move_on.new.on c.begin.new.active c.begin.new.since c.move_on.new.held_times
@@ -89,28 +87,6 @@ scanned c proposes =
     (λ s lt. c.start.ensures.flags s (omega (arith, n.on)))
     c.move_on.ensures.on
     (moved c)
-
-zeros : (c : goal.After-self-5-1) → c.begin.new.times ≡ begun_at (pos 0) (places_from c.move_on.new.on 0) c.move_on.new.held_times
-zeros c =
-    c.begin.ensures.times
-    ∙ ap (begun_at (pos 0) (places_from c.move_on.new.on 0))
-    (c.deref_mut-3.ensures.value ∙ with_items_is c.args.self.now.held_times c.move_on.new.held_times (omega arith))
-
--- the times after the scan are those that the last part leaves
-times_are : (c : goal.After-self-5-1)
-    → (with_items (with_items c.args.self.now.held_times c.move_on.new.held_times) c.begin.new.times).items ≡ c.begin.new.times
-times_are c =
-    let kept = with_items_is c.args.self.now.held_times c.move_on.new.held_times (omega arith) in
-    with_items_is (with_items c.args.self.now.held_times c.move_on.new.held_times) c.begin.new.times
-    (omega (arith, ap length kept, c.begin.ensures.times_len, ap length (c.deref_mut-3.ensures.value ∙ kept)))
-
--- so do those of each step
-each : (c : goal.After-self-5-1) → (s : ℕ)
-    → number c.begin.new.times s ≡ cond (flag c.move_on.new.on s) (pos 0) (number c.move_on.new.held_times s)
-each c =
-    let n = sizes c in
-    zeroed (step_count c.args.tables.now) c.move_on.new.on c.move_on.new.held_times c.begin.new.times
-    (omega (arith, n.held_times)) (c.move_on.ensures.on_len ∙ c.start.ensures.len ∙ n.on) (zeros c)
 
 pub clear_in_order-requires-clause-tables : goal.clear_in_order-requires-clause-tables
 clear_in_order-requires-clause-tables c = c.steps-steps.ensures.tables
@@ -196,11 +172,6 @@ begin-requires-clause-on_len c =
     let self = c.args.self.now in
     c.move_on.ensures.on_len ∙ c.start.ensures.len ∙ self.on_len ∙ sym (ap length c.deref_mut-2.ensures.value ∙ self.since_len)
 
-pub begin-requires-clause-times_len : goal.begin-requires-clause-times_len
-begin-requires-clause-times_len c =
-    let self = c.args.self.now in
-    omega (arith, self.held_times_len, self.since_len)
-
 pub begin-requires-clause-active_len : goal.begin-requires-clause-active_len
 begin-requires-clause-active_len c =
     c.move_on.ensures.active_len ∙ sym (c.move_on.ensures.on_len ∙ c.start.ensures.len ∙ c.args.self.now.on_len)
@@ -253,14 +224,10 @@ returns-clause-agrees c scans k =
     let self = c.args.self.now in
     let n = sizes c in
     let went = scanned c k.proposed in
-    let scan : Scan = record { conditions = c.args.conditions.now; at = c.args.t } in
     let next =
-    fields_begun tables self.active self.since.items self.held_times.items c.args.t c.clear_in_order.new.cleared c.move_on.new.on
-    c.begin.new.active c.begin.new.since c.move_on.new.held_times went.moved c.begin.new.times
-    (each c) true (scan ∷ scans)
-    (fields_next tables c.steps-steps.ensures.tables self.begun self.active self.since.items self.held_times.items self.cleared self.on
+    fields_next tables c.steps-steps.ensures.tables self.begun self.active self.since.items self.held_times.items self.cleared self.on
     c.args.conditions.now c.args.t
-    c.clear_in_order.new.cleared c.move_on.new.on c.begin.new.active c.begin.new.since c.move_on.new.held_times scans went k.fields) in
+    c.clear_in_order.new.cleared c.move_on.new.on c.begin.new.active c.begin.new.since c.move_on.new.held_times scans went k.fields in
     record {
       size = record {
         same_steps = c.begin.ensures.active_len ∙ c.move_on.ensures.active_len ∙ c.requires.sizes.same_steps;
@@ -271,26 +238,10 @@ returns-clause-agrees c scans k =
             ∙ c.requires.sizes.same_transitions;
       };
       fields = fields_at tables true _ _ _ _ _ _ _ _ _ _ _ refl (with_items_is self.since _ (omega arith))
-          (times_are c) refl refl next;
+          (with_items_is self.held_times _ (omega arith)) refl refl next;
       proposed = proposed tables c.steps-steps.ensures.tables c.begin.new.active c.propose.new.candidates (length self.candidates)
           (self.candidates_len ∙ c.requires.sizes.same_transitions) c.propose.ensures.flags;
     }
-
-pub returns-clause-measured : goal.returns-clause-measured
-unfolding AreMeasured shown_time
-returns-clause-measured c measured s lt =
-    let tables = c.args.tables.now in
-    let self = c.args.self.now in
-    let n = sizes c in
-    let went = moved c in
-    let same : c.begin.new.since ≡ (with_items self.since c.begin.new.since).items = sym (with_items_is self.since _ (omega arith)) in
-    let times : c.begin.new.times ≡ (with_items (with_items self.held_times c.move_on.new.held_times) c.begin.new.times).items = sym (times_are c) in
-    let is =
-    begun_measured tables self.active self.since.items self.held_times.items c.args.t c.clear_in_order.new.cleared c.move_on.new.on
-    c.begin.new.active c.begin.new.since c.move_on.new.held_times went c.begin.new.times (each c)
-    (λ p within. measured p (omega (arith, n.active))) s (omega (arith, n.active, c.begin.ensures.active_len, c.move_on.ensures.active_len)) in
-    ap (λ xs. number xs s) (sym times) ∙ is
-    ∙ (λ i. cond (flag c.begin.new.active s) (c.args.t -ℤ number (same i) s) (number (times i) s))
 
 pub returns-clause-ticks : goal.returns-clause-ticks
 returns-clause-ticks c =
@@ -339,18 +290,9 @@ invariant_of-self-2-clause-candidates_len c =
 pub invariant_of-self-2-clause-held_times_len : goal.invariant_of-self-2-clause-held_times_len
 invariant_of-self-2-clause-held_times_len c =
     let self = c.args.self.now in
-    let kept = with_items_is self.held_times c.move_on.new.held_times (omega arith) in
-    let same : length c.begin.new.times ≡ length c.begin.new.active =
-    omega (
-      arith,
-      self.held_times_len,
-      c.begin.ensures.active_len,
-      c.move_on.ensures.active_len,
-      c.begin.ensures.times_len,
-      ap length (c.deref_mut-3.ensures.value ∙ kept),
-    ) in
-    ap length (with_items_is (with_items self.held_times c.move_on.new.held_times) c.begin.new.times
-    (omega (arith, ap length kept, c.begin.ensures.times_len, ap length (c.deref_mut-3.ensures.value ∙ kept)))) ∙ same
+    let same : length c.move_on.new.held_times ≡ length c.begin.new.active =
+    omega (arith, self.held_times_len, c.begin.ensures.active_len, c.move_on.ensures.active_len) in
+    ap length (with_items_is self.held_times c.move_on.new.held_times (omega arith)) ∙ same
 
 pub invariant_of-self-2-clause-instants : goal.invariant_of-self-2-clause-instants
 invariant_of-self-2-clause-instants c =
@@ -367,12 +309,12 @@ returns-clause-close c answer other like =
     (c.clear_in_order.ensures.cleared_len ∙ ap length c.clear_all-2.ensures.flags ∙ length-replicate (length self.cleared) false)
     (λ s lt off quiet.
     let is = kept tables self.active self.since.items self.held_times.items c.args.t c.clear_in_order.new.cleared c.move_on.new.on
-    c.begin.new.active c.begin.new.since c.move_on.new.held_times c.begin.new.times (moved c) (each c)
+    c.begin.new.active c.begin.new.since c.move_on.new.held_times (moved c)
     (left_active tables (flag self.active) c.clear_in_order.new.cleared c.clear_in_order.ensures.enabled)
     s (omega (arith, lt, n.active)) off quiet in
     record {
       since_is = is.since_is ∙ ap (λ xs. number xs s) same;
-      time_is = is.time_is ∙ ap (λ xs. number xs s) (sym (times_are c));
+      time_is = is.time_is ∙ ap (λ xs. number xs s) (sym (with_items_is self.held_times c.move_on.new.held_times (omega arith)));
       inactive = is.inactive;
     })
 
@@ -456,14 +398,6 @@ returns-then-self-clause-same_steps c answer scans k =
     let next = returns-then-self-clause-agrees c scans k in
     sym (listed (is_active tables (rows_of tables (scan ∷ scans))) (step_count tables) self.active long next.fields.activity)
     ∙ listed (is_active tables (rows_of tables scans)) (step_count tables) self.active long k.fields.activity
-
-pub returns-then-self-clause-measured : goal.returns-then-self-clause-measured
-unfolding AreMeasured shown_time
-returns-then-self-clause-measured c measured = measured
-
-pub returns-then-self-clause-measured_still : goal.returns-then-self-clause-measured_still
-unfolding AreMeasured shown_time
-returns-then-self-clause-measured_still c answer now measured = measured
 
 pub returns-then-self-clause-like : goal.returns-then-self-clause-like
 unfolding IsLike

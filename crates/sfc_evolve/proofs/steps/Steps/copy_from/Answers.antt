@@ -1,6 +1,6 @@
 use Rattle.std.proofs.Common.{arith, ap, refl, sym, subst, length, ◌∙◌}
 use Rattle.std.proofs.lemmas.List.{with_items_is}
-use Rattle.sfc_evolve.specs.Private.Keeping.{AreInstants, number}
+use Rattle.sfc_evolve.specs.Evolution.{AreInstants}
 use Rattle.sfc_evolve.specs.Agreement.{IsLike}
 use Rattle.sfc_evolve.proofs.steps.Steps.copy_from.Goals as goal
 
@@ -81,7 +81,7 @@ returns-clause-like c =
       begun = refl;
       active = c.copy_flags.ensures.first;
       since = with_items_is self.since c.copy_times.new.since (omega arith) ∙ c.copy_times.ensures.since ∙ c.deref.ensures.value;
-      held_times = λ s off. ap (λ xs. number xs s) held;
+      held_times = held;
       candidates = c.copy_flags-2.ensures.second;
       transitions = ap length c.copy_flags-2.ensures.first;
     }

@@ -1,7 +1,7 @@
 use Rattle.std.proofs.Common.{◌≡◌, ◌<◌, length, sym, ap, subst, ◌∙◌, arith, cond, true, ℕ, ℤ, pos, Bool, ◌-ℤ◌, ◌≤ℤ◌, ◌^◌, to_z, of_z, w64}
 use Rattle.std.proofs.lemmas.List.{get_or_read}
 use Rattle.sfc_flags.specs.Flags.{flag}
-use Rattle.sfc_evolve.specs.Agreement.{StepsAgree, shown_time}
+use Rattle.sfc_evolve.specs.Agreement.{StepsAgree, shown_time, since_of, held_times_of}
 use Rattle.sfc_evolve.specs.Clearing.{step_count}
 use Rattle.sfc_evolve.specs.Private.Keeping.{number}
 use Rattle.sfc_evolve.proofs.Instants.{instant_low, instant_high, time_is}
@@ -35,7 +35,7 @@ time_since-requires-clause-since_high c =
     subst (λ (x : ℤ). to_z w64 (of_z w64 x) ≤ℤ pos (2 ^ 62)) (sym read) (instant_high (number self.since.items s) instant.0 instant.1)
 
 pub returns-then-get-clause-shown : goal.returns-then-get-clause-shown
-unfolding shown_time
+unfolding shown_time since_of held_times_of
 returns-then-get-clause-shown c =
     let self = c.args.self.now in
     let s = c.args.step.0 in
@@ -49,7 +49,7 @@ returns-then-get-clause-shown c =
     ∙ ap (λ (b : Bool). cond b (t -ℤ number self.since.items s) (number self.held_times.items s)) (sym on)
 
 pub returns-then-get-clause-agrees : goal.returns-then-get-clause-agrees
-unfolding shown_time StepsAgree
+unfolding shown_time StepsAgree since_of held_times_of
 returns-then-get-clause-agrees c tables scans k =
     let self = c.args.self.now in
     let s = c.args.step.0 in

@@ -1,7 +1,8 @@
 use Rattle.std.proofs.Common.{◌||◌, arith, ap, cond, refl, sym, subst, length, ◌∙◌}
 use Rattle.std.proofs.lemmas.List.{with_items_is}
 use Rattle.sfc_flags.specs.Flags.{flag}
-use Rattle.sfc_evolve.specs.Private.Keeping.{AreInstants, number}
+use Rattle.sfc_evolve.specs.Evolution.{AreInstants}
+use Rattle.sfc_evolve.specs.Private.Keeping.{number}
 use Rattle.sfc_evolve.specs.Agreement.{IsLike, IsClose}
 use Rattle.sfc_evolve.proofs.Alike.{followed, close_since, close_held_times}
 use Rattle.sfc_evolve.proofs.steps.Steps.follow_moved.Goals as goal
@@ -128,7 +129,7 @@ returns-clause-like c =
       begun = refl;
       active = c.copy_flags.ensures.first;
       since = with_items_is self.since c.copy_moved.new.since (omega arith) ∙ since;
-      held_times = λ s off. ap (λ xs. number xs s) times;
+      held_times = times;
       candidates = c.copy_flags-2.ensures.second;
       transitions = ap length c.copy_flags-2.ensures.first;
     }

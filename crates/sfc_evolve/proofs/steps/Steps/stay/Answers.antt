@@ -1,7 +1,7 @@
 use Rattle.std.proofs.Common.{◌∷◌, length, ap, ◌∙◌, sym, false}
 use Rattle.std.proofs.lemmas.List.{length-replicate}
 use Rattle.std.specs.Prelude.{replicate}
-use Rattle.sfc_evolve.specs.Agreement.{StepsAgree, AreMeasured, shown_time, IsLike}
+use Rattle.sfc_evolve.specs.Agreement.{StepsAgree, IsLike}
 use Rattle.sfc_evolve.specs.Clearing.{step_count}
 use Rattle.sfc_evolve.specs.Evolution.{rows_of, is_active}
 use Rattle.sfc_evolve.proofs.Listed.{listed}
@@ -45,10 +45,6 @@ returns-clause-same_steps c answer scan scans off k =
     let next = returns-clause-agrees c answer scan scans off k in
     sym (listed (is_active tables (rows_of tables (scan ∷ scans))) (step_count tables) self.active long next.fields.activity)
     ∙ listed (is_active tables (rows_of tables scans)) (step_count tables) self.active long k.fields.activity
-
-pub returns-clause-measured : goal.returns-clause-measured
-unfolding AreMeasured shown_time
-returns-clause-measured c now measured = measured
 
 pub returns-clause-like : goal.returns-clause-like
 unfolding IsLike
