@@ -125,14 +125,41 @@ stored_in_transaction plant slots locals count more b changes id v e lt h = by_t
   by_tried None k = absurd (let f = k.opened in cc)
   by_tried (Some ts) k = tried_agrees plant slots locals count more b changes.committed ts id v lt k
 
--- a store in a transaction of what is stored already
+-- a store of what is stored already
 pub stored_again : (plant : PlantData) (slots : List Slot) (locals : List Locals) (count : ℕ) (b : Bool) (changes : Changes)
-    (id : VarId) (v : Value) → b ≡ true → id.0 < length slots → (slot_at slots id.0).stored ≡ v
+    (id : VarId) (v : Value) → id.0 < length slots → (slot_at slots id.0).stored ≡ v
     → SlotsAgree plant slots locals count b changes → SlotsAgree plant slots locals count b (with_change (Stored id v) changes)
-stored_again plant slots locals count b changes id v e lt same h = by_tried changes.tried h where
+stored_again plant slots locals count b changes id v lt same h = by_tried changes.tried h where
+  again : (log : List Change) (i : ℕ) → (slot_at slots i).stored ≡ stored_value plant log i
+      → (slot_at slots i).stored ≡ stored_value plant (Stored id v ∷ log) i
+  again log i at =
+      elim (bool_cases (id.0 == i)) as (λ _. (slot_at slots i).stored ≡ stored_value plant (Stored id v ∷ log) i) [
+        | inl on ↦
+            ap (λ (j : ℕ). (slot_at slots j).stored) (sym (equal_numbers id.0 i on)) ∙ same
+            ∙ sym (stored_here plant log id v i on)
+        | inr off ↦ at ∙ sym (stored_there plant log id v i off)
+      ]
+
   by_tried : (o : Option (List Change)) → SlotsAgree plant slots locals count b (record { committed = changes.committed; tried = o })
       → SlotsAgree plant slots locals count b (tried_more (Stored id v) o changes.committed)
-  by_tried None k = absurd (let f = k.opened in cc)
+  by_tried None k = record {
+    variables = k.variables;
+    instances = k.instances;
+    locals_are = k.locals_are;
+    opened = k.opened;
+    each = λ i ilt.
+        let at = k.each i ilt in
+        let stored = again changes.committed i at.stored in
+        record {
+          var_type = at.var_type;
+          initial = at.initial;
+          committed = at.committed ∙ sym at.stored ∙ stored;
+          stored = stored;
+          forced = at.forced;
+          held = at.held;
+          untried = at.untried;
+        };
+  }
   by_tried (Some ts) k = record {
     variables = k.variables;
     instances = k.instances;
@@ -144,13 +171,7 @@ stored_again plant slots locals count b changes id v e lt same h = by_tried chan
           var_type = at.var_type;
           initial = at.initial;
           committed = at.committed;
-          stored =
-              elim (bool_cases (id.0 == i)) as (λ _. (slot_at slots i).stored ≡ stored_value plant (Stored id v ∷ (ts ++ changes.committed)) i) [
-                | inl on ↦
-                    ap (λ (j : ℕ). (slot_at slots j).stored) (sym (equal_numbers id.0 i on)) ∙ same
-                    ∙ sym (stored_here plant (ts ++ changes.committed) id v i on)
-                | inr off ↦ at.stored ∙ sym (stored_there plant (ts ++ changes.committed) id v i off)
-              ];
+          stored = again (ts ++ changes.committed) i at.stored;
           forced = at.forced;
           held = at.held;
           untried = at.untried;

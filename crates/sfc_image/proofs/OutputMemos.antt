@@ -75,16 +75,6 @@ memos_later plant old new memos generation later is h = record {
       absurd (let no = is.last same in let few = h.early p.0 lt in omega (arith, no, few, now));
 }
 
--- where nothing that was given holds, the slots may be any
-pub memos_none : (plant : PlantData) (old new : List Slot) (memos : List OutputMemo) (generation : ℕ) → NoneHolds memos generation
-    → MemosHold plant old memos generation → MemosHold plant new memos generation
-memos_none plant old new memos generation none h = record {
-  begun = h.begun;
-  past = h.past;
-  early = h.early;
-  each = λ p lt now a. absurd (none p.0 lt now);
-}
-
 -- in a later generation nothing that was given holds
 pub none_later : (plant : PlantData) (slots : List Slot) (memos : List OutputMemo) (generation later : ℕ) → IsLater generation later
     → MemosHold plant slots memos generation → NoneHolds memos later
@@ -180,29 +170,25 @@ memo_read memos k g lt is =
 pub memo_here : (memos : List OutputMemo) (k : ℕ) (g : OutputMemo) → k < length memos → memo_at (slice_set memos k g) k ≡ g
 memo_here memos k g lt = get_or-set_same memos k g (record { q = []; generation = 0 }) lt
 
--- nothing that was given holds, after what one instance was given is changed
-pub none_set : (memos : List OutputMemo) (generation k : ℕ) (g : OutputMemo) → k < length memos
-    → g.generation ≡ (memo_at memos k).generation → NoneHolds memos generation → NoneHolds (slice_set memos k g) generation
-none_set memos generation k g lt same none j jlt now =
-    elim (eqb_tells j k) as (λ _. ⊥) [
-      | inl w ↦
-          let here : memo_at (slice_set memos k g) j ≡ g = ap (λ (i : ℕ). memo_at (slice_set memos k g) i) w.1 ∙ memo_here memos k g lt in
-          none k lt (sym same ∙ ap (λ (x : OutputMemo). x.generation) (sym here) ∙ now)
-      | inr w ↦
-          let there : memo_at (slice_set memos k g) j ≡ memo_at memos j =
-          get_or-set_other memos k j g (record { q = []; generation = 0 }) w.1 in
-          let long = length-set memos k g in
-          none j (omega (arith, long, jlt)) (ap (λ (x : OutputMemo). x.generation) (sym there) ∙ now)
-    ]
-
-pub memo_turned : (plant : PlantData) (slots : List Slot) (memos : List OutputMemo) (generation : ℕ) (p : ProgId) (g : OutputMemo)
-    → p.0 < length memos → g.generation ≡ (memo_at memos p.0).generation → NoneHolds memos generation
-    → MemosHold plant slots memos generation → MemosHold plant slots (slice_set memos p.0 g) generation
-memo_turned plant slots memos generation p g lt same none h =
+-- what one instance was given is changed, and a later generation begins
+pub memo_later : (plant : PlantData) (old new : List Slot) (memos : List OutputMemo) (generation later : ℕ) (p : ProgId) (g : OutputMemo)
+    → p.0 < length memos → g.generation ≡ (memo_at memos p.0).generation → IsLater generation later
+    → MemosHold plant old memos generation → MemosHold plant new (slice_set memos p.0 g) later
+memo_later plant old new memos generation later p g lt same is h =
+    let none = none_later plant old memos generation later is h in
     let before = h.past p.0 lt in
     let few = h.early p.0 lt in
-    memo_set plant slots memos generation p g lt (omega (arith, before, same)) (omega (arith, few, same))
-    (λ now a. absurd (none p.0 lt (sym same ∙ now))) h
+    memo_set plant new memos later p g lt (omega (arith, before, same, is.rises)) (omega (arith, few, same))
+    (λ now a. absurd (none p.0 lt (sym same ∙ now))) (memos_later plant old new memos generation later is h)
+
+-- and in the same one, where the outputs have what it holds now
+pub memo_again : (plant : PlantData) (slots : List Slot) (memos : List OutputMemo) (generation : ℕ) (p : ProgId) (g : OutputMemo)
+    → p.0 < length memos → g.generation ≡ (memo_at memos p.0).generation → ((a : ℕ) → HasQ plant p slots a (flag g.q a))
+    → MemosHold plant slots memos generation → MemosHold plant slots (slice_set memos p.0 g) generation
+memo_again plant slots memos generation p g lt same has h =
+    let before = h.past p.0 lt in
+    let few = h.early p.0 lt in
+    memo_set plant slots memos generation p g lt (omega (arith, before, same)) (omega (arith, few, same)) (λ now a. has a) h
 
 -- what was given in this generation
 pub given_holds : (plant : PlantData) (image : Image) (changes : Changes) (p : ProgId) (a : ℕ) → p.0 < instance_total image

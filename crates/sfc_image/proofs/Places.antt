@@ -122,6 +122,14 @@ all_left number given q its mine differing its_are mine_are apart = record {
   behind = λ j lt. absurd (omega (arith, lt));
 }
 
+-- where no place differs they are the same
+pub same_word : (number : ℕ) (given q : ℕ → Bool) (its mine differing : Word) → ((a : ℕ) → word_of a ≡ number → has its a ≡ given a)
+    → ((a : ℕ) → word_of a ≡ number → has mine a ≡ q a)
+    → ((a : ℕ) → has differing a ≡ cond (has mine a) (not (has its a)) (has its a)) → ((a : ℕ) → has differing a ≡ false)
+    → (a : ℕ) → word_of a ≡ number → given a ≡ q a
+same_word number given q its mine differing its_are mine_are apart none a here =
+    sym (its_are a here) ∙ same_flag (has its a) (has mine a) (sym (apart a) ∙ none a) ∙ mine_are a here
+
 -- a place at which they differ is one of the tables'
 pub place_in_table : (given q : List Bool) (number k place : ℕ) (w : Word) → length given ≡ length q → AreLeft number k (flag given) (flag q) w
     → k ≤ place → place < 64 → has w place ≡ true → number * 64 + place < length q

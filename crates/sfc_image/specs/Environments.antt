@@ -11,6 +11,7 @@ use Rattle.sfc_plant.specs.Plants.{PlantData}
 use Rattle.sfc_plant.specs.Finding.{first_local, instance_locals}
 use Rattle.sfc_image.specs.Changes.{Change}
 use Rattle.sfc_image.specs.declared.step_readings.StepReadings.{StepReadings}
+use Rattle.sfc_image.specs.StepTimes.{times_of}
 use Rattle.sfc_image.specs.Values.{stored_value, forced_value}
 
 -- The number of a variable where there are so many globals, and so many locals from number `first` on: a global has its
@@ -40,7 +41,7 @@ pub record Moment : Type 0 where
   pub q : Bool
 
 abbrev pub moment_of : StepReadings → Bool → Moment
-moment_of steps q = record { active = steps.active.now; times = steps.times.now; q = q }
+moment_of steps q = record { active = steps.active.now; times = times_of steps; q = q }
 
 -- what the expressions of the instance's program read after these changes, and what its statements write to
 abbrev pub environment_of : PlantData → List Change → ProgId → Moment → Environment

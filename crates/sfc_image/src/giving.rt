@@ -1,7 +1,8 @@
 //! What the outputs of an instance are given again: the variables of those of its Boolean actions that have another Q
 //! now (2.6.4.1).
 
-ghost use Rattle.std.specs.Prelude.{◌≡◌, ◌<◌, ◌≤◌, ◌+◌, ◌-◌, ◌*◌, ◌^◌, ℕ, true, List, length};
+ghost use Rattle.std.specs.Prelude.{◌≡◌, ◌<◌, ◌≤◌, ◌+◌, ◌-◌, ◌*◌, ◌^◌, ℕ, true, false, List, length, slice_set};
+ghost use Rattle.sfc_base.specs.declared.value.Value.TheVariants.{Bool};
 ghost use Rattle.sfc_base.specs.Ticks.{Within};
 ghost use Rattle.sfc_base.specs.declared.ids.ProgId.{ProgId};
 ghost use Rattle.sfc_flags.specs.Flags.{flag};
@@ -13,12 +14,12 @@ ghost use Rattle.sfc_image.specs.Changes.{Changes};
 ghost use Rattle.sfc_image.specs.Bodies.{with_changes};
 ghost use Rattle.sfc_image.specs.Outputs.{outputs};
 ghost use Rattle.sfc_image.specs.declared.slot.Locals.{Locals};
-ghost use Rattle.sfc_image.specs.Private.Keeping.{AreTracked, SlotsAgree, locals_of};
+ghost use Rattle.sfc_image.specs.Private.Keeping.{AreTracked, SlotsAgree, locals_of, slot_at, stored_where};
 ghost use Rattle.sfc_image.specs.Private.OutputMemos.{HasQ, number_in, with_output};
 ghost use Rattle.sfc_image.specs.Private.Giving.{AssignedTo};
 
 use crate::output_memo::OutputMemo;
-use crate::slot::{Locals, Slot};
+use crate::slot::{Locals, Slot, store_bool};
 use crate::trying::try_bool;
 use crate::view::number_of;
 use sfc_base::ids::ActionNumber;
@@ -28,17 +29,39 @@ use sfc_plant::association::Target;
 use sfc_tables::tables::Tables;
 
 /// The outputs of an instance: where the globals end and where its locals are, the tables of its chart, the Q of each
-/// action, and the first action whose Q is another than it was last given.
+/// action, and whether a transaction is open.
 #[derive(Clone, Copy)]
 pub struct Outputs<'a> {
     pub globals: usize,
     pub locals: Locals,
     pub tables: &'a Tables,
     pub q: &'a Flags,
-    pub first: usize,
+    pub is_open: bool,
 }
 
 impl<'a> Outputs<'a> {
+    // Stores the Q of an action in the variable of this number, in the transaction where one is open. It answers how many
+    // variables are listed as written now.
+    fn store(
+        &self,
+        slots: &mut [Slot],
+        written: &mut [usize],
+        count: usize,
+        i: usize,
+        q: bool,
+    ) -> usize
+        requires place { i < length slots.old }
+        requires tracked { AreTracked slots.old written.old count }
+        ensures tracked { AreTracked slots.new written.new result }
+        ensures slots { slots.new ≡ slice_set slots.old i (stored_where self.now.is_open (Bool q) (slot_at slots.old i)) }
+    {
+        if self.is_open {
+            return try_bool(slots, written, count, i, q);
+        }
+        store_bool(&mut slots[i], q);
+        count
+    }
+
     // Stores the Q of an action in its variable, if it has one. It answers how many variables are listed as written now.
     fn give(
         &self,
@@ -52,18 +75,18 @@ impl<'a> Outputs<'a> {
         requires within { self.now.locals.first + self.now.locals.count ≤ length slots.old }
         requires tracked { AreTracked slots.old written.old count }
         ensures tracked { AreTracked slots.new written.new result }
-        ensures slots { slots.new ≡ with_output (number_in self.now.globals self.now.locals target) q slots.old }
+        ensures slots { slots.new ≡ with_output self.now.is_open (number_in self.now.globals self.now.locals target) q slots.old }
     {
         if let Target::Boolean(variable) = target {
             if let Some(i) = number_of(self.globals, self.locals, variable) {
-                return try_bool(slots, written, count, i, q);
+                return self.store(slots, written, count, i, q);
             }
         }
         count
     }
 
     // Gives their Q to those of the 64 actions of this word that have another one now than they were last given, and notes
-    // it. It answers how many variables are listed as written now.
+    // it. It answers how many variables are listed as written now, and whether there was such an action.
     #[inline(always)]
     fn give_word(
         &self,
@@ -72,7 +95,7 @@ impl<'a> Outputs<'a> {
         count: usize,
         memo: &mut OutputMemo,
         number: usize,
-    ) -> usize
+    ) -> (usize, bool)
         requires apart { self.now.globals ≤ self.now.locals.first }
         requires within { self.now.locals.first + self.now.locals.count ≤ length slots.old }
         requires tracked { AreTracked slots.old written.old count }
@@ -80,19 +103,23 @@ impl<'a> Outputs<'a> {
         requires few { length self.now.q.now < 2 ^ 64 }
         requires sized { length memo.old.q ≡ length self.now.q.now }
         requires number { number < word_count self.now.q.now }
-        ensures tracked { AreTracked slots.new written.new result }
+        ensures tracked { AreTracked slots.new written.new result.0 }
+        ensures same { result.1 ≡ false → slots.new ≡ slots.old }
         ensures generation { memo.new.generation ≡ memo.old.generation }
         ensures len { length memo.new.q ≡ length memo.old.q }
         ensures noted { ArePut number (flag self.now.q.now) (flag memo.old.q) (flag memo.new.q) }
         ensures given { (plant : PlantData) (changes : Changes) (p : ProgId) (locals : List Locals) →
             self.now.tables.now ≡ tables_of (chart_of plant p) → self.now.globals ≡ length plant.globals → self.now.locals ≡ locals_of plant p →
             AssignedTo plant changes p self.now.q.now true self.now.tables.now.actions (number * 64) slots.old memo.old.q
-            (λ t. SlotsAgree plant slots.old locals count true t) →
+            (λ t. SlotsAgree plant slots.old locals count self.now.is_open t) →
             AssignedTo plant changes p self.now.q.now true self.now.tables.now.actions ((number + 1) * 64) slots.new memo.new.q
-            (λ t. SlotsAgree plant slots.new locals result true t) }
+            (λ t. SlotsAgree plant slots.new locals result.0 self.now.is_open t) }
     {
         let word = self.q.word(number);
         let mut differing = memo.q.word(number).apart(word);
+        if differing.is_none() {
+            return (count, false);
+        }
         memo.take(number, word);
         let mut listed = count;
         'outputs: while let Some((place, rest)) = differing.split_first() {
@@ -101,11 +128,12 @@ impl<'a> Outputs<'a> {
             listed = self.give(slots, written, listed, target, is_set);
             differing = rest;
         }
-        listed
+        (listed, true)
     }
 
-    /// Gives their Q to those actions that have another one now than they were last given, from the first on, and notes
-    /// it. It answers how many variables are listed as written now.
+    /// Gives their Q to those actions that have another one now than they were last given, and notes it. It answers how
+    /// many variables are listed as written now, and whether there was such an action.
+    #[inline(always)]
     pub fn give_differing(
         self,
         slots: &mut [Slot],
@@ -113,40 +141,38 @@ impl<'a> Outputs<'a> {
         count: usize,
         memo: &mut OutputMemo,
         ticks: &mut Ticks,
-    ) -> usize
+    ) -> (usize, bool)
         requires apart { self.globals ≤ self.locals.first }
         requires within { self.locals.first + self.locals.count ≤ length slots.old }
         requires tracked { AreTracked slots.old written.old count }
         requires q { length self.q.now ≡ length self.tables.now.actions }
         requires few { length self.q.now < 2 ^ 64 }
         requires sized { length memo.old.q ≡ length self.q.now }
-        requires first { self.first < length self.q.now }
-        requires before { (j : ℕ) → j < self.first → flag memo.old.q j ≡ flag self.q.now j }
-        ensures tracked { AreTracked slots.new written.new result }
+        ensures tracked { AreTracked slots.new written.new result.0 }
+        ensures same { result.1 ≡ false → slots.new ≡ slots.old }
         ensures generation { memo.new.generation ≡ memo.old.generation }
         ensures agrees { (plant : PlantData) (changes : Changes) (p : ProgId) (locals : List Locals) →
             self.entry.tables.now ≡ tables_of (chart_of plant p) → self.entry.globals ≡ length plant.globals → self.entry.locals ≡ locals_of plant p →
-            ((a : ℕ) → HasQ plant p slots.old a (flag memo.old.q a)) → SlotsAgree plant slots.old locals count true changes →
-            SlotsAgree plant slots.new locals result true
+            ((a : ℕ) → HasQ plant p slots.old a (flag memo.old.q a)) → SlotsAgree plant slots.old locals count self.entry.is_open changes →
+            SlotsAgree plant slots.new locals result.0 self.entry.is_open
             (with_changes (outputs plant p self.entry.q.now 0 self.entry.tables.now.actions) changes) }
         ensures given { (plant : PlantData) (changes : Changes) (p : ProgId) (locals : List Locals) →
             self.entry.tables.now ≡ tables_of (chart_of plant p) → self.entry.globals ≡ length plant.globals → self.entry.locals ≡ locals_of plant p →
-            ((a : ℕ) → HasQ plant p slots.old a (flag memo.old.q a)) → SlotsAgree plant slots.old locals count true changes →
+            ((a : ℕ) → HasQ plant p slots.old a (flag memo.old.q a)) → SlotsAgree plant slots.old locals count self.entry.is_open changes →
             (a : ℕ) → HasQ plant p slots.new a (flag memo.new.q a) }
-        ensures ticks { Within (length self.entry.q.now - (self.entry.first + 1)) ticks.old ticks.new }
+        ensures ticks { Within (length self.entry.q.now) ticks.old ticks.new }
     {
         let words = self.q.words();
         let mut listed = count;
-        let mut number = self.first / 64;
-        // The first of these words was counted where its action was found.
-        'words: loop {
-            listed = self.give_word(slots, written, listed, memo, number);
-            number += 1;
-            if number == words {
-                break 'words;
-            }
+        let mut has_given = false;
+        let mut number = 0;
+        'words: while number < words {
             ticks.tick();
+            let (more, differs) = self.give_word(slots, written, listed, memo, number);
+            listed = more;
+            has_given |= differs;
+            number += 1;
         }
-        listed
+        (listed, has_given)
     }
 }

@@ -75,7 +75,7 @@ impl Image {
     ghost use Rattle.sfc_image.specs.Environments.{moment_of, environment_of, number_of};
     ghost use Rattle.sfc_image.specs.Bodies.{left_by, with_changes};
     ghost use Rattle.sfc_image.specs.Outputs.{output, outputs};
-    ghost use Rattle.sfc_flags.specs.Flags.{flag, places_passed};
+    ghost use Rattle.sfc_flags.specs.Flags.{flag};
     ghost use Rattle.sfc_plant.specs.declared.association.Target.TheVariants.{Boolean};
     ghost use Rattle.sfc_base.specs.declared.value.Value.TheVariants.{Bool};
     ghost use Rattle.sfc_tables.specs.Tables.{tables_of};
@@ -249,9 +249,8 @@ impl Image {
     // Gives the variable of an action its Q, if the action is one.
     fn give(&mut self, instance: ProgId, target: Target, q: bool)
         requires instance { instance.0 < instance_total self.old }
-        requires open { is_open self.old ≡ true }
         ensures large { IsAsLarge self.old self.new }
-        ensures open { is_open self.new ≡ true }
+        ensures open { is_open self.new ≡ is_open self.old }
         ensures memos { self.new.memos.items ≡ self.old.memos.items }
         ensures agrees { (plant : PlantData) (changes : Changes) → ImageAgrees plant self.old changes →
             ImageAgrees plant self.new (with_changes (output plant instance target q) changes) }
@@ -274,6 +273,7 @@ impl Image {
         requires { instance.0 < instance_total self.now }
         ensures generation { result ≡ true → (memo_at self.now.memos.items instance.0).generation ≡ self.now.generation }
         ensures sized { result ≡ true → length (memo_at self.now.memos.items instance.0).q ≡ length q.now }
+        ensures few { result ≡ true → length q.now < 2 ^ 64 }
     {
         let memo = &self.memos[instance.0 as usize];
         memo.generation == self.generation && memo.q.count() == q.count()
@@ -326,81 +326,50 @@ impl Image {
         }
     }
 
-    // The next action from `from` on that has another Q now than the one that was last given.
-    fn next_changed(
-        &self,
-        instance: ProgId,
-        q: &Flags,
-        from: usize,
-        ticks: &mut Ticks,
-    ) -> Option<usize>
-        requires instance { instance.0 < instance_total self.now }
-        requires sized { length (memo_at self.now.memos.items instance.0).q ≡ length q.now }
-        ensures some { IfSome result (λ i. (from ≤ i) × (i < length q.now)
-            × (flag (memo_at self.now.memos.items instance.0).q i ≢ flag q.now i)) }
-        ensures before { IfSome result (λ i. (j : ℕ) → from ≤ j → j < i →
-            flag (memo_at self.now.memos.items instance.0).q j ≡ flag q.now j) }
-        ensures none { result ≡ None → (j : ℕ) → from ≤ j → flag (memo_at self.now.memos.items instance.0).q j ≡ flag q.now j }
-        ensures len { length q.now < 2 ^ 64 }
-        ensures ticks { Within (places_passed (length q.now) from result) ticks.old ticks.new }
-    {
-        self.memos[instance.0 as usize]
-            .q
-            .next_difference(q, from, ticks)
-    }
-
-    // Gives their Q to those actions that have another one now than they were last given: `first` and some behind it.
+    // Gives their Q to those actions that have another one now than they were last given.
     #[inline(always)]
-    fn give_changed(
-        &mut self,
-        instance: ProgId,
-        tables: &Tables,
-        q: &Flags,
-        first: usize,
-        ticks: &mut Ticks,
-    )
+    fn give_changed(&mut self, instance: ProgId, tables: &Tables, q: &Flags, ticks: &mut Ticks)
         requires instance { instance.0 < instance_total self.old }
-        requires open { is_open self.old ≡ true }
         requires q { length q.now ≡ length tables.now.actions }
         requires sized { length (memo_at self.old.memos.items instance.0).q ≡ length q.now }
         requires given { (plant : PlantData) (changes : Changes) (a : ℕ) → ImageAgrees plant self.old changes →
             HasQ plant instance self.old.slots.items a (flag (memo_at self.old.memos.items instance.0).q a) }
         requires few { length q.now < 2 ^ 64 }
-        requires first { first < length q.now }
-        requires before { (j : ℕ) → j < first → flag (memo_at self.old.memos.items instance.0).q j ≡ flag q.now j }
         ensures large { IsAsLarge self.old self.new }
-        ensures open { is_open self.new ≡ true }
+        ensures open { is_open self.new ≡ is_open self.old }
         ensures agrees { (plant : PlantData) (changes : Changes) → tables.now ≡ tables_of (chart_of plant instance) →
             ImageAgrees plant self.old changes →
             ImageAgrees plant self.new (with_changes (outputs plant instance q.now 0 tables.now.actions) changes) }
-        ensures ticks { Within (length q.now - (first + 1)) ticks.old ticks.new }
+        ensures ticks { Within (length q.now) ticks.old ticks.new }
     {
-        begin_generation(&mut self.generation);
         let outputs = Outputs {
             globals: self.locals[0].first,
             locals: self.locals[instance.0 as usize],
             tables,
             q,
-            first,
+            is_open: self.is_trying,
         };
-        self.count = outputs.give_differing(
+        let (count, has_given) = outputs.give_differing(
             &mut self.slots,
             &mut self.written,
             self.count,
             &mut self.memos[instance.0 as usize],
             ticks,
         );
-        self.leave_memo(instance, q);
+        self.count = count;
+        if has_given {
+            begin_generation(&mut self.generation);
+            self.leave_memo(instance, q);
+        }
     }
 
     // Gives all actions their Q.
     #[inline(never)]
     fn give_all(&mut self, instance: ProgId, tables: &Tables, q: &Flags, ticks: &mut Ticks)
         requires instance { instance.0 < instance_total self.old }
-        requires open { is_open self.old ≡ true }
         requires q { length q.now ≡ length tables.now.actions }
         ensures large { IsAsLarge self.old self.new }
-        ensures open { is_open self.new ≡ true }
+        ensures open { is_open self.new ≡ is_open self.old }
         ensures agrees { (plant : PlantData) (changes : Changes) → tables.now ≡ tables_of (chart_of plant instance) →
             ImageAgrees plant self.old changes →
             ImageAgrees plant self.new (with_changes (outputs plant instance q.now 0 tables.now.actions) changes) }
@@ -419,7 +388,7 @@ impl Image {
     }
 
     /// Assigns its Q to each variable of the instance's program that is an action by itself (2.6.4.1), one after the
-    /// other, in the transaction, which is open; the Q of each action stands by its number. It takes no memory. Where
+    /// other, in the transaction where one is open, else for good; the Q of each action stands by its number. It takes no memory. Where
     /// no output was changed since the instance's last call, only those are handled whose Q is another now.
     #[inline(always)]
     pub fn assign_outputs(
@@ -430,19 +399,18 @@ impl Image {
         ticks: &mut Ticks,
     )
         requires instance { instance.0 < instance_total self.old }
-        requires open { is_open self.old ≡ true }
         requires q { length q.now ≡ length tables.now.actions }
         ensures large { IsAsLarge self.old self.new }
-        ensures open { is_open self.new ≡ true }
+        ensures open { is_open self.new ≡ is_open self.old }
         ensures agrees { (plant : PlantData) (changes : Changes) → tables.now ≡ tables_of (chart_of plant instance) →
             ImageAgrees plant self.old changes →
             ImageAgrees plant self.new (with_changes (outputs plant instance q.now 0 tables.now.actions) changes) }
         ensures ticks { Within (length tables.now.actions) ticks.old ticks.new }
     {
-        if !self.holds_memo(instance, q) {
+        if self.holds_memo(instance, q) {
+            self.give_changed(instance, tables, q, ticks);
+        } else {
             self.give_all(instance, tables, q, ticks);
-        } else if let Some(first) = self.next_changed(instance, q, 0, ticks) {
-            self.give_changed(instance, tables, q, first, ticks);
         }
     }
 

@@ -104,6 +104,14 @@ pub fn store_tried_bool(slot: &mut Slot, value: bool) -> bool
     false
 }
 
+/// A BOOL is stored for good.
+pub fn store_bool(slot: &mut Slot, value: bool)
+    ensures { slot.new ≡ keeping.with_value (Bool value) slot.old }
+{
+    set_bool(&mut slot.committed, value);
+    set_bool(&mut slot.stored, value);
+}
+
 // Replaces a value by a BOOL; of a BOOL only what changes is written.
 fn set_bool(place: &mut Value, value: bool)
     ensures { place.new ≡ Bool value }

@@ -100,6 +100,11 @@ with_value v slot = record slot { committed = v; stored = v }
 abbrev pub tried : Value → Slot → Slot
 tried v slot = record slot { stored = v; is_tried = true }
 
+-- in a transaction where one is open, else for good
+abbrev pub stored_where : Bool → Value → Slot → Slot
+stored_where true v slot = tried v slot
+stored_where false v slot = with_value v slot
+
 abbrev pub with_force : Option Value → Slot → Slot
 with_force v slot = record slot { forced = v }
 

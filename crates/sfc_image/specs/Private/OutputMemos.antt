@@ -13,7 +13,7 @@ use Rattle.sfc_image.specs.Environments.{number_among, number_of}
 use Rattle.sfc_image.specs.declared.slot.Slot.{Slot}
 use Rattle.sfc_image.specs.declared.slot.Locals.{Locals}
 use Rattle.sfc_image.specs.declared.output_memo.OutputMemo.{OutputMemo}
-use Rattle.sfc_image.specs.Private.Keeping.{slot_at, tried}
+use Rattle.sfc_image.specs.Private.Keeping.{slot_at, stored_where}
 
 abbrev pub memo_at : List OutputMemo → ℕ → OutputMemo
 memo_at memos k = slice_index_or memos k (record { q = []; generation = 0 })
@@ -60,7 +60,7 @@ abbrev pub number_in : ℕ → Locals → Target → Option ℕ
 number_in globals locals (Boolean v) = number_among globals locals.first locals.count v
 number_in globals locals (Declared id) = None
 
--- an action's Q is stored in the variable of this number, in a transaction
-abbrev pub with_output : Option ℕ → Bool → List Slot → List Slot
-with_output None q slots = slots
-with_output (Some i) q slots = slice_set slots i (tried (value.Bool q) (slot_at slots i))
+-- an action's Q is stored in the variable of this number, in a transaction where one is open
+abbrev pub with_output : Bool → Option ℕ → Bool → List Slot → List Slot
+with_output is_open None q slots = slots
+with_output is_open (Some i) q slots = slice_set slots i (stored_where is_open (value.Bool q) (slot_at slots i))

@@ -1,4 +1,4 @@
-use Rattle.std.proofs.Common.{◌≡◌, ◌<◌, ◌≤◌, ◌-◌, ◌*◌, ◌/◌, ℕ, true, List, length}
+use Rattle.std.proofs.Common.{◌≡◌, ◌≤◌, ◌-◌, ◌*◌, ℕ, true, false, List, length}
 use Rattle.sfc_base.specs.Ticks.{Within}
 use Rattle.sfc_base.specs.declared.ids.ProgId.{ProgId}
 use Rattle.sfc_flags.specs.Flags.{flag}
@@ -17,17 +17,17 @@ abbrev pub invariant-words : goal.invariant-words
 invariant-words l = record {
   long : length l.slots ≡ length l.fn.slots;
   tracked : AreTracked l.slots l.written l.listed;
+  same : l.has_given ≡ false → l.slots ≡ l.fn.slots;
   generation : l.memo.generation ≡ l.fn.memo.generation;
   sized : length l.memo.q ≡ length l.self.q.now;
-  within : l.number < word_count l.self.q.now;
+  within : l.number ≤ word_count l.self.q.now;
   noted : AreDone l.number (flag l.self.q.now) (flag l.fn.memo.q) (flag l.memo.q);
   given : (plant : PlantData) (changes : Changes) (p : ProgId) (locals : List Locals) → l.self.tables.now ≡ tables_of (chart_of plant p)
       → l.self.globals ≡ length plant.globals → l.self.locals ≡ locals_of plant p
-      → ((a : ℕ) → HasQ plant p l.fn.slots a (flag l.fn.memo.q a)) → SlotsAgree plant l.fn.slots locals l.fn.count true changes
+      → ((a : ℕ) → HasQ plant p l.fn.slots a (flag l.fn.memo.q a)) → SlotsAgree plant l.fn.slots locals l.fn.count l.self.is_open changes
       → AssignedTo plant changes p l.self.q.now true l.self.tables.now.actions (l.number * 64) l.slots l.memo.q
-      (λ t. SlotsAgree plant l.slots locals l.listed true t);
-  first : l.self.first / 64 ≤ l.number;
-  ticks : Within (l.number - l.self.first / 64) l.fn.ticks l.ticks;
+      (λ t. SlotsAgree plant l.slots locals l.listed l.self.is_open t);
+  ticks : Within l.number l.fn.ticks l.ticks;
 }
 
 abbrev pub decreases-words : goal.decreases-words

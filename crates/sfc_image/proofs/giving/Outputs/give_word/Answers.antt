@@ -6,9 +6,27 @@ use Rattle.sfc_tables.specs.Tables.{Tabled}
 use Rattle.sfc_image.specs.Private.Giving.{AssignedTo}
 use Rattle.sfc_image.specs.Private.Keeping.{SlotsAgree}
 use Rattle.sfc_image.proofs.Outputs.{passed, gave_again, noted_again}
-use Rattle.sfc_image.proofs.Places.{has_within, fewer, place_is_left, left_after, same_before, all_left, place_in_table}
+use Rattle.sfc_image.proofs.Places.{has_within, fewer, same_word, place_is_left, left_after, same_before, all_left, place_in_table}
 use Rattle.sfc_image.proofs.StoredQ.{AreBelow, are_below, slots_store, gave_agrees, gave_here, gave_others}
 use Rattle.sfc_image.proofs.giving.Outputs.give_word.Goals as goal
+
+pub returns-then-is_none-clause-given : goal.returns-then-is_none-clause-given
+returns-then-is_none-clause-given c plant changes p locals is globals of_instance h =
+    let o = c.args.self.now in
+    let number = c.args.number in
+    let slots = c.args.slots.now in
+    let memo = c.args.memo.now.q in
+    let among : AreBelow plant p (length slots) =
+    are_below plant p o.globals o.locals (length slots) globals of_instance c.requires.apart c.requires.within in
+    passed plant changes p o.q.now true o.tables.now.actions (ap (λ (t : Tabled). t.actions) is) slots memo
+    (λ t. SlotsAgree plant slots locals c.args.count o.is_open t) (number * 64) ((number + 1) * 64)
+    (slots_store plant p slots locals c.args.count o.is_open among) (omega arith)
+    (λ j ge lt. (
+      refl,
+      same_word number (flag memo) (flag o.q.now) c.word.result c.word-word.result c.apart-differing.result c.word.ensures c.word-word.ensures
+          c.apart-differing.ensures (c.is_none.ensures.0 c.if-is_none.true) j (omega (arith, ge, lt)),
+    ))
+    h
 
 pub outputs-init : goal.outputs-init
 outputs-init c =
@@ -24,7 +42,7 @@ outputs-init c =
         λ plant changes p locals is globals of_instance h.
             let none : number * 64 ≡ number * 64 + 0 = omega arith in
             subst (λ (from : ℕ). AssignedTo plant changes p o.q.now true o.tables.now.actions from c.args.slots.now c.args.memo.now.q
-            (λ t. SlotsAgree plant c.args.slots.now locals c.args.count true t)) none h,
+            (λ t. SlotsAgree plant c.args.slots.now locals c.args.count o.is_open t)) none h,
       );
     }
 
@@ -61,16 +79,16 @@ outputs-preserved c =
             c.get-is_set.ensures ∙ sym (has_within c.word-word.result number place first.0) ∙ c.word-word.ensures a (omega (arith, first.0)) in
             let next : a + 1 ≡ number * 64 + (place + 1) = omega arith in
             subst (λ (to : ℕ). AssignedTo plant changes p o.q.now true o.tables.now.actions to new memo
-            (λ t. SlotsAgree plant new locals c.give-listed.result true t)) next
+            (λ t. SlotsAgree plant new locals c.give-listed.result o.is_open t)) next
             (gave_again plant changes p o.q.now true o.tables.now.actions actions_is old new memo
-            (λ t. SlotsAgree plant old locals c.outputs.listed true t) (λ t. SlotsAgree plant new locals c.give-listed.result true t)
+            (λ t. SlotsAgree plant old locals c.outputs.listed o.is_open t) (λ t. SlotsAgree plant new locals c.give-listed.result o.is_open t)
             a target x refl q_is c.target-target.ensures
-            (gave_agrees plant p o.globals o.locals globals of_instance old new among locals c.outputs.listed c.give-listed.result target x made)
-            (gave_here plant p o.globals o.locals globals of_instance old new among target x made)
-            (gave_others plant p o.globals o.locals globals of_instance old new among target x made)
+            (gave_agrees plant p o.globals o.locals globals of_instance o.is_open old new among locals c.outputs.listed c.give-listed.result target x made)
+            (gave_here plant p o.globals o.locals globals of_instance o.is_open old new among target x made)
+            (gave_others plant p o.globals o.locals globals of_instance o.is_open old new among target x made)
             (passed plant changes p o.q.now true o.tables.now.actions actions_is old memo
-            (λ t. SlotsAgree plant old locals c.outputs.listed true t) (number * 64 + k) a
-            (slots_store plant p old locals c.outputs.listed among) (omega (arith, from))
+            (λ t. SlotsAgree plant old locals c.outputs.listed o.is_open t) (number * 64 + k) a
+            (slots_store plant p old locals c.outputs.listed o.is_open among) (omega (arith, from))
             (λ j ge lt. (refl, same_before number k place (flag memo) (flag o.q.now) w are (omega (arith, first.0)) first.2 j ge lt))
             (before.given.2 plant changes p locals is globals of_instance h))),
       );
@@ -114,12 +132,12 @@ returns-clause-given c plant changes p locals is globals of_instance h =
     λ a ge. c.take.ensures.q a
     ∙ ap (λ (b : Bool). cond b (has c.word-word.result a) (flag memo a)) (ne_eqb (word_of a) number (λ e. omega (arith, ge, e))) in
     noted_again plant changes p o.q.now true o.tables.now.actions actions_is slots memo c.take.new.self.q
-    (λ t. SlotsAgree plant slots locals c.outputs.listed true t) ((number + 1) * 64) others
+    (λ t. SlotsAgree plant slots locals c.outputs.listed o.is_open t) ((number + 1) * 64) others
     (subst (λ (to : ℕ). AssignedTo plant changes p o.q.now true o.tables.now.actions to slots memo
-    (λ t. SlotsAgree plant slots locals c.outputs.listed true t)) next
+    (λ t. SlotsAgree plant slots locals c.outputs.listed o.is_open t)) next
     (passed plant changes p o.q.now true o.tables.now.actions actions_is slots memo
-    (λ t. SlotsAgree plant slots locals c.outputs.listed true t) (number * 64 + k) (number * 64 + 64)
-    (slots_store plant p slots locals c.outputs.listed among) (omega (arith, le))
+    (λ t. SlotsAgree plant slots locals c.outputs.listed o.is_open t) (number * 64 + k) (number * 64 + 64)
+    (slots_store plant p slots locals c.outputs.listed o.is_open among) (omega (arith, le))
     (λ j ge lt. (
       refl,
       same_before number k 64 (flag memo) (flag o.q.now) c.outputs.differing are (omega arith)

@@ -19,9 +19,9 @@ invariant-outputs l = record {
       × ((plant : PlantData) (changes : Changes) (p : ProgId) (locals : List Locals) → l.self.tables.now ≡ tables_of (chart_of plant p)
       → l.self.globals ≡ length plant.globals → l.self.locals ≡ locals_of plant p
       → AssignedTo plant changes p l.self.q.now true l.self.tables.now.actions (l.number * 64) l.fn.slots l.fn.memo.q
-      (λ t. SlotsAgree plant l.fn.slots locals l.fn.count true t)
+      (λ t. SlotsAgree plant l.fn.slots locals l.fn.count l.self.is_open t)
       → AssignedTo plant changes p l.self.q.now true l.self.tables.now.actions (l.number * 64 + k) l.slots l.fn.memo.q
-      (λ t. SlotsAgree plant l.slots locals l.listed true t));
+      (λ t. SlotsAgree plant l.slots locals l.listed l.self.is_open t));
 }
 
 abbrev pub decreases-outputs : goal.decreases-outputs

@@ -17,7 +17,7 @@ outputs-init c =
     let dropped = c.drop_memo.ensures in
     record {
       large = dropped.large;
-      opened = dropped.open ∙ c.requires.open;
+      opened = dropped.open;
       within = omega arith;
       taken = dropped.generation;
       noted = λ a lt fits. absurd (omega (arith, lt));
@@ -41,7 +41,7 @@ outputs-preserved c =
         variables = noted.large.variables ∙ c.give.ensures.large.variables ∙ before.large.variables;
         instances = noted.large.instances ∙ c.give.ensures.large.instances ∙ before.large.instances;
       };
-      opened = noted.open ∙ c.give.ensures.open;
+      opened = noted.open ∙ c.give.ensures.open ∙ before.opened;
       within = omega (arith, c.outputs-test.true, c.count.ensures);
       taken = noted.generation;
       noted = noted_one q a a (memo_at c.outputs.self.memos.items p.0).q (memo_at c.give.new.self.memos.items p.0).q
@@ -83,7 +83,7 @@ returns-clause-agrees c plant changes is h =
     c.leave_memo.ensures.agrees plant (with_changes (outputs plant p q 0 actions) changes)
     (all_assigned plant changes p q false actions actions_is c.outputs.self.slots.items (memo_at c.outputs.self.memos.items p.0).q
     (λ t. ImageAgrees plant c.outputs.self t) a
-    (image_stores plant p c.outputs.self (omega (arith, c.requires.instance, before.large.instances)) before.opened)
+    (image_stores plant p c.outputs.self (omega (arith, c.requires.instance, before.large.instances)))
     (omega (arith, before.within, c.requires.q)) same state)
     (λ long. all_noted plant changes p q false actions actions_is c.outputs.self.slots.items (memo_at c.outputs.self.memos.items p.0).q
     (λ t. ImageAgrees plant c.outputs.self t) a c.requires.q before.noted same state long)

@@ -1,4 +1,4 @@
-use Rattle.std.proofs.Common.{◌≡◌, ◌<◌, ◌≤◌, ◌-◌, ℕ, true, false, length}
+use Rattle.std.proofs.Common.{◌≡◌, ◌<◌, ◌≤◌, ◌-◌, ℕ, false, length}
 use Rattle.sfc_base.specs.Ticks.{Within}
 use Rattle.sfc_flags.specs.Flags.{flag}
 use Rattle.sfc_tables.specs.Tables.{tables_of}
@@ -13,7 +13,7 @@ use Rattle.sfc_image.proofs.image.Image.give_all.Given as goal
 abbrev pub invariant-outputs : goal.invariant-outputs
 invariant-outputs l = record {
   large : IsAsLarge l.fn.self l.self;
-  opened : is_open l.self ≡ true;
+  opened : is_open l.self ≡ is_open l.fn.self;
   within : l.action ≤ length l.q;
   taken : (memo_at l.self.memos.items l.instance.0).generation ≡ 0;
   noted : (a : ℕ) → a < l.action → a < length (memo_at l.self.memos.items l.instance.0).q

@@ -1,71 +1,113 @@
-use Rattle.std.proofs.Common.{◌≡◌, ◌∙◌, ◌<◌, ℕ, true, Bool, List, ap, arith, length, slice_set, subst, sym}
+use Rattle.std.proofs.Common.{◌≡◌, ◌∙◌, ◌<◌, ℕ, List, ap, arith, get_or, length, slice_set, subst, sym}
 use Rattle.std.proofs.lemmas.List.{with_items_is}
+use Rattle.sfc_base.specs.declared.ids.ProgId.{ProgId}
 use Rattle.sfc_flags.specs.Flags.{flag}
+use Rattle.sfc_plant.specs.Plants.{PlantData}
+use Rattle.sfc_image.specs.declared.image.Image.{Image}
 use Rattle.sfc_image.specs.declared.output_memo.OutputMemo.{OutputMemo}
 use Rattle.sfc_image.specs.declared.slot.Slot.{Slot}
 use Rattle.sfc_image.specs.declared.slot.Locals.{Locals}
 use Rattle.sfc_image.specs.Changes.{Changes}
 use Rattle.sfc_image.specs.Bodies.{with_changes}
 use Rattle.sfc_image.specs.Outputs.{outputs}
-use Rattle.sfc_image.specs.Private.Keeping.{SlotsAgree, locals_at, locals_of}
+use Rattle.sfc_image.specs.Private.Keeping.{SlotsAgree, locals_of}
 use Rattle.sfc_image.specs.Private.OutputMemos.{memo_at, HasQ, MemosHold}
 use Rattle.sfc_image.specs.Agreement.{ImageAgrees}
-use Rattle.sfc_image.proofs.OutputMemos.{memo_here, memo_read, memo_turned, memos_later, memos_none, none_later, none_set}
+use Rattle.sfc_image.proofs.OutputMemos.{memo_again, memo_here, memo_later, memo_read}
 use Rattle.sfc_image.proofs.Tracked.{locals_read}
 use Rattle.sfc_image.proofs.Viewed.{globals_end}
 use Rattle.sfc_image.proofs.image.Image.give_changed.Goals as goal
 
-pub returns-clause-agrees : goal.returns-clause-agrees
+-- what was read of the image
+module _ (plant : PlantData) (image : Image) (changes : Changes) (p : ProgId) (lt : p.0 < length image.locals.items)
+    (h : ImageAgrees plant image changes) where
+  ends : (l : Locals) → l ≡ get_or image.locals.items 0 l → l.first ≡ length plant.globals
+  unfolding ImageAgrees
+  ends l read =
+      let some : 0 < length image.locals.items = omega (arith, lt) in
+      globals_end plant image.slots.items image.locals.items image.count image.is_trying changes l.first some
+      (ap (λ (x : Locals). x.first) (locals_read image.locals.items 0 l some read)) h.slots
+
+  of_instance : (l : Locals) → l ≡ get_or image.locals.items p.0 l → l ≡ locals_of plant p
+  unfolding ImageAgrees
+  of_instance l read = locals_read image.locals.items p.0 l lt read ∙ h.slots.locals_are p lt
+
+  has : (slots : List Slot) (memo : OutputMemo) → slots ≡ image.slots.items → memo ≡ memo_at image.memos.items p.0
+      → ((a : ℕ) → HasQ plant p image.slots.items a (flag (memo_at image.memos.items p.0).q a)) → (a : ℕ) → HasQ plant p slots a (flag memo.q a)
+  has slots memo is read given a =
+      subst (λ (xs : List Slot). HasQ plant p xs a (flag memo.q a)) (sym is)
+      (subst (λ (x : OutputMemo). HasQ plant p image.slots.items a (flag x.q a)) (sym read) (given a))
+
+  agree : (slots : List Slot) → slots ≡ image.slots.items → SlotsAgree plant slots image.locals.items image.count image.is_trying changes
+  unfolding ImageAgrees
+  agree slots is =
+      subst (λ (xs : List Slot). SlotsAgree plant xs image.locals.items image.count image.is_trying changes) (sym is) h.slots
+
+pub returns-then-has_given-clause-agrees : goal.returns-then-has_given-clause-agrees
 unfolding ImageAgrees
-returns-clause-agrees c plant changes tables h =
+returns-then-has_given-clause-agrees c plant changes tables h =
     let image = c.args.self.now in
     let slots = image.slots.items in
     let memos = image.memos.items in
     let locals = image.locals.items in
     let p = c.args.instance in
-    let g = c.index.result.now.first in
-    let l = c.index-2.result.now in
+    let inside = c.requires.instance in
     let later = c.begin_generation.new.generation in
-    let new = c.give_differing-self.new.slots in
-    let m : OutputMemo = c.give_differing-self.new.memo in
-    let more = c.give_differing-self.result in
+    let gave = c.give_differing-count in
+    let new = gave.new.slots in
+    let m : OutputMemo = gave.new.memo in
     let done : Changes = with_changes (outputs plant p c.args.q.now 0 c.args.tables.now.actions) changes in
-    let some : 0 < length locals = omega (arith, c.requires.instance) in
-    let first : g ≡ (locals_at locals 0).first =
-    ap (λ (x : Locals). x.first) (locals_read locals 0 c.index.result.now some c.index.ensures) in
-    let ends : g ≡ length plant.globals =
-    globals_end plant slots locals image.count image.is_trying changes g some first h.slots in
-    let of_instance : l ≡ locals_of plant p =
-    locals_read locals p.0 l c.requires.instance c.index-2.ensures ∙ h.slots.locals_are p c.requires.instance in
-    let lt : p.0 < length memos = omega (arith, c.requires.instance, image.sized) in
+    let lt : p.0 < length memos = omega (arith, inside, image.sized) in
     let read = memo_read memos p.0 c.index_mut.result.now lt c.index_mut.ensures.value in
-    let has : (a : ℕ) → HasQ plant p c.deref_mut.result.now a (flag c.index_mut.result.now.q a) =
-    λ a. subst (λ (xs : List Slot). HasQ plant p xs a (flag c.index_mut.result.now.q a)) (sym c.deref_mut.ensures.value)
-    (subst (λ (x : OutputMemo). HasQ plant p slots a (flag x.q a)) (sym read) (c.requires.given plant changes a h)) in
-    let before : SlotsAgree plant c.deref_mut.result.now locals image.count true changes =
-    subst (λ (xs : List Slot). SlotsAgree plant xs locals image.count true changes) (sym c.deref_mut.ensures.value)
-    (subst (λ (b : Bool). SlotsAgree plant slots locals image.count b changes) c.requires.open h.slots) in
-    let after : SlotsAgree plant new locals more true done =
-    c.give_differing-self.ensures.agrees plant changes p locals tables ends of_instance has before in
-    let given : (a : ℕ) → HasQ plant p new a (flag m.q a) =
-    c.give_differing-self.ensures.given plant changes p locals tables ends of_instance has before in
-    let long : length new ≡ image.slots.len = c.give_differing-self.auto.slots ∙ c.deref_mut.ensures.len in
-    let is = sym (with_items_is image.slots new long) in
-    let same : m.generation ≡ (memo_at memos p.0).generation =
-    c.give_differing-self.ensures.generation ∙ ap (λ (x : OutputMemo). x.generation) read in
-    let none = none_later plant slots memos image.generation later c.begin_generation.ensures h.memos in
-    let held =
-    memo_turned plant slots memos later p m lt same none
-    (memos_later plant slots slots memos image.generation later c.begin_generation.ensures h.memos) in
+    let now = c.deref_mut.ensures.value in
+    let globals = ends plant image changes p inside h c.index.result.now c.index.ensures in
+    let here = of_instance plant image changes p inside h c.index-2.result.now c.index-2.ensures in
+    let had = has plant image changes p inside h c.deref_mut.result.now c.index_mut.result.now now read (λ a. c.requires.given plant changes a h) in
+    let before = agree plant image changes p inside h c.deref_mut.result.now now in
+    let given = gave.ensures.given plant changes p locals tables globals here had before in
+    let is = sym (with_items_is image.slots new (gave.auto.slots ∙ c.deref_mut.ensures.len)) in
+    let same = gave.ensures.generation ∙ ap (λ (x : OutputMemo). x.generation) read in
     c.leave_memo.ensures.agrees plant done
     (record {
       slots =
-          subst (λ (xs : List Slot). SlotsAgree plant xs locals more image.is_trying done) is
-          (subst (λ (b : Bool). SlotsAgree plant new locals more b done) (sym c.requires.open) after);
+          subst (λ (xs : List Slot). SlotsAgree plant xs locals gave.result.0 image.is_trying done) is
+          (gave.ensures.agrees plant changes p locals tables globals here had before);
       memos =
           subst (λ (xs : List Slot). MemosHold plant xs (slice_set memos p.0 m) later) is
-          (memos_none plant slots new (slice_set memos p.0 m) later (none_set memos later p.0 m lt same none) held);
+          (memo_later plant slots new memos image.generation later p m lt same c.begin_generation.ensures h.memos);
     })
     (λ sized a.
     subst (λ (xs : List Slot). HasQ plant p xs a (flag (memo_at (slice_set memos p.0 m) p.0).q a)) is
     (subst (λ (x : OutputMemo). HasQ plant p new a (flag x.q a)) (sym (memo_here memos p.0 m lt)) (given a)))
+
+pub returns-else-has_given-clause-agrees : goal.returns-else-has_given-clause-agrees
+unfolding ImageAgrees
+returns-else-has_given-clause-agrees c plant changes tables h =
+    let image = c.args.self.now in
+    let memos = image.memos.items in
+    let locals = image.locals.items in
+    let p = c.args.instance in
+    let inside = c.requires.instance in
+    let gave = c.give_differing-count in
+    let new = gave.new.slots in
+    let m : OutputMemo = gave.new.memo in
+    let done : Changes = with_changes (outputs plant p c.args.q.now 0 c.args.tables.now.actions) changes in
+    let lt : p.0 < length memos = omega (arith, inside, image.sized) in
+    let read = memo_read memos p.0 c.index_mut.result.now lt c.index_mut.ensures.value in
+    let now = c.deref_mut.ensures.value in
+    let globals = ends plant image changes p inside h c.index.result.now c.index.ensures in
+    let here = of_instance plant image changes p inside h c.index-2.result.now c.index-2.ensures in
+    let had = has plant image changes p inside h c.deref_mut.result.now c.index_mut.result.now now read (λ a. c.requires.given plant changes a h) in
+    let before = agree plant image changes p inside h c.deref_mut.result.now now in
+    let given = gave.ensures.given plant changes p locals tables globals here had before in
+    let is = sym (with_items_is image.slots new (gave.auto.slots ∙ c.deref_mut.ensures.len)) in
+    let still = gave.ensures.same c.if-has_given.false ∙ now in
+    record {
+      slots =
+          subst (λ (xs : List Slot). SlotsAgree plant xs locals gave.result.0 image.is_trying done) is
+          (gave.ensures.agrees plant changes p locals tables globals here had before);
+      memos =
+          subst (λ (xs : List Slot). MemosHold plant xs (slice_set memos p.0 m) image.generation) is
+          (memo_again plant new memos image.generation p m lt (gave.ensures.generation ∙ ap (λ (x : OutputMemo). x.generation) read) given
+          (subst (λ (xs : List Slot). MemosHold plant xs memos image.generation) (sym still) h.memos));
+    }

@@ -87,6 +87,6 @@ returns-then-has_stored-clause-agrees c plant changes h =
     record {
       slots =
           stored_again plant image.slots.items image.locals.items image.count image.is_trying changes (record { 0 = c.args.i }) c.args.value
-          c.if-self.true c.requires (c.has_stored.ensures c.if-has_stored.true) h.slots;
+          c.requires (c.has_stored.ensures c.if-has_stored.true) h.slots;
       memos = h.memos;
     }
