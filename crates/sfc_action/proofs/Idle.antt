@@ -30,7 +30,7 @@ pub none_gathered : (blocks : List Block) (sets : Timed) → All IsIdle blocks �
 none_gathered blocks sets idle = gathered_all blocks sets 0 (omega arith) (λ k d ge lt. idle k d lt)
 
 -- those of the same actions and qualifiers are equal
-same_block : (x y : Block) → delay_of x ≡ delay_of y → IsIdle x → IsIdle y → x ≡ y
+pub same_block : (x y : Block) → delay_of x ≡ delay_of y → IsIdle x → IsIdle y → x ≡ y
 same_block x y e h k =
     let never = none_is (on_delay_in x.delay) h.runs ∙ sym (none_is (on_delay_in y.delay) k.runs) in
     λ i. record {

@@ -1,5 +1,6 @@
 pub mod Calls
 pub mod Choices
+pub mod CopiedDelays
 pub mod DelayLists
 pub mod Elapsed
 pub mod Elements
@@ -16,6 +17,7 @@ pub mod RowTables
 pub mod SetTables
 pub mod Joins
 pub mod StepGiving
+pub mod Stepping
 pub mod Spans
 pub mod Numbers
 pub mod Sizes

@@ -15,7 +15,14 @@ abbrev line : ℕ → ℕ → ℕ → Qualifier → StepAction
 line n s a qualifier = record { number = record { 0 = n }; step = record { 0 = s }; action = record { 0 = a }; qualifier = qualifier }
 
 abbrev tables_of : List StepAction → Tabled
-tables_of associations = record { initial = true ∷ false ∷ []; sides = []; ranked = []; actions = []; associations = associations }
+tables_of associations = record {
+  initial = true ∷ false ∷ [];
+  sides = [];
+  least_times = [];
+  ranked = [];
+  actions = [];
+  associations = associations;
+}
 
 -- each action has one qualifier, all at step 0, with times of 20 ms; by their numbers
 abbrev bN : ℕ

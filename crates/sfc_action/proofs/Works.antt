@@ -5,12 +5,7 @@ use Rattle.std.proofs.lemmas.Bool.Decides.{nat_tests}
 use Rattle.std.proofs.lemmas.List.Elements.{All-filter}
 use Rattle.sfc_tables.specs.declared.step_action.StepAction.{StepAction}
 use Rattle.sfc_tables.specs.Tables.{Tabled, AreTables}
-use Rattle.sfc_action.specs.Private.Marking.{of_step, IsWithin}
-
--- how many are of step `at` or a later one
-pub left : List StepAction → ℕ → ℕ
-left [] at = 0
-left (x ∷ xs) at = cond (nat_le at x.step.0) 1 0 + left xs at
+use Rattle.sfc_action.specs.Private.Marking.{of_step, left, IsWithin}
 
 one_left : (k at s : ℕ) → at ≤ s → cond (k == s) 1 0 + cond (nat_le (suc s) k) 1 0 ≤ cond (nat_le at k) 1 0
 one_left k at s le = grind (arith, nat_tests)
@@ -24,6 +19,15 @@ unfolding left
 work_left [] at s le = omega arith
 work_left (x ∷ xs) at s le =
     omega (arith, work_left xs at s le, one_left x.step.0 at s le, length_cond (x.step.0 == s) x (of_step xs s))
+
+-- of later steps there are no more
+pub left_less : (xs : List StepAction) (at to : ℕ) → at ≤ to → left xs to ≤ left xs at
+unfolding left
+left_less [] at to le = omega arith
+left_less (x ∷ xs) at to le = omega (arith, left_less xs at to le, one_less x.step.0 at to le)
+  where
+    one_less : (k at to : ℕ) → at ≤ to → cond (nat_le to k) 1 0 ≤ cond (nat_le at k) 1 0
+    one_less k at to le = grind (arith, nat_tests)
 
 pub all_left : (xs : List StepAction) → left xs 0 ≤ length xs
 unfolding left

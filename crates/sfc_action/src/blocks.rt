@@ -45,10 +45,11 @@ fn is_called(qualifier: TimedQualifier, action: usize, inputs: &Inputs, stores: 
     requires action { action < length inputs.now.any_time }
     ensures { result ≡ flag (input_of qualifier inputs.now stores.now) action }
 {
+    let timed = inputs.words(action / 64).timed;
     match qualifier {
-        TimedQualifier::Limited | TimedQualifier::Delayed | TimedQualifier::DelayedStored => {
-            inputs.has_timed(qualifier, action)
-        }
+        TimedQualifier::Limited => timed.limited.get(action),
+        TimedQualifier::Delayed => timed.delayed.get(action),
+        TimedQualifier::DelayedStored => timed.delayed_stored.get(action),
         TimedQualifier::StoredDelayed => stores.has_stored_delayed(action),
         TimedQualifier::StoredLimited => stores.has_stored_limited(action),
     }

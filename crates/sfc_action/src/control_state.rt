@@ -243,8 +243,8 @@ impl ControlState {
         ensures copy { IsCopy other.now self.new }
         ensures ticks { Within (length self.old.q + length self.old.blocks) ticks.old ticks.new }
     {
+        self.is_single = other.is_single;
         self.copy_all(other, ticks);
         self.blocks.copy_from(&other.blocks, ticks);
-        self.is_single = other.is_single;
     }
 }

@@ -152,9 +152,8 @@ impl Delays {
         if self.is_idle && other.is_idle {
             return;
         }
-        self.blocks.copy_from_slice(&other.blocks);
-        copy_live(&mut self.live, &other.live);
         self.is_idle = other.is_idle;
         ticks.tick_all(self.blocks.len());
+        copy_live(&mut self.blocks, &mut self.live, &other.blocks, &other.live);
     }
 }

@@ -1,5 +1,5 @@
 -- What the associations that act leave as inputs.
-use Rattle.std.specs.Prelude.{ℕ, ◌≡◌, ◌==◌, ◌<◌, true, false, cond}
+use Rattle.std.specs.Prelude.{ℕ, ◌≡◌, ◌==◌, ◌<◌, ◌+◌, ◌-◌, nat_le, Bool, true, false, cond}
 use Rattle.std.specs.Prelude.{List, [], ◌∷◌, length, filter, replicate, slice_set, slice_index_or, ℤ, pos}
 use Rattle.sfc_base.specs.declared.qualifier.TimedQualifier.{TimedQualifier}
 use Rattle.sfc_flags.specs.Flags.{flag}
@@ -80,6 +80,15 @@ abbrev pub presets_at : List ℤ → List StepAction → List ℕ → List ℤ �
 presets_at times associations [] presets = presets
 presets_at times associations (s ∷ places) presets =
     presets_at times associations places (all_presets times (of_step associations s) presets)
+
+-- how many are of step `at` or a later one
+unfoldable pub left : List StepAction → ℕ → ℕ
+left [] at = 0
+left (x ∷ xs) at = cond (nat_le at x.step.0) 1 0 + left xs at
+
+-- what there is to do from step `at` on: the steps and their associations
+abbrev pub work_from : List StepAction → List Bool → ℕ → ℕ
+work_from associations active at = (length active - at) + left associations at
 
 -- among n actions, and with its time among m
 pub record IsWithin (n m : ℕ) (x : StepAction) : Type 0 where

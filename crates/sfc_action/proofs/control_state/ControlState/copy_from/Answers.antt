@@ -1,4 +1,4 @@
-use Rattle.std.proofs.Common.{ap, length, refl}
+use Rattle.std.proofs.Common.{ap, length}
 use Rattle.sfc_flags.proofs.Wordwise.{same_flags}
 use Rattle.sfc_action.proofs.Rows.{same_kept}
 use Rattle.sfc_action.proofs.control_state.ControlState.copy_from.Goals as goal
@@ -13,5 +13,5 @@ returns-clause-copy c =
       q = same_flags n x.q y.q hx.q hy.q (λ a. ap (λ r. r.q) (rows a));
       executed = same_flags n x.executed y.executed hx.executed hy.executed (λ a. ap (λ r. r.executed) (rows a));
       blocks = c.copy_from.ensures.copy;
-      single = refl;
+      single = c.copy_all.ensures.single;
     }
