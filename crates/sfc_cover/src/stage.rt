@@ -2,16 +2,15 @@
 
 use sfc_image::image::Image;
 
-/// The variables as they stood before the scan of an instance, and room for the times of its steps after it.
+/// The variables as they stood before the scan of an instance.
 pub struct Stage {
     image: Image,
-    times: Vec<i64>,
 }
 
 // By hand, so that a caller that drops one proves one call.
 impl Drop for Stage {
     fn drop(self) {
-        let Stage { image: _, times: _ } = self;
+        let Stage { image: _ } = self;
     }
 }
 
@@ -25,11 +24,8 @@ use crate::arms::Arms;
 use crate::look::chart_of;
 use crate::walk::{Acting, walk_statements};
 use sfc_base::ids::ActionNumber;
-use sfc_base::limits::STEPS;
-use sfc_base::references::StepId;
 use sfc_base::ticks::Ticks;
 use sfc_expr::fault::Fault;
-use sfc_image::step_readings::StepReadings;
 use sfc_instance::program_view::ProgramView;
 use sfc_instances::instances::Instances;
 use sfc_plant::association::Target;
@@ -38,22 +34,11 @@ use sfc_plant::plant::Plant;
 use sfc_tables::tables::Tables;
 use std::alloc::{AllocError, Global};
 
-/// The bodies of an instance: its chart, the branches of its IFs, and the times of its steps after the scan.
+/// The bodies of an instance: its chart, and the branches of its IFs.
 #[derive(Clone, Copy)]
 struct Bodies<'a> {
     chart: &'a Chart,
     arms: &'a Arms,
-    times: &'a [i64],
-}
-
-// The times of the steps after the scan, by number.
-fn measure(times: &mut [i64], view: &ProgramView<'_>) {
-    for number in 0..view.tables().steps() {
-        let elapsed = view.elapsed(StepId(number as u16));
-        if let Some(time) = times.get_mut(number) {
-            *time = elapsed;
-        }
-    }
 }
 
 // The body of an action, where it has one and was executed.
@@ -81,10 +66,7 @@ fn walk_action(
     let acting = Acting {
         instance: view.instance(),
         arms: bodies.arms,
-        readings: StepReadings {
-            active: view.active_flags(),
-            times: bodies.times,
-        },
+        readings: view.readings(),
         q: view.q(action),
     };
     let place = bodies.arms.start(id);
@@ -124,7 +106,6 @@ impl Stage {
     {
         Ok(Stage {
             image: Image::new(alloc, plant, tables)?,
-            times: vec![in alloc; 0; STEPS]?,
         })
     }
 
@@ -149,16 +130,11 @@ impl Stage {
         if !executes_body(view, chart) {
             return;
         }
-        measure(&mut self.times, view);
         let ticks = &mut Ticks::new();
         self.image.begin();
         self.image
             .assign_outputs(view.instance(), view.tables(), view.q_flags(), ticks);
-        let bodies = Bodies {
-            chart,
-            arms,
-            times: &self.times,
-        };
+        let bodies = Bodies { chart, arms };
         let _ended = walk_actions(&mut self.image, marks, view, bodies);
         self.image.undo(ticks);
     }

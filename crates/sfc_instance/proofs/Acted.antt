@@ -79,7 +79,7 @@ module _ (plant : PlantData) (p : ProgId) (life : Life) (t : ℤ) (a : ℕ) (com
 -- ---- all of them
 
 module _ (targets : List Target) (i : ℕ) (target : Target) where
-  split : i < length targets → slice_get targets i ≡ Some target → drop i targets ≡ target ∷ drop (i + 1) targets
+  pub split : i < length targets → slice_get targets i ≡ Some target → drop i targets ≡ target ∷ drop (i + 1) targets
   split lt is = at targets i is
     where
       at : (targets : List Target) (i : ℕ) → slice_get targets i ≡ Some target → drop i targets ≡ target ∷ drop (i + 1) targets
@@ -93,48 +93,49 @@ module _ (targets : List Target) (i : ℕ) (target : Target) where
       → actions_work chart (drop i targets) ≡ action_work chart target + actions_work chart (drop (i + 1) targets)
   work_split chart lt is = ap (actions_work chart) (split lt is) ∙ sum_by-cons (action_work chart) target (drop (i + 1) targets)
 
-module _ (plant : PlantData) (p : ProgId) (life : Life) (t : ℤ) (committed : List Change) (targets : List Target) (i : ℕ) (target : Target) where
-  -- where an action succeeded the others follow
-  pub acts_on : (image : Image) (before changes : List Change) (answer : Result (Unit {0}) Fault) → is_err answer ≡ false
-      → i < length targets → slice_get targets i ≡ Some target
-      → Acts plant committed image answer (acted plant p life t i target changes)
-      → after_actions plant p life t i (drop i targets) changes ≡ after_actions plant p life t 0 targets (before ++ committed)
-      → Follows plant p life t committed targets before (i + 1) image
-  acts_on image before changes (Err f) off lt is h so = absurd cc
-  acts_on image before changes (Ok u) off lt is h so = record {
-    tried = h.tried;
-    agrees = h.agrees;
-    rest =
-        sym (ap (λ (ts : List Target). after_actions plant p life t i ts changes) (split targets i target lt is)
-        ∙ ap (λ (r : Result (List Change) Fault). and_then r (λ after. after_actions plant p life t (suc i) (drop (i + 1) targets) after)) h.ends
-        ∙ ap (λ (k : ℕ). after_actions plant p life t k (drop (i + 1) targets) (h.tried ++ committed)) (next i))
-        ∙ so;
-  }
-    where
-      next : (i : ℕ) → suc i ≡ i + 1
-      next i = omega arith
+module _ (plant : PlantData) (p : ProgId) (life : Life) (t : ℤ) (committed : List Change) (targets : List Target) (from i : ℕ) (target : Target)
+  where
+    -- where an action succeeded the others follow
+    pub acts_on : (image : Image) (before changes : List Change) (answer : Result (Unit {0}) Fault) → is_err answer ≡ false
+        → i < length targets → slice_get targets i ≡ Some target
+        → Acts plant committed image answer (acted plant p life t i target changes)
+        → after_actions plant p life t i (drop i targets) changes ≡ after_actions plant p life t from (drop from targets) (before ++ committed)
+        → Follows plant p life t committed targets from before (i + 1) image
+    acts_on image before changes (Err f) off lt is h so = absurd cc
+    acts_on image before changes (Ok u) off lt is h so = record {
+      tried = h.tried;
+      agrees = h.agrees;
+      rest =
+          sym (ap (λ (ts : List Target). after_actions plant p life t i ts changes) (split targets i target lt is)
+          ∙ ap (λ (r : Result (List Change) Fault). and_then r (λ after. after_actions plant p life t (suc i) (drop (i + 1) targets) after)) h.ends
+          ∙ ap (λ (k : ℕ). after_actions plant p life t k (drop (i + 1) targets) (h.tried ++ committed)) (next i))
+          ∙ so;
+    }
+      where
+        next : (i : ℕ) → suc i ≡ i + 1
+        next i = omega arith
 
-  -- where it failed its fault is that of all
-  pub acts_end : (image : Image) (before changes : List Change) (answer : Result (Unit {0}) Fault) → is_err answer ≡ true
-      → i < length targets → slice_get targets i ≡ Some target
-      → Acts plant committed image answer (acted plant p life t i target changes)
-      → after_actions plant p life t i (drop i targets) changes ≡ after_actions plant p life t 0 targets (before ++ committed)
-      → Acts plant committed image answer (after_actions plant p life t 0 targets (before ++ committed))
-  acts_end image before changes (Ok u) on lt is h so = absurd cc
-  acts_end image before changes (Err f) on lt is h so = record {
-    tried = h.tried;
-    agrees = h.agrees;
-    ends =
-        sym so
-        ∙ ap (λ (ts : List Target). after_actions plant p life t i ts changes) (split targets i target lt is)
-        ∙ ap (λ (r : Result (List Change) Fault). and_then r (λ after. after_actions plant p life t (suc i) (drop (i + 1) targets) after)) h.ends;
-  }
+    -- where it failed its fault is that of all
+    pub acts_end : (image : Image) (before changes : List Change) (answer : Result (Unit {0}) Fault) → is_err answer ≡ true
+        → i < length targets → slice_get targets i ≡ Some target
+        → Acts plant committed image answer (acted plant p life t i target changes)
+        → after_actions plant p life t i (drop i targets) changes ≡ after_actions plant p life t from (drop from targets) (before ++ committed)
+        → Acts plant committed image answer (after_actions plant p life t from (drop from targets) (before ++ committed))
+    acts_end image before changes (Ok u) on lt is h so = absurd cc
+    acts_end image before changes (Err f) on lt is h so = record {
+      tried = h.tried;
+      agrees = h.agrees;
+      ends =
+          sym so
+          ∙ ap (λ (ts : List Target). after_actions plant p life t i ts changes) (split targets i target lt is)
+          ∙ ap (λ (r : Result (List Change) Fault). and_then r (λ after. after_actions plant p life t (suc i) (drop (i + 1) targets) after)) h.ends;
+    }
 
 -- after the last action
-pub acts_all : (plant : PlantData) (p : ProgId) (life : Life) (t : ℤ) (committed : List Change) (targets : List Target) (before : List Change) (i : ℕ)
-    (image : Image) → length targets ≤ i → Follows plant p life t committed targets before i image
-    → Acts plant committed image (Ok tt) (after_actions plant p life t 0 targets (before ++ committed))
-acts_all plant p life t committed targets before i image le h = record {
+pub acts_all : (plant : PlantData) (p : ProgId) (life : Life) (t : ℤ) (committed : List Change) (targets : List Target) (from : ℕ)
+    (before : List Change) (i : ℕ) (image : Image) → length targets ≤ i → Follows plant p life t committed targets from before i image
+    → Acts plant committed image (Ok tt) (after_actions plant p life t from (drop from targets) (before ++ committed))
+acts_all plant p life t committed targets from before i image le h = record {
   tried = h.tried;
   agrees = h.agrees;
   ends = sym h.rest ∙ ap (λ (ts : List Target). after_actions plant p life t i ts (h.tried ++ committed)) (drop_all i targets le);

@@ -1,5 +1,7 @@
 -- states that differ by what a scan may have changed
 pub mod Apart
+-- conditions that ask for a least time of a step
+pub mod Asked
 -- conditions of all transitions
 pub mod Evaluated
 -- those that may be enabled
@@ -10,6 +12,8 @@ pub mod Timed
 pub mod Varied
 -- actions one after the other
 pub mod Acted
+-- declared actions that aren't executed
+pub mod Skipped
 -- Boolean actions, all at once
 pub mod Outputs
 -- what the actions of a scan leave in the image

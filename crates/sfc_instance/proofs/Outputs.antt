@@ -28,8 +28,11 @@ use Rattle.sfc_instance.specs.Life.{Life, control_scans}
 use Rattle.sfc_instance.specs.ProgramScan.{after_actions}
 use Rattle.sfc_instance.specs.Work.{action_work, actions_work}
 
+abbrev pub action_id : ℕ → ActionId
+action_id i = record { 0 = i }
+
 abbrev pub declared : ℕ → Target
-declared i = let id : ActionId = record { 0 = i } in Declared id
+declared i = Declared (action_id i)
 
 abbrev booleans : List Variable → List Target
 booleans vs = map (λ v. Boolean v) vs

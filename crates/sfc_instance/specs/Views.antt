@@ -1,6 +1,6 @@
 -- What a `ProgramView` shows: an instance of a plant, its tables, its steps and action control, and the variables; and what a
 -- `ProgramMoment` reads over one.
-use Rattle.std.specs.Prelude.{◌≡◌, cond, nat_lt, false, List, [], ℤ, pos}
+use Rattle.std.specs.Prelude.{◌≡◌, cond, nat_lt, false, List, ℤ, pos}
 use Rattle.sfc_expr.specs.Environment.{Environment}
 use Rattle.sfc_base.specs.declared.ids.ProgId.{ProgId}
 use Rattle.sfc_plant.specs.Plants.{PlantData}
@@ -12,7 +12,8 @@ use Rattle.sfc_image.specs.Changes.{Change}
 use Rattle.sfc_image.specs.Environments.{environment_of}
 use Rattle.sfc_instance.specs.declared.program_moment.ProgramMoment.{ProgramMoment}
 use Rattle.sfc_instance.specs.declared.program_view.ProgramView.{ProgramView}
-use Rattle.sfc_instance.specs.Life.{InstanceState, evolution_rows}
+use Rattle.sfc_instance.specs.Life.{InstanceState, evolution_rows, latest_instant}
+use Rattle.sfc_instance.specs.ProgramScan.{step_times}
 use Rattle.sfc_instance.specs.Agreement.{ProgramAgrees, step_total, shown_elapsed, elapsed_at}
 
 -- the plant, and which of its instances is shown
@@ -51,7 +52,7 @@ pub record AreShown (view : ProgramView) (changes : List Change) (instance_state
   pub program : ProgramAgrees view.tables.now view.program.now instance_state
   pub variables : image.environment_in view.variables ≡ environment_of view.plant.now changes view.instance record {
     active = active_steps view.tables.now (evolution_rows view.tables.now instance_state.life);
-    times = [];
+    times = step_times view.tables.now instance_state.life (latest_instant instance_state.life);
     q = false;
   }
 

@@ -35,13 +35,11 @@ action_work chart (Declared id) = 2 + body_nodes (body_in (slice_get chart.actio
 abbrev pub actions_work : Chart → List Target → ℕ
 actions_work chart targets = sum_by (action_work chart) targets
 
--- A scan of a program instance among so many variables: the times of the steps before it, the conditions, the
--- times of the associations, steps and action control on a copy, the actions, and the variables that are then kept or
--- given up.
+-- A scan of a program instance among so many variables: the conditions, the times of the associations, steps and action
+-- control on a copy, the actions, and the variables that are then kept or given up.
 abbrev pub scan_work : Tabled → Chart → ℕ → ℕ
 scan_work tables chart variables =
-    length tables.initial
-    + condition_work tables chart tables.ranked
+    condition_work tables chart tables.ranked
     + length tables.associations
     + copy_work tables
     + advance_work tables

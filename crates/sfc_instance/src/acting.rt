@@ -1,6 +1,6 @@
 //! What the actions of a scan do with the variables (2.6.4.1, 2.6.4.5).
 
-ghost use Rattle.std.specs.Prelude.{◌≡◌, ◌<◌, ◌+◌, ◌++◌, List, ℤ, false, true, length, slice_get};
+ghost use Rattle.std.specs.Prelude.{◌≡◌, ◌<◌, ◌≤◌, ◌≤ℤ◌, ◌+◌, ◌-◌, ◌^◌, ◌++◌, ℕ, [], List, ℤ, pos, false, true, drop, length, slice_get};
 ghost use Rattle.sfc_expr.specs.Trees.{body_of as statements_body};
 ghost use Rattle.sfc_plant.specs.declared.association.Target.TheVariants.{Declared};
 ghost use Rattle.sfc_expr.specs.Nodes.{body_nodes};
@@ -11,7 +11,8 @@ ghost use Rattle.sfc_image.specs.Agreement.{ImageAgrees, IsAsLarge, instance_tot
 ghost use Rattle.sfc_instance.specs.Life.{Life, evolution_rows};
 ghost use Rattle.sfc_tables.specs.Tables.{Tabled, tables_of};
 ghost use Rattle.sfc_evolve.specs.Evolution.{active_steps};
-ghost use Rattle.sfc_evolve.specs.Agreement.{AreMeasured};
+ghost use Rattle.sfc_action.specs.ActionControl as control;
+ghost use Rattle.sfc_action.specs.Agreement.{ControlsAgree, action_total};
 ghost use Rattle.sfc_instance.specs.Contexts.{IsContextOf};
 ghost use Rattle.sfc_instance.specs.ProgramScan.{acted, after_actions, body_in};
 ghost use Rattle.sfc_instance.specs.Agreement.{IsStateFor, StateAgrees};
@@ -20,6 +21,7 @@ ghost use Rattle.sfc_instance.specs.Private.Acting.{IsAfter, Acts, HasActed};
 
 use crate::program_context::ProgramContext;
 use crate::state::State;
+use sfc_action::controls::Controls;
 use sfc_base::ids::{ActionId, ActionNumber};
 use sfc_base::ticks::Ticks;
 use sfc_expr::fault::Fault;
@@ -28,12 +30,12 @@ use sfc_image::image::Image;
 use sfc_image::step_readings::StepReadings;
 use sfc_plant::chart::Chart;
 
-/// After a scan: its context, its steps and action control, and the times of the steps, by number.
+/// After a scan: its context, its steps and action control, and what bodies read of the steps.
 #[derive(Clone, Copy)]
 pub struct Acting<'a> {
     pub context: ProgramContext<'a>,
     pub state: &'a State,
-    pub times: &'a [i64],
+    pub steps: StepReadings<'a>,
 }
 
 // The statements of a declared action.
@@ -43,20 +45,6 @@ fn body_of(chart: &Chart, id: ActionId) -> &[Statement]
     match chart.actions.as_slice().get(id.0) {
         Some(action) => action.body.as_slice(),
         None => &[],
-    }
-}
-
-impl<'a> Acting<'a> {
-    // What bodies read of the steps.
-    fn readings(self) -> StepReadings<'a>
-        ensures active { (tables : Tabled) (life : Life) → StateAgrees tables self.entry.state.now life →
-            result.active.now ≡ active_steps tables (evolution_rows tables life) }
-        ensures times { result.times.now ≡ self.entry.times.now }
-    {
-        StepReadings {
-            active: self.state.steps.active_flags(),
-            times: self.times,
-        }
     }
 }
 
@@ -86,32 +74,47 @@ fn act_one(
     }
     let body = body_of(acting.context.chart, id);
     let q = controls.q(action);
-    image.execute(acting.context.instance, body, acting.readings(), q, ticks)
+    image.execute(acting.context.instance, body, acting.steps, q, ticks)
 }
 
-// All actions: the variables of the Boolean ones are assigned all at once, and then the declared ones follow, one after
-// the other; the first fault of a body ends them. The image's transaction is open.
-fn act(acting: Acting<'_>, image: &mut Image, ticks: &mut Ticks) -> Result<(), Fault>
+// The number of the first executed action from `first` on, or that of all where there is none. Those that are passed are counted.
+fn first_executed(controls: &Controls, first: usize, ticks: &mut Ticks) -> usize
+    requires { first ≤ action_total controls.now }
+    ensures low { first ≤ result }
+    ensures high { result ≤ action_total controls.now }
+    ensures passed { (tables : Tabled) (scans : List control.Scan) (a : ℕ) → first ≤ a → a < result → ControlsAgree tables controls.now scans →
+        control.executed tables a scans ≡ false }
+    ensures ticks { Within (result - first) ticks.old ticks.new }
+{
+    let executed = controls.executed_flags();
+    let mut passed = Ticks::new();
+    let Some(found) = executed.next_set(first, &mut passed) else {
+        ticks.tick_all(executed.count() - first);
+        return executed.count();
+    };
+    ticks.tick_all(found - first);
+    found
+}
+
+// The declared actions from the one of this number on, one after the other; the first fault of a body ends them. The image's transaction
+// is open.
+fn act(acting: Acting<'_>, image: &mut Image, from: usize, ticks: &mut Ticks) -> Result<(), Fault>
     requires tables { acting.context.tables.now ≡ tables_of acting.context.chart.now }
     requires sizes { IsStateFor acting.context.tables.now acting.state.now }
     requires instance { acting.context.instance.0 < instance_total image.old }
-    requires open { is_open image.old ≡ true }
+    requires low { length acting.context.tables.now.actions ≤ from + length acting.context.chart.now.actions }
     ensures large { IsAsLarge image.old image.new }
     ensures open { is_open image.new ≡ is_open image.old }
     ensures agrees { (plant : PlantData) (life : Life) (t : ℤ) (committed tried : List Change) → IsAfter plant acting.entry life t →
         ImageAgrees plant image.old (trying committed tried) → Acts plant committed image.new result
-        (after_actions plant acting.entry.context.instance life t 0 acting.entry.context.tables.now.actions (tried ++ committed)) }
-    ensures ticks { Within (actions_work acting.entry.context.chart.now acting.entry.context.tables.now.actions) ticks.old ticks.new }
+        (after_actions plant acting.entry.context.instance life t from (drop from acting.entry.context.tables.now.actions) (tried ++ committed)) }
+    ensures ticks { Within (actions_work acting.entry.context.chart.now (drop from acting.entry.context.tables.now.actions)
+        - (length acting.entry.context.tables.now.actions - from)) ticks.old ticks.new }
 {
-    let ProgramContext {
-        tables,
-        chart,
-        instance,
-    } = acting.context;
-    image.assign_outputs(instance, tables, acting.state.controls.q_flags(), ticks);
+    let ProgramContext { tables, chart, .. } = acting.context;
     let count = tables.actions();
     let first = count - chart.actions.as_slice().len();
-    for action in first..count {
+    for action in from..count {
         let id = ActionId(action - first);
         let answer = act_one(acting, image, ActionNumber(action), id, ticks);
         if answer.is_err() {
@@ -119,6 +122,21 @@ fn act(acting: Acting<'_>, image: &mut Image, ticks: &mut Ticks) -> Result<(), F
         }
     }
     Ok(())
+}
+
+// A transaction is opened, where one is wanted.
+fn begin_if(image: &mut Image, is_wanted: bool)
+    requires { is_open image.old ≡ false }
+    ensures large { IsAsLarge image.old image.new }
+    ensures open { is_open image.new ≡ is_wanted }
+    ensures begun { is_wanted ≡ true → (plant : PlantData) (committed : List Change) →
+        ImageAgrees plant image.old (settled committed) → ImageAgrees plant image.new (trying committed []) }
+    ensures unchanged { is_wanted ≡ false → (plant : PlantData) (committed : List Change) →
+        ImageAgrees plant image.old (settled committed) → ImageAgrees plant image.new (settled committed) }
+{
+    if is_wanted {
+        image.begin();
+    }
 }
 
 // What was tried is committed, or given up.
@@ -139,34 +157,46 @@ fn close(image: &mut Image, keep: bool, ticks: &mut Ticks)
     }
 }
 
-/// What the actions do after a scan that left these steps and this action control, where the times of the steps are worked
-/// out. After a fault of a body the variables are as before.
+/// What the actions do after a scan at t that left these steps and this action control: the variables of the Boolean ones are assigned all
+/// at once, and then the declared ones follow, one after the other; the first fault of a body ends them. After it the variables are as
+/// before: a transaction is opened where a body is executed, since nothing else can fault.
 pub fn act_or_undo(
     context: ProgramContext<'_>,
     state: &State,
     image: &mut Image,
+    t: i64,
     ticks: &mut Ticks,
 ) -> Result<(), Fault>
     requires tables { context.tables.now ≡ tables_of context.chart.now }
     requires state { IsStateFor context.tables.now state.now }
     requires instance { context.instance.0 < instance_total image.old }
     requires closed { is_open image.old ≡ false }
+    requires low { pos 0 ≤ℤ t }
+    requires high { t ≤ℤ pos (2 ^ 62) }
     ensures large { IsAsLarge image.old image.new }
     ensures closed { is_open image.new ≡ false }
-    ensures agrees { (plant : PlantData) (life : Life) (t : ℤ) (changes : List Change) → IsContextOf plant context.entry →
-        StateAgrees context.entry.tables.now state.now life → AreMeasured t state.now.steps →
-        ImageAgrees plant image.old (settled changes) → HasActed plant changes image.new result
+    ensures agrees { (plant : PlantData) (life : Life) (changes : List Change) → IsContextOf plant context.entry →
+        StateAgrees context.entry.tables.now state.now life → ImageAgrees plant image.old (settled changes) → HasActed plant changes image.new result
         (after_actions plant context.entry.instance life t 0 context.entry.tables.now.actions changes) }
     ensures ticks { Within (actions_work context.entry.chart.now context.entry.tables.now.actions + variable_total image.old)
         ticks.old ticks.new }
 {
+    let count = context.tables.actions();
+    let first = count - context.chart.actions.as_slice().len();
+    let from = first_executed(&state.controls, first, ticks);
+    let is_body = from < count;
+    begin_if(image, is_body);
+    let q = state.controls.q_flags();
+    image.assign_outputs(context.instance, context.tables, q, ticks);
+    if !is_body {
+        return Ok(());
+    }
     let acting = Acting {
         context,
         state,
-        times: state.steps.times(),
+        steps: state.readings(t),
     };
-    image.begin();
-    let answer = act(acting, image, ticks);
+    let answer = act(acting, image, from, ticks);
     close(image, answer.is_ok(), ticks);
     answer
 }

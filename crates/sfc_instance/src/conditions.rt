@@ -22,7 +22,8 @@ use sfc_expr::eval::holds;
 use sfc_expr::fault::Fault;
 use sfc_expr::view::View;
 
-// Whether the condition of the transition is TRUE.
+// Whether the condition of the transition is TRUE. One that asks for a least time of a step alone is not evaluated.
+#[tactic(auto, using(crate::proofs::Asked::reached, crate::proofs::Asked::some_nodes))]
 fn condition_holds<V: View>(
     context: ProgramContext<'_>,
     view: &V,
@@ -34,6 +35,10 @@ fn condition_holds<V: View>(
     ensures value { result ≡ truth_of (condition_result context.entry.chart.now (V.environment view.now) transition.0) }
     ensures ticks { Within (nodes (condition_in (slice_get context.entry.chart.now.transitions transition.0))) ticks.old ticks.new }
 {
+    if let Some(least) = context.tables.least_time(transition) {
+        ticks.tick();
+        return Ok(view.time_of(least.step) >= least.micros);
+    }
     let condition = &context.chart.transitions.as_slice()[transition.0 as usize].condition;
     holds(condition.expr(), view, ticks)
 }

@@ -13,6 +13,7 @@ use sfc_base::references::StepId;
 use sfc_base::ticks::Ticks;
 use sfc_flags::flags::Flags;
 use sfc_image::image::Image;
+use sfc_image::step_readings::StepReadings;
 use sfc_tables::tables::Tables;
 use std::alloc::{AllocError, Global};
 
@@ -51,10 +52,11 @@ impl Program {
     ghost use Rattle.sfc_plant.specs.Plants.{PlantData};
     ghost use Rattle.sfc_image.specs.Changes.{Change, settled};
     ghost use Rattle.sfc_image.specs.Agreement.{ImageAgrees, IsAsLarge, instance_total, variable_total, is_open};
+    ghost use Rattle.sfc_image.specs.StepTimes.{times_of};
     ghost use Rattle.sfc_evolve.specs.Evolution.{active_steps};
-    ghost use Rattle.sfc_instance.specs.Life.{Life, InstanceState, evolution_rows, fresh};
+    ghost use Rattle.sfc_instance.specs.Life.{Life, InstanceState, evolution_rows, latest_instant, fresh};
     ghost use Rattle.sfc_instance.specs.Contexts.{IsContextOf};
-    ghost use Rattle.sfc_instance.specs.ProgramScan.{after_scan};
+    ghost use Rattle.sfc_instance.specs.ProgramScan.{after_scan, step_times};
     ghost use Rattle.sfc_instance.specs.Work.{scan_work, copy_work};
     ghost use Rattle.sfc_instance.specs.Answers as answers;
     ghost use Rattle.sfc_instance.specs.Agreement.{IsFor, ProgramAgrees, step_total, transition_total, action_total, shown_elapsed, elapsed_at};
@@ -234,6 +236,16 @@ impl Program {
         ensures { result ≡ elapsed_at self.now t step.0 }
     {
         self.run.now.steps.elapsed(step, t)
+    }
+
+    /// What expressions read of its steps, as the latest scan left them.
+    pub(crate) fn readings(&self) -> StepReadings<'_>
+        ensures active { (tables : Tabled) (instance_state : InstanceState) → ProgramAgrees tables self.now instance_state →
+            result.active.now ≡ active_steps tables (evolution_rows tables instance_state.life) }
+        ensures times { (tables : Tabled) (instance_state : InstanceState) → ProgramAgrees tables self.now instance_state →
+            times_of result ≡ step_times tables instance_state.life (latest_instant instance_state.life) }
+    {
+        self.run.now.readings(self.at)
     }
 
     /// Whether the latest scan activated the step, also if it was active before.

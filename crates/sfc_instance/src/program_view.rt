@@ -36,7 +36,8 @@ pub struct ProgramView<'a> {
 
 #[tactic(auto, unfolding(crate::specs::Views::plant_in, crate::specs::Views::instance_in, crate::specs::Views::Shows))]
 impl<'a> ProgramView<'a> {
-    ghost use Rattle.std.specs.Prelude.{◌≡◌, ◌<◌, ◌≤ℤ◌, ◌^◌, cond, nat_lt, ℕ, pos, List, length};
+    ghost use Rattle.std.specs.Prelude.{◌≡◌, ◌<◌, ◌≤ℤ◌, ◌^◌, cond, nat_lt, ℕ, pos, List, length, slice_index_or};
+    ghost use Rattle.sfc_image.specs.StepTimes.{times_of};
     ghost use Rattle.sfc_flags.specs.Flags.{flag};
     ghost use Rattle.sfc_plant.specs.Finding.{chart_of};
     ghost use Rattle.sfc_tables.specs.Tables.{tables_of};
@@ -65,10 +66,7 @@ impl<'a> ProgramView<'a> {
         ensures shows { (changes : List Change) (instance_state : InstanceState) → ProgramAgrees tables.now program.now instance_state →
             ImageAgrees plant.now image.now (settled changes) → Shows result changes instance_state }
     {
-        let steps = StepReadings {
-            active: program.active_flags(),
-            times: &[],
-        };
+        let steps = program.readings();
         ProgramView {
             plant,
             tables,
@@ -207,6 +205,17 @@ impl<'a> ProgramView<'a> {
         } else {
             0
         }
+    }
+
+    /// What expressions read of its steps, as the latest scan left them: which are active, and their times (2.6.2).
+    pub fn readings(&self) -> StepReadings<'a>
+        ensures active { (changes : List Change) (instance_state : InstanceState) (s : ℕ) → s < length (tables_in self.now).initial →
+            Shows self.now changes instance_state → flag result.active.now s ≡ answers.is_step_active (tables_in self.now) instance_state s }
+        ensures times { (changes : List Change) (instance_state : InstanceState) (s : ℕ) → s < length (tables_in self.now).initial →
+            Shows self.now changes instance_state →
+            slice_index_or (times_of result) s (pos 0) ≡ answers.step_elapsed (tables_in self.now) instance_state s }
+    {
+        self.program.readings()
     }
 
     /// Whether the latest scan activated the step, also if it was active before. The step is one of its chart's.

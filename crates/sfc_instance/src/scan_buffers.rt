@@ -15,7 +15,6 @@ ghost use Rattle.std.specs.Prelude.{◌≡◌, ◌<◌, ◌≤ℤ◌, ◌^◌, �
 ghost use Rattle.std.specs.Result.{result_err};
 ghost use Rattle.sfc_base.specs.Ticks.{Within};
 ghost use Rattle.sfc_tables.specs.Tables.{tables_of};
-ghost use Rattle.sfc_evolve.specs.Agreement.{AreMeasured};
 ghost use Rattle.sfc_plant.specs.Plants.{PlantData};
 ghost use Rattle.sfc_image.specs.Changes.{Change, settled};
 ghost use Rattle.sfc_image.specs.Agreement.{ImageAgrees, instance_total};
@@ -35,7 +34,6 @@ use sfc_action::step_inputs::StepInputs;
 use sfc_base::ticks::Ticks;
 use sfc_expr::fault::Fault;
 use sfc_image::image::Image;
-use sfc_image::step_readings::StepReadings;
 use sfc_tables::tables::Tables;
 use std::alloc::{AllocError, Global};
 
@@ -56,7 +54,7 @@ impl ScanBuffers {
     }
 
     /// The conditions of the next scan, at t, and the times of associations, both from what is read before it; or the
-    /// first fault of a condition. The times of the steps are worked out before.
+    /// first fault of a condition.
     pub fn read(
         &mut self,
         context: ProgramContext<'_>,
@@ -68,7 +66,6 @@ impl ScanBuffers {
         requires tables { context.tables.now ≡ tables_of context.chart.now }
         requires sizes { AreBuffersFor context.tables.now self.old }
         requires state { IsStateFor context.tables.now state.now }
-        requires measured { AreMeasured t state.now.steps }
         requires instance { context.instance.0 < instance_total image.now }
         requires low { pos 0 ≤ℤ t }
         requires high { t ≤ℤ pos (2 ^ 62) }
@@ -85,11 +82,7 @@ impl ScanBuffers {
         ensures ticks { Within (condition_work context.entry.tables.now context.entry.chart.now context.entry.tables.now.ranked
             + length context.entry.tables.now.associations) ticks.old ticks.new }
     {
-        let readings = StepReadings {
-            active: state.steps.active_flags(),
-            times: state.steps.times(),
-        };
-        let view = image.view(context.instance, readings, false);
+        let view = image.view(context.instance, state.readings(t), false);
         blank(&mut self.conditions, self.holding);
         self.holding = Holding::Any;
         match evaluate_all(context, &state.steps, &view, &mut self.conditions, ticks) {

@@ -29,7 +29,6 @@ impl Drop for ScanRun {
 ghost use Rattle.std.specs.Prelude.{◌≡◌, ◌<◌, ◌+◌, ◌≤ℤ◌, ◌^◌, [], List, false, pos, length, IfOk};
 ghost use Rattle.sfc_base.specs.Ticks.{Within};
 ghost use Rattle.sfc_tables.specs.Tables.{tables_of};
-ghost use Rattle.sfc_evolve.specs.Agreement.{AreMeasured};
 ghost use Rattle.sfc_plant.specs.Plants.{PlantData};
 ghost use Rattle.sfc_image.specs.Changes.{Change, settled};
 ghost use Rattle.sfc_image.specs.Agreement.{ImageAgrees, IsAsLarge, instance_total, variable_total, is_open};
@@ -65,7 +64,7 @@ impl ScanRun {
     }
 
     // What the actions do after the scan of the steps and action control, or the fault of a body; then these are again what the spare
-    // ones are. The times of the steps are worked out already.
+    // ones are.
     fn finish(
         &mut self,
         context: ProgramContext<'_>,
@@ -77,7 +76,6 @@ impl ScanRun {
         requires sizes { IsScanRunFor context.tables.now self.old }
         requires instance { context.instance.0 < instance_total image.old }
         requires closed { is_open image.old ≡ false }
-        requires measured { AreMeasured t self.old.now.steps }
         requires low { pos 0 ≤ℤ t }
         requires high { t ≤ℤ pos (2 ^ 62) }
         ensures sizes { IsScanRunFor context.entry.tables.now self.new }
@@ -92,7 +90,7 @@ impl ScanRun {
         ensures ticks { Within (actions_work context.entry.chart.now context.entry.tables.now.actions
             + variable_total image.old) ticks.old ticks.new }
     {
-        let answer = act_or_undo(context, &self.now, image, ticks);
+        let answer = act_or_undo(context, &self.now, image, t, ticks);
         if answer.is_err() {
             std::mem::swap(&mut self.now, &mut self.spare);
             self.moved = Moved::All;
@@ -100,8 +98,7 @@ impl ScanRun {
         answer
     }
 
-    // The steps and the action control go on, and then the actions, where the buffers have the conditions and times, and the times of the
-    // steps are worked out.
+    // The steps and the action control go on, and then the actions, where the buffers have the conditions and times.
     fn go_on(
         &mut self,
         context: ProgramContext<'_>,
@@ -113,7 +110,6 @@ impl ScanRun {
         requires sizes { IsScanRunFor context.tables.now self.old }
         requires instance { context.instance.0 < instance_total image.old }
         requires closed { is_open image.old ≡ false }
-        requires measured { AreMeasured t self.old.now.steps }
         requires ready { IsReady context.tables.now self.old.now.steps self.old.buffers.holding }
         requires low { pos 0 ≤ℤ t }
         requires high { t ≤ℤ pos (2 ^ 62) }
@@ -167,7 +163,6 @@ impl ScanRun {
             self.new.now image.new result (attempt plant context.entry.instance life changes t) }
         ensures ticks { Within (scan_work context.entry.tables.now context.entry.chart.now (variable_total image.old)) ticks.old ticks.new }
     {
-        self.now.measure(context.tables, t, ticks);
         match self.buffers.read(context, &self.now, image, t, ticks) {
             Err(fault) => Err(ScanFault::Expression(fault)),
             Ok(()) => self.go_on(context, image, t, ticks),

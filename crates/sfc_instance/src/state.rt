@@ -28,13 +28,14 @@ ghost use Rattle.sfc_evolve.specs.Lookback.{is_empty};
 ghost use Rattle.sfc_evolve.specs.Evolution as evolution;
 ghost use Rattle.sfc_evolve.specs.Evolution.{active_steps, rows_of};
 ghost use Rattle.sfc_evolve.specs.Agreement as evolve;
-ghost use Rattle.sfc_evolve.specs.Agreement.{AreMeasured};
 ghost use Rattle.sfc_evolve.specs.Work.{advance_work};
 ghost use Rattle.sfc_action.specs.ActionControl.{Scan, first_fault};
 ghost use Rattle.sfc_action.specs.declared.control_state.ControlState.{ControlState};
 ghost use Rattle.sfc_action.specs.Agreement.{IsFor, ControlsAgree, IsAlike, action_total};
 ghost use Rattle.sfc_action.specs.Work.{control_work};
-ghost use Rattle.sfc_instance.specs.Life.{Life, control_scans};
+ghost use Rattle.sfc_image.specs.StepTimes.{times_of};
+ghost use Rattle.sfc_instance.specs.Life.{Life, control_scans, evolution_rows};
+ghost use Rattle.sfc_instance.specs.ProgramScan.{step_times};
 ghost use Rattle.sfc_base.specs.declared.ids.TransitionId.{TransitionId};
 ghost use Rattle.sfc_instance.specs.declared.holding.Holding.TheVariants as holding;
 ghost use Rattle.sfc_instance.specs.Private.Holding.{IsReady};
@@ -50,6 +51,7 @@ use crate::scan_buffers::ScanBuffers;
 use sfc_action::associations::Associations;
 use sfc_action::fault::ControlFault;
 use sfc_base::ticks::Ticks;
+use sfc_image::step_readings::StepReadings;
 use sfc_tables::tables::Tables;
 use std::alloc::{AllocError, Global};
 
@@ -88,7 +90,6 @@ fn stay(steps: &mut Steps, tables: &Tables, buffers: &ScanBuffers, ticks: &mut T
         evolve.StepsAgree tables.now steps.old scans →
         active_steps tables.now (rows_of tables.now (scan ∷ scans)) ≡ active_steps tables.now (rows_of tables.now scans) }
     ensures unchanged { result ≡ false → steps.new ≡ steps.old }
-    ensures measured { (now : ℤ) → AreMeasured now steps.old → AreMeasured now steps.new }
     ensures like { (other : Steps) → evolve.IsLike other steps.old → evolve.IsLike other steps.new }
     ensures ticks { Within (advance_work tables.now) ticks.old ticks.new }
     ensures ticks_of_no { result ≡ false → Within 0 ticks.old ticks.new }
@@ -118,7 +119,6 @@ fn clear(
     ensures wanted { (transition : TransitionId) (scans : List evolution.Scan) → buffers.now.holding ≡ holding.One transition →
         evolve.StepsAgree tables.now steps.old scans → result ≡ not (is_empty scans) }
     ensures unchanged { result ≡ false → steps.new ≡ steps.old }
-    ensures measured { AreMeasured t steps.old → AreMeasured t steps.new }
     ensures close { result ≡ true → (other : Steps) → evolve.IsLike other steps.old → evolve.IsClose other steps.new }
     ensures ticks { Within (advance_work tables.now) ticks.old ticks.new }
     ensures ticks_of_no { result ≡ false → Within 0 ticks.old ticks.new }
@@ -150,7 +150,6 @@ fn go_on(
     ensures same_steps { result ≡ false → (scans : List evolution.Scan) → evolve.StepsAgree tables.now steps.old scans →
         active_steps tables.now (rows_of tables.now (record { conditions = buffers.now.conditions.items; at = t } ∷ scans))
         ≡ active_steps tables.now (rows_of tables.now scans) }
-    ensures measured { AreMeasured t steps.old → AreMeasured t steps.new }
     ensures like { result ≡ false → (other : Steps) → evolve.IsLike other steps.old → evolve.IsLike other steps.new }
     ensures close { result ≡ true → (other : Steps) → evolve.IsLike other steps.old → evolve.IsClose other steps.new }
     ensures ticks { Within (advance_work tables.now) ticks.old ticks.new }
@@ -217,23 +216,26 @@ impl State {
         }
     }
 
-    /// Works out the times of all steps at t, in microseconds from 0 to 2^62 (2.6.2). It takes no memory.
-    pub fn measure(&mut self, tables: &Tables, t: i64, ticks: &mut Ticks)
-        requires sizes { IsStateFor tables.now self.old }
+    /// What expressions read of the steps at t, in microseconds from 0 to 2^62: which are active, and their times (2.6.2).
+    pub fn readings(&self, t: i64) -> StepReadings<'_>
         requires low { pos 0 ≤ℤ t }
         requires high { t ≤ℤ pos (2 ^ 62) }
-        ensures sizes { IsStateFor tables.now self.new }
-        ensures agrees { (life : Life) → StateAgrees tables.now self.old life → StateAgrees tables.now self.new life }
-        ensures measured { AreMeasured t self.new.steps }
-        ensures apart { (kind : Moved) (other : State) → AreApart kind other self.old → AreApart kind other self.new }
-        ensures ticks { Within (length tables.now.initial) ticks.old ticks.new }
+        ensures active { (tables : Tabled) (life : Life) → StateAgrees tables self.now life →
+            result.active.now ≡ active_steps tables (evolution_rows tables life) }
+        ensures times { (tables : Tabled) (life : Life) → StateAgrees tables self.now life →
+            times_of result ≡ step_times tables life t }
     {
-        self.steps.measure(t, ticks);
+        StepReadings {
+            active: self.steps.active_flags(),
+            since: self.steps.since(),
+            held_times: self.steps.held_times(),
+            at: t,
+        }
     }
 
     /// One scan at t, in microseconds from 0 to 2^62, with the condition of each transition and the time of each
-    /// association in microseconds, which the buffers have (2.6.5). It takes no memory. Times of steps that were worked out at t are still so.
-    /// Answers what may have changed. The error is the fault of action control; then the steps have gone on and the control has not.
+    /// association in microseconds, which the buffers have (2.6.5). It takes no memory. Answers
+    /// what may have changed. The error is the fault of action control; then the steps have gone on and the control has not.
     pub fn advance(
         &mut self,
         tables: &Tables,
@@ -251,7 +253,6 @@ impl State {
             first_fault tables.now (control_scans tables.now (row_in buffers.now t ∷ life)) }
         ensures agrees { OnOk result ((life : Life) → StateAgrees tables.now self.old life →
             StateAgrees tables.now self.new (row_in buffers.now t ∷ life)) }
-        ensures measured { AreMeasured t self.old.steps → AreMeasured t self.new.steps }
         ensures apart { IfOk result (λ moved. (other : State) → IsNear other self.old → AreApart moved other self.new) }
         ensures ticks { Within (advance_work tables.now + control_work tables.now) ticks.old ticks.new }
     {

@@ -8,7 +8,9 @@ use Rattle.sfc_image.specs.declared.image.Image.{Image}
 use Rattle.sfc_image.specs.Changes.{Change, settled, trying}
 use Rattle.sfc_image.specs.Agreement.{ImageAgrees}
 use Rattle.sfc_instance.specs.declared.acting.Acting.{Acting}
-use Rattle.sfc_instance.specs.Life.{Life}
+use Rattle.sfc_evolve.specs.Evolution.{active_steps}
+use Rattle.sfc_image.specs.StepTimes.{times_of}
+use Rattle.sfc_instance.specs.Life.{Life, evolution_rows}
 use Rattle.sfc_instance.specs.Contexts.{IsContextOf}
 use Rattle.sfc_instance.specs.ProgramScan.{step_times, after_actions}
 use Rattle.sfc_instance.specs.Agreement.{StateAgrees}
@@ -17,7 +19,8 @@ use Rattle.sfc_instance.specs.Agreement.{StateAgrees}
 pub record IsAfter (plant : PlantData) (acting : Acting) (life : Life) (t : ℤ) : Type 0 where
   pub context : IsContextOf plant acting.context
   pub state : StateAgrees acting.context.tables.now acting.state.now life
-  pub times : acting.times.now ≡ step_times acting.context.tables.now life t
+  pub active : acting.steps.active.now ≡ active_steps acting.context.tables.now (evolution_rows acting.context.tables.now life)
+  pub times : times_of acting.steps ≡ step_times acting.context.tables.now life t
 
 -- these changes are wanted where it succeeded, and else its fault
 abbrev pub Ends : Result (Unit {0}) Fault → Result (List Change) Fault → List Change → Type 0
@@ -39,9 +42,10 @@ Leaves plant before image (Err f) wanted = (wanted ≡ Err f) × ImageAgrees pla
 unfoldable pub HasActed : PlantData → List Change → Image → Result (Unit {0}) Fault → Result (List Change) Fault → Type 0
 HasActed plant before image answer wanted = Leaves plant before image answer wanted
 
--- after the first i actions the image has tried changes from which the others go on
-pub record Follows (plant : PlantData) (p : ProgId) (life : Life) (t : ℤ) (committed : List Change) (targets : List Target)
+-- after the actions of these from one on and before action i the image has tried changes from which the others go on
+pub record Follows (plant : PlantData) (p : ProgId) (life : Life) (t : ℤ) (committed : List Change) (targets : List Target) (from : ℕ)
     (before : List Change) (i : ℕ) (image : Image) : Type 0 where
   pub tried : List Change
   pub agrees : ImageAgrees plant image (trying committed tried)
-  pub rest : after_actions plant p life t i (drop i targets) (tried ++ committed) ≡ after_actions plant p life t 0 targets (before ++ committed)
+  pub rest : after_actions plant p life t i (drop i targets) (tried ++ committed)
+      ≡ after_actions plant p life t from (drop from targets) (before ++ committed)

@@ -1,15 +1,7 @@
-use Rattle.std.proofs.Common.{◌≡◌, ◌+◌, ◌-◌, ◌++◌, arith, List, length, drop, sym, ap, ◌∙◌, append_assoc}
+use Rattle.std.proofs.Common.{◌+◌, ◌-◌, ◌++◌, arith, List, length, refl, ap, sym, ◌∙◌}
 use Rattle.sfc_plant.specs.declared.action.Action.{Action}
-use Rattle.sfc_plant.specs.declared.chart.Chart.{Chart}
-use Rattle.sfc_plant.specs.Finding.{chart_of}
-use Rattle.sfc_image.specs.Changes.{Change, trying}
-use Rattle.sfc_image.specs.Outputs.{outputs}
-use Rattle.sfc_instance.specs.Life.{control_scans}
-use Rattle.sfc_instance.specs.ProgramScan.{after_actions}
-use Rattle.sfc_instance.specs.Agreement.{StateAgrees}
 use Rattle.sfc_instance.proofs.Acted.{acts_on, acts_end, acts_all, work_split}
-use Rattle.sfc_instance.proofs.Outputs.{all_declared, counted, declared, declared_at, outputs_first, work_first, work_left}
-use Rattle.sfc_instance.proofs.Readings.{tables_is}
+use Rattle.sfc_instance.proofs.Outputs.{all_declared, counted, declared, declared_at, work_left}
 use Rattle.sfc_instance.proofs.acting.act.Goals as goal
 
 pub overflow_sub-first : goal.overflow_sub-first
@@ -22,38 +14,24 @@ overflow_sub-first c =
       all_declared acting.context.tables.now acting.context.chart.now c.requires.tables,
     )
 
--- from the first declared action on
+-- from this declared action on
 pub loop-action-init : goal.loop-action-init
-unfolding StateAgrees
 loop-action-init c =
-    let acting = c.args.acting in
-    let tables = acting.context.tables.now in
-    let chart = acting.context.chart.now in
-    let p = acting.context.instance in
-    let q = c.q_flags.result.now in
-    let first = c.actions-count.result - length c.as_slice.result.now in
-    let count : first + length chart.actions ≡ length tables.actions =
-    counted tables chart c.actions-count.result c.as_slice.result.now c.requires.tables c.actions-count.ensures c.as_slice.ensures in
+    let tables = c.args.acting.context.tables.now in
+    let chart = c.args.acting.context.chart.now in
     record {
-      large = c.assign_outputs.ensures.large;
-      «open» = c.assign_outputs.ensures.«open» ∙ sym c.requires.«open»;
-      agrees = λ plant life t committed tried after h.
-          let made = tables_is plant acting.context after.context in
-          let outs : List Change = outputs plant p q 0 tables.actions in
-          let same : length chart.actions ≡ length (chart_of plant p).actions = ap (λ (x : Chart). length x.actions) after.context.chart in
-          record {
-            tried = outs ++ tried;
-            agrees = c.assign_outputs.ensures.agrees plant (trying committed tried) made h;
-            rest =
-                ap (after_actions plant p life t first (drop first tables.actions)) (append_assoc outs tried committed)
-                ∙ outputs_first plant p life t q (length tables.actions) tables made first (omega (arith, count, same)) (omega arith)
-                (λ k lt. c.q_flags.ensures.each tables (control_scans tables life) k (omega (arith, lt, c.requires.sizes.controls.same_actions))
-                after.state.controls)
-                (tried ++ committed);
-          };
-      from = omega arith;
-      rises = omega (arith, c.assign_outputs.ensures.ticks.0);
-      ticks = omega (arith, c.assign_outputs.ensures.ticks.1, work_first tables chart first c.requires.tables count);
+      large = record { variables = refl; instances = refl };
+      «open» = refl;
+      agrees = λ plant life t committed tried after h. record { tried = tried; agrees = h; rest = refl };
+      from =
+          omega (
+            arith,
+            c.requires.low,
+            counted tables chart c.actions-count.result c.as_slice.result.now c.requires.tables c.actions-count.ensures c.as_slice.ensures,
+          );
+      rises = omega arith;
+      ticks = omega arith;
+      high = omega arith;
     }
 
 pub loop-action-preserved : goal.loop-action-preserved
@@ -78,11 +56,12 @@ loop-action-preserved c =
       «open» = made.«open» ∙ before.«open»;
       agrees = λ plant life t committed tried after h.
           let b = before.agrees plant life t committed tried after h in
-          acts_on plant c.args.acting.context.instance life t committed targets i target c.act_one-answer.new.image tried (b.tried ++ committed)
+          acts_on plant c.args.acting.context.instance life t committed targets c.args.from i target c.act_one-answer.new.image tried (b.tried ++ committed)
           c.act_one-answer.result (sym c.is_err.ensures.value ∙ c.if-is_err.false) next.0 next.1 (made.agrees plant life t committed b.tried after b.agrees) b.rest;
       from = omega (arith, before.from);
       rises = omega (arith, before.rises, made.ticks.0);
       ticks = omega (arith, work, made.ticks.1, before.ticks);
+      high = omega (arith, before.high);
     }
 
 pub returns-then-is_err-clause-agrees : goal.returns-then-is_err-clause-agrees
@@ -97,7 +76,7 @@ returns-then-is_err-clause-agrees c plant life t committed tried after h =
     c.loop-action.invariant.from c.loop-action-test.true in
     let target = declared (i - first) in
     let b = c.loop-action.invariant.agrees plant life t committed tried after h in
-    acts_end plant c.args.acting.context.instance life t committed targets i target c.act_one-answer.new.image tried (b.tried ++ committed)
+    acts_end plant c.args.acting.context.instance life t committed targets c.args.from i target c.act_one-answer.new.image tried (b.tried ++ committed)
     c.act_one-answer.result (sym c.is_err.ensures.value ∙ c.if-is_err.true) next.0 next.1
     (c.act_one-answer.ensures.agrees plant life t committed b.tried after b.agrees) b.rest
 
@@ -115,11 +94,11 @@ returns-then-is_err-clause-ticks c =
     c.loop-action.invariant.from c.loop-action-test.true in
     let target = declared (i - first) in
     let work = work_split targets i target chart next.0 next.1 in
-    (omega (arith, before.rises, made.ticks.0), omega (arith, work, made.ticks.1, before.ticks, work_left chart targets (i + 1)))
+    (omega (arith, before.rises, made.ticks.0), omega (arith, work, made.ticks.1, before.ticks, before.high, next.0, work_left chart targets (i + 1)))
 
 pub returns-clause-agrees : goal.returns-clause-agrees
 returns-clause-agrees c plant life t committed tried after h =
-    acts_all plant c.args.acting.context.instance life t committed c.args.acting.context.tables.now.actions tried c.loop-action.action
+    acts_all plant c.args.acting.context.instance life t committed c.args.acting.context.tables.now.actions c.args.from tried c.loop-action.action
     c.loop-action.image (omega (arith, c.loop-action-test.false, c.actions-count.ensures))
     (c.loop-action.invariant.agrees plant life t committed tried after h)
 
@@ -127,4 +106,4 @@ pub returns-clause-ticks : goal.returns-clause-ticks
 returns-clause-ticks c =
     let before = c.loop-action.invariant in
     let targets = c.args.acting.context.tables.now.actions in
-    (before.rises, omega (arith, before.ticks, c.loop-action-test.false, c.actions-count.ensures))
+    (before.rises, omega (arith, before.ticks, before.high, c.loop-action-test.false, c.actions-count.ensures))

@@ -1,4 +1,4 @@
-use Rattle.std.proofs.Common.{◌≡◌, ◌+◌, ◌≤◌, List, length, drop, ℤ}
+use Rattle.std.proofs.Common.{◌≡◌, ◌+◌, ◌≤◌, List, drop, ℤ}
 use Rattle.sfc_plant.specs.Plants.{PlantData}
 use Rattle.sfc_image.specs.Changes.{Change, trying}
 use Rattle.sfc_image.specs.Agreement.{ImageAgrees, IsAsLarge, is_open}
@@ -14,9 +14,11 @@ invariant-loop-action l =
       large : IsAsLarge l.fn.image l.image;
       «open» : is_open l.image ≡ is_open l.fn.image;
       agrees : (plant : PlantData) (life : Life) (t : ℤ) (committed tried : List Change) → IsAfter plant l.acting life t →
-          ImageAgrees plant l.fn.image (trying committed tried) → Follows plant l.acting.context.instance life t committed targets tried l.action l.image;
+          ImageAgrees plant l.fn.image (trying committed tried) →
+          Follows plant l.acting.context.instance life t committed targets l.from tried l.action l.image;
       from : l.first ≤ l.action;
       rises : l.fn.ticks.count ≤ l.ticks.count;
       ticks : l.ticks.count + actions_work l.acting.context.chart.now (drop l.action targets) + l.action
-          ≤ l.fn.ticks.count + actions_work l.acting.context.chart.now targets + length targets;
+          ≤ l.fn.ticks.count + actions_work l.acting.context.chart.now (drop l.from targets) + l.from;
+      high : l.from ≤ l.action;
     }

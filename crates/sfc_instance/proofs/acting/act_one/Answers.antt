@@ -42,12 +42,12 @@ returns-clause-agrees c plant life t committed tried after h =
     ∙ ap (λ (x : Tabled). control.q x a (control_scans x life)) made in
     let body : body_of c.body_of-body.result.now ≡ body_in (slice_get (chart_of plant p).actions id.0) =
     c.body_of-body.ensures ∙ ap (λ (x : Chart). body_in (slice_get x.actions id.0)) after.context.chart in
-    let active = c.readings.ensures.active tables life after.state
+    let active = after.active
     ∙ ap (λ (x : Tabled). active_steps x (evolution_rows x life)) made in
-    let times = c.readings.ensures.times ∙ after.times ∙ ap (λ (x : Tabled). step_times x life t) made in
-    let moment_is : moment_of c.readings.result c.q-q.result
+    let times = after.times ∙ ap (λ (x : Tabled). step_times x life t) made in
+    let moment_is : moment_of c.args.acting.steps c.q-q.result
     ≡ moment (tables_of (chart_of plant p)) life t (control.q (tables_of (chart_of plant p)) a (control_scans (tables_of (chart_of plant p)) life)) =
     (λ i. record { active = active i; times = times i; q = q i }) in
     body_acted plant p life t a committed tried c.execute.new.self id c.execute.result (body_of c.body_of-body.result.now)
-    (moment_of c.readings.result c.q-q.result) on body moment_is
+    (moment_of c.args.acting.steps c.q-q.result) on body moment_is
     (c.execute.ensures.result plant (trying committed tried) h) (c.execute.ensures.agrees plant (trying committed tried) h)

@@ -1,4 +1,4 @@
-use Rattle.std.proofs.Common.{sym, ◌∙◌}
+use Rattle.std.proofs.Common.{sym, ◌∙◌, to_z-of_z}
 use Rattle.sfc_instance.proofs.Scanned.{moved_ok, moved_err}
 use Rattle.sfc_instance.proofs.scan_run.ScanRun.finish.Goals as goal
 
@@ -14,10 +14,8 @@ returns-else-is_err-clause-now c life h =
 
 pub returns-then-is_err-clause-agrees : goal.returns-then-is_err-clause-agrees
 returns-then-is_err-clause-agrees c plant life changes context state h =
-    c.act_or_undo-answer.ensures.agrees plant life c.args.t changes context state
-    c.requires.measured h
+    simp (to_z-of_z, c.ranges.t) at (c.act_or_undo-answer.ensures.agrees plant life changes context state h)
 
 pub returns-else-is_err-clause-agrees : goal.returns-else-is_err-clause-agrees
 returns-else-is_err-clause-agrees c plant life changes context state h =
-    c.act_or_undo-answer.ensures.agrees plant life c.args.t changes context state
-    c.requires.measured h
+    simp (to_z-of_z, c.ranges.t) at (c.act_or_undo-answer.ensures.agrees plant life changes context state h)
