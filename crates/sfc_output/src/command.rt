@@ -254,7 +254,7 @@ pub fn append_command(
     ensures { OnOk result (out.new.items ≡ out.old.items ++ output.command_line (steered_by debugger.now) command t answer) }
 {
     let mut line = Line::new();
-    put_command(&mut line, out, debugger, (command, t), answer)?;
+    put_any(&mut line, out, debugger, (command, t), answer)?;
     line.pass_on(out)
 }
 
