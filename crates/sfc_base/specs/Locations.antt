@@ -49,7 +49,7 @@ pub data Numbers : List ℕ → List ℕ → Type 0 where
 
 -- what stands behind `%`
 pub data IsLocation : List ℕ → LocationData → Type 0 where
-  sized : {a s : ℕ} {w : List ℕ} {area : Area} {size : Size} {ns : List ℕ} → area_of a ≡ Some area → size_of s ≡ Some size → Numbers w ns
-      → length ns ≤ 8 → IsLocation (a ∷ s ∷ w) (record { area = area; size = size; numbers = ns })
+  sized : {a s : ℕ} {w : List ℕ} {area : Area} {size : Size} {ns : List ℕ} → area_of a ≡ Some area → size_of s ≡ Some size
+      → Numbers w ns → length ns ≤ 8 → IsLocation (a ∷ s ∷ w) (record { area = area; size = size; numbers = ns })
   unsized : {a : ℕ} {w : List ℕ} {area : Area} {ns : List ℕ} → area_of a ≡ Some area → Numbers w ns → length ns ≤ 8
       → IsLocation (a ∷ w) (record { area = area; size = Bit; numbers = ns })

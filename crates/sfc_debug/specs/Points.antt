@@ -1,5 +1,6 @@
 -- Which breakpoints are set (our choice).
-use Rattle.std.specs.Prelude.{ℕ, suc, ◌+◌, ◌==◌, nat_lt, Bool, false, ◌&&◌, cond, List, [], ◌∷◌, ◌++◌, take, drop, length, slice_set}
+use Rattle.std.specs.Prelude.{ℕ, suc, ◌+◌, ◌==◌, nat_lt, Bool, false, ◌&&◌, cond, List, [], ◌∷◌, ◌++◌, take}
+use Rattle.std.specs.Prelude.{drop, length, slice_set}
 use Rattle.std.specs.Prelude.{Option, Some, None}
 use Rattle.sfc_base.specs.declared.ids.ProgId.{ProgId}
 use Rattle.sfc_plant.specs.Plants.{PlantData}
