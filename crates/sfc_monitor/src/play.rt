@@ -19,6 +19,7 @@ use sfc_debug::debugger::Debugger;
 use sfc_debug::opening::DebugOpening;
 use sfc_events::command::{Answer, Command};
 use sfc_events::refusal::Refusal;
+use sfc_output::page::Page;
 use std::alloc::{AllocError, Global};
 use std::io::Write;
 
@@ -95,59 +96,74 @@ fn begin_if_epoch(
 // One command, and its lines behind what waits; and whether something went amiss.
 fn run_command<R: Report>(
     alloc: Global,
-    report: &R,
+    report: &mut R,
     debugger: &mut Debugger,
     timed: &(Command, i64),
-    text: &mut Vec<u8>,
+    page: &mut Page,
 ) -> Result<bool, AllocError>
     ensures steered { steered_by debugger.new ≡ steered_by debugger.old }
     ensures agrees { (h : CommandHistory) → Agrees debugger.old h →
         Agrees debugger.new ((debugger_of (steered_by debugger.old)).after h timed.now) }
     ensures amiss { (h : CommandHistory) → Agrees debugger.old h →
         IfOk result (λ amiss. amiss ≡ output.is_amiss ((debugger_of (steered_by debugger.old)).verdict h timed.now)) }
-    ensures lines { (h : CommandHistory) → Agrees debugger.old h → OnOk result (text.new.items ≡ text.old.items
-        ++ command_lines (debugger_of (steered_by debugger.old)) (R.lines report.now (steered_by debugger.old)) h timed.now) }
+    ensures lines { (h : CommandHistory) → Agrees debugger.old h → R.fits report.old (steered_by debugger.old) → OnOk result (page.new ≡ page.old
+        ++ command_lines (debugger_of (steered_by debugger.old)) (R.lines (steered_by debugger.old)) h timed.now) }
+    ensures fits { R.fits report.old (steered_by debugger.old) → R.fits report.new (steered_by debugger.old) }
 {
     let answer = obey(debugger, *timed);
+    let amiss = is_amiss(answer);
     begin_if_epoch(alloc, debugger, timed.0, answer)?;
-    report.append_answer(alloc, text, debugger, *timed, answer)?;
-    Ok(is_amiss(answer))
+    report.put_answer(page, debugger, timed, &answer)?;
+    Ok(amiss)
+}
+
+// Writes what waits.
+#[cold]
+#[inline(never)]
+fn write_page<W: Write>(page: &mut Page, w: &mut W) -> Result<(), MonitorError>
+    ensures faults { IfErr result IsOutputFault }
+    ensures passed { PassesOn (W.contents w.old) (W.contents w.new) page.old page.new result }
+{
+    let text = page.take()?;
+    put_all(w, &text)?;
+    page.begin(text);
+    Ok(())
 }
 
 // Writes what waits, where it is long.
-fn pass_on<W: Write>(text: &mut Vec<u8>, w: &mut W) -> Result<(), MonitorError>
+fn pass_on<W: Write>(page: &mut Page, w: &mut W) -> Result<(), MonitorError>
     ensures faults { IfErr result IsOutputFault }
-    ensures passed { PassesOn (W.contents w.old) (W.contents w.new) text.old.items text.new.items result }
+    ensures passed { PassesOn (W.contents w.old) (W.contents w.new) page.old page.new result }
 {
-    if text.len() < PIECE {
-        return Ok(());
+    if page.has(PIECE) {
+        write_page(page, w)
+    } else {
+        Ok(())
     }
-    put_all(w, text)?;
-    text.clear();
-    Ok(())
 }
 
 // The commands in turn, each with its lines; the last of these wait. It answers whether something went amiss.
 fn play_commands<R: Report, W: Write>(
     alloc: Global,
-    report: &R,
+    report: &mut R,
     debugger: &mut Debugger,
     commands: &[(Command, i64)],
-    text: &mut Vec<u8>,
+    page: &mut Page,
     w: &mut W,
 ) -> Result<bool, MonitorError>
+    requires fits { R.fits report.old (steered_by debugger.old) }
     ensures faults { IfErr result IsOutputFault }
     ensures steered { steered_by debugger.new ≡ steered_by debugger.old }
     ensures played { (h : CommandHistory) → Agrees debugger.old h → HasPlayed debugger.new h commands.now result }
     ensures lines { (h : CommandHistory) → Agrees debugger.old h → PassesOn (W.contents w.old) (W.contents w.new)
-        (text.old.items ++ commands_lines (debugger_of (steered_by debugger.old)) (R.lines report.now (steered_by debugger.old)) h commands.now)
-        text.new.items result }
+        (page.old ++ commands_lines (debugger_of (steered_by debugger.old)) (R.lines (steered_by debugger.old)) h commands.now)
+        page.new result }
 {
     let mut rest = commands;
     let mut amiss = false;
     'commands: while let Some((timed, after)) = rest.split_first() {
-        amiss = either(amiss, run_command(alloc, report, debugger, timed, text)?);
-        pass_on(text, w)?;
+        amiss = either(amiss, run_command(alloc, report, debugger, timed, page)?);
+        pass_on(page, w)?;
         rest = after;
     }
     Ok(amiss)
@@ -162,18 +178,20 @@ fn play_commands<R: Report, W: Write>(
 /// lines was written.
 pub fn play<R: Report, W: Write>(
     alloc: Global,
-    report: &R,
+    report: &mut R,
     debugger: &mut Debugger,
     commands: &[(Command, i64)],
     w: &mut W,
 ) -> Result<bool, MonitorError>
+    requires fits { R.fits report.old (steered_by debugger.old) }
     ensures faults { IfErr result IsOutputFault }
     ensures amiss { (h : CommandHistory) → Agrees debugger.old h → IfOk result (λ amiss. amiss ≡ any_amiss (steered_by debugger.old) h commands.now) }
     ensures lines { (h : CommandHistory) → Agrees debugger.old h → Writes (W.contents w.old) (W.contents w.new) result
-        (lines_of_play (debugger_of (steered_by debugger.old)) (R.lines report.now (steered_by debugger.old)) h commands.now) }
+        (lines_of_play (debugger_of (steered_by debugger.old)) (R.lines (steered_by debugger.old)) h commands.now) }
 {
-    let mut text = Vec::new(alloc);
-    let amiss = play_commands(alloc, report, debugger, commands, &mut text, w)?;
+    let mut page = Page::with_capacity(alloc, PIECE * 2)?;
+    let amiss = play_commands(alloc, report, debugger, commands, &mut page, w)?;
+    let mut text = page.take()?;
     report.append_closing(alloc, &mut text, debugger)?;
     put_all(w, &text)?;
     Ok(amiss)

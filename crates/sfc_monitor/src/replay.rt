@@ -1,10 +1,14 @@
 //! A chart and a script, from bytes to bytes.
 
-ghost use Rattle.std.specs.Prelude.{◌≡◌, [], IfOk};
+ghost use Rattle.std.specs.Prelude.{◌≡◌, [], IfOk, IfErr};
+ghost use Rattle.sfc_base.specs.Writing.{Writes};
 ghost use Rattle.sfc_core.specs.Agreement as core;
 ghost use Rattle.sfc_debug.specs.Agreement.{Agrees};
+ghost use Rattle.sfc_debug.specs.Histories.{CommandHistory};
 ghost use Rattle.sfc_output.specs.Steered.{steered_by};
+ghost use Rattle.sfc_monitor.specs.Output.{any_amiss, debugger_of, lines_of_play, text_of};
 ghost use Rattle.sfc_monitor.specs.Replay.{Finds, Replays};
+ghost use Rattle.sfc_monitor.specs.Working.Faults.{IsOutputFault};
 
 use crate::chart::plant_of_text;
 use crate::input::read_to_end;
@@ -15,6 +19,7 @@ use sfc_core::resource::Resource;
 use sfc_debug::break_condition::BreakCondition;
 use sfc_debug::debugger::Debugger;
 use sfc_debug::trace_mask::TraceMask;
+use sfc_events::command::Command;
 use sfc_script::script::read_script;
 use std::alloc::{AllocError, Global};
 use std::io::{Read, Write};
@@ -30,6 +35,22 @@ fn debug(
     ensures steered { IfOk result (λ debugger. steered_by debugger ≡ record { plant = core.plant_of resource; table = conditions.items }) }
 {
     Debugger::with_conditions(alloc, resource, 1, TraceMask(0), conditions)
+}
+
+// The commands in turn, each with its lines, and then those of the image.
+fn play_text<W: Write>(
+    alloc: Global,
+    debugger: &mut Debugger,
+    commands: &[(Command, i64)],
+    w: &mut W,
+) -> Result<bool, MonitorError>
+    ensures faults { IfErr result IsOutputFault }
+    ensures amiss { (h : CommandHistory) → Agrees debugger.old h → IfOk result (λ amiss. amiss ≡ any_amiss (steered_by debugger.old) h commands.now) }
+    ensures lines { (h : CommandHistory) → Agrees debugger.old h → Writes (W.contents w.old) (W.contents w.new) result
+        (lines_of_play (debugger_of (steered_by debugger.old)) (text_of (steered_by debugger.old)) h commands.now) }
+{
+    let mut text = Text::new(alloc);
+    play(alloc, &mut text, debugger, commands, w)
 }
 
 /// Plays a script on a chart as `replay` does, and answers whether something went amiss: a command was refused, or the scan of an
@@ -52,7 +73,7 @@ pub fn replay_strict<C: Read, S: Read, W: Write>(
     let said = read_script(alloc, &resource, &bytes)?;
     let (commands, conditions) = said.into_parts();
     let mut debugger = debug(alloc, resource, conditions)?;
-    play(alloc, &Text, &mut debugger, &commands, w)
+    play_text(alloc, &mut debugger, &commands, w)
 }
 
 /// Plays a script on a chart, and writes what each command answers and the variables at the end.

@@ -1,31 +1,58 @@
 //! The text of a run: the lines of commands and of the image.
 
+ghost use Rattle.sfc_output.specs.Memories.{Fits};
+ghost use Rattle.sfc_output.specs.Steered.{Steered};
+
 use crate::report::Report;
 use sfc_debug::debugger::Debugger;
 use sfc_events::command::{Answer, Command};
 use sfc_events::refusal::Refusal;
-use sfc_output::answer::append_answer;
+use sfc_output::answer::put_answer;
 use sfc_output::image_line::append_image;
+use sfc_output::memory::Memory;
+use sfc_output::page::Page;
 use std::alloc::{AllocError, Global};
 
 /// The text of a run: the lines of each command, and at the end a line for each variable.
-#[derive(Clone, Copy, Debug)]
-pub struct Text;
+pub struct Text {
+    // what is kept of lines, so that they need not be put together anew
+    memory: Memory,
+}
+
+// By hand, so that a caller that drops one proves one call.
+impl Drop for Text {
+    fn drop(self) {
+        let Text { memory: _ } = self;
+    }
+}
+
+impl Text {
+    /// The text of a run that begins.
+    pub fn new(alloc: Global) -> Text
+        ensures { (steered : Steered) → Fits steered.plant result.memory }
+    {
+        Text {
+            memory: Memory::new(alloc),
+        }
+    }
+}
 
 impl Report for Text {
+    ghost use Rattle.sfc_output.specs.Memories.{Fits};
     ghost use Rattle.sfc_monitor.specs.Output.{text_of};
 
-    ghost lines = { λ _. text_of };
+    ghost lines = { text_of };
 
-    fn append_answer(
-        &self,
-        alloc: Global,
-        out: &mut Vec<u8>,
+    ghost fits = { λ text steered. Fits steered.plant text.memory };
+
+    fn put_answer(
+        &mut self,
+        page: &mut Page,
         debugger: &Debugger,
-        timed: (Command, i64),
-        answer: Result<Answer, Refusal>,
+        timed: &(Command, i64),
+        answer: &Result<Answer, Refusal>,
     ) -> Result<(), AllocError> {
-        append_answer(alloc, out, debugger, timed.0, answer)
+        put_answer(page, &mut self.memory, debugger, &timed.0, answer)
     }
 
     fn append_closing(

@@ -4,10 +4,16 @@ pub mod Appended
 pub mod Numbers
 -- the table of the digits of numbers below a hundred
 pub mod Pairs
+-- the table of the digits of numbers below a thousand
+pub mod Triples
 -- text that was put in two pieces
 pub mod Overlaps
 -- texts of numbered places, one after the other
 pub mod Texts
+-- what is kept
+pub mod Kept
+-- the end of the line of a program instance
+pub mod Done
 -- lines of numbered places, one after the other
 pub mod Numbered
 -- what stands at the end of a buffer and in a line behind it

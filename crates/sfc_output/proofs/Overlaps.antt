@@ -1,6 +1,6 @@
 -- Text that was put in two pieces, which may have bytes in common.
 use Rattle.std.proofs.Common.{◌≡◌, ◌≤◌, ◌+◌, ◌-◌, ℕ, List, ◌++◌, length, take, drop, sym, ap, ◌∙◌, append_assoc, length-append, arith}
-use Rattle.std.proofs.lemmas.List.{take-append-drop, take_rest, length-take-le}
+use Rattle.std.proofs.lemmas.List.{take-append-drop, take_all, take_rest, length-take-le}
 use Rattle.std.proofs.Math.Seq.{take-append_seam, take-add}
 
 -- fronts of the same length of one list
@@ -36,3 +36,12 @@ overlapped old one two text count k j within whole le fits first last =
     ∙ ap (λ (l : List ℕ). l ++ drop j text) front
     ∙ append_assoc (take count old) (take j text) (drop j text)
     ∙ ap (λ (l : List ℕ). take count old ++ l) (take-append-drop j text)
+
+-- the same of all that was put
+pub front_put : (old one text : List ℕ) (count j : ℕ) → count ≤ length old → count + length text ≤ length one → j ≤ length text
+    → take (count + length text) one ≡ take count old ++ text → take (count + j) one ≡ take count old ++ take j text
+front_put old one text count j within fits le e =
+    let m = length text - j in
+    let same : j + m ≡ length text = omega arith in
+    shorter old one text count j m within (omega (arith, fits, same)) (omega (arith, same))
+    (ap (λ (n : ℕ). take (count + n) one) same ∙ e ∙ ap (λ (l : List ℕ). take count old ++ l) (sym (take_all (j + m) text (omega (arith, same)))))

@@ -31,6 +31,13 @@ placed text flags from i is_first all out new found e h =
     ∙ sym (one_more is_first out (text i) rest)
     ∙ ap (λ (x : List ℕ). x ++ continued false rest) (append_assoc out (separator is_first) (text i) ∙ sym e)
 
+-- the texts of all set places stand
+pub set_placed : (text : ℕ → List ℕ) (flags : List Bool) (from : ℕ) (is_first : Bool) (initial out : List ℕ) → places_from flags from ≡ []
+    → initial ++ listed (map text (places_from flags 0)) ≡ out ++ continued is_first (map text (places_from flags from))
+    → out ++ continued is_first [] ≡ initial ++ listed (map text (places_from flags 0))
+set_placed text flags from is_first initial out none h =
+    sym (h ∙ ap (λ (places : List ℕ). out ++ continued is_first (map text places)) none)
+
 module _ (is_in : ℕ → Bool) (text : ℕ → List ℕ) where
   head_by : (b : Bool) (k : ℕ) (ks : List ℕ) (texts : List (List ℕ)) → map text ks ≡ texts
       → map text (cond b (k ∷ ks) ks) ≡ cond b (text k ∷ texts) texts
@@ -56,14 +63,17 @@ module _ (is_in : ℕ → Bool) (text : ℕ → List ℕ) where
       ∙ ap (λ (c : Bool). cond c (text k ∷ map text (set_from (suc k) flags)) (map text (set_from (suc k) flags))) (sym here)
       ∙ set_by b k (set_from (suc k) flags)
 
+  -- the same, where the flags are those of n places
+  pub texts_all : (flags : List Bool) (n : ℕ) → length flags ≡ n → ((j : ℕ) → j < n → flag flags j ≡ is_in j)
+      → map text (places_from flags 0) ≡ texts_from is_in text 0 n
+  texts_all flags n len same =
+      sym (ap (λ (m : ℕ). texts_from is_in text 0 m) (sym len)
+      ∙ texts_set 0 flags (λ j lt. same j (omega (arith, lt, len)) ∙ ap is_in (omega arith)))
+
   -- all texts stand
   pub all_placed : (flags : List Bool) (n from : ℕ) (is_first : Bool) (initial out : List ℕ) → length flags ≡ n
       → ((j : ℕ) → j < n → flag flags j ≡ is_in j) → places_from flags from ≡ []
       → initial ++ listed (map text (places_from flags 0)) ≡ out ++ continued is_first (map text (places_from flags from))
       → out ++ continued is_first [] ≡ initial ++ listed (texts_from is_in text 0 n)
   all_placed flags n from is_first initial out len same none h =
-      let all : texts_from is_in text 0 n ≡ map text (places_from flags 0) =
-      ap (λ (m : ℕ). texts_from is_in text 0 m) (sym len)
-      ∙ texts_set 0 flags (λ j lt. same j (omega (arith, lt, len)) ∙ ap is_in (omega arith)) in
-      sym (ap (λ (xs : List (List ℕ)). initial ++ listed xs) all ∙ h
-      ∙ ap (λ (places : List ℕ). out ++ continued is_first (map text places)) none)
+      set_placed text flags from is_first initial out none h ∙ ap (λ (xs : List (List ℕ)). initial ++ listed xs) (texts_all flags n len same)

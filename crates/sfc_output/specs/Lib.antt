@@ -12,6 +12,8 @@ pub mod Steered
 pub mod Programs
 -- the lines of commands and of their answers
 pub mod Commands
+-- what is kept of the lines of program instances
+pub mod Memories
 -- the lines of the image
 pub mod ImageLines
 -- What private clauses cite.

@@ -4,16 +4,19 @@ ghost use Rattle.std.specs.Prelude.{◌≡◌, ◌<◌, ◌++◌, length, Ok, On
 ghost use Rattle.sfc_events.specs.History.{History};
 ghost use Rattle.sfc_core.specs.Agreement as core;
 ghost use Rattle.sfc_core.specs.PlantState as plant_state;
-ghost use Rattle.sfc_debug.specs.Agreement.{Agrees};
+ghost use Rattle.sfc_debug.specs.Agreement.{Agrees, plant_of};
 ghost use Rattle.sfc_debug.specs.Histories.{CommandHistory};
 ghost use Rattle.sfc_debug.specs.States.{state_of};
-ghost use Rattle.sfc_output.specs.Commands.{lines_at, program_lines, written_line};
+ghost use Rattle.sfc_output.specs.Commands.{lines_at, program_lines, refusal_line, written_line};
+ghost use Rattle.sfc_output.specs.Memories.{Fits};
 ghost use Rattle.sfc_output.specs.Private.Told.{told};
 ghost use Rattle.sfc_output.specs.Steered.{steered_by};
 
-use crate::command::{append_refusal, put_command, scan_end_in};
+use crate::command::{Accepted, append_refusal, put_command, scan_end_in};
 use crate::line::Line;
-use crate::program::put_program;
+use crate::memory::Memory;
+use crate::page::Page;
+use crate::program::{keep_effects, put_program};
 use sfc_base::ids::ProgId;
 use sfc_core::resource::Resource;
 use sfc_debug::debugger::Debugger;
@@ -22,23 +25,58 @@ use sfc_events::refusal::Refusal;
 use sfc_instance::scan_end::ScanEnd;
 use std::alloc::{AllocError, Global};
 
+// Keeps at this place what the scan of an instance did. The one error is that memory was refused.
+#[cold]
+#[inline(never)]
+fn keep_of(
+    memory: &mut Memory,
+    resource: &Resource,
+    instance: ProgId,
+    place: usize,
+) -> Result<(), AllocError>
+    requires { instance.0 < length (core.plant_of resource.now).instances }
+    ensures { Fits (core.plant_of resource.now) memory.old → Fits (core.plant_of resource.now) memory.new }
+{
+    keep_effects(memory, &resource.program(instance), place)
+}
+
+// The same, where the place isn't 0.
+#[inline(always)]
+fn keep_if(
+    memory: &mut Memory,
+    resource: &Resource,
+    instance: ProgId,
+    place: usize,
+) -> Result<(), AllocError>
+    requires { instance.0 < length (core.plant_of resource.now).instances }
+    ensures { Fits (core.plant_of resource.now) memory.old → Fits (core.plant_of resource.now) memory.new }
+{
+    if place == 0 {
+        return Ok(());
+    }
+    keep_of(memory, resource, instance, place)
+}
+
 // The line of an instance, if the answer tells of it.
 #[inline(always)]
 fn put_written(
     line: &mut Line,
     out: &mut Vec<u8>,
+    memory: &mut Memory,
     resource: &Resource,
-    instance: ProgId,
-    scan_end: Option<ScanEnd>,
+    scanned: (ProgId, Option<ScanEnd>),
 ) -> Result<(), AllocError>
-    requires { instance.0 < length (core.plant_of resource.now).instances }
-    ensures { (h : History) → core.Agrees resource.now h → OnOk result (told out.new.items line.new ≡ told out.old.items line.old
-        ++ written_line (core.plant_of resource.now) (plant_state.state_of (core.plant_of resource.now) h).instance_state instance.0 scan_end) }
+    requires { scanned.0.0 < length (core.plant_of resource.now).instances }
+    ensures line { (h : History) → core.Agrees resource.now h → Fits (core.plant_of resource.now) memory.old →
+        OnOk result (told out.new.items line.new ≡ told out.old.items line.old
+        ++ written_line (core.plant_of resource.now) (plant_state.state_of (core.plant_of resource.now) h).instance_state scanned.0.0 scanned.1) }
+    ensures fits { Fits (core.plant_of resource.now) memory.old → Fits (core.plant_of resource.now) memory.new }
 {
-    let Some(scan_end) = scan_end else {
+    let (instance, Some(scan_end)) = scanned else {
         return Ok(());
     };
-    put_program(line, out, &resource.program(instance), scan_end)
+    let place = put_program(line, out, memory, &resource.program(instance), scan_end)?;
+    keep_if(memory, resource, instance, place)
 }
 
 // A line for each instance that the answer tells of.
@@ -46,41 +84,114 @@ fn put_written(
 fn put_programs(
     line: &mut Line,
     out: &mut Vec<u8>,
+    memory: &mut Memory,
     resource: &Resource,
-    answer: Answer,
+    answer: &Answer,
 ) -> Result<(), AllocError>
-    ensures { (h : History) → core.Agrees resource.now h → OnOk result (told out.new.items line.new ≡ told out.old.items line.old
-        ++ program_lines (core.plant_of resource.now) (plant_state.state_of (core.plant_of resource.now) h).instance_state answer) }
+    ensures lines { (h : History) → core.Agrees resource.now h → Fits (core.plant_of resource.now) memory.old →
+        OnOk result (told out.new.items line.new ≡ told out.old.items line.old
+        ++ program_lines (core.plant_of resource.now) (plant_state.state_of (core.plant_of resource.now) h).instance_state answer.now) }
+    ensures fits { Fits (core.plant_of resource.now) memory.old → Fits (core.plant_of resource.now) memory.new }
 {
     for k in 0..resource.plant().instances().len() {
         let scan_end = scan_end_in(answer, k as u32);
-        put_written(line, out, resource, ProgId(k as u8), scan_end)?;
+        put_written(line, out, memory, resource, (ProgId(k as u8), scan_end))?;
     }
     Ok(())
 }
 
-// The lines of an accepted command, put together in one line.
-#[tactic(auto, using(crate::proofs::Told::told_none))]
+// The lines of an accepted command.
 #[inline(always)]
+fn put_accepted(
+    line: &mut Line,
+    out: &mut Vec<u8>,
+    memory: &mut Memory,
+    debugger: &Debugger,
+    accepted: &Accepted<'_>,
+) -> Result<(), AllocError>
+    ensures lines { (h : CommandHistory) → Agrees debugger.now h → Fits (plant_of debugger.now) memory.old →
+        OnOk result (told out.new.items line.new ≡ told out.old.items line.old ++ lines_at (steered_by debugger.now)
+        (state_of (steered_by debugger.now).plant (steered_by debugger.now).table h) accepted.now.command.now (Ok accepted.now.answer.now)) }
+    ensures fits { Fits (plant_of debugger.now) memory.old → Fits (plant_of debugger.now) memory.new }
+{
+    put_command(line, out, debugger, debugger.run_instant(), accepted)?;
+    put_programs(line, out, memory, debugger.resource(), accepted.answer)
+}
+
+// The lines of an accepted command, at the end of the page.
+#[inline(always)]
+fn put_accepted_on(
+    page: &mut Page,
+    memory: &mut Memory,
+    debugger: &Debugger,
+    command: &Command,
+    answer: &Answer,
+) -> Result<(), AllocError>
+    ensures lines { (h : CommandHistory) → Agrees debugger.now h → Fits (plant_of debugger.now) memory.old → OnOk result (page.new ≡ page.old
+        ++ lines_at (steered_by debugger.now)
+        (state_of (steered_by debugger.now).plant (steered_by debugger.now).table h) command.now (Ok answer.now)) }
+    ensures fits { Fits (plant_of debugger.now) memory.old → Fits (plant_of debugger.now) memory.new }
+{
+    page.line.make_room(&mut page.text)?;
+    put_accepted(
+        &mut page.line,
+        &mut page.text,
+        memory,
+        debugger,
+        &Accepted { command, answer },
+    )
+}
+
+// The line of a refused command, at the end of the page.
+#[cold]
+#[inline(never)]
+#[tactic(auto, using(crate::proofs::Told::told_none))]
+fn put_refused_on(page: &mut Page, debugger: &Debugger, refusal: Refusal) -> Result<(), AllocError>
+    ensures { OnOk result (page.new ≡ page.old ++ refusal_line (plant_of debugger.now) refusal) }
+{
+    page.line.pass_on(&mut page.text)?;
+    let plant = debugger.resource().plant();
+    append_refusal(page.alloc, &mut page.text, plant, refusal)
+}
+
+/// Puts the lines of a command that was answered so at the end of the page; the debugger has seen it. What is put so again and again
+/// is kept in the memory, which has to fit the plant. The one error is that memory was refused; then a front of the lines may stand
+/// there.
+#[inline(always)]
+pub fn put_answer(
+    page: &mut Page,
+    memory: &mut Memory,
+    debugger: &Debugger,
+    command: &Command,
+    answer: &Result<Answer, Refusal>,
+) -> Result<(), AllocError>
+    ensures lines { (h : CommandHistory) → Agrees debugger.now h → Fits (plant_of debugger.now) memory.old → OnOk result (page.new ≡ page.old
+        ++ lines_at (steered_by debugger.now)
+        (state_of (steered_by debugger.now).plant (steered_by debugger.now).table h) command.now answer.now) }
+    ensures fits { Fits (plant_of debugger.now) memory.old → Fits (plant_of debugger.now) memory.new }
+{
+    match answer {
+        Ok(answer) => put_accepted_on(page, memory, debugger, command, answer),
+        Err(refusal) => put_refused_on(page, debugger, *refusal),
+    }
+}
+
+// The lines of an accepted command, with nothing kept.
+#[tactic(auto, using(crate::proofs::Told::told_none))]
 fn append_accepted(
     out: &mut Vec<u8>,
     debugger: &Debugger,
-    command: Command,
-    answer: Answer,
+    command: &Command,
+    answer: &Answer,
 ) -> Result<(), AllocError>
     ensures { (h : CommandHistory) → Agrees debugger.now h → OnOk result (out.new.items ≡ out.old.items
         ++ lines_at (steered_by debugger.now)
-        (state_of (steered_by debugger.now).plant (steered_by debugger.now).table h) command (Ok answer)) }
+        (state_of (steered_by debugger.now).plant (steered_by debugger.now).table h) command.now (Ok answer.now)) }
 {
     let mut line = Line::new();
-    put_command(
-        &mut line,
-        out,
-        debugger,
-        (command, debugger.run_instant()),
-        answer,
-    )?;
-    put_programs(&mut line, out, debugger.resource(), answer)?;
+    let mut memory = Memory::none();
+    let accepted = Accepted { command, answer };
+    put_accepted(&mut line, out, &mut memory, debugger, &accepted)?;
     line.pass_on(out)
 }
 
@@ -98,6 +209,6 @@ pub fn append_answer(
 {
     match answer {
         Err(refusal) => append_refusal(alloc, out, debugger.resource().plant(), refusal),
-        Ok(answer) => append_accepted(out, debugger, command, answer),
+        Ok(answer) => append_accepted(out, debugger, &command, &answer),
     }
 }

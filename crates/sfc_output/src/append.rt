@@ -5,7 +5,7 @@ ghost use Rattle.std.specs.Fmt.{decimal};
 ghost use Rattle.sfc_base.specs.TimeText.{time_text};
 ghost use Rattle.sfc_output.specs.Values.{signed_text, value_text as text_of_value};
 
-use crate::line::Line;
+use sfc_base::time_text;
 use sfc_base::time_text::put_decimal;
 use sfc_base::value::Value;
 use std::alloc::AllocError;
@@ -30,13 +30,13 @@ pub fn append_number(out: &mut Vec<u8>, number: u64) -> Result<(), AllocError>
 
 /// Puts the TIME text of so many microseconds at the end. The one error is that memory was refused; then a front of it may
 /// stand there.
-#[tactic(auto, using(crate::proofs::Told::told_none))]
 pub fn append_time(out: &mut Vec<u8>, micros: i64) -> Result<(), AllocError>
     ensures { OnOk result (out.new.items ≡ out.old.items ++ time_text micros) }
 {
-    let mut line = Line::new();
-    line.put_time(out, micros)?;
-    line.pass_on(out)
+    match time_text::put_time(micros, out) {
+        Ok(()) => Ok(()),
+        Err(_) => Err(AllocError),
+    }
 }
 
 fn append_signed(out: &mut Vec<u8>, number: i64) -> Result<(), AllocError>

@@ -181,6 +181,8 @@ fn put_answer(line: &mut Line, out: &mut Vec<u8>, answer: Answer) -> Result<(), 
 }
 
 // The line of any accepted command.
+#[cold]
+#[inline(never)]
 #[tactic(auto, unfolding(crate::specs::Commands::command_line))]
 fn put_any(
     line: &mut Line,
@@ -214,6 +216,13 @@ fn put_scan(
     line.put_scanned(out, t, task, overruns)
 }
 
+/// A command that was accepted, and its answer.
+#[derive(Clone, Copy)]
+pub(crate) struct Accepted<'a> {
+    pub command: &'a Command,
+    pub answer: &'a Answer,
+}
+
 /// Puts the line of an accepted command behind the line, with its run instant in microseconds. The one error is that memory was refused;
 /// then a front of it may stand there.
 #[tactic(auto, unfolding(crate::specs::Commands::command_line, crate::specs::Private::Told::scanned_line))]
@@ -222,23 +231,24 @@ pub(crate) fn put_command(
     line: &mut Line,
     out: &mut Vec<u8>,
     debugger: &Debugger,
-    timed: (Command, i64),
-    answer: Answer,
+    t: i64,
+    accepted: &Accepted<'_>,
 ) -> Result<(), AllocError>
     ensures { OnOk result (told out.new.items line.new ≡
-        told out.old.items line.old ++ output.command_line (steered_by debugger.now) timed.0 timed.1 answer) }
+        told out.old.items line.old ++ output.command_line (steered_by debugger.now) accepted.now.command.now t accepted.now.answer.now) }
 {
-    if let Command::Scan(task) = timed.0
+    let Accepted { command, answer } = *accepted;
+    if let Command::Scan(task) = command
         && let Answer::Scanned {
             overruns,
             hit: false,
             ..
         } = answer
     {
-        let name = task_name(debugger.resource().plant(), task);
-        return put_scan(line, out, timed.1, name, overruns);
+        let name = task_name(debugger.resource().plant(), *task);
+        return put_scan(line, out, t, name, *overruns);
     }
-    put_any(line, out, debugger, timed, answer)
+    put_any(line, out, debugger, (*command, t), *answer)
 }
 
 /// Puts the line of an accepted command at the end: its run instant in microseconds, its words, and what its answer adds. The
@@ -304,9 +314,10 @@ pub fn append_refusal(
 }
 
 // How the answer to a scan tells that the scan of instance k ended; `None` where it doesn't tell of it.
-pub(crate) fn scan_end_in(answer: Answer, k: u32) -> Option<ScanEnd>
+#[inline(always)]
+pub(crate) fn scan_end_in(answer: &Answer, k: u32) -> Option<ScanEnd>
     requires { k < 64 }
-    ensures { result ≡ output.scan_end_in answer k }
+    ensures { result ≡ output.scan_end_in answer.now k }
 {
     let Answer::Scanned {
         ran,
@@ -317,11 +328,11 @@ pub(crate) fn scan_end_in(answer: Answer, k: u32) -> Option<ScanEnd>
     else {
         return None;
     };
-    if is_set(ran, k) {
+    if is_set(*ran, k) {
         Some(ScanEnd::Ran)
-    } else if is_set(faulted, k) {
+    } else if is_set(*faulted, k) {
         Some(ScanEnd::Faulted)
-    } else if is_set(skipped, k) {
+    } else if is_set(*skipped, k) {
         Some(ScanEnd::Skipped)
     } else {
         None

@@ -5,10 +5,13 @@
 //! - `append`: pieces of text, put at the end of a buffer.
 //! - `breakpoint`: where breakpoints stand, and their conditions.
 //! - `command`: the lines of commands and of their answers; of rows of the trace.
+//! - `effects`: what a scan did, and how that is written.
 //! - `image_line`: the lines of the image.
 //! - `line`: the end of a text, put together before it goes to a buffer.
 //! - `list`: lists in a line.
+//! - `memory`: what is kept of the lines of program instances.
 //! - `naming`: names as they were declared.
+//! - `page`: a text that is put together, answer by answer.
 //! - `pieces`: pieces of text in a line that has room for them.
 //! - `program`: the line of a program after a scan.
 #![tactic(auto)]
@@ -17,9 +20,12 @@ pub mod answer;
 pub mod append;
 mod breakpoint;
 pub mod command;
+mod effects;
 pub mod image_line;
 mod line;
 mod list;
+pub mod memory;
 mod naming;
+pub mod page;
 mod pieces;
 pub mod program;

@@ -13,7 +13,13 @@ use std::alloc::AllocError;
 use std::marker::Model;
 
 /// How many bytes a line holds at the most.
-const ROOM: usize = 128;
+const ROOM: usize = 1024;
+
+// How many bytes most answers have at the most.
+const ANSWER: usize = 256;
+
+/// How many bytes the texts have at the most that are kept.
+pub const KEPT: usize = 64;
 
 // A time of less than so many microseconds, which are a thousand days, has at most 34 bytes.
 const LONG_TIME: i64 = 86_400_000_000_000;
@@ -42,7 +48,7 @@ impl Model for Line {
 
     ghost view = { λ l. take l.count l.bytes };
 
-    ghost invariant = { λ l. l.count ≤ 128 };
+    ghost invariant = { λ l. l.count ≤ 1024 };
 }
 
 impl Line {
@@ -60,8 +66,8 @@ impl Line {
     // Whether so many bytes more have room.
     #[inline(always)]
     fn has_room(&self, count: usize) -> bool
-        requires { count ≤ 128 }
-        ensures { IsTrue result → length self.now + count ≤ 128 }
+        requires { count ≤ 1024 }
+        ensures { IsTrue result → length self.now + count ≤ 1024 }
     {
         self.count <= ROOM - count
     }
@@ -69,8 +75,8 @@ impl Line {
     // Whether a text and so many bytes have room.
     #[inline(always)]
     fn has_room_behind(&self, text: &[u8], count: usize) -> bool
-        requires { count ≤ 128 }
-        ensures { IsTrue result → length self.now + (length text.now + count) ≤ 128 }
+        requires { count ≤ 1024 }
+        ensures { IsTrue result → length self.now + (length text.now + count) ≤ 1024 }
     {
         self.count + text.len() <= ROOM - count
     }
@@ -88,10 +94,22 @@ impl Line {
         append(out, &self.bytes[..count])
     }
 
+    /// Passes the line on where few bytes more have room. The one error is that memory was refused; then a front of it may stand there.
+    #[tactic(auto, using(crate::proofs::Told::told_none))]
+    #[inline(always)]
+    pub fn make_room(&mut self, out: &mut Vec<u8>) -> Result<(), AllocError>
+        ensures { OnOk result (told out.new.items self.new ≡ told out.old.items self.old) }
+    {
+        if self.has_room(ANSWER) {
+            return Ok(());
+        }
+        self.pass_on(out)
+    }
+
     // Bytes that have room.
     #[inline(always)]
     fn push(&mut self, text: &[u8])
-        requires { length self.old + length text.now ≤ 128 }
+        requires { length self.old + length text.now ≤ 1024 }
         ensures { self.new ≡ self.old ++ text.now }
     {
         let count = self.count;
@@ -123,11 +141,42 @@ impl Line {
         self.put_long(out, text)
     }
 
+    // The first of these bytes, where all have room.
+    #[inline(always)]
+    fn push_kept(&mut self, text: &[u8; KEPT], count: usize)
+        requires few { count ≤ 64 }
+        requires room { length self.old + 64 ≤ 1024 }
+        ensures { self.new ≡ self.old ++ take count text.now }
+    {
+        let text = *text;
+        pieces::put_text(&mut self.bytes, self.count, &text);
+        self.count += count;
+    }
+
+    /// Puts the first of these bytes behind the line, as `put` does.
+    #[tactic(auto, using(crate::proofs::Told::told_more))]
+    #[inline(always)]
+    pub fn put_kept(
+        &mut self,
+        out: &mut Vec<u8>,
+        text: &[u8; KEPT],
+        count: usize,
+    ) -> Result<(), AllocError>
+        requires { count ≤ 64 }
+        ensures { OnOk result (told out.new.items self.new ≡ told out.old.items self.old ++ take count text.now) }
+    {
+        if self.has_room(KEPT) {
+            self.push_kept(text, count);
+            return Ok(());
+        }
+        self.put_long(out, &text[..count])
+    }
+
     // A number that has room.
     #[inline(always)]
     fn push_number(&mut self, number: u32)
         requires short { number < 1000000 }
-        requires room { length self.old + 6 ≤ 128 }
+        requires room { length self.old + 6 ≤ 1024 }
         ensures { self.new ≡ self.old ++ decimal number }
     {
         let count = self.count;
@@ -163,7 +212,7 @@ impl Line {
     fn push_time(&mut self, micros: i64)
         requires front { text.front_of micros ≡ codes "T#" }
         requires short { unsigned_abs micros < 86400000000000 }
-        requires room { length self.old + 34 ≤ 128 }
+        requires room { length self.old + 34 ≤ 1024 }
         ensures { self.new ≡ self.old ++ text.time_text micros }
     {
         let count = self.count;
@@ -197,15 +246,17 @@ impl Line {
         self.put_long_time(out, micros)
     }
 
-    // The number of scans, which has room.
+    // The head of the line of a program instance, which has room.
     #[tactic(auto, unfolding(crate::specs::Private::Told::scans_text))]
     #[inline(always)]
-    fn push_scans(&mut self, scans: u32)
+    fn push_scans(&mut self, name: &[u8], scans: u32)
         requires short { scans < 1000000 }
-        requires room { length self.old + 14 ≤ 128 }
-        ensures { self.new ≡ self.old ++ scans_text scans }
+        requires room { length self.old + (length name.now + 16) ≤ 1024 }
+        ensures { self.new ≡ self.old ++ scans_text name.now scans }
     {
-        let count = pieces::put_text(&mut self.bytes, self.count, b" ");
+        let count = pieces::put_text(&mut self.bytes, self.count, b"  ");
+        let count = pieces::put_name(&mut self.bytes, count, name);
+        let count = pieces::put_text(&mut self.bytes, count, b" ");
         let count = pieces::put_number(&mut self.bytes, count, scans);
         self.count = pieces::put_text(&mut self.bytes, count, b" steps ");
     }
@@ -214,31 +265,44 @@ impl Line {
     #[tactic(auto, unfolding(crate::specs::Private::Told::scans_text))]
     #[cold]
     #[inline(never)]
-    fn put_long_scans(&mut self, out: &mut Vec<u8>, scans: u64) -> Result<(), AllocError>
-        ensures { OnOk result (told out.new.items self.new ≡ told out.old.items self.old ++ scans_text scans) }
+    fn put_long_scans(
+        &mut self,
+        out: &mut Vec<u8>,
+        name: &[u8],
+        scans: u64,
+    ) -> Result<(), AllocError>
+        ensures { OnOk result (told out.new.items self.new ≡ told out.old.items self.old ++ scans_text name.now scans) }
     {
+        self.put(out, b"  ")?;
+        self.put(out, name)?;
         self.put(out, b" ")?;
         self.put_long_number(out, scans)?;
         self.put(out, b" steps ")
     }
 
-    /// Puts the number of scans behind the line, and the word before the steps.
+    /// Puts the head of the line of a program instance behind the line: its name, how many scans it has had, and the word before the
+    /// steps.
     #[tactic(auto, using(crate::proofs::Told::told_more))]
     #[inline(always)]
-    pub fn put_scans(&mut self, out: &mut Vec<u8>, scans: u64) -> Result<(), AllocError>
-        ensures { OnOk result (told out.new.items self.new ≡ told out.old.items self.old ++ scans_text scans) }
+    pub fn put_scans(
+        &mut self,
+        out: &mut Vec<u8>,
+        name: &[u8],
+        scans: u64,
+    ) -> Result<(), AllocError>
+        ensures { OnOk result (told out.new.items self.new ≡ told out.old.items self.old ++ scans_text name.now scans) }
     {
-        if scans < LONG_NUMBER && self.has_room(14) {
-            self.push_scans(scans as u32);
+        if scans < LONG_NUMBER && self.has_room_behind(name, 16) {
+            self.push_scans(name, scans as u32);
             return Ok(());
         }
-        self.put_long_scans(out, scans)
+        self.put_long_scans(out, name, scans)
     }
 
     // What parts a name from one before it, and the name, which have room.
     #[inline(always)]
     fn push_next(&mut self, is_first: bool, name: &[u8])
-        requires { length self.old + (length name.now + 1) ≤ 128 }
+        requires { length self.old + (length name.now + 1) ≤ 1024 }
         ensures { self.new ≡ self.old ++ (separator is_first ++ name.now) }
     {
         let count = pieces::put_separator(&mut self.bytes, self.count, is_first);
@@ -284,7 +348,7 @@ impl Line {
     #[inline(always)]
     fn push_next_number(&mut self, is_first: bool, number: u32)
         requires short { number < 1000000 }
-        requires room { length self.old + 7 ≤ 128 }
+        requires room { length self.old + 7 ≤ 1024 }
         ensures { self.new ≡ self.old ++ (separator is_first ++ decimal number) }
     {
         let count = pieces::put_separator(&mut self.bytes, self.count, is_first);
@@ -332,7 +396,7 @@ impl Line {
     fn push_timed(&mut self, is_first: bool, name: &[u8], micros: i64)
         requires front { text.front_of micros ≡ codes "T#" }
         requires short { unsigned_abs micros < 86400000000000 }
-        requires room { length self.old + (length name.now + 36) ≤ 128 }
+        requires room { length self.old + (length name.now + 36) ≤ 1024 }
         ensures { self.new ≡ self.old ++ (separator is_first ++ timed_text name.now micros) }
     {
         let count = pieces::put_separator(&mut self.bytes, self.count, is_first);
@@ -385,7 +449,7 @@ impl Line {
         requires front { text.front_of micros ≡ codes "T#" }
         requires short_time { unsigned_abs micros < 86400000000000 }
         requires short_number { overruns < 1000000 }
-        requires room { length self.old + (length task.now + 57) ≤ 128 }
+        requires room { length self.old + (length task.now + 57) ≤ 1024 }
         ensures { self.new ≡ self.old ++ scanned_text micros task.now overruns }
     {
         let count = pieces::put_time(&mut self.bytes, self.count, micros.unsigned_abs());

@@ -1,27 +1,35 @@
 //! The line of a program after a scan.
 
-ghost use Rattle.std.specs.Prelude.{◌≡◌, ◌<◌, ◌^◌, ◌++◌, List, length, suc, OnOk};
+ghost use Rattle.std.specs.Prelude.{◌≡◌, ◌<◌, ◌+◌, ◌^◌, ◌++◌, List, codes, length, map, suc, OnOk};
+ghost use Rattle.sfc_flags.specs.Flags.{places_from};
+ghost use Rattle.sfc_plant.specs.InstanceSpaces.{space_of};
+ghost use Rattle.sfc_plant.specs.Spaces.{Space};
 ghost use Rattle.sfc_image.specs.Changes.{Change};
 ghost use Rattle.sfc_instance.specs.Life.{InstanceState};
 ghost use Rattle.sfc_instance.specs.Views.{plant_in, instance_in, tables_in, Shows};
 ghost use Rattle.sfc_output.specs.Lists.{listed};
-ghost use Rattle.sfc_output.specs.Names.{numbered_action};
+ghost use Rattle.sfc_output.specs.Memories.{Fits, effects_text};
+ghost use Rattle.sfc_output.specs.Names.{numbered_action, program_name};
 ghost use Rattle.sfc_output.specs.Programs as output;
 ghost use Rattle.sfc_output.specs.Private.ListParts.{separator};
-ghost use Rattle.sfc_output.specs.Private.Told.{told};
+ghost use Rattle.sfc_output.specs.Private.Told.{told, done_text, ran_text, fault_line};
 
+use crate::effects::Sets;
 use crate::line::Line;
 use crate::list::put_end;
+use crate::memory::Memory;
 use crate::naming::{names_of, program_name, target_name};
 use sfc_action::fault::ControlFault;
 use sfc_base::ids::ActionNumber;
 use sfc_base::references::StepId;
 use sfc_base::ticks::Ticks;
 use sfc_expr::fault::Fault;
+use sfc_flags::flags::Flags;
 use sfc_instance::program_view::ProgramView;
 use sfc_instance::scan_end::ScanEnd;
 use sfc_instance::scan_fault::ScanFault;
 use sfc_plant::names::Names;
+use sfc_tables::tables::Tables;
 use std::alloc::AllocError;
 
 // Puts a step with its time, and before it what parts it from one before it; whether it is the first is told with it.
@@ -43,14 +51,14 @@ fn put_step(
     line.put_timed(out, is_first, names.step(step), view.elapsed(step))
 }
 
-// The active steps with their times.
+// The active steps with their times. It answers the number of the last one, or 0.
 #[inline(always)]
 fn put_steps(
     line: &mut Line,
     out: &mut Vec<u8>,
     view: &ProgramView<'_>,
     names: &Names<'_>,
-) -> Result<(), AllocError>
+) -> Result<u16, AllocError>
     ensures { (changes : List Change) (instance_state : InstanceState) → Shows view.now changes instance_state →
         OnOk result (told out.new.items line.new ≡
         told out.old.items line.old ++ listed (output.step_texts names.now (tables_in view.now) instance_state)) }
@@ -60,31 +68,31 @@ fn put_steps(
     let mut ticks = Ticks::new();
     let mut is_first = true;
     let mut from = 0;
+    let mut last = 0;
     'places: while let Some(s) = active.next_set(from, &mut ticks) {
-        put_step(line, out, view, names, (is_first, StepId(s as u16)))?;
+        last = s as u16;
+        put_step(line, out, view, names, (is_first, StepId(last)))?;
         is_first = false;
         from = s + 1;
     }
-    put_end(line, out, is_first)
+    put_end(line, out, is_first)?;
+    Ok(last)
 }
 
 // The number of a transition as it is written.
 #[inline(always)]
 fn number_of(transition: usize) -> u64
-    ensures { transition < 2 ^ 63 → result ≡ suc transition }
+    ensures { transition + 1 < 2 ^ 64 → result ≡ suc transition }
 {
     (transition as u64).saturating_add(1)
 }
 
 // The numbers of the cleared transitions.
 #[inline(always)]
-fn put_cleared(line: &mut Line, out: &mut Vec<u8>, view: &ProgramView<'_>) -> Result<(), AllocError>
-    ensures { (changes : List Change) (instance_state : InstanceState) → Shows view.now changes instance_state →
-        OnOk result (told out.new.items line.new ≡
-        told out.old.items line.old ++ listed (output.cleared_texts (tables_in view.now) instance_state)) }
+fn put_cleared(line: &mut Line, out: &mut Vec<u8>, cleared: &Flags) -> Result<(), AllocError>
+    ensures { OnOk result (told out.new.items line.new ≡
+        told out.old.items line.old ++ listed (map output.transition_text (places_from cleared.now 0))) }
 {
-    let _transitions = view.tables().transitions();
-    let cleared = view.cleared_flags();
     let mut ticks = Ticks::new();
     let mut is_first = true;
     let mut from = 0;
@@ -101,19 +109,19 @@ fn put_cleared(line: &mut Line, out: &mut Vec<u8>, view: &ProgramView<'_>) -> Re
 fn put_executed(
     line: &mut Line,
     out: &mut Vec<u8>,
-    view: &ProgramView<'_>,
+    tables: &Tables,
     names: &Names<'_>,
+    executed: &Flags,
 ) -> Result<(), AllocError>
-    ensures { (changes : List Change) (instance_state : InstanceState) → Shows view.now changes instance_state →
-        OnOk result (told out.new.items line.new ≡
-        told out.old.items line.old ++ listed (output.executed_texts names.now (tables_in view.now) instance_state)) }
+    requires { length executed.now ≡ length tables.now.actions }
+    ensures { OnOk result (told out.new.items line.new ≡
+        told out.old.items line.old ++ listed (map (numbered_action names.now tables.now) (places_from executed.now 0))) }
 {
-    let executed = view.executed_flags();
     let mut ticks = Ticks::new();
     let mut is_first = true;
     let mut from = 0;
     'places: while let Some(action) = executed.next_set(from, &mut ticks) {
-        let target = view.tables().target(ActionNumber(action));
+        let target = tables.target(ActionNumber(action));
         line.put_next(out, is_first, target_name(&*names, target))?;
         is_first = false;
         from = action + 1;
@@ -121,25 +129,91 @@ fn put_executed(
     put_end(line, out, is_first)
 }
 
-// What a scan did.
-#[tactic(auto, unfolding(crate::specs::Private::Told::scans_text))]
+// The cleared transitions and the executed actions, to the end of the line.
+#[tactic(auto, unfolding(crate::specs::Memories::effects_text))]
 #[inline(always)]
-fn put_scan(
+fn put_sets(
     line: &mut Line,
     out: &mut Vec<u8>,
-    view: &ProgramView<'_>,
+    tables: &Tables,
     names: &Names<'_>,
+    sets: &Sets<'_>,
 ) -> Result<(), AllocError>
-    ensures { (changes : List Change) (instance_state : InstanceState) → Shows view.now changes instance_state →
-        OnOk result (told out.new.items line.new ≡
-        told out.old.items line.old ++ output.scan_text names.now (tables_in view.now) instance_state) }
+    requires { length sets.now.executed.now ≡ length tables.now.actions }
+    ensures { OnOk result (told out.new.items line.new ≡
+        told out.old.items line.old ++ effects_text names.now tables.now sets.now.cleared.now sets.now.executed.now) }
 {
-    line.put_scans(out, view.scans())?;
-    put_steps(line, out, view, names)?;
     line.put(out, b" cleared ")?;
-    put_cleared(line, out, view)?;
+    put_cleared(line, out, sets.cleared)?;
     line.put(out, b" run ")?;
-    put_executed(line, out, view, names)
+    put_executed(line, out, tables, names, sets.executed)?;
+    line.put(out, b"\n")
+}
+
+// The same at the end of a text.
+#[tactic(auto, using(crate::proofs::Told::told_none))]
+fn append_sets(
+    out: &mut Vec<u8>,
+    tables: &Tables,
+    names: &Names<'_>,
+    sets: &Sets<'_>,
+) -> Result<(), AllocError>
+    requires { length sets.now.executed.now ≡ length tables.now.actions }
+    ensures { OnOk result (out.new.items ≡ out.old.items ++ effects_text names.now tables.now sets.now.cleared.now sets.now.executed.now) }
+{
+    let mut line = Line::new();
+    put_sets(&mut line, out, tables, names, sets)?;
+    line.pass_on(out)
+}
+
+// What the latest scan did.
+#[inline(always)]
+fn sets_of<'a>(view: &ProgramView<'a>) -> Sets<'a>
+    ensures executed { length result.executed.now ≡ length (tables_in view.now).actions }
+    ensures shows { (changes : List Change) (instance_state : InstanceState) (space : Space) → Shows view.now changes instance_state →
+        effects_text space (tables_in view.now) result.cleared.now result.executed.now ≡ done_text space (tables_in view.now) instance_state }
+{
+    Sets {
+        cleared: view.cleared_flags(),
+        executed: view.executed_flags(),
+    }
+}
+
+// The place at which it is kept what a scan did, from 1 on: another one for each last active step, and whether a transition was cleared.
+#[inline(always)]
+fn place_of(last: u16, cleared: &Flags) -> usize {
+    let mut ticks = Ticks::new();
+    let clearing = match cleared.next_set(0, &mut ticks) {
+        Some(_) => 2,
+        None => 1,
+    };
+    last as usize * 2 + clearing
+}
+
+// What a scan did, to the end of the line: as it is kept, or else anew. It answers the place at which it is to be kept, or 0.
+#[inline(always)]
+fn put_effects(
+    line: &mut Line,
+    out: &mut Vec<u8>,
+    memory: &Memory,
+    view: &ProgramView<'_>,
+    last: u16,
+) -> Result<usize, AllocError>
+    ensures { (changes : List Change) (instance_state : InstanceState) → Shows view.now changes instance_state →
+        Fits (plant_in view.now) memory.now → OnOk result (told out.new.items line.new ≡ told out.old.items line.old
+        ++ done_text (space_of (plant_in view.now) (instance_in view.now)) (tables_in view.now) instance_state) }
+{
+    let sets = sets_of(view);
+    let place = place_of(last, sets.cleared);
+    if let Some(effects) = memory.effects(view.instance(), place)
+        && effects.are(&sets)
+    {
+        effects.put(line, out)?;
+        return Ok(0);
+    }
+    let names = names_of(view.plant(), view.instance());
+    put_sets(line, out, view.tables(), &names, &sets)?;
+    Ok(if sets.are_small() { place } else { 0 })
 }
 
 /// The name of a fault.
@@ -165,49 +239,67 @@ fn fault_text(fault: Option<ScanFault>) -> &'static [u8]
     }
 }
 
-// What is written of a scan that ended so.
+// The line of a program instance of this name whose scan ran. It answers the place at which what the scan did is to be kept, or 0.
 #[inline(always)]
-fn put_scan_end(
+fn put_ran(
     line: &mut Line,
     out: &mut Vec<u8>,
+    memory: &Memory,
     view: &ProgramView<'_>,
-    names: &Names<'_>,
-    scan_end: ScanEnd,
-) -> Result<(), AllocError>
+    name: &[u8],
+) -> Result<usize, AllocError>
     ensures { (changes : List Change) (instance_state : InstanceState) → Shows view.now changes instance_state →
-        OnOk result (told out.new.items line.new ≡
-        told out.old.items line.old ++ output.end_text names.now (tables_in view.now) instance_state scan_end) }
+        Fits (plant_in view.now) memory.now → OnOk result (told out.new.items line.new ≡ told out.old.items line.old
+        ++ ran_text name.now (space_of (plant_in view.now) (instance_in view.now)) (tables_in view.now) instance_state) }
 {
-    match scan_end {
-        ScanEnd::Ran => put_scan(line, out, view, names),
-        ScanEnd::Faulted => {
-            line.put(out, b" fault ")?;
-            line.put(out, fault_text(view.fault()))
-        }
-        ScanEnd::Skipped => {
-            line.put(out, b" skipped ")?;
-            line.put(out, fault_text(view.fault()))
-        }
-    }
+    line.put_scans(out, name, view.scans())?;
+    let names = names_of(view.plant(), view.instance());
+    let last = put_steps(line, out, view, &names)?;
+    put_effects(line, out, memory, view, last)
 }
 
-/// Puts the line of the program instance behind the line, as `append_program` does at the end.
+// The line of a program instance whose scan ended with a fault, or was passed over for one; nothing of it is to be kept.
+#[tactic(auto, unfolding(crate::specs::Private::Told::fault_line))]
+#[cold]
+#[inline(never)]
+fn put_fault(
+    line: &mut Line,
+    out: &mut Vec<u8>,
+    name: &[u8],
+    word: &[u8],
+    fault: Option<ScanFault>,
+) -> Result<usize, AllocError>
+    ensures { OnOk result (told out.new.items line.new ≡ told out.old.items line.old ++ fault_line name.now word.now fault) }
+{
+    line.put(out, b"  ")?;
+    line.put(out, name)?;
+    line.put(out, word)?;
+    line.put(out, fault_text(fault))?;
+    line.put(out, b"\n")?;
+    Ok(0)
+}
+
+/// Puts the line of the program instance behind the line, as `append_program` does at the end, with what is kept of an earlier one. It
+/// answers the place at which what the scan did is to be kept, or 0 where it is kept or nothing is.
+#[tactic(auto, using(crate::proofs::Done::ran_regrouped, crate::proofs::Done::faulted_regrouped, crate::proofs::Done::skipped_regrouped))]
 #[inline(always)]
 pub(crate) fn put_program(
     line: &mut Line,
     out: &mut Vec<u8>,
+    memory: &Memory,
     view: &ProgramView<'_>,
     scan_end: ScanEnd,
-) -> Result<(), AllocError>
+) -> Result<usize, AllocError>
     ensures { (changes : List Change) (instance_state : InstanceState) → Shows view.now changes instance_state →
-        OnOk result (told out.new.items line.new ≡ told out.old.items line.old
+        Fits (plant_in view.now) memory.now → OnOk result (told out.new.items line.new ≡ told out.old.items line.old
         ++ output.program_line (plant_in view.now) (instance_in view.now) instance_state scan_end) }
 {
-    line.put(out, b"  ")?;
-    line.put(out, program_name(view.plant(), view.instance()))?;
-    let names = names_of(view.plant(), view.instance());
-    put_scan_end(line, out, view, &names, scan_end)?;
-    line.put(out, b"\n")
+    let name = program_name(view.plant(), view.instance());
+    match scan_end {
+        ScanEnd::Ran => put_ran(line, out, memory, view, name),
+        ScanEnd::Faulted => put_fault(line, out, name, b" fault ", view.fault()),
+        ScanEnd::Skipped => put_fault(line, out, name, b" skipped ", view.fault()),
+    }
 }
 
 /// Puts the line of the program instance at the end, whose scan ended so: what it did, or the fault that ended it or an
@@ -222,6 +314,24 @@ pub fn append_program(
         OnOk result (out.new.items ≡ out.old.items ++ output.program_line (plant_in view.now) (instance_in view.now) instance_state scan_end) }
 {
     let mut line = Line::new();
-    put_program(&mut line, out, view, scan_end)?;
+    put_program(&mut line, out, &Memory::none(), view, scan_end)?;
     line.pass_on(out)
+}
+
+/// Keeps at this place what the latest scan of the program instance did. The one error is that memory was refused.
+pub(crate) fn keep_effects(
+    memory: &mut Memory,
+    view: &ProgramView<'_>,
+    place: usize,
+) -> Result<(), AllocError>
+    ensures { Fits (plant_in view.now) memory.old → Fits (plant_in view.now) memory.new }
+{
+    let Some(alloc) = memory.alloc() else {
+        return Ok(());
+    };
+    let mut text = Vec::new(alloc);
+    let names = names_of(view.plant(), view.instance());
+    let sets = sets_of(view);
+    append_sets(&mut text, view.tables(), &names, &sets)?;
+    memory.keep((view.instance(), place), &sets, &text)
 }

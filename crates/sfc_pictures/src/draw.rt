@@ -81,7 +81,7 @@ fn played(alloc: Global, resource: Resource, script: Script) -> Result<Debugger,
     let (commands, conditions) = script.into_parts();
     let mut debugger = Debugger::with_conditions(alloc, resource, 1, TraceMask(0), conditions)?;
     let mut nothing = Vec::new(alloc);
-    play(alloc, &Quiet, &mut debugger, &commands, &mut nothing)?;
+    play(alloc, &mut Quiet, &mut debugger, &commands, &mut nothing)?;
     Ok(debugger)
 }
 

@@ -1,11 +1,12 @@
 //! A report that writes nothing.
 
-ghost use Rattle.std.specs.Prelude.{[]};
+ghost use Rattle.std.specs.Prelude.{[], ⊤};
 
 use sfc_debug::debugger::Debugger;
 use sfc_events::command::{Answer, Command};
 use sfc_events::refusal::Refusal;
 use sfc_monitor::report::Report;
+use sfc_output::page::Page;
 use std::alloc::{AllocError, Global};
 
 /// Nothing is written of a run.
@@ -13,15 +14,16 @@ use std::alloc::{AllocError, Global};
 pub struct Quiet;
 
 impl Report for Quiet {
-    ghost lines = { λ _ _. record { command = λ _ _ _. []; closing = λ _. [] } };
+    ghost lines = { λ _. record { command = λ _ _ _. []; closing = λ _. [] } };
 
-    fn append_answer(
-        &self,
-        _alloc: Global,
-        _out: &mut Vec<u8>,
+    ghost fits = { λ _ _. ⊤ };
+
+    fn put_answer(
+        &mut self,
+        _page: &mut Page,
         _debugger: &Debugger,
-        _timed: (Command, i64),
-        _answer: Result<Answer, Refusal>,
+        _timed: &(Command, i64),
+        _answer: &Result<Answer, Refusal>,
     ) -> Result<(), AllocError> {
         Ok(())
     }

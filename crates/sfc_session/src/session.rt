@@ -20,8 +20,7 @@ use sfc_debug::opening::DebugOpening;
 use sfc_debug::trace_mask::TraceMask;
 use sfc_events::command::{Answer, Command, CondId, Point, TraceRow};
 use sfc_events::refusal::Refusal;
-use sfc_monitor::report::Report;
-use sfc_monitor::text::Text;
+use sfc_output::answer::append_answer;
 use sfc_plant::plant::Plant;
 use std::alloc::{AllocError, Global};
 
@@ -174,7 +173,7 @@ impl Session {
         ensures script { IfOk result (λ answer. script_in self.new ≡ script_after answer (script_in self.old) timed.1 words.now) }
     {
         let answer = obey(&mut self.debugger, timed);
-        Text.append_answer(alloc, out, &self.debugger, timed, answer)?;
+        append_answer(alloc, out, &self.debugger, timed.0, answer)?;
         self.keep_if(timed, answer, words)?;
         Ok(answer)
     }
@@ -227,7 +226,7 @@ impl Session {
         let (point, raw) = placed;
         let timed = (self.next_break(condition.program, point), raw);
         let answer = obey_break(&mut self.debugger, placed, condition)?;
-        Text.append_answer(alloc, out, &self.debugger, timed, answer)?;
+        append_answer(alloc, out, &self.debugger, timed.0, answer)?;
         self.count_if(answer);
         self.keep_if(timed, answer, words)?;
         Ok(answer)

@@ -1,8 +1,15 @@
 -- What stands at the end of a buffer and in a line behind it.
-use Rattle.std.specs.Prelude.{ℕ, ℤ, List, [], ◌++◌, ◌/◌, ◌%◌, ◌==◌, codes}
+use Rattle.std.specs.Prelude.{ℕ, ℤ, List, [], ◌++◌, ◌/◌, ◌%◌, ◌==◌, codes, Option}
 use Rattle.std.specs.Fmt.{decimal}
 use Rattle.sfc_base.specs.declared.unit.Unit.TheVariants.{Second}
 use Rattle.sfc_base.specs.TimeText.{milliseconds_text, part_text, time_text}
+use Rattle.sfc_tables.specs.Tables.{Tabled}
+use Rattle.sfc_plant.specs.Spaces.{Space}
+use Rattle.sfc_instance.specs.Life.{InstanceState}
+use Rattle.sfc_output.specs.Lists.{listed}
+use Rattle.sfc_instance.specs.Answers.{scan_count}
+use Rattle.sfc_instance.specs.declared.scan_fault.ScanFault.{ScanFault}
+use Rattle.sfc_output.specs.Programs.{cleared_texts, executed_texts, step_texts, fault_text}
 use Rattle.sfc_output.specs.Values.{line_end}
 
 unfoldable pub told : List ℕ → List ℕ → List ℕ
@@ -12,9 +19,9 @@ told items line = items ++ line
 unfoldable pub seconds_text : ℕ → List ℕ
 seconds_text v = part_text (v / 1000000) Second (v % 1000000 == 0) ++ milliseconds_text (v % 1000000)
 
--- the number of scans, and the word before the steps
-unfoldable pub scans_text : ℕ → List ℕ
-scans_text n = codes " " ++ decimal n ++ codes " steps "
+-- the head of the line of a program instance: its name, how many scans its life has had, and the word before the steps
+unfoldable pub scans_text : List ℕ → ℕ → List ℕ
+scans_text name n = codes "  " ++ name ++ codes " " ++ decimal n ++ codes " steps "
 
 -- a name and a time
 unfoldable pub timed_text : List ℕ → ℤ → List ℕ
@@ -29,3 +36,18 @@ scanned_text t task overruns =
 unfoldable pub scanned_line : ℤ → List ℕ → ℕ → List ℕ
 scanned_line t task overruns =
     time_text t ++ (codes " SCAN " ++ task) ++ (codes " overruns " ++ decimal overruns ++ []) ++ line_end
+
+-- the end of the line of a program instance that stands so
+unfoldable pub done_text : Space → Tabled → InstanceState → List ℕ
+done_text space tables instance_state =
+    codes " cleared " ++ listed (cleared_texts tables instance_state)
+    ++ codes " run " ++ listed (executed_texts space tables instance_state) ++ line_end
+
+-- the line of a program instance that stands so, whose scan ran, piece by piece
+unfoldable pub ran_text : List ℕ → Space → Tabled → InstanceState → List ℕ
+ran_text name space tables instance_state =
+    scans_text name (scan_count instance_state) ++ listed (step_texts space tables instance_state) ++ done_text space tables instance_state
+
+-- the line of a program instance whose scan ended with a fault, or was passed over for one
+unfoldable pub fault_line : List ℕ → List ℕ → Option ScanFault → List ℕ
+fault_line name word fault = codes "  " ++ name ++ word ++ fault_text fault ++ line_end

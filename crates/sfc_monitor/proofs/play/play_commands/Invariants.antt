@@ -8,8 +8,9 @@ use Rattle.sfc_monitor.proofs.play.play_commands.Given as goal
 abbrev pub invariant-commands : goal.invariant-commands
 invariant-commands g l = record {
   steered : steered_by l.debugger ≡ steered_by l.initial.debugger;
-  under_way : (h : CommandHistory) → Agrees l.initial.debugger h → IsUnderWay (g.R.Report.lines l.report) (steered_by l.initial.debugger)
-      (g.W.Write.contents l.initial.w) (g.W.Write.contents l.w) l.initial.text.items l.text.items l.debugger l.amiss h l.commands l.rest;
+  fits : g.R.Report.fits l.report (steered_by l.initial.debugger);
+  under_way : (h : CommandHistory) → Agrees l.initial.debugger h → IsUnderWay g.R.Report.lines (steered_by l.initial.debugger)
+      (g.W.Write.contents l.initial.w) (g.W.Write.contents l.w) l.initial.page l.page l.debugger l.amiss h l.commands l.rest;
 }
 
 abbrev pub decreases-commands : goal.decreases-commands

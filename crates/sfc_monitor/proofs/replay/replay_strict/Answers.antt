@@ -107,7 +107,7 @@ pub returns-clause-replays : goal.returns-clause-replays
 returns-clause-replays g c =
     let chart : Device = (g.C.Read.remaining c.args.chart.now, g.C.Read.remaining c.read_to_end.new.reader) in
     let script : Device = (g.S.Read.remaining c.args.script.now, g.S.Read.remaining c.read_to_end-2.new.reader) in
-    let w : Device = (g.W.Write.contents c.args.w.now, g.W.Write.contents c.play.new.w) in
+    let w : Device = (g.W.Write.contents c.args.w.now, g.W.Write.contents c.play_text.new.w) in
     let plant = c.in_ok-plant.plant in
     let said : ScriptData = record { commands = c.in_ok-said.said.commands.items; table = c.in_ok-said.said.conditions.items } in
     let loaded : IsAccepted c.in_ok-text.text.items plant = rw c.deref.ensures.value at c.in_ok-plant.ensures in
@@ -118,17 +118,17 @@ returns-clause-replays g c =
     ∙ (λ i. record { plant = c.in_ok-resource.ensures.plant i; table = (c.into_parts-commands.ensures.conditions i).items }) in
     let commands : c.deref-3.result.now ≡ said.commands = c.deref-3.ensures.value ∙ ap (λ (v : Vec TimedCommand). v.items) c.into_parts-commands.ensures.commands in
     played chart script w c.in_ok-text.text.items plant c.in_ok-text.ensures.taken loaded c.in_ok-bytes.bytes.items c.in_ok-bytes.ensures.taken said parsed
-    c.play.result c.play.ensures.faults
-    (subst (λ (s : Steered). Writes w.0 w.1 c.play.result (lines_of_play (debugger_of s) (text_of s) [] said.commands)) steered
-    (subst (λ (cs : List TimedCommand). Writes w.0 w.1 c.play.result
+    c.play_text.result c.play_text.ensures.faults
+    (subst (λ (s : Steered). Writes w.0 w.1 c.play_text.result (lines_of_play (debugger_of s) (text_of s) [] said.commands)) steered
+    (subst (λ (cs : List TimedCommand). Writes w.0 w.1 c.play_text.result
     (lines_of_play (debugger_of (steered_by c.in_ok-debugger.debugger)) (text_of (steered_by c.in_ok-debugger.debugger)) [] cs)) commands
-    (c.play.ensures.lines [] c.in_ok-debugger.ensures.agrees)))
+    (c.play_text.ensures.lines [] c.in_ok-debugger.ensures.agrees)))
 
 pub returns-clause-finds : goal.returns-clause-finds
 returns-clause-finds g c =
     let chart : Device = (g.C.Read.remaining c.args.chart.now, g.C.Read.remaining c.read_to_end.new.reader) in
     let script : Device = (g.S.Read.remaining c.args.script.now, g.S.Read.remaining c.read_to_end-2.new.reader) in
-    let w : Device = (g.W.Write.contents c.args.w.now, g.W.Write.contents c.play.new.w) in
+    let w : Device = (g.W.Write.contents c.args.w.now, g.W.Write.contents c.play_text.new.w) in
     let plant = c.in_ok-plant.plant in
     let said : ScriptData = record { commands = c.in_ok-said.said.commands.items; table = c.in_ok-said.said.conditions.items } in
     let loaded : IsAccepted c.in_ok-text.text.items plant = rw c.deref.ensures.value at c.in_ok-plant.ensures in
@@ -139,7 +139,7 @@ returns-clause-finds g c =
     ∙ (λ i. record { plant = c.in_ok-resource.ensures.plant i; table = (c.into_parts-commands.ensures.conditions i).items }) in
     let commands : c.deref-3.result.now ≡ said.commands = c.deref-3.ensures.value ∙ ap (λ (v : Vec TimedCommand). v.items) c.into_parts-commands.ensures.commands in
     found chart script w c.in_ok-text.text.items plant c.in_ok-text.ensures.taken loaded c.in_ok-bytes.bytes.items c.in_ok-bytes.ensures.taken said parsed
-    c.play.result
-    (subst (λ (s : Steered). IfOk c.play.result (λ (amiss : Bool). amiss ≡ any_amiss s [] said.commands)) steered
-    (subst (λ (cs : List TimedCommand). IfOk c.play.result (λ (amiss : Bool). amiss ≡ any_amiss (steered_by c.in_ok-debugger.debugger) [] cs)) commands
-    (c.play.ensures.amiss [] c.in_ok-debugger.ensures.agrees)))
+    c.play_text.result
+    (subst (λ (s : Steered). IfOk c.play_text.result (λ (amiss : Bool). amiss ≡ any_amiss s [] said.commands)) steered
+    (subst (λ (cs : List TimedCommand). IfOk c.play_text.result (λ (amiss : Bool). amiss ≡ any_amiss (steered_by c.in_ok-debugger.debugger) [] cs)) commands
+    (c.play_text.ensures.amiss [] c.in_ok-debugger.ensures.agrees)))

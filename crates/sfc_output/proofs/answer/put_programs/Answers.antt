@@ -10,16 +10,20 @@ use Rattle.sfc_output.proofs.Numbered.{lines_head}
 use Rattle.sfc_output.proofs.answer.put_programs.Goals as goal
 
 pub loop-k-preserved : goal.loop-k-preserved
-loop-k-preserved c h agrees =
-    let plant = plant_of c.args.resource.now in
-    let instance_state = (state_of plant h).instance_state in
-    let line = λ (k : ℕ). written_line plant instance_state k (scan_end_in c.args.answer k) in
-    let n = length plant.instances in
-    let k = c.loop-k.k in
-    let old = told c.loop-k.out.items c.loop-k.line in
-    let lt : k < n = omega (arith, c.loop-k-test.true, ap (λ (p : PlantData). length p.instances) c.plant.ensures, ap length c.instances-k-end.ensures.value) in
-    let rest = flat_map line (range_with_len (k + 1) (n - (k + 1))) in
-    let written : told c.put_written.new.out.items c.put_written.new.line ≡ old ++ line k =
-    c.in_ok-put_written.ensures h agrees ∙ ap (λ (e : Option ScanEnd). old ++ written_line plant instance_state k e) c.scan_end_in-scan_end.ensures in
-    c.loop-k.invariant h agrees ∙ ap (λ (xs : List ℕ). old ++ xs) (lines_head line k n lt) ∙ sym (append_assoc old (line k) rest)
-    ∙ ap (λ (x : List ℕ). x ++ rest) (sym written)
+loop-k-preserved c = record {
+  lines = λ h agrees fits.
+      let plant = plant_of c.args.resource.now in
+      let instance_state = (state_of plant h).instance_state in
+      let line = λ (k : ℕ). written_line plant instance_state k (scan_end_in c.args.answer.now k) in
+      let n = length plant.instances in
+      let k = c.loop-k.k in
+      let old = told c.loop-k.out.items c.loop-k.line in
+      let lt : k < n = omega (arith, c.loop-k-test.true, ap (λ (p : PlantData). length p.instances) c.plant.ensures, ap length c.instances-k-end.ensures.value) in
+      let rest = flat_map line (range_with_len (k + 1) (n - (k + 1))) in
+      let written : told c.put_written.new.out.items c.put_written.new.line ≡ old ++ line k =
+      c.in_ok-put_written.ensures.line h agrees (c.loop-k.invariant.fits fits)
+      ∙ ap (λ (e : Option ScanEnd). old ++ written_line plant instance_state k e) c.scan_end_in-scan_end.ensures in
+      c.loop-k.invariant.lines h agrees fits ∙ ap (λ (xs : List ℕ). old ++ xs) (lines_head line k n lt) ∙ sym (append_assoc old (line k) rest)
+      ∙ ap (λ (x : List ℕ). x ++ rest) (sym written);
+  fits = λ fits. c.put_written.ensures.fits (c.loop-k.invariant.fits fits);
+}

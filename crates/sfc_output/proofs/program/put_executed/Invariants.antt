@@ -3,15 +3,14 @@ use Rattle.sfc_flags.specs.Flags.{places_from}
 use Rattle.sfc_output.specs.Lists.{listed}
 use Rattle.sfc_output.specs.Private.ListParts.{continued}
 use Rattle.sfc_output.specs.Names.{numbered_action}
-use Rattle.sfc_instance.specs.Views.{tables_in}
 use Rattle.sfc_output.specs.Private.Told.{told}
 use Rattle.sfc_output.proofs.program.put_executed.Given as goal
 
 abbrev pub invariant-places : goal.invariant-places
 invariant-places l = record {
   within : l.from ≤ length l.executed;
-  rest : told l.initial.out.items l.initial.line ++ listed (map (numbered_action l.names (tables_in l.view)) (places_from l.executed 0))
-      ≡ told l.out.items l.line ++ continued l.is_first (map (numbered_action l.names (tables_in l.view)) (places_from l.executed l.from));
+  rest : told l.initial.out.items l.initial.line ++ listed (map (numbered_action l.names l.tables) (places_from l.executed 0))
+      ≡ told l.out.items l.line ++ continued l.is_first (map (numbered_action l.names l.tables) (places_from l.executed l.from));
 }
 
 abbrev pub decreases-places : goal.decreases-places

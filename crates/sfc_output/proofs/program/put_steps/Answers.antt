@@ -1,5 +1,4 @@
 use Rattle.std.proofs.Common.{◌∙◌, arith}
-use Rattle.std.proofs.lemmas.Result.{on_ok_weaker}
 use Rattle.sfc_instance.specs.Answers.{is_step_active}
 use Rattle.sfc_instance.specs.Views.{tables_in}
 use Rattle.sfc_output.specs.Programs.{step_text}
@@ -21,10 +20,9 @@ places-preserved c =
 pub returns : goal.returns
 returns c changes instance_state shows =
     let tables = tables_in c.args.view.now in
-    on_ok_weaker c.put_end.result
-    (λ e. e ∙ all_placed (is_step_active tables instance_state) (step_text c.args.names.now tables instance_state)
+    c.in_ok-put_end.ensures
+    ∙ all_placed (is_step_active tables instance_state) (step_text c.args.names.now tables instance_state)
     c.active_flags-active.result.now _ c.places.from c.places.is_first (told c.args.out.now.items c.args.line.now) (told c.places.out.items c.places.line)
     c.active_flags-active.ensures.len
     (λ j lt. c.active_flags-active.ensures.each changes instance_state j lt shows) (c.next_set.ensures.none c.in_default.is)
-    (c.places.invariant.rest changes instance_state shows))
-    c.put_end.ensures
+    (c.places.invariant.rest changes instance_state shows)

@@ -1,4 +1,4 @@
-use Rattle.std.proofs.Common.{◌≡◌, ◌++◌, ℕ, ℤ, List, ap, ◌∙◌, to_z, of_z, w64}
+use Rattle.std.proofs.Common.{◌≡◌, ◌++◌, ℤ, ap, ◌∙◌, sym, subst, w64}
 use Rattle.std.proofs.lemmas.Int.{to_z-of_z}
 use Rattle.std.proofs.lemmas.Result.{on_ok_weaker}
 use Rattle.sfc_plant.specs.Plants.{PlantData}
@@ -6,30 +6,27 @@ use Rattle.sfc_core.specs.PlantState as plant_state
 use Rattle.sfc_debug.specs.Agreement.{plant_of, table_of}
 use Rattle.sfc_debug.specs.States.{state_of}
 use Rattle.sfc_output.specs.Commands.{command_line, program_lines}
+use Rattle.sfc_output.specs.Memories.{Fits}
 use Rattle.sfc_output.specs.Private.Told.{told}
 use Rattle.sfc_output.specs.Steered.{steered_by}
 use Rattle.sfc_output.proofs.Appended.{two_appended}
-use Rattle.sfc_output.proofs.Told.{told_none}
-use Rattle.sfc_output.proofs.answer.append_accepted.Goals as goal
+use Rattle.sfc_output.proofs.answer.put_accepted.Goals as goal
 
-pub returns : goal.returns
-returns c h agrees =
+pub returns-clause-lines : goal.returns-clause-lines
+returns-clause-lines c h agrees fits =
     let plant = plant_of c.args.debugger.now in
     let steered = steered_by c.args.debugger.now in
     let state = state_of plant (table_of c.args.debugger.now) h in
-    let answer = c.args.answer in
-    let old = c.args.out.now.items in
+    let answer = c.args.accepted.now.answer.now in
+    let old = told c.args.out.now.items c.args.line.now in
     let first = told c.put_command.new.out.items c.put_command.new.line in
     let both = told c.put_programs.new.out.items c.put_programs.new.line in
-    let there = to_z w64 (of_z w64 c.run_instant.result) in
-    let line = λ (t : ℤ). command_line steered c.args.command t answer in
+    let line = λ (t : ℤ). command_line steered c.args.accepted.now.command.now t answer in
     let lines = λ (p : PlantData). program_lines p (plant_state.state_of p state.events).instance_state answer in
     let with_command : first ≡ old ++ line state.clock.instant =
-    c.in_ok-put_command.ensures ∙ ap (λ (l : List ℕ). told old l ++ line there) c.new-line.ensures
-    ∙ ap (λ (x : List ℕ). x ++ line there) (told_none old)
+    c.in_ok-put_command.ensures
     ∙ ap (λ (t : ℤ). old ++ line t) (to_z-of_z w64 c.run_instant.result (record { sfits = c.run_instant.type_inv }) ∙ c.run_instant.ensures h agrees) in
-    let with_programs : both ≡ first ++ lines plant =
-    c.in_ok-put_programs.ensures state.events (c.resource.ensures.agrees h agrees)
-    ∙ ap (λ (p : PlantData). first ++ lines p) c.resource.ensures.plant in
-    on_ok_weaker c.pass_on.result (λ e. e ∙ two_appended old first both (line state.clock.instant) (lines plant) with_command with_programs)
-    c.pass_on.ensures.passed
+    on_ok_weaker c.put_programs.result
+    (λ e. two_appended old first both (line state.clock.instant) (lines plant) with_command (e ∙ ap (λ (p : PlantData). first ++ lines p) c.resource.ensures.plant))
+    (c.put_programs.ensures.lines state.events (c.resource.ensures.agrees h agrees)
+    (subst (λ (p : PlantData). Fits p c.args.memory.now) (sym c.resource.ensures.plant) fits))

@@ -1,0 +1,12 @@
+use Rattle.std.proofs.Common.{ℕ, ◌+◌, ◌-◌, length}
+use Rattle.sfc_plant.specs.Spaces.{Space}
+use Rattle.sfc_tables.specs.Tables.{Tabled}
+use Rattle.sfc_output.specs.Memories.{AllRight}
+use Rattle.sfc_output.proofs.memory.Kept.grow.Given as goal
+
+abbrev pub invariant-programs : goal.invariant-programs
+invariant-programs l =
+    (space : ℕ → Space) (tables : ℕ → Tabled) → AllRight space tables l.initial.self.programs.items → AllRight space tables l.self.programs.items
+
+abbrev pub decreases-programs : goal.decreases-programs
+decreases-programs l = l.program + 1 - length l.self.programs.items

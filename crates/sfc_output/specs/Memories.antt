@@ -1,0 +1,49 @@
+-- What is kept of the lines of program instances.
+use Rattle.std.specs.Prelude.{ℕ, ◌≡◌, ◌<◌, List, [], ◌++◌, codes, map, take, Bool, Option, Some, None, slice_get}
+use Rattle.sfc_flags.specs.Flags.{places_from}
+use Rattle.sfc_tables.specs.Tables.{Tabled, tables_of}
+use Rattle.sfc_plant.specs.Spaces.{Space}
+use Rattle.sfc_plant.specs.Finding.{chart_of}
+use Rattle.sfc_plant.specs.InstanceSpaces.{space_of}
+use Rattle.sfc_plant.specs.Plants.{PlantData}
+use Rattle.sfc_output.specs.declared.effects.Effects.{Effects}
+use Rattle.sfc_output.specs.declared.memory.Kept.{Kept}
+use Rattle.sfc_output.specs.declared.memory.Memory.{Memory}
+use Rattle.sfc_output.specs.declared.memory.ProgramMemory.{ProgramMemory}
+use Rattle.sfc_output.specs.Lists.{listed}
+use Rattle.sfc_output.specs.Names.{numbered_action}
+use Rattle.sfc_output.specs.Programs.{transition_text}
+use Rattle.sfc_output.specs.Values.{line_end}
+
+-- the end of the line of a program instance: the transitions that were cleared and the actions that were executed, as these sets have them
+unfoldable pub effects_text : Space → Tabled → List Bool → List Bool → List ℕ
+effects_text space tables cleared executed =
+    codes " cleared " ++ listed (map transition_text (places_from cleared 0))
+    ++ codes " run " ++ listed (map (numbered_action space tables) (places_from executed 0)) ++ line_end
+
+-- the text that is kept
+abbrev pub text_in : Effects → List ℕ
+text_in effects = take effects.count effects.text
+
+-- a text that is kept is that of the sets that it is kept with, where the names and tables of a chart are these
+abbrev pub IsRight : Space → Tabled → Effects → Type 0
+IsRight space tables effects = 0 < effects.count → text_in effects ≡ effects_text space tables effects.cleared effects.executed
+
+-- that is so of all that is kept of a program instance
+abbrev pub AreRight : Space → Tabled → List Effects → Type 0
+AreRight space tables all = (place : ℕ) (effects : Effects) → slice_get all place ≡ Some effects → IsRight space tables effects
+
+-- what is kept of the program instances, by their numbers
+abbrev pub programs_in : Option Kept → List ProgramMemory
+programs_in None = []
+programs_in (Some kept) = kept.programs.items
+
+-- all that is kept of program instances is right, where the names and tables of their charts are these
+abbrev pub AllRight : (ℕ → Space) → (ℕ → Tabled) → List ProgramMemory → Type 0
+AllRight space tables programs =
+    (k : ℕ) (program : ProgramMemory) → slice_get programs k ≡ Some program → AreRight (space k) (tables k) program.effects.items
+
+-- all that is kept is right for the program instances of this plant
+unfoldable pub Fits : PlantData → Memory → Type 0
+Fits plant memory =
+    AllRight (λ k. space_of plant (record { 0 = k })) (λ k. tables_of (chart_of plant (record { 0 = k }))) (programs_in memory.kept)
