@@ -18,6 +18,8 @@ pub mod Numbers
 pub mod Durations
 -- the text of a TIME value
 pub mod TimeText
+-- instants of the run clock
+pub mod Instants
 -- values, their types, and the ranges of types
 pub mod Values
 -- directly represented variables

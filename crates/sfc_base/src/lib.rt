@@ -5,6 +5,7 @@
 //! - `class`: what a byte may begin; `run`: the longest run of bytes of one alphabet.
 //! - `delimiter`, `keyword`: the delimiters, and the reserved words.
 //! - `ids`: numbers of variables, tasks, program instances, transitions, actions and associations.
+//! - `instants`: the time between instants.
 //! - `items`: a list that contracts compare by its elements.
 //! - `laws`: what holds of the definitions themselves.
 //! - `limits`: how much a plant may have at most.
@@ -22,6 +23,7 @@ pub mod case;
 pub mod class;
 pub mod delimiter;
 pub mod ids;
+pub mod instants;
 pub mod items;
 pub mod keyword;
 pub mod laws;

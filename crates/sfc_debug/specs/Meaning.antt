@@ -1,5 +1,6 @@
 -- What the laws say of halting, of accepted commands, of breakpoints, of hits, of a pause, and of what the resource was told.
-use Rattle.std.specs.Prelude.{◌+◌, ◌-◌, ◌<◌, ◌^◌, ◌≡◌, ◌==◌, Bool, true, false, cond, not, ◌&&◌, ◌||◌, List}
+use Rattle.std.specs.Prelude.{◌+◌, ◌-◌, ◌<◌, ◌^◌, ◌≡◌, ◌==◌}
+use Rattle.std.specs.Prelude.{Bool, true, false, cond, not, ◌&&◌, ◌||◌, List}
 use Rattle.std.specs.Prelude.{[], ◌∷◌, length, ⊤}
 use Rattle.std.specs.Prelude.{ℤ, pos, ◌+ℤ◌, ◌≤ℤ◌, Option, Some, None, Result, Ok, Err, IsOk}
 use Rattle.sfc_base.specs.declared.ids.ProgId.{ProgId}

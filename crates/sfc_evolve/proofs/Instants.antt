@@ -7,7 +7,7 @@ use Rattle.std.proofs.Math.Seq.{drop-cons}
 use Rattle.std.proofs.lemmas.Int.{ints}
 use Rattle.std.proofs.lemmas.List.{drop_all}
 use Rattle.sfc_base.specs.declared.references.StepId.{StepId}
-use Rattle.sfc_evolve.specs.Evolution.{AreInstants}
+use Rattle.sfc_base.specs.Instants.{AreInstants}
 use Rattle.sfc_evolve.specs.Private.Keeping.{number, left_at, put_at, begun_at}
 
 -- an instant fits in 64 bits

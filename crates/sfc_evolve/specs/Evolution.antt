@@ -1,5 +1,5 @@
 -- Which transitions a scan clears, which steps are active, and for how long (2.6.2, 2.6.3, 2.6.5).
-use Rattle.std.specs.Prelude.{◌≡◌, ◌==◌, ◌≤ℤ◌, ◌^◌, ℕ, Bool, false, not, ◌&&◌, ◌||◌, List, [], ◌∷◌, map, ℤ, pos, slice_index_or}
+use Rattle.std.specs.Prelude.{◌≡◌, ◌==◌, ℕ, Bool, false, not, ◌&&◌, ◌||◌, List, [], ◌∷◌, map, ℤ}
 use Rattle.std.specs.List.{list_any, range_with_len}
 use Rattle.sfc_base.specs.declared.references.StepId.{StepId}
 use Rattle.sfc_flags.specs.Flags.{flag, places_from}
@@ -20,10 +20,6 @@ AreFalse conditions = (tr : ℕ) → flag conditions tr ≡ false
 -- the condition of this transition is TRUE, and no other is
 abbrev pub IsAlone : ℕ → List Bool → Type 0
 IsAlone transition conditions = (tr : ℕ) → flag conditions tr ≡ (tr == transition)
-
--- each is an instant, from 0 to 2^62
-abbrev pub AreInstants : List ℤ → Type 0
-AreInstants instants = (k : ℕ) → (pos 0 ≤ℤ slice_index_or instants k (pos 0)) × (slice_index_or instants k (pos 0) ≤ℤ pos (2 ^ 62))
 
 -- One scan of a program: its instant, whether it is the first of a life, and which transitions it cleared. The scans of
 -- a life are listed newest first.

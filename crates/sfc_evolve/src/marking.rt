@@ -6,7 +6,7 @@ ghost use Rattle.sfc_flags.specs.Flags.{places_from};
 ghost use Rattle.sfc_tables.specs.Tables.{AreTables};
 ghost use Rattle.sfc_evolve.specs.Marks.{marked};
 ghost use Rattle.sfc_evolve.specs.Clearing.{preceding_of, following_of};
-ghost use Rattle.sfc_evolve.specs.Evolution.{AreInstants};
+ghost use Rattle.sfc_base.specs.Instants.{AreInstants};
 ghost use Rattle.sfc_evolve.specs.Private.Keeping.{unmarked, changed_by, left_by, moving_work};
 
 use crate::marks::{mark, unmark};

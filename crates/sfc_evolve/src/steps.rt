@@ -1,7 +1,7 @@
 //! The steps of a program instance, in running form.
 
 ghost use Rattle.std.specs.Prelude.{◌≡◌, length};
-ghost use Rattle.sfc_evolve.specs.Evolution.{AreInstants};
+ghost use Rattle.sfc_base.specs.Instants.{AreInstants};
 
 use crate::clearing::clear_in_order;
 use crate::copying::{KeptTimes, copy_flags, copy_moved, copy_times};
@@ -10,7 +10,7 @@ use crate::marks::{all_set, is_blank, mark, unmark};
 use crate::new_sets::{three_sets, two_lists, two_sets};
 use crate::proposing::propose;
 use crate::starting::start;
-use crate::times::{Activated, begin, begin_steps, leave, time_since};
+use crate::times::{Activated, begin, begin_steps, leave};
 use sfc_base::ids::TransitionId;
 use sfc_base::references::StepId;
 use sfc_base::ticks::Ticks;
@@ -57,12 +57,13 @@ impl Drop for Steps {
 #[tactic(auto, unfolding(crate::specs::Agreement::StepsAgree, crate::specs::Agreement::since_of, crate::specs::Agreement::held_times_of))]
 impl Steps {
     ghost use Rattle.std.specs.Prelude.{◌≡◌, ◌<◌, ◌≤ℤ◌, ◌^◌, ◌+◌, ◌*◌, ◌∷◌, [], List, Bool, ℕ, ℤ, pos, not, true, false, length, IfOk};
+    ghost use Rattle.sfc_base.specs.Instants.{AreInstants};
     ghost use Rattle.sfc_base.specs.Ticks.{Within};
     ghost use Rattle.sfc_flags.specs.Flags.{flag};
     ghost use Rattle.sfc_tables.specs.Tables.{Tabled, AreTables};
     ghost use Rattle.sfc_evolve.specs.Lookback.{is_empty};
     ghost use Rattle.sfc_evolve.specs.Clearing.{is_enabled};
-    ghost use Rattle.sfc_evolve.specs.Evolution.{Scan, AreFalse, IsAlone, AreInstants, rows_of, is_active, active_steps, step_time};
+    ghost use Rattle.sfc_evolve.specs.Evolution.{Scan, AreFalse, IsAlone, rows_of, is_active, active_steps, step_time};
     ghost use Rattle.sfc_evolve.specs.Clearing.{preceding_of};
     ghost use Rattle.sfc_evolve.specs.Evolution.{was_cleared, was_activated};
     ghost use Rattle.sfc_evolve.specs.Clearing.{of_rank};

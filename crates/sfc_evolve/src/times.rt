@@ -3,23 +3,13 @@
 ghost use Rattle.std.specs.Prelude.{◌≡◌, ◌≤ℤ◌, ◌-ℤ◌, ◌^◌, pos, length};
 ghost use Rattle.sfc_base.specs.Ticks.{Within};
 ghost use Rattle.sfc_flags.specs.Flags.{places_from};
-ghost use Rattle.sfc_evolve.specs.Evolution.{AreInstants};
+ghost use Rattle.sfc_base.specs.Instants.{AreInstants};
 ghost use Rattle.sfc_evolve.specs.Private.Keeping.{AllBelow, left_at, put_at, begun_at, set_at};
 
+use sfc_base::instants::time_since;
 use sfc_base::references::StepId;
 use sfc_base::ticks::Ticks;
 use sfc_flags::flags::Flags;
-
-/// The time since an instant.
-pub fn time_since(since: i64, t: i64) -> i64
-    requires low { pos 0 ≤ℤ t }
-    requires high { t ≤ℤ pos (2 ^ 62) }
-    requires since_low { pos 0 ≤ℤ since }
-    requires since_high { since ≤ℤ pos (2 ^ 62) }
-    ensures { result ≡ (t -ℤ since) }
-{
-    t - since
-}
 
 /// These steps keep their times, as they are at t.
 pub fn leave(held_times: &mut [i64], since: &[i64], steps: &[StepId], t: i64, ticks: &mut Ticks)

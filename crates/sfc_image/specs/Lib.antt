@@ -5,7 +5,6 @@ pub mod Changes
 -- which variables there are, and what each reads after changes
 pub mod Values
 -- the times of steps
-pub mod Instants
 pub mod StepTimes
 -- what the expressions of a program instance read
 pub mod Environments

@@ -1,8 +1,9 @@
 //! Which steps of a program instance are active, and their times (2.6.2).
 
-ghost use Rattle.std.specs.Prelude.{◌≡◌, ◌<◌, ◌≤ℤ◌, ◌-ℤ◌, ◌^◌, pos, length, slice_index_or};
-ghost use Rattle.sfc_image.specs.Instants.{AreInstants};
+ghost use Rattle.std.specs.Prelude.{◌≡◌, ◌<◌, ◌≤ℤ◌, ◌^◌, pos, length, slice_index_or};
+ghost use Rattle.sfc_base.specs.Instants.{AreInstants};
 
+use sfc_base::instants::time_since;
 use sfc_base::references::StepId;
 use sfc_flags::flags::Flags;
 
@@ -19,17 +20,6 @@ pub struct StepReadings<'a> {
     ghost instants: { AreInstants since.now },
     ghost since_len: { length since.now ≡ length active.now },
     ghost held_times_len: { length held_times.now ≡ length active.now },
-}
-
-// The time since an instant.
-fn time_since(since: i64, at: i64) -> i64
-    requires low { pos 0 ≤ℤ at }
-    requires high { at ≤ℤ pos (2 ^ 62) }
-    requires since_low { pos 0 ≤ℤ since }
-    requires since_high { since ≤ℤ pos (2 ^ 62) }
-    ensures { result ≡ (at -ℤ since) }
-{
-    at - since
 }
 
 // The time that the step kept when it was left.

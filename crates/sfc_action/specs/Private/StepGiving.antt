@@ -1,5 +1,6 @@
 -- What the associations of a step give as inputs: those without a time word by word, and those with a time one by one.
-use Rattle.std.specs.Prelude.{ℕ, ◌≡◌, ◌==◌, ◌+◌, ◌<◌, ◌≤◌, not, cond, List, [], ◌∷◌, length, map, filter, All}
+use Rattle.std.specs.Prelude.{ℕ, ◌≡◌, ◌==◌, ◌+◌, ◌<◌, ◌≤◌, not, cond}
+use Rattle.std.specs.Prelude.{List, [], ◌∷◌, length, map, filter, All}
 use Rattle.std.specs.Prelude.{slice_index_or, slice_range}
 use Rattle.std.specs.Int.{div_ceil}
 use Rattle.sfc_flags.specs.Words.{word_of}

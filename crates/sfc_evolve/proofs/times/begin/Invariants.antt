@@ -1,6 +1,6 @@
 use Rattle.std.proofs.Common.{◌≡◌, ◌≤◌, ◌+◌, ◌-◌, length}
 use Rattle.sfc_flags.specs.Flags.{places_from}
-use Rattle.sfc_evolve.specs.Evolution.{AreInstants}
+use Rattle.sfc_base.specs.Instants.{AreInstants}
 use Rattle.sfc_evolve.specs.Private.Keeping.{begun_at, set_at}
 use Rattle.sfc_evolve.proofs.times.begin.Given as goal
 

@@ -1,6 +1,6 @@
 use Rattle.std.proofs.Common.{◌≡◌, drop, length}
 use Rattle.sfc_base.specs.Ticks.{Within}
-use Rattle.sfc_evolve.specs.Evolution.{AreInstants}
+use Rattle.sfc_base.specs.Instants.{AreInstants}
 use Rattle.sfc_evolve.specs.Private.Keeping.{put_at}
 use Rattle.sfc_evolve.proofs.times.begin_steps.Given as goal
 

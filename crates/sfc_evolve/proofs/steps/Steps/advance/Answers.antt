@@ -5,7 +5,8 @@ use Rattle.std.specs.Prelude.{replicate}
 use Rattle.sfc_flags.specs.Flags.{flag, places_from}
 use Rattle.sfc_evolve.specs.Agreement.{StepsAgree, IsLike, IsClose}
 use Rattle.sfc_evolve.specs.Lookback.{is_empty}
-use Rattle.sfc_evolve.specs.Evolution.{Scan, AreInstants, rows_of, is_active}
+use Rattle.sfc_base.specs.Instants.{AreInstants}
+use Rattle.sfc_evolve.specs.Evolution.{Scan, rows_of, is_active}
 use Rattle.sfc_evolve.proofs.Alike.{close_after}
 use Rattle.sfc_evolve.proofs.Close.{kept}
 use Rattle.sfc_evolve.proofs.Listed.{listed}

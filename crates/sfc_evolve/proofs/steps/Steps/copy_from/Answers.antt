@@ -1,6 +1,6 @@
 use Rattle.std.proofs.Common.{arith, ap, refl, sym, subst, length, ◌∙◌}
 use Rattle.std.proofs.lemmas.List.{with_items_is}
-use Rattle.sfc_evolve.specs.Evolution.{AreInstants}
+use Rattle.sfc_base.specs.Instants.{AreInstants}
 use Rattle.sfc_evolve.specs.Agreement.{IsLike}
 use Rattle.sfc_evolve.proofs.steps.Steps.copy_from.Goals as goal
 

@@ -1,7 +1,7 @@
 use Rattle.std.proofs.Common.{◌||◌, arith, ap, cond, refl, sym, subst, length, ◌∙◌}
 use Rattle.std.proofs.lemmas.List.{with_items_is}
 use Rattle.sfc_flags.specs.Flags.{flag}
-use Rattle.sfc_evolve.specs.Evolution.{AreInstants}
+use Rattle.sfc_base.specs.Instants.{AreInstants}
 use Rattle.sfc_evolve.specs.Private.Keeping.{number}
 use Rattle.sfc_evolve.specs.Agreement.{IsLike, IsClose}
 use Rattle.sfc_evolve.proofs.Alike.{followed, close_since, close_held_times}

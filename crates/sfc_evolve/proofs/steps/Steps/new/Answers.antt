@@ -1,7 +1,7 @@
 use Rattle.std.proofs.Common.{ap, sym, subst, length, ◌∙◌, false, pos}
 use Rattle.std.proofs.lemmas.List.{length-replicate}
 use Rattle.sfc_evolve.specs.Agreement.{StepsAgree}
-use Rattle.sfc_evolve.specs.Evolution.{AreInstants}
+use Rattle.sfc_base.specs.Instants.{AreInstants}
 use Rattle.sfc_evolve.proofs.Proposed.{none_proposed, fresh, fresh_instants}
 use Rattle.sfc_evolve.proofs.steps.Steps.new.Goals as goal
 
