@@ -12,6 +12,7 @@ use crate::proposing::propose;
 use crate::starting::start;
 use crate::times::{Activated, begin, begin_steps, leave};
 use sfc_base::ids::TransitionId;
+use sfc_base::instants::time_since;
 use sfc_base::references::StepId;
 use sfc_base::ticks::Ticks;
 use sfc_flags::flags::Flags;
