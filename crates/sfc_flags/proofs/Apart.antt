@@ -24,7 +24,7 @@ get_or-apart (a ∷ words) [] e k = absurd (omega arith)
 get_or-apart (a ∷ words) (b ∷ other) e zero = refl
 get_or-apart (a ∷ words) (b ∷ other) e (suc k) = get_or-apart words other (omega arith) k
 
-xor_bit : (a b i : ℕ) → (bit_at (bit_xor a b) i == 1) ≡ cond (bit_at a i == 1) (not (bit_at b i == 1)) (bit_at b i == 1)
+pub xor_bit : (a b i : ℕ) → (bit_at (bit_xor a b) i == 1) ≡ cond (bit_at a i == 1) (not (bit_at b i == 1)) (bit_at b i == 1)
 xor_bit a b i = elim (zero_or_one a i) [
   | inl e ↦ elim (zero_or_one b i) [
     | inl f ↦ rw (bit_at_xor a b i, e, f) refl

@@ -4,4 +4,5 @@ mod Nexts
 mod Passed
 mod Has
 mod Apart
+mod Same
 pub mod Wordwise

@@ -122,6 +122,17 @@ impl Flags {
         words::copy(&mut self.words, &other.words, ticks);
     }
 
+    /// Whether the other table has as many places and the same flags.
+    #[inline(always)]
+    pub fn is_same(&self, other: &Flags) -> bool
+        ensures { (result ≡ true) ↔ (self.now ≡ other.now) }
+    {
+        if self.count != other.count {
+            return false;
+        }
+        words::are_same(&self.words, &other.words)
+    }
+
     /// The first set place from `from` on. A walk over all set places, each time from the place behind the last one,
     /// makes at most a tick for each place of the table.
     #[inline(always)]

@@ -63,6 +63,23 @@ pub fn copy(words: &mut [u64], other: &[u64], ticks: &mut Ticks)
     }
 }
 
+/// Whether the two have the same bits.
+#[inline(always)]
+pub fn are_same(words: &[u64], other: &[u64]) -> bool
+    requires { length other.now ≡ length words.now }
+    ensures { (result ≡ true) ↔ ((j : ℕ) → bit words.now j ≡ bit other.now j) }
+{
+    // One word, as up to 64 places have, without a loop.
+    if words.len() == 1 {
+        return words[0] == other[0];
+    }
+    let mut apart = 0;
+    for k in 0..words.len() {
+        apart |= words[k] ^ other[k];
+    }
+    apart == 0
+}
+
 /// Clears all bits of one word.
 pub fn clear_one(words: &mut [u64], ticks: &mut Ticks)
     requires { length words.old ≡ 1 }
