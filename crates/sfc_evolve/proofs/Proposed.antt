@@ -16,7 +16,7 @@ use Rattle.sfc_tables.specs.Tables.{Tabled, AreTables, sides_at}
 use Rattle.sfc_tables.specs.Places.{places_of}
 use Rattle.sfc_tables.specs.Departures.{first_of, first_steps, first_step, departures}
 use Rattle.sfc_evolve.specs.Clearing.{of_rank, transition_count, preceding_of, is_enabled}
-use Rattle.sfc_evolve.specs.Evolution.{AreInstants}
+use Rattle.sfc_base.specs.Instants.{AreInstants}
 use Rattle.sfc_evolve.specs.Private.Keeping.{number, set_at, FieldsAgree}
 use Rattle.sfc_evolve.specs.Private.Proposing.{proposed_by, AreProposed}
 use Rattle.sfc_evolve.proofs.Flagged.{flag-set_at, is_member}
