@@ -2,8 +2,6 @@
 pub mod Appended
 -- decimal digits, as they are put
 pub mod Numbers
--- the table of the digits of numbers below a hundred
-pub mod Pairs
 -- the table of the digits of numbers below a thousand
 pub mod Triples
 -- text that was put in two pieces

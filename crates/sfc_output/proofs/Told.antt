@@ -1,13 +1,18 @@
 -- What stands at the end of a buffer and in a line behind it.
-use Rattle.std.proofs.Common.{◌≡◌, ◌≢◌, ◌<◌, ◌/◌, ◌%◌, ℕ, ℤ, List, [], ◌∷◌, ◌++◌, append_assoc, sym, refl, ◌∙◌, ap, codes, eqb, Bool, cond, false, arith}
+use Rattle.std.proofs.Common.{◌≡◌, ◌≢◌, ◌<◌, ◌/◌, ◌%◌, ◌≤◌, ℕ, ℤ, List, length, drop, [], ◌∷◌, ◌++◌, append_assoc, sym, refl, ◌∙◌, ap, codes, eqb, Bool, cond, false, arith}
 use Rattle.std.proofs.lemmas.Bool.{ne_eqb}
-use Rattle.std.proofs.lemmas.List.{append-nil}
+use Rattle.std.proofs.Transfers.{drop-appended}
+use Rattle.std.proofs.lemmas.List.{append-nil, length-append}
 use Rattle.std.proofs.Math.Nat.{div-eq_of_lt, mod-eq_of_lt}
 use Rattle.sfc_base.specs.declared.unit.Unit.{Unit}
 use Rattle.sfc_base.specs.declared.unit.Unit.TheVariants.{Day, Hour, Minute, Second}
 use Rattle.sfc_base.specs.Durations.{micros_of}
 use Rattle.sfc_base.specs.TimeText.{part_text, parts_text, magnitude_text, above_milliseconds, time_text}
 use Rattle.sfc_output.specs.Private.Told.{told, seconds_text, scanned_text, scanned_line}
+use Rattle.sfc_base.specs.declared.ids.TaskId.{TaskId}
+use Rattle.sfc_plant.specs.Plants.{PlantData}
+use Rattle.sfc_output.specs.Memories.{scan_text}
+use Rattle.sfc_output.specs.Names.{task_name}
 use Rattle.sfc_output.specs.Values.{line_end}
 use Rattle.std.specs.Fmt.{decimal}
 
@@ -19,6 +24,18 @@ pub told_more : (items line text : List ℕ) → told items (line ++ text) ≡ t
 unfolding told
 told_more items line text = sym (append_assoc items line text)
 
+-- where nothing was passed on, what was put stands in the line
+pub put_behind : (items line new_items new_line text : List ℕ) → told new_items new_line ≡ told items line ++ text → length new_items ≡ length items
+    → (length line ≤ length new_line) × (drop (length line) new_line ≡ text)
+unfolding told
+put_behind items line new_items new_line text e same =
+    let put : new_line ≡ line ++ text =
+    sym (drop-appended new_items (new_items ++ new_line) new_line refl)
+    ∙ ap (λ n. drop n (new_items ++ new_line)) same
+    ∙ ap (drop (length items)) (e ∙ append_assoc items line text)
+    ∙ drop-appended items (items ++ (line ++ text)) (line ++ text) refl in
+    (omega (arith, ap length put, length-append line text), drop-appended line new_line text put)
+
 -- ---- scans
 
 regrouped : (time scan task word number last : List ℕ)
@@ -28,6 +45,14 @@ regrouped time scan task word number last = simp append_assoc
 pub scanned_regrouped : (t : ℤ) (task : List ℕ) (overruns : ℕ) → scanned_text t task overruns ≡ scanned_line t task overruns
 unfolding scanned_text scanned_line
 scanned_regrouped t task overruns = regrouped (time_text t) (codes " SCAN ") task (codes " overruns ") (decimal overruns) line_end
+
+kept_parts : (time scan task word number last : List ℕ)
+    → time ++ (scan ++ task ++ word ++ number ++ last) ≡ time ++ (scan ++ task) ++ (word ++ number ++ []) ++ last
+kept_parts time scan task word number last = simp append_assoc
+
+pub kept_regrouped : (plant : PlantData) (task : TaskId) (t : ℤ) → time_text t ++ scan_text plant task.0 ≡ scanned_line t (task_name plant task) 0
+unfolding scan_text scanned_line
+kept_regrouped plant task t = kept_parts (time_text t) (codes " SCAN ") (task_name plant task) (codes " overruns ") (decimal 0) line_end
 
 -- ---- times
 

@@ -55,3 +55,10 @@ triple_at p h =
       d.tens ∙ ap (λ (m : ℕ). 48 + m % 100 / 10) same,
       d.ones ∙ ap (λ (m : ℕ). 48 + m % 100 % 10) same,
     )
+
+-- the last two digits of a number below a hundred
+pub pair_at : (p : ℕ) → p < 100 → (get_or TRIPLES (p * 3 + 1) 0 ≡ 48 + p / 10) × (get_or TRIPLES (p * 3 + 2) 0 ≡ 48 + p % 10)
+pair_at p h =
+    let at = triple_at p (omega arith) in
+    let small : p % 100 ≡ p = omega arith in
+    (at.1 ∙ ap (λ (m : ℕ). 48 + m / 10) small, at.2 ∙ ap (λ (m : ℕ). 48 + m % 10) small)

@@ -1,5 +1,6 @@
 -- What is kept of the lines of program instances.
 use Rattle.std.specs.Prelude.{ℕ, ◌≡◌, ◌<◌, List, [], ◌++◌, codes, map, take, Bool, Option, Some, None, slice_get}
+use Rattle.std.specs.Fmt.{decimal}
 use Rattle.sfc_flags.specs.Flags.{places_from}
 use Rattle.sfc_tables.specs.Tables.{Tabled, tables_of}
 use Rattle.sfc_plant.specs.Spaces.{Space}
@@ -7,11 +8,12 @@ use Rattle.sfc_plant.specs.Finding.{chart_of}
 use Rattle.sfc_plant.specs.InstanceSpaces.{space_of}
 use Rattle.sfc_plant.specs.Plants.{PlantData}
 use Rattle.sfc_output.specs.declared.effects.Effects.{Effects}
+use Rattle.sfc_output.specs.declared.kept_text.KeptText.{KeptText}
 use Rattle.sfc_output.specs.declared.memory.Kept.{Kept}
 use Rattle.sfc_output.specs.declared.memory.Memory.{Memory}
 use Rattle.sfc_output.specs.declared.memory.ProgramMemory.{ProgramMemory}
 use Rattle.sfc_output.specs.Lists.{listed}
-use Rattle.sfc_output.specs.Names.{numbered_action}
+use Rattle.sfc_output.specs.Names.{numbered_action, task_name}
 use Rattle.sfc_output.specs.Programs.{transition_text}
 use Rattle.sfc_output.specs.Values.{line_end}
 
@@ -22,12 +24,16 @@ effects_text space tables cleared executed =
     ++ codes " run " ++ listed (map (numbered_action space tables) (places_from executed 0)) ++ line_end
 
 -- the text that is kept
-abbrev pub text_in : Effects → List ℕ
-text_in effects = take effects.count effects.text
+abbrev pub text_in : KeptText → List ℕ
+text_in kept = take kept.count kept.bytes
+
+-- if one is kept, it is this text
+abbrev pub IsKept : List ℕ → KeptText → Type 0
+IsKept text kept = 0 < kept.count → text_in kept ≡ text
 
 -- a text that is kept is that of the sets that it is kept with, where the names and tables of a chart are these
 abbrev pub IsRight : Space → Tabled → Effects → Type 0
-IsRight space tables effects = 0 < effects.count → text_in effects ≡ effects_text space tables effects.cleared effects.executed
+IsRight space tables effects = IsKept (effects_text space tables effects.cleared effects.executed) effects.text
 
 -- that is so of all that is kept of a program instance
 abbrev pub AreRight : Space → Tabled → List Effects → Type 0
@@ -43,7 +49,22 @@ abbrev pub AllRight : (ℕ → Space) → (ℕ → Tabled) → List ProgramMemor
 AllRight space tables programs =
     (k : ℕ) (program : ProgramMemory) → slice_get programs k ≡ Some program → AreRight (space k) (tables k) program.effects.items
 
--- all that is kept is right for the program instances of this plant
+-- what is written of a scan of this task behind its instant, where it has no overruns and no breakpoint was hit
+unfoldable pub scan_text : PlantData → ℕ → List ℕ
+scan_text plant task =
+    codes " SCAN " ++ task_name plant (record { 0 = task }) ++ codes " overruns " ++ decimal 0 ++ line_end
+
+-- what is kept of tasks, by their numbers
+abbrev pub tasks_in : Option Kept → List KeptText
+tasks_in None = []
+tasks_in (Some kept) = kept.tasks.items
+
+-- all that is kept of tasks is right
+abbrev pub TasksRight : PlantData → List KeptText → Type 0
+TasksRight plant tasks = (k : ℕ) (kept : KeptText) → slice_get tasks k ≡ Some kept → IsKept (scan_text plant k) kept
+
+-- all that is kept is right for the tasks and the program instances of this plant
 unfoldable pub Fits : PlantData → Memory → Type 0
 Fits plant memory =
-    AllRight (λ k. space_of plant (record { 0 = k })) (λ k. tables_of (chart_of plant (record { 0 = k }))) (programs_in memory.kept)
+    TasksRight plant (tasks_in memory.kept)
+    × AllRight (λ k. space_of plant (record { 0 = k })) (λ k. tables_of (chart_of plant (record { 0 = k }))) (programs_in memory.kept)

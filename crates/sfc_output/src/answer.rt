@@ -2,59 +2,53 @@
 
 ghost use Rattle.std.specs.Prelude.{◌≡◌, ◌<◌, ◌++◌, length, Ok, OnOk};
 ghost use Rattle.sfc_events.specs.History.{History};
+ghost use Rattle.sfc_plant.specs.Finding.{chart_of};
+ghost use Rattle.sfc_plant.specs.InstanceSpaces.{space_of};
+ghost use Rattle.sfc_tables.specs.Tables.{tables_of};
 ghost use Rattle.sfc_core.specs.Agreement as core;
 ghost use Rattle.sfc_core.specs.PlantState as plant_state;
 ghost use Rattle.sfc_debug.specs.Agreement.{Agrees, plant_of};
 ghost use Rattle.sfc_debug.specs.Histories.{CommandHistory};
 ghost use Rattle.sfc_debug.specs.States.{state_of};
-ghost use Rattle.sfc_output.specs.Commands.{lines_at, program_lines, refusal_line, written_line};
+ghost use Rattle.sfc_output.specs.Commands.{command_line, lines_at, program_lines, refusal_line, written_line};
 ghost use Rattle.sfc_output.specs.Memories.{Fits};
-ghost use Rattle.sfc_output.specs.Private.Told.{told};
+ghost use Rattle.sfc_output.specs.Names.{task_name};
+ghost use Rattle.sfc_output.specs.Private.Told.{told, done_text, scanned_line};
 ghost use Rattle.sfc_output.specs.Steered.{steered_by};
 
-use crate::command::{Accepted, append_refusal, put_command, scan_end_in};
+use crate::command::{Accepted, append_refusal, put_command, put_scan, scan_end_in};
 use crate::line::Line;
 use crate::memory::Memory;
+use crate::naming;
 use crate::page::Page;
-use crate::program::{keep_effects, put_program};
-use sfc_base::ids::ProgId;
+use crate::program::{put_done, put_program};
+use sfc_base::ids::{ProgId, TaskId};
 use sfc_core::resource::Resource;
 use sfc_debug::debugger::Debugger;
 use sfc_events::command::{Answer, Command};
 use sfc_events::refusal::Refusal;
 use sfc_instance::scan_end::ScanEnd;
+use sfc_plant::plant::Plant;
 use std::alloc::{AllocError, Global};
 
-// Keeps at this place what the scan of an instance did. The one error is that memory was refused.
+// What the scan of an instance did, to the end of the line, which is kept at this place.
 #[cold]
 #[inline(never)]
-fn keep_of(
+fn put_done_of(
+    line: &mut Line,
+    out: &mut Vec<u8>,
     memory: &mut Memory,
     resource: &Resource,
-    instance: ProgId,
-    place: usize,
+    at: (ProgId, usize),
 ) -> Result<(), AllocError>
-    requires { instance.0 < length (core.plant_of resource.now).instances }
-    ensures { Fits (core.plant_of resource.now) memory.old → Fits (core.plant_of resource.now) memory.new }
+    requires { at.0.0 < length (core.plant_of resource.now).instances }
+    ensures line { (h : History) → core.Agrees resource.now h →
+        OnOk result (told out.new.items line.new ≡ told out.old.items line.old ++ done_text (space_of (core.plant_of resource.now) at.0)
+        (tables_of (chart_of (core.plant_of resource.now) at.0)) ((plant_state.state_of (core.plant_of resource.now) h).instance_state at.0.0)) }
+    ensures fits { Fits (core.plant_of resource.now) memory.old → Fits (core.plant_of resource.now) memory.new }
 {
-    keep_effects(memory, &resource.program(instance), place)
-}
-
-// The same, where the place isn't 0.
-#[inline(always)]
-fn keep_if(
-    memory: &mut Memory,
-    resource: &Resource,
-    instance: ProgId,
-    place: usize,
-) -> Result<(), AllocError>
-    requires { instance.0 < length (core.plant_of resource.now).instances }
-    ensures { Fits (core.plant_of resource.now) memory.old → Fits (core.plant_of resource.now) memory.new }
-{
-    if place == 0 {
-        return Ok(());
-    }
-    keep_of(memory, resource, instance, place)
+    let (instance, place) = at;
+    put_done(line, out, memory, &resource.program(instance), place)
 }
 
 // The line of an instance, if the answer tells of it.
@@ -75,8 +69,10 @@ fn put_written(
     let (instance, Some(scan_end)) = scanned else {
         return Ok(());
     };
-    let place = put_program(line, out, memory, &resource.program(instance), scan_end)?;
-    keep_if(memory, resource, instance, place)
+    match put_program(line, out, memory, &resource.program(instance), scan_end)? {
+        Some(place) => put_done_of(line, out, memory, resource, (instance, place)),
+        None => Ok(()),
+    }
 }
 
 // A line for each instance that the answer tells of.
@@ -93,11 +89,87 @@ fn put_programs(
         ++ program_lines (core.plant_of resource.now) (plant_state.state_of (core.plant_of resource.now) h).instance_state answer.now) }
     ensures fits { Fits (core.plant_of resource.now) memory.old → Fits (core.plant_of resource.now) memory.new }
 {
+    let Answer::Scanned { .. } = answer else {
+        return Ok(());
+    };
     for k in 0..resource.plant().instances().len() {
         let scan_end = scan_end_in(answer, k as u32);
         put_written(line, out, memory, resource, (ProgId(k as u8), scan_end))?;
     }
     Ok(())
+}
+
+// The line of a scan that hit no breakpoint, of a task without overruns, put together; what is written behind the instant is kept.
+#[cold]
+#[inline(never)]
+fn put_new_scan(
+    line: &mut Line,
+    out: &mut Vec<u8>,
+    memory: &mut Memory,
+    plant: &Plant,
+    timed: (TaskId, i64),
+) -> Result<(), AllocError>
+    ensures line { OnOk result (told out.new.items line.new ≡ told out.old.items line.old
+        ++ scanned_line timed.1 (task_name plant.now timed.0) 0) }
+    ensures fits { Fits plant.now memory.old → Fits plant.now memory.new }
+{
+    let (task, t) = timed;
+    memory.keep_tasks(plant, task)?;
+    put_scan(line, out, t, naming::task_name(plant, task), 0)
+}
+
+// The same: as it is kept, or else put together.
+#[tactic(auto, using(crate::proofs::Told::kept_regrouped))]
+#[inline(always)]
+fn put_plain_scan(
+    line: &mut Line,
+    out: &mut Vec<u8>,
+    memory: &mut Memory,
+    plant: &Plant,
+    timed: (TaskId, i64),
+) -> Result<(), AllocError>
+    ensures line { Fits plant.now memory.old → OnOk result (told out.new.items line.new ≡ told out.old.items line.old
+        ++ scanned_line timed.1 (task_name plant.now timed.0) 0) }
+    ensures fits { Fits plant.now memory.old → Fits plant.now memory.new }
+{
+    let (task, t) = timed;
+    if let Some(text) = memory.task(task)
+        && text.is_kept()
+    {
+        return text.put_behind_time(line, out, t);
+    }
+    put_new_scan(line, out, memory, plant, timed)
+}
+
+// The line of an accepted command itself, at the run instant.
+#[tactic(auto, unfolding(crate::specs::Commands::command_line, crate::specs::Private::Told::scanned_line))]
+#[inline(always)]
+fn put_first(
+    line: &mut Line,
+    out: &mut Vec<u8>,
+    memory: &mut Memory,
+    debugger: &Debugger,
+    accepted: &Accepted<'_>,
+) -> Result<(), AllocError>
+    ensures line { (h : CommandHistory) → Agrees debugger.now h → Fits (plant_of debugger.now) memory.old →
+        OnOk result (told out.new.items line.new ≡ told out.old.items line.old
+        ++ command_line (steered_by debugger.now) accepted.now.command.now
+        (state_of (steered_by debugger.now).plant (steered_by debugger.now).table h).clock.instant accepted.now.answer.now) }
+    ensures fits { Fits (plant_of debugger.now) memory.old → Fits (plant_of debugger.now) memory.new }
+{
+    let t = debugger.run_instant();
+    let Accepted { command, answer } = *accepted;
+    if let Command::Scan(task) = command
+        && let Answer::Scanned {
+            overruns: 0,
+            hit: false,
+            ..
+        } = answer
+    {
+        let plant = debugger.resource().plant();
+        return put_plain_scan(line, out, memory, plant, (*task, t));
+    }
+    put_command(line, out, debugger, t, accepted)
 }
 
 // The lines of an accepted command.
@@ -114,7 +186,7 @@ fn put_accepted(
         (state_of (steered_by debugger.now).plant (steered_by debugger.now).table h) accepted.now.command.now (Ok accepted.now.answer.now)) }
     ensures fits { Fits (plant_of debugger.now) memory.old → Fits (plant_of debugger.now) memory.new }
 {
-    put_command(line, out, debugger, debugger.run_instant(), accepted)?;
+    put_first(line, out, memory, debugger, accepted)?;
     put_programs(line, out, memory, debugger.resource(), accepted.answer)
 }
 

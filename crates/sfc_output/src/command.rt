@@ -204,7 +204,7 @@ fn put_any(
 // The line of a scan that hit no breakpoint.
 #[tactic(auto, using(crate::proofs::Told::scanned_regrouped))]
 #[inline(always)]
-fn put_scan(
+pub(crate) fn put_scan(
     line: &mut Line,
     out: &mut Vec<u8>,
     t: i64,

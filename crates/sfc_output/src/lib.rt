@@ -7,9 +7,10 @@
 //! - `command`: the lines of commands and of their answers; of rows of the trace.
 //! - `effects`: what a scan did, and how that is written.
 //! - `image_line`: the lines of the image.
+//! - `kept_text`: short texts that are put again and again.
 //! - `line`: the end of a text, put together before it goes to a buffer.
 //! - `list`: lists in a line.
-//! - `memory`: what is kept of the lines of program instances.
+//! - `memory`: what is kept of the lines of scans and of program instances.
 //! - `naming`: names as they were declared.
 //! - `page`: a text that is put together, answer by answer.
 //! - `pieces`: pieces of text in a line that has room for them.
@@ -22,6 +23,7 @@ mod breakpoint;
 pub mod command;
 mod effects;
 pub mod image_line;
+mod kept_text;
 mod line;
 mod list;
 pub mod memory;

@@ -1,14 +1,13 @@
 //! The end of a text, put together before it goes to a buffer.
 
-ghost use Rattle.std.specs.Prelude.{◌≡◌, ◌+◌, ◌<◌, ◌≤◌, ◌++◌, ◌∷◌, [], List, ℕ, length, take, codes, unsigned_abs, OnOk, IsTrue};
+ghost use Rattle.std.specs.Prelude.{◌≡◌, ◌+◌, ◌<◌, ◌≤◌, ◌++◌, ◌∷◌, [], List, ℕ, length, take, drop, codes, unsigned_abs, OnOk, IsTrue};
 ghost use Rattle.std.specs.Fmt.{decimal};
 ghost use Rattle.sfc_base.specs.TimeText as text;
 ghost use Rattle.sfc_output.specs.Private.ListParts.{separator};
 ghost use Rattle.sfc_output.specs.Private.Told.{told, scans_text, timed_text, scanned_text};
 
-use crate::append::{append, append_number};
+use crate::append::{append, append_number, append_time};
 use crate::pieces;
-use sfc_base::time_text;
 use std::alloc::AllocError;
 use std::marker::Model;
 
@@ -61,6 +60,22 @@ impl Line {
             bytes: [0; ROOM],
             count: 0,
         }
+    }
+
+    /// How many bytes it holds.
+    #[inline(always)]
+    pub fn len(&self) -> usize
+        ensures { result ≡ length self.now }
+    {
+        self.count
+    }
+
+    /// The bytes behind the first so many.
+    pub fn behind(&self, count: usize) -> &[u8]
+        requires { count ≤ length self.now }
+        ensures { result.now ≡ drop count self.now }
+    {
+        &self.bytes[count..self.count]
     }
 
     // Whether so many bytes more have room.
@@ -172,6 +187,56 @@ impl Line {
         self.put_long(out, &text[..count])
     }
 
+    // A time and the first of these bytes, where all have room.
+    #[inline(always)]
+    fn push_time_and_kept(&mut self, micros: i64, kept: &[u8; KEPT], count: usize)
+        requires front { text.front_of micros ≡ codes "T#" }
+        requires short { unsigned_abs micros < 86400000000000 }
+        requires few { count ≤ 64 }
+        requires room { length self.old + 98 ≤ 1024 }
+        ensures { self.new ≡ self.old ++ (text.time_text micros ++ take count kept.now) }
+    {
+        self.push_time(micros);
+        self.push_kept(kept, count);
+    }
+
+    // The same of what may have no room.
+    #[cold]
+    #[inline(never)]
+    fn put_long_time_and_kept(
+        &mut self,
+        out: &mut Vec<u8>,
+        micros: i64,
+        kept: &[u8; KEPT],
+        count: usize,
+    ) -> Result<(), AllocError>
+        requires { count ≤ 64 }
+        ensures { OnOk result (told out.new.items self.new ≡ told out.old.items self.old ++ (text.time_text micros ++ take count kept.now)) }
+    {
+        self.put_long_time(out, micros)?;
+        self.put_kept(out, kept, count)
+    }
+
+    /// Puts the TIME text of so many microseconds behind the line, and the first of these bytes behind it, as `put` does.
+    #[tactic(auto, using(crate::proofs::Told::told_more))]
+    #[inline(always)]
+    pub fn put_time_and_kept(
+        &mut self,
+        out: &mut Vec<u8>,
+        micros: i64,
+        kept: &[u8; KEPT],
+        count: usize,
+    ) -> Result<(), AllocError>
+        requires { count ≤ 64 }
+        ensures { OnOk result (told out.new.items self.new ≡ told out.old.items self.old ++ (text.time_text micros ++ take count kept.now)) }
+    {
+        if is_short(micros) && self.has_room(98) {
+            self.push_time_and_kept(micros, kept, count);
+            return Ok(());
+        }
+        self.put_long_time_and_kept(out, micros, kept, count)
+    }
+
     // A number that has room.
     #[inline(always)]
     fn push_number(&mut self, number: u32)
@@ -213,7 +278,8 @@ impl Line {
         requires front { text.front_of micros ≡ codes "T#" }
         requires short { unsigned_abs micros < 86400000000000 }
         requires room { length self.old + 34 ≤ 1024 }
-        ensures { self.new ≡ self.old ++ text.time_text micros }
+        ensures text { self.new ≡ self.old ++ text.time_text micros }
+        ensures few { length self.new ≤ length self.old + 34 }
     {
         let count = self.count;
         self.count = pieces::put_time(&mut self.bytes, count, micros.unsigned_abs());
@@ -227,10 +293,7 @@ impl Line {
         ensures { OnOk result (told out.new.items self.new ≡ told out.old.items self.old ++ text.time_text micros) }
     {
         self.pass_on(out)?;
-        match time_text::put_time(micros, out) {
-            Ok(()) => Ok(()),
-            Err(_) => Err(AllocError),
-        }
+        append_time(out, micros)
     }
 
     /// Puts the TIME text of so many microseconds behind the line, as `put` does.

@@ -1,4 +1,4 @@
-//! What is kept of the lines of program instances.
+//! What is kept of the lines of scans and of program instances.
 
 ghost use Rattle.std.specs.Prelude.{◌≡◌, ◌<◌, ℕ, length, IfSome, IfOk, OnOk};
 ghost use Rattle.sfc_plant.specs.Finding.{chart_of};
@@ -6,14 +6,18 @@ ghost use Rattle.sfc_plant.specs.InstanceSpaces.{space_of};
 ghost use Rattle.sfc_plant.specs.Plants.{PlantData};
 ghost use Rattle.sfc_plant.specs.Spaces.{Space};
 ghost use Rattle.sfc_tables.specs.Tables.{Tabled, tables_of};
-ghost use Rattle.sfc_output.specs.Memories.{AllRight, AreRight, Fits, IsRight, effects_text};
+ghost use Rattle.sfc_output.specs.Memories.{AllRight, AreRight, Fits, IsKept, IsRight, TasksRight, effects_text, scan_text};
 
+use crate::append::{append, append_number};
 use crate::effects::{Effects, Sets};
-use sfc_base::ids::ProgId;
+use crate::kept_text::KeptText;
+use sfc_base::ids::{ProgId, TaskId};
+use sfc_plant::names;
+use sfc_plant::plant::Plant;
 use std::alloc::{AllocError, Global};
 
-/// What scans of a program instance did, each at a place of its own.
-pub struct ProgramMemory {
+// What scans of a program instance did, each at a place of its own.
+struct ProgramMemory {
     effects: Vec<Effects>,
 }
 
@@ -47,6 +51,11 @@ impl ProgramMemory {
         }
     }
 
+    // How many places this one and those before it take that aren't there yet.
+    fn lacking(&self, place: usize) -> usize {
+        place.saturating_add(1).saturating_sub(self.effects.len())
+    }
+
     // Has this place. The one error is that memory was refused.
     fn grow(&mut self, alloc: Global, place: usize) -> Result<(), AllocError>
         ensures has { OnOk result (place < length self.new.effects.items) }
@@ -74,10 +83,30 @@ impl ProgramMemory {
     }
 }
 
-// What is kept, and where memory for more comes from.
+// How many places there are at the most, of all instances.
+const PLACES_IN_ALL: usize = 16_384;
+
+// What is kept, where memory for more comes from, and how many places more there may be.
 struct Kept {
     alloc: Global,
+    left: usize,
+    tasks: Vec<KeptText>,
     programs: Vec<ProgramMemory>,
+}
+
+// What is written of a scan of this task behind its instant, where it has no overruns and no breakpoint was hit. The one error is that
+// memory was refused.
+#[tactic(auto, unfolding(crate::specs::Memories::scan_text))]
+fn text_of_scan(alloc: Global, plant: &Plant, task: usize) -> Result<KeptText, AllocError>
+    ensures { IfOk result (λ kept. IsKept (scan_text plant.now task) kept) }
+{
+    let mut text = Vec::new(alloc);
+    append(&mut text, b" SCAN ")?;
+    append(&mut text, names::task_name(plant.tasks(), task))?;
+    append(&mut text, b" overruns ")?;
+    append_number(&mut text, 0)?;
+    append(&mut text, b"\n")?;
+    Ok(KeptText::of(&text))
 }
 
 // By hand, so that a caller that drops one proves one call.
@@ -85,12 +114,40 @@ impl Drop for Kept {
     fn drop(self) {
         let Kept {
             alloc: _,
+            left: _,
+            tasks: _,
             programs: _,
         } = self;
     }
 }
 
 impl Kept {
+    // What is kept of a task.
+    #[inline(always)]
+    fn task(&self, task: usize) -> Option<&KeptText>
+        ensures { (plant : PlantData) → TasksRight plant self.now.tasks.items →
+            IfSome result (λ kept. IsKept (scan_text plant task) kept.now) }
+    {
+        if task < self.tasks.len() {
+            Some(&self.tasks[task])
+        } else {
+            None
+        }
+    }
+
+    // Keeps what is written of scans of the tasks up to this one. The one error is that memory was refused.
+    fn keep_tasks(&mut self, plant: &Plant, task: usize) -> Result<(), AllocError>
+        ensures right { TasksRight plant.now self.old.tasks.items → TasksRight plant.now self.new.tasks.items }
+        ensures programs { self.new.programs ≡ self.old.programs }
+    {
+        let alloc = self.alloc;
+        'tasks: while self.tasks.len() <= task {
+            let text = text_of_scan(alloc, plant, self.tasks.len())?;
+            self.tasks.push(text)?;
+        }
+        Ok(())
+    }
+
     // What is kept of an instance at this place.
     #[inline(always)]
     fn at(&self, program: usize, place: usize) -> Option<&Effects>
@@ -107,6 +164,7 @@ impl Kept {
     // Has a place for this instance. The one error is that memory was refused.
     fn grow(&mut self, program: usize) -> Result<(), AllocError>
         ensures has { OnOk result (program < length self.new.programs.items) }
+        ensures tasks { self.new.tasks ≡ self.old.tasks }
         ensures right { (space : ℕ → Space) (tables : ℕ → Tabled) → AllRight space tables self.old.programs.items →
             AllRight space tables self.new.programs.items }
     {
@@ -117,20 +175,26 @@ impl Kept {
         Ok(())
     }
 
-    // Keeps what a scan of an instance did at this place. The one error is that memory was refused.
+    // Keeps what a scan of an instance did at this place, as long as there may be so many places. The one error is that memory was refused.
     fn keep(&mut self, at: (usize, usize), sets: &Sets<'_>, text: &[u8]) -> Result<(), AllocError>
-        ensures { (space : ℕ → Space) (tables : ℕ → Tabled) →
+        ensures tasks { self.new.tasks ≡ self.old.tasks }
+        ensures right { (space : ℕ → Space) (tables : ℕ → Tabled) →
             text.now ≡ effects_text (space at.0) (tables at.0) sets.now.cleared.now sets.now.executed.now →
             AllRight space tables self.old.programs.items → AllRight space tables self.new.programs.items }
     {
         let (program, place) = at;
         self.grow(program)?;
+        let lacking = self.programs[program].lacking(place);
+        if lacking > self.left {
+            return Ok(());
+        }
+        self.left -= lacking;
         self.programs[program].keep(self.alloc, place, sets, text)
     }
 }
 
-/// What scans of the program instances of a plant did, with the texts of that, so that these need not be put together again; or
-/// nothing, and no more is kept.
+/// What is written of scans of the tasks of a plant, and what scans of its program instances did, with the texts of that, so that these
+/// need not be put together again; or nothing, and no more is kept.
 pub struct Memory {
     kept: Option<Kept>,
 }
@@ -151,6 +215,8 @@ impl Memory {
         Memory {
             kept: Some(Kept {
                 alloc,
+                left: PLACES_IN_ALL,
+                tasks: Vec::new(alloc),
                 programs: Vec::new(alloc),
             }),
         }
@@ -164,11 +230,24 @@ impl Memory {
         Memory { kept: None }
     }
 
-    /// Where memory comes from; `None` where nothing is kept.
-    pub(crate) fn alloc(&self) -> Option<Global> {
+    /// What is kept of a task: what is written of a scan behind its instant, where it has no overruns and no breakpoint was hit.
+    #[inline(always)]
+    pub(crate) fn task(&self, task: TaskId) -> Option<&KeptText>
+        ensures { (plant : PlantData) → Fits plant self.now → IfSome result (λ kept. IsKept (scan_text plant task.0) kept.now) }
+    {
         match &self.kept {
-            Some(kept) => Some(kept.alloc),
+            Some(kept) => kept.task(task.0 as usize),
             None => None,
+        }
+    }
+
+    /// Keeps that of the tasks up to this one. The one error is that memory was refused.
+    pub(crate) fn keep_tasks(&mut self, plant: &Plant, task: TaskId) -> Result<(), AllocError>
+        ensures { Fits plant.now self.old → Fits plant.now self.new }
+    {
+        match &mut self.kept {
+            Some(kept) => kept.keep_tasks(plant, task.0 as usize),
+            None => Ok(()),
         }
     }
 

@@ -1,6 +1,6 @@
 //! The line of a program after a scan.
 
-ghost use Rattle.std.specs.Prelude.{◌≡◌, ◌<◌, ◌+◌, ◌^◌, ◌++◌, List, codes, length, map, suc, OnOk};
+ghost use Rattle.std.specs.Prelude.{◌≡◌, ◌<◌, ◌+◌, ◌^◌, ◌++◌, List, codes, length, map, suc, IfOk, OnOk};
 ghost use Rattle.sfc_flags.specs.Flags.{places_from};
 ghost use Rattle.sfc_plant.specs.InstanceSpaces.{space_of};
 ghost use Rattle.sfc_plant.specs.Spaces.{Space};
@@ -12,7 +12,7 @@ ghost use Rattle.sfc_output.specs.Memories.{Fits, effects_text};
 ghost use Rattle.sfc_output.specs.Names.{numbered_action, program_name};
 ghost use Rattle.sfc_output.specs.Programs as output;
 ghost use Rattle.sfc_output.specs.Private.ListParts.{separator};
-ghost use Rattle.sfc_output.specs.Private.Told.{told, done_text, ran_text, fault_line};
+ghost use Rattle.sfc_output.specs.Private.Told.{told, done_text, fault_line, lacking, ran_text};
 
 use crate::effects::Sets;
 use crate::line::Line;
@@ -32,7 +32,8 @@ use sfc_plant::names::Names;
 use sfc_tables::tables::Tables;
 use std::alloc::AllocError;
 
-// Puts a step with its time, and before it what parts it from one before it; whether it is the first is told with it.
+// Puts a step with its time, and before it what parts it from one before it; whether it is the first is told with it. It answers
+// the time.
 #[tactic(auto, unfolding(crate::specs::Private::Told::timed_text))]
 #[inline(always)]
 fn put_step(
@@ -41,24 +42,37 @@ fn put_step(
     view: &ProgramView<'_>,
     names: &Names<'_>,
     place: (bool, StepId),
-) -> Result<(), AllocError>
+) -> Result<i64, AllocError>
     requires { place.1.0 < length (tables_in view.now).initial }
     ensures { (changes : List Change) (instance_state : InstanceState) → Shows view.now changes instance_state →
         OnOk result (told out.new.items line.new ≡ told out.old.items line.old
         ++ (separator place.0 ++ output.step_text names.now (tables_in view.now) instance_state place.1.0)) }
 {
     let (is_first, step) = place;
-    line.put_timed(out, is_first, names.step(step), view.elapsed(step))
+    let elapsed = view.elapsed(step);
+    line.put_timed(out, is_first, names.step(step), elapsed)?;
+    Ok(elapsed)
 }
 
-// The active steps with their times. It answers the number of the last one, or 0.
+// At how many places it is kept what scans of an instance did: at least two for each step.
+const PLACES: usize = 2048;
+
+// The place at which it is kept what a scan did, by a number that stands for the active steps, and whether the last of them has just been
+// activated.
+#[inline(always)]
+fn place_of(steps: usize, elapsed: i64) -> usize {
+    let age = if elapsed == 0 { 1 } else { 0 };
+    (steps % (PLACES / 2)) * 2 + age
+}
+
+// The active steps with their times. It answers the place at which it is kept what a scan did that leaves these steps active.
 #[inline(always)]
 fn put_steps(
     line: &mut Line,
     out: &mut Vec<u8>,
     view: &ProgramView<'_>,
     names: &Names<'_>,
-) -> Result<u16, AllocError>
+) -> Result<usize, AllocError>
     ensures { (changes : List Change) (instance_state : InstanceState) → Shows view.now changes instance_state →
         OnOk result (told out.new.items line.new ≡
         told out.old.items line.old ++ listed (output.step_texts names.now (tables_in view.now) instance_state)) }
@@ -68,15 +82,16 @@ fn put_steps(
     let mut ticks = Ticks::new();
     let mut is_first = true;
     let mut from = 0;
-    let mut last = 0;
+    let mut steps = 0usize;
+    let mut elapsed = 0;
     'places: while let Some(s) = active.next_set(from, &mut ticks) {
-        last = s as u16;
-        put_step(line, out, view, names, (is_first, StepId(last)))?;
+        elapsed = put_step(line, out, view, names, (is_first, StepId(s as u16)))?;
+        steps = steps.wrapping_mul(8).wrapping_add(s);
         is_first = false;
         from = s + 1;
     }
     put_end(line, out, is_first)?;
-    Ok(last)
+    Ok(place_of(steps, elapsed))
 }
 
 // The number of a transition as it is written.
@@ -150,22 +165,6 @@ fn put_sets(
     line.put(out, b"\n")
 }
 
-// The same at the end of a text.
-#[tactic(auto, using(crate::proofs::Told::told_none))]
-fn append_sets(
-    out: &mut Vec<u8>,
-    tables: &Tables,
-    names: &Names<'_>,
-    sets: &Sets<'_>,
-) -> Result<(), AllocError>
-    requires { length sets.now.executed.now ≡ length tables.now.actions }
-    ensures { OnOk result (out.new.items ≡ out.old.items ++ effects_text names.now tables.now sets.now.cleared.now sets.now.executed.now) }
-{
-    let mut line = Line::new();
-    put_sets(&mut line, out, tables, names, sets)?;
-    line.pass_on(out)
-}
-
 // What the latest scan did.
 #[inline(always)]
 fn sets_of<'a>(view: &ProgramView<'a>) -> Sets<'a>
@@ -179,41 +178,29 @@ fn sets_of<'a>(view: &ProgramView<'a>) -> Sets<'a>
     }
 }
 
-// The place at which it is kept what a scan did, from 1 on: another one for each last active step, and whether a transition was cleared.
-#[inline(always)]
-fn place_of(last: u16, cleared: &Flags) -> usize {
-    let mut ticks = Ticks::new();
-    let clearing = match cleared.next_set(0, &mut ticks) {
-        Some(_) => 2,
-        None => 1,
-    };
-    last as usize * 2 + clearing
-}
-
-// What a scan did, to the end of the line: as it is kept, or else anew. It answers the place at which it is to be kept, or 0.
+// What a scan did, to the end of the line, if it is kept; else nothing, and the place at which it is to be kept.
+#[tactic(auto, unfolding(crate::specs::Private::Told::lacking))]
 #[inline(always)]
 fn put_effects(
     line: &mut Line,
     out: &mut Vec<u8>,
     memory: &Memory,
     view: &ProgramView<'_>,
-    last: u16,
-) -> Result<usize, AllocError>
+    place: usize,
+) -> Result<Option<usize>, AllocError>
     ensures { (changes : List Change) (instance_state : InstanceState) → Shows view.now changes instance_state →
-        Fits (plant_in view.now) memory.now → OnOk result (told out.new.items line.new ≡ told out.old.items line.old
-        ++ done_text (space_of (plant_in view.now) (instance_in view.now)) (tables_in view.now) instance_state) }
+        Fits (plant_in view.now) memory.now → IfOk result (λ rest. told out.new.items line.new
+        ++ lacking rest (done_text (space_of (plant_in view.now) (instance_in view.now)) (tables_in view.now) instance_state)
+        ≡ told out.old.items line.old ++ done_text (space_of (plant_in view.now) (instance_in view.now)) (tables_in view.now) instance_state) }
 {
     let sets = sets_of(view);
-    let place = place_of(last, sets.cleared);
     if let Some(effects) = memory.effects(view.instance(), place)
-        && effects.are(&sets)
+        && let Some(text) = effects.text_of(&sets)
     {
-        effects.put(line, out)?;
-        return Ok(0);
+        text.put(line, out)?;
+        return Ok(None);
     }
-    let names = names_of(view.plant(), view.instance());
-    put_sets(line, out, view.tables(), &names, &sets)?;
-    Ok(if sets.are_small() { place } else { 0 })
+    Ok(Some(place))
 }
 
 /// The name of a fault.
@@ -239,7 +226,7 @@ fn fault_text(fault: Option<ScanFault>) -> &'static [u8]
     }
 }
 
-// The line of a program instance of this name whose scan ran. It answers the place at which what the scan did is to be kept, or 0.
+// The line of a program instance of this name whose scan ran, or all but what the scan did, and the place at which that is to be kept.
 #[inline(always)]
 fn put_ran(
     line: &mut Line,
@@ -247,18 +234,20 @@ fn put_ran(
     memory: &Memory,
     view: &ProgramView<'_>,
     name: &[u8],
-) -> Result<usize, AllocError>
+) -> Result<Option<usize>, AllocError>
     ensures { (changes : List Change) (instance_state : InstanceState) → Shows view.now changes instance_state →
-        Fits (plant_in view.now) memory.now → OnOk result (told out.new.items line.new ≡ told out.old.items line.old
+        Fits (plant_in view.now) memory.now → IfOk result (λ rest. told out.new.items line.new
+        ++ lacking rest (done_text (space_of (plant_in view.now) (instance_in view.now)) (tables_in view.now) instance_state)
+        ≡ told out.old.items line.old
         ++ ran_text name.now (space_of (plant_in view.now) (instance_in view.now)) (tables_in view.now) instance_state) }
 {
     line.put_scans(out, name, view.scans())?;
     let names = names_of(view.plant(), view.instance());
-    let last = put_steps(line, out, view, &names)?;
-    put_effects(line, out, memory, view, last)
+    let place = put_steps(line, out, view, &names)?;
+    put_effects(line, out, memory, view, place)
 }
 
-// The line of a program instance whose scan ended with a fault, or was passed over for one; nothing of it is to be kept.
+// The line of a program instance whose scan ended with a fault, or was passed over for one.
 #[tactic(auto, unfolding(crate::specs::Private::Told::fault_line))]
 #[cold]
 #[inline(never)]
@@ -268,19 +257,18 @@ fn put_fault(
     name: &[u8],
     word: &[u8],
     fault: Option<ScanFault>,
-) -> Result<usize, AllocError>
+) -> Result<(), AllocError>
     ensures { OnOk result (told out.new.items line.new ≡ told out.old.items line.old ++ fault_line name.now word.now fault) }
 {
     line.put(out, b"  ")?;
     line.put(out, name)?;
     line.put(out, word)?;
     line.put(out, fault_text(fault))?;
-    line.put(out, b"\n")?;
-    Ok(0)
+    line.put(out, b"\n")
 }
 
-/// Puts the line of the program instance behind the line, as `append_program` does at the end, with what is kept of an earlier one. It
-/// answers the place at which what the scan did is to be kept, or 0 where it is kept or nothing is.
+/// Puts the line of the program instance behind the line, as `append_program` does at the end, with what is kept of an earlier one; or
+/// all but what the scan did, where that isn't kept. Then it answers the place at which it is to be kept, and `put_done` puts it.
 #[tactic(auto, using(crate::proofs::Done::ran_regrouped, crate::proofs::Done::faulted_regrouped, crate::proofs::Done::skipped_regrouped))]
 #[inline(always)]
 pub(crate) fn put_program(
@@ -289,16 +277,62 @@ pub(crate) fn put_program(
     memory: &Memory,
     view: &ProgramView<'_>,
     scan_end: ScanEnd,
-) -> Result<usize, AllocError>
+) -> Result<Option<usize>, AllocError>
     ensures { (changes : List Change) (instance_state : InstanceState) → Shows view.now changes instance_state →
-        Fits (plant_in view.now) memory.now → OnOk result (told out.new.items line.new ≡ told out.old.items line.old
-        ++ output.program_line (plant_in view.now) (instance_in view.now) instance_state scan_end) }
+        Fits (plant_in view.now) memory.now → IfOk result (λ rest. told out.new.items line.new
+        ++ lacking rest (done_text (space_of (plant_in view.now) (instance_in view.now)) (tables_in view.now) instance_state)
+        ≡ told out.old.items line.old ++ output.program_line (plant_in view.now) (instance_in view.now) instance_state scan_end) }
 {
     let name = program_name(view.plant(), view.instance());
     match scan_end {
-        ScanEnd::Ran => put_ran(line, out, memory, view, name),
-        ScanEnd::Faulted => put_fault(line, out, name, b" fault ", view.fault()),
-        ScanEnd::Skipped => put_fault(line, out, name, b" skipped ", view.fault()),
+        ScanEnd::Ran => return put_ran(line, out, memory, view, name),
+        ScanEnd::Faulted => put_fault(line, out, name, b" fault ", view.fault())?,
+        ScanEnd::Skipped => put_fault(line, out, name, b" skipped ", view.fault())?,
+    }
+    Ok(None)
+}
+
+/// Puts what a scan of the program instance did behind the line, to its end, and keeps it at this place. The one error is that memory
+/// was refused; then a front of it may stand there.
+pub(crate) fn put_done(
+    line: &mut Line,
+    out: &mut Vec<u8>,
+    memory: &mut Memory,
+    view: &ProgramView<'_>,
+    place: usize,
+) -> Result<(), AllocError>
+    ensures line { (changes : List Change) (instance_state : InstanceState) → Shows view.now changes instance_state →
+        OnOk result (told out.new.items line.new ≡ told out.old.items line.old
+        ++ done_text (space_of (plant_in view.now) (instance_in view.now)) (tables_in view.now) instance_state) }
+    ensures fits { Fits (plant_in view.now) memory.old → Fits (plant_in view.now) memory.new }
+{
+    let names = names_of(view.plant(), view.instance());
+    let sets = sets_of(view);
+    let (passed_on, held) = (out.len(), line.len());
+    put_sets(line, out, view.tables(), &names, &sets)?;
+    // What was passed on no longer stands in the line.
+    if out.len() != passed_on {
+        return Ok(());
+    }
+    memory.keep((view.instance(), place), &sets, line.behind(held))
+}
+
+// Puts what is lacking of the line.
+#[tactic(auto, unfolding(crate::specs::Private::Told::lacking))]
+fn put_rest(
+    line: &mut Line,
+    out: &mut Vec<u8>,
+    memory: &mut Memory,
+    view: &ProgramView<'_>,
+    rest: Option<usize>,
+) -> Result<(), AllocError>
+    ensures { (changes : List Change) (instance_state : InstanceState) → Shows view.now changes instance_state →
+        OnOk result (told out.new.items line.new ≡ told out.old.items line.old
+        ++ lacking rest (done_text (space_of (plant_in view.now) (instance_in view.now)) (tables_in view.now) instance_state)) }
+{
+    match rest {
+        Some(place) => put_done(line, out, memory, view, place),
+        None => Ok(()),
     }
 }
 
@@ -314,24 +348,8 @@ pub fn append_program(
         OnOk result (out.new.items ≡ out.old.items ++ output.program_line (plant_in view.now) (instance_in view.now) instance_state scan_end) }
 {
     let mut line = Line::new();
-    put_program(&mut line, out, &Memory::none(), view, scan_end)?;
+    let mut memory = Memory::none();
+    let rest = put_program(&mut line, out, &memory, view, scan_end)?;
+    put_rest(&mut line, out, &mut memory, view, rest)?;
     line.pass_on(out)
-}
-
-/// Keeps at this place what the latest scan of the program instance did. The one error is that memory was refused.
-pub(crate) fn keep_effects(
-    memory: &mut Memory,
-    view: &ProgramView<'_>,
-    place: usize,
-) -> Result<(), AllocError>
-    ensures { Fits (plant_in view.now) memory.old → Fits (plant_in view.now) memory.new }
-{
-    let Some(alloc) = memory.alloc() else {
-        return Ok(());
-    };
-    let mut text = Vec::new(alloc);
-    let names = names_of(view.plant(), view.instance());
-    let sets = sets_of(view);
-    append_sets(&mut text, view.tables(), &names, &sets)?;
-    memory.keep((view.instance(), place), &sets, &text)
 }

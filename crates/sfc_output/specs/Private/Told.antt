@@ -1,5 +1,5 @@
 -- What stands at the end of a buffer and in a line behind it.
-use Rattle.std.specs.Prelude.{ℕ, ℤ, List, [], ◌++◌, ◌/◌, ◌%◌, ◌==◌, codes, Option}
+use Rattle.std.specs.Prelude.{ℕ, ℤ, List, [], ◌++◌, ◌/◌, ◌%◌, ◌==◌, codes, Option, None, Some}
 use Rattle.std.specs.Fmt.{decimal}
 use Rattle.sfc_base.specs.declared.unit.Unit.TheVariants.{Second}
 use Rattle.sfc_base.specs.TimeText.{milliseconds_text, part_text, time_text}
@@ -42,6 +42,11 @@ unfoldable pub done_text : Space → Tabled → InstanceState → List ℕ
 done_text space tables instance_state =
     codes " cleared " ++ listed (cleared_texts tables instance_state)
     ++ codes " run " ++ listed (executed_texts space tables instance_state) ++ line_end
+
+-- what is lacking of a line, where a place tells that its end is: the end
+abbrev pub lacking : Option ℕ → List ℕ → List ℕ
+lacking None end = []
+lacking (Some place) end = end
 
 -- the line of a program instance that stands so, whose scan ran, piece by piece
 unfoldable pub ran_text : List ℕ → Space → Tabled → InstanceState → List ℕ

@@ -1,5 +1,4 @@
-use Rattle.std.proofs.Common.{◌≡◌, ◌++◌, ℤ, ap, ◌∙◌, sym, subst, w64}
-use Rattle.std.proofs.lemmas.Int.{to_z-of_z}
+use Rattle.std.proofs.Common.{◌++◌, ap, ◌∙◌, sym, subst}
 use Rattle.std.proofs.lemmas.Result.{on_ok_weaker}
 use Rattle.sfc_plant.specs.Plants.{PlantData}
 use Rattle.sfc_core.specs.PlantState as plant_state
@@ -15,18 +14,15 @@ use Rattle.sfc_output.proofs.answer.put_accepted.Goals as goal
 pub returns-clause-lines : goal.returns-clause-lines
 returns-clause-lines c h agrees fits =
     let plant = plant_of c.args.debugger.now in
-    let steered = steered_by c.args.debugger.now in
     let state = state_of plant (table_of c.args.debugger.now) h in
     let answer = c.args.accepted.now.answer.now in
     let old = told c.args.out.now.items c.args.line.now in
-    let first = told c.put_command.new.out.items c.put_command.new.line in
+    let first = told c.put_first.new.out.items c.put_first.new.line in
     let both = told c.put_programs.new.out.items c.put_programs.new.line in
-    let line = λ (t : ℤ). command_line steered c.args.accepted.now.command.now t answer in
+    let line = command_line (steered_by c.args.debugger.now) c.args.accepted.now.command.now state.clock.instant answer in
     let lines = λ (p : PlantData). program_lines p (plant_state.state_of p state.events).instance_state answer in
-    let with_command : first ≡ old ++ line state.clock.instant =
-    c.in_ok-put_command.ensures
-    ∙ ap (λ (t : ℤ). old ++ line t) (to_z-of_z w64 c.run_instant.result (record { sfits = c.run_instant.type_inv }) ∙ c.run_instant.ensures h agrees) in
     on_ok_weaker c.put_programs.result
-    (λ e. two_appended old first both (line state.clock.instant) (lines plant) with_command (e ∙ ap (λ (p : PlantData). first ++ lines p) c.resource.ensures.plant))
+    (λ e. two_appended old first both line (lines plant) (c.in_ok-put_first.ensures.line h agrees fits)
+    (e ∙ ap (λ (p : PlantData). first ++ lines p) c.resource.ensures.plant))
     (c.put_programs.ensures.lines state.events (c.resource.ensures.agrees h agrees)
-    (subst (λ (p : PlantData). Fits p c.args.memory.now) (sym c.resource.ensures.plant) fits))
+    (subst (λ (p : PlantData). Fits p c.put_first.new.memory) (sym c.resource.ensures.plant) (c.put_first.ensures.fits fits)))

@@ -6,7 +6,8 @@ use Rattle.sfc_core.specs.Agreement.{plant_of}
 use Rattle.sfc_core.specs.PlantState.{state_of}
 use Rattle.sfc_output.specs.Commands.{scan_end_in, written_line}
 use Rattle.sfc_output.specs.Private.Told.{told}
-use Rattle.sfc_output.proofs.Numbered.{lines_head}
+use Rattle.std.proofs.lemmas.List.{append-nil}
+use Rattle.sfc_output.proofs.Numbered.{lines_head, untold}
 use Rattle.sfc_output.proofs.answer.put_programs.Goals as goal
 
 pub loop-k-preserved : goal.loop-k-preserved
@@ -26,4 +27,14 @@ loop-k-preserved c = record {
       c.loop-k.invariant.lines h agrees fits ∙ ap (λ (xs : List ℕ). old ++ xs) (lines_head line k n lt) ∙ sym (append_assoc old (line k) rest)
       ∙ ap (λ (x : List ℕ). x ++ rest) (sym written);
   fits = λ fits. c.put_written.ensures.fits (c.loop-k.invariant.fits fits);
+}
+
+pub returns-in_default : goal.returns-in_default
+returns-in_default c = record {
+  lines = λ h agrees fits.
+      let plant = plant_of c.args.resource.now in
+      let old = told c.args.out.now.items c.args.line.now in
+      sym (append-nil old)
+      ∙ ap (λ (xs : List ℕ). old ++ xs) (sym (untold plant (state_of plant h).instance_state c.args.answer.now c.in_default.not-Scanned));
+  fits = λ fits. fits;
 }

@@ -14,7 +14,7 @@ places-preserved c =
       rest = λ changes instance_state shows.
           placed (step_text c.args.names.now (tables_in c.args.view.now) instance_state) c.active_flags-active.result.now c.places.from
           c.in-Some.s c.places.is_first _ (told c.places.out.items c.places.line) (told c.put_step.new.out.items c.put_step.new.line) found.2
-          (c.in_ok-put_step.ensures changes instance_state shows) (c.places.invariant.rest changes instance_state shows);
+          (c.in_ok-elapsed.ensures changes instance_state shows) (c.places.invariant.rest changes instance_state shows);
     }
 
 pub returns : goal.returns

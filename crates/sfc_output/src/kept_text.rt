@@ -1,0 +1,75 @@
+//! Short texts that are put again and again.
+
+ghost use Rattle.std.specs.Prelude.{◌≡◌, ◌≤◌, ◌++◌, List, ℕ, OnOk, IsTrue};
+ghost use Rattle.sfc_base.specs.TimeText as text;
+
+use crate::line::{KEPT, Line};
+use crate::pieces::put_text;
+use std::alloc::AllocError;
+
+/// A text of at most 64 bytes; or nothing, where it is empty.
+#[derive(Clone, Copy)]
+pub struct KeptText {
+    bytes: [u8; KEPT],
+    count: usize,
+    ghost short: { count ≤ 64 },
+}
+
+impl KeptText {
+    ghost use Rattle.std.specs.Prelude.{◌≡◌, ◌++◌, List, ℕ, OnOk, IsTrue};
+    ghost use Rattle.sfc_base.specs.TimeText as text;
+    ghost use Rattle.sfc_output.specs.Memories.{IsKept, text_in};
+    ghost use Rattle.sfc_output.specs.Private.Told.{told};
+
+    /// Nothing.
+    pub fn none() -> KeptText
+        ensures { (text : List ℕ) → IsKept text result }
+    {
+        KeptText {
+            bytes: [0; KEPT],
+            count: 0,
+        }
+    }
+
+    /// This text, where it isn't long; else nothing.
+    pub fn of(text: &[u8]) -> KeptText
+        ensures { IsKept text.now result }
+    {
+        if text.len() > KEPT {
+            return KeptText::none();
+        }
+        let mut bytes = [0; KEPT];
+        let count = put_text(&mut bytes, 0, text);
+        KeptText { bytes, count }
+    }
+
+    /// Whether a text is kept.
+    #[inline(always)]
+    pub fn is_kept(&self) -> bool
+        ensures { (text : List ℕ) → IsKept text self.now → IsTrue result → text_in self.now ≡ text }
+    {
+        self.count > 0
+    }
+
+    /// Puts the text behind the line. The one error is that memory was refused; then a front of it may stand there.
+    #[inline(always)]
+    pub fn put(&self, line: &mut Line, out: &mut Vec<u8>) -> Result<(), AllocError>
+        ensures { OnOk result (told out.new.items line.new ≡ told out.old.items line.old ++ text_in self.now) }
+    {
+        line.put_kept(out, &self.bytes, self.count)
+    }
+
+    /// Puts a time behind the line, in microseconds, and the text behind it. The one error is that memory was refused; then a front of
+    /// both may stand there.
+    #[inline(always)]
+    pub fn put_behind_time(
+        &self,
+        line: &mut Line,
+        out: &mut Vec<u8>,
+        micros: i64,
+    ) -> Result<(), AllocError>
+        ensures { OnOk result (told out.new.items line.new ≡ told out.old.items line.old ++ (text.time_text micros ++ text_in self.now)) }
+    {
+        line.put_time_and_kept(out, micros, &self.bytes, self.count)
+    }
+}
