@@ -10,7 +10,8 @@ use Rattle.sfc_instances.specs.Ends.{bits_of}
 use Rattle.sfc_instances.specs.PlantState.{PlantState, after_task}
 
 -- before instance k, in a scan of the task at t from this state on: what was done so far, from which the others go on
-pub record Follows (plant : PlantData) (task : TaskId) (t : ℤ) (state : PlantState) (k : ℕ) (instances : Instances) (bits : Bits) : Type 0 where
+pub record Follows (plant : PlantData) (task : TaskId) (t : ℤ) (state : PlantState) (k : ℕ) (instances : Instances)
+    (bits : Bits) : Type 0 where
   pub now : PlantState
   pub agrees : InstancesAgree plant instances now
   pub rest : after_task plant task t k (drop k plant.instances) now ≡ after_task plant task t 0 plant.instances state

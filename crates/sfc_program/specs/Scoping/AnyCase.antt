@@ -15,10 +15,12 @@ use Rattle.sfc_program.specs.Names.{is_name_of, names_in}
 alike : (one other : List ℕ) → same_word one other ≡ true → same_word one ≡ same_word other
 alike one other same = λ i word. same_word_equiv.congr one other word same i
 
-place_alike : (names : List (List ℕ)) (one other : List ℕ) → same_word one other ≡ true → place_of one names ≡ place_of other names
+place_alike : (names : List (List ℕ)) (one other : List ℕ) → same_word one other ≡ true →
+    place_of one names ≡ place_of other names
 place_alike names one other same = ap (λ (p : List ℕ → Bool). position p names) (alike one other same)
 
-own_alike : (own : Option (List ℕ)) (one other : List ℕ) → same_word one other ≡ true → is_name_of own one ≡ is_name_of own other
+own_alike : (own : Option (List ℕ)) (one other : List ℕ) → same_word one other ≡ true →
+    is_name_of own one ≡ is_name_of own other
 own_alike None one other same = refl
 own_alike (Some own) one other same =
     same_word_equiv.symm own one ∙ same_word_equiv.congr one other own same ∙ same_word_equiv.symm other own
