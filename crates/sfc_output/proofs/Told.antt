@@ -11,7 +11,7 @@ use Rattle.sfc_base.specs.TimeText.{part_text, parts_text, magnitude_text, above
 use Rattle.sfc_output.specs.Private.Told.{told, seconds_text, scanned_text, scanned_line}
 use Rattle.sfc_base.specs.declared.ids.TaskId.{TaskId}
 use Rattle.sfc_plant.specs.Plants.{PlantData}
-use Rattle.sfc_output.specs.Memories.{scan_text}
+use Rattle.sfc_output.specs.Memories.{plain_scan_text}
 use Rattle.sfc_output.specs.Names.{task_name}
 use Rattle.sfc_output.specs.Values.{line_end}
 use Rattle.std.specs.Fmt.{decimal}
@@ -50,8 +50,8 @@ kept_parts : (time scan task word number last : List ℕ)
     → time ++ (scan ++ task ++ word ++ number ++ last) ≡ time ++ (scan ++ task) ++ (word ++ number ++ []) ++ last
 kept_parts time scan task word number last = simp append_assoc
 
-pub kept_regrouped : (plant : PlantData) (task : TaskId) (t : ℤ) → time_text t ++ scan_text plant task.0 ≡ scanned_line t (task_name plant task) 0
-unfolding scan_text scanned_line
+pub kept_regrouped : (plant : PlantData) (task : TaskId) (t : ℤ) → time_text t ++ plain_scan_text plant task.0 ≡ scanned_line t (task_name plant task) 0
+unfolding plain_scan_text scanned_line
 kept_regrouped plant task t = kept_parts (time_text t) (codes " SCAN ") (task_name plant task) (codes " overruns ") (decimal 0) line_end
 
 -- ---- times

@@ -31,12 +31,15 @@ use Rattle.sfc_instance.specs.declared.scan_end.ScanEnd.TheVariants.{Ran, Faulte
 use Rattle.sfc_instance.specs.Life.{InstanceState}
 use Rattle.sfc_expr.specs.Trees.{Expression}
 use Rattle.sfc_core.specs.PlantState as core
+use Rattle.sfc_debug.specs.declared.debugger.Debugger.{Debugger}
+use Rattle.sfc_debug.specs.Agreement.{plant_of, table_of}
+use Rattle.sfc_debug.specs.Histories.{CommandHistory}
 use Rattle.sfc_debug.specs.Hits.{shown_condition}
-use Rattle.sfc_debug.specs.States.{DebugState}
+use Rattle.sfc_debug.specs.States.{DebugState, state_of}
 use Rattle.sfc_list.specs.Expressions.{expression_text}
 use Rattle.sfc_output.specs.Names.{task_name, program_name, image_name, numbered_action}
 use Rattle.sfc_output.specs.Programs.{program_line}
-use Rattle.sfc_output.specs.Steered.{Steered}
+use Rattle.sfc_output.specs.Steered.{Steered, steered_by}
 use Rattle.sfc_output.specs.Values.{line_end, value_text}
 
 -- ---- breakpoints
@@ -159,3 +162,8 @@ answer_lines steered instance_state command t (Err refusal) = refusal_line steer
 abbrev pub lines_at : Steered → DebugState → Command → Result Answer Refusal → List ℕ
 lines_at steered state command answer =
     answer_lines steered (core.state_of steered.plant state.events).instance_state command state.clock.instant answer
+
+-- The lines of a command that this debugger answered so, where these are the commands that it has accepted.
+abbrev pub lines_of : Debugger → CommandHistory → Command → Result Answer Refusal → List ℕ
+lines_of debugger history command answer =
+    lines_at (steered_by debugger) (state_of (plant_of debugger) (table_of debugger) history) command answer

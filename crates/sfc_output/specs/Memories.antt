@@ -1,4 +1,4 @@
--- What is kept of the lines of program instances.
+-- What is kept of the lines of scans and of program instances.
 use Rattle.std.specs.Prelude.{ℕ, ◌≡◌, ◌<◌, List, [], ◌++◌, codes, map, take, Bool, Option, Some, None, slice_get}
 use Rattle.std.specs.Fmt.{decimal}
 use Rattle.sfc_flags.specs.Flags.{places_from}
@@ -50,8 +50,8 @@ AllRight space tables programs =
     (k : ℕ) (program : ProgramMemory) → slice_get programs k ≡ Some program → AreRight (space k) (tables k) program.effects.items
 
 -- what is written of a scan of this task behind its instant, where it has no overruns and no breakpoint was hit
-unfoldable pub scan_text : PlantData → ℕ → List ℕ
-scan_text plant task =
+unfoldable pub plain_scan_text : PlantData → ℕ → List ℕ
+plain_scan_text plant task =
     codes " SCAN " ++ task_name plant (record { 0 = task }) ++ codes " overruns " ++ decimal 0 ++ line_end
 
 -- what is kept of tasks, by their numbers
@@ -61,7 +61,7 @@ tasks_in (Some kept) = kept.tasks.items
 
 -- all that is kept of tasks is right
 abbrev pub TasksRight : PlantData → List KeptText → Type 0
-TasksRight plant tasks = (k : ℕ) (kept : KeptText) → slice_get tasks k ≡ Some kept → IsKept (scan_text plant k) kept
+TasksRight plant tasks = (k : ℕ) (kept : KeptText) → slice_get tasks k ≡ Some kept → IsKept (plain_scan_text plant k) kept
 
 -- all that is kept is right for the tasks and the program instances of this plant
 unfoldable pub Fits : PlantData → Memory → Type 0

@@ -10,7 +10,7 @@ ghost use Rattle.sfc_core.specs.PlantState as plant_state;
 ghost use Rattle.sfc_debug.specs.Agreement.{Agrees, plant_of};
 ghost use Rattle.sfc_debug.specs.Histories.{CommandHistory};
 ghost use Rattle.sfc_debug.specs.States.{state_of};
-ghost use Rattle.sfc_output.specs.Commands.{command_line, lines_at, program_lines, refusal_line, written_line};
+ghost use Rattle.sfc_output.specs.Commands.{command_line, lines_at, lines_of, program_lines, refusal_line, written_line};
 ghost use Rattle.sfc_output.specs.Memories.{Fits};
 ghost use Rattle.sfc_output.specs.Names.{task_name};
 ghost use Rattle.sfc_output.specs.Private.Told.{told, done_text, scanned_line};
@@ -119,7 +119,6 @@ fn put_new_scan(
 }
 
 // The same: as it is kept, or else put together.
-#[tactic(auto, using(crate::proofs::Told::kept_regrouped))]
 #[inline(always)]
 fn put_plain_scan(
     line: &mut Line,
@@ -182,8 +181,7 @@ fn put_accepted(
     accepted: &Accepted<'_>,
 ) -> Result<(), AllocError>
     ensures lines { (h : CommandHistory) → Agrees debugger.now h → Fits (plant_of debugger.now) memory.old →
-        OnOk result (told out.new.items line.new ≡ told out.old.items line.old ++ lines_at (steered_by debugger.now)
-        (state_of (steered_by debugger.now).plant (steered_by debugger.now).table h) accepted.now.command.now (Ok accepted.now.answer.now)) }
+        OnOk result (told out.new.items line.new ≡ told out.old.items line.old ++ lines_of debugger.now h accepted.now.command.now (Ok accepted.now.answer.now)) }
     ensures fits { Fits (plant_of debugger.now) memory.old → Fits (plant_of debugger.now) memory.new }
 {
     put_first(line, out, memory, debugger, accepted)?;
@@ -199,9 +197,8 @@ fn put_accepted_on(
     command: &Command,
     answer: &Answer,
 ) -> Result<(), AllocError>
-    ensures lines { (h : CommandHistory) → Agrees debugger.now h → Fits (plant_of debugger.now) memory.old → OnOk result (page.new ≡ page.old
-        ++ lines_at (steered_by debugger.now)
-        (state_of (steered_by debugger.now).plant (steered_by debugger.now).table h) command.now (Ok answer.now)) }
+    ensures lines { (h : CommandHistory) → Agrees debugger.now h → Fits (plant_of debugger.now) memory.old →
+        OnOk result (page.new ≡ page.old ++ lines_of debugger.now h command.now (Ok answer.now)) }
     ensures fits { Fits (plant_of debugger.now) memory.old → Fits (plant_of debugger.now) memory.new }
 {
     page.line.make_room(&mut page.text)?;
@@ -256,9 +253,8 @@ fn append_accepted(
     command: &Command,
     answer: &Answer,
 ) -> Result<(), AllocError>
-    ensures { (h : CommandHistory) → Agrees debugger.now h → OnOk result (out.new.items ≡ out.old.items
-        ++ lines_at (steered_by debugger.now)
-        (state_of (steered_by debugger.now).plant (steered_by debugger.now).table h) command.now (Ok answer.now)) }
+    ensures { (h : CommandHistory) → Agrees debugger.now h →
+        OnOk result (out.new.items ≡ out.old.items ++ lines_of debugger.now h command.now (Ok answer.now)) }
 {
     let mut line = Line::new();
     let mut memory = Memory::none();

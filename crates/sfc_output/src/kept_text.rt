@@ -1,7 +1,6 @@
 //! Short texts that are put again and again.
 
-ghost use Rattle.std.specs.Prelude.{◌≡◌, ◌≤◌, ◌++◌, List, ℕ, OnOk, IsTrue};
-ghost use Rattle.sfc_base.specs.TimeText as text;
+ghost use Rattle.std.specs.Prelude.{◌≤◌};
 
 use crate::line::{KEPT, Line};
 use crate::pieces::put_text;

@@ -6,7 +6,7 @@ ghost use Rattle.sfc_plant.specs.InstanceSpaces.{space_of};
 ghost use Rattle.sfc_plant.specs.Plants.{PlantData};
 ghost use Rattle.sfc_plant.specs.Spaces.{Space};
 ghost use Rattle.sfc_tables.specs.Tables.{Tabled, tables_of};
-ghost use Rattle.sfc_output.specs.Memories.{AllRight, AreRight, Fits, IsKept, IsRight, TasksRight, effects_text, scan_text};
+ghost use Rattle.sfc_output.specs.Memories.{AllRight, AreRight, Fits, IsKept, IsRight, TasksRight, effects_text, plain_scan_text};
 
 use crate::append::{append, append_number};
 use crate::effects::{Effects, Sets};
@@ -52,7 +52,7 @@ impl ProgramMemory {
     }
 
     // How many places this one and those before it take that aren't there yet.
-    fn lacking(&self, place: usize) -> usize {
+    fn places_to_add(&self, place: usize) -> usize {
         place.saturating_add(1).saturating_sub(self.effects.len())
     }
 
@@ -96,9 +96,9 @@ struct Kept {
 
 // What is written of a scan of this task behind its instant, where it has no overruns and no breakpoint was hit. The one error is that
 // memory was refused.
-#[tactic(auto, unfolding(crate::specs::Memories::scan_text))]
+#[tactic(auto, unfolding(crate::specs::Memories::plain_scan_text))]
 fn text_of_scan(alloc: Global, plant: &Plant, task: usize) -> Result<KeptText, AllocError>
-    ensures { IfOk result (λ kept. IsKept (scan_text plant.now task) kept) }
+    ensures { IfOk result (λ kept. IsKept (plain_scan_text plant.now task) kept) }
 {
     let mut text = Vec::new(alloc);
     append(&mut text, b" SCAN ")?;
@@ -126,7 +126,7 @@ impl Kept {
     #[inline(always)]
     fn task(&self, task: usize) -> Option<&KeptText>
         ensures { (plant : PlantData) → TasksRight plant self.now.tasks.items →
-            IfSome result (λ kept. IsKept (scan_text plant task) kept.now) }
+            IfSome result (λ kept. IsKept (plain_scan_text plant task) kept.now) }
     {
         if task < self.tasks.len() {
             Some(&self.tasks[task])
@@ -184,11 +184,11 @@ impl Kept {
     {
         let (program, place) = at;
         self.grow(program)?;
-        let lacking = self.programs[program].lacking(place);
-        if lacking > self.left {
+        let places = self.programs[program].places_to_add(place);
+        if places > self.left {
             return Ok(());
         }
-        self.left -= lacking;
+        self.left -= places;
         self.programs[program].keep(self.alloc, place, sets, text)
     }
 }
@@ -233,7 +233,8 @@ impl Memory {
     /// What is kept of a task: what is written of a scan behind its instant, where it has no overruns and no breakpoint was hit.
     #[inline(always)]
     pub(crate) fn task(&self, task: TaskId) -> Option<&KeptText>
-        ensures { (plant : PlantData) → Fits plant self.now → IfSome result (λ kept. IsKept (scan_text plant task.0) kept.now) }
+        ensures { (plant : PlantData) → Fits plant self.now →
+            IfSome result (λ kept. IsKept (plain_scan_text plant task.0) kept.now) }
     {
         match &self.kept {
             Some(kept) => kept.task(task.0 as usize),
