@@ -7,6 +7,7 @@ use crate::kept::Kept;
 use crate::state_words::StateWords;
 use sfc_base::ticks::Ticks;
 use sfc_flags::flags::Flags;
+use sfc_flags::sparse_flags::SparseFlags;
 use std::alloc::{AllocError, Global};
 
 /// Of each action the inputs P, P1 and P0 of the newest scan, its flip-flops, its Q and whether it was executed, and the
@@ -14,7 +15,7 @@ use std::alloc::{AllocError, Global};
 pub struct ControlState {
     pub kept: Kept,
     pub q: Flags,
-    pub executed: Flags,
+    pub executed: SparseFlags,
     pub blocks: Delays,
     pub is_single: bool,
 }
@@ -61,7 +62,7 @@ impl ControlState {
         Ok(ControlState {
             kept: Kept::new(alloc, actions)?,
             q: Flags::new(alloc, actions)?,
-            executed: Flags::new(alloc, actions)?,
+            executed: SparseFlags::new(alloc, actions)?,
             blocks,
             is_single,
         })
@@ -96,6 +97,7 @@ impl ControlState {
     }
 
     // What a scan makes of the 64 actions of this word.
+    #[inline(always)]
     fn act_word(&mut self, control_scan: &ControlScan, number: usize)
         requires sized { IsStateSized (length self.old.q) self.old }
         requires control_scan { IsControlScan (length self.old.q) control_scan.now }
@@ -107,6 +109,23 @@ impl ControlState {
     {
         let words = self.words(number).after(control_scan.words(number));
         self.put(number, words);
+    }
+
+    // The same of the 64 actions of each word.
+    #[inline(never)]
+    fn act_each(&mut self, control_scan: &ControlScan, ticks: &mut Ticks)
+        requires sized { IsStateSized (length self.old.q) self.old }
+        requires control_scan { IsControlScan (length self.old.q) control_scan.now }
+        ensures sized { IsStateSized (length self.old.q) self.new }
+        ensures blocks { self.new.blocks ≡ self.old.blocks }
+        ensures single { self.new.is_single ≡ self.old.is_single }
+        ensures rows { (a : ℕ) → state_row self.new a ≡ state_row_after control_scan.now (state_row self.old) a }
+        ensures ticks { Within (length self.old.q) ticks.old ticks.new }
+    {
+        for number in 0..self.q.words() {
+            ticks.tick();
+            self.act_word(control_scan, number);
+        }
     }
 
     // What a scan makes of all actions, where the on-delays are done.
@@ -125,10 +144,7 @@ impl ControlState {
             self.act_word(control_scan, 0);
             return;
         }
-        for number in 0..self.q.words() {
-            ticks.tick();
-            self.act_word(control_scan, number);
-        }
+        self.act_each(control_scan, ticks);
     }
 
     /// What a scan at t makes of all, where the control scan has read its input, and no on-delay has its input unless `is_called`.
@@ -187,7 +203,7 @@ impl ControlState {
         ensures rested { self.new ≡ rested self.old }
         ensures ticks { Within (length self.old.q) ticks.old ticks.new }
     {
-        self.executed.copy_from(&self.q, ticks);
+        self.executed.copy_flags(&self.q, ticks);
     }
 
     /// Takes over which actions the other executed, which has as many.

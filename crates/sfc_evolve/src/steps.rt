@@ -15,7 +15,7 @@ use sfc_base::ids::TransitionId;
 use sfc_base::instants::time_since;
 use sfc_base::references::StepId;
 use sfc_base::ticks::Ticks;
-use sfc_flags::flags::Flags;
+use sfc_flags::sparse_flags::SparseFlags;
 use sfc_tables::tables::Tables;
 use std::alloc::{AllocError, Global};
 
@@ -24,13 +24,13 @@ use std::alloc::{AllocError, Global};
 /// it may be enabled. The rest is what a scan works on.
 pub struct Steps {
     begun: bool,
-    active: Flags,
+    active: SparseFlags,
     since: Vec<i64>,
     held_times: Vec<i64>,
-    cleared: Flags,
-    candidates: Flags,
-    used: Flags,
-    on: Flags,
+    cleared: SparseFlags,
+    candidates: SparseFlags,
+    used: SparseFlags,
+    on: SparseFlags,
     ghost since_len: { length since.items ≡ length active },
     ghost held_times_len: { length held_times.items ≡ length active },
     ghost candidates_len: { length candidates ≡ length cleared },
@@ -292,7 +292,7 @@ impl Steps {
     }
 
     /// Which steps are active, by number.
-    pub fn active_flags(&self) -> &Flags
+    pub fn active_flags(&self) -> &SparseFlags
         ensures len { length result.now ≡ step_total self.now }
         ensures flags { (tables : Tabled) (scans : List Scan) → StepsAgree tables self.now scans →
             result.now ≡ active_steps tables (rows_of tables scans) }
@@ -301,7 +301,7 @@ impl Steps {
     }
 
     /// Which transitions may be enabled, by place in rank order: each that is enabled is set (2.6.3, 2.6.5).
-    pub fn candidates(&self) -> &Flags
+    pub fn candidates(&self) -> &SparseFlags
         ensures len { length result.now ≡ transition_total self.now }
         ensures enabled { (tables : Tabled) (scans : List Scan) → StepsAgree tables self.now scans → AreTables tables →
             (j : ℕ) → j < length tables.sides →
@@ -344,6 +344,18 @@ impl Steps {
         }
     }
 
+    /// The time at t of a step that is active, in microseconds: the time since its latest activation (2.6.2). Of another step it is of no
+    /// use.
+    pub fn elapsed_of_active(&self, step: StepId, t: i64) -> i64
+        requires place { step.0 < step_total self.now }
+        requires low { pos 0 ≤ℤ t }
+        requires high { t ≤ℤ pos (2 ^ 62) }
+        ensures { (tables : Tabled) (scans : List Scan) → StepsAgree tables self.now scans →
+            is_active tables (rows_of tables scans) step.0 ≡ true → result ≡ step_time tables (rows_of tables scans) step.0 t }
+    {
+        time_since(self.since[step.0 as usize], t)
+    }
+
     /// When each step was last activated, in microseconds, by number (2.6.2).
     pub fn since(&self) -> &[i64]
         ensures value { result.now ≡ since_of self.now }
@@ -380,7 +392,7 @@ impl Steps {
     }
 
     /// Which transitions the latest scan cleared, by number.
-    pub fn cleared_flags(&self) -> &Flags
+    pub fn cleared_flags(&self) -> &SparseFlags
         ensures len { length result.now ≡ transition_total self.now }
         ensures each { (tables : Tabled) (scans : List Scan) (tr : ℕ) → tr < transition_total self.now →
             StepsAgree tables self.now scans → flag result.now tr ≡ was_cleared (rows_of tables scans) tr }

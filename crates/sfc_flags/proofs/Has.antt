@@ -1,10 +1,11 @@
 -- What the operations on a word do to its flags, and what a table shows of its words.
-use Rattle.std.proofs.Common.{◌≡◌, ℕ, Bool, not, ◌/◌, ◌%◌, ◌^◌, ◌<◌, ◌≤◌, ◌&&◌, ◌↔◌, ◌*◌, ◌==◌, true, false, cond, List, length, get_or, ◌∙◌, ap, refl, sym, inl, inr, arith, w64, eq-eqb}
+use Rattle.std.proofs.Common.{◌≡◌, ℕ, Bool, not, ◌/◌, ◌%◌, ◌^◌, ◌<◌, ◌≤◌, ◌&&◌, ◌↔◌, ◌*◌, ◌==◌, true, false, cond, List, length, get_or, ◌-◌, ◌∙◌, ap, refl, sym, inl, inr, arith, w64, eq-eqb}
 use Rattle.std.proofs.lemmas.Bool.{cases_eq, ne_eqb}
 use Rattle.std.proofs.lemmas.List.{get_or-set_same, get_or-set_other, length-set}
-use Rattle.std.proofs.lemmas.Nat.Bits.{bit_at_and, bit_at-zero, bit_at-trailing_zeros, bit_at_set_same, bit_at_set_other}
+use Rattle.std.proofs.lemmas.Nat.Bits.{bit_at_and, bit_at-zero, bit_at-trailing_zeros, bit_at_set_same, bit_at_set_other, bit_at_ones, bit_at_ones_above}
 use Rattle.std.specs.Prelude.{slice_set, bit_and, bit_or}
 use Rattle.std.specs.Int.{bit_at, trailing_zeros}
+use Rattle.std.proofs.lemmas.Nat.{one_shl}
 use lib.Count.{count_trailing_zeros}
 use Rattle.sfc_flags.specs.Flags.{flag}
 use Rattle.sfc_flags.specs.Private.Bits.{bit, flags_of, IsTable}
@@ -96,3 +97,11 @@ minus_shows b x place i lt e = elim (cases_eq (place % 64) i) [
   | inl same ↦ rw (e, eq-eqb (place % 64) i same) refl
   | inr apart ↦ rw (e, ne_eqb (place % 64) i apart) refl
 ]
+
+-- the bits below that of place i
+module _ (i j : ℕ) (same : j / 64 ≡ i / 64) where
+  pub before_shows : j < i → (bit_at (1 * 2 ^ (i % 64) % 2 ^ 64 - 1) (j % 64) == 1) ≡ true
+  before_shows lt = rw (one_shl (i % 64) 64 (omega arith), bit_at_ones (i % 64) (j % 64) (omega arith)) refl
+
+  pub after_shows : i ≤ j → (bit_at (1 * 2 ^ (i % 64) % 2 ^ 64 - 1) (j % 64) == 1) ≡ false
+  after_shows le = rw (one_shl (i % 64) 64 (omega arith), bit_at_ones_above (i % 64) (j % 64) (omega arith)) refl

@@ -6,3 +6,8 @@ mod Has
 mod Apart
 mod Same
 pub mod Wordwise
+mod Summaries
+mod Summed
+mod Firsts
+mod Fewer
+mod Cursors

@@ -31,6 +31,15 @@ same_word x y fits other_fits each =
 abbrev pub AreSame : List ℕ → List ℕ → ℕ → Type 0
 AreSame words other k = (j : ℕ) → j < k → get_or words j 0 ≡ get_or other j 0
 
+pub test_same : (x y : ℕ) → x < 2 ^ 64 → y < 2 ^ 64 → ((x == y) ≡ true) ↔ ((i : ℕ) → (bit_at x (i % 64) == 1) ≡ (bit_at y (i % 64) == 1))
+test_same x y fits other_fits = elim (cases_eq x y) [
+  | inl e ↦ (λ yes i. ap (λ n. bit_at n (i % 64) == 1) e, λ each. eq-eqb x y e)
+  | inr d ↦ (
+    λ yes. absurd (let no : (x == y) ≡ false = ne_eqb x y d in cc),
+    λ each. absurd (d (same_word x y fits other_fits each)),
+  )
+]
+
 module _ (words other : List ℕ) (apart k : ℕ) (so_far : (apart ≡ 0) ↔ AreSame words other k) where
   with_next : bit_or apart (bit_xor (get_or words k 0) (get_or other k 0)) ≡ 0 → AreSame words other (k + 1)
   with_next none j lt = elim (cases_eq j k) [

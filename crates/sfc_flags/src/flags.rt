@@ -53,6 +53,12 @@ impl Flags {
         })
     }
 
+    /// Whether one word has all places, and this is one of them.
+    #[inline(always)]
+    pub(crate) fn has_in_one(&self, place: usize) -> bool {
+        place < self.single
+    }
+
     /// The number of places.
     pub fn count(&self) -> usize
         ensures { result ≡ length self.now }

@@ -1,6 +1,6 @@
 //! The flags of 64 places at once.
 
-ghost use Rattle.std.specs.Prelude.{◌≡◌, ◌==◌, ◌<◌, ◌%◌, ◌||◌, ◌&&◌, ◌↔◌, ℕ, not, cond, true, false, IfSome, None};
+ghost use Rattle.std.specs.Prelude.{◌≡◌, ◌==◌, ◌<◌, ◌≤◌, ◌%◌, ◌||◌, ◌&&◌, ◌↔◌, ℕ, not, cond, true, false, IfSome, None};
 ghost use Rattle.sfc_flags.specs.Words.{has, word_of};
 
 /// The flags of 64 places that follow each other. Clauses ask for the flag of a place by its number in the table; the
@@ -21,6 +21,23 @@ impl Word {
         ensures { (result ≡ true) ↔ ((place : ℕ) → has self place ≡ false) }
     {
         self.0 == 0
+    }
+
+    /// Whether both have the same flags.
+    #[inline(always)]
+    pub fn is_same(self, other: Word) -> bool
+        ensures { (result ≡ true) ↔ ((place : ℕ) → has self place ≡ has other place) }
+    {
+        self.0 == other.0
+    }
+
+    /// All places of the word before this one have their flags, and no others.
+    #[inline(always)]
+    pub fn before(place: usize) -> Word
+        ensures before { (other : ℕ) → word_of other ≡ word_of place → other < place → has result other ≡ true }
+        ensures others { (other : ℕ) → word_of other ≡ word_of place → place ≤ other → has result other ≡ false }
+    {
+        Word((1u64 << (place % 64)) - 1)
     }
 
     /// The flag of this place.

@@ -12,6 +12,7 @@ use sfc_base::ids::{ActionNumber, TransitionId};
 use sfc_base::references::StepId;
 use sfc_base::ticks::Ticks;
 use sfc_flags::flags::Flags;
+use sfc_flags::sparse_flags::SparseFlags;
 use sfc_image::image::Image;
 use sfc_image::step_readings::StepReadings;
 use sfc_tables::tables::Tables;
@@ -45,7 +46,7 @@ impl Drop for Program {
 
 #[tactic(auto, unfolding(crate::specs::Agreement::IsFor, crate::specs::Agreement::ProgramAgrees, crate::specs::Agreement::StateAgrees))]
 impl Program {
-    ghost use Rattle.std.specs.Prelude.{◌≡◌, ◌<◌, ◌≤ℤ◌, ◌^◌, ℕ, pos, false, List, length, IfOk};
+    ghost use Rattle.std.specs.Prelude.{◌≡◌, ◌<◌, ◌≤ℤ◌, ◌^◌, ℕ, pos, true, false, List, length, IfOk};
     ghost use Rattle.sfc_base.specs.Ticks.{Within};
     ghost use Rattle.sfc_flags.specs.Flags.{flag};
     ghost use Rattle.sfc_tables.specs.Tables.{Tabled, tables_of};
@@ -156,7 +157,7 @@ impl Program {
     }
 
     /// Which steps are active, by number.
-    pub(crate) fn active_flags(&self) -> &Flags
+    pub(crate) fn active_flags(&self) -> &SparseFlags
         ensures len { length result.now ≡ step_total self.now }
         ensures flags { (tables : Tabled) (instance_state : InstanceState) → ProgramAgrees tables self.now instance_state →
             result.now ≡ active_steps tables (evolution_rows tables instance_state.life) }
@@ -165,7 +166,7 @@ impl Program {
     }
 
     /// Which transitions the latest scan cleared, by number (2.6.5).
-    pub(crate) fn cleared_flags(&self) -> &Flags
+    pub(crate) fn cleared_flags(&self) -> &SparseFlags
         ensures len { length result.now ≡ transition_total self.now }
         ensures each { (tables : Tabled) (instance_state : InstanceState) (tr : ℕ) → tr < transition_total self.now →
             ProgramAgrees tables self.now instance_state → flag result.now tr ≡ answers.is_transition_cleared tables instance_state tr }
@@ -183,7 +184,7 @@ impl Program {
     }
 
     /// Which actions the latest scan executed, by number: their A (2.6.4.5).
-    pub(crate) fn executed_flags(&self) -> &Flags
+    pub(crate) fn executed_flags(&self) -> &SparseFlags
         ensures len { length result.now ≡ action_total self.now }
         ensures each { (tables : Tabled) (instance_state : InstanceState) (action : ℕ) → action < action_total self.now →
             ProgramAgrees tables self.now instance_state →
@@ -225,6 +226,16 @@ impl Program {
             result ≡ answers.step_elapsed tables instance_state step.0 }
     {
         self.run.now.steps.elapsed(step, self.at)
+    }
+
+    /// The time at the latest scan of a step that is active: the time since its latest activation (2.6.2).
+    #[tactic(auto, unfolding(crate::specs::Agreement::IsFor, crate::specs::Agreement::ProgramAgrees, crate::specs::Agreement::StateAgrees))]
+    pub(crate) fn elapsed_of_active(&self, step: StepId) -> i64
+        requires { step.0 < step_total self.now }
+        ensures { (tables : Tabled) (instance_state : InstanceState) → ProgramAgrees tables self.now instance_state →
+            answers.is_step_active tables instance_state step.0 ≡ true → result ≡ answers.step_elapsed tables instance_state step.0 }
+    {
+        self.run.now.steps.elapsed_of_active(step, self.at)
     }
 
     /// The step's time at t, from 0 to 2^62 microseconds; what it kept, if it is not active (2.6.2).

@@ -12,6 +12,7 @@ use sfc_base::references::{StepId, Variable};
 use sfc_base::value::Value;
 use sfc_expr::view::View;
 use sfc_flags::flags::Flags;
+use sfc_flags::sparse_flags::SparseFlags;
 use sfc_image::image::Image;
 use sfc_image::step_readings::StepReadings;
 use sfc_image::view::ImageView;
@@ -36,7 +37,7 @@ pub struct ProgramView<'a> {
 
 #[tactic(auto, unfolding(crate::specs::Views::plant_in, crate::specs::Views::instance_in, crate::specs::Views::Shows))]
 impl<'a> ProgramView<'a> {
-    ghost use Rattle.std.specs.Prelude.{◌≡◌, ◌<◌, ◌≤ℤ◌, ◌^◌, cond, nat_lt, ℕ, pos, List, length, slice_index_or};
+    ghost use Rattle.std.specs.Prelude.{◌≡◌, ◌<◌, ◌≤ℤ◌, ◌^◌, cond, nat_lt, ℕ, pos, true, List, length, slice_index_or};
     ghost use Rattle.sfc_image.specs.StepTimes.{times_of};
     ghost use Rattle.sfc_flags.specs.Flags.{flag};
     ghost use Rattle.sfc_plant.specs.Finding.{chart_of};
@@ -120,7 +121,7 @@ impl<'a> ProgramView<'a> {
     }
 
     /// Which steps are active, by number (2.6.2).
-    pub fn active_flags(&self) -> &'a Flags
+    pub fn active_flags(&self) -> &'a SparseFlags
         ensures len { length result.now ≡ length (tables_in self.now).initial }
         ensures each { (changes : List Change) (instance_state : InstanceState) (s : ℕ) → s < length (tables_in self.now).initial →
             Shows self.now changes instance_state → flag result.now s ≡ answers.is_step_active (tables_in self.now) instance_state s }
@@ -129,7 +130,7 @@ impl<'a> ProgramView<'a> {
     }
 
     /// Which transitions the latest scan cleared, by number (2.6.5).
-    pub fn cleared_flags(&self) -> &'a Flags
+    pub fn cleared_flags(&self) -> &'a SparseFlags
         ensures len { length result.now ≡ length (tables_in self.now).sides }
         ensures each { (changes : List Change) (instance_state : InstanceState) (tr : ℕ) → tr < length (tables_in self.now).sides →
             Shows self.now changes instance_state →
@@ -148,7 +149,7 @@ impl<'a> ProgramView<'a> {
     }
 
     /// Which actions the latest scan executed, by number: their A (2.6.4.5).
-    pub fn executed_flags(&self) -> &'a Flags
+    pub fn executed_flags(&self) -> &'a SparseFlags
         ensures len { length result.now ≡ length (tables_in self.now).actions }
         ensures each { (changes : List Change) (instance_state : InstanceState) (action : ℕ) → action < length (tables_in self.now).actions →
             Shows self.now changes instance_state →
@@ -190,6 +191,17 @@ impl<'a> ProgramView<'a> {
             result ≡ answers.step_elapsed (tables_in self.now) instance_state step.0 }
     {
         self.program.elapsed(step)
+    }
+
+    /// The time at the latest scan of a step that is active, in microseconds: the time since its latest activation (2.6.2). Of another
+    /// step it is of no use. The step is one of its chart's.
+    pub fn elapsed_of_active(&self, step: StepId) -> i64
+        requires { step.0 < length (tables_in self.now).initial }
+        ensures { (changes : List Change) (instance_state : InstanceState) → Shows self.now changes instance_state →
+            answers.is_step_active (tables_in self.now) instance_state step.0 ≡ true →
+            result ≡ answers.step_elapsed (tables_in self.now) instance_state step.0 }
+    {
+        self.program.elapsed_of_active(step)
     }
 
     /// The step's time at t, from 0 to 2^62 microseconds, as a scan then reads it (2.6.2); 0 of a step that is none of its

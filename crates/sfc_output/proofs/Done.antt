@@ -1,5 +1,5 @@
 -- The end of the line of a program instance.
-use Rattle.std.proofs.Common.{◌≡◌, ◌<◌, ◌++◌, ℕ, Bool, List, codes, map, length, append_assoc}
+use Rattle.std.proofs.Common.{◌≡◌, ◌<◌, ◌++◌, ℕ, Bool, List, Option, codes, map, length, append_assoc, ap, sym, ◌∙◌}
 use Rattle.std.specs.Fmt.{decimal}
 use Rattle.sfc_flags.specs.Flags.{flag, places_from}
 use Rattle.sfc_base.specs.declared.ids.ProgId.{ProgId}
@@ -15,7 +15,7 @@ use Rattle.sfc_output.specs.Lists.{listed}
 use Rattle.sfc_output.specs.Memories.{effects_text}
 use Rattle.sfc_output.specs.Names.{numbered_action, program_name}
 use Rattle.sfc_output.specs.Programs.{transition_text, cleared_texts, executed_texts, step_texts, program_line, fault_text}
-use Rattle.sfc_output.specs.Private.Told.{done_text, fault_line, ran_text, scans_text}
+use Rattle.sfc_output.specs.Private.Told.{did_text, done_text, fault_line, lacking, ran_text, scans_text}
 use Rattle.sfc_output.specs.Values.{line_end}
 use Rattle.sfc_output.proofs.Appended.{two_appended}
 use Rattle.sfc_output.proofs.Texts.{texts_all}
@@ -49,15 +49,39 @@ ran_regrouped plant p instance_state =
     (codes " run ") (listed (executed_texts space tables instance_state)) line_end
 
 -- its parts stand, one after the other
-pub ran_appended : (old first second third name : List ℕ) (space : Space) (tables : Tabled) (instance_state : InstanceState)
-    → first ≡ old ++ scans_text name (scan_count instance_state) → second ≡ first ++ listed (step_texts space tables instance_state)
-    → third ≡ second ++ done_text space tables instance_state → third ≡ old ++ ran_text name space tables instance_state
-unfolding ran_text
-ran_appended old first second third name space tables instance_state e f g =
+pub ran_appended : (old first second name : List ℕ) (space : Space) (tables : Tabled) (instance_state : InstanceState)
+    → first ≡ old ++ scans_text name (scan_count instance_state) → second ≡ first ++ did_text space tables instance_state
+    → second ≡ old ++ ran_text name space tables instance_state
+unfolding ran_text did_text
+ran_appended old first second name space tables instance_state e f =
     let scans = scans_text name (scan_count instance_state) in
     let steps = listed (step_texts space tables instance_state) in
     let done = done_text space tables instance_state in
-    two_appended old second third (scans ++ steps) done (two_appended old first second scans steps e f) g
+    two_appended old first second scans (steps ++ done) e f ∙ ap (λ (xs : List ℕ). old ++ xs) (sym (append_assoc scans steps done))
+
+-- what follows the head stands, part by part
+pub did_appended : (old first second : List ℕ) (space : Space) (tables : Tabled) (instance_state : InstanceState)
+    → first ≡ old ++ listed (step_texts space tables instance_state) → second ≡ first ++ done_text space tables instance_state
+    → second ≡ old ++ did_text space tables instance_state
+unfolding did_text
+did_appended old first second space tables instance_state e f =
+    two_appended old first second (listed (step_texts space tables instance_state)) (done_text space tables instance_state) e f
+
+-- With what is lacking, the line of an instance whose scan ran stands; a view shows the plant and the instance.
+pub line_ran : {shown plant : PlantData} {q p : ProgId} {rest r : Option ℕ} (instance_state : InstanceState) (old head put : List ℕ)
+    → shown ≡ plant → q ≡ p → rest ≡ r → head ≡ old ++ scans_text (program_name plant p) (scan_count instance_state)
+    → put ++ lacking rest (done_text (space_of shown q) (tables_of (chart_of shown q)) instance_state)
+    ≡ head ++ did_text (space_of shown q) (tables_of (chart_of shown q)) instance_state
+    → put ++ lacking r (done_text (space_of plant p) (tables_of (chart_of plant p)) instance_state) ≡ old ++ program_line plant p instance_state Ran
+line_ran {shown} {plant} {q} {p} {rest} {r} instance_state old head put a b d e f =
+    let space = space_of plant p in
+    let tables = tables_of (chart_of plant p) in
+    let all = put ++ lacking r (done_text space tables instance_state) in
+    let did : all ≡ head ++ did_text space tables instance_state =
+    sym (λ i. put ++ lacking (d i) (done_text (space_of (a i) (b i)) (tables_of (chart_of (a i) (b i))) instance_state)) ∙ f
+    ∙ (λ i. head ++ did_text (space_of (a i) (b i)) (tables_of (chart_of (a i) (b i))) instance_state) in
+    ran_appended old head all (program_name plant p) space tables instance_state e did
+    ∙ ap (λ (xs : List ℕ). old ++ xs) (ran_regrouped plant p instance_state)
 
 fault_parts : (head name word fault last : List ℕ) → head ++ name ++ word ++ fault ++ last ≡ (head ++ name) ++ (word ++ fault) ++ last
 fault_parts head name word fault last = simp append_assoc

@@ -12,6 +12,8 @@ pub mod Texts
 pub mod Kept
 -- the end of the line of a program instance
 pub mod Done
+-- the head of that line, with another number of scans
+pub mod Heads
 -- lines of numbered places, one after the other
 pub mod Numbered
 -- what stands at the end of a buffer and in a line behind it

@@ -1,7 +1,7 @@
 -- Text that was put in two pieces, which may have bytes in common.
-use Rattle.std.proofs.Common.{◌≡◌, ◌≤◌, ◌+◌, ◌-◌, ℕ, List, ◌++◌, length, take, drop, sym, ap, ◌∙◌, append_assoc, length-append, arith}
-use Rattle.std.proofs.lemmas.List.{take-append-drop, take_all, take_rest, length-take-le}
-use Rattle.std.proofs.Math.Seq.{take-append_seam, take-add}
+use Rattle.std.proofs.Common.{◌≡◌, ◌<◌, ◌≤◌, ◌+◌, ◌-◌, ℕ, List, ◌++◌, length, take, drop, set, sym, ap, ◌∙◌, append_assoc, length-append, arith}
+use Rattle.std.proofs.lemmas.List.{take-append-drop, take_all, take_rest, length-take, length-take-le, set-append_right}
+use Rattle.std.proofs.Math.Seq.{take-append_seam, take-add, take-set-lt}
 
 -- fronts of the same length of one list
 fronts : (p q r s : List ℕ) → length p ≡ length q → p ++ r ≡ q ++ s → p ≡ q
@@ -45,3 +45,14 @@ front_put old one text count j within fits le e =
     let same : j + m ≡ length text = omega arith in
     shorter old one text count j m within (omega (arith, fits, same)) (omega (arith, same))
     (ap (λ (n : ℕ). take (count + n) one) same ∙ e ∙ ap (λ (l : List ℕ). take count old ++ l) (sym (take_all (j + m) text (omega (arith, same)))))
+
+-- one byte of what was put, put anew
+pub put_anew : (bytes front text : List ℕ) (n start at byte : ℕ) → take n bytes ≡ front ++ text → length front ≡ start → at < length text
+    → take n (set bytes (start + at) byte) ≡ front ++ set text at byte
+put_anew bytes front text n start at byte put size lt =
+    let all = ap length put ∙ length-append front text in
+    let most = length-take n bytes in
+    let within : start + at < n = omega (arith, all, most, size, lt) in
+    let same : start + at - start ≡ at = omega arith in
+    take-set-lt n bytes (start + at) byte within ∙ ap (λ (xs : List ℕ). set xs (start + at) byte) put
+    ∙ set-append_right front text start (start + at) byte size (omega arith) ∙ ap (λ (i : ℕ). front ++ set text i byte) same

@@ -1,11 +1,17 @@
 -- Texts of numbered places, one after the other.
-use Rattle.std.proofs.Common.{◌≡◌, ◌<◌, ◌+◌, ℕ, suc, Bool, true, false, cond, List, [], ◌∷◌, ◌++◌, length, map, filter, arith}
+use Rattle.std.proofs.Common.{◌≡◌, ◌<◌, ◌≤◌, ◌+◌, ℕ, suc, Bool, true, false, cond, List, [], ◌∷◌, ◌++◌, length, map, filter, arith}
 use Rattle.std.proofs.Common.{refl, sym, ap, ◌∙◌, append_assoc, slice_index_or}
 use Rattle.std.specs.List.{range_with_len}
 use Rattle.sfc_flags.specs.Flags.{flag, set_from, places_from}
 use Rattle.sfc_output.specs.Lists.{listed}
 use Rattle.sfc_output.specs.Programs.{texts_from}
 use Rattle.sfc_output.specs.Private.ListParts.{continued, separator}
+
+-- the first set place from a place on isn't before it
+pub first_after : (i : ℕ) (flags : List Bool) (s : ℕ) (rest : List ℕ) → set_from i flags ≡ s ∷ rest → i ≤ s
+first_after i [] s rest e = absurd (omega (arith, ap length e))
+first_after i (true ∷ flags) s rest e = omega (arith, ap (λ (xs : List ℕ). slice_index_or xs 0 0) e)
+first_after i (false ∷ flags) s rest e = omega (arith, first_after (suc i) flags s rest e)
 
 -- one text and others behind it
 behind : (is_first : Bool) (text : List ℕ) (texts : List (List ℕ))

@@ -1,5 +1,5 @@
 -- What is kept of the lines of scans and of program instances.
-use Rattle.std.specs.Prelude.{ℕ, ◌≡◌, ◌<◌, List, [], ◌++◌, codes, map, take, Bool, Option, Some, None, slice_get}
+use Rattle.std.specs.Prelude.{ℕ, ◌≡◌, ◌<◌, ◌≤◌, ◌+◌, ◌-◌, List, [], ◌++◌, codes, map, take, Bool, Option, Some, None, slice_get, slice_set}
 use Rattle.std.specs.Fmt.{decimal}
 use Rattle.sfc_flags.specs.Flags.{places_from}
 use Rattle.sfc_tables.specs.Tables.{Tabled, tables_of}
@@ -8,12 +8,14 @@ use Rattle.sfc_plant.specs.Finding.{chart_of}
 use Rattle.sfc_plant.specs.InstanceSpaces.{space_of}
 use Rattle.sfc_plant.specs.Plants.{PlantData}
 use Rattle.sfc_output.specs.declared.effects.Effects.{Effects}
+use Rattle.sfc_output.specs.declared.kept_head.KeptHead.{KeptHead}
 use Rattle.sfc_output.specs.declared.kept_text.KeptText.{KeptText}
 use Rattle.sfc_output.specs.declared.memory.Kept.{Kept}
 use Rattle.sfc_output.specs.declared.memory.Memory.{Memory}
 use Rattle.sfc_output.specs.declared.memory.ProgramMemory.{ProgramMemory}
 use Rattle.sfc_output.specs.Lists.{listed}
-use Rattle.sfc_output.specs.Names.{numbered_action, task_name}
+use Rattle.sfc_output.specs.Names.{numbered_action, program_name, task_name}
+use Rattle.sfc_output.specs.Private.Told.{scans_text}
 use Rattle.sfc_output.specs.Programs.{transition_text}
 use Rattle.sfc_output.specs.Values.{line_end}
 
@@ -54,6 +56,28 @@ unfoldable pub plain_scan_text : PlantData → ℕ → List ℕ
 plain_scan_text plant task =
     codes " SCAN " ++ task_name plant (record { 0 = task }) ++ codes " overruns " ++ decimal 0 ++ line_end
 
+-- this number of scans is one of the ten of a head
+pub record HasScans (head : KeptHead) (scans : ℕ) : Type 0 where
+  pub long : 8 ≤ head.text.count
+  pub from : head.first ≤ scans
+  pub below : scans < head.first + 10
+
+-- with each of the ten numbers' last digit in place of its own, what is kept is the head of the line with that number
+abbrev pub IsHead : List ℕ → KeptHead → Type 0
+IsHead name head =
+    (scans : ℕ) → HasScans head scans →
+    slice_set (text_in head.text) (head.text.count - 8) (48 + (scans - head.first)) ≡ scans_text name scans
+
+-- what is kept of the heads of program instances, by their numbers
+abbrev pub heads_in : Option Kept → List KeptHead
+heads_in None = []
+heads_in (Some kept) = kept.heads.items
+
+-- all that is kept of heads is right
+abbrev pub HeadsRight : PlantData → List KeptHead → Type 0
+HeadsRight plant heads =
+    (k : ℕ) (head : KeptHead) → slice_get heads k ≡ Some head → IsHead (program_name plant (record { 0 = k })) head
+
 -- what is kept of tasks, by their numbers
 abbrev pub tasks_in : Option Kept → List KeptText
 tasks_in None = []
@@ -67,4 +91,5 @@ TasksRight plant tasks = (k : ℕ) (kept : KeptText) → slice_get tasks k ≡ S
 unfoldable pub Fits : PlantData → Memory → Type 0
 Fits plant memory =
     TasksRight plant (tasks_in memory.kept)
+    × HeadsRight plant (heads_in memory.kept)
     × AllRight (λ k. space_of plant (record { 0 = k })) (λ k. tables_of (chart_of plant (record { 0 = k }))) (programs_in memory.kept)

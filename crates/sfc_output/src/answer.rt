@@ -12,16 +12,20 @@ ghost use Rattle.sfc_debug.specs.Histories.{CommandHistory};
 ghost use Rattle.sfc_debug.specs.States.{state_of};
 ghost use Rattle.sfc_output.specs.Commands.{command_line, lines_at, lines_of, program_lines, refusal_line, written_line};
 ghost use Rattle.sfc_output.specs.Memories.{Fits};
-ghost use Rattle.sfc_output.specs.Names.{task_name};
-ghost use Rattle.sfc_output.specs.Private.Told.{told, done_text, scanned_line};
+ghost use Rattle.sfc_instance.specs.Answers.{scan_count};
+ghost use Rattle.sfc_instance.specs.declared.scan_end.ScanEnd.TheVariants.{Ran};
+ghost use Rattle.sfc_output.specs.Names.{program_name, task_name};
+ghost use Rattle.sfc_output.specs.Programs.{program_line};
+ghost use Rattle.sfc_output.specs.Private.Told.{told, done_text, scanned_line, scans_text};
 ghost use Rattle.sfc_output.specs.Steered.{steered_by};
 
 use crate::command::{Accepted, append_refusal, put_command, put_scan, scan_end_in};
+use crate::kept_head::KeptHead;
 use crate::line::Line;
 use crate::memory::Memory;
 use crate::naming;
 use crate::page::Page;
-use crate::program::{put_done, put_program};
+use crate::program::{append_program, put_done, put_steps_and_effects};
 use sfc_base::ids::{ProgId, TaskId};
 use sfc_core::resource::Resource;
 use sfc_debug::debugger::Debugger;
@@ -51,28 +55,95 @@ fn put_done_of(
     put_done(line, out, memory, &resource.program(instance), place)
 }
 
-// The line of an instance, if the answer tells of it.
-#[inline(always)]
-fn put_written(
+// The head of the line of an instance, put together and kept.
+#[cold]
+#[inline(never)]
+fn put_new_head(
     line: &mut Line,
     out: &mut Vec<u8>,
     memory: &mut Memory,
     resource: &Resource,
-    scanned: (ProgId, Option<ScanEnd>),
+    instance: ProgId,
 ) -> Result<(), AllocError>
-    requires { scanned.0.0 < length (core.plant_of resource.now).instances }
-    ensures line { (h : History) → core.Agrees resource.now h → Fits (core.plant_of resource.now) memory.old →
-        OnOk result (told out.new.items line.new ≡ told out.old.items line.old
-        ++ written_line (core.plant_of resource.now) (plant_state.state_of (core.plant_of resource.now) h).instance_state scanned.0.0 scanned.1) }
+    requires { instance.0 < length (core.plant_of resource.now).instances }
+    ensures line { (h : History) → core.Agrees resource.now h →
+        OnOk result (told out.new.items line.new ≡ told out.old.items line.old ++ scans_text (program_name (core.plant_of resource.now) instance)
+        (scan_count ((plant_state.state_of (core.plant_of resource.now) h).instance_state instance.0))) }
     ensures fits { Fits (core.plant_of resource.now) memory.old → Fits (core.plant_of resource.now) memory.new }
 {
-    let (instance, Some(scan_end)) = scanned else {
+    let view = resource.program(instance);
+    let scans = view.scans();
+    let (passed_on, held) = (out.len(), line.len());
+    line.put_scans(out, naming::program_name(view.plant(), instance), scans)?;
+    // What was passed on no longer stands in the line.
+    if out.len() != passed_on {
         return Ok(());
-    };
-    match put_program(line, out, memory, &resource.program(instance), scan_end)? {
+    }
+    memory.keep_head(instance, KeptHead::of(line.behind(held), scans))
+}
+
+// The head of the line of an instance: as it is kept, or else put together.
+#[inline(always)]
+fn put_head(
+    line: &mut Line,
+    out: &mut Vec<u8>,
+    memory: &mut Memory,
+    resource: &Resource,
+    instance: ProgId,
+) -> Result<(), AllocError>
+    requires { instance.0 < length (core.plant_of resource.now).instances }
+    ensures line { (h : History) → core.Agrees resource.now h → Fits (core.plant_of resource.now) memory.old →
+        OnOk result (told out.new.items line.new ≡ told out.old.items line.old ++ scans_text (program_name (core.plant_of resource.now) instance)
+        (scan_count ((plant_state.state_of (core.plant_of resource.now) h).instance_state instance.0))) }
+    ensures fits { Fits (core.plant_of resource.now) memory.old → Fits (core.plant_of resource.now) memory.new }
+{
+    let scans = resource.program(instance).scans();
+    if let Some(head) = memory.head(instance, scans) {
+        return head.put(line, out, scans);
+    }
+    put_new_head(line, out, memory, resource, instance)
+}
+
+// The line of an instance whose scan ran.
+#[inline(always)]
+fn put_ran(
+    line: &mut Line,
+    out: &mut Vec<u8>,
+    memory: &mut Memory,
+    resource: &Resource,
+    instance: ProgId,
+) -> Result<(), AllocError>
+    requires { instance.0 < length (core.plant_of resource.now).instances }
+    ensures line { (h : History) → core.Agrees resource.now h → Fits (core.plant_of resource.now) memory.old →
+        OnOk result (told out.new.items line.new ≡ told out.old.items line.old ++ program_line (core.plant_of resource.now) instance
+        ((plant_state.state_of (core.plant_of resource.now) h).instance_state instance.0) Ran) }
+    ensures fits { Fits (core.plant_of resource.now) memory.old → Fits (core.plant_of resource.now) memory.new }
+{
+    put_head(line, out, memory, resource, instance)?;
+    match put_steps_and_effects(line, out, memory, &resource.program(instance))? {
         Some(place) => put_done_of(line, out, memory, resource, (instance, place)),
         None => Ok(()),
     }
+}
+
+// The line of an instance whose scan ended with a fault, or was passed over for one.
+#[tactic(auto, using(crate::proofs::Told::told_none))]
+#[cold]
+#[inline(never)]
+fn put_ended(
+    line: &mut Line,
+    out: &mut Vec<u8>,
+    resource: &Resource,
+    instance: ProgId,
+    scan_end: ScanEnd,
+) -> Result<(), AllocError>
+    requires { instance.0 < length (core.plant_of resource.now).instances }
+    ensures { (h : History) → core.Agrees resource.now h →
+        OnOk result (told out.new.items line.new ≡ told out.old.items line.old ++ program_line (core.plant_of resource.now) instance
+        ((plant_state.state_of (core.plant_of resource.now) h).instance_state instance.0) scan_end) }
+{
+    line.pass_on(out)?;
+    append_program(out, &resource.program(instance), scan_end)
 }
 
 // A line for each instance that the answer tells of.
@@ -93,8 +164,11 @@ fn put_programs(
         return Ok(());
     };
     for k in 0..resource.plant().instances().len() {
-        let scan_end = scan_end_in(answer, k as u32);
-        put_written(line, out, memory, resource, (ProgId(k as u8), scan_end))?;
+        match scan_end_in(answer, k as u32) {
+            Some(ScanEnd::Ran) => put_ran(line, out, memory, resource, ProgId(k as u8))?,
+            Some(scan_end) => put_ended(line, out, resource, ProgId(k as u8), scan_end)?,
+            None => {}
+        }
     }
     Ok(())
 }

@@ -15,14 +15,15 @@ pub struct KeptText {
 }
 
 impl KeptText {
-    ghost use Rattle.std.specs.Prelude.{◌≡◌, ◌++◌, List, ℕ, OnOk, IsTrue};
+    ghost use Rattle.std.specs.Prelude.{◌≡◌, ◌<◌, ◌++◌, List, ℕ, length, slice_set, OnOk, IsTrue};
     ghost use Rattle.sfc_base.specs.TimeText as text;
     ghost use Rattle.sfc_output.specs.Memories.{IsKept, text_in};
     ghost use Rattle.sfc_output.specs.Private.Told.{told};
 
     /// Nothing.
     pub fn none() -> KeptText
-        ensures { (text : List ℕ) → IsKept text result }
+        ensures kept { (text : List ℕ) → IsKept text result }
+        ensures none { result.count ≡ 0 }
     {
         KeptText {
             bytes: [0; KEPT],
@@ -32,7 +33,8 @@ impl KeptText {
 
     /// This text, where it isn't long; else nothing.
     pub fn of(text: &[u8]) -> KeptText
-        ensures { IsKept text.now result }
+        ensures kept { IsKept text.now result }
+        ensures whole { 0 < result.count → result.count ≡ length text.now }
     {
         if text.len() > KEPT {
             return KeptText::none();
@@ -48,6 +50,29 @@ impl KeptText {
         ensures { (text : List ℕ) → IsKept text self.now → IsTrue result → text_in self.now ≡ text }
     {
         self.count > 0
+    }
+
+    /// How many bytes are kept.
+    #[inline(always)]
+    pub fn len(&self) -> usize
+        ensures { result ≡ self.now.count }
+    {
+        self.count
+    }
+
+    /// Puts the text behind the line, with another byte at this place. The one error is that memory was refused; then a front of it may
+    /// stand there.
+    #[inline(always)]
+    pub fn put_with(
+        &self,
+        line: &mut Line,
+        out: &mut Vec<u8>,
+        at: (usize, u8),
+    ) -> Result<(), AllocError>
+        requires { at.0 < self.now.count }
+        ensures { OnOk result (told out.new.items line.new ≡ told out.old.items line.old ++ slice_set (text_in self.now) at.0 at.1) }
+    {
+        line.put_kept_with(out, &self.bytes, self.count, at)
     }
 
     /// Puts the text behind the line. The one error is that memory was refused; then a front of it may stand there.

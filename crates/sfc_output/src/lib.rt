@@ -7,6 +7,7 @@
 //! - `command`: the lines of commands and of their answers; of rows of the trace.
 //! - `effects`: what a scan did, and how that is written.
 //! - `image_line`: the lines of the image.
+//! - `kept_head`: the head of the lines of a program instance, put again and again.
 //! - `kept_text`: short texts that are put again and again.
 //! - `line`: the end of a text, put together before it goes to a buffer.
 //! - `list`: lists in a line.
@@ -23,6 +24,7 @@ mod breakpoint;
 pub mod command;
 mod effects;
 pub mod image_line;
+mod kept_head;
 mod kept_text;
 mod line;
 mod list;

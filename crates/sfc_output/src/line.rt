@@ -1,6 +1,6 @@
 //! The end of a text, put together before it goes to a buffer.
 
-ghost use Rattle.std.specs.Prelude.{◌≡◌, ◌+◌, ◌<◌, ◌≤◌, ◌++◌, ◌∷◌, [], List, ℕ, length, take, drop, codes, unsigned_abs, OnOk, IsTrue};
+ghost use Rattle.std.specs.Prelude.{◌≡◌, ◌+◌, ◌<◌, ◌≤◌, ◌++◌, ◌∷◌, [], List, ℕ, length, take, drop, slice_set, codes, unsigned_abs, OnOk, IsTrue};
 ghost use Rattle.std.specs.Fmt.{decimal};
 ghost use Rattle.sfc_base.specs.TimeText as text;
 ghost use Rattle.sfc_output.specs.Private.ListParts.{separator};
@@ -185,6 +185,41 @@ impl Line {
             return Ok(());
         }
         self.put_long(out, &text[..count])
+    }
+
+    // The first of these bytes, with another one at this place, which have room.
+    #[inline(always)]
+    fn push_kept_with(&mut self, text: &[u8; KEPT], count: usize, at: (usize, u8))
+        requires few { count ≤ 64 }
+        requires at { at.0 < count }
+        requires room { length self.old + 64 ≤ 1024 }
+        ensures { self.new ≡ self.old ++ slice_set (take count text.now) at.0 at.1 }
+    {
+        let start = self.count;
+        self.push_kept(text, count);
+        self.bytes[start + at.0] = at.1;
+    }
+
+    /// Puts the first of these bytes behind the line, with another one at this place. The one error is that memory was refused; then a
+    /// front of them may stand there.
+    #[tactic(auto, using(crate::proofs::Told::told_more, crate::proofs::Told::told_none))]
+    #[inline(always)]
+    pub fn put_kept_with(
+        &mut self,
+        out: &mut Vec<u8>,
+        text: &[u8; KEPT],
+        count: usize,
+        at: (usize, u8),
+    ) -> Result<(), AllocError>
+        requires few { count ≤ 64 }
+        requires at { at.0 < count }
+        ensures { OnOk result (told out.new.items self.new ≡ told out.old.items self.old ++ slice_set (take count text.now) at.0 at.1) }
+    {
+        if !self.has_room(KEPT) {
+            self.pass_on(out)?;
+        }
+        self.push_kept_with(text, count, at);
+        Ok(())
     }
 
     // A time and the first of these bytes, where all have room.

@@ -6,10 +6,12 @@ ghost use Rattle.sfc_plant.specs.InstanceSpaces.{space_of};
 ghost use Rattle.sfc_plant.specs.Plants.{PlantData};
 ghost use Rattle.sfc_plant.specs.Spaces.{Space};
 ghost use Rattle.sfc_tables.specs.Tables.{Tabled, tables_of};
-ghost use Rattle.sfc_output.specs.Memories.{AllRight, AreRight, Fits, IsKept, IsRight, TasksRight, effects_text, plain_scan_text};
+ghost use Rattle.sfc_output.specs.Memories.{AllRight, AreRight, Fits, HasScans, HeadsRight, IsHead, IsKept, IsRight, TasksRight, effects_text, plain_scan_text};
+ghost use Rattle.sfc_output.specs.Names.{program_name};
 
 use crate::append::{append, append_number};
 use crate::effects::{Effects, Sets};
+use crate::kept_head::KeptHead;
 use crate::kept_text::KeptText;
 use sfc_base::ids::{ProgId, TaskId};
 use sfc_plant::names;
@@ -91,6 +93,7 @@ struct Kept {
     alloc: Global,
     left: usize,
     tasks: Vec<KeptText>,
+    heads: Vec<KeptHead>,
     programs: Vec<ProgramMemory>,
 }
 
@@ -116,6 +119,7 @@ impl Drop for Kept {
             alloc: _,
             left: _,
             tasks: _,
+            heads: _,
             programs: _,
         } = self;
     }
@@ -138,6 +142,7 @@ impl Kept {
     // Keeps what is written of scans of the tasks up to this one. The one error is that memory was refused.
     fn keep_tasks(&mut self, plant: &Plant, task: usize) -> Result<(), AllocError>
         ensures right { TasksRight plant.now self.old.tasks.items → TasksRight plant.now self.new.tasks.items }
+        ensures heads { self.new.heads ≡ self.old.heads }
         ensures programs { self.new.programs ≡ self.old.programs }
     {
         let alloc = self.alloc;
@@ -145,6 +150,34 @@ impl Kept {
             let text = text_of_scan(alloc, plant, self.tasks.len())?;
             self.tasks.push(text)?;
         }
+        Ok(())
+    }
+
+    // What is kept of the head of an instance, if it is that with this number of scans.
+    #[inline(always)]
+    fn head(&self, program: usize, scans: u64) -> Option<&KeptHead>
+        ensures scans { IfSome result (λ head. HasScans head.now scans) }
+        ensures right { (plant : PlantData) → HeadsRight plant self.now.heads.items →
+            IfSome result (λ head. IsHead (program_name plant (record { 0 = program })) head.now) }
+    {
+        if program < self.heads.len() && self.heads[program].has(scans) {
+            Some(&self.heads[program])
+        } else {
+            None
+        }
+    }
+
+    // Keeps the head of an instance. The one error is that memory was refused.
+    fn keep_head(&mut self, program: usize, head: KeptHead) -> Result<(), AllocError>
+        ensures tasks { self.new.tasks ≡ self.old.tasks }
+        ensures programs { self.new.programs ≡ self.old.programs }
+        ensures right { (plant : PlantData) → IsHead (program_name plant (record { 0 = program })) head →
+            HeadsRight plant self.old.heads.items → HeadsRight plant self.new.heads.items }
+    {
+        'heads: while self.heads.len() <= program {
+            self.heads.push(KeptHead::none())?;
+        }
+        self.heads[program] = head;
         Ok(())
     }
 
@@ -165,6 +198,7 @@ impl Kept {
     fn grow(&mut self, program: usize) -> Result<(), AllocError>
         ensures has { OnOk result (program < length self.new.programs.items) }
         ensures tasks { self.new.tasks ≡ self.old.tasks }
+        ensures heads { self.new.heads ≡ self.old.heads }
         ensures right { (space : ℕ → Space) (tables : ℕ → Tabled) → AllRight space tables self.old.programs.items →
             AllRight space tables self.new.programs.items }
     {
@@ -178,6 +212,7 @@ impl Kept {
     // Keeps what a scan of an instance did at this place, as long as there may be so many places. The one error is that memory was refused.
     fn keep(&mut self, at: (usize, usize), sets: &Sets<'_>, text: &[u8]) -> Result<(), AllocError>
         ensures tasks { self.new.tasks ≡ self.old.tasks }
+        ensures heads { self.new.heads ≡ self.old.heads }
         ensures right { (space : ℕ → Space) (tables : ℕ → Tabled) →
             text.now ≡ effects_text (space at.0) (tables at.0) sets.now.cleared.now sets.now.executed.now →
             AllRight space tables self.old.programs.items → AllRight space tables self.new.programs.items }
@@ -217,6 +252,7 @@ impl Memory {
                 alloc,
                 left: PLACES_IN_ALL,
                 tasks: Vec::new(alloc),
+                heads: Vec::new(alloc),
                 programs: Vec::new(alloc),
             }),
         }
@@ -248,6 +284,28 @@ impl Memory {
     {
         match &mut self.kept {
             Some(kept) => kept.keep_tasks(plant, task.0 as usize),
+            None => Ok(()),
+        }
+    }
+
+    /// What is kept of the head of an instance, if it is that with this number of scans.
+    #[inline(always)]
+    pub(crate) fn head(&self, instance: ProgId, scans: u64) -> Option<&KeptHead>
+        ensures scans { IfSome result (λ head. HasScans head.now scans) }
+        ensures right { (plant : PlantData) → Fits plant self.now → IfSome result (λ head. IsHead (program_name plant instance) head.now) }
+    {
+        match &self.kept {
+            Some(kept) => kept.head(instance.0 as usize, scans),
+            None => None,
+        }
+    }
+
+    /// Keeps the head of an instance. The one error is that memory was refused.
+    pub(crate) fn keep_head(&mut self, instance: ProgId, head: KeptHead) -> Result<(), AllocError>
+        ensures { (plant : PlantData) → IsHead (program_name plant instance) head → Fits plant self.old → Fits plant self.new }
+    {
+        match &mut self.kept {
+            Some(kept) => kept.keep_head(instance.0 as usize, head),
             None => Ok(()),
         }
     }

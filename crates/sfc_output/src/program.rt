@@ -1,6 +1,7 @@
 //! The line of a program after a scan.
 
-ghost use Rattle.std.specs.Prelude.{◌≡◌, ◌<◌, ◌+◌, ◌^◌, ◌++◌, List, codes, length, map, suc, IfOk, OnOk};
+ghost use Rattle.std.specs.Prelude.{◌≡◌, ◌<◌, ◌+◌, ◌^◌, ◌++◌, List, codes, length, map, suc, true, IfOk, OnOk};
+ghost use Rattle.sfc_instance.specs.Answers.{is_step_active};
 ghost use Rattle.sfc_flags.specs.Flags.{places_from};
 ghost use Rattle.sfc_plant.specs.InstanceSpaces.{space_of};
 ghost use Rattle.sfc_plant.specs.Spaces.{Space};
@@ -12,7 +13,7 @@ ghost use Rattle.sfc_output.specs.Memories.{Fits, effects_text};
 ghost use Rattle.sfc_output.specs.Names.{numbered_action, program_name};
 ghost use Rattle.sfc_output.specs.Programs as output;
 ghost use Rattle.sfc_output.specs.Private.ListParts.{separator};
-ghost use Rattle.sfc_output.specs.Private.Told.{told, done_text, fault_line, lacking, ran_text};
+ghost use Rattle.sfc_output.specs.Private.Told.{told, did_text, done_text, fault_line, lacking, ran_text};
 
 use crate::effects::Sets;
 use crate::line::Line;
@@ -24,7 +25,7 @@ use sfc_base::ids::ActionNumber;
 use sfc_base::references::StepId;
 use sfc_base::ticks::Ticks;
 use sfc_expr::fault::Fault;
-use sfc_flags::flags::Flags;
+use sfc_flags::sparse_flags::SparseFlags;
 use sfc_instance::program_view::ProgramView;
 use sfc_instance::scan_end::ScanEnd;
 use sfc_instance::scan_fault::ScanFault;
@@ -32,8 +33,8 @@ use sfc_plant::names::Names;
 use sfc_tables::tables::Tables;
 use std::alloc::AllocError;
 
-// Puts a step with its time, and before it what parts it from one before it; whether it is the first is told with it. It answers
-// the time.
+// Puts an active step with its time, and before it what parts it from one before it; whether it is the first is told with it. It
+// answers the time.
 #[tactic(auto, unfolding(crate::specs::Private::Told::timed_text))]
 #[inline(always)]
 fn put_step(
@@ -45,11 +46,12 @@ fn put_step(
 ) -> Result<i64, AllocError>
     requires { place.1.0 < length (tables_in view.now).initial }
     ensures { (changes : List Change) (instance_state : InstanceState) → Shows view.now changes instance_state →
+        is_step_active (tables_in view.now) instance_state place.1.0 ≡ true →
         OnOk result (told out.new.items line.new ≡ told out.old.items line.old
         ++ (separator place.0 ++ output.step_text names.now (tables_in view.now) instance_state place.1.0)) }
 {
     let (is_first, step) = place;
-    let elapsed = view.elapsed(step);
+    let elapsed = view.elapsed_of_active(step);
     line.put_timed(out, is_first, names.step(step), elapsed)?;
     Ok(elapsed)
 }
@@ -79,18 +81,17 @@ fn put_steps(
 {
     let _steps = view.tables().steps();
     let active = view.active_flags();
-    let mut ticks = Ticks::new();
-    let mut is_first = true;
+    let mut cursor = active.start();
     let mut from = 0;
     let mut steps = 0usize;
     let mut elapsed = 0;
-    'places: while let Some(s) = active.next_set(from, &mut ticks) {
-        elapsed = put_step(line, out, view, names, (is_first, StepId(s as u16)))?;
+    'places: while let Some((s, next)) = active.next(cursor) {
+        elapsed = put_step(line, out, view, names, (from == 0, StepId(s as u16)))?;
         steps = steps.wrapping_mul(8).wrapping_add(s);
-        is_first = false;
         from = s + 1;
+        cursor = next;
     }
-    put_end(line, out, is_first)?;
+    put_end(line, out, from == 0)?;
     Ok(place_of(steps, elapsed))
 }
 
@@ -104,7 +105,7 @@ fn number_of(transition: usize) -> u64
 
 // The numbers of the cleared transitions.
 #[inline(always)]
-fn put_cleared(line: &mut Line, out: &mut Vec<u8>, cleared: &Flags) -> Result<(), AllocError>
+fn put_cleared(line: &mut Line, out: &mut Vec<u8>, cleared: &SparseFlags) -> Result<(), AllocError>
     ensures { OnOk result (told out.new.items line.new ≡
         told out.old.items line.old ++ listed (map output.transition_text (places_from cleared.now 0))) }
 {
@@ -126,7 +127,7 @@ fn put_executed(
     out: &mut Vec<u8>,
     tables: &Tables,
     names: &Names<'_>,
-    executed: &Flags,
+    executed: &SparseFlags,
 ) -> Result<(), AllocError>
     requires { length executed.now ≡ length tables.now.actions }
     ensures { OnOk result (told out.new.items line.new ≡
@@ -226,6 +227,26 @@ fn fault_text(fault: Option<ScanFault>) -> &'static [u8]
     }
 }
 
+/// Puts what follows the head in the line of a program instance whose scan ran, or all but what the scan did; then it answers the place
+/// at which that is to be kept.
+#[inline(always)]
+pub(crate) fn put_steps_and_effects(
+    line: &mut Line,
+    out: &mut Vec<u8>,
+    memory: &Memory,
+    view: &ProgramView<'_>,
+) -> Result<Option<usize>, AllocError>
+    ensures { (changes : List Change) (instance_state : InstanceState) → Shows view.now changes instance_state →
+        Fits (plant_in view.now) memory.now → IfOk result (λ rest. told out.new.items line.new
+        ++ lacking rest (done_text (space_of (plant_in view.now) (instance_in view.now)) (tables_in view.now) instance_state)
+        ≡ told out.old.items line.old
+        ++ did_text (space_of (plant_in view.now) (instance_in view.now)) (tables_in view.now) instance_state) }
+{
+    let names = names_of(view.plant(), view.instance());
+    let place = put_steps(line, out, view, &names)?;
+    put_effects(line, out, memory, view, place)
+}
+
 // The line of a program instance of this name whose scan ran, or all but what the scan did, and the place at which that is to be kept.
 #[inline(always)]
 fn put_ran(
@@ -242,9 +263,7 @@ fn put_ran(
         ++ ran_text name.now (space_of (plant_in view.now) (instance_in view.now)) (tables_in view.now) instance_state) }
 {
     line.put_scans(out, name, view.scans())?;
-    let names = names_of(view.plant(), view.instance());
-    let place = put_steps(line, out, view, &names)?;
-    put_effects(line, out, memory, view, place)
+    put_steps_and_effects(line, out, memory, view)
 }
 
 // The line of a program instance whose scan ended with a fault, or was passed over for one.
@@ -267,11 +286,11 @@ fn put_fault(
     line.put(out, b"\n")
 }
 
-/// Puts the line of the program instance behind the line, as `append_program` does at the end, with what is kept of an earlier one; or
-/// all but what the scan did, where that isn't kept. Then it answers the place at which it is to be kept, and `put_done` puts it.
+// Puts the line of the program instance behind the line, as `append_program` does at the end, with what is kept of an earlier one; or
+// all but what the scan did, where that isn't kept. Then it answers the place at which it is to be kept, and `put_done` puts it.
 #[tactic(auto, using(crate::proofs::Done::ran_regrouped, crate::proofs::Done::faulted_regrouped, crate::proofs::Done::skipped_regrouped))]
 #[inline(always)]
-pub(crate) fn put_program(
+fn put_program(
     line: &mut Line,
     out: &mut Vec<u8>,
     memory: &Memory,

@@ -48,6 +48,10 @@ abbrev pub lacking : Option ℕ → List ℕ → List ℕ
 lacking None end = []
 lacking (Some place) end = end
 
+-- what follows the head in that line, where the scan ran: the steps, and what the scan did
+unfoldable pub did_text : Space → Tabled → InstanceState → List ℕ
+did_text space tables instance_state = listed (step_texts space tables instance_state) ++ done_text space tables instance_state
+
 -- the line of a program instance that stands so, whose scan ran, piece by piece
 unfoldable pub ran_text : List ℕ → Space → Tabled → InstanceState → List ℕ
 ran_text name space tables instance_state =

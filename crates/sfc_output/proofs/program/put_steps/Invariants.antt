@@ -1,4 +1,5 @@
-use Rattle.std.proofs.Common.{◌≡◌, ◌≤◌, ◌-◌, ◌++◌, List, length, map}
+use Rattle.std.proofs.Common.{◌≡◌, ◌≤◌, ◌-◌, ◌==◌, ◌++◌, List, length, map}
+use Rattle.sfc_flags.specs.Cursors.{StandsAt}
 use Rattle.sfc_flags.specs.Flags.{places_from}
 use Rattle.sfc_image.specs.Changes.{Change}
 use Rattle.sfc_instance.specs.Life.{InstanceState}
@@ -12,9 +13,10 @@ use Rattle.sfc_output.proofs.program.put_steps.Given as goal
 abbrev pub invariant-places : goal.invariant-places
 invariant-places l = record {
   within : l.from ≤ length l.active;
+  stands : StandsAt l.active l.from l.cursor;
   rest : (changes : List Change) (instance_state : InstanceState) → Shows l.view changes instance_state →
       told l.initial.out.items l.initial.line ++ listed (map (step_text l.names (tables_in l.view) instance_state) (places_from l.active 0))
-      ≡ told l.out.items l.line ++ continued l.is_first (map (step_text l.names (tables_in l.view) instance_state) (places_from l.active l.from));
+      ≡ told l.out.items l.line ++ continued (l.from == 0) (map (step_text l.names (tables_in l.view) instance_state) (places_from l.active l.from));
 }
 
 abbrev pub decreases-places : goal.decreases-places

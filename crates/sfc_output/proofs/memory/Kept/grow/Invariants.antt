@@ -9,6 +9,7 @@ invariant-programs l = record {
   right : (space : ℕ → Space) (tables : ℕ → Tabled) → AllRight space tables l.initial.self.programs.items →
       AllRight space tables l.self.programs.items;
   tasks : l.self.tasks ≡ l.initial.self.tasks;
+  heads : l.self.heads ≡ l.initial.self.heads;
 }
 
 abbrev pub decreases-programs : goal.decreases-programs

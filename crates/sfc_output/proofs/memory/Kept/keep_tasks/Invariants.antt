@@ -5,6 +5,7 @@ use Rattle.sfc_output.proofs.memory.Kept.keep_tasks.Given as goal
 abbrev pub invariant-tasks : goal.invariant-tasks
 invariant-tasks l = record {
   right : TasksRight l.plant l.initial.self.tasks.items → TasksRight l.plant l.self.tasks.items;
+  heads : l.self.heads ≡ l.initial.self.heads;
   programs : l.self.programs ≡ l.initial.self.programs;
 }
 

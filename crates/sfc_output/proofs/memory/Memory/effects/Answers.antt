@@ -12,4 +12,4 @@ unfolding Fits
 returns-in-Some c plant fits =
     let space : ℕ → Space = λ k. space_of plant (record { 0 = k }) in
     let tables : ℕ → Tabled = λ k. tables_of (chart_of plant (record { 0 = k })) in
-    c.at.ensures space tables (subst (λ (kept : Option Kept). AllRight space tables (programs_in kept)) c.in-Some.is fits.1)
+    c.at.ensures space tables (subst (λ (kept : Option Kept). AllRight space tables (programs_in kept)) c.in-Some.is fits.2)

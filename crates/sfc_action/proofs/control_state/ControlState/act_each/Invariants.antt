@@ -3,7 +3,7 @@ use Rattle.sfc_base.specs.Ticks.{Within}
 use Rattle.sfc_action.specs.Private.Keeping.{IsStateSized}
 use Rattle.sfc_flags.specs.Words.{AreDone}
 use Rattle.sfc_action.specs.Private.Rows.{state_row, state_row_after}
-use Rattle.sfc_action.proofs.control_state.ControlState.act_all.Given as goal
+use Rattle.sfc_action.proofs.control_state.ControlState.act_each.Given as goal
 
 abbrev pub invariant-loop-number : goal.invariant-loop-number
 invariant-loop-number l = record {
