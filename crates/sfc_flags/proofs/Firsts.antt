@@ -5,8 +5,8 @@ use Rattle.std.proofs.lemmas.List.{get_or_past}
 use Rattle.std.specs.Prelude.{Option, Some, None, IfSome}
 use Rattle.sfc_flags.specs.declared.word.Word.{Word}
 use Rattle.sfc_flags.specs.Flags.{flag, places_from}
-use Rattle.sfc_flags.specs.Words.{has, word_of}
-use Rattle.sfc_flags.specs.Private.Summaries.{AreBusy, IsBlank, IsFirst}
+use Rattle.sfc_flags.specs.Words.{IsBlank, has, word_of}
+use Rattle.sfc_flags.specs.Private.Summaries.{AreBusy, IsFirst}
 use Rattle.sfc_flags.proofs.Nexts.{next_place}
 use Rattle.sfc_flags.proofs.Summaries.{ShowsWord, spread}
 

@@ -9,5 +9,5 @@ pub mod Wordwise
 mod Summaries
 mod Summed
 mod Firsts
-mod Fewer
+pub mod Fewer
 mod Cursors

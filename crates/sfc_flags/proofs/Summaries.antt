@@ -6,8 +6,8 @@ use Rattle.std.specs.Int.{bit_at}
 use Rattle.std.proofs.lemmas.List.{get_or_past}
 use Rattle.sfc_flags.specs.declared.word.Word.{Word}
 use Rattle.sfc_flags.specs.Flags.{flag}
-use Rattle.sfc_flags.specs.Words.{has, word_of, word_count}
-use Rattle.sfc_flags.specs.Private.Summaries.{AreBusy, IsBlank}
+use Rattle.sfc_flags.specs.Words.{IsBlank, has, word_of, word_count}
+use Rattle.sfc_flags.specs.Private.Summaries.{AreBusy}
 
 -- the place within the word alone counts
 pub spread : (w : Word) (k place : ℕ) → has w (k * 64 + place % 64) ≡ has w place

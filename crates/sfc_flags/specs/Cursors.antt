@@ -1,9 +1,8 @@
 -- Where a walk over the set places of a table stands.
 use Rattle.std.specs.Prelude.{ℕ, ◌≡◌, ◌<◌, ◌≤◌, ◌*◌, ◌%◌, ◌⊎◌, Bool, true, false, List, length}
 use Rattle.sfc_flags.specs.Flags.{flag}
-use Rattle.sfc_flags.specs.Words.{has, word_of, word_count}
+use Rattle.sfc_flags.specs.Words.{IsBlank, has, word_of, word_count}
 use Rattle.sfc_flags.specs.declared.cursor.Cursor.{Cursor}
-use Rattle.sfc_flags.specs.Private.Summaries.{IsBlank}
 
 -- the set places from place `from` on are those that the cursor has in its own word, and those of the words behind it
 pub record IsBefore (flags : List Bool) (from : ℕ) (cursor : Cursor) : Type 0 where

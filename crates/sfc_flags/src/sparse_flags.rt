@@ -4,8 +4,8 @@ ghost use Rattle.std.specs.Prelude.{◌≡◌, ◌≢◌, ◌==◌, ◌<◌, ◌
 ghost use Rattle.sfc_base.specs.Ticks.{Within};
 ghost use Rattle.sfc_flags.specs.Cursors.{StandsAt};
 ghost use Rattle.sfc_flags.specs.Flags.{flag, places_from, places_passed};
-ghost use Rattle.sfc_flags.specs.Words.{has, word_count, word_of};
-ghost use Rattle.sfc_flags.specs.Private.Summaries.{AreBusy, IsBlank, IsFirst, IsSummary};
+ghost use Rattle.sfc_flags.specs.Words.{IsBlank, has, word_count, word_of};
+ghost use Rattle.sfc_flags.specs.Private.Summaries.{AreBusy, IsFirst, IsSummary};
 
 use crate::cursor::Cursor;
 use crate::flags::Flags;

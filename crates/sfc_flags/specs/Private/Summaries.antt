@@ -1,12 +1,8 @@
 -- Which words of a table have a flag, told in one word: the summary of a table.
 use Rattle.std.specs.Prelude.{ℕ, ◌≡◌, ◌<◌, ◌≤◌, ◌↔◌, Bool, true, false, List, length}
 use Rattle.sfc_flags.specs.Flags.{flag}
-use Rattle.sfc_flags.specs.Words.{has, word_of}
+use Rattle.sfc_flags.specs.Words.{IsBlank, has}
 use Rattle.sfc_flags.specs.declared.word.Word.{Word}
-
--- no place of this word has its flag
-abbrev pub IsBlank : List Bool → ℕ → Type 0
-IsBlank flags number = (place : ℕ) → word_of place ≡ number → flag flags place ≡ false
 
 -- of each of the first 64 words the summary tells whether it has a flag
 abbrev pub AreBusy : List Bool → Word → Type 0

@@ -8,8 +8,8 @@ use Rattle.sfc_instances.specs.Past.{tables_at}
 
 -- the program of instance k agrees with all that the other agrees with
 abbrev pub Takes : PlantData → ℕ → Program → Program → Type 0
-Takes plant k from to =
-    (instance_state : InstanceState) → ProgramAgrees (tables_at plant k) from instance_state → ProgramAgrees (tables_at plant k) to instance_state
+Takes plant k from to = (instance_state : InstanceState) →
+    ProgramAgrees (tables_at plant k) from instance_state → ProgramAgrees (tables_at plant k) to instance_state
 
 -- the first n of these
 abbrev pub AreTaken : PlantData → ℕ → List Program → List Program → Type 0

@@ -3,7 +3,8 @@ use Rattle.std.proofs.lemmas.Int.{to_z-of_z}
 use Rattle.std.proofs.lemmas.List.{length-set}
 use Rattle.sfc_flags.specs.Words.{has}
 use Rattle.sfc_evolve.specs.Private.Keeping.{number}
-use Rattle.sfc_evolve.proofs.Copied.{reached, keeps, take_one, fewer}
+use Rattle.sfc_flags.proofs.Fewer.{fewer}
+use Rattle.sfc_evolve.proofs.Copied.{reached, keeps, take_one}
 use Rattle.sfc_evolve.proofs.copying.copy_word.Goals as goal
 
 pub overflow_mul-s : goal.overflow_mul-s

@@ -1,6 +1,7 @@
 use Rattle.std.proofs.Common.{◌≡◌, ℕ, true, length}
 use Rattle.sfc_flags.specs.Words.{has}
-use Rattle.sfc_evolve.proofs.Copied.{taken, set_count}
+use Rattle.sfc_flags.proofs.Fewer.{set_count}
+use Rattle.sfc_evolve.proofs.Copied.{taken}
 use Rattle.sfc_evolve.proofs.copying.copy_word.Given as goal
 
 abbrev pub invariant-moved : goal.invariant-moved

@@ -5,7 +5,7 @@ use Rattle.std.proofs.lemmas.List.FromFn.{length-range_with_len, get_or-range_wi
 use Rattle.sfc_flags.specs.Words.{has}
 use Rattle.sfc_tables.specs.Departures.{first_steps, departures}
 use Rattle.sfc_evolve.specs.Private.Proposing.{proposed_by}
-use Rattle.sfc_evolve.proofs.Copied.{fewer}
+use Rattle.sfc_flags.proofs.Fewer.{fewer}
 use Rattle.sfc_evolve.proofs.Proposed.{share, share_left, share_sum, firsts_long, departures_below}
 use Rattle.sfc_evolve.proofs.Walked.{all_left, reached, next_below, next_is, left_next, none_left}
 use Rattle.sfc_evolve.proofs.proposing.propose_word.Goals as goal

@@ -5,7 +5,7 @@ use Rattle.sfc_flags.specs.Flags.{places_from}
 use Rattle.sfc_flags.specs.Words.{has}
 use Rattle.sfc_tables.specs.Departures.{first_steps}
 use Rattle.sfc_evolve.specs.Private.Proposing.{proposed_by}
-use Rattle.sfc_evolve.proofs.Copied.{set_count}
+use Rattle.sfc_flags.proofs.Fewer.{set_count}
 use Rattle.sfc_evolve.proofs.Proposed.{share}
 use Rattle.sfc_evolve.proofs.Walked.{IsLeft}
 use Rattle.sfc_evolve.proofs.proposing.propose_word.Given as goal
