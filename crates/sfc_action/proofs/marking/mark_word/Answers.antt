@@ -4,7 +4,7 @@ use Rattle.std.proofs.lemmas.List.Elements.{All-filter, filter_passes}
 use Rattle.sfc_tables.specs.declared.step_action.StepAction.{StepAction}
 use Rattle.sfc_flags.specs.Flags.{places_from}
 use Rattle.sfc_flags.specs.Words.{has}
-use Rattle.sfc_evolve.proofs.Copied.{fewer}
+use Rattle.sfc_flags.proofs.Fewer.{fewer}
 use Rattle.sfc_action.specs.ActionControl.{is_timed}
 use Rattle.sfc_action.specs.Agreement.{AreInputsOf}
 use Rattle.sfc_action.specs.Private.Marking.{AreSized, IsWithin, of_step, left, work_from, all_marked, all_presets, marked_at, presets_at}

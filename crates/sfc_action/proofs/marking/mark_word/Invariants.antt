@@ -1,7 +1,7 @@
 use Rattle.std.proofs.Common.{◌≡◌, ◌≤◌, ◌+◌, ◌*◌, ℕ, length}
 use Rattle.sfc_flags.specs.Flags.{places_from}
 use Rattle.sfc_flags.specs.Words.{has}
-use Rattle.sfc_evolve.proofs.Copied.{set_count}
+use Rattle.sfc_flags.proofs.Fewer.{set_count}
 use Rattle.sfc_action.specs.Private.Marking.{AreSized, marked_at, presets_at, work_from}
 use Rattle.sfc_action.proofs.Stepping.{AreLeft}
 use Rattle.sfc_action.proofs.marking.mark_word.Given as goal

@@ -1,6 +1,7 @@
 use Rattle.std.proofs.Common.{rules, ◌≡◌, ◌*◌, ◌+◌, ◌<◌, ◌%◌, ◌==◌, ◌&&◌, not, length, arith, ap, ◌∙◌}
 use Rattle.sfc_flags.specs.Words.{has}
-use Rattle.sfc_evolve.proofs.Copied.{reached, fewer}
+use Rattle.sfc_flags.proofs.Fewer.{fewer}
+use Rattle.sfc_evolve.proofs.Copied.{reached}
 use Rattle.sfc_action.proofs.waking.copy_word.Goals as goal
 
 pub live-smaller : goal.live-smaller

@@ -1,6 +1,6 @@
 use Rattle.std.proofs.Common.{◌≡◌, ℕ, true, false, length, get_or}
 use Rattle.sfc_flags.specs.Words.{has, word_of}
-use Rattle.sfc_evolve.proofs.Copied.{set_count}
+use Rattle.sfc_flags.proofs.Fewer.{set_count}
 use Rattle.sfc_action.specs.declared.blocks.Block.{Block}
 use Rattle.sfc_action.proofs.waking.copy_word.Given as goal
 
