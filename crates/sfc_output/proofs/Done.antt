@@ -14,8 +14,8 @@ use Rattle.sfc_instance.specs.declared.scan_end.ScanEnd.TheVariants.{Ran, Faulte
 use Rattle.sfc_output.specs.Lists.{listed}
 use Rattle.sfc_output.specs.Memories.{effects_text}
 use Rattle.sfc_output.specs.Names.{numbered_action, program_name}
-use Rattle.sfc_output.specs.Programs.{transition_text, cleared_texts, executed_texts, step_texts, program_line, fault_text}
-use Rattle.sfc_output.specs.Private.Told.{did_text, done_text, fault_line, lacking, ran_text, scans_text}
+use Rattle.sfc_output.specs.Programs.{transition_text, cleared_texts, executed_texts, step_texts, program_line, fault_text, scans_text}
+use Rattle.sfc_output.specs.Private.Told.{did_text, done_text, fault_line, lacking, ran_text}
 use Rattle.sfc_output.specs.Values.{line_end}
 use Rattle.sfc_output.proofs.Appended.{two_appended}
 use Rattle.sfc_output.proofs.Texts.{texts_all}

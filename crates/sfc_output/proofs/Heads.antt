@@ -6,7 +6,7 @@ use Rattle.std.proofs.lemmas.List.{length-append}
 use Rattle.std.proofs.Math.Seq.{set-append_seam}
 use Rattle.sfc_output.specs.declared.kept_head.KeptHead.{KeptHead}
 use Rattle.sfc_output.specs.Memories.{IsHead, text_in}
-use Rattle.sfc_output.specs.Private.Told.{scans_text}
+use Rattle.sfc_output.specs.Programs.{scans_text}
 
 -- the digits of a number, or none of zero
 abbrev digits_of : ℕ → List ℕ

@@ -15,8 +15,7 @@ use Rattle.sfc_output.specs.declared.memory.Memory.{Memory}
 use Rattle.sfc_output.specs.declared.memory.ProgramMemory.{ProgramMemory}
 use Rattle.sfc_output.specs.Lists.{listed}
 use Rattle.sfc_output.specs.Names.{numbered_action, program_name, task_name}
-use Rattle.sfc_output.specs.Private.Told.{scans_text}
-use Rattle.sfc_output.specs.Programs.{transition_text}
+use Rattle.sfc_output.specs.Programs.{scans_text, transition_text}
 use Rattle.sfc_output.specs.Values.{line_end}
 
 -- the end of the line of a program instance: the transitions that were cleared and the actions that were executed, as these sets have them

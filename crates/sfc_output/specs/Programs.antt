@@ -56,6 +56,10 @@ executed_texts space tables instance_state =
 abbrev pub program_head : PlantData → ProgId → List ℕ
 program_head plant p = codes "  " ++ program_name plant p
 
+-- what stands before the steps, where the scan ran: the name, how many scans the life has had, and the word before the steps
+unfoldable pub scans_text : List ℕ → ℕ → List ℕ
+scans_text name n = codes "  " ++ name ++ codes " " ++ decimal n ++ codes " steps "
+
 -- how many scans its life has had, its active steps, its cleared transitions and its executed actions
 abbrev pub scan_text : Space → Tabled → InstanceState → List ℕ
 scan_text space tables instance_state =

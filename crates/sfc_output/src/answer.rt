@@ -10,13 +10,12 @@ ghost use Rattle.sfc_core.specs.PlantState as plant_state;
 ghost use Rattle.sfc_debug.specs.Agreement.{Agrees, plant_of};
 ghost use Rattle.sfc_debug.specs.Histories.{CommandHistory};
 ghost use Rattle.sfc_debug.specs.States.{state_of};
-ghost use Rattle.sfc_output.specs.Commands.{command_line, lines_at, lines_of, program_lines, refusal_line, written_line};
+ghost use Rattle.sfc_output.specs.Commands.{command_line, lines_at, lines_of, program_lines, refusal_line};
 ghost use Rattle.sfc_output.specs.Memories.{Fits};
-ghost use Rattle.sfc_instance.specs.Answers.{scan_count};
 ghost use Rattle.sfc_instance.specs.declared.scan_end.ScanEnd.TheVariants.{Ran};
-ghost use Rattle.sfc_output.specs.Names.{program_name, task_name};
+ghost use Rattle.sfc_output.specs.Names.{task_name};
 ghost use Rattle.sfc_output.specs.Programs.{program_line};
-ghost use Rattle.sfc_output.specs.Private.Told.{told, done_text, scanned_line, scans_text};
+ghost use Rattle.sfc_output.specs.Private.Told.{told, done_text, head_text, scanned_line};
 ghost use Rattle.sfc_output.specs.Steered.{steered_by};
 
 use crate::command::{Accepted, append_refusal, put_command, put_scan, scan_end_in};
@@ -25,7 +24,7 @@ use crate::line::Line;
 use crate::memory::Memory;
 use crate::naming;
 use crate::page::Page;
-use crate::program::{append_program, put_done, put_steps_and_effects};
+use crate::program::{put_done, put_program, put_steps_and_effects};
 use sfc_base::ids::{ProgId, TaskId};
 use sfc_core::resource::Resource;
 use sfc_debug::debugger::Debugger;
@@ -67,8 +66,8 @@ fn put_new_head(
 ) -> Result<(), AllocError>
     requires { instance.0 < length (core.plant_of resource.now).instances }
     ensures line { (h : History) → core.Agrees resource.now h →
-        OnOk result (told out.new.items line.new ≡ told out.old.items line.old ++ scans_text (program_name (core.plant_of resource.now) instance)
-        (scan_count ((plant_state.state_of (core.plant_of resource.now) h).instance_state instance.0))) }
+        OnOk result (told out.new.items line.new ≡ told out.old.items line.old ++ head_text (core.plant_of resource.now) instance
+        ((plant_state.state_of (core.plant_of resource.now) h).instance_state instance.0)) }
     ensures fits { Fits (core.plant_of resource.now) memory.old → Fits (core.plant_of resource.now) memory.new }
 {
     let view = resource.program(instance);
@@ -93,8 +92,8 @@ fn put_head(
 ) -> Result<(), AllocError>
     requires { instance.0 < length (core.plant_of resource.now).instances }
     ensures line { (h : History) → core.Agrees resource.now h → Fits (core.plant_of resource.now) memory.old →
-        OnOk result (told out.new.items line.new ≡ told out.old.items line.old ++ scans_text (program_name (core.plant_of resource.now) instance)
-        (scan_count ((plant_state.state_of (core.plant_of resource.now) h).instance_state instance.0))) }
+        OnOk result (told out.new.items line.new ≡ told out.old.items line.old ++ head_text (core.plant_of resource.now) instance
+        ((plant_state.state_of (core.plant_of resource.now) h).instance_state instance.0)) }
     ensures fits { Fits (core.plant_of resource.now) memory.old → Fits (core.plant_of resource.now) memory.new }
 {
     let scans = resource.program(instance).scans();
@@ -127,7 +126,6 @@ fn put_ran(
 }
 
 // The line of an instance whose scan ended with a fault, or was passed over for one.
-#[tactic(auto, using(crate::proofs::Told::told_none))]
 #[cold]
 #[inline(never)]
 fn put_ended(
@@ -142,8 +140,7 @@ fn put_ended(
         OnOk result (told out.new.items line.new ≡ told out.old.items line.old ++ program_line (core.plant_of resource.now) instance
         ((plant_state.state_of (core.plant_of resource.now) h).instance_state instance.0) scan_end) }
 {
-    line.pass_on(out)?;
-    append_program(out, &resource.program(instance), scan_end)
+    put_program(line, out, &resource.program(instance), scan_end)
 }
 
 // A line for each instance that the answer tells of.

@@ -201,9 +201,10 @@ fn put_any(
     line.put(out, b"\n")
 }
 
-// The line of a scan that hit no breakpoint.
+// The line of a scan that hit no breakpoint. Most have no overruns, and what is written of those is kept.
 #[tactic(auto, using(crate::proofs::Told::scanned_regrouped))]
-#[inline(always)]
+#[cold]
+#[inline(never)]
 pub(crate) fn put_scan(
     line: &mut Line,
     out: &mut Vec<u8>,

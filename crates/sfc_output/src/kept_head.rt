@@ -20,7 +20,8 @@ const BEHIND: usize = 8;
 
 impl KeptHead {
     ghost use Rattle.sfc_output.specs.Memories.{HasScans, IsHead};
-    ghost use Rattle.sfc_output.specs.Private.Told.{told, scans_text};
+    ghost use Rattle.sfc_output.specs.Programs.{scans_text};
+    ghost use Rattle.sfc_output.specs.Private.Told.{told};
 
     /// Nothing.
     pub fn none() -> KeptHead

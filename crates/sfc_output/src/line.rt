@@ -4,7 +4,8 @@ ghost use Rattle.std.specs.Prelude.{◌≡◌, ◌+◌, ◌<◌, ◌≤◌, ◌+
 ghost use Rattle.std.specs.Fmt.{decimal};
 ghost use Rattle.sfc_base.specs.TimeText as text;
 ghost use Rattle.sfc_output.specs.Private.ListParts.{separator};
-ghost use Rattle.sfc_output.specs.Private.Told.{told, scans_text, timed_text, scanned_text};
+ghost use Rattle.sfc_output.specs.Programs.{scans_text};
+ghost use Rattle.sfc_output.specs.Private.Told.{told, timed_text, scanned_text};
 
 use crate::append::{append, append_number, append_time};
 use crate::pieces;
@@ -345,7 +346,7 @@ impl Line {
     }
 
     // The head of the line of a program instance, which has room.
-    #[tactic(auto, unfolding(crate::specs::Private::Told::scans_text))]
+    #[tactic(auto, unfolding(crate::specs::Programs::scans_text))]
     #[inline(always)]
     fn push_scans(&mut self, name: &[u8], scans: u32)
         requires short { scans < 1000000 }
@@ -360,7 +361,7 @@ impl Line {
     }
 
     // The same of what may have no room.
-    #[tactic(auto, unfolding(crate::specs::Private::Told::scans_text))]
+    #[tactic(auto, unfolding(crate::specs::Programs::scans_text))]
     #[cold]
     #[inline(never)]
     fn put_long_scans(

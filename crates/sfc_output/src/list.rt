@@ -9,7 +9,7 @@ use std::alloc::AllocError;
 
 /// The end of a list: a dash where it is empty. The one error is that memory was refused; then a front of it may
 /// stand there.
-#[inline(always)]
+#[inline]
 pub fn put_end(line: &mut Line, out: &mut Vec<u8>, is_empty: bool) -> Result<(), AllocError>
     ensures { OnOk result (told out.new.items line.new ≡ told out.old.items line.old ++ continued is_empty []) }
 {

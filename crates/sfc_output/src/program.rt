@@ -61,7 +61,7 @@ const PLACES: usize = 2048;
 
 // The place at which it is kept what a scan did, by a number that stands for the active steps, and whether the last of them has just been
 // activated.
-#[inline(always)]
+#[inline]
 fn place_of(steps: usize, elapsed: i64) -> usize {
     let age = if elapsed == 0 { 1 } else { 0 };
     (steps % (PLACES / 2)) * 2 + age
@@ -247,23 +247,22 @@ pub(crate) fn put_steps_and_effects(
     put_effects(line, out, memory, view, place)
 }
 
-// The line of a program instance of this name whose scan ran, or all but what the scan did, and the place at which that is to be kept.
-#[inline(always)]
-fn put_ran(
+// The line of a program instance of this name whose scan ran, with nothing kept.
+fn put_new_ran(
     line: &mut Line,
     out: &mut Vec<u8>,
-    memory: &Memory,
     view: &ProgramView<'_>,
     name: &[u8],
-) -> Result<Option<usize>, AllocError>
+) -> Result<(), AllocError>
     ensures { (changes : List Change) (instance_state : InstanceState) → Shows view.now changes instance_state →
-        Fits (plant_in view.now) memory.now → IfOk result (λ rest. told out.new.items line.new
-        ++ lacking rest (done_text (space_of (plant_in view.now) (instance_in view.now)) (tables_in view.now) instance_state)
-        ≡ told out.old.items line.old
+        OnOk result (told out.new.items line.new ≡ told out.old.items line.old
         ++ ran_text name.now (space_of (plant_in view.now) (instance_in view.now)) (tables_in view.now) instance_state) }
 {
+    let names = names_of(view.plant(), view.instance());
+    let sets = sets_of(view);
     line.put_scans(out, name, view.scans())?;
-    put_steps_and_effects(line, out, memory, view)
+    put_steps(line, out, view, &names)?;
+    put_sets(line, out, view.tables(), &names, &sets)
 }
 
 // The line of a program instance whose scan ended with a fault, or was passed over for one.
@@ -286,29 +285,25 @@ fn put_fault(
     line.put(out, b"\n")
 }
 
-// Puts the line of the program instance behind the line, as `append_program` does at the end, with what is kept of an earlier one; or
-// all but what the scan did, where that isn't kept. Then it answers the place at which it is to be kept, and `put_done` puts it.
+/// Puts the line of the program instance behind the line, as `append_program` does at the end, with nothing kept. The one error is that
+/// memory was refused; then a front of it may stand there.
 #[tactic(auto, using(crate::proofs::Done::ran_regrouped, crate::proofs::Done::faulted_regrouped, crate::proofs::Done::skipped_regrouped))]
-#[inline(always)]
-fn put_program(
+pub(crate) fn put_program(
     line: &mut Line,
     out: &mut Vec<u8>,
-    memory: &Memory,
     view: &ProgramView<'_>,
     scan_end: ScanEnd,
-) -> Result<Option<usize>, AllocError>
+) -> Result<(), AllocError>
     ensures { (changes : List Change) (instance_state : InstanceState) → Shows view.now changes instance_state →
-        Fits (plant_in view.now) memory.now → IfOk result (λ rest. told out.new.items line.new
-        ++ lacking rest (done_text (space_of (plant_in view.now) (instance_in view.now)) (tables_in view.now) instance_state)
-        ≡ told out.old.items line.old ++ output.program_line (plant_in view.now) (instance_in view.now) instance_state scan_end) }
+        OnOk result (told out.new.items line.new ≡ told out.old.items line.old
+        ++ output.program_line (plant_in view.now) (instance_in view.now) instance_state scan_end) }
 {
     let name = program_name(view.plant(), view.instance());
     match scan_end {
-        ScanEnd::Ran => return put_ran(line, out, memory, view, name),
-        ScanEnd::Faulted => put_fault(line, out, name, b" fault ", view.fault())?,
-        ScanEnd::Skipped => put_fault(line, out, name, b" skipped ", view.fault())?,
+        ScanEnd::Ran => put_new_ran(line, out, view, name),
+        ScanEnd::Faulted => put_fault(line, out, name, b" fault ", view.fault()),
+        ScanEnd::Skipped => put_fault(line, out, name, b" skipped ", view.fault()),
     }
-    Ok(None)
 }
 
 /// Puts what a scan of the program instance did behind the line, to its end, and keeps it at this place. The one error is that memory
@@ -336,25 +331,6 @@ pub(crate) fn put_done(
     memory.keep((view.instance(), place), &sets, line.behind(held))
 }
 
-// Puts what is lacking of the line.
-#[tactic(auto, unfolding(crate::specs::Private::Told::lacking))]
-fn put_rest(
-    line: &mut Line,
-    out: &mut Vec<u8>,
-    memory: &mut Memory,
-    view: &ProgramView<'_>,
-    rest: Option<usize>,
-) -> Result<(), AllocError>
-    ensures { (changes : List Change) (instance_state : InstanceState) → Shows view.now changes instance_state →
-        OnOk result (told out.new.items line.new ≡ told out.old.items line.old
-        ++ lacking rest (done_text (space_of (plant_in view.now) (instance_in view.now)) (tables_in view.now) instance_state)) }
-{
-    match rest {
-        Some(place) => put_done(line, out, memory, view, place),
-        None => Ok(()),
-    }
-}
-
 /// Puts the line of the program instance at the end, whose scan ended so: what it did, or the fault that ended it or an
 /// earlier one. The one error is that memory was refused; then a front of it may stand there.
 #[tactic(auto, using(crate::proofs::Told::told_none))]
@@ -367,8 +343,6 @@ pub fn append_program(
         OnOk result (out.new.items ≡ out.old.items ++ output.program_line (plant_in view.now) (instance_in view.now) instance_state scan_end) }
 {
     let mut line = Line::new();
-    let mut memory = Memory::none();
-    let rest = put_program(&mut line, out, &memory, view, scan_end)?;
-    put_rest(&mut line, out, &mut memory, view, rest)?;
+    put_program(&mut line, out, view, scan_end)?;
     line.pass_on(out)
 }

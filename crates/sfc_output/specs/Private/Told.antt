@@ -1,15 +1,18 @@
 -- What stands at the end of a buffer and in a line behind it.
 use Rattle.std.specs.Prelude.{ℕ, ℤ, List, [], ◌++◌, ◌/◌, ◌%◌, ◌==◌, codes, Option, None, Some}
 use Rattle.std.specs.Fmt.{decimal}
+use Rattle.sfc_base.specs.declared.ids.ProgId.{ProgId}
 use Rattle.sfc_base.specs.declared.unit.Unit.TheVariants.{Second}
 use Rattle.sfc_base.specs.TimeText.{milliseconds_text, part_text, time_text}
 use Rattle.sfc_tables.specs.Tables.{Tabled}
+use Rattle.sfc_plant.specs.Plants.{PlantData}
 use Rattle.sfc_plant.specs.Spaces.{Space}
 use Rattle.sfc_instance.specs.Life.{InstanceState}
 use Rattle.sfc_output.specs.Lists.{listed}
 use Rattle.sfc_instance.specs.Answers.{scan_count}
 use Rattle.sfc_instance.specs.declared.scan_fault.ScanFault.{ScanFault}
-use Rattle.sfc_output.specs.Programs.{cleared_texts, executed_texts, step_texts, fault_text}
+use Rattle.sfc_output.specs.Names.{program_name}
+use Rattle.sfc_output.specs.Programs.{cleared_texts, executed_texts, step_texts, fault_text, scans_text}
 use Rattle.sfc_output.specs.Values.{line_end}
 
 unfoldable pub told : List ℕ → List ℕ → List ℕ
@@ -19,9 +22,9 @@ told items line = items ++ line
 unfoldable pub seconds_text : ℕ → List ℕ
 seconds_text v = part_text (v / 1000000) Second (v % 1000000 == 0) ++ milliseconds_text (v % 1000000)
 
--- the head of the line of a program instance: its name, how many scans its life has had, and the word before the steps
-unfoldable pub scans_text : List ℕ → ℕ → List ℕ
-scans_text name n = codes "  " ++ name ++ codes " " ++ decimal n ++ codes " steps "
+-- the head of the line of a program instance that stands so
+abbrev pub head_text : PlantData → ProgId → InstanceState → List ℕ
+head_text plant p instance_state = scans_text (program_name plant p) (scan_count instance_state)
 
 -- a name and a time
 unfoldable pub timed_text : List ℕ → ℤ → List ℕ

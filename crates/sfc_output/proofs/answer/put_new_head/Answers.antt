@@ -2,7 +2,7 @@ use Rattle.std.proofs.Common.{◌≡◌, ◌∙◌, ℕ, List, drop, ap, arith}
 use Rattle.sfc_plant.specs.Plants.{PlantData}
 use Rattle.sfc_core.specs.Agreement.{plant_of}
 use Rattle.sfc_output.specs.Names.{program_name}
-use Rattle.sfc_output.specs.Private.Told.{scans_text}
+use Rattle.sfc_output.specs.Programs.{scans_text}
 use Rattle.sfc_output.proofs.Told.{put_behind}
 use Rattle.sfc_output.proofs.answer.put_new_head.Goals as goal
 

@@ -1,5 +1,5 @@
 use Rattle.std.proofs.Common.{◌≡◌, ◌++◌, ◌∙◌, List, ℕ, ap, sym, codes}
-use Rattle.std.proofs.lemmas.List.{append-nil}
+use Rattle.std.proofs.lemmas.Result.{on_ok_weaker}
 use Rattle.sfc_instance.specs.Views.{plant_in, instance_in}
 use Rattle.sfc_instance.specs.declared.scan_end.ScanEnd.{ScanEnd}
 use Rattle.sfc_output.specs.Names.{program_name}
@@ -8,28 +8,30 @@ use Rattle.sfc_output.specs.Private.Told.{told, fault_line}
 use Rattle.sfc_output.proofs.Done.{faulted_regrouped, skipped_regrouped}
 use Rattle.sfc_output.proofs.program.put_program.Goals as goal
 
-pub returns-in_ok-put_fault-in-Faulted : goal.returns-in_ok-put_fault-in-Faulted
-returns-in_ok-put_fault-in-Faulted c changes instance_state shows fits =
+pub returns-in-Faulted : goal.returns-in-Faulted
+returns-in-Faulted c changes instance_state shows =
     let plant = plant_in c.args.view.now in
     let p = instance_in c.args.view.now in
     let old = told c.args.out.now.items c.args.line.now in
     let name : c.program_name-name.result.now ≡ program_name plant p =
     c.program_name-name.ensures ∙ (λ i. program_name (c.plant.ensures i) (c.instance.ensures.value i)) in
     let fault = c.fault.ensures changes instance_state shows in
-    append-nil (told c.put_fault.new.out.items c.put_fault.new.line) ∙ c.in_ok-put_fault-in-Faulted.ensures
-    ∙ (λ i. old ++ fault_line (name i) (codes " fault ") (fault i))
+    on_ok_weaker c.put_fault.result
+    (λ e. e ∙ (λ i. old ++ fault_line (name i) (codes " fault ") (fault i))
     ∙ ap (λ (xs : List ℕ). old ++ xs) (faulted_regrouped plant p instance_state)
-    ∙ ap (λ (e : ScanEnd). old ++ program_line plant p instance_state e) (sym c.in-Faulted.is)
+    ∙ ap (λ (how : ScanEnd). old ++ program_line plant p instance_state how) (sym c.in-Faulted.is))
+    c.put_fault.ensures
 
-pub returns-in_ok-put_fault-in-Skipped : goal.returns-in_ok-put_fault-in-Skipped
-returns-in_ok-put_fault-in-Skipped c changes instance_state shows fits =
+pub returns-in-Skipped : goal.returns-in-Skipped
+returns-in-Skipped c changes instance_state shows =
     let plant = plant_in c.args.view.now in
     let p = instance_in c.args.view.now in
     let old = told c.args.out.now.items c.args.line.now in
     let name : c.program_name-name.result.now ≡ program_name plant p =
     c.program_name-name.ensures ∙ (λ i. program_name (c.plant.ensures i) (c.instance.ensures.value i)) in
     let fault = c.fault-in-Skipped.ensures changes instance_state shows in
-    append-nil (told c.put_fault-in-Skipped.new.out.items c.put_fault-in-Skipped.new.line) ∙ c.in_ok-put_fault-in-Skipped.ensures
-    ∙ (λ i. old ++ fault_line (name i) (codes " skipped ") (fault i))
+    on_ok_weaker c.put_fault-in-Skipped.result
+    (λ e. e ∙ (λ i. old ++ fault_line (name i) (codes " skipped ") (fault i))
     ∙ ap (λ (xs : List ℕ). old ++ xs) (skipped_regrouped plant p instance_state)
-    ∙ ap (λ (e : ScanEnd). old ++ program_line plant p instance_state e) (sym c.in-Skipped.is)
+    ∙ ap (λ (how : ScanEnd). old ++ program_line plant p instance_state how) (sym c.in-Skipped.is))
+    c.put_fault-in-Skipped.ensures
