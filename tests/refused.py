@@ -190,7 +190,7 @@ def try_commands(runs: Runs):
 def try_memory(runs: Runs):
     """Drawings, a waveform, what is never reached, and sessions by hand: each allocation is refused."""
     chart, script, late = EXAMPLES / "mixing.chart", EXAMPLES / "mixing.script", EXAMPLES / "late_dose.chart"
-    typed = late.with_suffix(".script").read_bytes() + b"IMAGE\nUNTIL FALSE\n"
+    typed = late.with_suffix(".script").read_bytes() + b"IMAGE\nAGAIN 20\n"
     for words, given in ((["draw", chart], b""), (["draw", "--after", script, chart], b""), (["wave", chart, script], b""),
                          (["cover", chart, script], b""), (["debug", chart], script.read_bytes()), (["debug", late], typed)):
         calm = runs.run(words, "", given)
