@@ -18,7 +18,7 @@ DATA = TOP / "crates/conformance/data"
 PATIENCE = 60
 CALM = 100
 MOST = 20_000
-MARK = "tests/refused.sh refuses each allocation"
+MARK = "`?tests/refused.sh`? refuses each allocation"
 SWEPT = ["openings::the_opening_of_no_event_begins_anew", "debugger::a_debugger_is_interrupted_once",
          "crews::a_worker_keeps_the_receipts_of_twenty_scans", "crews::a_crew_of_one_keeps_the_receipts_of_twenty_scans"]
 RETRIED = "retries::the_same_source_and_plant_are_right_once_there_is_memory"
