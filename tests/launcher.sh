@@ -1,10 +1,10 @@
 #!/usr/bin/env bash
-# launcher.sh [quick|full]: ./sfcmon in a clone of its own, whose name has a blank and which git doesn't know. First with a stand-in for the
-# kit (tests/launcher/kit.sh), whose build is the program that is tested, within seconds: what a start costs, input, terminal, files, output
-# and status, which of the two programs is run after a change, and each way in which a build can fail or be cut off. In full then with the
-# kit itself: what the first answer takes, and a changed source behind a kept build; some minutes. What wants a mount is tried by root alone.
-# SFCMON, where it is set, is the program that is built by the stand-in; else it is the proved one of this clone. The last line is
-# 'N passed, M failed'.
+# launcher.sh [quick|full]: ./sfcmon in a clone of its own, whose name has a blank and which git doesn't know. First with a stand-in for
+# the kit (tests/launcher/kit.sh), whose build is the program that is tested, within a minute: what a start costs, input, terminal, files,
+# output and status, which of the two programs is run after a change, and each way in which a build can fail or be cut off. In full, which
+# is meant where nothing is said, then with the kit itself: what the first answer takes, and a changed source behind a kept build; some
+# minutes. What wants a mount is tried by root alone. SFCMON, where it is set, is the program that is built by the stand-in; else it is the
+# proved one of this clone. The last line is 'N passed, M failed'.
 # shellcheck disable=SC2016,SC2030,SC2031  # texts for another shell; a path in a room of its own
 set -u
 # shellcheck source=tests/common.sh
@@ -42,8 +42,8 @@ replay() { run replay "$lamp.chart" "$lamp.script"; }
 copy_clone() {
   mkdir -p "$clone"
   if [ -e "$top/.git" ]; then
-    (cd "$top" && git ls-files -z --cached --others --exclude-standard | xargs -0 sh -c 'for f; do [ -f "$f" ] && printf "%s\0" "$f"; done' _) \
-      | (cd "$top" && xargs -0 cp --parents -t "$clone")
+    (cd "$top" && git ls-files -z --cached --others --exclude-standard \
+      | xargs -0 sh -c 'for f; do if [ -f "$f" ]; then printf "%s\0" "$f"; fi; done' _ | xargs -0 cp --parents -t "$clone")
   else
     (cd "$top" && tar -c --exclude=./build --exclude=out --exclude=./.git .) | tar -x -C "$clone"
   fi
@@ -78,11 +78,13 @@ try_time() {
 }
 
 try_terminal() {
-  python3 "$top/tests/prompt.py" "$clone/sfcmon" "$lamp.chart" "$work" >"$work/told"; add_counts "$work/told"; note $? "sessions of debug"
+  python3 "$top/tests/prompt.py" "$clone/sfcmon" "$lamp.chart" "$work" >"$work/told"
+  add_counts "$work/told"; note $? "sessions of debug"
   sed 's/INTERVAL := T#10ms/SINGLE := Lamp/' "$lamp.chart" >"$work/never.chart"
-  python3 "$top/tests/terminal.py" "$clone/sfcmon" "$work/never.chart" >"$work/told"; add_counts "$work/told"; note $? "sessions of run"
-  printf 'QUIT\n' | TERM=dumb timeout 20 script -qec "'$clone/sfcmon' debug '$top/examples/mixing.chart'" /dev/null >"$work/out" 2>"$work/err"
-  status=$?
+  python3 "$top/tests/terminal.py" "$clone/sfcmon" "$work/never.chart" >"$work/told"
+  add_counts "$work/told"; note $? "sessions of run"
+  echo QUIT >"$work/typed"
+  at_terminal debug "$top/examples/mixing.chart" <"$work/typed"
   ends 0 && grep -q '^sfc> ' "$work/out"; note $? "the mixing station at a prompt"
   printf 'STOP\n' | "$clone/sfcmon" run "$work/never.chart" >"$work/out" 2>"$work/err"
   status=$?
@@ -146,12 +148,16 @@ source_file="$clone/crates/sfcmon/src/main.rt"
 change() { touch -r "$source_file" "$work/times" && sed -i '1s/./X/' "$source_file" && touch -r "$work/times" "$source_file"; }
 restore() { cp "$top/crates/sfcmon/src/main.rt" "$source_file"; }
 
+# without_kit: no rt is on the path from now on; 1 where it would still be
+without_kit() { PATH=/usr/bin:/bin; ! type -P rt >"$work/which"; }
+
 try_changes() {
   local kept
   does refuse
   change
   replay
-  ends 70 && is_silent && mentions "mismatched types" && ! mentions "run=none" && asked 1; note $? "a source that changed, with its size and its times kept"
+  ends 70 && is_silent && mentions "mismatched types" && ! mentions "run=none" && asked 1
+  note $? "a source that changed, with its size and its times kept"
   restore
   replay
   is_lamp && says "" && asked 1; note $? "a source that is as it was is built already"
@@ -168,7 +174,7 @@ try_changes() {
   replay
   is_lamp && says "" && asked 0; note $? "a crate that the program doesn't stand on"
   cp "$top/crates.txt" "$clone/crates.txt"
-  (PATH=/usr/bin:/bin; ! type -P rt >"$work/which" || exit 0; replay; is_lamp && says ""); note $? "a kept build, and no kit"
+  (without_kit || exit 0; replay; is_lamp && says ""); note $? "a kept build, and no kit"
 }
 
 try_proved() {
@@ -229,7 +235,15 @@ try_bad_kits() {
   ends 1 && grep -qF "$work/bad.chart:1" "$work/out"; note $? "a first look names the file"
   mv "$work/clang" "$kit/toolchain/bin/clang"
   forget
-  (PATH=/usr/bin:/bin; ! type -P rt >"$work/which" || exit 0; replay; ends 69 && is_silent && mentions "isn't on the path"); note $? "no kit"
+  (without_kit || exit 0; replay; ends 69 && is_silent && mentions "isn't on the path"); note $? "no kit"
+}
+
+# at_terminal WORD..: the launcher with these words at a terminal of its own, where the input is typed
+at_terminal() {
+  local words
+  printf -v words '%q ' "$clone/sfcmon" "$@"
+  TERM=dumb timeout 20 script -qec "$words" /dev/null >"$work/out" 2>"$work/err"
+  status=$?
 }
 
 # cut_off SIGNAL: a build that gets it after a second; all that it started ends
@@ -256,8 +270,12 @@ try_cut_off() {
   is_lamp && leaves_nothing; note $? "the next build clears away what it left"
   forget
   does hang
-  printf '\003' | (sleep 1.5; cat; sleep 1) | timeout 20 script -qec "'$clone/sfcmon' check '$lamp.chart'" /dev/null >"$work/out" 2>"$work/err"
+  printf '\003' | (sleep 1.5; cat; sleep 1) | at_terminal check "$lamp.chart"
   leaves_nothing && ! [ -e "$clone/build/unproved/latest" ]; note $? "Ctrl-C ends a build"
+  does slow
+  at_terminal check "$lamp.chart" <"$work/none"
+  ends 0 && [ "$(tr -d '\r' <"$work/out" | wc -l)" = 2 ] && grep -qE $'\r\033\\[Ksfcmon: .* [0-9]+ s of some .*\r\033\\[K' "$work/out"
+  note $? "at a terminal the line of progress is rewritten, and then goes"
 }
 
 try_two() {
@@ -280,16 +298,20 @@ with_mount() {
 
 try_mounts() {
   forget
-  if ! unshare -m true 2>"$work/told"; then echo "no disk and a clone that can't be written: not tried, since nothing can be mounted here"; return; fi
+  if ! unshare -m true 2>"$work/told"; then
+    echo "not tried, since nothing can be mounted here: no disk, and a clone that can't be written"
+    return
+  fi
   mkdir -p "$clone/build"
   does ''
   with_mount 'mount -t tmpfs -o size=1m none "$1/build" && exec "$1/sfcmon" check "$2.chart"'
   ends 70 && is_silent && mentions "no space left"; note $? "no space for a build"
-  with_mount 'mount -t tmpfs -o size=8k none "$1/build" && { cat /dev/zero >"$1/build/all" 2>/dev/null; exec "$1/sfcmon" check "$2.chart"; }'
+  with_mount 'mount -t tmpfs -o size=8k none "$1/build"; cat /dev/zero >"$1/build/all" 2>/dev/null; exec "$1/sfcmon" check "$2.chart"'
   ends 70 && is_silent && mentions "no space left"; note $? "no space at all"
   forget
-  with_mount 'mount --bind "$1" "$1" && mount -o remount,bind,ro "$1" && "$1/sfcmon" check "$2.chart" && exec "$1/sfcmon" check "$2.chart"'
-  ends 0 && [ "$(cat "$work/out")" = $'ok\nok' ] && mentions "is kept in $XDG_CACHE_HOME/sfcmon" && asked 1; note $? "a clone that can't be written"
+  with_mount 'mount --bind "$1" "$1" && mount -o remount,bind,ro "$1" && "$1/sfcmon" check "$2.chart" && "$1/sfcmon" check "$2.chart"'
+  ends 0 && [ "$(cat "$work/out")" = $'ok\nok' ] && mentions "is kept in $XDG_CACHE_HOME/sfcmon" && asked 1
+  note $? "a clone that can't be written"
   forget
   does hide
   with_mount 'mount --bind "$1" "$1" && mount -o remount,bind,ro "$1" && XDG_CACHE_HOME=/proc/none exec "$1/sfcmon" check "$2.chart"'
@@ -337,6 +359,7 @@ quick() {
   export PATH=$own_path
 }
 
+: >"$work/none"
 copy_clone
 quick
 if [ "${1:-full}" = full ]; then try_kit; fi
