@@ -63,19 +63,21 @@ try_builds() {
   [ "$(stat -c %s "$("$clone/tools/unproved" --quiet --module)")" = 200000 ]; note $? "tools/unproved --module prints that of the module"
 }
 
-# How long a start takes: the least of twenty, in microseconds.
+# How long a start takes: the least of twenty, in milliseconds. Where the machine is busy with more than it has processors for, what counts
+# is the time of a processor.
 try_time() {
-  local least=9999999 begin took i
+  local least=9999 busy=9999 i took TIMEFORMAT='%R %U %S'
   for ((i = 0; i < 20; i++)); do
-    begin=${EPOCHREALTIME/./}
-    replay
-    took=$((${EPOCHREALTIME/./} - begin))
-    is_lamp || least=9999999
-    if ((took < least)); then least=$took; fi
+    { time replay; } 2>"$work/time"
+    read -r -a took <"$work/time"
+    took=("${took[@]/./}")
+    if is_lamp && ((10#${took[0]} < least)); then least=$((10#${took[0]})); fi
+    if ((10#${took[1]} + 10#${took[2]} < busy)); then busy=$((10#${took[1]} + 10#${took[2]})); fi
   done
-  echo "a start and the replay of the lamp take $((least / 1000)) ms"
-  ((least <= 100000)); note $? "a start takes no more than 100 ms"
+  echo "a start and the replay of the lamp take $least ms, and $busy ms of a processor"
+  ((least <= 100)) || { ((busy <= 100)) && is_busy; }; note $? "a start takes no more than 100 ms"
 }
+is_busy() { awk -v most="$(nproc)" '{ exit !($1 > most) }' /proc/loadavg; }
 
 try_terminal() {
   python3 "$top/tests/prompt.py" "$clone/sfcmon" "$lamp.chart" "$work" >"$work/told"
