@@ -219,6 +219,7 @@ try_bad_kits() {
   forget
   does die; fails "a compiler that is killed" 70 "the kit's compiler was killed"
   does starve; fails "a compiler without memory" 70 "there isn't enough memory"
+  does fall; fails "a clang that is killed" 70 "there isn't enough memory"
   does refuse; fails "sources that aren't compiled" 70 "the kit's compiler refuses the sources"
   does ''
   mv "$kit/bin/rattle-link" "$kit/bin/link-rattle"; fails "a kit without a linker" 70 "the kit's linker failed"
