@@ -34,7 +34,8 @@ asked() { [ "$(grep -c '^try' "$kit/asked")" = "$1" ]; }
 # does WHAT: from now on; what rt was asked is forgotten
 does() { echo "$1" >"$kit/does"; : >"$kit/asked"; }
 # leaves_nothing: no half-done build and no process of one
-leaves_nothing() { [ -z "$(find "$work" -name 'new.*' -print -quit)" ] && ! pgrep -f "$work/.*/new\." >"$work/left"; }
+leaves_nothing() { [ -z "$(find "$work" -name 'new.*' -print -quit)" ] && leaves_no_process; }
+leaves_no_process() { ! grep -lsa "$work/.*/[n]ew\." /proc/[0-9]*/cmdline >"$work/left"; }
 forget() { rm -rf "$clone/build" "$XDG_CACHE_HOME"; }
 replay() { run replay "$lamp.chart" "$lamp.script"; }
 
@@ -259,7 +260,7 @@ cut_off() {
   kill "-$1" "$child"
   wait "$child" 2>"$work/told"
   sleep 1
-  ! pgrep -f "$work/.*/new\." >"$work/left"; note $? "a build that gets $1 leaves no process"
+  leaves_no_process; note $? "a build that gets $1 leaves no process"
 }
 
 try_cut_off() {
@@ -301,7 +302,8 @@ with_mount() {
 
 try_mounts() {
   forget
-  if ! unshare -m true 2>"$work/told"; then
+  mkdir -p "$XDG_CACHE_HOME"
+  if ! unshare -m mount -t tmpfs -o size=8k none "$XDG_CACHE_HOME" 2>"$work/told"; then
     echo "not tried, since nothing can be mounted here: no disk, and a clone that can't be written"
     return
   fi
