@@ -11,6 +11,8 @@ want_built() {
   for it in libsfc.a libsfc.so; do [ -e "$library/$it" ] || missing=${missing:-"no $it in $library; tools/c-library builds it"}; done
   [ -z "$missing" ] || { echo "${0##*/}: there is $missing" >&2; exit 1; }
 }
+# is_own: whether the program and the library are those that are built in this clone
+is_own() { [ "$program" -ef "$top/crates/sfcmon/out/sfcmon" ] && [ "$library" -ef "$top/build/c" ]; }
 # is_older FILE: whether it is older than some source that it may stand on
 is_older() { [ -n "$(find "$top"/crates/*/{src,specs,proofs} "$top/crates.txt" "$top/include" -newer "$1" -print -quit 2>/dev/null)" ]; }
 # needed_libraries: the names of the shared libraries that the program and the library ask for
