@@ -1,9 +1,10 @@
 #!/usr/bin/env bash
-# Makes a release twice, in two clones, and compares the sums. Each of its three files goes into an empty root; from there the program plays the
-# examples, a loop and a bench in C are built by pkg-config and run, and a bench in Python runs. Then what a release is refused for, an install
-# from a clone, and the version. The last line is 'N passed, M failed'.
-# SFCMON and SFC_LIBRARY_FOLDER, where they are set, are the program and the folder with the library that are packed; else they are those that
-# are built in this clone. It wants git, cc, dpkg-deb, pkg-config and python3 with venv. A shell that isn't there isn't asked for its completion.
+# Makes a release twice, in two clones, and compares the sums. Each of its three files goes into an empty root; from there the program
+# plays the examples, a loop and a bench in C are built by pkg-config and run, and a bench in Python runs. Then what a release is refused
+# for, an install from a clone, and the version. The last line is 'N passed, M failed'.
+# SFCMON and SFC_LIBRARY_FOLDER, where they are set, are the program and the folder with the library that are packed; else they are those
+# that are built in this clone. It wants git, cc, dpkg-deb, pkg-config and python3 with venv. A shell that isn't there isn't asked for its
+# completion.
 set -u
 here=$(cd "$(dirname "${BASH_SOURCE[0]}")" && pwd)
 top=$(dirname "$here")
@@ -12,6 +13,7 @@ source "$top/tools/built.sh"
 (want_built) || { echo "0 passed, 1 failed"; exit 1; }
 program=$(realpath "$program") library=$(realpath "$library")
 unset SFCMON SFC_LIBRARY_FOLDER SFC_LIBRARY ABOUT
+export PYTHONDONTWRITEBYTECODE=1
 work=$(mktemp -d)
 trap 'rm -rf "$work"' EXIT
 passed=0 failed=0
@@ -22,12 +24,13 @@ has() { grep -qF -- "$2" "$1"; }
 # ---- two clones, with what is built and with what ./test notes of it
 
 clone="$work/one clone" other=$work/other
+sum=$(sha256sum <"$program" | cut -d' ' -f1)
 commit() { git -C "$clone" add -A && git -C "$clone" -c user.name=test -c user.email=test commit -qm "$1"; }
 give_built() {
   mkdir -p "$1/crates/sfcmon/out" "$1/build/c"
   cp "$program" "$1/crates/sfcmon/out/sfcmon"
   cp "$library"/libsfc.{a,so} "$1/build/c"
-  printf '%s\n' "commit $(git -C "$1" rev-parse HEAD)" "kit a kit" "gate 7 passed, 0 failed" "program $(sha256sum <"$program" | cut -d' ' -f1)" >"$1/build/gate.txt"
+  printf '%s\n' "commit $(git -C "$1" rev-parse HEAD)" "kit a kit" "gate 7 passed, 0 failed" "program $sum" >"$1/build/gate.txt"
 }
 mkdir "$clone"
 git -C "$top" ls-files -coz --exclude-standard | tar -C "$top" --null -T - --ignore-failed-read -cf - 2>"$work/tar" | tar -C "$clone" -xf -
@@ -58,14 +61,15 @@ wheel=$(echo "$made"/*.whl)
 alone() {
   local file
   if [ "$(id -u)" != 0 ]; then pass_over root "$2, where there is nothing else"; return; fi
+  local examples=$2/share/doc/zadorike/examples
   for file in $(ldd "$1$2/bin/sfcmon" | grep -o '/[^ ]*'); do mkdir -p "$1$(dirname "$file")" && cp -L "$file" "$1$file"; done
-  chroot "$1" "$2/bin/sfcmon" replay "$2/share/doc/zadorike/examples/mixing.chart" "$2/share/doc/zadorike/examples/mixing.script" >"$work/out"
+  chroot "$1" "$2/bin/sfcmon" replay "$examples/mixing.chart" "$examples/mixing.script" >"$work/out"
   cmp -s "$work/out" "$top/examples/mixing.expect"
   note $? "$2, where there is nothing else"
 }
 # plays PREFIX: the program, the man page and the text that says what it is
 plays() {
-  local examples=$1/share/doc/zadorike/examples chart
+  local examples=$1/share/doc/zadorike/examples about=$1/share/doc/zadorike/ABOUT chart
   [ "$("$1/bin/sfcmon" --version)" = "sfcmon $version" ] && cmp -s "$1/bin/sfcmon" "$program"
   note $? "$1: the program"
   for chart in "$examples"/*.chart; do
@@ -74,14 +78,16 @@ plays() {
   done
   has "$1/share/man/man1/sfcmon.1" "\"sfcmon $version\"" && has "$1/share/doc/zadorike/editors/vscode/package.json" "\"$version\""
   note $? "$1: the version of the man page and of the editors' file"
-  has "$1/share/doc/zadorike/ABOUT" "$(git -C "$clone" rev-parse HEAD)" && has "$1/share/doc/zadorike/ABOUT" "kit        a kit" \
-    && has "$1/share/doc/zadorike/ABOUT" "7 passed, 0 failed" && has "$1/share/doc/zadorike/ABOUT" "$(sha256sum <"$program" | cut -d' ' -f1)"
+  has "$about" "$(git -C "$clone" rev-parse HEAD)" && has "$about" "kit        a kit" && has "$about" "7 passed, 0 failed" \
+    && has "$about" "sfcmon     sha256 $sum"
   note $? "$1: what ABOUT says"
 }
+# asked PREFIX WORD..: what pkg-config answers
+asked() { PKG_CONFIG_LIBDIR=$1/lib/pkgconfig pkg-config "${@:2}" sfc; }
 # loops PREFIX LINKED: a loop and a bench in C by pkg-config, linked to this library
 loops() {
   local examples=$1/share/doc/zadorike/examples flags it
-  flags=$(PKG_CONFIG_LIBDIR=$1/lib/pkgconfig pkg-config --cflags --libs sfc) && [ "$(PKG_CONFIG_LIBDIR=$1/lib/pkgconfig pkg-config --modversion sfc)" = "$version" ]
+  flags=$(asked "$1" --cflags --libs) && [ "$(asked "$1" --modversion)" = "$version" ]
   note $? "$1: what pkg-config says"
   for it in loop bench; do
     eval "cc -O1 -Wall -Wextra -Werror -pedantic -std=c11 '$examples/c/$it.c' $flags -o '$work/$it'"
@@ -99,9 +105,10 @@ loops() {
 # benches PREFIX PYTHON LIBRARY [FOLDER]: a bench in Python, with the module in the folder or of the environment, and this library
 benches() {
   local test=$1/share/doc/zadorike/examples/python/test_mixing.py
-  [ "$(cd / && PYTHONPATH=${4:-} PYTHONDONTWRITEBYTECODE=1 "$2" -c 'import os, sfc; print(os.path.realpath(sfc._path()))')" = "$(realpath "$3")" ]
+  local found
+  found=$(cd / && PYTHONPATH=${4:-} "$2" -c 'import os, sfc; print(os.path.realpath(sfc._path()))') && [ "$found" = "$(realpath "$3")" ]
   note $? "$1: the library that the module finds"
-  (cd / && PYTHONPATH=${4:-} PYTHONDONTWRITEBYTECODE=1 "$2" "$test") >"$work/out"
+  (cd / && PYTHONPATH=${4:-} "$2" "$test") >"$work/out"
   [ "$(wc -l <"$work/out")" = "$(grep -c '^def test_' "$test")" ]
   note $? "$1: the bench in Python"
 }
@@ -119,12 +126,15 @@ leads() {
 completes() {
   local common=/usr/share/bash-completion/bash_completion
   if [ -e "$common" ]; then
-    XDG_DATA_DIRS=$1/share HOME=$work bash -c "source $common; \$(complete -p -D | grep -o '[^ ]*_load[^ ]*') sfcmon; complete -p sfcmon" >"$work/out" 2>&1 \
+    # shellcheck disable=SC2016 # words of the inner shell
+    XDG_DATA_DIRS=$1/share HOME=$work COMMON=$common bash -c \
+      'source "$COMMON"; $(complete -p -D | grep -o "[^ ]*_load[^ ]*") sfcmon; complete -p sfcmon' >"$work/out" 2>&1 \
       && has "$work/out" _sfcmon
     note $? "$1: bash completes: $(cat "$work/out")"
   else pass_over bash-completion "$1: bash completes"; fi
   if command -v zsh >/dev/null; then
-    [ "$(HOME=$work zsh -fc "fpath=('$1/$2' \$fpath); autoload -U compinit; compinit -D -u; echo \$_comps[sfcmon]")" = _sfcmon ]
+    HOME=$work zsh -fc "fpath=('$1/$2' \$fpath); autoload -U compinit; compinit -D -u; echo \$_comps[sfcmon]" >"$work/out" \
+      && [ "$(cat "$work/out")" = _sfcmon ]
     note $? "$1: zsh completes"
   else pass_over zsh "$1: zsh completes"; fi
   if command -v fish >/dev/null; then
@@ -132,16 +142,17 @@ completes() {
     note $? "$1: fish completes"
   else pass_over fish "$1: fish completes"; fi
 }
-# has_all PREFIX ZSH WHAT: all of the list, and nothing else
+# places ZSH: those of the list; has_all PREFIX ZSH: all of them, and nothing else
+places() { "$clone/tools/install" --zsh "$1" --files | cut -f2 | sort; }
 has_all() {
-  diff <("$clone/tools/install" --zsh "$2" --files | cut -f2 | grep -v "$3" | sort) <(cd "$1" && find . -type f -o -type l | sed 's/^..//' | sort)
+  diff <(places "$2") <(cd "$1" && find . -type f -o -type l | sed 's/^..//' | sort)
   note $? "$1: its files"
 }
 
 root="$work/an archive" prefix=/zadorike-$version-linux-x86_64
 mkdir "$root" && tar -C "$root" -xzf "$archive"
 note $? "the archive"
-has_all "$root$prefix" share/zsh/site-functions '^$'
+has_all "$root$prefix" share/zsh/site-functions
 plays "$root$prefix"
 loops "$root$prefix" "$root$prefix/lib/libsfc.so.1"
 benches "$root$prefix" python3 "$root$prefix/lib/libsfc.so.$version" "$root$prefix/lib/python3/dist-packages"
@@ -153,9 +164,10 @@ root="$work/a package"
 [ "$(dpkg-deb -f "$package" Package Version Architecture | cut -d' ' -f2 | xargs)" = "zadorike $version amd64" ] \
   && [[ $(dpkg-deb -f "$package" Depends) =~ ^libc6\ \(\>=\ [0-9.]+\)(, libgcc-s1)?$ ]]
 note $? "what the package says of itself"
-mkdir "$root" && dpkg-deb -x "$package" "$root" && dpkg-deb -e "$package" "$work/control" && (cd "$root" && md5sum --quiet -c "$work/control/md5sums")
+mkdir "$root" && dpkg-deb -x "$package" "$root" && dpkg-deb -e "$package" "$work/control" \
+  && (cd "$root" && md5sum --quiet -c "$work/control/md5sums")
 note $? "the package"
-has_all "$root/usr" share/zsh/vendor-completions '^$'
+has_all "$root/usr" share/zsh/vendor-completions
 plays "$root/usr"
 loops "$root/usr" "$root/usr/lib/libsfc.so.1"
 benches "$root/usr" python3 "$root/usr/lib/libsfc.so.$version" "$root/usr/lib/python3/dist-packages"
@@ -164,19 +176,24 @@ alone "$root" /usr
 if [ "$(id -u)" = 0 ]; then
   root="$work/by dpkg"
   mkdir -p "$root"/var/lib/dpkg/{info,updates} && touch "$root"/var/lib/dpkg/{status,available}
-  dpkg --root="$root" --force-depends -i "$package" >"$work/out" 2>&1 && [ -z "$(dpkg --root="$root" -V zadorike)" ] && "$root/usr/bin/sfcmon" --version >"$work/out" \
-    && dpkg --root="$root" -P zadorike >"$work/out" 2>&1 && [ ! -e "$root/usr/bin/sfcmon" ] && [ ! -e "$root/usr/share/doc/zadorike" ]
+  dpkg --root="$root" --force-depends -i "$package" >"$work/out" 2>&1 && [ -z "$(dpkg --root="$root" -V zadorike)" ] \
+    && "$root/usr/bin/sfcmon" --version >"$work/out" && dpkg --root="$root" -P zadorike >"$work/out" 2>&1 \
+    && [ ! -e "$root/usr/bin/sfcmon" ] && [ ! -e "$root/usr/share/doc/zadorike" ]
   note $? "the package, installed and purged by dpkg: $(tail -n 1 "$work/out")"
 else pass_over root "the package, installed and purged by dpkg"; fi
 
 prefix=$work/environment
 python3 -m venv "$prefix" && "$prefix/bin/python" -m pip install -q --no-index --disable-pip-version-check "$wheel"
 note $? "the wheel"
+places share/zsh/site-functions | grep -vE '^lib/(libsfc\.so|python3)' \
+  | while read -r it; do [ -f "$prefix/$it" ] || echo "$it"; done >"$work/missing"
+[ ! -s "$work/missing" ]
+note $? "what the wheel lacks: $(xargs <"$work/missing")"
 plays "$prefix"
 loops "$prefix" ""
 benches "$prefix" "$prefix/bin/python" "$(echo "$prefix"/lib/python3*/site-packages/sfc/libsfc.so)"
-"$prefix/bin/python" -m pip uninstall -q -y --disable-pip-version-check zadorike && [ ! -e "$prefix/bin/sfcmon" ] && [ ! -e "$prefix/include/sfc.h" ] \
-  && [ -z "$(find "$prefix" -path '*zadorike*' -type f -o -name 'libsfc*')" ]
+"$prefix/bin/python" -m pip uninstall -q -y --disable-pip-version-check zadorike && [ ! -e "$prefix/bin/sfcmon" ] \
+  && [ ! -e "$prefix/include/sfc.h" ] && [ -z "$(find "$prefix" -path '*zadorike*' -type f -o -name 'libsfc*')" ]
 note $? "the wheel leaves nothing"
 
 # ---- what a release is refused for; the one that was made before stays
@@ -189,7 +206,10 @@ restore() {
   cp "$work/kept/sfcmon" "$clone/crates/sfcmon/out"
   touch "$clone/crates/sfcmon/out/sfcmon" "$clone"/build/c/*
 }
-stays() { cmp -s "$made/SHA256SUMS" "$work/sums" && (cd "$made" && sha256sum --status -c SHA256SUMS) && [ -z "$(find "$clone/build" -maxdepth 1 -name 'releasing*')" ]; }
+stays() {
+  cmp -s "$made/SHA256SUMS" "$work/sums" && (cd "$made" && sha256sum --status -c SHA256SUMS) \
+    && [ -z "$(find "$clone/build" -maxdepth 1 -name 'releasing*')" ]
+}
 # refused TITLE TEXT WORD..: the text is the one line of standard error, or a part of it
 refused() {
   release "$clone" "${@:3}"
@@ -247,12 +267,14 @@ what_about() { tar -xzOf "$archive" "zadorike-$version-linux-x86_64/share/doc/za
 restore
 echo more >>"$clone/README.md" && rm "$clone/build/gate.txt"
 release "$clone" --changed --ungated
-[ "$status" = 0 ] && what_about && has "$work/about" "with changes that are in no commit" && has "$work/about" "Nothing here says that this program is proved"
+[ "$status" = 0 ] && what_about && has "$work/about" "with changes that are in no commit" \
+  && has "$work/about" "Nothing here says that this program is proved"
 note $? "a release without a gate, of what is in no commit: $(cat "$work/err")"
 restore
 echo more >>"$clone/README.md" && commit "another page"
 release "$clone"
-[ "$status" = 0 ] && what_about && has "$work/about" "at commit $(git -C "$clone" rev-parse HEAD~1)" && has "$work/about" "commit     $(git -C "$clone" rev-parse HEAD)"
+[ "$status" = 0 ] && what_about && has "$work/about" "at commit $(git -C "$clone" rev-parse HEAD~1)" \
+  && has "$work/about" "commit     $(git -C "$clone" rev-parse HEAD)"
 note $? "a release whose gate ran on the same crates, before a page changed: $(cat "$work/err")"
 
 # ---- an install from a clone, and the version
@@ -271,8 +293,9 @@ note $? "an install into a file"
 
 [ "$("$top/tools/version")" = "$version" ] && "$top/tools/version" --check >"$work/out"
 note $? "the version is the same everywhere: $(cat "$work/out")"
-"$clone/tools/version" --set 9.8.7 && [ "$("$clone/tools/version")" = 9.8.7 ] && [ "$("$clone/tools/version" --check | wc -l)" = 2 ] \
-  && [ "$(git -C "$clone" diff --numstat | awk '{ print $1, $2 }' | sort -u)" = "1 1" ] && [ "$(git -C "$clone" diff --name-only | wc -l)" = 3 ]
+"$clone/tools/version" --set 9.8.7 && [ "$("$clone/tools/version")" = 9.8.7 ] \
+  && [ "$("$clone/tools/version" --check | wc -l)" = 2 ] \
+  && [ "$(git -C "$clone" diff --numstat | awk '{ print $1, $2 }' | uniq -c | xargs)" = "3 1 1" ]
 note $? "a version that is set, in a line of three files; the list of changes waits for it"
 "$clone/tools/version" --set "$version" && [ -z "$(git -C "$clone" status --porcelain)" ]
 note $? "the version that was"
