@@ -5,12 +5,8 @@
 # reached, and none of them is told to be missed; so are scans and faults. By the reading the whole report, to the byte, so also which
 # transitions were never enabled or never TRUE, who took a token, and which branches were taken. Then command lines, with exit statuses and
 # what is told of a file. The last line is 'N passed, M failed'.
-# SFCMON, where it is set, is the program that is run; else it is the proved one of this clone.
 set -u
 here=$(cd "$(dirname "${BASH_SOURCE[0]}")" && pwd)
-top=$(dirname "$here")
-if [ -z "${SFCMON:-}" ]; then
-  "$top/sfcmon" --prove || exit 1
-fi
-export PYTHONDONTWRITEBYTECODE=1
-exec python3 "$here/cover/cover.py" "${SFCMON:-$top/crates/sfcmon/out/sfcmon}" "$@"
+# shellcheck source=tests/common.sh
+. "$here/common.sh"
+exec python3 "$here/cover/cover.py" "$program" "$@"

@@ -10,13 +10,9 @@
 # and where the script has at most 250 commands on a plant that isn't large, the same output. A chart without fault is listed, and the
 # listing lists and plays the same. What differs is kept in a folder `damaged` among the temporary files, and told with the command that
 # runs it again. What `why` tells has to be what check and replay refuse the texts for, at a place that lies in them. Before the last line, how many inputs had which answer; the last line is 'N passed, M failed'.
-# SFCMON, where it is set, is the program that is run; else it is the proved one of this clone.
 set -u
 here=$(cd "$(dirname "${BASH_SOURCE[0]}")" && pwd)
-top=$(dirname "$here")
-if [ -z "${SFCMON:-}" ]; then
-  "$top/sfcmon" --prove || exit 1
-fi
+# shellcheck source=tests/common.sh
+. "$here/common.sh"
 ulimit -c 0
-export PYTHONDONTWRITEBYTECODE=1
-exec python3 "$here/damage/damaged.py" "${SFCMON:-$top/crates/sfcmon/out/sfcmon}" "$@"
+exec python3 "$here/damage/damaged.py" "$program" "$@"

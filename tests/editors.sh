@@ -2,14 +2,10 @@
 # Runs the files of editors/ over what the program prints and over the examples: the problem matcher of VS Code and the errorformat of
 # Vim find the first line of `sfcmon why`, with its file, line, column and fault, and no other line; the grammars give each word of the
 # language in a chart or a script its scope. The last line is 'N passed, M failed'. It wants node; without vim its tests are passed over.
-# SFCMON, where it is set, is the program that is run; else it is the proved one of this clone.
 set -u
 here=$(cd "$(dirname "${BASH_SOURCE[0]}")" && pwd)
-top=$(dirname "$here")
-if [ -z "${SFCMON:-}" ]; then
-  "$top/sfcmon" --prove || exit 1
-fi
-program=${SFCMON:-$top/crates/sfcmon/out/sfcmon}
+# shellcheck source=tests/common.sh
+. "$here/common.sh"
 examples=$top/examples
 work=$(mktemp -d)
 trap 'rm -rf "$work"' EXIT

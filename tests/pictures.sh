@@ -4,12 +4,8 @@
 # the script; of a drawing its steps, transitions and action blocks, and behind a script what is active and what was cleared. The texts
 # of tests/pictures/ are compared to the byte. Where they are installed, vcd2fst (Debian's gtkwave) has to take each waveform and dot
 # (graphviz) each drawing, without a word; where not, that is said. The last line is 'N passed, M failed'.
-# SFCMON, where it is set, is the program that is run; else it is the proved one of this clone.
 set -u
 here=$(cd "$(dirname "${BASH_SOURCE[0]}")" && pwd)
-top=$(dirname "$here")
-if [ -z "${SFCMON:-}" ]; then
-  "$top/sfcmon" --prove || exit 1
-fi
-export PYTHONDONTWRITEBYTECODE=1
-exec python3 "$here/pictures/pictures.py" "${SFCMON:-$top/crates/sfcmon/out/sfcmon}"
+# shellcheck source=tests/common.sh
+. "$here/common.sh"
+exec python3 "$here/pictures/pictures.py" "$program"

@@ -11,7 +11,9 @@ from pathlib import Path
 TASKS = 16
 EACH = 1_000
 WARM = 70_000
+SEEN = 10
 MOST_GROWTH = 1_024
+MOST_MEMORY = 16_384
 LINE = re.compile(r"([0-9]+) T#\S+ ([A-Z]+)")
 INSTANCE = "PROGRAM P{0} WITH Task{0} : Mix;"
 CHART = """PROGRAM Mix
@@ -104,9 +106,45 @@ class Pressure:
         return self.child.wait()
 
     def growth(self) -> int:
-        """Kilobytes by which the memory grew after WARM commands, which fill the feed's 65,536 rows once; -1 where there are no more."""
+        """Kilobytes by which the memory grew after WARM commands, which fill the feed's 65,536 rows once."""
         late = [size for number, size in self.memory if number > WARM]
-        return max(late) - late[0] if late else -1
+        return max(late) - late[0] if late else 0
+
+    def is_compared(self) -> bool:
+        """Whether the memory was looked at often enough after WARM commands, so that growth would be seen."""
+        return sum(number > WARM for number, _ in self.memory) >= SEEN
+
+    def sizes(self) -> list:
+        """Kilobytes of memory, each time it was looked at."""
+        return [size for _, size in self.memory if size]
+
+
+def checks_of(run: Pressure, status: int, said: str) -> list:
+    """What is to hold of a run, each with its title."""
+    audit = re.fullmatch(r"audit ok ([0-9]+)", run.last)
+    checks = [
+        ("the status is 0", status == 0), ("nothing stands on standard error", said == ""),
+        ("the audit is right", audit is not None), ("the audit counts all commands", bool(audit) and int(audit[1]) >= run.number),
+        ("as many commands as are wanted", run.number >= run.wanted), ("numbers rise", run.falling == 0),
+        ("halts, each with its GO", run.halts > 0 and run.stopped_at is None), ("no scan in a halt", run.scans_in_halts == 0),
+        ("no line is missing in a halt", run.gaps_in_halts == 0),
+        (f"at most {MOST_MEMORY} kB of memory", 0 < max(run.sizes(), default=0) <= MOST_MEMORY),
+    ]
+    if run.is_compared():
+        return checks + [("memory doesn't grow", run.growth() <= MOST_GROWTH)]
+    if run.wanted >= WARM + 2 * SEEN * EACH:
+        return checks + [(f"memory is looked at after {WARM} commands", False)]
+    print(f"not asked: whether memory grows, which is seen after {WARM} commands, when the feed has gone round")
+    return checks
+
+
+def figures(run: Pressure, seconds: float) -> str:
+    """What the run did, in a line."""
+    kinds = ", ".join(f"{count} {kind}" for kind, count in sorted(run.kinds.items()))
+    sizes = run.sizes() or [0]
+    grown = f", grown by {run.growth()} kB after {WARM} commands" if run.is_compared() else ""
+    return (f"{run.number} commands in {seconds:.0f} s; lines: {kinds}; {run.missing} lines left out; {run.halts} halts; "
+            f"memory {min(sizes)} to {max(sizes)} kB{grown}")
 
 
 def main() -> int:
@@ -117,21 +155,11 @@ def main() -> int:
         status = run.play()
         run.err.seek(0)
         said = run.err.read().decode("latin-1")
-    audit = re.fullmatch(r"audit ok ([0-9]+)", run.last)
-    checks = [
-        ("the status is 0", status == 0), ("nothing stands on standard error", said == ""),
-        ("the audit is right", audit is not None), ("the audit counts all commands", bool(audit) and int(audit[1]) >= run.number),
-        ("as many commands as are wanted", run.number >= run.wanted), ("numbers rise", run.falling == 0),
-        ("halts, each with its GO", run.halts > 0 and run.stopped_at is None), ("no scan in a halt", run.scans_in_halts == 0),
-        ("no line is missing in a halt", run.gaps_in_halts == 0), ("memory doesn't grow", 0 <= run.growth() <= MOST_GROWTH),
-    ]
+    checks = checks_of(run, status, said)
     for title, holds in checks:
         if not holds:
             print(f"not as it should be: {title} (status {status}, {said[:200]!r}, last line {run.last!r})")
-    kinds = ", ".join(f"{count} {kind}" for kind, count in sorted(run.kinds.items()))
-    sizes = [size for _, size in run.memory] or [0]
-    print(f"{run.number} commands in {time.monotonic() - begin:.0f} s; lines: {kinds}; {run.missing} lines left out; {run.halts} halts; "
-          f"memory {min(sizes)} to {max(sizes)} kB, grown by {run.growth()} kB after {WARM} commands")
+    print(figures(run, time.monotonic() - begin))
     failed = sum(not holds for _, holds in checks)
     print(f"{len(checks) - failed} passed, {failed} failed")
     return 1 if failed else 0

@@ -3,13 +3,11 @@
 # error and the exit status. The last line is 'N passed, M failed'.
 set -u
 here=$(cd "$(dirname "${BASH_SOURCE[0]}")" && pwd)
-top=$(dirname "$here")
-"$top/sfcmon" --prove || exit 1
-program=$top/crates/sfcmon/out/sfcmon
+# shellcheck source=tests/common.sh
+. "$here/common.sh"
 examples=$top/examples
 work=$(mktemp -d)
 trap 'rm -rf "$work"' EXIT
-passed=0 failed=0
 
 # run WORD..: the program with these words; leaves out, err and status
 run() { "$program" "$@" >"$work/out" 2>"$work/err" </dev/null; status=$?; }
@@ -455,22 +453,6 @@ read_by "fish reads its completion" fish -n "$share/completions/sfcmon.fish"
 read_by "groff sets the man page" groff -man -ww -z "$manual"
 read_by "mandoc has nothing to say of the man page" mandoc -Tlint "$manual"
 
-# ---- what the pages name is there, which counts one by one
-
-if ! command -v python3 >/dev/null; then
-  echo "not asked, python3 isn't there: the pages"
-else
-  "$top/tools/check-pages" >"$work/out" 2>"$work/err" </dev/null
-  status=$?
-  if [[ $(tail -n 1 "$work/out") =~ ^([0-9]+)\ passed,\ ([0-9]+)\ failed$ ]]; then
-    passed=$((passed + BASH_REMATCH[1])) failed=$((failed + BASH_REMATCH[2]))
-    sed '$d' "$work/out"
-  else
-    cat "$work/err"
-    note 1 "the pages"
-  fi
-fi
-
 # ---- run
 
 # live SESSION WORD..: run with these words and this session, from a pipe; leaves out, err and status
@@ -558,19 +540,15 @@ status=${PIPESTATUS[1]}
 ends 3 && says "write fault"
 note $? "a pipe that is closed ends a run with its session"
 
-# at a terminal of its own
-if command -v python3 >"$work/which"; then
-  python3 "$here/terminal.py" "$program" "$work/edge.chart" >"$work/out" 2>"$work/err"
+# at_terminal TITLE FILE WORD..: what a script of Python counts that runs the program at a terminal of its own
+at_terminal() {
+  local title=$1; shift
+  if ! command -v python3 >/dev/null; then echo "not asked, python3 isn't there: $title"; return; fi
+  python3 "$@" >"$work/out" 2>"$work/err"
   status=$?
-  if [[ $(tail -n 1 "$work/out") =~ ^([0-9]+)\ passed,\ ([0-9]+)\ failed$ ]]; then
-    passed=$((passed + BASH_REMATCH[1])) failed=$((failed + BASH_REMATCH[2]))
-    sed '$d' "$work/out"
-  else
-    note 1 "runs at a terminal"
-  fi
-else
-  echo "not asked, python3 isn't there: runs at a terminal"
-fi
+  add_counts "$work/out" || note 1 "$title"
+}
+at_terminal "runs at a terminal" "$here/terminal.py" "$program" "$work/edge.chart"
 
 # ---- debug
 
@@ -642,19 +620,6 @@ yes SCAN | head -n 20000 | "$program" debug "$chart" >"$work/out" 2>"$work/err"
 status=${PIPESTATUS[2]}
 ends 0 && says "" && [ "$(wc -l <"$work/out")" = 40000 ]
 note $? "a session of many lines"
-# at a terminal of its own
-if command -v python3 >"$work/which"; then
-  python3 "$here/prompt.py" "$program" "$chart" "$work" >"$work/out" 2>"$work/err"
-  status=$?
-  if [[ $(tail -n 1 "$work/out") =~ ^([0-9]+)\ passed,\ ([0-9]+)\ failed$ ]]; then
-    passed=$((passed + BASH_REMATCH[1])) failed=$((failed + BASH_REMATCH[2]))
-    sed '$d' "$work/out"
-  else
-    note 1 "a prompt at a terminal"
-  fi
-else
-  echo "not asked, python3 isn't there: a prompt at a terminal"
-fi
+at_terminal "a prompt at a terminal" "$here/prompt.py" "$program" "$chart" "$work"
 
-echo "$passed passed, $failed failed"
-[ "$failed" = 0 ]
+tell_counts

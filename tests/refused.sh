@@ -4,19 +4,15 @@
 # files that fail after k bytes, status 3, `read fault` and no output; an output that fails after k bytes, or takes no byte
 # more, status 3, `write fault` and exactly those k bytes; reads and writes of one byte change nothing. Where the chart is
 # refused, a script that fails changes nothing. The last line is 'N passed, M failed'.
-# SFCMON, where it is set, is the program that is run; else it is the proved one of this clone.
 set -u
 here=$(cd "$(dirname "${BASH_SOURCE[0]}")" && pwd)
-top=$(dirname "$here")
-if [ -z "${SFCMON:-}" ]; then
-  "$top/sfcmon" --prove || exit 1
-fi
-program=${SFCMON:-$top/crates/sfcmon/out/sfcmon}
+# shellcheck source=tests/common.sh
+. "$here/common.sh"
 work=$(mktemp -d)
 trap 'rm -rf "$work"' EXIT
 cc -O1 -shared -fPIC -o "$work/refuse.so" "$here/refuse.c" -ldl || exit 1
 data=$top/crates/conformance/data
-passed=0 failed=0 ends=0
+ends=0
 
 # run SETTING..: the program with these settings on the words of the sweep; leaves out, err and status
 run() { env "$@" LD_PRELOAD="$work/refuse.so" "$program" "${words[@]}" >"$work/out" 2>"$work/err"; status=$?; }
@@ -204,5 +200,4 @@ if [ -x "$probe" ]; then
 else
   echo "not asked: want of memory in a test of openings, and what scans allocate, which rt test in crates/probes builds"
 fi
-echo "$passed passed, $failed failed"
-[ "$failed" = 0 ]
+tell_counts

@@ -90,7 +90,7 @@ def main() -> int:
     differ = sum(not compared(shlex.split(given.command), folder, seed, MODES[given.mode]) for seed in seeds)
     if not differ and not any(folder.iterdir()):
         folder.rmdir()
-    print(f"{given.count} compared, {differ} differ")
+    print(f"{given.count - differ} passed, {differ} failed")
     return 1 if differ else 0
 
 
