@@ -6,17 +6,15 @@
 # that are built in this clone. It wants git, cc, dpkg-deb, pkg-config and python3 with venv. A shell that isn't there isn't asked for its
 # completion.
 set -u
-here=$(cd "$(dirname "${BASH_SOURCE[0]}")" && pwd)
-top=$(dirname "$here")
+# shellcheck source=tests/common.sh
+source "$(dirname "${BASH_SOURCE[0]}")/common.sh"
 # shellcheck source=tools/built.sh
 source "$top/tools/built.sh"
-(want_built) || { echo "0 passed, 1 failed"; exit 1; }
+(want_built) || { failed=1; tell_counts; exit 1; }
 program=$(realpath "$program") library=$(realpath "$library")
 unset SFCMON SFC_LIBRARY_FOLDER SFC_LIBRARY ABOUT
-export PYTHONDONTWRITEBYTECODE=1
 work=$(mktemp -d)
 trap 'rm -rf "$work"' EXIT
-passed=0 failed=0
 note() { if [ "$1" = 0 ]; then passed=$((passed + 1)); else failed=$((failed + 1)); echo "not as it should be: $2"; fi; }
 pass_over() { echo "not asked, $1 isn't there: $2"; }
 has() { grep -qF -- "$2" "$1"; }
@@ -308,5 +306,4 @@ sed -i '1s/sfcmon [0-9.]*/sfcmon 1.0.0/' "$clone/share/man/man1/sfcmon.1"
 ! "$clone/tools/version" --check >"$work/out" && has "$work/out" "share/man/man1/sfcmon.1: the version is '1.0.0'"
 note $? "a man page of another version"
 
-echo "$passed passed, $failed failed"
-[ "$failed" = 0 ]
+tell_counts
