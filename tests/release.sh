@@ -291,6 +291,9 @@ note $? "an install into a file"
 
 [ "$("$top/tools/version")" = "$version" ] && "$top/tools/version" --check >"$work/out"
 note $? "the version is the same everywhere: $(cat "$work/out")"
+git -C "$clone" grep -lE "(^|[^.0-9])${version//./\\.}([^.0-9]|$)" -- ':!*.antt' ':!CHANGELOG.md' >"$work/out"
+[ "$(xargs <"$work/out")" = "crates/sfcmon/src/arguments.rt editors/vscode/package.json share/man/man1/sfcmon.1" ]
+note $? "where the version stands: $(xargs <"$work/out")"
 "$clone/tools/version" --set 9.8.7 && [ "$("$clone/tools/version")" = 9.8.7 ] \
   && [ "$("$clone/tools/version" --check | wc -l)" = 2 ] \
   && [ "$(git -C "$clone" diff --numstat | awk '{ print $1, $2 }' | uniq -c | xargs)" = "3 1 1" ]
@@ -302,8 +305,8 @@ for word in '' 1.2 1.2.3.4 v1.2.3 1.2.x; do
   [ $? = 2 ] && [ -z "$(git -C "$clone" status --porcelain)" ]
   note $? "the version '$word'"
 done
-sed -i '1s/sfcmon [0-9.]*/sfcmon 1.0.0/' "$clone/share/man/man1/sfcmon.1"
-! "$clone/tools/version" --check >"$work/out" && has "$work/out" "share/man/man1/sfcmon.1: the version is '1.0.0'"
+sed -i '1s/sfcmon [0-9.]*/sfcmon 9.8.7/' "$clone/share/man/man1/sfcmon.1"
+! "$clone/tools/version" --check >"$work/out" && has "$work/out" "share/man/man1/sfcmon.1: the version is '9.8.7'"
 note $? "a man page of another version"
 
 tell_counts
