@@ -87,6 +87,7 @@ loops() {
   local examples=$1/share/doc/zadorike/examples flags it
   flags=$(asked "$1" --cflags --libs) && [ "$(asked "$1" --modversion)" = "$version" ]
   note $? "$1: what pkg-config says"
+  rm -f "$work"/{loop,bench}
   for it in loop bench; do
     eval "cc -O1 -Wall -Wextra -Werror -pedantic -std=c11 '$examples/c/$it.c' $flags -o '$work/$it'"
     note $? "$1: $it.c"
