@@ -1,0 +1,12 @@
+//! Tests of books, and of workers and crews in threads at a controller.
+//!
+//! - `sessions`: threads at a controller, and what they leave.
+//! - `books`, `crews`: tests.
+#![tactic(auto)]
+
+#[cfg(test)]
+mod books;
+#[cfg(test)]
+mod crews;
+#[cfg(test)]
+mod sessions;

@@ -1,0 +1,160 @@
+//! The tokens of a text, names, and charts with a fault at any place.
+
+use samples::charts::mixture;
+use sfc_text::read::read;
+use sfc_tokens::lex::tokens;
+use sfc_tokens::read_error::ReadErrorKind;
+use sfc_tokens::token::{Token, TokenKind};
+use std::alloc::{AllocError, Global};
+use std::process::Abort;
+use std::test::Fail;
+
+// The kind of a token and its value; of a name the spelling of its copy, of a location its copy.
+fn shown(alloc: Global, token: &Token) -> Result<String, AllocError> {
+    let kind = &token.kind;
+    match kind {
+        TokenKind::Name(name) => {
+            let copy = name.copy(alloc)?;
+            let spelling = copy.spelling().escape_ascii();
+            format!(in alloc; "Name({spelling})")
+        }
+        TokenKind::Location(location) => {
+            let copy = location.copy(alloc)?;
+            format!(in alloc; "{copy:?}")
+        }
+        TokenKind::Duration(time) => {
+            let micros = time.micros();
+            format!(in alloc; "Duration({micros})")
+        }
+        _ => format!(in alloc; "{kind:?}"),
+    }
+}
+
+// A text and its tokens.
+type Row = (&'static [u8], &'static [&'static str]);
+
+// The longest token is taken, literals are values, and locations are areas, sizes and numbers.
+const ROWS: [Row; 3] = [
+    (
+        b"step Step_s2:=<=>=<>:;,().+-*/&<>==",
+        &[
+            "Keyword(Step)",
+            "Name(Step_s2)",
+            "Delimiter(Assign)",
+            "Delimiter(LessOrEqual)",
+            "Delimiter(GreaterOrEqual)",
+            "Delimiter(NotEqual)",
+            "Delimiter(Colon)",
+            "Delimiter(Semicolon)",
+            "Delimiter(Comma)",
+            "Delimiter(Open)",
+            "Delimiter(Close)",
+            "Delimiter(Dot)",
+            "Delimiter(Plus)",
+            "Delimiter(Minus)",
+            "Delimiter(Star)",
+            "Delimiter(Slash)",
+            "Delimiter(Ampersand)",
+            "Delimiter(NotEqual)",
+            "Delimiter(Equal)",
+            "Delimiter(Equal)",
+        ],
+    ),
+    (
+        b"007 1_000 16#fF 2#1_0 INT#-8#17 dint#5 Bool#FALSE bool#1 t#-1.5s time#1h_61m",
+        &[
+            "Integer(7)",
+            "Integer(1000)",
+            "Based(255)",
+            "Based(2)",
+            "Int(-15)",
+            "Dint(5)",
+            "Truth(false)",
+            "Truth(true)",
+            "Duration(-1500000)",
+            "Duration(7260000000)",
+        ],
+    ),
+    (
+        b"%qw12.0_1 %M4294967295",
+        &[
+            "Location { area: Output, size: Word, numbers: Items { elements: [12, 1] } }",
+            "Location { area: Memory, size: Bit, numbers: Items { elements: [4294967295] } }",
+        ],
+    ),
+];
+
+// The rows, behind a function, so that no proof goes through them.
+fn rows() -> &'static [Row] {
+    &ROWS
+}
+
+// Asks for these tokens of a text.
+fn check(rt: &impl Abort, alloc: Global, text: &[u8], wanted: &[&str]) -> Result<(), Fail> {
+    let found = tokens(alloc, text)?;
+    assert_eq!(rt; found.len(), wanted.len());
+    for (token, wanted) in found.iter().zip(wanted) {
+        assert_eq!(rt; shown(alloc, token)?.as_str(), *wanted);
+    }
+    Ok(())
+}
+
+#[test]
+fn a_text_has_these_tokens(rt: HostRuntime) -> Result<(), Fail> {
+    for (text, wanted) in rows() {
+        check(&rt, rt.alloc(), text, wanted)?;
+    }
+    Ok(())
+}
+
+#[test]
+fn tokens_have_the_lines_on_which_they_begin(rt: HostRuntime) -> Result<(), Fail> {
+    let found = tokens(rt.alloc(), b"a (*\n*) b\r\n{\n\n}c\n\n:=\n")?;
+    let mut lines = Vec::new(rt.alloc());
+    for token in &found {
+        lines.push(token.line)?;
+    }
+    assert_eq!(rt; lines.as_slice(), [1, 2, 5, 7].as_slice());
+    Ok(())
+}
+
+// Whether the text is refused, and not for want of memory.
+fn is_refused(alloc: Global, text: &[u8]) -> bool {
+    match read(alloc, text) {
+        Ok(_) => false,
+        Err(error) => error.kind != ReadErrorKind::Memory,
+    }
+}
+
+#[test]
+fn each_front_of_a_chart_is_refused(rt: HostRuntime) {
+    let text = mixture();
+    assert!(rt; !is_refused(rt.alloc(), text));
+    for count in 0..text.len() {
+        assert!(rt; is_refused(rt.alloc(), &text[..count]), "of {count} bytes");
+    }
+}
+
+// Asks that the chart is refused with this byte at any place where another one stood.
+fn check_altered(rt: &impl Abort, alloc: Global, byte: u8) -> Result<(), Fail> {
+    let mut text = mixture().to_vec(alloc)?;
+    for place in 0..text.len() {
+        let old = text[place];
+        text[place] = byte;
+        assert_eq!(rt;
+            is_refused(alloc, &text),
+            old != byte,
+            "of {byte} at {place}"
+        );
+        text[place] = old;
+    }
+    Ok(())
+}
+
+#[test]
+fn a_chart_with_one_wrong_byte_is_refused(rt: HostRuntime) -> Result<(), Fail> {
+    for byte in [0x00, b'(', b'{', b'#', 0xff] {
+        check_altered(&rt, rt.alloc(), byte)?;
+    }
+    Ok(())
+}

@@ -1,0 +1,7 @@
+//! Charts for tests in code.
+//!
+//! - `charts`: their texts, and a script and what it prints; `loaded`: a text as a plant.
+#![tactic(auto)]
+
+pub mod charts;
+pub mod loaded;
