@@ -227,7 +227,7 @@ refused "a gate without a last line" "the gate's last line is ''"
 gate 's/^commit .*/commit 0123456789012345678901234567890123456789/'
 refused "a gate of a commit that isn't there" "whose crates are others"
 gate 's/^commit .*/& and changes/'
-refused "a gate of what is in no commit" "whose crates are others"
+refused "a gate of what is in no commit" "the gate ran on changes that were in no commit"
 echo '# more' >>"$clone/crates.txt" && commit "other crates"
 refused "a gate of other crates" "whose crates are others"
 restore HEAD~1
