@@ -9,22 +9,10 @@ seconds=$1
 work=${2:-$HOME/sfcmon-fuzz}
 kit=$(dirname "$(dirname "$(readlink -f "$(command -v rt)")")")
 runtime=$(dpkg -L afl++ | grep 'afl-compiler-rt-64\.o$')
-mkdir -p "$work/kit" "$work/case"
+mkdir -p "$work"
 
-# The program as `rt try` compiles it, with run-time checks. The kit is linked to once more, with a clang that keeps the module.
-if [ ! -e "$work/module.bc" ]; then
-  cp -rsf "$kit/." "$work/kit/"
-  for file in rt rtlib.py; do rm "$work/kit/bin/$file" && cp "$kit/bin/$file" "$work/kit/bin/"; done
-  rm "$work/kit/toolchain/bin/clang"
-  cat >"$work/kit/toolchain/bin/clang" <<CLANG
-#!/bin/bash
-if [ -f module.bc ] && [ "\$(stat -c %s module.bc)" -gt 100000 ]; then cp module.bc '$work/module.bc'; fi
-exec '$kit/toolchain/bin/clang' "\$@"
-CLANG
-  chmod +x "$work/kit/toolchain/bin/clang"
-  echo PROGRAM >"$work/case/one"
-  (cd "$top/crates/sfcmon" && "$work/kit/bin/rt" try --cases "$work/case" -- check '{}')
-fi
+# The program as `rt try` compiles it, with run-time checks.
+if [ ! -e "$work/module.bc" ]; then cp "$("$top/tools/unproved" --module)" "$work/module.bc"; fi
 # build TO FLAG..: the module as an object
 build() {
   local to=$1; shift
