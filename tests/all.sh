@@ -40,14 +40,17 @@ run() {
   timeout --kill-after=10 "$limit" "$@" >"$work/$number.out" 2>"$work/$number.err" </dev/null &
   echo $! >"$work/$number.pid"
   wait $!
-  echo "$? $((SECONDS - begin)) $limit" >"$work/$number.ended"
+  limit="$? $((SECONDS - begin)) $limit"
+  [ ! -d "$work" ] || echo "$limit" >"$work/$number.ended"
   rm -f "$work/$number.pid"
 }
 
 # fault_of NUMBER STATUS LIMIT: what is wrong with how a script ended, beside what it counts itself
 fault_of() {
-  if [ "$2" = 124 ] || [ "$2" = 137 ]; then
+  if [ "$2" = 124 ]; then
     echo "no end within $3 seconds"
+  elif [ "$2" = 137 ]; then
+    echo "it was killed, or didn't end within $3 seconds even when it was asked to"
   elif [[ ! $(tail -n 1 "$work/$1.out") =~ ^[0-9]+\ passed,\ [0-9]+\ failed$ ]]; then
     echo "no last line 'N passed, M failed' (status $2)"
   elif [ "$2" != 0 ] && [[ $(tail -n 1 "$work/$1.out") = *' 0 failed' ]]; then
