@@ -1,11 +1,11 @@
 #!/usr/bin/env bash
-# check.sh [--set] [--budget FILE]: measures what users run, in instructions of callgrind, and holds each figure to budget.tsv (or FILE). One
-# that is more than 3 % above its budget fails; one that is as much below is told. With --set the figures become the budget. The charts are
-# the lamp of examples, rings of 8, 64 and 512 steps (ring.py), 16 tasks (tasks.py), and one of 1,024 steps, 2,048 transitions and 64
+# check.sh [--set] [--budget FILE]: measures what users run, in instructions of callgrind, and holds each figure to budget.tsv (or FILE).
+# One that is more than 3 % above its budget fails; one that is as much below is told. With --set the figures become the budget. The charts
+# are the lamp of examples, rings of 8, 64 and 512 steps (ring.py), 16 tasks (tasks.py), and one of 1,024 steps, 2,048 transitions and 64
 # instances (opening.py). `Resource::apply`, `replay`, `wave` and `sfc_scan` are measured by the scan: 1,100 scans less 100, and where it
-# says `later` 6,000 less 2,000. `sfc_scan` is measured in the program `bench` of the C library, in the folder that SFC_LIBRARY_FOLDER names,
-# else build/c, where tools/c-library builds it; where it isn't there, that is said. The last line is 'N passed, M failed'.
-# It wants python3 and valgrind; without valgrind nothing is measured.
+# says `later` 6,000 less 2,000. `sfc_scan` is measured in the program `bench` of the C library, in the folder that SFC_LIBRARY_FOLDER
+# names, else build/c, where tools/c-library builds it; where it isn't there, that is said. It wants python3 and valgrind; without valgrind
+# nothing is measured. The last line is 'N passed, M failed'.
 # shellcheck disable=SC2030,SC2031,SC2317 # each chart is measured in a folder of its own, by a call that is handed over
 set -eu
 # shellcheck source=bench/measure.sh

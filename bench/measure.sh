@@ -8,8 +8,8 @@ export PYTHONDONTWRITEBYTECODE=1
 folder=$(mktemp -d)
 trap 'rm -rf "$folder"' EXIT
 
-# scripts_of NAME: the chart of this name, and its scripts of 100, 1,100, 2,000 and 6,000 scans: a number is the ring of so many steps, `lamp`
-# the lamp of examples, and `tasks` the chart of 16 tasks.
+# scripts_of NAME: the chart of this name, and its scripts of 100, 1,100, 2,000 and 6,000 scans: a number is the ring of so many steps,
+# `lamp` the lamp of examples, and `tasks` the chart of 16 tasks.
 scripts_of() {
   local scans
   for scans in 100 1100 2000 6000; do

@@ -9,7 +9,8 @@
 # standard error or exactly one stated text, and as the second reading of the rules (tests/reading) answers: the same refusal and line,
 # and where the script has at most 250 commands on a plant that isn't large, the same output. A chart without fault is listed, and the
 # listing lists and plays the same. What differs is kept in a folder `damaged` among the temporary files, and told with the command that
-# runs it again. What `why` tells has to be what check and replay refuse the texts for, at a place that lies in them. Before the last line, how many inputs had which answer; the last line is 'N passed, M failed'.
+# runs it again. What `why` tells has to be what check and replay refuse the texts for, at a place that lies in them. Before the last line, how
+# many inputs had which answer; the last line is 'N passed, M failed'.
 set -u
 here=$(cd "$(dirname "${BASH_SOURCE[0]}")" && pwd)
 # shellcheck source=tests/common.sh

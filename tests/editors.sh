@@ -1,8 +1,8 @@
 #!/usr/bin/env bash
 # Runs the files of editors/ over what the program prints and over the examples: the problem matcher of VS Code and the errorformat of
 # Vim find the first line of `sfcmon why`, with its file, line, column and fault, and no other line; the grammars give each word of the
-# language in a chart or a script its scope. The last line is 'N passed, M failed'. Without node nothing is asked, without vim what is Vim's;
-# that is said.
+# language in a chart or a script its scope. The last line is 'N passed, M failed'. Without node nothing is asked, and that is said; without
+# vim what is Vim's isn't.
 set -u
 here=$(cd "$(dirname "${BASH_SOURCE[0]}")" && pwd)
 # shellcheck source=tests/common.sh
@@ -46,7 +46,8 @@ fault colon 2 48 'script line 2' 5 "$examples/lamp.chart" colon.script
 if command -v vim >/dev/null; then
   for out in *.out; do
     vim -es -u NONE -i NONE -c "set rtp^=$top/editors/vim" -c 'compiler! sfcmon' -c "cgetfile $out" \
-      -c "call writefile(map(getqflist(), 'json_encode(v:val)'), '${out%.out}.vim')" -c 'call writefile(map(getqflist(), "bufname(v:val.bufnr)"), "names.tmp")' \
+      -c "call writefile(map(getqflist(), 'json_encode(v:val)'), '${out%.out}.vim')" \
+      -c 'call writefile(map(getqflist(), "bufname(v:val.bufnr)"), "names.tmp")' \
       -c 'qa!' </dev/null >/dev/null 2>&1
     mv names.tmp "${out%.out}.names" 2>/dev/null
   done

@@ -80,8 +80,8 @@ ends 0 && cmp -s "$work/out" "$work/shown.chart" && says ""
 note $? "the listing that is shown"
 for example in "$examples"/*.chart "$work/press.chart"; do
   run list "$example"
-  ends 0 && says "" && cp "$work/out" "$work/listed.chart" && run list "$work/listed.chart" && ends 0 && cmp -s "$work/out" "$work/listed.chart" \
-    && run check "$work/listed.chart" && ends 0
+  ends 0 && says "" && cp "$work/out" "$work/listed.chart" && run list "$work/listed.chart" && ends 0 \
+    && cmp -s "$work/out" "$work/listed.chart" && run check "$work/listed.chart" && ends 0
   note $? "$(basename "$example"), listed"
 done
 run list --help
@@ -108,7 +108,13 @@ run replay "$chart" "$work/early.script"
 ends 0 && mentions "refused 29 NotDue" out && says ""
 note $? "a command that is refused leaves status 0"
 # strict TITLE STATUS CHART SCRIPT: the output is that without --strict, and the status is this one
-strict() { run replay "$3" "$4"; cp "$work/out" "$work/plain"; run replay --strict "$3" "$4"; ends "$2" && says "" && cmp -s "$work/out" "$work/plain"; note $? "$1"; }
+strict() {
+  run replay "$3" "$4"
+  cp "$work/out" "$work/plain"
+  run replay --strict "$3" "$4"
+  ends "$2" && says "" && cmp -s "$work/out" "$work/plain"
+  note $? "$1"
+}
 strict "nothing is refused, with --strict" 0 "$chart" "$script"
 strict "a command that is refused, with --strict" 1 "$chart" "$work/early.script"
 sed 's/Lamp(N)/Lamp(L, T#1s); Lamp(D, T#1s)/' "$chart" >"$work/timed.chart"
@@ -472,6 +478,16 @@ note $? "the chart of an edge"
 live '' --trace 0 "$work/edge.chart"
 ends 0 && says "" && [ "$(cat "$work/out")" = "audit ok 1" ]
 note $? "a run without commands"
+# The lamp's own task is due at once, so a busy machine may scan it before the input is seen to end; of twenty runs one at least ends first.
+first=0
+for ((n = 0; n < 20; n++)); do
+  run run --trace 0 "$chart"
+  ends 0 && says "" && grep -qxE 'audit ok [1-9][0-9]*' "$work/out" && [ "$(wc -l <"$work/out")" = 1 ]
+  note $? "the lamp in real time, without commands"
+  if last "audit ok 1"; then first=$((first + 1)); fi
+done
+[ "$first" -gt 0 ]
+note $? "the lamp in real time, with no command and no scan"
 live $'STOP\nREAD Lamp\nFORCE Lamp TRUE\n\n ; a note\nREAD Lamp\nRELEASE Lamp\nGO' "$work/edge.chart"
 ends 0 && says "" && counted && last "audit ok 7" && [ "$(sed 's/T#[^ ]* //' "$work/out" | head -n 7)" = "1 STOP
 2 READ Lamp FALSE

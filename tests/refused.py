@@ -29,7 +29,7 @@ AUDIT = b"audit ok 4\n"
 
 
 class Ended(NamedTuple):
-    """How a run ended: its exit status (negative: a signal) and both outputs; how many allocations and reads it made, if they were counted."""
+    """How a run ended: its exit status (negative: a signal), both outputs, and how many allocations and reads it made, if that is known."""
     status: int
     out: bytes
     err: bytes
