@@ -164,7 +164,11 @@ full() {
   wait_for_all
   alone "$limit" c_library.sh "$tests/c_library.sh"
   [ ! -x "$tests/release.sh" ] || alone "$limit" release.sh "$tests/release.sh"
-  alone "$limit" bench/check.sh "$top/bench/check.sh"
+  if [ "$program" = "$top/crates/sfcmon/out/sfcmon" ]; then
+    alone "$limit" bench/check.sh "$top/bench/check.sh"
+  else
+    echo "skipped: bench/check.sh, since its budgets are those of the proved program"
+  fi
   if command -v afl-fuzz >/dev/null; then
     alone "$limit" "fuzz.sh 300" "$tests/fuzz/fuzz.sh" 300 "$work/fuzz"
   else
