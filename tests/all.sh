@@ -5,6 +5,7 @@
 # script prints about faults is shown below its line, and what it didn't ask since a tool is missing. A script that doesn't end in its time
 # counts as one that failed. The program is FILE, else the one that SFCMON names, else the proved one that `rt ci` or `./sfcmon --prove`
 # left in this clone; nothing is proved for it. The last line is 'N passed, M failed'.
+# shellcheck disable=SC2317 # what runs is called by its name
 set -u
 tests=$(cd "$(dirname "${BASH_SOURCE[0]}")" && pwd)
 mode=quick
@@ -111,10 +112,11 @@ alone() { wait_for_all; beside "$@"; wait_for_all; }
 
 # plants MODE COUNT PARTS: random plants of a subject from seed 1 on, in so many parts, which stand side by side
 plants() {
-  local each=$(($2 / $3)) part first
+  local each=$(($2 / $3)) part first title
   for ((part = 0; part < $3; part++)); do
     first=$((part * each + 1))
-    beside "$limit" "plants $1, $first to $((first + each - 1))" "$tests/reading/compare.sh" --mode "$1" "$(printf %q "$program")" "$each" "$first"
+    title="plants $1, $first to $((first + each - 1))"
+    beside "$limit" "$title" "$tests/reading/compare.sh" --mode "$1" "$(printf %q "$program")" "$each" "$first"
   done
 }
 # damages WORD COUNT FIRST PARTS: damaged texts (WORD is empty, or `why`) from a seed on, in so many parts
@@ -190,8 +192,11 @@ needs() {
   tell_counts
   exit 1
 }
-needs python3 cc timeout
-echo "$program: $mode, at most $most side by side"
-"$mode"
-echo "$((scripts_passed + scripts_failed)) scripts, $scripts_failed of which have faults, in $((SECONDS - begun)) s"
-tell_counts
+main() {
+  needs python3 cc timeout
+  echo "$program: $mode, at most $most side by side"
+  "$mode"
+  echo "$((scripts_passed + scripts_failed)) scripts, $scripts_failed of which have faults, in $((SECONDS - begun)) s"
+  tell_counts
+}
+main; exit
