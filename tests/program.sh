@@ -437,6 +437,8 @@ same "the man page has the commands" "$work/commands" <(section "$manual" COMMAN
 same "the man page has the options" "$work/options" <(section "$manual" OPTIONS | tr -d '\\,"' | sed 's/^\.BR\? //' | tr -s ' ' '\n')
 grep -qF "\"$("$program" --version)\"" "$manual"
 note $? "the man page has the version"
+[ "$("$program" --version)" = "sfcmon $("$top/tools/version")" ] && "$top/tools/version" --check >"$work/out"
+note $? "the version is the same everywhere: $(grep -v ' passed, ' "$work/out")"
 # read_by TITLE TOOL WORD..: the tool has nothing to say; it need not be there
 read_by() {
   local title=$1; shift

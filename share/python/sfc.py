@@ -81,10 +81,15 @@ _CLASSES = {-1 - k: it for k, it in enumerate(_LIBRARY)} | {24 + k: it for k, it
 SHORT = -6
 
 
+def _path():
+    """Where the library is: by the variable SFC_LIBRARY, or else beside this file, or in the lib that this file is installed in."""
+    here = os.path.dirname(os.path.abspath(__file__))
+    places = [os.path.join(here, "libsfc.so"), os.path.join(here, "..", "..", "libsfc.so.1")]
+    return os.environ.get("SFC_LIBRARY") or next((it for it in places if os.path.exists(it)), places[0])
+
+
 def _load():
-    """The library, by the variable SFC_LIBRARY, or else libsfc.so beside this file."""
-    path = os.environ.get("SFC_LIBRARY") or os.path.join(os.path.dirname(os.path.abspath(__file__)), "libsfc.so")
-    library = c.CDLL(path)
+    library = c.CDLL(_path())
     plc, text, out, t = c.POINTER(Handle), [c.c_char_p, c.c_size_t], [c.c_char_p, c.c_size_t, c.POINTER(c.c_size_t)], c.c_int64
     var, byte, reply = c.c_uint16, c.c_uint8, c.POINTER(Reply)
     kinds = {

@@ -1,8 +1,8 @@
 #!/usr/bin/env python3
 """Runs files of cases through the reading: `cases.py FOLDER`. Their form is told in crates/conformance/README.md.
 
-Listings are passed over, since the reading writes none, and so is what scripts reach together. A case that doesn't end as it is to is
-shown; the last line is `N passed, M failed, K passed over`.
+It plays charts, scripts and refusals. Listings are passed over, since the reading writes none, and so are sessions by hand, what `why`
+tells, and what scripts reach together. A case that doesn't end as it is to is shown; the last line is `N passed, M failed`.
 """
 
 import re
@@ -94,8 +94,8 @@ def case_of(path: Path) -> Case:
 
 
 def is_played(case: Case) -> bool:
-    """Whether the reading answers the case: all but a listing, and what scripts reach together (`tests/cover.sh` has these)."""
-    return case.words["command"] != "cover" and (case.words["command"] != "list" or case.words["stderr"] != "")
+    """Whether the reading answers the case: a replay or a check, or a listing that is refused (`tests/cover.sh` has what scripts reach)."""
+    return case.words["command"] in ("replay", "check") or case.words["command"] == "list" and case.words["stderr"] != ""
 
 
 def answered(case: Case) -> str:
@@ -129,7 +129,8 @@ def main() -> int:
             passed, failed = passed + (not why), failed + bool(why)
             if why:
                 print(f"differs {case.title}\n{why}")
-    print(f"{passed} passed, {failed} failed, {over} passed over")
+    print(f"{over} passed over")
+    print(f"{passed} passed, {failed} failed")
     return 1 if failed else 0
 
 
