@@ -49,16 +49,20 @@ def variables(steps: int) -> list:
             + [f"Timed{step}" for step in range(steps) if timed_qualifier(step)])
 
 
-def chart(steps: int) -> str:
-    """The text of the chart."""
-    lines = ["PROGRAM Ring"]
+def elements(steps: int) -> list:
+    """The lines of the ring's steps, transitions and action."""
+    lines = []
     for step in range(steps):
         word = "STEP" if step else "INITIAL_STEP"
         lines.append(f"  {word} S{step}: " + "".join(one + "; " for one in associations(step, steps)) + "END_STEP")
     for step in range(steps):
         lines.append(f"  TRANSITION FROM S{step} TO S{(step + 1) % steps} := S{step}.T >= T#20ms; END_TRANSITION")
-    lines += ["  ACTION Count: IF Count.Q THEN Turns := Turns + 1; END_IF; END_ACTION", "END_PROGRAM",
-              "CONFIGURATION Bench RESOURCE Cpu ON Plc VAR_GLOBAL"]
+    return lines + ["  ACTION Count: IF Count.Q THEN Turns := Turns + 1; END_IF; END_ACTION", "END_PROGRAM"]
+
+
+def chart(steps: int) -> str:
+    """The text of the chart."""
+    lines = ["PROGRAM Ring", *elements(steps), "CONFIGURATION Bench RESOURCE Cpu ON Plc VAR_GLOBAL"]
     lines += [f"  {name} : BOOL;" for name in variables(steps)]
     lines += ["  Turns : DINT;", "END_VAR", "TASK Main(INTERVAL := T#10ms, PRIORITY := 1);", "PROGRAM P WITH Main : Ring;",
               "END_RESOURCE END_CONFIGURATION"]

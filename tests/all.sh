@@ -133,6 +133,7 @@ in_both() {
   beside "$limit" editors.sh "$tests/editors.sh"
   beside "$limit" "the reading's own cases" python3 "$tests/reading/cases.py" "$top/crates/conformance/data"
   beside "$limit" tools/check-pages "$top/tools/check-pages"
+  beside "$limit" "tools/dev --paths" "$top/tools/dev" --paths
 }
 
 quick() {
@@ -164,7 +165,11 @@ full() {
   wait_for_all
   alone "$limit" c_library.sh "$tests/c_library.sh"
   [ ! -x "$tests/release.sh" ] || alone "$limit" release.sh "$tests/release.sh"
-  alone "$limit" bench/check.sh "$top/bench/check.sh"
+  if [ "$program" = "$top/crates/sfcmon/out/sfcmon" ]; then
+    alone "$limit" bench/check.sh "$top/bench/check.sh"
+  else
+    echo "skipped: bench/check.sh, since its budgets are those of the proved program"
+  fi
   if command -v afl-fuzz >/dev/null; then
     alone "$limit" "fuzz.sh 300" "$tests/fuzz/fuzz.sh" 300 "$work/fuzz"
   else
