@@ -268,14 +268,14 @@ try_cut_off() {
   cut_off TERM
   leaves_nothing; note $? "a build that is ended leaves nothing"
   cut_off KILL
-  ! [ -e "$clone/build/unproved/latest-sfcmon" ]; note $? "a build that is killed leaves nothing that would be run"
+  [ -z "$(compgen -G "$clone/build/unproved/latest*")" ]; note $? "a build that is killed leaves nothing that would be run"
   does ''
   replay
   is_lamp && leaves_nothing; note $? "the next build clears away what it left"
   forget
   does hang
   printf '\003' | (sleep 1.5; cat; sleep 1) | at_terminal check "$lamp.chart"
-  leaves_nothing && ! [ -e "$clone/build/unproved/latest-sfcmon" ]; note $? "Ctrl-C ends a build"
+  leaves_nothing && [ -z "$(compgen -G "$clone/build/unproved/latest*")" ]; note $? "Ctrl-C ends a build"
   does slow
   at_terminal check "$lamp.chart" <"$work/none"
   ends 0 && [ "$(tr -d '\r' <"$work/out" | wc -l)" = 2 ] && grep -qE $'\r\033\\[Ksfcmon: .* [0-9]+ s of some .*\r\033\\[K' "$work/out"
