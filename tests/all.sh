@@ -137,6 +137,7 @@ in_both() {
   beside "$limit" pictures.sh "$tests/pictures.sh"
   beside "$limit" editors.sh "$tests/editors.sh"
   beside "$limit" "the reading's own cases" python3 "$tests/reading/cases.py" "$top/crates/conformance/data"
+  beside "$limit" scripts.sh "$tests/scripts.sh"
   beside "$limit" tools/check-pages "$top/tools/check-pages"
   beside "$limit" "tools/dev --paths" "$top/tools/dev" --paths
 }

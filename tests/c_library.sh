@@ -38,6 +38,8 @@ done
 if command -v valgrind >/dev/null; then
   valgrind -q --error-exitcode=9 --leak-check=full --show-leak-kinds=all "$work/try" opens "$top/examples/lamp.chart" 100000
   note $? "100000 openings under valgrind"
+else
+  echo "not asked, valgrind isn't there: 100000 openings under valgrind"
 fi
 [ "$("$build/bench" "$top/examples/pump.chart" Main 200000 1000000 2>/dev/null)" = "1000000 scans, 0 overruns" ]; note $? "the bench"
 printf '' | timeout 20 "$build/loop" "$top/examples/pump.chart" >"$work/loop"; note $? "the loop"

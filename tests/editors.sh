@@ -1,8 +1,8 @@
 #!/usr/bin/env bash
 # Runs the files of editors/ over what the program prints and over the examples: the problem matcher of VS Code and the errorformat of
 # Vim find the first line of `sfcmon why`, with its file, line, column and fault, and no other line; the grammars give each word of the
-# language in a chart or a script its scope. The last line is 'N passed, M failed'. Without node nothing is asked, and that is said; without
-# vim what is Vim's isn't.
+# language in a chart or a script its scope. The last line is 'N passed, M failed'. Without node nothing is asked, and
+# without vim nothing of Vim's; that is said.
 set -u
 here=$(cd "$(dirname "${BASH_SOURCE[0]}")" && pwd)
 # shellcheck source=tests/common.sh
@@ -51,5 +51,7 @@ if command -v vim >/dev/null; then
       -c 'qa!' </dev/null >/dev/null 2>&1
     mv names.tmp "${out%.out}.names" 2>/dev/null
   done
+else
+  echo "not asked, vim isn't there: the errorformat of Vim"
 fi
 node "$here/editors/editors.js" "$top" "$work"
