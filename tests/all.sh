@@ -143,7 +143,7 @@ in_both() {
 }
 
 quick() {
-  limit=900
+  limit=1800
   alone "$limit" program.sh "$tests/program.sh"
   alone "$limit" "pressure.sh 10000" "$tests/pressure.sh" 10000
   [ ! -x "$tests/launcher.sh" ] || alone "$limit" "launcher.sh quick" "$tests/launcher.sh" quick
