@@ -1,0 +1,2 @@
+-- what is cut off the bytes that are held
+pub mod Cutting
