@@ -6,5 +6,7 @@ pub mod Frames
 pub mod Views
 -- messages of a stream
 pub mod Streams
+-- a client, from its first message to its last
+pub mod Serving
 -- cited by private clauses alone
 pub mod Private

@@ -65,6 +65,7 @@ fn next_of<R: Read>(
 ) -> Result<Option<Vec<u8>>, FrameFault>
     ensures message { IfOk result (Takes (prepend_known held.old.items (R.remaining reader.old)) (prepend_known held.new.items (R.remaining reader.new))) }
     ensures fault { IfErr result (Shows held.new.items) }
+    ensures nothing { result ≡ Ok None → (held.new.items ≡ []) × IsAtEnd (R.remaining reader.new) }
     ensures end { IsErrOf result FrameFault.EndsWithin → IsAtEnd (R.remaining reader.new) }
     ensures kept { OnErr result (Keeps (prepend_known held.old.items (R.remaining reader.old)) (prepend_known held.new.items (R.remaining reader.new))) }
 {
@@ -111,6 +112,7 @@ impl Incoming {
     pub fn next_message<R: Read>(&mut self, reader: &mut R) -> Result<Option<Vec<u8>>, FrameFault>
         ensures message { IfOk result (Takes (prepend_known self.old (R.remaining reader.old)) (prepend_known self.new (R.remaining reader.new))) }
         ensures fault { IfErr result (Shows self.new) }
+        ensures nothing { result ≡ Ok None → (self.new ≡ []) × IsAtEnd (R.remaining reader.new) }
         ensures end { IsErrOf result FrameFault.EndsWithin → IsAtEnd (R.remaining reader.new) }
         ensures kept { OnErr result (Keeps (prepend_known self.old (R.remaining reader.old)) (prepend_known self.new (R.remaining reader.new))) }
     {

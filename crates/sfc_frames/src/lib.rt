@@ -5,7 +5,8 @@
 //! - `frame_fault`: why no message is read, or none is written.
 //! - `incoming`: the messages of a reader.
 //! - `laws`: what holds of the definitions themselves.
-//! - `outgoing`: a message written as a frame.
+//! - `outbox`: messages for a client, in order; `outgoing`: a message written as a frame.
+//! - `serving`: a client, from its first message to its last.
 #![tactic(auto)]
 
 pub mod cut;
@@ -13,4 +14,6 @@ pub mod frame_fault;
 pub mod incoming;
 pub mod laws;
 mod line;
+pub mod outbox;
 pub mod outgoing;
+pub mod serving;
