@@ -1,4 +1,4 @@
--- The numbers of errors (JSON-RPC 2.0, and the Language Server Protocol).
+-- The numbers of errors (JSON-RPC, and the Language Server Protocol).
 use Rattle.std.specs.Prelude.{ℤ, negsuc}
 use Rattle.sfc_wire.specs.declared.error_code.ErrorCode.{ErrorCode}
 use Rattle.sfc_wire.specs.declared.error_code.ErrorCode.TheVariants as codes

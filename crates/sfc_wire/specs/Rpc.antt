@@ -1,5 +1,5 @@
--- What a message is (JSON-RPC 2.0). Members of other names are passed over, and they may be in any order.
-use Rattle.std.specs.Prelude.{ℕ, Bool, true, false, if◌then◌else◌, List, Option, Some, None, option_and_then, codes, nat_eq}
+-- What a message is (JSON-RPC). Members of other names are passed over, and they may be in any order.
+use Rattle.std.specs.Prelude.{◌≡◌, ⊤, ℕ, Bool, true, false, if◌then◌else◌, List, Option, Some, None, option_and_then, codes, nat_eq}
 use Rattle.std.specs.Cmp.Lexicographic.{pointwise}
 use Rattle.serde_json.specs.Data.{Data, null, boolean, number, string, array, object}
 use Rattle.serde_json.specs.Find.{as_str, get}
@@ -22,6 +22,9 @@ is_id (string s) = true
 is_id (array ds) = false
 is_id (object ms) = false
 
+abbrev pub IsId : Data → Type 0
+IsId id = is_id id ≡ true
+
 -- the value, if it can be an id
 abbrev pub as_id : Data → Option Data
 as_id id = if is_id id then Some id else None
@@ -33,7 +36,7 @@ abbrev pub is_two : Option (List ℕ) → Bool
 is_two None = false
 is_two (Some version) = pointwise nat_eq version (codes "2.0")
 
--- it says that it is of version 2.0
+-- it says the version of the protocol
 abbrev pub has_version : Data → Bool
 has_version message = is_two (option_and_then as_str (get (codes "jsonrpc") message))
 
@@ -75,3 +78,11 @@ by_method message (Some method) = named message (as_str method)
 -- What a message is: a request or a notification where it has a method, and a response where it has none.
 unfoldable pub message_of : Data → Message
 message_of message = if has_version message then by_method message (get (codes "method") message) else invalid (id_of message)
+
+-- what is asked for under an id has one
+abbrev pub HasId : Message → Type 0
+HasId (request id method params) = IsId id
+HasId (notification method params) = ⊤
+HasId (success id value) = ⊤
+HasId (failure id error) = ⊤
+HasId (invalid id) = ⊤

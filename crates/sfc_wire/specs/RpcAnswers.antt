@@ -1,4 +1,4 @@
--- Responses, notifications and requests (JSON-RPC 2.0). The members are in the order of their keys.
+-- Responses, notifications and requests (JSON-RPC). The members are in the order of their keys.
 use Rattle.std.specs.Prelude.{ℕ, List, codes}
 use Rattle.serde_json.specs.Data.{Data, member, no_members, number, object, string, unsigned}
 use Rattle.serde_json.specs.Find.{of_integer}

@@ -1,4 +1,4 @@
-//! The errors of JSON-RPC 2.0, and those of the Language Server Protocol that a server here answers.
+//! The errors of JSON-RPC, and those of the Language Server Protocol that a server here answers.
 
 ghost use Rattle.std.specs.Prelude.{◌≡◌};
 ghost use Rattle.sfc_wire.specs.Errors.{number_of};

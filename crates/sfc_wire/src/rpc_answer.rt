@@ -1,4 +1,4 @@
-//! Responses, notifications and requests of JSON-RPC 2.0. The one error of each call is that memory was refused.
+//! Responses, notifications and requests of JSON-RPC. The one error of each call is that memory was refused.
 
 ghost use Rattle.std.specs.Prelude.{◌≡◌, IfOk};
 ghost use Rattle.serde_json.specs.View.{view};

@@ -1,4 +1,4 @@
-//! What a message of JSON-RPC 2.0 is.
+//! What a message of JSON-RPC is.
 
 ghost use Rattle.std.specs.Prelude.{◌≡◌, option_map};
 ghost use Rattle.serde_json.specs.View.{view};
@@ -46,7 +46,8 @@ fn id_of(message: &Value) -> Option<&Value>
 
 // A message with a method.
 fn calling<'a>(message: &'a Value, method: &'a str) -> Message<'a>
-    ensures { as_message result ≡ rpc.calling (view message.entry.now) method.entry.now }
+    ensures value { as_message result ≡ rpc.calling (view message.entry.now) method.entry.now }
+    ensures id { rpc.HasId (as_message result) }
 {
     let call = Call {
         method,
@@ -61,7 +62,8 @@ fn calling<'a>(message: &'a Value, method: &'a str) -> Message<'a>
 
 // A message without a method that has an id.
 fn answering<'a>(message: &'a Value, id: &'a Value) -> Message<'a>
-    ensures { as_message result ≡ rpc.answering (view message.entry.now) (view id.entry.now) }
+    ensures value { as_message result ≡ rpc.answering (view message.entry.now) (view id.entry.now) }
+    ensures id { rpc.HasId (as_message result) }
 {
     if let Some(error) = message.get("error") {
         return Message::Failure(id, error);
@@ -74,7 +76,8 @@ fn answering<'a>(message: &'a Value, id: &'a Value) -> Message<'a>
 
 // A message without a method.
 fn answering_any(message: &Value) -> Message<'_>
-    ensures { as_message result ≡ rpc.answering_any (view message.now) }
+    ensures value { as_message result ≡ rpc.answering_any (view message.now) }
+    ensures id { rpc.HasId (as_message result) }
 {
     match id_of(message) {
         Some(id) => answering(message, id),
@@ -82,7 +85,7 @@ fn answering_any(message: &Value) -> Message<'_>
     }
 }
 
-// Whether it says that it is of version 2.0.
+// Whether it says the version of the protocol.
 fn has_version(message: &Value) -> bool
     ensures { result ≡ rpc.has_version (view message.now) }
 {
@@ -92,11 +95,12 @@ fn has_version(message: &Value) -> bool
     }
 }
 
-/// What a message is. It is a request or a notification where it has a method, and a response where it has none; without
-/// `"jsonrpc": "2.0"` it is invalid.
+/// What a message is. It is a request or a notification where it has a method, and a response where it has none. A message that
+/// does not say the version of the protocol, as its member `jsonrpc`, is invalid.
 #[tactic(auto, unfolding(crate::specs::Rpc::message_of))]
 pub fn message_of(message: &Value) -> Message<'_>
-    ensures { as_message result ≡ rpc.message_of (view message.now) }
+    ensures value { as_message result ≡ rpc.message_of (view message.now) }
+    ensures id { rpc.HasId (as_message result) }
 {
     if !has_version(message) {
         return Message::Invalid(id_of(message));
