@@ -17,15 +17,15 @@ number_behind seq (text ∷ texts) = number_behind (next_number seq) texts
 
 -- the response with this number to this request
 pub record IsResponse (seq : ℕ) (request : Request) (message : Data) : Type 0 where
-  pub type : get (codes "type") message ≡ Some (string (codes "response"))
-  pub number : get (codes "seq") message ≡ Some (number (unsigned seq))
-  pub request : get (codes "request_seq") message ≡ Some (number (unsigned request.seq))
-  pub command : get (codes "command") message ≡ Some (string request.command)
+  pub is_response : get (codes "type") message ≡ Some (string (codes "response"))
+  pub numbered : get (codes "seq") message ≡ Some (number (unsigned seq))
+  pub answers : get (codes "request_seq") message ≡ Some (number (unsigned request.seq))
+  pub names : get (codes "command") message ≡ Some (string request.command)
 
 -- an event with this number
 pub record IsEvent (seq : ℕ) (message : Data) : Type 0 where
-  pub type : get (codes "type") message ≡ Some (string (codes "event"))
-  pub number : get (codes "seq") message ≡ Some (number (unsigned seq))
+  pub is_event : get (codes "type") message ≡ Some (string (codes "event"))
+  pub numbered : get (codes "seq") message ≡ Some (number (unsigned seq))
 
 -- a text that says such a thing
 abbrev pub Says : (Data → Type 0) → List ℕ → Type 0

@@ -25,6 +25,11 @@ is_id (object ms) = false
 abbrev pub IsId : Data → Type 0
 IsId id = is_id id ≡ true
 
+-- the same where there is a value
+abbrev pub MayBeId : Option Data → Type 0
+MayBeId None = ⊤
+MayBeId (Some id) = IsId id
+
 -- the value, if it can be an id
 abbrev pub as_id : Data → Option Data
 as_id id = if is_id id then Some id else None
@@ -79,10 +84,10 @@ by_method message (Some method) = named message (as_str method)
 unfoldable pub message_of : Data → Message
 message_of message = if has_version message then by_method message (get (codes "method") message) else invalid (id_of message)
 
--- what is asked for under an id has one
+-- the id of what is asked for is one, and that of what is no message too, where it has one
 abbrev pub HasId : Message → Type 0
 HasId (request id method params) = IsId id
 HasId (notification method params) = ⊤
 HasId (success id value) = ⊤
 HasId (failure id error) = ⊤
-HasId (invalid id) = ⊤
+HasId (invalid id) = MayBeId id

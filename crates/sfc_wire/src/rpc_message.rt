@@ -38,7 +38,8 @@ fn is_id(value: &Value) -> bool
 
 // The id, where a message has one.
 fn id_of(message: &Value) -> Option<&Value>
-    ensures { option_map (λ id. view id.now) result ≡ rpc.id_of (view message.now) }
+    ensures value { option_map (λ id. view id.now) result ≡ rpc.id_of (view message.now) }
+    ensures id { rpc.MayBeId (option_map (λ id. view id.now) result) }
 {
     let id = message.get("id")?;
     if is_id(id) { Some(id) } else { None }
@@ -62,6 +63,7 @@ fn calling<'a>(message: &'a Value, method: &'a str) -> Message<'a>
 
 // A message without a method that has an id.
 fn answering<'a>(message: &'a Value, id: &'a Value) -> Message<'a>
+    requires { rpc.IsId (view id.now) }
     ensures value { as_message result ≡ rpc.answering (view message.entry.now) (view id.entry.now) }
     ensures id { rpc.HasId (as_message result) }
 {

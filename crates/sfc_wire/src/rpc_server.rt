@@ -4,7 +4,7 @@ ghost use Rattle.std.specs.Prelude.{◌≡◌, None, option_map, unwrap_or, IfOk
 ghost use Rattle.serde_json.specs.Errors.{IsMemory};
 ghost use Rattle.serde_json.specs.View.{view};
 ghost use Rattle.sfc_frames.specs.Serving.{Puts};
-ghost use Rattle.sfc_wire.specs.Rpc.{IsId, message_of as message_kind};
+ghost use Rattle.sfc_wire.specs.Rpc.{IsId, MayBeId, message_of as message_kind};
 ghost use Rattle.serde_json.specs.Data.{null};
 ghost use Rattle.sfc_wire.specs.RpcAnswers.{failure_of};
 ghost use Rattle.sfc_wire.specs.RpcAnswered.{AnswersMessage, Answers, AreCalls, Refuses, Responds};
@@ -59,6 +59,7 @@ fn refuse_any(
     reason: &str,
     outbox: &mut Outbox,
 ) -> Result<Flow, AllocError>
+    requires { MayBeId (option_map (λ id. view id.now) id) }
     ensures { OnOk result (Puts outbox.old outbox.new (Refuses (option_map (λ id. view id.now) id.entry) code)) }
 {
     let message = failure_any(alloc, id, code, reason)?;
