@@ -8,7 +8,8 @@ use std::alloc::Global;
 use std::test::Fail;
 
 // Two messages, the first with a field of another name.
-const TWO: &[u8] = b"Content-Length: 2\r\nContent-Type: application/vscode-jsonrpc; charset=utf-8\r\n\r\n{}content-length:2\r\n\r\n[]";
+const TWO: &[u8] =
+    b"Content-Length: 2\r\nContent-Type: application/vscode-jsonrpc; charset=utf-8\r\n\r\n{}content-length:2\r\n\r\n[]";
 
 // What is read of a stream: whether a first message, a second one, and its end came as they should.
 fn reads_two(alloc: Global, reader: &mut Drip<'_>) -> Result<bool, FrameFault> {
@@ -113,6 +114,9 @@ fn a_read_that_fails_loses_nothing(rt: HostRuntime) -> Result<(), Fail> {
 fn a_message_is_written_as_a_frame(rt: HostRuntime) -> Result<(), Fail> {
     let mut bytes = Vec::new(rt.alloc());
     put_message(&mut bytes, b"{\"seq\":1}")?;
-    assert_eq!(rt; bytes.as_slice(), b"Content-Length: 9\r\n\r\n{\"seq\":1}".as_slice());
+    assert_eq!(rt;
+        bytes.as_slice(),
+        b"Content-Length: 9\r\n\r\n{\"seq\":1}".as_slice()
+    );
     Ok(())
 }

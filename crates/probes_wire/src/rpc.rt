@@ -29,7 +29,13 @@ impl RpcServer for Shutting {
         if call.method == "shutdown" {
             return respond(self.alloc, id, Value::Null, outbox);
         }
-        refuse(self.alloc, id, ErrorCode::MethodNotFound, "no such method", outbox)
+        refuse(
+            self.alloc,
+            id,
+            ErrorCode::MethodNotFound,
+            "no such method",
+            outbox,
+        )
     }
 
     fn notification(&mut self, call: Call<'_>, _outbox: &mut Outbox) -> Result<Flow, AllocError> {
@@ -52,6 +58,7 @@ const ASKED: [&[u8]; 8] = [
     b"{\"jsonrpc\":\"2.0\",\"id\":5,\"result\":{}}",
     b"{\"jsonrpc\":\"2.0\",\"method\":\"exit\"}",
 ];
+
 const TOLD: [&[u8]; 5] = [
     b"{\"id\":1,\"jsonrpc\":\"2.0\",\"result\":null}",
     b"{\"error\":{\"code\":-32601,\"message\":\"no such method\"},\"id\":\"two\",\"jsonrpc\":\"2.0\"}",
@@ -70,12 +77,7 @@ fn frames(alloc: Global, messages: &[&[u8]]) -> Result<Vec<u8>, Fail> {
 }
 
 // How a client is left that writes these bytes, at most so many at a time; what it is told goes to `told`.
-fn talk(
-    alloc: Global,
-    asked: &[u8],
-    most: usize,
-    told: &mut Vec<u8>,
-) -> Result<Flow, ServeFault> {
+fn talk(alloc: Global, asked: &[u8], most: usize, told: &mut Vec<u8>) -> Result<Flow, ServeFault> {
     let mut client = RpcClient::new(alloc, Shutting { alloc });
     let mut incoming = Incoming::new(alloc);
     let mut reader = Drip::new(asked, most);

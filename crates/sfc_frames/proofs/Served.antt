@@ -40,7 +40,7 @@ served_more Tells stream left later before middle after old mid flow new message
   begins = begins_more stream left later s.messages message s.begins t;
   talks = (mid, s.told, told.0, refl, s.talks, told.2);
   written = subst (λ (x : List ℕ). Appends before after x) (sym (flat_map-frames s.told told.0))
-    (Appends-more before middle after (flat_map frame s.told) (flat_map frame told.0) s.written told.1);
+      (Appends-more before middle after (flat_map frame s.told) (flat_map frame told.0) s.written told.1);
 }
 
 -- the stream has come to its end
@@ -53,7 +53,11 @@ begins_all (Some bytes) (Some rest) later messages b t =
 pub served_all : {S : Type 0} (Tells : S → List ℕ → List (List ℕ) → Flow → S → Type 0) (stream left later before after : Option (List ℕ)) (old new : S)
     → IsServed Tells stream left before after old GoesOn new → Takes left later None → IsServed Tells stream later before after old GoesOn new
 served_all Tells stream left later before after old new s t = record {
-  messages = s.messages; told = s.told; begins = begins_all stream left later s.messages s.begins t; talks = s.talks; written = s.written;
+  messages = s.messages;
+  told = s.told;
+  begins = begins_all stream left later s.messages s.begins t;
+  talks = s.talks;
+  written = s.written;
 }
 
 pub stops_answering : (held : List ℕ) (fault : ServeFault) → IsOfAnswer fault → StopsBy held fault

@@ -1,13 +1,11 @@
 -- What was put behind other texts (Debug Adapter Protocol).
-use Rattle.std.proofs.Common.{◌≡◌, ℕ, Option, Some, None, Result, Ok, Err, List, [], ◌∷◌, ◌++◌, refl, sym, ap, ◌∙◌, subst, append_assoc, append-nil}
-use Rattle.std.specs.Prelude.{IsUtf8, OnOk}
+use Rattle.std.proofs.Common.{◌≡◌, ℕ, List, [], ◌∷◌, ◌++◌, refl, sym, ap, ◌∙◌, subst, append_assoc, append-nil}
 use Rattle.sfc_frames.specs.Serving.{Puts}
 use Rattle.serde_json.specs.Data.{Data}
-use Rattle.serde_json.specs.Read.{read}
-use Rattle.sfc_wire.specs.Dap.{Request, event_of, failure_of, request_of, success_of}
-use Rattle.sfc_wire.specs.DapAnswered.{Answers, AnswersMessage, AreEvents, Responds, RespondsTo, TellsEvents, next_number, number_behind}
-use Rattle.sfc_wire.specs.Texts.{IsWritten, PutsMessage, Reads}
-use Rattle.sfc_wire.proofs.Told.{not_there, one, same_message}
+use Rattle.sfc_wire.specs.Dap.{Request, event_of, failure_of, success_of}
+use Rattle.sfc_wire.specs.DapAnswered.{AreEvents, Responds, RespondsTo, TellsEvents, next_number, number_behind}
+use Rattle.sfc_wire.specs.Texts.{IsWritten, PutsMessage}
+use Rattle.sfc_wire.proofs.Told.{one}
 
 pub responds_success : (before behind : List (List ℕ)) (request : Request) (old new : ℕ) (value : Data) → PutsMessage before behind (success_of old request.seq request.command value)
     → new ≡ next_number old → Puts before behind (RespondsTo request old new)
@@ -15,7 +13,7 @@ responds_success before behind request old new value p e = (
   p.0,
   p.1,
   one (IsWritten (success_of old request.seq request.command value)) (RespondsTo request old new)
-    (λ text w. (((success_of old request.seq request.command value, w, record { is_response = refl; numbered = refl; answers = refl; names = refl }), tt), e)) p.0 p.2,
+      (λ text w. (((success_of old request.seq request.command value, w, record { is_response = refl; numbered = refl; answers = refl; names = refl }), tt), e)) p.0 p.2,
 )
 
 pub responds_failure : (before behind : List (List ℕ)) (request : Request) (old new : ℕ) (reason : List ℕ) → PutsMessage before behind (failure_of old request.seq request.command reason)
@@ -24,7 +22,7 @@ responds_failure before behind request old new reason p e = (
   p.0,
   p.1,
   one (IsWritten (failure_of old request.seq request.command reason)) (RespondsTo request old new)
-    (λ text w. (((failure_of old request.seq request.command reason, w, record { is_response = refl; numbered = refl; answers = refl; names = refl }), tt), e)) p.0 p.2,
+      (λ text w. (((failure_of old request.seq request.command reason, w, record { is_response = refl; numbered = refl; answers = refl; names = refl }), tt), e)) p.0 p.2,
 )
 
 pub tells_event : (before behind : List (List ℕ)) (word : List ℕ) (old new : ℕ) (value : Data) → PutsMessage before behind (event_of old word value)
@@ -33,7 +31,7 @@ tells_event before behind word old new value p e = (
   p.0,
   p.1,
   one (IsWritten (event_of old word value)) (TellsEvents old new)
-    (λ text w. (((event_of old word value, w, record { is_event = refl; numbered = refl }), tt), e)) p.0 p.2,
+      (λ text w. (((event_of old word value, w, record { is_event = refl; numbered = refl }), tt), e)) p.0 p.2,
 )
 
 -- ---- texts behind others
@@ -69,29 +67,3 @@ tells_then old next new before middle behind p q = (
   q.1 ∙ ap (λ m. m ++ q.0) p.1 ∙ append_assoc before p.0 q.0,
   (are_events old p.0 q.0 p.2.0 (subst (λ n. AreEvents n q.0) p.2.1 q.2.0), numbers_then old next new p.0 q.0 p.2.1 q.2.1),
 )
-
--- ---- a text
-
-answers_read : (old new : ℕ) (text : List ℕ) (message : Data) (told : List (List ℕ)) → Reads text message → AnswersMessage (request_of message) old new told
-    → Answers old new text told
-answers_read old new text message told r a = record {
-  json = λ other s. subst (λ (d : Data). AnswersMessage (request_of d) old new told) (same_message (read text) message other r.1 s.1) a;
-  other = λ none. not_there (read text) message (none r.0) r.1;
-}
-
-answers_unread : (old new : ℕ) (text : List ℕ) (told : List (List ℕ)) → (IsUtf8 text → read text ≡ None) → TellsEvents old new told → Answers old new text told
-answers_unread old new text told none a = record { json = λ message s. not_there (read text) message (none s.0) s.1; other = λ h. a }
-
-pub told_of : (kind same : Option Request) (old new : ℕ) (before behind : List (List ℕ)) → kind ≡ same → Puts before behind (AnswersMessage kind old new)
-    → Puts before behind (AnswersMessage same old new)
-told_of kind same old new before behind e p = subst (λ (m : Option Request). Puts before behind (AnswersMessage m old new)) e p
-
-pub told_read : {X E : Type 0} (r : Result X E) (old new : ℕ) (text : List ℕ) (message : Data) (before behind : List (List ℕ)) → Reads text message
-    → OnOk r (Puts before behind (AnswersMessage (request_of message) old new)) → OnOk r (Puts before behind (Answers old new text))
-told_read (Ok x) old new text message before behind h p = (p.0, p.1, answers_read old new text message p.0 h p.2)
-told_read (Err e) old new text message before behind h p = tt
-
-pub told_unread : {X E : Type 0} (r : Result X E) (P : Type 0) (old new : ℕ) (text : List ℕ) (before behind : List (List ℕ)) → (P → IsUtf8 text → read text ≡ None)
-    → OnOk r P → OnOk r (Puts before behind (TellsEvents old new)) → OnOk r (Puts before behind (Answers old new text))
-told_unread (Ok x) P old new text before behind h k p = (p.0, p.1, answers_unread old new text p.0 (h k) p.2)
-told_unread (Err e) P old new text before behind h k p = tt

@@ -1,15 +1,13 @@
 -- What was put behind other texts.
-use Rattle.std.proofs.Common.{◌≡◌, ℕ, ◌≤◌, arith, Bool, true, false, Option, Some, None, Result, Ok, Err, if◌then◌else◌, List, [], ◌∷◌, ◌++◌, refl, sym, ap, ◌∙◌, subst, append_assoc, append-nil}
-use Rattle.std.specs.Prelude.{IsUtf8, OnOk, unwrap_or}
+use Rattle.std.proofs.Common.{◌≡◌, ℕ, ◌≤◌, arith, Bool, true, false, Option, Some, None, if◌then◌else◌, List, [], ◌∷◌, ◌++◌, refl, sym, ap, ◌∙◌, subst, append_assoc, append-nil}
+use Rattle.std.specs.Prelude.{unwrap_or}
 use Rattle.sfc_frames.specs.Serving.{Puts}
 use Rattle.serde_json.specs.Data.{Data, null, boolean, number, string, array, object, depth}
-use Rattle.serde_json.specs.Read.{read}
 use Rattle.sfc_wire.specs.Rpc.{IsId, MayBeId, Message, answering_under, calling_by, failure, message_of, notification, request, success}
-use Rattle.sfc_wire.specs.RpcAnswered.{AnswersMessage, Answers, AreCalls, IsCall, IsResponseTo, Refuses, Responds, Says}
+use Rattle.sfc_wire.specs.RpcAnswered.{AreCalls, IsCall, IsResponseTo, Refuses, Responds, Says}
 use Rattle.sfc_wire.specs.RpcAnswers.{error_of, failure_of, notification_of, request_of, success_of}
-use Rattle.sfc_wire.specs.Texts.{IsOne, IsWritten, PutsMessage, Reads}
+use Rattle.sfc_wire.specs.Texts.{IsOne, IsWritten, PutsMessage}
 use Rattle.sfc_wire.specs.declared.error_code.ErrorCode.{ErrorCode}
-use Rattle.sfc_wire.specs.declared.error_code.ErrorCode.TheVariants.{ParseError}
 
 -- ---- what is written is read as what it is
 
@@ -41,7 +39,7 @@ responds_success before behind id value h p = (
   p.0,
   p.1,
   one (IsWritten (success_of id value)) (Responds id)
-    (λ text w. ((success_of id value, w, subst (IsResponseTo id) (sym (read_success id value h)) refl), tt)) p.0 p.2,
+      (λ text w. ((success_of id value, w, subst (IsResponseTo id) (sym (read_success id value h)) refl), tt)) p.0 p.2,
 )
 
 pub responds_failure : (before behind : List (List ℕ)) (id : Data) (code : ErrorCode) (reason : List ℕ) → IsId id
@@ -50,7 +48,7 @@ responds_failure before behind id code reason h p = (
   p.0,
   p.1,
   one (IsWritten (failure_of id code reason)) (Responds id)
-    (λ text w. ((failure_of id code reason, w, subst (IsResponseTo id) (sym (read_failure id code reason h)) refl), tt)) p.0 p.2,
+      (λ text w. ((failure_of id code reason, w, subst (IsResponseTo id) (sym (read_failure id code reason h)) refl), tt)) p.0 p.2,
 )
 
 pub tells_notification : (before behind : List (List ℕ)) (method : List ℕ) (params : Data) → PutsMessage before behind (notification_of method params)
@@ -59,7 +57,7 @@ tells_notification before behind method params p = (
   p.0,
   p.1,
   one (IsWritten (notification_of method params)) AreCalls
-    (λ text w. ((notification_of method params, w, subst IsCall (sym (read_notification method params)) tt), tt)) p.0 p.2,
+      (λ text w. ((notification_of method params, w, subst IsCall (sym (read_notification method params)) tt), tt)) p.0 p.2,
 )
 
 pub tells_request : (before behind : List (List ℕ)) (id : ℕ) (method : List ℕ) (params : Data) → PutsMessage before behind (request_of id method params)
@@ -116,42 +114,3 @@ depth_failure id code reason h = omega (arith, depth_id id h)
 pub depth_refusal : (id : Option Data) (code : ErrorCode) (reason : List ℕ) → MayBeId id → depth (failure_of (unwrap_or id null) code reason) ≤ 127
 depth_refusal None code reason h = omega arith
 depth_refusal (Some id) code reason h = depth_failure id code reason h
-
--- ---- a text
-
--- what is told of a message is told of this one
-pub told_of : (kind same : Message) (before behind : List (List ℕ)) → kind ≡ same → Puts before behind (AnswersMessage kind) → Puts before behind (AnswersMessage same)
-told_of kind same before behind e p = subst (λ (m : Message). Puts before behind (AnswersMessage m)) e p
-
-abbrev pub is_there : Option Data → Bool
-is_there None = false
-is_there (Some message) = true
-
-pub not_there : {Z : Type 0} (o : Option Data) (message : Data) → o ≡ None → o ≡ Some message → Z
-not_there o message none some = let bad : false ≡ true = sym (ap is_there none) ∙ ap is_there some in cc
-
-abbrev read_as : Data → Option Data → Data
-read_as other None = other
-read_as other (Some message) = message
-
-pub same_message : (o : Option Data) (a b : Data) → o ≡ Some a → o ≡ Some b → a ≡ b
-same_message o a b e f = ap (read_as a) (sym e ∙ f)
-
-answers_read : (text : List ℕ) (message : Data) (told : List (List ℕ)) → Reads text message → AnswersMessage (message_of message) told → Answers text told
-answers_read text message told r a = record {
-  json = λ other s. subst (λ (d : Data). AnswersMessage (message_of d) told) (same_message (read text) message other r.1 s.1) a;
-  other = λ none. not_there (read text) message (none r.0) r.1;
-}
-
-answers_unread : (text : List ℕ) (told : List (List ℕ)) → (IsUtf8 text → read text ≡ None) → Refuses None ParseError told → Answers text told
-answers_unread text told none a = record { json = λ message s. not_there (read text) message (none s.0) s.1; other = λ h. a }
-
-pub told_read : {X E : Type 0} (r : Result X E) (text : List ℕ) (message : Data) (before behind : List (List ℕ)) → Reads text message
-    → OnOk r (Puts before behind (AnswersMessage (message_of message))) → OnOk r (Puts before behind (Answers text))
-told_read (Ok x) text message before behind h p = (p.0, p.1, answers_read text message p.0 h p.2)
-told_read (Err e) text message before behind h p = tt
-
-pub told_unread : {X E : Type 0} (r : Result X E) (P : Type 0) (text : List ℕ) (before behind : List (List ℕ)) → (P → IsUtf8 text → read text ≡ None)
-    → OnOk r P → OnOk r (Puts before behind (Refuses None ParseError)) → OnOk r (Puts before behind (Answers text))
-told_unread (Ok x) P text before behind h k p = (p.0, p.1, answers_unread text p.0 (h k) p.2)
-told_unread (Err e) P text before behind h k p = tt

@@ -1,5 +1,7 @@
 -- What a client is told of a message (Debug Adapter Protocol). What is sent to it is numbered.
 use Rattle.std.specs.Prelude.{◌≡◌, ⊤, ℕ, ◌+◌, ◌-◌, ◌^◌, min, List, [], ◌∷◌, Option, Some, None, codes, IsUtf8}
+use Rattle.sfc_frames.specs.declared.serving.Flow.{Flow}
+use Rattle.sfc_frames.specs.declared.serving.Flow.TheVariants.{GoesOn}
 use Rattle.serde_json.specs.Data.{Data, number, string, unsigned}
 use Rattle.serde_json.specs.Find.{get}
 use Rattle.serde_json.specs.Read.{read}
@@ -48,12 +50,12 @@ RespondsTo request old new told = Responds request old told × (new ≡ number_b
 abbrev pub TellsEvents : ℕ → ℕ → List (List ℕ) → Type 0
 TellsEvents old new told = AreEvents old told × (new ≡ number_behind old told)
 
--- What is told of a message: a request has its response, first; what is none has none.
-abbrev pub AnswersMessage : Option Request → ℕ → ℕ → List (List ℕ) → Type 0
-AnswersMessage None old new told = TellsEvents old new told
-AnswersMessage (Some request) old new told = RespondsTo request old new told
+-- What is told of a message: a request has its response, first; what is none has none, and ends no client.
+abbrev pub AnswersMessage : Option Request → ℕ → ℕ → List (List ℕ) → Flow → Type 0
+AnswersMessage None old new told flow = TellsEvents old new told × (flow ≡ GoesOn)
+AnswersMessage (Some request) old new told flow = RespondsTo request old new told
 
--- what is told of a text, which may be no JSON
-pub record Answers (old new : ℕ) (text : List ℕ) (told : List (List ℕ)) : Type 0 where
-  pub json : (message : Data) → Reads text message → AnswersMessage (request_of message) old new told
-  pub other : (IsUtf8 text → read text ≡ None) → TellsEvents old new told
+-- what is told of a text, which may be no JSON, and whether more are taken
+pub record Answers (old new : ℕ) (text : List ℕ) (told : List (List ℕ)) (flow : Flow) : Type 0 where
+  pub json : (message : Data) → Reads text message → AnswersMessage (request_of message) old new told flow
+  pub other : (IsUtf8 text → read text ≡ None) → TellsEvents old new told × (flow ≡ GoesOn)

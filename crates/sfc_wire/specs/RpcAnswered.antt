@@ -1,5 +1,7 @@
 -- What a client is told of a message (JSON-RPC).
 use Rattle.std.specs.Prelude.{◌≡◌, ⊤, ℕ, List, [], ◌∷◌, Option, Some, None, unwrap_or, IsUtf8}
+use Rattle.sfc_frames.specs.declared.serving.Flow.{Flow}
+use Rattle.sfc_frames.specs.declared.serving.Flow.TheVariants.{GoesOn}
 use Rattle.serde_json.specs.Data.{Data, null}
 use Rattle.serde_json.specs.Read.{read}
 use Rattle.sfc_wire.specs.Rpc.{Message, request, notification, success, failure, invalid, message_of}
@@ -41,15 +43,15 @@ Responds id (text ∷ texts) = Says (IsResponseTo id) text × AreCalls texts
 abbrev pub Refuses : Option Data → ErrorCode → List (List ℕ) → Type 0
 Refuses id code told = (reason : List ℕ) × IsOne (IsWritten (failure_of (unwrap_or id null) code reason)) told
 
--- a request has its response, first; nothing else has one but what is no message
-abbrev pub AnswersMessage : Message → List (List ℕ) → Type 0
-AnswersMessage (request id method params) told = Responds id told
-AnswersMessage (notification method params) told = AreCalls told
-AnswersMessage (success id value) told = told ≡ []
-AnswersMessage (failure id error) told = told ≡ []
-AnswersMessage (invalid id) told = Refuses id InvalidRequest told
+-- A request has its response, first; nothing else has one but what is no message. Nothing but a notification ends a client.
+abbrev pub AnswersMessage : Message → List (List ℕ) → Flow → Type 0
+AnswersMessage (request id method params) told flow = Responds id told × (flow ≡ GoesOn)
+AnswersMessage (notification method params) told flow = AreCalls told
+AnswersMessage (success id value) told flow = (told ≡ []) × (flow ≡ GoesOn)
+AnswersMessage (failure id error) told flow = (told ≡ []) × (flow ≡ GoesOn)
+AnswersMessage (invalid id) told flow = Refuses id InvalidRequest told × (flow ≡ GoesOn)
 
--- what is told of a text: a text that is no JSON is refused too
-pub record Answers (text : List ℕ) (told : List (List ℕ)) : Type 0 where
-  pub json : (message : Data) → Reads text message → AnswersMessage (message_of message) told
-  pub other : (IsUtf8 text → read text ≡ None) → Refuses None ParseError told
+-- what is told of a text, and whether more are taken: a text that is no JSON is refused too
+pub record Answers (text : List ℕ) (told : List (List ℕ)) (flow : Flow) : Type 0 where
+  pub json : (message : Data) → Reads text message → AnswersMessage (message_of message) told flow
+  pub other : (IsUtf8 text → read text ≡ None) → Refuses None ParseError told × (flow ≡ GoesOn)

@@ -84,12 +84,7 @@ impl Sender {
     }
 
     /// Puts an event, with its body.
-    pub fn tell(
-        &mut self,
-        word: &str,
-        value: Value,
-        outbox: &mut Outbox,
-    ) -> Result<(), AllocError>
+    pub fn tell(&mut self, word: &str, value: Value, outbox: &mut Outbox) -> Result<(), AllocError>
         requires { depth (view value) ≤ 100 }
         ensures put { OnOk result (PutsMessage outbox.old outbox.new (dap.event_of self.old word.now (view value))) }
         ensures next { OnOk result (self.new ≡ next_number self.old) }

@@ -1,6 +1,6 @@
 //! A client of the Debug Adapter Protocol, whose messages are answered one by one.
 
-ghost use Rattle.std.specs.Prelude.{◌≡◌, ℕ, OnOk};
+ghost use Rattle.std.specs.Prelude.{◌≡◌, ℕ, IfOk, OnOk};
 ghost use Rattle.serde_json.specs.Errors.{IsMemory};
 ghost use Rattle.serde_json.specs.View.{view};
 ghost use Rattle.sfc_frames.specs.Serving.{Puts};
@@ -35,12 +35,11 @@ fn complain(
     sender: &mut Sender,
     reason: &str,
     outbox: &mut Outbox,
-) -> Result<Flow, AllocError>
+) -> Result<(), AllocError>
     ensures { OnOk result (Puts outbox.old outbox.new (TellsEvents sender.old sender.new)) }
 {
     let value = json!(in alloc; {"category": "important", "output": reason})?;
-    sender.tell("output", value, outbox)?;
-    Ok(Flow::GoesOn)
+    sender.tell("output", value, outbox)
 }
 
 // Answers what was read.
@@ -51,11 +50,14 @@ fn answer_read<S: DapServer>(
     message: &Value,
     outbox: &mut Outbox,
 ) -> Result<Flow, AllocError>
-    ensures { OnOk result (Puts outbox.old outbox.new (AnswersMessage (request_kind (view message.now)) sender.old sender.new)) }
+    ensures { IfOk result (λ flow. Puts outbox.old outbox.new (λ told. AnswersMessage (request_kind (view message.now)) sender.old sender.new told flow)) }
 {
     match request_of(message) {
         Some(request) => server.request(request, sender, outbox),
-        None => complain(alloc, sender, "this is no request\n", outbox),
+        None => {
+            complain(alloc, sender, "this is no request\n", outbox)?;
+            Ok(Flow::GoesOn)
+        }
     }
 }
 
@@ -65,7 +67,7 @@ fn unread(
     error: Error,
     sender: &mut Sender,
     outbox: &mut Outbox,
-) -> Result<Flow, AllocError>
+) -> Result<(), AllocError>
     ensures memory { OnOk result (¬ IsMemory error) }
     ensures told { OnOk result (Puts outbox.old outbox.new (TellsEvents sender.old sender.new)) }
 {
@@ -83,11 +85,14 @@ fn answer_text<S: DapServer>(
     text: &[u8],
     outbox: &mut Outbox,
 ) -> Result<Flow, AllocError>
-    ensures { OnOk result (Puts outbox.old outbox.new (Answers sender.old sender.new text.now)) }
+    ensures { IfOk result (λ flow. Puts outbox.old outbox.new (λ told. Answers sender.old sender.new text.now told flow)) }
 {
     match Value::from_slice(alloc, text) {
         Ok(message) => answer_read(alloc, server, sender, &message, outbox),
-        Err(error) => unread(alloc, error, sender, outbox),
+        Err(error) => {
+            unread(alloc, error, sender, outbox)?;
+            Ok(Flow::GoesOn)
+        }
     }
 }
 
@@ -120,9 +125,15 @@ impl<S: DapServer> DapClient<S> {
 }
 
 impl<S: DapServer> Answering for DapClient<S> {
-    ghost tells = { λ old text told flow new. Answers old new text told };
+    ghost tells = { λ old text told flow new. Answers old new text told flow };
 
     fn answer(&mut self, message: &[u8], outbox: &mut Outbox) -> Result<Flow, AllocError> {
-        answer_text(self.alloc, &mut self.server, &mut self.sender, message, outbox)
+        answer_text(
+            self.alloc,
+            &mut self.server,
+            &mut self.sender,
+            message,
+            outbox,
+        )
     }
 }

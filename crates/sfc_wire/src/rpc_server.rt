@@ -22,12 +22,7 @@ use std::alloc::{AllocError, Global};
 /// What does what clients ask for. The one error of each call is that memory was refused.
 pub trait RpcServer {
     /// Does what is asked for under an id: puts its one response, and behind it what else there is to tell.
-    fn request(
-        &mut self,
-        id: &Value,
-        call: Call<'_>,
-        outbox: &mut Outbox,
-    ) -> Result<(), AllocError>
+    fn request(&mut self, id: &Value, call: Call<'_>, outbox: &mut Outbox) -> Result<(), AllocError>
         requires { IsId (view id.now) }
         ensures { OnOk result (Puts outbox.old outbox.new (Responds (view id.now))) };
 
@@ -58,13 +53,13 @@ fn refuse_any(
     code: ErrorCode,
     reason: &str,
     outbox: &mut Outbox,
-) -> Result<Flow, AllocError>
+) -> Result<(), AllocError>
     requires { MayBeId (option_map (λ id. view id.now) id) }
     ensures { OnOk result (Puts outbox.old outbox.new (Refuses (option_map (λ id. view id.now) id.entry) code)) }
 {
     let message = failure_any(alloc, id, code, reason)?;
     put(alloc, &message, outbox)?;
-    Ok(Flow::GoesOn)
+    Ok(())
 }
 
 // Answers what was read.
@@ -74,7 +69,7 @@ fn answer_read<S: RpcServer>(
     message: &Value,
     outbox: &mut Outbox,
 ) -> Result<Flow, AllocError>
-    ensures { OnOk result (Puts outbox.old outbox.new (AnswersMessage (message_kind (view message.now)))) }
+    ensures { IfOk result (λ flow. Puts outbox.old outbox.new (λ told. AnswersMessage (message_kind (view message.now)) told flow)) }
 {
     match message_of(message) {
         Message::Request(id, call) => {
@@ -85,20 +80,22 @@ fn answer_read<S: RpcServer>(
         Message::Success(_, _) | Message::Failure(_, _) => Ok(Flow::GoesOn),
         Message::Invalid(id) => {
             let reason = "this is no message of JSON-RPC";
-            refuse_any(alloc, id, ErrorCode::InvalidRequest, reason, outbox)
+            refuse_any(alloc, id, ErrorCode::InvalidRequest, reason, outbox)?;
+            Ok(Flow::GoesOn)
         }
     }
 }
 
 // Refuses a text that is no JSON.
-fn unread(alloc: Global, error: Error, outbox: &mut Outbox) -> Result<Flow, AllocError>
+fn unread(alloc: Global, error: Error, outbox: &mut Outbox) -> Result<(), AllocError>
     ensures memory { OnOk result (¬ IsMemory error) }
     ensures refused { OnOk result (Puts outbox.old outbox.new (Refuses None ErrorCode.ParseError)) }
 {
     if error.is_memory() {
         return Err(AllocError);
     }
-    refuse_any(alloc, None, ErrorCode::ParseError, "this is no JSON", outbox)
+    let reason = "this is no JSON";
+    refuse_any(alloc, None, ErrorCode::ParseError, reason, outbox)
 }
 
 // Answers a text.
@@ -108,11 +105,14 @@ fn answer_text<S: RpcServer>(
     text: &[u8],
     outbox: &mut Outbox,
 ) -> Result<Flow, AllocError>
-    ensures { OnOk result (Puts outbox.old outbox.new (Answers text.now)) }
+    ensures { IfOk result (λ flow. Puts outbox.old outbox.new (λ told. Answers text.now told flow)) }
 {
     match Value::from_slice(alloc, text) {
         Ok(message) => answer_read(alloc, server, &message, outbox),
-        Err(error) => unread(alloc, error, outbox),
+        Err(error) => {
+            unread(alloc, error, outbox)?;
+            Ok(Flow::GoesOn)
+        }
     }
 }
 
@@ -132,7 +132,7 @@ impl<S: RpcServer> RpcClient<S> {
 }
 
 impl<S: RpcServer> Answering for RpcClient<S> {
-    ghost tells = { λ old text told flow new. Answers text told };
+    ghost tells = { λ old text told flow new. Answers text told flow };
 
     fn answer(&mut self, message: &[u8], outbox: &mut Outbox) -> Result<Flow, AllocError> {
         answer_text(self.alloc, &mut self.server, message, outbox)
