@@ -1,12 +1,12 @@
 -- A client, message by message.
-use Rattle.std.proofs.Common.{◌≡◌, ℕ, List, [], ◌∷◌, ◌++◌, Option, Some, None, refl, sym, ap, subst, ◌∙◌}
+use Rattle.std.proofs.Common.{ℕ, List, [], ◌∷◌, ◌++◌, Option, Some, None, refl, sym, ap, subst, ◌∙◌}
 use Rattle.std.specs.Prelude.{Vec}
 use Rattle.std.specs.Global.{Global}
 use Rattle.std.specs.List.{flat_map}
 use Rattle.std.specs.Io.KnownBytes.{Appends}
 use Rattle.sfc_base.proofs.Written.{Appends-more, Appends-none}
 use Rattle.sfc_frames.specs.Frames.{frame}
-use Rattle.sfc_frames.specs.Serving.{Begins, BeginsKnown, IsServed, IsTold, StopsBy}
+use Rattle.sfc_frames.specs.Serving.{BeginsKnown, IsServed, IsTold, StopsBy}
 use Rattle.sfc_frames.specs.Private.Answers.{IsOfAnswer}
 use Rattle.sfc_frames.specs.Streams.{Takes}
 use Rattle.sfc_frames.specs.declared.serving.Flow.{Flow}

@@ -1,5 +1,5 @@
 -- How a message stands on a stream: fields of a head, each a line that ends with CR LF; an empty line; and its bytes.
-use Rattle.std.specs.Prelude.{◌≡◌, ⊤, ℕ, ◌<◌, ◌≤◌, ◌==◌, Bool, true, not, ◌&&◌, List, [], ◌∷◌, ◌++◌, length, codes, decimal}
+use Rattle.std.specs.Prelude.{◌≡◌, ⊤, ℕ, ◌<◌, ◌==◌, Bool, true, not, ◌&&◌, List, [], ◌∷◌, ◌++◌, length, codes, decimal}
 use Rattle.std.specs.List.{flat_map}
 use Rattle.sfc_frames.specs.Heads.{field_of}
 use Rattle.sfc_frames.specs.declared.line.Field.TheVariants.{Other}

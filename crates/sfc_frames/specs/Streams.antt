@@ -1,5 +1,5 @@
 -- Messages of a stream, of which some bytes are held and others are still to come.
-use Rattle.std.specs.Prelude.{◌≡◌, ◌≢◌, ⊤, ℕ, List, [], Option, Some, None, Vec, Result, Ok, Err}
+use Rattle.std.specs.Prelude.{◌≡◌, ◌≢◌, ⊤, ℕ, List, [], Option, Some, None, Vec}
 use Rattle.std.specs.Global.{Global}
 use Rattle.sfc_frames.specs.Heads.{Whole, Short, Wrong, first}
 use Rattle.sfc_frames.specs.declared.frame_fault.FrameFault.{FrameFault}

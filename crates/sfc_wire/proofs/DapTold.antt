@@ -1,5 +1,5 @@
 -- What was put behind other texts (Debug Adapter Protocol).
-use Rattle.std.proofs.Common.{◌≡◌, ℕ, List, [], ◌∷◌, ◌++◌, refl, sym, ap, ◌∙◌, subst, append_assoc, append-nil}
+use Rattle.std.proofs.Common.{◌≡◌, ℕ, List, [], ◌∷◌, ◌++◌, refl, sym, ap, ◌∙◌, subst, append_assoc}
 use Rattle.sfc_frames.specs.Serving.{Puts}
 use Rattle.serde_json.specs.Data.{Data}
 use Rattle.sfc_wire.specs.Dap.{Request, event_of, failure_of, success_of}

@@ -1,10 +1,10 @@
 -- What was put behind other texts.
-use Rattle.std.proofs.Common.{◌≡◌, ℕ, ◌≤◌, arith, Bool, true, false, Option, Some, None, if◌then◌else◌, List, [], ◌∷◌, ◌++◌, refl, sym, ap, ◌∙◌, subst, append_assoc, append-nil}
+use Rattle.std.proofs.Common.{◌≡◌, ℕ, ◌≤◌, arith, Option, Some, None, if◌then◌else◌, List, [], ◌∷◌, ◌++◌, refl, sym, ap, ◌∙◌, subst, append_assoc, append-nil}
 use Rattle.std.specs.Prelude.{unwrap_or}
 use Rattle.sfc_frames.specs.Serving.{Puts}
 use Rattle.serde_json.specs.Data.{Data, null, boolean, number, string, array, object, depth}
-use Rattle.sfc_wire.specs.Rpc.{IsId, MayBeId, Message, answering_under, calling_by, failure, message_of, notification, request, success}
-use Rattle.sfc_wire.specs.RpcAnswered.{AreCalls, IsCall, IsResponseTo, Refuses, Responds, Says}
+use Rattle.sfc_wire.specs.Rpc.{IsId, MayBeId, answering_under, failure, message_of, notification, success}
+use Rattle.sfc_wire.specs.RpcAnswered.{AreCalls, IsCall, IsResponseTo, Refuses, Responds}
 use Rattle.sfc_wire.specs.RpcAnswers.{error_of, failure_of, notification_of, request_of, success_of}
 use Rattle.sfc_wire.specs.Texts.{IsOne, IsWritten, PutsMessage}
 use Rattle.sfc_wire.specs.declared.error_code.ErrorCode.{ErrorCode}

@@ -1,6 +1,6 @@
 -- Requests, responses and events (Debug Adapter Protocol, base protocol). The members of what is written are in the order of
 -- their keys.
-use Rattle.std.specs.Prelude.{◌≡◌, ℕ, Bool, true, false, if◌then◌else◌, List, codes, nat_eq, Option, Some, None, option_and_then}
+use Rattle.std.specs.Prelude.{ℕ, Bool, true, false, if◌then◌else◌, List, codes, nat_eq, Option, Some, None, option_and_then}
 use Rattle.std.specs.Cmp.Lexicographic.{pointwise}
 use Rattle.serde_json.specs.Data.{Data, boolean, member, no_members, number, object, string, unsigned}
 use Rattle.serde_json.specs.Find.{as_number, as_str, as_u64, get}

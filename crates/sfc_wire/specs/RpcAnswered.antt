@@ -1,5 +1,5 @@
 -- What a client is told of a message (JSON-RPC).
-use Rattle.std.specs.Prelude.{◌≡◌, ⊤, ℕ, List, [], ◌∷◌, Option, Some, None, unwrap_or, IsUtf8}
+use Rattle.std.specs.Prelude.{◌≡◌, ⊤, ℕ, List, [], ◌∷◌, Option, None, unwrap_or, IsUtf8}
 use Rattle.sfc_frames.specs.declared.serving.Flow.{Flow}
 use Rattle.sfc_frames.specs.declared.serving.Flow.TheVariants.{GoesOn}
 use Rattle.serde_json.specs.Data.{Data, null}

@@ -1,5 +1,5 @@
 -- Texts of messages.
-use Rattle.std.specs.Prelude.{◌≡◌, ⊤, ℕ, false, List, [], ◌∷◌, Some, IsUtf8}
+use Rattle.std.specs.Prelude.{◌≡◌, ℕ, false, List, [], ◌∷◌, Some, IsUtf8}
 use Rattle.sfc_frames.specs.Serving.{Puts}
 use Rattle.serde_json.specs.Data.{Data}
 use Rattle.serde_json.specs.Read.{read}

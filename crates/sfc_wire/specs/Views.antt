@@ -1,10 +1,6 @@
 -- What messages are, without where they lie in memory.
-use Rattle.std.specs.Prelude.{Option, Some, None}
 use Rattle.std.specs.Option.{option_map}
-use Rattle.std.specs.Borrow.{Bor}
-use Rattle.serde_json.specs.Data.{Data}
 use Rattle.serde_json.specs.View.{view}
-use Rattle.serde_json.specs.declared.value.Value.{Value}
 use Rattle.sfc_wire.specs.Rpc as rpc
 use Rattle.sfc_wire.specs.declared.rpc_message.Message.{Message}
 use Rattle.sfc_wire.specs.declared.rpc_message.Message.TheVariants as messages
