@@ -93,9 +93,9 @@ fn goes_on(alloc: Global, call: usize) -> Result<bool, FrameFault> {
     let mut messages = 0u32;
     for _ in 0..4 {
         match incoming.next_message(&mut reader) {
-            Ok(Some(message)) => messages += u32::from(message.len() == 2),
+            Ok(Some(message)) => messages = messages.saturating_add(u32::from(message.len() == 2)),
             Ok(None) => {}
-            Err(FrameFault::Read) => faults += 1,
+            Err(FrameFault::Read) => faults = faults.saturating_add(1),
             Err(fault) => return Err(fault),
         }
     }
