@@ -2,5 +2,9 @@
 #![tactic(auto)]
 
 mod board;
+pub mod chart;
+mod graph;
+mod rows;
+mod sizes;
 mod skyline;
 mod table;

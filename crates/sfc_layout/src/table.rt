@@ -1,6 +1,6 @@
 //! Rows by their number.
 
-ghost use Rattle.std.specs.Prelude.{◌≡◌, ◌+◌, slice_index_or, slice_set, vec_len, IfOk, OnOk};
+ghost use Rattle.std.specs.Prelude.{◌≡◌, ◌+◌, length, slice_index_or, slice_set, vec_len, IfOk, OnOk};
 
 use std::alloc::{AllocError, Global};
 
@@ -30,6 +30,17 @@ impl<T: Copy> Table<T> {
         let mut table = Table::new(alloc, blank);
         for _ in 0..count {
             table.push(blank)?;
+        }
+        Ok(table)
+    }
+
+    /// A table of these rows. The one error is that memory was refused.
+    pub fn from_slice(alloc: Global, rows: &[T], blank: T) -> Result<Table<T>, AllocError>
+        ensures { IfOk result (λ table. vec_len table.rows ≡ length rows.now) }
+    {
+        let mut table = Table::new(alloc, blank);
+        for row in rows {
+            table.push(*row)?;
         }
         Ok(table)
     }
