@@ -2,10 +2,10 @@
 use Rattle.std.proofs.Common.{◌≡◌, ◌≢◌, ◌⊎◌, inl, inr, ◌<◌, ◌≤◌, ◌/◌, ℕ, List, length, get_or, set, subst, sym, ap, ◌∙◌, arith}
 use Rattle.std.proofs.lemmas.List.{get_or-set_same, get_or-set_other, length-set}
 use Rattle.std.proofs.lemmas.Bool.{cases_eq}
-use Rattle.sfc_layout.specs.declared.board.NodeBox.{NodeBox}
+use Rattle.sfc_layout.specs.declared.node_box.NodeBox.{NodeBox}
 use Rattle.sfc_layout.specs.declared.skyline.Reach.{Reach}
 use Rattle.sfc_layout.specs.Skyline.{IsWithin}
-use Rattle.sfc_layout.specs.Boxes.{IsIn, AreApart, AreCovered, AreUpTo}
+use Rattle.sfc_layout.specs.Apart.{IsIn, AreApart, AreCovered, AreUpTo}
 
 -- what the cells cover, cells that are taken further down cover
 pub covered-kept : (old new : List ℕ) (sheet : ℕ) (boxes : List NodeBox) →

@@ -1,22 +1,15 @@
 //! The boxes of nodes over a skyline.
 
-ghost use Rattle.std.specs.Prelude.{◌≡◌, ◌<◌, ◌≤◌, ℕ, IfOk, OnOk, vec_len, slice_set, length};
+ghost use Rattle.std.specs.Prelude.{◌≡◌, ◌<◌, ◌≤◌, ℕ, IfOk, OnOk, vec_len, slice_set, slice_index_or, length};
 ghost use Rattle.sfc_layout.specs.Skyline.{depth, IsWithin};
-ghost use Rattle.sfc_layout.specs.Boxes.{AreApart, AreCovered, AreUpTo};
+ghost use Rattle.sfc_layout.specs.Apart.{AreApart, AreCovered, AreUpTo};
+ghost use Rattle.sfc_layout.specs.Sizes.{HasSize, SameBut};
 
+use crate::draw_error::DrawError;
+use crate::node_box::NodeBox;
+use crate::node_room::NodeRoom;
 use crate::skyline::{Reach, Skyline};
 use std::alloc::{AllocError, Global};
-
-/// The box of a node: of a step what is drawn as its box, of a transition its bar with its number. In pixels from the left
-/// and the top of its sheet. That of a node without a place has no height.
-#[derive(Clone, Copy, Debug, PartialEq, Eq)]
-pub struct NodeBox {
-    pub sheet: usize,
-    pub left: u32,
-    pub right: u32,
-    pub top: u32,
-    pub bottom: u32,
-}
 
 /// The boxes of all nodes, and the skyline of the sheet that is drawn.
 #[derive(Drop)]
@@ -34,18 +27,10 @@ impl Board {
     pub fn new(alloc: Global, nodes: usize) -> Result<Board, AllocError>
         ensures { IfOk result (λ board. vec_len board.boxes ≡ nodes) }
     {
-        let nowhere = NodeBox {
-            sheet: 0,
-            left: 0,
-            right: 0,
-            top: 0,
-            bottom: 0,
-        };
-        let boxes = vec![in alloc; nowhere; nodes]?;
         Ok(Board {
             sky: Skyline::new(alloc),
             sheet: 0,
-            boxes,
+            boxes: vec![in alloc; NodeBox::NOWHERE; nodes]?,
         })
     }
 
@@ -57,6 +42,23 @@ impl Board {
             self.sheet = next;
             self.sky = Skyline::new(alloc);
         }
+    }
+
+    /// How many boxes there are.
+    pub fn count(&self) -> usize
+        ensures { result ≡ vec_len self.now.boxes }
+    {
+        self.boxes.len()
+    }
+
+    /// How far down the box of a node goes.
+    pub fn bottom(&self, node: usize) -> u32 {
+        if node < self.boxes.len() { self.boxes[node].bottom } else { 0 }
+    }
+
+    /// The lowest that is taken on the sheet, in pixels from the top.
+    pub fn lowest(&self) -> u32 {
+        self.sky.lowest()
     }
 
     /// The lowest that is taken over this reach, in pixels from the top.
@@ -74,30 +76,77 @@ impl Board {
         self.sky.take(reach, bottom)
     }
 
-    /// Puts the box of a node where nothing is so far down. The one error is that memory was refused.
-    pub fn put(&mut self, node: usize, place: Place) -> Result<(), AllocError>
-        requires { (cell : ℕ) → IsWithin place.reach cell → depth self.old.sky cell ≤ place.top }
-        ensures { OnOk result (self.new.boxes.items ≡ slice_set self.old.boxes.items node
-            (record { sheet = self.old.sheet; left = place.reach.left; right = place.reach.right; top = place.top; bottom = place.bottom })) }
+    /// Puts the box of a node on the sheet, where nothing is so far down. The one error is that memory was refused.
+    pub fn put(&mut self, node: usize, placed: NodeBox) -> Result<(), AllocError>
+        requires sheet { placed.sheet ≡ self.old.sheet }
+        requires clear { (cell : ℕ) → IsWithin (record { left = placed.left; right = placed.right }) cell → depth self.old.sky cell ≤ placed.top }
+        ensures { OnOk result (self.new.boxes.items ≡ slice_set self.old.boxes.items node placed) }
     {
-        self.sky.take(place.reach, place.bottom)?;
+        let reach = Reach {
+            left: placed.left,
+            right: placed.right,
+        };
+        self.sky.take(reach, placed.bottom)?;
         if node < self.boxes.len() {
-            self.boxes[node] = NodeBox {
-                sheet: self.sheet,
-                left: place.reach.left,
-                right: place.reach.right,
-                top: place.top,
-                bottom: place.bottom,
-            };
+            self.boxes[node] = placed;
         }
         Ok(())
     }
-}
 
-/// Where a box comes.
-#[derive(Clone, Copy)]
-pub struct Place {
-    pub reach: Reach,
-    pub top: u32,
-    pub bottom: u32,
+    /// Puts the box of a node below all that is over its room, from `least` on. Answers where it begins. The errors are that the
+    /// drawing would be too large, or that memory was refused.
+    pub fn settle(&mut self, node: usize, room: NodeRoom, least: u32) -> Result<u32, DrawError>
+        ensures size { OnOk result (HasSize room.own room.height self.new.boxes.items node) }
+        ensures others { OnOk result (SameBut node self.old.boxes.items self.new.boxes.items) }
+    {
+        let x = room.x.max(room.own.left);
+        let Some(right) = x.checked_add(room.own.right) else {
+            return Err(DrawError::TooLarge);
+        };
+        let left = x - room.own.left;
+        let whole = Reach {
+            left,
+            right: x.saturating_add(room.right).max(right),
+        };
+        let top = self.top(whole).saturating_add(room.gap).max(least);
+        let Some(bottom) = top.checked_add(room.height) else {
+            return Err(DrawError::TooLarge);
+        };
+        let placed = NodeBox {
+            sheet: self.sheet,
+            x,
+            left,
+            right,
+            top,
+            bottom,
+        };
+        self.put(node, placed)?;
+        Ok(top)
+    }
+
+    /// The same for a node whose box isn't of its size yet, below all that is on the sheet.
+    pub fn settle_missing(&mut self, node: usize, room: NodeRoom) -> Result<(), DrawError>
+        ensures size { OnOk result (HasSize room.own room.height self.new.boxes.items node) }
+        ensures others { OnOk result (SameBut node self.old.boxes.items self.new.boxes.items) }
+    {
+        if node < self.boxes.len() && self.boxes[node].has_size(room.own, room.height) {
+            return Ok(());
+        }
+        let least = self.lowest();
+        self.settle(node, room, least)?;
+        Ok(())
+    }
+
+    /// The boxes of all nodes.
+    pub fn into_boxes(self) -> Vec<NodeBox>
+        ensures boxes { result.items ≡ self.boxes.items }
+        ensures apart { AreApart result.items }
+    {
+        let Board {
+            sky: _,
+            sheet: _,
+            boxes,
+        } = self;
+        boxes
+    }
 }

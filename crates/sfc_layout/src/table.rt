@@ -83,4 +83,12 @@ impl<T: Copy> Table<T> {
         self.rows.push(row)?;
         Ok(number)
     }
+
+    /// All rows.
+    pub fn into_rows(self) -> Vec<T>
+        ensures { result.items ≡ self.rows.items }
+    {
+        let Table { rows, blank: _ } = self;
+        rows
+    }
 }

@@ -1,6 +1,6 @@
--- The boxes of nodes.
+-- Boxes that share no point.
 use Rattle.std.specs.Prelude.{ℕ, ◌≡◌, ◌<◌, ◌≤◌, ◌/◌, List, length, slice_index, slice_index_or}
-use Rattle.sfc_layout.specs.declared.board.NodeBox.{NodeBox}
+use Rattle.sfc_layout.specs.declared.node_box.NodeBox.{NodeBox}
 
 -- the point lies in the box of this sheet
 pub record IsIn (box : NodeBox) (on x y : ℕ) : Type 0 where

@@ -1,0 +1,161 @@
+//! The layout of a chart.
+
+ghost use Rattle.std.specs.Prelude.{◌≡◌, ◌+◌, ℕ, true, false, IfOk, IfErr, OnOk, vec_len, length, MatchOption};
+ghost use Rattle.sfc_layout.specs.Apart.{AreApart};
+ghost use Rattle.sfc_layout.specs.Links.{AreDrawn, AreLinks, AreWithin, IsOfWrong, IsLink, IsWrong};
+ghost use Rattle.sfc_layout.specs.Sizes.{AreStepBoxes, AreTransitionBoxes};
+
+use crate::board::Board;
+use crate::chart::{Chart, Link};
+use crate::draw_error::DrawError;
+use crate::drawing::{Bar, Drawing, Sheet, Stem, Stub};
+use crate::finish::{draw_links, settle_steps, settle_transitions};
+use crate::layout_error::LayoutError;
+use crate::node_box::NodeBox;
+use crate::plan::Plan;
+use crate::sheets::arrange;
+use crate::sweep::Sweep;
+use crate::writer::Writer;
+use std::alloc::{AllocError, Global};
+
+/// Where everything of a chart is drawn. All but sheets in pixels from the left and the top of a sheet.
+#[derive(Drop)]
+pub struct Layout {
+    /// The box of each node.
+    pub boxes: Vec<NodeBox>,
+    /// Where jumps and loops enter each node, if some do.
+    pub entries: Vec<u32>,
+    /// How each link is drawn.
+    pub links: Vec<Drawing>,
+    pub bars: Vec<Bar>,
+    pub stems: Vec<Stem>,
+    pub stubs: Vec<Stub>,
+    pub sheets: Vec<Sheet>,
+    pub width: u32,
+    pub height: u32,
+}
+
+/// The layout of a chart. A chart whose links are not all between a step and a transition is refused, by the first of them that
+/// isn't. The other errors are that the drawing would be 2^32 pixels wide or high, or that memory was refused.
+pub fn lay_out(alloc: Global, chart: &Chart) -> Result<Layout, LayoutError>
+    ensures links { OnOk result (AreLinks chart.now) }
+    ensures wrong { IfErr result (IsOfWrong chart.now) }
+
+    // Each step and each transition has one box, of its size, and no two boxes share a point.
+    ensures nodes { IfOk result (λ l. vec_len l.boxes ≡ vec_len chart.now.steps + vec_len chart.now.transitions) }
+    ensures steps { IfOk result (λ l. AreStepBoxes chart.now.steps.items l.boxes.items) }
+    ensures transitions { IfOk result (λ l. AreTransitionBoxes (length chart.now.steps.items) chart.now.transitions.items l.boxes.items) }
+    ensures apart { IfOk result (λ l. AreApart l.boxes.items) }
+
+    // Each link is drawn once, as a line, a loop or a jump.
+    ensures each { IfOk result (λ l. vec_len l.links ≡ vec_len chart.now.links) }
+    ensures drawn { IfOk result (λ l. AreDrawn l.boxes.items chart.now.links.items l.links.items) }
+{
+    if let Some(link) = first_wrong(chart) {
+        return Err(LayoutError::Link(link));
+    }
+    match draw(alloc, chart) {
+        Ok(layout) => Ok(layout),
+        Err(error) => Err(LayoutError::of(error)),
+    }
+}
+
+/// The first link of a chart that is none.
+fn first_wrong(chart: &Chart) -> Option<usize>
+    ensures { MatchOption result (AreLinks chart.now) (IsWrong chart.now) }
+{
+    let steps = chart.steps.len();
+    let transitions = chart.transitions.len();
+    for (number, link) in chart.links.iter().enumerate() {
+        if !is_link(steps, transitions, *link) {
+            return Some(number);
+        }
+    }
+    None
+}
+
+/// Whether a link leads from one of so many steps to one of so many transitions, or the other way.
+fn is_link(steps: usize, transitions: usize, link: Link) -> bool
+    ensures yes { result ≡ true → IsLink steps transitions link }
+    ensures no { result ≡ false → IsLink steps transitions link → ⊥ }
+{
+    let Link { source, target } = link;
+    if source < steps {
+        steps <= target && target - steps < transitions
+    } else {
+        target < steps && source - steps < transitions
+    }
+}
+
+/// The layout of a chart with such links.
+fn draw(alloc: Global, chart: &Chart) -> Result<Layout, DrawError>
+    requires { AreLinks chart.now }
+    ensures nodes { IfOk result (λ l. vec_len l.boxes ≡ vec_len chart.now.steps + vec_len chart.now.transitions) }
+    ensures steps { IfOk result (λ l. AreStepBoxes chart.now.steps.items l.boxes.items) }
+    ensures transitions { IfOk result (λ l. AreTransitionBoxes (length chart.now.steps.items) chart.now.transitions.items l.boxes.items) }
+    ensures apart { IfOk result (λ l. AreApart l.boxes.items) }
+    ensures each { IfOk result (λ l. vec_len l.links ≡ vec_len chart.now.links) }
+    ensures drawn { IfOk result (λ l. AreDrawn l.boxes.items chart.now.links.items l.links.items) }
+{
+    let (writer, sizes) = write(alloc, chart)?;
+    let Writer {
+        board,
+        hang: _,
+        entries,
+        links,
+        bars,
+        stems,
+        stubs,
+    } = writer;
+    let boxes = settle_all(alloc, board, chart)?;
+    let links = draw_links(alloc, boxes.as_slice(), chart.links.as_slice(), &links)?;
+    let sheets = arrange(alloc, sizes.as_slice())?;
+    Ok(Layout {
+        boxes,
+        entries: entries.into_rows(),
+        links,
+        bars,
+        stems,
+        stubs,
+        width: 0,
+        height: 0,
+        sheets,
+    })
+}
+
+/// What all passes put.
+fn write(alloc: Global, chart: &Chart) -> Result<(Writer, Vec<Sheet>), DrawError> {
+    let mut plan = Plan::of(alloc, chart)?;
+    let mut sweep = Sweep::new(alloc, &plan)?;
+    let mut writer = Writer::new(alloc, &plan)?;
+    let mut sheets = Vec::new(alloc);
+    for network in 0..plan.networks.count() {
+        let first = sweep.network(&mut plan, network)?;
+        let width = sweep.columns.solve(alloc, first)?;
+        writer.network(&plan, &sweep)?;
+        sheets.push(Sheet {
+            left: 0,
+            top: 0,
+            width,
+            height: writer.board.lowest(),
+        })?;
+        writer.board.turn(alloc);
+    }
+    Ok((writer, sheets))
+}
+
+/// The boxes of all nodes.
+fn settle_all(alloc: Global, board: Board, chart: &Chart) -> Result<Vec<NodeBox>, DrawError>
+    ensures nodes { IfOk result (λ boxes. vec_len boxes ≡ vec_len chart.now.steps + vec_len chart.now.transitions) }
+    ensures steps { IfOk result (λ boxes. AreStepBoxes chart.now.steps.items boxes.items) }
+    ensures transitions { IfOk result (λ boxes. AreTransitionBoxes (length chart.now.steps.items) chart.now.transitions.items boxes.items) }
+    ensures apart { IfOk result (λ boxes. AreApart boxes.items) }
+{
+    let Some(nodes) = chart.steps.len().checked_add(chart.transitions.len()) else {
+        return Err(DrawError::TooLarge);
+    };
+    let mut board = if board.count() == nodes { board } else { Board::new(alloc, nodes)? };
+    settle_steps(&mut board, chart.steps.as_slice())?;
+    settle_transitions(&mut board, chart.steps.as_slice(), chart.transitions.as_slice())?;
+    Ok(board.into_boxes())
+}
