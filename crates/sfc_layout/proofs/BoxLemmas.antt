@@ -62,34 +62,34 @@ up_to-set sheet boxes n box up_to here v d lt =
       | inr other ↦ omega (arith, up_to v d within, ap (λ (b : NodeBox). b.sheet) (get_or-set_other boxes n v box d other))
     ]
 
--- the box of this reach between these heights on this sheet
-abbrev box_of : ℕ → Reach → ℕ → ℕ → NodeBox
-box_of sheet reach top bottom = record { sheet = sheet; left = reach.left; right = reach.right; top = top; bottom = bottom }
+-- how far a box goes to the left and to the right
+abbrev reach_of : NodeBox → Reach
+reach_of box = record { left = box.left; right = box.right }
 
 -- the cell of a point of a box lies within the reach of the box
-pub cell_within : (sheet : ℕ) (reach : Reach) (top bottom on x y : ℕ) → IsIn (box_of sheet reach top bottom) on x y → IsWithin reach (x / 8)
-cell_within sheet reach top bottom on x y is_in =
-    let left : reach.left ≤ x = is_in.left in
-    let right : x ≤ reach.right = is_in.right in
+cell_within : (box : NodeBox) (on x y : ℕ) → IsIn box on x y → IsWithin (reach_of box) (x / 8)
+cell_within box on x y is_in =
+    let left : box.left ≤ x = is_in.left in
+    let right : x ≤ box.right = is_in.right in
     record { left = omega arith; right = omega arith }
 
 -- a box whose cells are taken down to its bottom is covered
-pub is_taken : (cells : List ℕ) (sheet : ℕ) (reach : Reach) (top bottom : ℕ) →
-    ((cell : ℕ) → IsWithin reach cell → bottom ≤ get_or cells cell 0) →
-    (x y : ℕ) → IsIn (box_of sheet reach top bottom) sheet x y → y < get_or cells (x / 8) 0
-is_taken cells sheet reach top bottom taken x y is_in =
-    let below : y < bottom = is_in.bottom in
-    let down : bottom ≤ get_or cells (x / 8) 0 = taken (x / 8) (cell_within sheet reach top bottom sheet x y is_in) in
+pub is_taken : (cells : List ℕ) (box : NodeBox) →
+    ((cell : ℕ) → IsWithin (reach_of box) cell → box.bottom ≤ get_or cells cell 0) →
+    (on x y : ℕ) → IsIn box on x y → y < get_or cells (x / 8) 0
+is_taken cells box taken on x y is_in =
+    let below : y < box.bottom = is_in.bottom in
+    let down : box.bottom ≤ get_or cells (x / 8) 0 = taken (x / 8) (cell_within box on x y is_in) in
     omega arith
 
 -- a box that begins below all its cells shares no point with the boxes of its sheet
-pub is_clear : (cells : List ℕ) (sheet : ℕ) (boxes : List NodeBox) (reach : Reach) (top bottom : ℕ) → AreCovered cells sheet boxes →
-    ((cell : ℕ) → IsWithin reach cell → get_or cells cell 0 ≤ top) →
-    (v on x y : ℕ) (d : NodeBox) → v < length boxes → IsIn (get_or boxes v d) on x y → IsIn (box_of sheet reach top bottom) on x y → ⊥
-is_clear cells sheet boxes reach top bottom covered clear v on x y d lt is_v is_in =
-    let here : sheet ≡ on = is_in.sheet in
-    let there : IsIn (get_or boxes v d) sheet x y = subst (λ s. IsIn (get_or boxes v d) s x y) (sym here) is_v in
+pub is_clear : (cells : List ℕ) (sheet : ℕ) (boxes : List NodeBox) (box : NodeBox) → AreCovered cells sheet boxes → box.sheet ≡ sheet →
+    ((cell : ℕ) → IsWithin (reach_of box) cell → get_or cells cell 0 ≤ box.top) →
+    (v on x y : ℕ) (d : NodeBox) → v < length boxes → IsIn (get_or boxes v d) on x y → IsIn box on x y → ⊥
+is_clear cells sheet boxes box covered here clear v on x y d lt is_v is_in =
+    let same : on ≡ sheet = sym is_in.sheet ∙ here in
+    let there : IsIn (get_or boxes v d) sheet x y = subst (λ s. IsIn (get_or boxes v d) s x y) same is_v in
     let above : y < get_or cells (x / 8) 0 = covered v x y d lt there in
-    let down : get_or cells (x / 8) 0 ≤ top = clear (x / 8) (cell_within sheet reach top bottom on x y is_in) in
-    let under : top ≤ y = is_in.top in
+    let down : get_or cells (x / 8) 0 ≤ box.top = clear (x / 8) (cell_within box on x y is_in) in
+    let under : box.top ≤ y = is_in.top in
     omega arith

@@ -160,17 +160,30 @@ impl Sweep {
     /// From a strand on, the first run of all strands to a node to which all its lines hang.
     fn next_whole(&self, from: Option<usize>) -> Option<Run> {
         let mut next = from;
+        let mut is_fresh = true;
         for _ in 0..self.strands.count() {
             let strand = next?;
-            if (next == from || self.is_first(strand)) && self.hangs_whole(strand) {
-                let run = self.run_around(strand);
-                if run.count == self.hung.get(self.strands.get(strand).to) {
-                    return Some(run);
-                }
+            if let Some(run) = self.whole_run(strand, is_fresh) {
+                return Some(run);
             }
+            is_fresh = is_fresh && self.strands.get(strand).is_lane();
             next = self.strands.get(strand).next;
         }
         None
+    }
+
+    /// The run around a strand, if it is of all strands to a node to which all its lines hang. Within a run none but the first is
+    /// looked at, unless it is fresh.
+    fn whole_run(&self, strand: usize, is_fresh: bool) -> Option<Run> {
+        if !self.hangs_whole(strand) || !is_fresh && !self.is_first(strand) {
+            return None;
+        }
+        let run = self.run_around(strand);
+        if run.count == self.hung.get(self.strands.get(strand).to) {
+            Some(run)
+        } else {
+            None
+        }
     }
 
     /// Whether a strand is a link to a node to which all its lines hang.
