@@ -1,1 +1,2 @@
 pub mod BoxLemmas
+pub mod SizeLemmas

@@ -1,6 +1,5 @@
 -- Links, and how they may be drawn.
 use Rattle.std.specs.Prelude.{ℕ, ◌≡◌, ◌⊎◌, ◌+◌, ◌<◌, ◌≤◌, List, length, slice_index_or}
-use Rattle.sfc_layout.specs.declared.chart.Chart.{Chart}
 use Rattle.sfc_layout.specs.declared.chart.Link.{Link as ChartLink}
 use Rattle.sfc_layout.specs.declared.drawing.Drawing.{Drawing}
 use Rattle.sfc_layout.specs.declared.drawing.Drawing.TheVariants.{Line, Jump, Loop}
@@ -14,27 +13,21 @@ IsLink steps transitions link =
     ((link.source < steps) × (steps ≤ link.target) × (link.target < steps + transitions))
     ⊎ ((link.target < steps) × (steps ≤ link.source) × (link.source < steps + transitions))
 
--- all links of the chart do
-abbrev pub AreLinks : Chart → Type 0
-AreLinks chart = (k : ℕ) (d : ChartLink) → k < length chart.links.items →
-    IsLink (length chart.steps.items) (length chart.transitions.items) (slice_index_or chart.links.items k d)
+-- all links do
+abbrev pub AreLinks : ℕ → ℕ → List ChartLink → Type 0
+AreLinks steps transitions links = (k : ℕ) (d : ChartLink) → k < length links → IsLink steps transitions (slice_index_or links k d)
 
--- this link of the chart doesn't
-abbrev pub IsWrong : Chart → ℕ → Type 0
-IsWrong chart k = (k < length chart.links.items)
-    × ((d : ChartLink) → IsLink (length chart.steps.items) (length chart.transitions.items) (slice_index_or chart.links.items k d) → ⊥)
+-- this one is the first that doesn't
+pub record IsWrong (steps transitions : ℕ) (links : List ChartLink) (k : ℕ) : Type 0 where
+  pub within : k < length links
+  pub wrong : (d : ChartLink) → IsLink steps transitions (slice_index_or links k d) → ⊥
+  pub first : (j : ℕ) (d : ChartLink) → j < k → IsLink steps transitions (slice_index_or links j d)
 
--- an error of a link names one that doesn't
-abbrev pub IsOfWrong : Chart → LayoutError → Type 0
-IsOfWrong chart (Link k) = IsWrong chart k
-IsOfWrong chart TooLarge = Unit {0}
-IsOfWrong chart OutOfMemory = Unit {0}
-
--- the error is none of a link
-abbrev pub IsNoLink : LayoutError → Type 0
-IsNoLink (Link k) = ⊥
-IsNoLink TooLarge = Unit {0}
-IsNoLink OutOfMemory = Unit {0}
+-- an error of a link names the first that doesn't
+abbrev pub IsOfWrong : ℕ → ℕ → List ChartLink → LayoutError → Type 0
+IsOfWrong steps transitions links (Link k) = IsWrong steps transitions links k
+IsOfWrong steps transitions links TooLarge = Unit {0}
+IsOfWrong steps transitions links OutOfMemory = Unit {0}
 
 -- a line leads down on one sheet from the box of its source, not past that of its target; a loop begins below its source on the
 -- sheet of its target; a jump begins below its source

@@ -1,6 +1,6 @@
 //! The boxes of nodes over a skyline.
 
-ghost use Rattle.std.specs.Prelude.{◌≡◌, ◌<◌, ◌≤◌, ℕ, IfOk, OnOk, vec_len, slice_set, slice_index_or, length};
+ghost use Rattle.std.specs.Prelude.{◌≡◌, ◌<◌, ◌≤◌, ℕ, IfOk, OnOk, slice_set, slice_index_or, length};
 ghost use Rattle.sfc_layout.specs.Skyline.{depth, IsWithin};
 ghost use Rattle.sfc_layout.specs.Apart.{AreApart, AreCovered, AreUpTo};
 ghost use Rattle.sfc_layout.specs.Sizes.{HasSize, SameBut};
@@ -25,7 +25,7 @@ pub struct Board {
 impl Board {
     /// The first sheet, with nothing on it. The one error is that memory was refused.
     pub fn new(alloc: Global, nodes: usize) -> Result<Board, AllocError>
-        ensures { IfOk result (λ board. vec_len board.boxes ≡ nodes) }
+        ensures { IfOk result (λ board. length board.boxes.items ≡ nodes) }
     {
         Ok(Board {
             sky: Skyline::new(alloc),
@@ -46,9 +46,9 @@ impl Board {
 
     /// How many boxes there are.
     pub fn count(&self) -> usize
-        ensures { result ≡ vec_len self.now.boxes }
+        ensures { result ≡ length self.now.boxes.items }
     {
-        self.boxes.len()
+        self.boxes.as_slice().len()
     }
 
     /// How far down the box of a node goes.

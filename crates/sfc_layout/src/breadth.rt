@@ -43,7 +43,7 @@ pub fn cut_wide(
     order: &[usize],
     dominators: &Dominators,
 ) -> Result<(), AllocError> {
-    let mut breadth = Breadth::begin(alloc, graph, order, dominators)?;
+    let mut breadth = Breadth::begin(alloc, graph, dominators)?;
     for node in order.iter().rev() {
         breadth.sum(graph, *node, dominators.up(*node));
     }
@@ -77,7 +77,7 @@ pub fn split(
     dominators: &Dominators,
     roots: &mut Vec<usize>,
 ) -> Result<Breadth, AllocError> {
-    let mut breadth = Breadth::begin(alloc, graph, order, dominators)?;
+    let mut breadth = Breadth::begin(alloc, graph, dominators)?;
     let mut split = Vec::new(alloc);
     for node in order.iter().rev() {
         if breadth.sum_or_split(graph, *node, dominators.up(*node)) {
@@ -91,12 +91,7 @@ pub fn split(
 
 impl Breadth {
     /// No part is summed up yet; but of each node it is counted how many lines begin and end in its part, without those of parts below.
-    fn begin(
-        alloc: Global,
-        graph: &Graph,
-        order: &[usize],
-        dominators: &Dominators,
-    ) -> Result<Breadth, AllocError> {
+    fn begin(alloc: Global, graph: &Graph, dominators: &Dominators) -> Result<Breadth, AllocError> {
         let mut parts = Table::blank(alloc, graph.nodes().saturating_add(1), ALONE)?;
         for link in 0..graph.links() {
             if graph.is_line(link) {

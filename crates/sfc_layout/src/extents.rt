@@ -3,7 +3,6 @@
 use crate::extent::Extent;
 use crate::graph::Graph;
 use crate::sizes::{BAR, BESIDE, BOX, OVER, digits, small};
-use std::mem;
 
 /// How many of the transitions from which jumps come are said at a step.
 const SAID: usize = 4;
@@ -75,7 +74,9 @@ fn enter(first: &mut [usize; SAID], number: usize) {
     let mut number = number;
     for least in first.iter_mut() {
         if number < *least {
-            mem::swap(least, &mut number);
+            let larger = *least;
+            *least = number;
+            number = larger;
         }
     }
 }

@@ -1,6 +1,6 @@
 //! The last pass: each node has its box, and each link is drawn.
 
-ghost use Rattle.std.specs.Prelude.{◌≡◌, ◌<◌, ◌≤◌, ◌+◌, ℕ, true, IfOk, OnOk, vec_len, length};
+ghost use Rattle.std.specs.Prelude.{◌≡◌, ◌<◌, ◌≤◌, ◌+◌, ℕ, true, IfOk, OnOk, length};
 ghost use Rattle.sfc_layout.specs.Links.{AreDrawn, IsDrawn, AreWithin};
 ghost use Rattle.sfc_layout.specs.Sizes.{AreStepBoxes, AreTransitionBoxes};
 
@@ -31,8 +31,8 @@ fn room(own: Extent, height: u32) -> NodeRoom
 
 /// Has each step at its place on the board, or below all that is there. The errors are those of the board.
 pub fn settle_steps(board: &mut Board, steps: &[Step]) -> Result<(), DrawError>
-    requires { length steps.now ≤ vec_len board.old.boxes }
-    ensures len { OnOk result (vec_len board.new.boxes ≡ vec_len board.old.boxes) }
+    requires { length steps.now ≤ length board.old.boxes.items }
+    ensures len { OnOk result (length board.new.boxes.items ≡ length board.old.boxes.items) }
     ensures boxes { OnOk result (AreStepBoxes steps.now board.new.boxes.items) }
 {
     for (node, step) in steps.iter().enumerate() {
@@ -44,9 +44,9 @@ pub fn settle_steps(board: &mut Board, steps: &[Step]) -> Result<(), DrawError>
 /// Has each transition at its place on the board, or below all that is there, and the steps as they are. The errors are those of
 /// the board.
 pub fn settle_transitions(board: &mut Board, steps: &[Step], transitions: &[Transition]) -> Result<(), DrawError>
-    requires len { length steps.now + length transitions.now ≡ vec_len board.old.boxes }
+    requires len { length steps.now + length transitions.now ≡ length board.old.boxes.items }
     requires boxes { AreStepBoxes steps.now board.old.boxes.items }
-    ensures len { OnOk result (vec_len board.new.boxes ≡ vec_len board.old.boxes) }
+    ensures len { OnOk result (length board.new.boxes.items ≡ length board.old.boxes.items) }
     ensures steps { OnOk result (AreStepBoxes steps.now board.new.boxes.items) }
     ensures boxes { OnOk result (AreTransitionBoxes (length steps.now) transitions.now board.new.boxes.items) }
 {
@@ -66,7 +66,7 @@ pub fn draw_links(
     put: &Table<Option<Drawing>>,
 ) -> Result<Vec<Drawing>, AllocError>
     requires { AreWithin (length boxes.now) links.now }
-    ensures len { IfOk result (λ drawings. vec_len drawings ≡ length links.now) }
+    ensures len { IfOk result (λ drawings. length drawings.items ≡ length links.now) }
     ensures drawn { IfOk result (λ drawings. AreDrawn boxes.now links.now drawings.items) }
 {
     let mut drawings = Vec::new(alloc);

@@ -50,7 +50,7 @@ impl Gathering {
         for transition in graph.steps()..graph.nodes() {
             gathering.arrange(alloc, graph, transition)?;
         }
-        gathering.take_roots(graph, roots);
+        gathering.take_roots(graph, roots.as_mut_slice());
         Ok(())
     }
 
@@ -96,7 +96,7 @@ impl Gathering {
     }
 
     /// The roots, as they stand now.
-    fn take_roots(&self, graph: &Graph, roots: &mut Vec<usize>) {
+    fn take_roots(&self, graph: &Graph, roots: &mut [usize]) {
         let start = self.free.get(graph.nodes()).start;
         for i in 0..roots.len() {
             roots[i] = self.nodes.get(start.saturating_add(i));

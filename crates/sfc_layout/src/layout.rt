@@ -1,6 +1,6 @@
 //! The layout of a chart.
 
-ghost use Rattle.std.specs.Prelude.{◌≡◌, ◌+◌, ℕ, true, false, IfOk, IfErr, OnOk, vec_len, length, MatchOption};
+ghost use Rattle.std.specs.Prelude.{◌≡◌, ◌+◌, ℕ, true, false, IfOk, IfErr, OnOk, MatchOption, length};
 ghost use Rattle.sfc_layout.specs.Apart.{AreApart};
 ghost use Rattle.sfc_layout.specs.Links.{AreDrawn, AreLinks, AreWithin, IsOfWrong, IsLink, IsWrong};
 ghost use Rattle.sfc_layout.specs.Sizes.{AreStepBoxes, AreTransitionBoxes};
@@ -31,42 +31,41 @@ pub struct Layout {
     pub stems: Vec<Stem>,
     pub stubs: Vec<Stub>,
     pub sheets: Vec<Sheet>,
-    pub width: u32,
-    pub height: u32,
 }
 
 /// The layout of a chart. A chart whose links are not all between a step and a transition is refused, by the first of them that
 /// isn't. The other errors are that the drawing would be 2^32 pixels wide or high, or that memory was refused.
 pub fn lay_out(alloc: Global, chart: &Chart) -> Result<Layout, LayoutError>
-    ensures links { OnOk result (AreLinks chart.now) }
-    ensures wrong { IfErr result (IsOfWrong chart.now) }
+    ensures all_links { OnOk result (AreLinks (length chart.now.steps.items) (length chart.now.transitions.items) chart.now.links.items) }
+    ensures wrong_link { IfErr result (IsOfWrong (length chart.now.steps.items) (length chart.now.transitions.items) chart.now.links.items) }
 
     // Each step and each transition has one box, of its size, and no two boxes share a point.
-    ensures nodes { IfOk result (λ l. vec_len l.boxes ≡ vec_len chart.now.steps + vec_len chart.now.transitions) }
-    ensures steps { IfOk result (λ l. AreStepBoxes chart.now.steps.items l.boxes.items) }
-    ensures transitions { IfOk result (λ l. AreTransitionBoxes (length chart.now.steps.items) chart.now.transitions.items l.boxes.items) }
+    ensures each_node { IfOk result (λ l. length l.boxes.items ≡ length chart.now.steps.items + length chart.now.transitions.items) }
+    ensures step_boxes { IfOk result (λ l. AreStepBoxes chart.now.steps.items l.boxes.items) }
+    ensures transition_boxes { IfOk result (λ l. AreTransitionBoxes (length chart.now.steps.items) chart.now.transitions.items l.boxes.items) }
     ensures apart { IfOk result (λ l. AreApart l.boxes.items) }
 
     // Each link is drawn once, as a line, a loop or a jump.
-    ensures each { IfOk result (λ l. vec_len l.links ≡ vec_len chart.now.links) }
+    ensures each_link { IfOk result (λ l. length l.links.items ≡ length chart.now.links.items) }
     ensures drawn { IfOk result (λ l. AreDrawn l.boxes.items chart.now.links.items l.links.items) }
 {
-    if let Some(link) = first_wrong(chart) {
+    let steps = chart.steps.as_slice().len();
+    let transitions = chart.transitions.as_slice().len();
+    if let Some(link) = first_wrong(steps, transitions, chart.links.as_slice()) {
         return Err(LayoutError::Link(link));
     }
     match draw(alloc, chart) {
         Ok(layout) => Ok(layout),
-        Err(error) => Err(LayoutError::of(error)),
+        Err(DrawError::TooLarge) => Err(LayoutError::TooLarge),
+        Err(DrawError::OutOfMemory) => Err(LayoutError::OutOfMemory),
     }
 }
 
-/// The first link of a chart that is none.
-fn first_wrong(chart: &Chart) -> Option<usize>
-    ensures { MatchOption result (AreLinks chart.now) (IsWrong chart.now) }
+/// The first of these links that leads neither from a step to a transition nor the other way, where there are so many of both.
+fn first_wrong(steps: usize, transitions: usize, links: &[Link]) -> Option<usize>
+    ensures { MatchOption result (AreLinks steps transitions links.now) (IsWrong steps transitions links.now) }
 {
-    let steps = chart.steps.len();
-    let transitions = chart.transitions.len();
-    for (number, link) in chart.links.iter().enumerate() {
+    for (number, link) in links.iter().enumerate() {
         if !is_link(steps, transitions, *link) {
             return Some(number);
         }
@@ -89,12 +88,12 @@ fn is_link(steps: usize, transitions: usize, link: Link) -> bool
 
 /// The layout of a chart with such links.
 fn draw(alloc: Global, chart: &Chart) -> Result<Layout, DrawError>
-    requires { AreLinks chart.now }
-    ensures nodes { IfOk result (λ l. vec_len l.boxes ≡ vec_len chart.now.steps + vec_len chart.now.transitions) }
-    ensures steps { IfOk result (λ l. AreStepBoxes chart.now.steps.items l.boxes.items) }
-    ensures transitions { IfOk result (λ l. AreTransitionBoxes (length chart.now.steps.items) chart.now.transitions.items l.boxes.items) }
+    requires { AreLinks (length chart.now.steps.items) (length chart.now.transitions.items) chart.now.links.items }
+    ensures each_node { IfOk result (λ l. length l.boxes.items ≡ length chart.now.steps.items + length chart.now.transitions.items) }
+    ensures step_boxes { IfOk result (λ l. AreStepBoxes chart.now.steps.items l.boxes.items) }
+    ensures transition_boxes { IfOk result (λ l. AreTransitionBoxes (length chart.now.steps.items) chart.now.transitions.items l.boxes.items) }
     ensures apart { IfOk result (λ l. AreApart l.boxes.items) }
-    ensures each { IfOk result (λ l. vec_len l.links ≡ vec_len chart.now.links) }
+    ensures each_link { IfOk result (λ l. length l.links.items ≡ length chart.now.links.items) }
     ensures drawn { IfOk result (λ l. AreDrawn l.boxes.items chart.now.links.items l.links.items) }
 {
     let (writer, sizes) = write(alloc, chart)?;
@@ -117,8 +116,6 @@ fn draw(alloc: Global, chart: &Chart) -> Result<Layout, DrawError>
         bars,
         stems,
         stubs,
-        width: 0,
-        height: 0,
         sheets,
     })
 }
@@ -146,16 +143,29 @@ fn write(alloc: Global, chart: &Chart) -> Result<(Writer, Vec<Sheet>), DrawError
 
 /// The boxes of all nodes.
 fn settle_all(alloc: Global, board: Board, chart: &Chart) -> Result<Vec<NodeBox>, DrawError>
-    ensures nodes { IfOk result (λ boxes. vec_len boxes ≡ vec_len chart.now.steps + vec_len chart.now.transitions) }
-    ensures steps { IfOk result (λ boxes. AreStepBoxes chart.now.steps.items boxes.items) }
-    ensures transitions { IfOk result (λ boxes. AreTransitionBoxes (length chart.now.steps.items) chart.now.transitions.items boxes.items) }
+    ensures each_node { IfOk result (λ boxes. length boxes.items ≡ length chart.now.steps.items + length chart.now.transitions.items) }
+    ensures step_boxes { IfOk result (λ boxes. AreStepBoxes chart.now.steps.items boxes.items) }
+    ensures transition_boxes { IfOk result (λ boxes. AreTransitionBoxes (length chart.now.steps.items) chart.now.transitions.items boxes.items) }
     ensures apart { IfOk result (λ boxes. AreApart boxes.items) }
 {
-    let Some(nodes) = chart.steps.len().checked_add(chart.transitions.len()) else {
+    let steps = chart.steps.as_slice();
+    let transitions = chart.transitions.as_slice();
+    let Some(nodes) = steps.len().checked_add(transitions.len()) else {
         return Err(DrawError::TooLarge);
     };
-    let mut board = if board.count() == nodes { board } else { Board::new(alloc, nodes)? };
-    settle_steps(&mut board, chart.steps.as_slice())?;
-    settle_transitions(&mut board, chart.steps.as_slice(), chart.transitions.as_slice())?;
+    let mut board = of_count(alloc, board, nodes)?;
+    settle_steps(&mut board, steps)?;
+    settle_transitions(&mut board, steps, transitions)?;
     Ok(board.into_boxes())
+}
+
+/// The board, if it has so many boxes; else an empty one. The one error is that memory was refused.
+fn of_count(alloc: Global, board: Board, nodes: usize) -> Result<Board, AllocError>
+    ensures { IfOk result (λ b. length b.boxes.items ≡ nodes) }
+{
+    if board.count() == nodes {
+        Ok(board)
+    } else {
+        Board::new(alloc, nodes)
+    }
 }

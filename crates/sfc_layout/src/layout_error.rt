@@ -1,8 +1,5 @@
 //! Why a chart has no layout.
 
-ghost use Rattle.sfc_layout.specs.Links.{IsNoLink};
-
-use crate::draw_error::DrawError;
 use thiserror::Error;
 
 /// Why a chart has no layout.
@@ -17,16 +14,4 @@ pub enum LayoutError {
     /// Memory was refused.
     #[error("out of memory")]
     OutOfMemory,
-}
-
-impl LayoutError {
-    /// The error of a drawing that ended early.
-    pub(crate) fn of(error: DrawError) -> LayoutError
-        ensures { IsNoLink result }
-    {
-        match error {
-            DrawError::TooLarge => LayoutError::TooLarge,
-            DrawError::OutOfMemory => LayoutError::OutOfMemory,
-        }
-    }
 }

@@ -20,7 +20,7 @@ pub struct NodeBox {
 
 impl NodeBox {
     /// That of a node without a place.
-    pub const NOWHERE: NodeBox = NodeBox {
+    pub(crate) const NOWHERE: NodeBox = NodeBox {
         sheet: 0,
         x: 0,
         left: 0,
@@ -30,7 +30,7 @@ impl NodeBox {
     };
 
     /// Whether it goes so far to the left and to the right of its line, and is so high.
-    pub fn has_size(&self, own: Extent, height: u32) -> bool
+    pub(crate) fn has_size(&self, own: Extent, height: u32) -> bool
         ensures { IsTrue result ↔ IsOfSize own height self.now }
     {
         self.x.checked_sub(self.left) == Some(own.left)
