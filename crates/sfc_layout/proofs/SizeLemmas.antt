@@ -14,7 +14,7 @@ use Rattle.sfc_layout.specs.Skyline.{IsWithin}
 pub same_but-set : (node : ℕ) (boxes : List NodeBox) (box : NodeBox) → SameBut node boxes (set boxes node box)
 same_but-set node boxes box = record {
   len = length-set boxes node box;
-  others = λ v d other. get_or-set_other boxes node v box d other
+  others = λ v d other. get_or-set_other boxes node v box d other;
 }
 
 -- and that is the one written
@@ -50,8 +50,8 @@ pub more_boxes_behind : (want : ℕ → NodeBox → Type 0) (old new : List Node
 more_boxes_behind want old new base n d before here same v lt = elim (cases_eq v n) [
   | inl e ↦ subst (λ k. want k (get_or new (base + k) d)) (sym e) here
   | inr other ↦
-    let apart : base + v ≢ base + n = λ e. other (omega (arith, e)) in
-    subst (λ b. want v b) (sym (same.others (base + v) d apart)) (before v (omega (arith, other)))
+      let apart : base + v ≢ base + n = λ e. other (omega (arith, e)) in
+      subst (λ b. want v b) (sym (same.others (base + v) d apart)) (before v (omega (arith, other)))
 ]
 
 -- the ends of links are nodes

@@ -40,7 +40,7 @@ IsDrawn source target (Loop x top bottom side first) = (source.sheet ≡ target.
 abbrev pub AreDrawn : List NodeBox → List ChartLink → List Drawing → Type 0
 AreDrawn boxes links drawings = (k : ℕ) (l : ChartLink) (d : Drawing) (b : NodeBox) → k < length links →
     IsDrawn (slice_index_or boxes (slice_index_or links k l).source b) (slice_index_or boxes (slice_index_or links k l).target b)
-        (slice_index_or drawings k d)
+    (slice_index_or drawings k d)
 
 -- the nodes of all links are among so many
 abbrev pub AreWithin : ℕ → List ChartLink → Type 0

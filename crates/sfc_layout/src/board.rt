@@ -53,7 +53,11 @@ impl Board {
 
     /// How far down the box of a node goes.
     pub fn bottom(&self, node: usize) -> u32 {
-        if node < self.boxes.len() { self.boxes[node].bottom } else { 0 }
+        if node < self.boxes.len() {
+            self.boxes[node].bottom
+        } else {
+            0
+        }
     }
 
     /// The lowest that is taken on the sheet, in pixels from the top.

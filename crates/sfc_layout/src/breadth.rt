@@ -115,7 +115,11 @@ impl Breadth {
     /// Adds the part of a node to that of its dominator, and answers its own.
     fn gather(&mut self, graph: &Graph, node: usize, up: usize) -> Part {
         let mut part = self.parts.get(node);
-        part.width = part.width.max(part.meeting).max(graph.outs().count(node)).max(1);
+        part.width = part
+            .width
+            .max(part.meeting)
+            .max(graph.outs().count(node))
+            .max(1);
         self.parts.set(node, part);
         let mut above = self.parts.get(up);
         above.begun = above.begun.saturating_add(part.begun);

@@ -132,7 +132,13 @@ impl Columns {
     }
 
     /// A column is at least so far at the right of another. The one error is that memory was refused.
-    pub fn keep_apart(&mut self, from: usize, to: usize, pixels: u32, lane: Option<usize>) -> Result<(), AllocError> {
+    pub fn keep_apart(
+        &mut self,
+        from: usize,
+        to: usize,
+        pixels: u32,
+        lane: Option<usize>,
+    ) -> Result<(), AllocError> {
         let mut column = self.columns.get(from);
         let distance = self.distances.push(Distance {
             to,
@@ -260,7 +266,9 @@ impl Columns {
             };
             let distance = self.distances.get(number);
             let mut other = self.columns.get(distance.to);
-            other.least = other.least.max(moved.x.saturating_add(self.pixels(distance)));
+            other.least = other
+                .least
+                .max(moved.x.saturating_add(self.pixels(distance)));
             self.columns.set(distance.to, other);
             next = distance.earlier;
         }

@@ -4,9 +4,17 @@
 #[derive(Clone, Copy, Debug, PartialEq, Eq)]
 pub enum Drawing {
     /// A line down to `bottom`: to its target, or to the line above it that joins several.
-    Line { x: u32, top: u32, bottom: u32 },
+    Line {
+        x: u32,
+        top: u32,
+        bottom: u32,
+    },
     /// A line down to `bottom`, where an arrow head and the name of its target stand.
-    Jump { x: u32, top: u32, bottom: u32 },
+    Jump {
+        x: u32,
+        top: u32,
+        bottom: u32,
+    },
     /// A line down to `bottom`, and from there to the left up to `side`: to the loop that it joins, or where it is the first of
     /// those of a step to the lane of that step, and up there to where loops enter it.
     Loop {

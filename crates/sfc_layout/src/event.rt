@@ -32,4 +32,7 @@ pub const NO_EVENT: Event = Event {
     count: 0,
 };
 
-pub const NO_END: End = End { link: None, line: 0 };
+pub const NO_END: End = End {
+    link: None,
+    line: 0,
+};

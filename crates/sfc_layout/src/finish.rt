@@ -43,7 +43,11 @@ pub fn settle_steps(board: &mut Board, steps: &[Step]) -> Result<(), DrawError>
 
 /// Has each transition at its place on the board, or below all that is there, and the steps as they are. The errors are those of
 /// the board.
-pub fn settle_transitions(board: &mut Board, steps: &[Step], transitions: &[Transition]) -> Result<(), DrawError>
+pub fn settle_transitions(
+    board: &mut Board,
+    steps: &[Step],
+    transitions: &[Transition],
+) -> Result<(), DrawError>
     requires len { length steps.now + length transitions.now ≡ length board.old.boxes.items }
     requires boxes { AreStepBoxes steps.now board.old.boxes.items }
     ensures len { OnOk result (length board.new.boxes.items ≡ length board.old.boxes.items) }
@@ -101,7 +105,10 @@ fn fits(source: NodeBox, target: NodeBox, drawing: Drawing) -> bool
 {
     match drawing {
         Drawing::Line { top, bottom, .. } => {
-            source.sheet == target.sheet && source.top <= top && top <= bottom && bottom <= target.bottom
+            source.sheet == target.sheet
+                && source.top <= top
+                && top <= bottom
+                && bottom <= target.bottom
         }
         Drawing::Jump { top, bottom, .. } => source.top <= top && top <= bottom,
         Drawing::Loop { top, bottom, .. } => {

@@ -197,7 +197,12 @@ impl Gathering {
     }
 
     /// Puts the lines of a transition in the order of its free nodes, and its other links behind them.
-    fn arrange(&mut self, alloc: Global, graph: &mut Graph, transition: usize) -> Result<(), AllocError> {
+    fn arrange(
+        &mut self,
+        alloc: Global,
+        graph: &mut Graph,
+        transition: usize,
+    ) -> Result<(), AllocError> {
         let mut lines = Vec::new(alloc);
         let mut others = Vec::new(alloc);
         for place in graph.outs().start(transition)..graph.outs().end(transition) {

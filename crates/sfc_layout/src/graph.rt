@@ -59,7 +59,14 @@ impl Graph {
         let mut graph = Graph {
             steps: Table::from_slice(alloc, chart.steps.as_slice(), NO_STEP)?,
             transitions: Table::from_slice(alloc, chart.transitions.as_slice(), NO_TRANSITION)?,
-            links: Table::from_slice(alloc, chart.links.as_slice(), Link { source: 0, target: 0 })?,
+            links: Table::from_slice(
+                alloc,
+                chart.links.as_slice(),
+                Link {
+                    source: 0,
+                    target: 0,
+                },
+            )?,
             kinds: Table::blank(alloc, chart.links.len(), Kind::Line)?,
             outs: Rows::of_lengths(alloc, &lines_out)?,
             ins: Rows::of_lengths(alloc, &lines_in)?,
@@ -77,7 +84,8 @@ impl Graph {
         for k in 0..self.links.len() {
             let Link { source, target } = self.links.get(k);
             self.outs.put(self.outs.start(source).saturating_add(sent.get(source)), k);
-            self.ins.put(self.ins.start(target).saturating_add(come.get(target)), k);
+            self.ins
+                .put(self.ins.start(target).saturating_add(come.get(target)), k);
             add_one(&mut sent, source);
             add_one(&mut come, target);
         }

@@ -79,7 +79,11 @@ impl Nesting {
 
     /// Cuts the lines to a node that leave more selections than the nearest, where one leaves too many.
     fn cut(&self, graph: &mut Graph, node: usize, up: usize) {
-        let most = if graph.is_step(node) { NESTED } else { 3 * NESTED };
+        let most = if graph.is_step(node) {
+            NESTED
+        } else {
+            3 * NESTED
+        };
         let left = self.extremes(graph, node, up);
         if graph.lines_in(node) < 2 || left.most <= most {
             return;

@@ -32,9 +32,21 @@ impl Plan {
         let dominators = Dominators::of(alloc, &graph, search.order.as_slice())?;
         breadth::cut_wide(alloc, &mut graph, search.order.as_slice(), &dominators)?;
         let dominators = Dominators::of(alloc, &graph, search.order.as_slice())?;
-        let breadth = breadth::split(alloc, &mut graph, search.order.as_slice(), &dominators, &mut search.roots)?;
+        let breadth = breadth::split(
+            alloc,
+            &mut graph,
+            search.order.as_slice(),
+            &dominators,
+            &mut search.roots,
+        )?;
         let dominators = Dominators::of(alloc, &graph, search.order.as_slice())?;
-        Gathering::gather(alloc, &mut graph, search.order.as_slice(), &dominators, &mut search.roots)?;
+        Gathering::gather(
+            alloc,
+            &mut graph,
+            search.order.as_slice(),
+            &dominators,
+            &mut search.roots,
+        )?;
         Ok(Plan {
             networks: Components::of(alloc, &graph, search.roots.as_slice())?,
             is_entered: search.roots.iter().any(|root| has_arrivals(&graph, *root)),

@@ -72,7 +72,11 @@ impl Search {
         self.is_root.set(root, true);
         self.roots.push(root)?;
         self.enter(graph, root)?;
-        let done = if graph.is_initial(root) { Seen::Early } else { Seen::Late };
+        let done = if graph.is_initial(root) {
+            Seen::Early
+        } else {
+            Seen::Late
+        };
         for _ in 0..graph.nodes().saturating_add(graph.links()) {
             let Some((node, place)) = self.way.pop() else {
                 break;

@@ -7,7 +7,9 @@ use std::alloc::{AllocError, Global};
 /// Where sheets of these sizes stand: side by side up to the width of a page, or of the widest, then in a new row. The one
 /// error is that memory was refused.
 pub fn arrange(alloc: Global, sizes: &[Sheet]) -> Result<Vec<Sheet>, AllocError> {
-    let widest = sizes.iter().fold(PAGE, |widest, sheet| widest.max(sheet.width));
+    let widest = sizes
+        .iter()
+        .fold(PAGE, |widest, sheet| widest.max(sheet.width));
     let mut sheets = Vec::new(alloc);
     let mut left = 0u32;
     let mut top = 0u32;

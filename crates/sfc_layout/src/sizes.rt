@@ -49,5 +49,7 @@ pub fn small(characters: u32) -> u32 {
 
 /// How many decimal digits a number has.
 pub fn digits(number: usize) -> u32 {
-    number.checked_ilog10().map_or(1, |power| power.saturating_add(1))
+    number
+        .checked_ilog10()
+        .map_or(1, |power| power.saturating_add(1))
 }

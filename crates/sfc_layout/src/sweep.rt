@@ -117,7 +117,12 @@ impl Sweep {
     }
 
     /// Hangs the roots of a network side by side. Answers their strands.
-    fn hang_roots(&mut self, plan: &Plan, network: usize, start: usize) -> Result<Vec<usize>, AllocError> {
+    fn hang_roots(
+        &mut self,
+        plan: &Plan,
+        network: usize,
+        start: usize,
+    ) -> Result<Vec<usize>, AllocError> {
         let mut strands = Vec::new(self.alloc);
         let mut border = start;
         let mut left = None;
@@ -133,7 +138,9 @@ impl Sweep {
                 left: border,
                 right,
             };
-            let strand = self.strands.add(Strand::new(Thread::Root, root, room), left)?;
+            let strand = self
+                .strands
+                .add(Strand::new(Thread::Root, root, room), left)?;
             strands.push(strand)?;
             left = Some(strand);
             border = right;
@@ -299,7 +306,12 @@ impl Sweep {
     }
 
     /// Places a node below strands that stand side by side, and hangs its links. Answers their strands, from left to right.
-    fn place(&mut self, plan: &Plan, node: usize, strands: &[usize]) -> Result<Vec<usize>, AllocError> {
+    fn place(
+        &mut self,
+        plan: &Plan,
+        node: usize,
+        strands: &[usize],
+    ) -> Result<Vec<usize>, AllocError> {
         let (Some(first), Some(last)) = (strands.first().copied(), strands.last().copied()) else {
             return Ok(Vec::new(self.alloc));
         };
@@ -329,7 +341,11 @@ impl Sweep {
     /// below its node; else the first.
     fn choose_line(&self, plan: &Plan, node: usize, strands: &[usize]) -> usize {
         let up = plan.dominators.up(node);
-        let trunk = if up < plan.graph.nodes() { self.line.get(up) } else { None };
+        let trunk = if up < plan.graph.nodes() {
+            self.line.get(up)
+        } else {
+            None
+        };
         let mut straight = None;
         let mut first = None;
         for strand in strands {
@@ -371,19 +387,31 @@ impl Sweep {
             Thread::Root => None,
             Thread::Lane => return Ok(()),
         };
-        self.ends.push(End { link, line: room.line })?;
+        self.ends.push(End {
+            link,
+            line: room.line,
+        })?;
         Ok(())
     }
 
     /// Notes what is drawn next, with the ends from `start` on.
     fn note(&mut self, shown: Shown, start: usize) -> Result<(), AllocError> {
         let count = self.ends.len().saturating_sub(start);
-        self.events.push(Event { shown, start, count })?;
+        self.events.push(Event {
+            shown,
+            start,
+            count,
+        })?;
         Ok(())
     }
 
     /// Adds a lane for loops to a step behind its border to the left. Answers its strand.
-    fn add_lane(&mut self, step: usize, border: usize, left: Option<usize>) -> Result<usize, AllocError> {
+    fn add_lane(
+        &mut self,
+        step: usize,
+        border: usize,
+        left: Option<usize>,
+    ) -> Result<usize, AllocError> {
         let line = self.columns.behind(border, Side::Left)?;
         let right = self.columns.behind(line, Side::Left)?;
         let room = Room {
@@ -396,13 +424,21 @@ impl Sweep {
             right: LANE,
         };
         self.columns.keep_lane(room, extent, step)?;
-        let lane = self.strands.add(Strand::new(Thread::Lane, step, room), left)?;
+        let lane = self
+            .strands
+            .add(Strand::new(Thread::Lane, step, room), left)?;
         self.home.set(step, Some(Home { lane, line }));
         Ok(lane)
     }
 
     /// Keeps the room for a node, below strands of which the last hangs on this line.
-    fn keep_node(&mut self, plan: &Plan, node: usize, room: Room, last: usize) -> Result<(), AllocError> {
+    fn keep_node(
+        &mut self,
+        plan: &Plan,
+        node: usize,
+        room: Room,
+        last: usize,
+    ) -> Result<(), AllocError> {
         let Extent { left, right } = extent(&plan.graph, node);
         let right = right.saturating_add(GAP);
         self.columns.keep(room, Extent { left, right })?;
@@ -411,7 +447,13 @@ impl Sweep {
     }
 
     /// Hangs the links of a node around its line, in this room. Answers their strands, from left to right.
-    fn hang(&mut self, plan: &Plan, node: usize, room: Room, left: Option<usize>) -> Result<Vec<usize>, AllocError> {
+    fn hang(
+        &mut self,
+        plan: &Plan,
+        node: usize,
+        room: Room,
+        left: Option<usize>,
+    ) -> Result<Vec<usize>, AllocError> {
         let outs = plan.graph.outs();
         let main = main_outlet(plan, node);
         let mut outlets = Vec::new(self.alloc);
@@ -435,7 +477,13 @@ impl Sweep {
 
     /// The room for a link of a node with this room, which stands behind the column `before`: at the left of that which goes
     /// straight down, that itself, or at its right.
-    fn room_of(&mut self, room: Room, before: usize, order: Ordering, is_last: bool) -> Result<Room, AllocError> {
+    fn room_of(
+        &mut self,
+        room: Room,
+        before: usize,
+        order: Ordering,
+        is_last: bool,
+    ) -> Result<Room, AllocError> {
         let side = match (order, self.columns.side(room.line)) {
             (Ordering::Less, _) => Side::Left,
             (_, Side::Own) => Side::Own,
@@ -451,13 +499,25 @@ impl Sweep {
         } else {
             self.columns.behind(line, side)?
         };
-        Ok(Room { line, right, ..room })
+        Ok(Room {
+            line,
+            right,
+            ..room
+        })
     }
 
     /// Hangs a link in its room, right behind a strand. Answers its strand.
-    fn hang_link(&mut self, plan: &Plan, link: usize, room: Room, left: Option<usize>) -> Result<usize, AllocError> {
+    fn hang_link(
+        &mut self,
+        plan: &Plan,
+        link: usize,
+        room: Room,
+        left: Option<usize>,
+    ) -> Result<usize, AllocError> {
         let to = plan.graph.target(link);
-        let strand = self.strands.add(Strand::new(Thread::Link(link), to, room), left)?;
+        let strand = self
+            .strands
+            .add(Strand::new(Thread::Link(link), to, room), left)?;
         self.leave.set(link, room.line);
         if plan.graph.is_line(link) {
             self.note_hung(strand, to);
@@ -516,7 +576,10 @@ impl Sweep {
         for strand in row {
             self.strands.put_row(*strand, self.rows);
         }
-        let straight = row.iter().copied().find(|strand| self.strands.get(*strand).room.line == line);
+        let straight = row
+            .iter()
+            .copied()
+            .find(|strand| self.strands.get(*strand).room.line == line);
         if let Some(main) = straight {
             if self.is_open_end(plan, main) && self.lane_of(plan, main, line).is_some() {
                 self.jump_before(plan, row, main)?;
@@ -533,7 +596,11 @@ impl Sweep {
 
     /// Whether a strand is open, and no line.
     fn is_open_end(&self, plan: &Plan, strand: usize) -> bool {
-        let Strand { thread, is_open, .. } = self.strands.get(strand);
+        let Strand {
+            thread,
+            is_open,
+            ..
+        } = self.strands.get(strand);
         is_open && matches!(thread, Thread::Link(link) if !plan.graph.is_line(link))
     }
 
@@ -552,10 +619,17 @@ impl Sweep {
     }
 
     /// Ends a strand of a row by a loop, or as a jump.
-    fn end_one(&mut self, plan: &Plan, strand: usize, line: usize, straight: Option<usize>) -> Result<(), AllocError> {
+    fn end_one(
+        &mut self,
+        plan: &Plan,
+        strand: usize,
+        line: usize,
+        straight: Option<usize>,
+    ) -> Result<(), AllocError> {
         if let Some(lane) = self.lane_of(plan, strand, line) {
             if let Some(run) = self.loop_around(plan, strand, lane, line) {
-                let goes_on = straight.is_some_and(|other| other != strand && self.strands.get(other).is_open);
+                let goes_on = straight.is_some_and(|other| other != strand
+                    && self.strands.get(other).is_open);
                 if !goes_on || self.is_only_loop(plan, lane, run) {
                     return self.close(plan, lane, run);
                 }
@@ -694,7 +768,11 @@ impl Sweep {
             let Some(strand) = next else {
                 break;
             };
-            let Strand { is_open, hung_next, .. } = self.strands.get(strand);
+            let Strand {
+                is_open,
+                hung_next,
+                ..
+            } = self.strands.get(strand);
             if is_open && self.is_first(strand) {
                 longest = self.longer(longest, self.run_around(strand));
             }
@@ -705,7 +783,8 @@ impl Sweep {
 
     /// The longer of two runs; of equal ones that whose first line was made first.
     fn longer(&self, one: Run, other: Run) -> Run {
-        let is_earlier = self.strands.get(other.first).room.line < self.strands.get(one.first).room.line;
+        let is_earlier = self.strands.get(other.first).room.line
+            < self.strands.get(one.first).room.line;
         if other.count > one.count || other.count == one.count && is_earlier {
             other
         } else {
@@ -720,7 +799,13 @@ impl Sweep {
             let Some(strand) = next else {
                 break;
             };
-            let Strand { thread, is_open, row, hung_next, .. } = self.strands.get(strand);
+            let Strand {
+                thread,
+                is_open,
+                row,
+                hung_next,
+                ..
+            } = self.strands.get(strand);
             if let (Thread::Link(link), true) = (thread, is_open && row != self.rows) {
                 plan.graph.turn(link, Kind::Cut);
                 self.jump(plan, strand)?;

@@ -1,10 +1,10 @@
 //! How far down everything stands.
 
 use crate::board::Board;
+use crate::draw_error::DrawError;
 use crate::drawing::{Bar, Drawing, Stem, Stub};
 use crate::event::{Event, Shown};
 use crate::extents::{arrival, extent, has_arrivals, height, own_extent, stubs_of};
-use crate::draw_error::DrawError;
 use crate::node_room::NodeRoom;
 use crate::plan::Plan;
 use crate::sizes::{BAR, BESIDE, BOX, LINE, OVER, ROW, SHORT, STUB};
@@ -107,7 +107,13 @@ impl Writer {
     }
 
     /// Draws the lines that come down to a node, and the bar that joins them.
-    fn put_join(&mut self, plan: &Plan, sweep: &Sweep, node: usize, event: Event) -> Result<Start, DrawError> {
+    fn put_join(
+        &mut self,
+        plan: &Plan,
+        sweep: &Sweep,
+        node: usize,
+        event: Event,
+    ) -> Result<Start, DrawError> {
         let Some(link) = sweep.end(event.start).link else {
             return Ok(Start {
                 y: 0,
@@ -125,7 +131,11 @@ impl Writer {
         let over = wider(reach, is_double);
         let low = low.max(self.board.top(over)).saturating_add(14);
         let y = self.put_stubs(plan, node, reach.right, low)?;
-        let stubbed = if stubs_of(&plan.graph, node).count > 0 { OVER + 10 } else { 0 };
+        let stubbed = if stubs_of(&plan.graph, node).count > 0 {
+            OVER + 10
+        } else {
+            0
+        };
         self.bars.push(Bar {
             node,
             is_double,
@@ -142,7 +152,13 @@ impl Writer {
 
     /// Keeps the room for the names of steps that come to a transition without a line, behind the right end of its double line.
     /// Answers how far down this line is.
-    fn put_stubs(&mut self, plan: &Plan, node: usize, right: u32, low: u32) -> Result<u32, DrawError> {
+    fn put_stubs(
+        &mut self,
+        plan: &Plan,
+        node: usize,
+        right: u32,
+        low: u32,
+    ) -> Result<u32, DrawError> {
         let stubs = stubs_of(&plan.graph, node);
         if stubs.count == 0 {
             return Ok(low);
@@ -177,7 +193,13 @@ impl Writer {
     }
 
     /// Draws the line of a node down to `bottom`: its one link, or its own.
-    fn put_stem(&mut self, node: usize, x: u32, start: Start, bottom: u32) -> Result<(), DrawError> {
+    fn put_stem(
+        &mut self,
+        node: usize,
+        x: u32,
+        start: Start,
+        bottom: u32,
+    ) -> Result<(), DrawError> {
         match start.way {
             Way::Link(link) => self.put_line(link, x, bottom),
             Way::Bar | Way::Nothing => self.stems.push(Stem {
@@ -191,7 +213,13 @@ impl Writer {
     }
 
     /// Draws the bar from which the links of a node hang, whose line goes on at `top`.
-    fn put_split(&mut self, plan: &Plan, sweep: &Sweep, node: usize, top: u32) -> Result<(), DrawError> {
+    fn put_split(
+        &mut self,
+        plan: &Plan,
+        sweep: &Sweep,
+        node: usize,
+        top: u32,
+    ) -> Result<(), DrawError> {
         let outs = plan.graph.outs();
         let mut y = top;
         if outs.count(node) > 1 {
@@ -204,7 +232,13 @@ impl Writer {
     }
 
     /// The same where there are several. Answers how far down they hang.
-    fn put_branches(&mut self, plan: &Plan, sweep: &Sweep, node: usize, top: u32) -> Result<u32, DrawError> {
+    fn put_branches(
+        &mut self,
+        plan: &Plan,
+        sweep: &Sweep,
+        node: usize,
+        top: u32,
+    ) -> Result<u32, DrawError> {
         let is_double = !plan.graph.is_step(node);
         let reach = branches_of(plan, sweep, node);
         let said = said_of(plan, sweep, node);
@@ -214,7 +248,9 @@ impl Writer {
             right: over.right.max(said),
         };
         let gap = if is_double { 14 } else { 16 };
-        let y = top.saturating_add(gap).max(self.board.top(widest).saturating_add(10));
+        let y = top
+            .saturating_add(gap)
+            .max(self.board.top(widest).saturating_add(10));
         self.bars.push(Bar {
             node,
             is_double,
@@ -235,7 +271,13 @@ impl Writer {
     }
 
     /// Keeps the room for the priorities of the links of a step, down to `bottom`.
-    fn put_priorities(&mut self, plan: &Plan, sweep: &Sweep, node: usize, bottom: u32) -> Result<(), DrawError> {
+    fn put_priorities(
+        &mut self,
+        plan: &Plan,
+        sweep: &Sweep,
+        node: usize,
+        bottom: u32,
+    ) -> Result<(), DrawError> {
         let outs = plan.graph.outs();
         for place in outs.start(node)..outs.end(node) {
             if let Some(reach) = priority_of(plan, sweep, outs.at(place)) {
@@ -246,7 +288,13 @@ impl Writer {
     }
 
     /// Draws a step below its ends.
-    fn put_step(&mut self, plan: &Plan, sweep: &Sweep, step: usize, event: Event) -> Result<(), DrawError> {
+    fn put_step(
+        &mut self,
+        plan: &Plan,
+        sweep: &Sweep,
+        step: usize,
+        event: Event,
+    ) -> Result<(), DrawError> {
         let x = sweep.columns.x(sweep.line(step));
         let start = self.put_join(plan, sweep, step, event)?;
         let arrives = has_arrivals(&plan.graph, step);
@@ -262,14 +310,24 @@ impl Writer {
         let room = room_of(plan, sweep, step, 10);
         let top = self.board.settle(step, room, least)?;
         if arrives || start.way != Way::Nothing {
-            let from = if start.way == Way::Nothing { y.saturating_sub(8) } else { start.y };
+            let from = if start.way == Way::Nothing {
+                y.saturating_sub(8)
+            } else {
+                start.y
+            };
             self.put_stem(step, x, Start { y: from, ..start }, top)?;
         }
         self.put_rows(plan, step, x, top)
     }
 
     /// Draws the arrow by which jumps and loops enter a step, whose line begins at `start`. Answers how far down it is.
-    fn put_entry(&mut self, plan: &Plan, sweep: &Sweep, step: usize, start: u32) -> Result<u32, DrawError> {
+    fn put_entry(
+        &mut self,
+        plan: &Plan,
+        sweep: &Sweep,
+        step: usize,
+        start: u32,
+    ) -> Result<u32, DrawError> {
         let x = sweep.columns.x(sweep.line(step));
         let reach = Reach {
             left: sweep.lane(step).map_or(x, |lane| sweep.columns.x(lane)),
@@ -287,14 +345,22 @@ impl Writer {
         if sizes.block > 0 {
             let left = x.saturating_add(u32::from(sizes.half));
             let right = left.saturating_add(sizes.block).saturating_add(14);
-            let bottom = top.saturating_add((BOX - ROW) / 2).saturating_add(sizes.rows);
+            let bottom = top
+                .saturating_add((BOX - ROW) / 2)
+                .saturating_add(sizes.rows);
             self.board.take(Reach { left, right }, bottom)?;
         }
         Ok(())
     }
 
     /// Draws a transition below its ends.
-    fn put_transition(&mut self, plan: &Plan, sweep: &Sweep, node: usize, event: Event) -> Result<(), DrawError> {
+    fn put_transition(
+        &mut self,
+        plan: &Plan,
+        sweep: &Sweep,
+        node: usize,
+        event: Event,
+    ) -> Result<(), DrawError> {
         let x = sweep.columns.x(sweep.line(node));
         let start = self.put_join(plan, sweep, node, event)?;
         let room = room_of(plan, sweep, node, BESIDE);
@@ -306,7 +372,8 @@ impl Writer {
             right: x.saturating_add(extent(&plan.graph, node).right),
         };
         let lines = plan.graph.transition(node).lines;
-        self.board.take(text, bar.saturating_add(lines).saturating_add(8))?;
+        self.board
+            .take(text, bar.saturating_add(lines).saturating_add(8))?;
         self.put_split(plan, sweep, node, bar.saturating_add(2))
     }
 
@@ -338,9 +405,17 @@ impl Writer {
     }
 
     /// Draws the links of these ends as a loop to a step; where it would be too high, as jumps.
-    fn put_loop(&mut self, plan: &Plan, sweep: &Sweep, step: usize, event: Event) -> Result<(), DrawError> {
+    fn put_loop(
+        &mut self,
+        plan: &Plan,
+        sweep: &Sweep,
+        step: usize,
+        event: Event,
+    ) -> Result<(), DrawError> {
         let (low, reach) = self.ends_of(sweep, event);
-        let lane = sweep.lane(step).map_or(reach.left, |lane| sweep.columns.x(lane));
+        let lane = sweep
+            .lane(step)
+            .map_or(reach.left, |lane| sweep.columns.x(lane));
         let reach = Reach {
             left: lane,
             right: reach.right,

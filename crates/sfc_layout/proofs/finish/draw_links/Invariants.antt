@@ -9,5 +9,5 @@ abbrev pub invariant-loop-number : goal.invariant-loop-number
 invariant-loop-number l = record {
   len : length l.drawings.items ≡ l.number;
   drawn : (k : ℕ) (r : Link) (d : Drawing) (b : NodeBox) → k < l.number →
-      IsDrawn (get_or l.boxes (get_or l.links k r).source b) (get_or l.boxes (get_or l.links k r).target b) (get_or l.drawings.items k d)
+      IsDrawn (get_or l.boxes (get_or l.links k r).source b) (get_or l.boxes (get_or l.links k r).target b) (get_or l.drawings.items k d);
 }

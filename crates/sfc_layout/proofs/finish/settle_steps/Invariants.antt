@@ -8,5 +8,5 @@ abbrev pub invariant-loop-node : goal.invariant-loop-node
 invariant-loop-node l = record {
   len : length l.board.boxes.items ≡ length l.initial.board.boxes.items;
   boxes : (v : ℕ) (s : Step) (d : NodeBox) → v < l.node → v < length l.steps →
-      IsOfSize (step_extent (get_or l.steps v s)) 34 (get_or l.board.boxes.items v d)
+      IsOfSize (step_extent (get_or l.steps v s)) 34 (get_or l.board.boxes.items v d);
 }

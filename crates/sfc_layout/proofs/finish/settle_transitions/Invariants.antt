@@ -9,5 +9,5 @@ invariant-loop-number l = record {
   len : length l.board.boxes.items ≡ length l.initial.board.boxes.items;
   steps : AreStepBoxes l.fn.steps l.board.boxes.items;
   boxes : (t : ℕ) (s : Transition) (d : NodeBox) → t < l.number → t < length l.transitions →
-      IsOfSize (transition_extent (get_or l.transitions t s)) 12 (get_or l.board.boxes.items (l.count + t) d)
+      IsOfSize (transition_extent (get_or l.transitions t s)) 12 (get_or l.board.boxes.items (l.count + t) d);
 }

@@ -5,5 +5,5 @@ use Rattle.sfc_layout.proofs.skyline.Skyline.widen.Given as goal
 abbrev pub invariant-loop : goal.invariant-loop
 invariant-loop l = record {
   len : vec_len l.self.cells ≡ l.counter;
-  kept : (k : ℕ) → depth l.self k ≡ depth l.initial.self k
+  kept : (k : ℕ) → depth l.self k ≡ depth l.initial.self k;
 }
