@@ -63,6 +63,14 @@ impl Strand {
     }
 }
 
+/// Strands that stand side by side, but for lanes, from the first to the last of them.
+#[derive(Clone, Copy, Debug, PartialEq, Eq)]
+pub struct Run {
+    pub first: usize,
+    pub last: usize,
+    pub count: usize,
+}
+
 /// The strands, the open ones in an order from left to right, with a border between two neighbours.
 #[derive(Drop)]
 pub struct Strands {
@@ -175,6 +183,89 @@ impl Strands {
             let mut changed = self.strands.get(strand);
             changed.room.left = border;
             self.strands.set(strand, changed);
+        }
+    }
+
+    /// The strand to the same node next to this one, but for lanes: that at the left, or that at the right.
+    fn neighbour(&self, strand: usize, to_left: bool) -> Option<usize> {
+        let to = self.get(strand).to;
+        let mut next = Some(strand);
+        for _ in 0..self.count() {
+            let at = self.get(next?);
+            next = if to_left { at.previous } else { at.next };
+            let beside = self.get(next?);
+            if !beside.is_lane() {
+                return if beside.to == to { next } else { None };
+            }
+        }
+        None
+    }
+
+    /// Whether no strand to the same node is next to this one at its left.
+    pub fn is_first(&self, strand: usize) -> bool {
+        self.neighbour(strand, true).is_none()
+    }
+
+    /// The strands to the node of this one that stand side by side with it, but for lanes.
+    pub fn run_around(&self, strand: usize) -> Run {
+        let mut run = Run {
+            first: strand,
+            last: strand,
+            count: 1,
+        };
+        for _ in 0..self.count() {
+            if let Some(first) = self.neighbour(run.first, true) {
+                run.first = first;
+            } else if let Some(last) = self.neighbour(run.last, false) {
+                run.last = last;
+            } else {
+                break;
+            }
+            run.count = run.count.saturating_add(1);
+        }
+        run
+    }
+
+    /// The strands from one on to another.
+    pub fn between(&self, alloc: Global, first: usize, last: usize) -> Result<Vec<usize>, AllocError> {
+        let mut strands = Vec::new(alloc);
+        let mut next = Some(first);
+        for _ in 0..self.count() {
+            let Some(strand) = next else {
+                break;
+            };
+            strands.push(strand)?;
+            if strand == last {
+                break;
+            }
+            next = self.get(strand).next;
+        }
+        Ok(strands)
+    }
+
+    /// Whether there is a lane in a run.
+    pub fn has_lane(&self, run: Run) -> bool {
+        let mut strand = run.first;
+        for _ in 0..run.count {
+            if self.get(strand).is_lane() {
+                return true;
+            }
+            let Some(next) = self.get(strand).next else {
+                break;
+            };
+            strand = next;
+        }
+        false
+    }
+
+    /// The longer of two runs; of equal ones that whose first line was made first.
+    pub fn longer(&self, one: Run, other: Run) -> Run {
+        let is_earlier = self.get(other.first).room.line
+            < self.get(one.first).room.line;
+        if other.count > one.count || other.count == one.count && is_earlier {
+            other
+        } else {
+            one
         }
     }
 }

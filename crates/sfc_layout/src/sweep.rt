@@ -8,7 +8,7 @@ use crate::graph::Kind;
 use crate::outlets::main_outlet;
 use crate::plan::Plan;
 use crate::sizes::{GAP, LANE};
-use crate::strands::{Strand, Strands, Thread};
+use crate::strands::{Run, Strand, Strands, Thread};
 use crate::table::Table;
 use std::alloc::{AllocError, Global};
 use std::cmp::Ordering;
@@ -20,14 +20,6 @@ pub struct Home {
     pub lane: usize,
     /// The line of its lane.
     pub line: usize,
-}
-
-/// Strands that stand side by side, but for lanes, from the first to the last of them.
-#[derive(Clone, Copy, Debug, PartialEq, Eq)]
-struct Run {
-    first: usize,
-    last: usize,
-    count: usize,
 }
 
 /// The sweep over the networks of a chart.
@@ -182,10 +174,10 @@ impl Sweep {
     /// The run around a strand, if it is of all strands to a node to which all its lines hang. Within a run none but the first is
     /// looked at, unless it is fresh.
     fn whole_run(&self, strand: usize, is_fresh: bool) -> Option<Run> {
-        if !self.hangs_whole(strand) || !is_fresh && !self.is_first(strand) {
+        if !self.hangs_whole(strand) || !is_fresh && !self.strands.is_first(strand) {
             return None;
         }
-        let run = self.run_around(strand);
+        let run = self.strands.run_around(strand);
         if run.count == self.hung.get(self.strands.get(strand).to) {
             Some(run)
         } else {
@@ -199,67 +191,10 @@ impl Sweep {
         thread != Thread::Lane && self.wait.get(to) == 0
     }
 
-    /// Whether a strand to the same node is next to this one, but for lanes; that at the left, or that at the right.
-    fn neighbour(&self, strand: usize, to_left: bool) -> Option<usize> {
-        let to = self.strands.get(strand).to;
-        let mut next = Some(strand);
-        for _ in 0..self.strands.count() {
-            let at = self.strands.get(next?);
-            next = if to_left { at.previous } else { at.next };
-            let beside = self.strands.get(next?);
-            if !beside.is_lane() {
-                return if beside.to == to { next } else { None };
-            }
-        }
-        None
-    }
-
-    /// Whether no strand to the same node is next to this one at its left.
-    fn is_first(&self, strand: usize) -> bool {
-        self.neighbour(strand, true).is_none()
-    }
-
-    /// The strands to the node of this one that stand side by side with it, but for lanes.
-    fn run_around(&self, strand: usize) -> Run {
-        let mut run = Run {
-            first: strand,
-            last: strand,
-            count: 1,
-        };
-        for _ in 0..self.strands.count() {
-            if let Some(first) = self.neighbour(run.first, true) {
-                run.first = first;
-            } else if let Some(last) = self.neighbour(run.last, false) {
-                run.last = last;
-            } else {
-                break;
-            }
-            run.count = run.count.saturating_add(1);
-        }
-        run
-    }
-
-    /// The strands from one on to another.
-    fn between(&self, first: usize, last: usize) -> Result<Vec<usize>, AllocError> {
-        let mut strands = Vec::new(self.alloc);
-        let mut next = Some(first);
-        for _ in 0..self.strands.count() {
-            let Some(strand) = next else {
-                break;
-            };
-            strands.push(strand)?;
-            if strand == last {
-                break;
-            }
-            next = self.strands.get(strand).next;
-        }
-        Ok(strands)
-    }
-
     /// Ends the lanes of a run. Answers its strands.
     fn without_lanes(&mut self, run: Run) -> Result<Vec<usize>, AllocError> {
         let mut strands = Vec::new(self.alloc);
-        let between = self.between(run.first, run.last)?;
+        let between = self.strands.between(self.alloc, run.first, run.last)?;
         for strand in between.as_slice() {
             if self.strands.get(*strand).is_lane() {
                 self.strands.end(&self.columns, *strand);
@@ -690,22 +625,7 @@ impl Sweep {
         for place in ins.start(step)..ins.end(step) {
             loops = loops.saturating_add(usize::from(plan.graph.is_loop(ins.at(place))));
         }
-        loops == run.count && !self.has_lane(run)
-    }
-
-    /// Whether there is a lane in a run.
-    fn has_lane(&self, run: Run) -> bool {
-        let mut strand = run.first;
-        for _ in 0..run.count {
-            if self.strands.get(strand).is_lane() {
-                return true;
-            }
-            let Some(next) = self.strands.get(strand).next else {
-                break;
-            };
-            strand = next;
-        }
-        false
+        loops == run.count && !self.strands.has_lane(run)
     }
 
     /// Ends a lane and the run behind it, whose strands become loops; lanes of inner loops end with them, since nothing can
@@ -713,7 +633,7 @@ impl Sweep {
     fn close(&mut self, plan: &Plan, lane: usize, run: Run) -> Result<(), AllocError> {
         let step = self.strands.get(lane).to;
         let start = self.ends.len();
-        let strands = self.between(lane, run.last)?;
+        let strands = self.strands.between(self.alloc, lane, run.last)?;
         for strand in strands.as_slice() {
             if !self.strands.get(*strand).is_lane() {
                 self.label(plan, *strand)?;
@@ -733,7 +653,7 @@ impl Sweep {
         };
         let node = self.strands.get(strand).to;
         let run = self.longest_run(node, strand);
-        let kept = self.between(run.first, run.last)?;
+        let kept = self.strands.between(self.alloc, run.first, run.last)?;
         self.rows = self.rows.saturating_add(1);
         for strand in kept.as_slice() {
             self.strands.put_row(*strand, self.rows);
@@ -773,23 +693,12 @@ impl Sweep {
                 hung_next,
                 ..
             } = self.strands.get(strand);
-            if is_open && self.is_first(strand) {
-                longest = self.longer(longest, self.run_around(strand));
+            if is_open && self.strands.is_first(strand) {
+                longest = self.strands.longer(longest, self.strands.run_around(strand));
             }
             next = hung_next;
         }
         longest
-    }
-
-    /// The longer of two runs; of equal ones that whose first line was made first.
-    fn longer(&self, one: Run, other: Run) -> Run {
-        let is_earlier = self.strands.get(other.first).room.line
-            < self.strands.get(one.first).room.line;
-        if other.count > one.count || other.count == one.count && is_earlier {
-            other
-        } else {
-            one
-        }
     }
 
     /// Ends the strands to a node as jumps that do not belong to the latest row.
