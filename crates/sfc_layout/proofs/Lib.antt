@@ -1,2 +1,3 @@
 pub mod BoxLemmas
+pub mod DrawingLemmas
 pub mod SizeLemmas

@@ -61,3 +61,9 @@ within_links steps transitions nodes links e ok k d lt = elim (ok k d lt) [
   | inl p ↦ (omega (arith, e, p.0), omega (arith, e, p.2))
   | inr p ↦ (omega (arith, e, p.2), omega (arith, e, p.0))
 ]
+
+-- a box of one size is of another that is equal
+pub sized_as : (own want : Extent) (height wanted : ℕ) (box : NodeBox) → own ≡ want → height ≡ wanted → IsOfSize own height box →
+    IsOfSize want wanted box
+sized_as own want height wanted box e f sized =
+    subst (λ h. IsOfSize want h box) f (subst (λ o. IsOfSize o height box) e sized)
