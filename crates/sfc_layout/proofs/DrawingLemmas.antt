@@ -5,7 +5,7 @@ use Rattle.std.proofs.lemmas.Bool.{cases_eq}
 use Rattle.sfc_layout.specs.declared.chart.Link.{Link}
 use Rattle.sfc_layout.specs.declared.drawing.Drawing.{Drawing}
 use Rattle.sfc_layout.specs.declared.node_box.NodeBox.{NodeBox}
-use Rattle.sfc_layout.specs.Links.{AreWithin, IsDrawn}
+use Rattle.sfc_layout.specs.Links.{AreDrawn, AreWithin, IsDrawn}
 
 -- the drawing lies between the boxes of the nodes of this link
 abbrev Between : List NodeBox → NodeBox → Link → Drawing → Type 0
@@ -40,3 +40,9 @@ more_drawn boxes links old new n drawing l b lt within count e drawn before k r 
         sym (ap (λ xs. get_or xs k d) e ∙ get_or_append_left old (drawing ∷ []) d k (omega (arith, count))) in
     subst (λ x. Between boxes c (get_or links k r) x) kept (before k r d c less)
 ]
+
+-- links that are drawn, where links and boxes are other names for the same
+pub drawn_as : (boxes named : List NodeBox) (links called : List Link) (drawings : List Drawing) → named ≡ boxes → called ≡ links →
+    AreDrawn named called drawings → AreDrawn boxes links drawings
+drawn_as boxes named links called drawings e f all =
+    subst (λ xs. AreDrawn boxes xs drawings) f (subst (λ xs. AreDrawn xs called drawings) e all)

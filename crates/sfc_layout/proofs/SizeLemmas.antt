@@ -7,7 +7,9 @@ use Rattle.sfc_layout.specs.Links.{AreLinks, AreWithin}
 use Rattle.sfc_layout.specs.declared.extent.Extent.{Extent}
 use Rattle.sfc_layout.specs.declared.node_box.NodeBox.{NodeBox}
 use Rattle.sfc_layout.specs.declared.skyline.Reach.{Reach}
-use Rattle.sfc_layout.specs.Sizes.{IsOfSize, HasSize, SameBut}
+use Rattle.sfc_layout.specs.declared.chart.Step.{Step}
+use Rattle.sfc_layout.specs.declared.chart.Transition.{Transition}
+use Rattle.sfc_layout.specs.Sizes.{IsOfSize, HasSize, SameBut, AreStepBoxes, AreTransitionBoxes}
 use Rattle.sfc_layout.specs.Skyline.{IsWithin}
 
 -- a write changes one box
@@ -67,3 +69,22 @@ pub sized_as : (own want : Extent) (height wanted : ℕ) (box : NodeBox) → own
     IsOfSize want wanted box
 sized_as own want height wanted box e f sized =
     subst (λ h. IsOfSize want h box) f (subst (λ o. IsOfSize o height box) e sized)
+
+-- boxes of steps, where steps and boxes are other names for the same
+pub step_boxes_as : (steps same : List Step) (old new : List NodeBox) → steps ≡ same → new ≡ old → AreStepBoxes steps old → AreStepBoxes same new
+step_boxes_as steps same old new e f all =
+    subst (λ xs. AreStepBoxes same xs) (sym f) (subst (λ xs. AreStepBoxes xs old) e all)
+
+-- the same of transitions
+pub transition_boxes_as : (count counted : ℕ) (transitions same : List Transition) (old new : List NodeBox) → count ≡ counted →
+    transitions ≡ same → new ≡ old → AreTransitionBoxes count transitions old → AreTransitionBoxes counted same new
+transition_boxes_as count counted transitions same old new n e f all =
+    subst (λ xs. AreTransitionBoxes counted same xs) (sym f)
+        (subst (λ xs. AreTransitionBoxes counted xs old) e (subst (λ k. AreTransitionBoxes k transitions old) n all))
+
+-- the ends of links are nodes, where links and boxes are other names for the same
+pub within_as : (steps transitions : ℕ) (boxes named : List NodeBox) (links called : List Link) → named ≡ boxes → called ≡ links →
+    length boxes ≡ steps + transitions → AreLinks steps transitions links → AreWithin (length named) called
+within_as steps transitions boxes named links called e f count ok =
+    subst (λ xs. AreWithin (length xs) called) (sym e)
+        (subst (λ xs. AreWithin (length boxes) xs) (sym f) (within_links steps transitions (length boxes) links count ok))

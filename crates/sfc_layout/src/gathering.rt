@@ -138,7 +138,8 @@ impl Gathering {
             return self.note(node, branch);
         }
         for i in 0..met.count {
-            self.note(node, self.members.get(met.start.saturating_add(i)))?;
+            let member = self.members.get(met.start.saturating_add(i));
+            self.note(node, member)?;
         }
         Ok(())
     }

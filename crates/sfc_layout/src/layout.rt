@@ -2,7 +2,7 @@
 
 ghost use Rattle.std.specs.Prelude.{◌≡◌, ◌+◌, ℕ, true, false, IfOk, IfErr, OnOk, MatchOption, length};
 ghost use Rattle.sfc_layout.specs.Apart.{AreApart};
-ghost use Rattle.sfc_layout.specs.Links.{AreDrawn, AreLinks, AreWithin, IsOfWrong, IsLink, IsWrong};
+ghost use Rattle.sfc_layout.specs.Links.{AreDrawn, AreLinks, IsOfWrong, IsLink, IsWrong};
 ghost use Rattle.sfc_layout.specs.Sizes.{AreStepBoxes, AreTransitionBoxes};
 
 use crate::board::Board;
@@ -15,6 +15,7 @@ use crate::node_box::NodeBox;
 use crate::plan::Plan;
 use crate::sheets::arrange;
 use crate::sweep::Sweep;
+use crate::table::Table;
 use crate::writer::Writer;
 use std::alloc::{AllocError, Global};
 
@@ -107,7 +108,7 @@ fn draw(alloc: Global, chart: &Chart) -> Result<Layout, DrawError>
         stubs,
     } = writer;
     let boxes = settle_all(alloc, board, chart)?;
-    let links = draw_links(alloc, boxes.as_slice(), chart.links.as_slice(), &links)?;
+    let links = draw_all(alloc, chart, &boxes, &links)?;
     let sheets = arrange(alloc, sizes.as_slice())?;
     Ok(Layout {
         boxes,
@@ -118,6 +119,24 @@ fn draw(alloc: Global, chart: &Chart) -> Result<Layout, DrawError>
         stubs,
         sheets,
     })
+}
+
+/// How each link of a chart is drawn between these boxes. The one error is that memory was refused.
+fn draw_all(
+    alloc: Global,
+    chart: &Chart,
+    boxes: &Vec<NodeBox>,
+    put: &Table<Option<Drawing>>,
+) -> Result<Vec<Drawing>, AllocError>
+    requires links { AreLinks (length chart.now.steps.items) (length chart.now.transitions.items) chart.now.links.items }
+    requires nodes { length boxes.now.items ≡ length chart.now.steps.items + length chart.now.transitions.items }
+    ensures each_link { IfOk result (λ drawings. length drawings.items ≡ length chart.now.links.items) }
+    ensures drawn { IfOk result (λ drawings. AreDrawn boxes.now.items chart.now.links.items drawings.items) }
+{
+    let placed = boxes.as_slice();
+    let links = chart.links.as_slice();
+    let drawings = draw_links(alloc, placed, links, put)?;
+    Ok(drawings)
 }
 
 /// What all passes put.
