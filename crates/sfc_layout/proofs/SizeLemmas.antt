@@ -80,11 +80,11 @@ pub transition_boxes_as : (count counted : ℕ) (transitions same : List Transit
     transitions ≡ same → new ≡ old → AreTransitionBoxes count transitions old → AreTransitionBoxes counted same new
 transition_boxes_as count counted transitions same old new n e f all =
     subst (λ xs. AreTransitionBoxes counted same xs) (sym f)
-        (subst (λ xs. AreTransitionBoxes counted xs old) e (subst (λ k. AreTransitionBoxes k transitions old) n all))
+    (subst (λ xs. AreTransitionBoxes counted xs old) e (subst (λ k. AreTransitionBoxes k transitions old) n all))
 
 -- the ends of links are nodes, where links and boxes are other names for the same
 pub within_as : (steps transitions : ℕ) (boxes named : List NodeBox) (links called : List Link) → named ≡ boxes → called ≡ links →
     length boxes ≡ steps + transitions → AreLinks steps transitions links → AreWithin (length named) called
 within_as steps transitions boxes named links called e f count ok =
     subst (λ xs. AreWithin (length xs) called) (sym e)
-        (subst (λ xs. AreWithin (length boxes) xs) (sym f) (within_links steps transitions (length boxes) links count ok))
+    (subst (λ xs. AreWithin (length boxes) xs) (sym f) (within_links steps transitions (length boxes) links count ok))

@@ -227,7 +227,12 @@ impl Strands {
     }
 
     /// The strands from one on to another.
-    pub fn between(&self, alloc: Global, first: usize, last: usize) -> Result<Vec<usize>, AllocError> {
+    pub fn between(
+        &self,
+        alloc: Global,
+        first: usize,
+        last: usize,
+    ) -> Result<Vec<usize>, AllocError> {
         let mut strands = Vec::new(alloc);
         let mut next = Some(first);
         for _ in 0..self.count() {
@@ -260,8 +265,7 @@ impl Strands {
 
     /// The longer of two runs; of equal ones that whose first line was made first.
     pub fn longer(&self, one: Run, other: Run) -> Run {
-        let is_earlier = self.get(other.first).room.line
-            < self.get(one.first).room.line;
+        let is_earlier = self.get(other.first).room.line < self.get(one.first).room.line;
         if other.count > one.count || other.count == one.count && is_earlier {
             other
         } else {

@@ -694,7 +694,9 @@ impl Sweep {
                 ..
             } = self.strands.get(strand);
             if is_open && self.strands.is_first(strand) {
-                longest = self.strands.longer(longest, self.strands.run_around(strand));
+                longest = self
+                    .strands
+                    .longer(longest, self.strands.run_around(strand));
             }
             next = hung_next;
         }

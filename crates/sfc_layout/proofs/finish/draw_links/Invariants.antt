@@ -1,4 +1,4 @@
-use Rattle.std.proofs.Common.{◌≡◌, ◌<◌, ◌≤◌, ℕ, get_or, length}
+use Rattle.std.proofs.Common.{◌≡◌, ◌<◌, ℕ, get_or, length}
 use Rattle.sfc_layout.specs.declared.chart.Link.{Link}
 use Rattle.sfc_layout.specs.declared.drawing.Drawing.{Drawing}
 use Rattle.sfc_layout.specs.declared.node_box.NodeBox.{NodeBox}

@@ -1,4 +1,4 @@
-use Rattle.std.proofs.Common.{◌≡◌, ◌<◌, ◌≤◌, ℕ, get_or, length}
+use Rattle.std.proofs.Common.{◌≡◌, ◌<◌, ℕ, get_or, length}
 use Rattle.sfc_layout.specs.declared.chart.Step.{Step}
 use Rattle.sfc_layout.specs.declared.node_box.NodeBox.{NodeBox}
 use Rattle.sfc_layout.specs.Sizes.{IsOfSize, step_extent}

@@ -9,4 +9,4 @@ returns-clause-step_boxes c =
 pub returns-clause-transition_boxes : goal.returns-clause-transition_boxes
 returns-clause-transition_boxes c =
     transition_boxes_as _ _ _ _ _ _ (ap (λ xs. length xs) c.as_slice-steps.ensures.value) c.as_slice-transitions.ensures.value
-        c.into_boxes.ensures.boxes c.in_ok-settle_transitions.ensures.boxes
+    c.into_boxes.ensures.boxes c.in_ok-settle_transitions.ensures.boxes

@@ -1,4 +1,4 @@
-use Rattle.std.proofs.Common.{◌≤◌, ◌<◌, ◌/◌, ◌≡◌, ℕ, vec_len}
+use Rattle.std.proofs.Common.{◌≤◌, ◌<◌, ◌/◌, ℕ, vec_len}
 use Rattle.sfc_layout.specs.Skyline.{depth}
 use Rattle.sfc_layout.proofs.skyline.Skyline.take.Given as goal
 
