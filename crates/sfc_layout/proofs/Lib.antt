@@ -1,0 +1,3 @@
+pub mod BoxLemmas
+pub mod DrawingLemmas
+pub mod SizeLemmas
