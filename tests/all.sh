@@ -129,7 +129,7 @@ damages() {
   done
 }
 
-# in_both: what both have, but for sizes
+# in_both: what both have, but for sizes, the longest of them first
 in_both() {
   beside "$limit" refused.sh "$tests/refused.sh"
   beside "$limit" "damaged.sh bytes" "$tests/damaged.sh" bytes
@@ -147,13 +147,13 @@ quick() {
   alone "$limit" program.sh "$tests/program.sh"
   alone "$limit" "pressure.sh 10000" "$tests/pressure.sh" 10000
   [ ! -x "$tests/launcher.sh" ] || alone "$limit" "launcher.sh quick" "$tests/launcher.sh" quick
-  plants steps 40 4
+  in_both
   plants whole 2000 4
+  plants steps 40 4
   for kind in control tasks image debug; do plants "$kind" 100 1; done
   damages "" 400 1 2
   damages why 400 1 2
   beside "$limit" "cover.sh 2" "$tests/cover.sh" 2
-  in_both
   wait_for_all
 }
 
