@@ -1,8 +1,8 @@
 //! What scripts on a chart reach together.
 
 use crate::ending::Ending;
+use crate::sfc_replay::replay_error::ReplayError;
 use sfc_cover::cover::Cover;
-use sfc_monitor::monitor_error::MonitorError;
 use std::alloc::{AllocError, Global};
 
 /// The scripts of a case, and how many percents are wanted at the least.
@@ -47,7 +47,7 @@ fn play_both(
 }
 
 // Takes over how a command ended.
-fn take(alloc: Global, ending: &mut Ending, error: MonitorError) -> Result<(), AllocError> {
+fn take(alloc: Global, ending: &mut Ending, error: ReplayError) -> Result<(), AllocError> {
     ending.fault = format!(in alloc; "{error}")?;
     ending.status = error.status();
     Ok(())

@@ -19,6 +19,7 @@ mod recipe;
 mod report;
 
 use report::Counts;
+use sfc_cover::sfc_replay;
 use std::process::ExitCode;
 
 // Runs the cases of the file.

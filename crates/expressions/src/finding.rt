@@ -7,7 +7,6 @@ use crate::tree;
 use crate::values::Values;
 use anyhow::{Context, Result};
 use sfc_base::ticks::Ticks;
-use sfc_base::time_text::put_time;
 use sfc_base::value::Value;
 use sfc_base::var_type::VarType;
 use sfc_check::check::check;
@@ -16,6 +15,7 @@ use sfc_check::scope::Scope;
 use sfc_expr::eval::eval;
 use sfc_expr::exec::exec;
 use sfc_expr::view::View;
+use sfc_page::time_text::put_time;
 use std::alloc::Global;
 use std::io::Write;
 

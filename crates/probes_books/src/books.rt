@@ -1,8 +1,11 @@
 //! A book in one hand: what is entered, held, dropped and published.
 
 ghost use Rattle.std.specs.Prelude.{◌≡◌, ◌<◌, [], IfOk};
-ghost use Rattle.sfc_debug.specs.Agreement.{Agrees};
+ghost use Rattle.sfc_control.specs.sfc_debug.Agreement.{Agrees};
 
+use crate::sfc_core::resource::Resource;
+use crate::sfc_debug::debugger::Debugger;
+use crate::sfc_debug::trace_mask::TraceMask;
 use samples::charts::{all_qualifiers, one_step, two_tasks};
 use samples::loaded::plant_of;
 use sfc_base::ids::{TaskId, VarId};
@@ -11,10 +14,8 @@ use sfc_base::value::Value;
 use sfc_control::book::Book;
 use sfc_control::receipt::Receipt;
 use sfc_control::tail::Tail;
-use sfc_core::resource::Resource;
-use sfc_debug::debugger::Debugger;
-use sfc_debug::trace_mask::TraceMask;
 use sfc_events::command::{Answer, Command};
+use sfc_events::instance_set::InstanceSet;
 use sfc_events::refusal::Refusal;
 use std::alloc::Global;
 use std::process::Abort;
@@ -35,27 +36,27 @@ const LIT: Answer = Answer::Value(Value::Bool(true));
 
 // The task's one instance, the plant's first, ran.
 const RAN: Answer = Answer::Scanned {
-    ran: 1,
-    faulted: 0,
-    skipped: 0,
+    ran: InstanceSet { bits: 1 },
+    faulted: InstanceSet { bits: 0 },
+    skipped: InstanceSet { bits: 0 },
     overruns: 0,
     hit: false,
 };
 
 // The plant's second instance ran.
 const SECOND_RAN: Answer = Answer::Scanned {
-    ran: 2,
-    faulted: 0,
-    skipped: 0,
+    ran: InstanceSet { bits: 2 },
+    faulted: InstanceSet { bits: 0 },
+    skipped: InstanceSet { bits: 0 },
     overruns: 0,
     hit: false,
 };
 
 // The first ran, and served two releases at once.
 const RAN_LATE: Answer = Answer::Scanned {
-    ran: 1,
-    faulted: 0,
-    skipped: 0,
+    ran: InstanceSet { bits: 1 },
+    faulted: InstanceSet { bits: 0 },
+    skipped: InstanceSet { bits: 0 },
     overruns: 1,
     hit: false,
 };

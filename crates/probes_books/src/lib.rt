@@ -10,3 +10,6 @@ mod books;
 mod crews;
 #[cfg(test)]
 mod sessions;
+
+// What the crates above name through this one.
+pub use sfc_control::{sfc_core, sfc_debug};

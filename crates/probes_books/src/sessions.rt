@@ -2,8 +2,9 @@
 
 ghost use Rattle.std.specs.Prelude.{◌≡◌, ◌+◌, ◌<◌, ◌≤◌, Bool, true, false, ℤ, IfOk, length, not, []};
 ghost use Rattle.std.specs.Thread.{IsSync};
-ghost use Rattle.sfc_debug.specs.Agreement.{Agrees, plant_of, table_of, mask_of};
+ghost use Rattle.sfc_control.specs.sfc_debug.Agreement.{Agrees, plant_of, table_of, mask_of};
 
+use crate::sfc_debug::debugger::Debugger;
 use sfc_base::ids::TaskId;
 use sfc_control::book::Book;
 use sfc_control::call_error::CallError;
@@ -12,13 +13,12 @@ use sfc_control::close::CloseError;
 use sfc_control::controller::Controller;
 use sfc_control::crews::crew;
 use sfc_control::gate::{Gate, Turn};
+use sfc_control::opened_with::OpenedWith;
 use sfc_control::post::Post;
 use sfc_control::receipt::Receipt;
 use sfc_control::seat::Seat;
-use sfc_control::session::Session;
 use sfc_control::tail::Tail;
 use sfc_control::work::{Why, WorkerEnd, worker};
-use sfc_debug::debugger::Debugger;
 use sfc_events::command::{Answer, Command};
 use std::alloc::{AllocError, Global};
 use std::marker::Brand;
@@ -273,7 +273,7 @@ struct Caller<'a, L: Ledger> {
 }
 
 // Makes each call of the plan, after what it waits for.
-fn called<'a, L: Session, R: Wait + time::Clock>(
+fn called<'a, L: OpenedWith, R: Wait + time::Clock>(
     rt: &R,
     controller: &Controller<L>,
     caller: Caller<'a, L>,
@@ -330,7 +330,7 @@ fn posts_of<'a, L: Ledger, R: time::Clock>(
 }
 
 // A worker for each post, one after the other.
-fn in_turn<L: Session, R: Wait, G: Gate + Drop, C: Clock + Drop>(
+fn in_turn<L: OpenedWith, R: Wait, G: Gate + Drop, C: Clock + Drop>(
     rt: &R,
     alloc: Global,
     controller: &Controller<L>,
@@ -351,7 +351,7 @@ fn in_turn<L: Session, R: Wait, G: Gate + Drop, C: Clock + Drop>(
 }
 
 // A worker for each post in a thread of its own, and the calls in one more.
-fn side_by_side<'a, L: Session + Send + Sync, R: Threads + Wait + time::Clock + Sync>(
+fn side_by_side<'a, L: OpenedWith + Send + Sync, R: Threads + Wait + time::Clock + Sync>(
     rt: &'a R,
     alloc: Global,
     controller: &Controller<L>,
@@ -435,7 +435,7 @@ fn left_by_calls<'a, L: Ledger>(
 }
 
 // Runs the workers, in their place, beside the calls. All seats come back.
-fn worked<L: Session + Send + Sync, R: Threads + Wait + time::Clock + Sync + Abort>(
+fn worked<L: OpenedWith + Send + Sync, R: Threads + Wait + time::Clock + Sync + Abort>(
     rt: &R,
     alloc: Global,
     controller: &Controller<L>,
@@ -478,7 +478,7 @@ fn altered(
 }
 
 // Opens a controller with so many seats, runs the workers beside the calls, and closes it.
-fn run<L: Session + Send + Sync, R: Threads + Wait + time::Clock + Sync + Abort>(
+fn run<L: OpenedWith + Send + Sync, R: Threads + Wait + time::Clock + Sync + Abort>(
     rt: &R,
     alloc: Global,
     blank: Blank,

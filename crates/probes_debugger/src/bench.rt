@@ -1,18 +1,18 @@
 //! A resource on a bench: each call of the core behind one that needs no condition, and all that it shows.
 
 ghost use Rattle.std.specs.Prelude.{◌<◌, length};
-ghost use Rattle.sfc_instance.specs.Views.{tables_in};
+ghost use Rattle.sfc_script.specs.sfc_instance.Views.{tables_in};
 
+use crate::sfc_core::opening::Opening;
+use crate::sfc_core::resource::Resource;
+use crate::sfc_instance::program_view::ProgramView;
 use samples::loaded::plant_of;
 use sfc_base::ids::{ActionNumber, ProgId, TaskId, TransitionId, VarId};
 use sfc_base::references::{StepId, Variable};
 use sfc_base::ticks::Ticks;
 use sfc_base::value::Value;
-use sfc_core::opening::Opening;
-use sfc_core::resource::Resource;
 use sfc_events::event::{Event, Outcome};
 use sfc_events::refusal::Refusal;
-use sfc_instance::program_view::ProgramView;
 use sfc_plant::association::Target;
 use std::alloc::{AllocError, Global};
 use std::test::Fail;

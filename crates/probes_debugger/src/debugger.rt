@@ -1,25 +1,26 @@
 //! The debugger's own calls, before scripts have its commands: commands, what they are answered, and the clock and mode behind them.
 
+use crate::sfc_check::type_error::TypeError;
+use crate::sfc_core::resource::Resource;
+use crate::sfc_debug::break_condition::BreakCondition;
+use crate::sfc_debug::debugger::Debugger;
+use crate::sfc_debug::mode::Mode;
+use crate::sfc_debug::opening::DebugOpening;
+use crate::sfc_debug::trace_mask::TraceMask;
 use samples::charts::one_step;
 use samples::loaded::plant_of;
 use sfc_base::ids::{ActionNumber, ProgId, TaskId, TransitionId, VarId};
 use sfc_base::references::StepId;
 use sfc_base::ticks::Ticks;
 use sfc_base::value::Value;
-use sfc_check::type_error::TypeError;
-use sfc_conditions::condition_error::ConditionError;
-use sfc_conditions::conditions::conditions_of;
-use sfc_core::resource::Resource;
-use sfc_debug::break_condition::BreakCondition;
-use sfc_debug::debugger::Debugger;
-use sfc_debug::mode::Mode;
-use sfc_debug::opening::DebugOpening;
-use sfc_debug::trace_mask::TraceMask;
 use sfc_events::command::{Answer, Command, CondId, Point};
+use sfc_events::instance_set::InstanceSet;
 use sfc_events::refusal::Refusal;
 use sfc_expr::expr::Expr;
 use sfc_list::list_expr::list_expr;
 use sfc_plant::plant::Plant;
+use sfc_script::condition_error::ConditionError;
+use sfc_script::conditions::conditions_of;
 use sfc_text::read_expr::read_expr;
 use std::alloc::Global;
 use std::process::Abort;
@@ -51,18 +52,18 @@ fn two_branches() -> &'static [u8] {
 
 // The task's one instance ran.
 const RAN: Result<Answer, Refusal> = Ok(Answer::Scanned {
-    ran: 1,
-    faulted: 0,
-    skipped: 0,
+    ran: InstanceSet { bits: 1 },
+    faulted: InstanceSet { bits: 0 },
+    skipped: InstanceSet { bits: 0 },
     overruns: 0,
     hit: false,
 });
 
 // The same, and a breakpoint was hit.
 const HIT: Result<Answer, Refusal> = Ok(Answer::Scanned {
-    ran: 1,
-    faulted: 0,
-    skipped: 0,
+    ran: InstanceSet { bits: 1 },
+    faulted: InstanceSet { bits: 0 },
+    skipped: InstanceSet { bits: 0 },
     overruns: 0,
     hit: true,
 });

@@ -16,3 +16,7 @@ mod resource;
 mod scans;
 #[cfg(test)]
 mod stations;
+
+// What the crates above name through this one.
+pub use samples::sfc_check;
+pub use sfc_script::{sfc_core, sfc_debug, sfc_instance};

@@ -5,6 +5,7 @@ use samples::charts::one_step;
 use sfc_base::ids::{TaskId, VarId};
 use sfc_base::value::Value;
 use sfc_events::event::{Event, Outcome};
+use sfc_events::instance_set::InstanceSet;
 use sfc_events::refusal::Refusal;
 use std::alloc::Global;
 use std::process::Abort;
@@ -19,9 +20,9 @@ type Run = (&'static [u8], &'static str, &'static [Row]);
 const SCAN: Event = Event::Scan(TaskId(0));
 
 const SCANNED: Result<Outcome, Refusal> = Ok(Outcome::Scanned {
-    ran: 1,
-    faulted: 0,
-    skipped: 0,
+    ran: InstanceSet { bits: 1 },
+    faulted: InstanceSet { bits: 0 },
+    skipped: InstanceSet { bits: 0 },
     overruns: 0,
 });
 
@@ -301,9 +302,9 @@ const LATE: [Row; 1] = [(
     SCAN,
     55_000,
     Ok(Outcome::Scanned {
-        ran: 1,
-        faulted: 0,
-        skipped: 0,
+        ran: InstanceSet { bits: 1 },
+        faulted: InstanceSet { bits: 0 },
+        skipped: InstanceSet { bits: 0 },
         overruns: 2,
     }),
     "4 active [1] activated [] elapsed [20000, 35000] cleared [] q [] executed [] true [0] overruns 2",

@@ -1,18 +1,18 @@
 //! Readers and writers that fail, or that take and give little at a time.
 
 use crate::broken::{BrokenReader, BrokenWriter, Recorder};
+use crate::sfc_variables::load_error::LoadError;
 use samples::charts::one_step;
-use sfc_base::time_text::put_time;
 use sfc_base::write_fault::{WriteFault, put_all};
-use sfc_monitor::monitor_error::{ChartError, MonitorError};
-use sfc_monitor::replay::replay;
-use sfc_variables::load_error::LoadError;
+use sfc_page::time_text::put_time;
+use sfc_replay::replay::replay;
+use sfc_replay::replay_error::{ChartError, ReplayError};
 use std::alloc::{AllocError, Global};
 use std::process::Abort;
 use std::test::Fail;
 
 // What the replay of the lamp's chart and script answers to a writer.
-fn play_lamp(alloc: Global, writer: &mut BrokenWriter) -> Result<(), MonitorError> {
+fn play_lamp(alloc: Global, writer: &mut BrokenWriter) -> Result<(), ReplayError> {
     let mut chart = BrokenReader::new(one_step().chart, false);
     let mut script = BrokenReader::new(one_step().script, false);
     chart.most = 1;
@@ -25,7 +25,7 @@ fn keeps_a_front(alloc: Global, output: &[u8], count: usize, fails: bool) -> boo
     let mut writer = BrokenWriter::new(alloc, count, fails);
     let answer = play_lamp(alloc, &mut writer);
     let wanted = if count < output.len() {
-        Err(MonitorError::Write)
+        Err(ReplayError::Write)
     } else {
         Ok(())
     };
@@ -55,7 +55,7 @@ struct Cut {
     chart: &'static [u8],
     script: &'static [u8],
     is_of_chart: bool,
-    wanted: MonitorError,
+    wanted: ReplayError,
 }
 
 // A script whose second line is no command.
@@ -73,25 +73,25 @@ fn cuts() -> [Cut; 3] {
             chart: one_step().chart,
             script: FAULTY_SCRIPT,
             is_of_chart: true,
-            wanted: MonitorError::Read,
+            wanted: ReplayError::Read,
         },
         Cut {
             chart: one_step().chart,
             script: FAULTY_SCRIPT,
             is_of_chart: false,
-            wanted: MonitorError::Read,
+            wanted: ReplayError::Read,
         },
         Cut {
             chart: NO_INITIAL_STEP,
             script: one_step().script,
             is_of_chart: false,
-            wanted: MonitorError::Chart(ChartError::Load(LoadError::NoInitial)),
+            wanted: ReplayError::Chart(ChartError::Load(LoadError::NoInitial)),
         },
     ]
 }
 
 // What the replay answers where the text breaks off behind so many bytes, and whether nothing was written.
-fn play_cut(alloc: Global, cut: Cut, count: usize) -> (Result<(), MonitorError>, bool) {
+fn play_cut(alloc: Global, cut: Cut, count: usize) -> (Result<(), ReplayError>, bool) {
     let mut chart = BrokenReader::new(cut.chart, cut.is_of_chart);
     let mut script = BrokenReader::new(cut.script, !cut.is_of_chart);
     if cut.is_of_chart {

@@ -20,3 +20,7 @@ mod times;
 mod tokens;
 #[cfg(test)]
 mod values;
+
+// What the crates above name through this one.
+pub use samples::{sfc_load, sfc_variables};
+pub use sfc_replay::sfc_list;

@@ -1,12 +1,12 @@
 //! A call that memory was refused to, made again once there is some.
 
+use crate::sfc_list::list::list;
+use crate::sfc_load::load::load;
+use crate::sfc_variables::load_error::LoadError;
 use samples::charts::{mixture, mixture_listed};
-use sfc_list::list::list;
-use sfc_load::load::load;
 use sfc_plant::plant::Plant;
 use sfc_text::read::read;
 use sfc_text::tree::Source;
-use sfc_variables::load_error::LoadError;
 use std::alloc::{AllocError, Global};
 use std::process::Abort;
 use std::test::Fail;

@@ -1,6 +1,6 @@
 //! The text of TIME values, and durations that are read from it.
 
-use sfc_base::time_text::put_time;
+use sfc_page::time_text::put_time;
 use sfc_tokens::duration::duration;
 use std::alloc::Global;
 use std::process::Abort;

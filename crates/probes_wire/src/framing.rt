@@ -1,9 +1,9 @@
 //! Frames: in pieces, with other fields, with each fault, and behind a read that failed.
 
 use crate::drip::Drip;
-use sfc_frames::frame_fault::{FrameFault, Malformed};
-use sfc_frames::incoming::Incoming;
-use sfc_frames::outgoing::put_message;
+use crate::sfc_frames::frame_fault::{FrameFault, Malformed};
+use crate::sfc_frames::incoming::Incoming;
+use crate::sfc_frames::outgoing::put_message;
 use std::alloc::Global;
 use std::test::Fail;
 

@@ -12,3 +12,6 @@ mod drip;
 mod framing;
 #[cfg(test)]
 mod rpc;
+
+// What the crates above name through this one.
+pub use sfc_wire::sfc_frames;

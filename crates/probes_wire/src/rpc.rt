@@ -1,11 +1,11 @@
 //! A client of JSON-RPC, from its first message to its last.
 
 use crate::drip::Drip;
+use crate::sfc_frames::incoming::Incoming;
+use crate::sfc_frames::outbox::Outbox;
+use crate::sfc_frames::outgoing::put_message;
+use crate::sfc_frames::serving::{Flow, ServeFault, serve};
 use serde_json::Value;
-use sfc_frames::incoming::Incoming;
-use sfc_frames::outbox::Outbox;
-use sfc_frames::outgoing::put_message;
-use sfc_frames::serving::{Flow, ServeFault, serve};
 use sfc_wire::error_code::ErrorCode;
 use sfc_wire::rpc_message::Call;
 use sfc_wire::rpc_outbox::{refuse, respond};

@@ -2,8 +2,9 @@
 //! the end counts the commands of standard input and the End behind them.
 #![tactic(auto)]
 
-use sfc_debug::trace_mask::TraceMask;
-use sfc_monitor::run::run_chart;
+use crate::sfc_debug::trace_mask::TraceMask;
+use sfc_run::run::run_chart;
+use sfc_run::sfc_debug;
 use std::process::ExitCode;
 
 const CHART: &[u8] = b"PROGRAM P INITIAL_STEP S: END_STEP END_PROGRAM \

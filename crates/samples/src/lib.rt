@@ -5,3 +5,7 @@
 
 pub mod charts;
 pub mod loaded;
+
+// What the crates above name through this one.
+pub use sfc_load;
+pub use sfc_load::{sfc_check, sfc_variables};

@@ -2,7 +2,7 @@
 
 use crate::note::append_named;
 use sfc_base::case::is_same_word;
-use sfc_output::append::append;
+use sfc_page::append::append;
 use std::alloc::AllocError;
 
 /// All words.

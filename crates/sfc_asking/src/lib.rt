@@ -8,7 +8,6 @@
 //! - `why`: why transitions aren't cleared; `operands`: what their conditions read.
 //! - `explaining`: what a refusal or a fault means.
 //! - `help`: what may be said.
-//! - `naming`: programs, transitions and variables by their names.
 //! - `note`: lines that tell of a fault.
 #![tactic(auto)]
 
@@ -16,7 +15,6 @@ pub mod explaining;
 pub mod help;
 pub mod image;
 pub mod listing;
-mod naming;
 pub mod note;
 mod operands;
 pub mod points;
@@ -24,3 +22,8 @@ pub mod release;
 pub mod show;
 pub mod trace;
 pub mod why;
+
+// What the crates above name through this one.
+pub use sfc_explain::sfc_check;
+pub use sfc_output::{sfc_core, sfc_debug, sfc_instance, sfc_list};
+pub use sfc_script;

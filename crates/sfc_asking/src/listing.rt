@@ -1,9 +1,9 @@
 //! The text of the chart, or of its elements of one name.
 
 use crate::note::append_named;
+use crate::sfc_list::list::list;
 use sfc_base::case::is_same_word;
-use sfc_list::list::list;
-use sfc_output::append::append;
+use sfc_page::append::append;
 use sfc_plant::plant::Plant;
 use std::alloc::{AllocError, Global};
 

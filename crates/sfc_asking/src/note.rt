@@ -3,7 +3,7 @@
 ghost use Rattle.std.specs.Prelude.{◌≡◌, ◌++◌, [], OnOk};
 ghost use Rattle.sfc_asking.specs.Notes.{note_line};
 
-use sfc_output::append::append;
+use sfc_page::append::append;
 use std::alloc::AllocError;
 
 /// Puts a line at the end: a semicolon, and the text. The one error is that memory was refused.

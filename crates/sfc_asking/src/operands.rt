@@ -1,11 +1,11 @@
 //! What a condition reads.
 
+use crate::sfc_instance::program_view::ProgramView;
 use sfc_base::references::{StepId, Variable};
 use sfc_base::value::Value;
 use sfc_expr::expr::Expr;
 use sfc_expr::view::View;
-use sfc_instance::program_view::ProgramView;
-use sfc_output::append::{append, append_value};
+use sfc_page::append::{append, append_value};
 use sfc_plant::names::Names;
 use std::alloc::{AllocError, Global};
 

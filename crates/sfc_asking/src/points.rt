@@ -1,8 +1,8 @@
 //! The breakpoints that are set.
 
 use crate::note::append_note;
+use crate::sfc_debug::debugger::Debugger;
 use sfc_base::ids::ProgId;
-use sfc_debug::debugger::Debugger;
 use sfc_events::command::{Command, Point, TraceRow};
 use sfc_output::command::append_command;
 use std::alloc::{AllocError, Global};

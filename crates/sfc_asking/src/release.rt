@@ -1,6 +1,6 @@
 //! When a task is scanned next.
 
-use sfc_output::append::{append, append_time};
+use sfc_page::append::{append, append_time};
 use std::alloc::AllocError;
 
 /// When a task is scanned next.

@@ -1,13 +1,13 @@
 //! Modes, tasks and programs.
 
 use crate::release::Release;
+use crate::sfc_core::resource::Resource;
+use crate::sfc_debug::debugger::Debugger;
+use crate::sfc_debug::mode::Mode;
+use crate::sfc_instance::scan_end::ScanEnd;
 use sfc_base::ids::{ProgId, TaskId};
-use sfc_core::resource::Resource;
-use sfc_debug::debugger::Debugger;
-use sfc_debug::mode::Mode;
-use sfc_instance::scan_end::ScanEnd;
-use sfc_output::append::{append, append_number, append_time};
 use sfc_output::program::append_program;
+use sfc_page::append::{append, append_number, append_time};
 use sfc_plant::names::task_name;
 use std::alloc::AllocError;
 

@@ -1,7 +1,7 @@
 //! The newest commands.
 
 use crate::note::append_note;
-use sfc_debug::debugger::Debugger;
+use crate::sfc_debug::debugger::Debugger;
 use sfc_events::command::TraceRow;
 use sfc_output::command::append_row;
 use std::alloc::AllocError;

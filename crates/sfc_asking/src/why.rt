@@ -1,21 +1,21 @@
 //! Why transitions aren't cleared.
 
-use crate::naming::{find_program, find_transition};
 use crate::note::{append_named, append_note};
 use crate::operands::append_operands;
+use crate::sfc_core::resource::Resource;
+use crate::sfc_instance::program_view::ProgramView;
+use crate::sfc_instance::scan_fault::ScanFault;
+use crate::sfc_list::list_expr::list_expr;
 use sfc_base::ids::{ProgId, TransitionId};
 use sfc_base::references::StepId;
 use sfc_base::ticks::Ticks;
-use sfc_core::resource::Resource;
 use sfc_expr::eval::eval;
 use sfc_expr::expr::Expr;
-use sfc_expr::fault::Fault;
-use sfc_instance::program_view::ProgramView;
-use sfc_list::list_expr::list_expr;
-use sfc_output::append::{append, append_number};
+use sfc_page::append::{append, append_number};
 use sfc_plant::chart::Transition;
-use sfc_plant::names::{Names, instance_name};
+use sfc_plant::names::Names;
 use sfc_plant::program_type::ProgramType;
+use sfc_script::point::find_transition;
 use std::alloc::{AllocError, Global};
 
 /// A program instance whose transitions are asked for.
@@ -48,14 +48,12 @@ fn find_asked(alloc: Global, resource: &Resource, program: ProgId) -> Option<Ask
     if usize::from(program.0) >= plant.instances().len() {
         return None;
     }
-    let instance = plant.instances().get(usize::from(program.0))?;
-    let program_type = plant.types().get(instance.program.0)?;
     Some(Asked {
         alloc,
         resource,
         program,
-        program_type,
-        names: Names::new(plant.globals(), program_type),
+        program_type: plant.type_of(program)?,
+        names: plant.names(program),
         view: resource.program(program),
     })
 }
@@ -65,21 +63,13 @@ fn is_active(view: &ProgramView<'_>, step: StepId) -> bool {
     usize::from(step.0) < view.steps() && view.active(step)
 }
 
-// The name of a fault.
-fn fault_word(fault: Fault) -> &'static [u8] {
-    match fault {
-        Fault::DivZero => b"DivZero",
-        Fault::Range => b"Range",
-    }
-}
-
 // What a condition evaluates to.
 fn value_word(view: &ProgramView<'_>, expr: &Expr) -> &'static [u8] {
     let mut ticks = Ticks::new();
     match eval(expr, view, &mut ticks) {
         Ok(value) if value.is_true() => b"TRUE",
         Ok(_) => b"FALSE",
-        Err(fault) => fault_word(fault),
+        Err(fault) => ScanFault::Expression(fault).name(),
     }
 }
 
@@ -168,8 +158,8 @@ fn append_transition(
     number: usize,
     transition: &Transition,
 ) -> Result<(), AllocError> {
-    let instances = asked.resource.plant().instances();
-    append(out, instance_name(instances, usize::from(asked.program.0)))?;
+    let plant = asked.resource.plant();
+    append(out, plant.instance_name(asked.program))?;
     append(out, b" TRANSITION ")?;
     append_number(out, (number as u64).saturating_add(1))?;
     append_name(out, transition)?;
@@ -203,8 +193,7 @@ fn append_program(
     };
     let count = append_near(out, &asked)?;
     if count == 0 {
-        let instances = resource.plant().instances();
-        let name = instance_name(instances, usize::from(program.0));
+        let name = resource.plant().instance_name(program);
         append_named(out, b"no transition is behind an active step of ", name)?;
     }
     Ok(())
@@ -255,13 +244,14 @@ pub fn append_why(
     if program.is_empty() {
         return append_all(alloc, out, resource);
     }
-    let Some(instance) = find_program(resource, program) else {
+    let plant = resource.plant();
+    let Some(instance) = plant.find_instance(program) else {
         return append_named(out, b"no program instance ", program);
     };
     if transition.is_empty() {
         return append_program(alloc, out, resource, instance);
     }
-    let told = match find_transition(alloc, resource, program, transition)? {
+    let told = match find_transition(plant, instance, transition) {
         Some(found) => append_one(alloc, out, resource, instance, found)?,
         None => false,
     };

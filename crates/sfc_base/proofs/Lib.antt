@@ -4,7 +4,5 @@ pub mod ReservedWords
 pub mod Runs
 pub mod Words
 pub mod Written
-pub mod TimeTexts
-pub mod Decimals
 pub mod ByPlace
 pub mod NamePlaces

@@ -14,7 +14,7 @@
 //! - `qualifier`: the qualifiers that have a time.
 //! - `references`: what names a variable or a step by number.
 //! - `ticks`: counted work.
-//! - `time_value`: values of type TIME; `time_text`: their text; `unit`: the units of durations.
+//! - `time_value`: values of type TIME; `unit`: the units of durations.
 //! - `value`: values; `var_type`: the types of variables.
 //! - `write_fault`: writing that stops where the writer fails.
 #![tactic(auto)]
@@ -34,7 +34,6 @@ pub mod qualifier;
 pub mod references;
 pub mod run;
 pub mod ticks;
-pub mod time_text;
 pub mod time_value;
 pub mod unit;
 pub mod value;

@@ -19,8 +19,8 @@ use Rattle.std.specs.Prelude.{Option, Some, None}
 use Rattle.std.specs.Box.Ownership.{box_owns}
 use Rattle.std.specs.contracts.impls.GlobalAllocator.TheImpl.{ghosts}
 use Rattle.std.proofs.GlobalToken.{dealloc_token-Testable}
-use Rattle.sfc_debug.specs.declared.debugger.Debugger.{Debugger}
-use Rattle.sfc_debug.specs.contracts.debugger.Debugger.{the_row}
+use Rattle.sfc_replay.specs.sfc_debug.declared.debugger.Debugger.{Debugger}
+use Rattle.sfc_replay.specs.sfc_debug.contracts.debugger.Debugger.{the_row}
 use Rattle.sfc_c.specs.Held.{heap, held}
 use Rattle.sfc_c.specs.contracts.handle.Handle as handle
 

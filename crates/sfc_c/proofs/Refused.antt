@@ -1,25 +1,24 @@
--- Texts that are refused.
-use Rattle.std.proofs.Common.{◌≡◌, ℕ, List, Ok, Err, refl, sym, subst}
-use Rattle.sfc_tokens.specs.declared.read_error.ReadError.{ReadError}
-use Rattle.sfc_tokens.specs.declared.read_error.ReadErrorKind.{ReadErrorKind}
-use Rattle.sfc_tokens.specs.declared.read_error.ReadErrorKind.TheVariants as kind
-use Rattle.sfc_tokens.specs.Texts.{FindsError}
-use Rattle.sfc_text.specs.Reads.{TextReads}
-use Rattle.sfc_text.specs.Trees.{SourceTree}
-use Rattle.sfc_variables.specs.declared.load_error.LoadError.{LoadError}
-use Rattle.sfc_variables.specs.declared.load_error.LoadError.TheVariants as load
-use Rattle.sfc_variables.specs.Checks.{Fails}
-use Rattle.sfc_load.specs.Built.{source_check}
-use Rattle.sfc_c.specs.Faults.{Refuses, of_read, of_kind, of_load}
+-- Texts and scripts that are refused.
+use Rattle.std.proofs.Common.{ℕ, List, Err}
+use Rattle.sfc_replay.specs.declared.replay_error.ChartError.TheVariants as chart
+use Rattle.sfc_replay.specs.declared.replay_error.ReplayError.{ReplayError}
+use Rattle.sfc_replay.specs.declared.replay_error.ReplayError.TheVariants.{Chart, Script, Read, Write, Memory}
+use Rattle.sfc_replay.specs.Acceptance.{Accepts}
+use Rattle.sfc_replay.specs.Opening.{Opens}
+use Rattle.sfc_c.specs.Faults.{Refuses, RefusesBoth, fault_by}
 
-pub read_refused : (text : List ℕ) (error : ReadError) → FindsError error.kind (λ outcome. TextReads text outcome) → Refuses text (of_read error)
-read_refused text error found = by error.kind refl found
-  where
-    by : (k : ReadErrorKind) → error.kind ≡ k → FindsError k (λ outcome. TextReads text outcome) → Refuses text (of_kind k error)
-    by kind.Memory e h = tt
-    by k e h = subst (λ k. TextReads text (Err k)) (sym e) h
+pub refused : (text : List ℕ) (error : ReplayError) → Accepts text (Err error) → Refuses text (fault_by error)
+refused text (Chart (chart.Read error)) h = h
+refused text (Chart (chart.Load error)) h = h
+refused text (Script n) h = absurd h
+refused text Read h = absurd h
+refused text Write h = absurd h
+refused text Memory h = tt
 
-pub load_refused : (text : List ℕ) (tree : SourceTree) (error : LoadError) → TextReads text (Ok tree) → Fails error (source_check tree)
-    → Refuses text (of_load error)
-load_refused text tree load.Memory read fails = tt
-load_refused text tree error read fails = (tree, read, fails)
+pub both_refused : (text script : List ℕ) (error : ReplayError) → Opens text script (Err error) → RefusesBoth text script (fault_by error)
+both_refused text script (Chart (chart.Read error)) h = h
+both_refused text script (Chart (chart.Load error)) h = h
+both_refused text script (Script n) h = (h.plant, h.loaded, (n, h.parsed))
+both_refused text script Read h = absurd h
+both_refused text script Write h = absurd h
+both_refused text script Memory h = tt

@@ -5,13 +5,13 @@ use Rattle.std.proofs.lemmas.Option.{slice_get_read}
 use Rattle.sfc_base.specs.declared.ids.TaskId.{TaskId}
 use Rattle.sfc_plant.specs.declared.task.Task.{Task}
 use Rattle.sfc_plant.specs.Plants.{PlantData}
-use Rattle.sfc_instances.specs.Singles.{single_in}
-use Rattle.sfc_tasks.specs.Multiples.{next_release}
-use Rattle.sfc_tasks.specs.Releases.{interval_in, interval_of}
-use Rattle.sfc_tasks.specs.Calls.{single_of}
+use Rattle.sfc_replay.specs.sfc_instances.Singles.{single_in}
+use Rattle.sfc_replay.specs.sfc_tasks.Multiples.{next_release}
+use Rattle.sfc_replay.specs.sfc_tasks.Releases.{interval_in, interval_of}
+use Rattle.sfc_replay.specs.sfc_tasks.Calls.{single_of}
 use Rattle.sfc_events.specs.History.{History}
-use Rattle.sfc_core.specs.Due.{singles_of}
-use Rattle.sfc_core.specs.PlantState.{state_of}
+use Rattle.sfc_replay.specs.sfc_core.Due.{singles_of}
+use Rattle.sfc_replay.specs.sfc_core.PlantState.{state_of}
 use Rattle.sfc_c.specs.Codes.{instant_or_none}
 use Rattle.sfc_c.specs.Readings.{next_of}
 

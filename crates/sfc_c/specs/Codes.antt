@@ -18,8 +18,8 @@ use Rattle.sfc_events.specs.declared.command.Point.TheVariants.{Step, Transition
 use Rattle.sfc_events.specs.declared.refusal.Refusal.{Refusal}
 use Rattle.sfc_events.specs.declared.refusal.Refusal.TheVariants.{NotDue, Yield}
 use Rattle.sfc_events.specs.Refusals.{number_of}
-use Rattle.sfc_debug.specs.declared.mode.Mode.{Mode}
-use Rattle.sfc_debug.specs.declared.mode.Mode.TheVariants as mode
+use Rattle.sfc_replay.specs.sfc_debug.declared.mode.Mode.{Mode}
+use Rattle.sfc_replay.specs.sfc_debug.declared.mode.Mode.TheVariants as mode
 use Rattle.sfc_c.specs.declared.reply.Reply.{Reply}
 
 -- ---- the library's own codes
@@ -100,9 +100,9 @@ reply_of (Ok (answers.Value v)) = record {
   hit = pos 0;
 }
 reply_of (Ok (answers.Scanned ran faulted skipped overruns hit)) = record {
-  ran = ran;
-  faulted = faulted;
-  skipped = skipped;
+  ran = ran.bits;
+  faulted = faulted.bits;
+  skipped = skipped.bits;
   overruns = overruns;
   next = negsuc 0;
   value = pos 0;

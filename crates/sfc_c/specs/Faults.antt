@@ -3,20 +3,19 @@ use Rattle.std.specs.Prelude.{◌≡◌, ℕ, List, ℤ, pos, Option, Some, None
 use Rattle.sfc_plant.specs.Plants.{PlantData}
 use Rattle.sfc_text.specs.Reads.{TextReads}
 use Rattle.sfc_text.specs.Trees.{SourceTree}
-use Rattle.sfc_tokens.specs.declared.read_error.ReadError.{ReadError}
-use Rattle.sfc_tokens.specs.declared.read_error.ReadErrorKind.{ReadErrorKind}
-use Rattle.sfc_tokens.specs.declared.read_error.ReadErrorKind.TheVariants as kind
 use Rattle.sfc_tokens.specs.ReadErrors as reading
-use Rattle.sfc_variables.specs.LoadErrors as loading
-use Rattle.sfc_variables.specs.declared.load_error.LoadError.{LoadError}
-use Rattle.sfc_variables.specs.declared.load_error.LoadError.TheVariants as load
-use Rattle.sfc_variables.specs.declared.load_error.LoadError.TheVariants.{Limit}
-use Rattle.sfc_variables.specs.declared.load_error.Limit.{Limit as LimitKind}
-use Rattle.sfc_variables.specs.declared.load_error.Limit.TheVariants.{Steps, Transitions, Associations, Variables, Instances, Tasks}
-use Rattle.sfc_load.specs.Accepted.{IsAccepted}
-use Rattle.sfc_load.specs.Built.{source_check}
-use Rattle.sfc_debug.specs.declared.break_condition.BreakCondition.{BreakCondition}
-use Rattle.sfc_script.specs.Scripts.{ScriptData, ScriptReads}
+use Rattle.sfc_explain.specs.sfc_variables.LoadErrors as loading
+use Rattle.sfc_explain.specs.sfc_variables.declared.load_error.LoadError.{LoadError}
+use Rattle.sfc_explain.specs.sfc_variables.declared.load_error.LoadError.TheVariants.{Limit}
+use Rattle.sfc_explain.specs.sfc_variables.declared.load_error.Limit.{Limit as LimitKind}
+use Rattle.sfc_explain.specs.sfc_variables.declared.load_error.Limit.TheVariants.{Steps, Transitions, Associations, Variables, Instances, Tasks}
+use Rattle.sfc_replay.specs.sfc_load.Accepted.{IsAccepted}
+use Rattle.sfc_replay.specs.sfc_load.Built.{source_check}
+use Rattle.sfc_replay.specs.sfc_debug.declared.break_condition.BreakCondition.{BreakCondition}
+use Rattle.sfc_replay.specs.sfc_script.Scripts.{ScriptData, ScriptReads}
+use Rattle.sfc_replay.specs.declared.replay_error.ChartError.TheVariants as chart
+use Rattle.sfc_replay.specs.declared.replay_error.ReplayError.{ReplayError}
+use Rattle.sfc_replay.specs.declared.replay_error.ReplayError.TheVariants.{Chart, Script}
 use Rattle.sfc_c.specs.declared.fault.Fault.{Fault}
 use Rattle.sfc_c.specs.declared.fault.Fault.TheVariants.{Read, Load, Line, Memory}
 use Rattle.sfc_c.specs.declared.fault.TextFault.{TextFault}
@@ -24,17 +23,12 @@ use Rattle.sfc_c.specs.Codes.{no_line, no_memory}
 
 -- ---- which fault a text has
 
--- what is told of the reader's fault, and of the loader's
-abbrev pub of_kind : ReadErrorKind → ReadError → Fault
-of_kind kind.Memory error = Memory
-of_kind _ error = Read error
-
-abbrev pub of_read : ReadError → Fault
-of_read error = of_kind error.kind error
-
-abbrev pub of_load : LoadError → Fault
-of_load load.Memory = Memory
-of_load error = Load error
+-- what is told of why a chart or a script isn't opened
+abbrev pub fault_by : ReplayError → Fault
+fault_by (Chart (chart.Read error)) = Read error
+fault_by (Chart (chart.Load error)) = Load error
+fault_by (Script line) = Line
+fault_by _ = Memory
 
 -- the text is no plant: what the reader finds, or the first check that fails; want of memory says nothing
 abbrev pub Refuses : List ℕ → Fault → Type 0
@@ -42,11 +36,6 @@ Refuses text (Read error) = TextReads text (Err error.kind)
 Refuses text (Load error) = (tree : SourceTree) × TextReads text (Ok tree) × (source_check tree ≡ Some error)
 Refuses text Line = ⊥
 Refuses text Memory = ⊤
-
--- what loading a text answers
-abbrev pub Accepts : List ℕ → Result PlantData Fault → Type 0
-Accepts text (Ok plant) = IsAccepted text plant
-Accepts text (Err fault) = Refuses text fault
 
 -- what reading the conditions of a script answers; want of memory says nothing
 abbrev pub SaysConditions : PlantData → List ℕ → Result (List BreakCondition) Fault → Type 0
@@ -64,6 +53,10 @@ RefusesBoth text script fault = Refuses text fault
 abbrev pub Finds : List ℕ → Option Fault → Type 0
 Finds text None = (plant : PlantData) × IsAccepted text plant
 Finds text (Some fault) = Refuses text fault
+
+-- memory was refused
+abbrev pub out_of_memory : Fault
+out_of_memory = Memory
 
 -- ---- how it is told
 

@@ -3,12 +3,12 @@ use Rattle.std.specs.Prelude.{◌≡◌, [], ℤ, Option, Some, None}
 use Rattle.sfc_plant.specs.Plants.{PlantData}
 use Rattle.sfc_events.specs.declared.command.Command.{Command}
 use Rattle.sfc_events.specs.History.{History}
-use Rattle.sfc_debug.specs.declared.debugger.Debugger.{Debugger}
-use Rattle.sfc_debug.specs.Agreement.{Agrees}
-use Rattle.sfc_debug.specs.Histories.{CommandHistory}
-use Rattle.sfc_debug.specs.States as debug
-use Rattle.sfc_debug.specs.Verdict.{verdict, after}
-use Rattle.sfc_output.specs.Steered.{Steered, steered_by}
+use Rattle.sfc_replay.specs.sfc_debug.declared.debugger.Debugger.{Debugger}
+use Rattle.sfc_replay.specs.sfc_debug.Agreement.{Agrees}
+use Rattle.sfc_replay.specs.sfc_debug.Histories.{CommandHistory}
+use Rattle.sfc_replay.specs.sfc_debug.States as debug
+use Rattle.sfc_replay.specs.sfc_debug.Verdict.{verdict, after}
+use Rattle.sfc_replay.specs.sfc_debug.Steered.{Steered, steered_by}
 use Rattle.sfc_c.specs.declared.reply.Reply.{Reply}
 use Rattle.sfc_c.specs.Codes.{code_of, reply_of}
 

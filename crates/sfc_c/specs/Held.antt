@@ -5,8 +5,8 @@ use denote.RawPtr.{Ptr, null_ptr}
 use Rattle.std.specs.Box.Ownership.{box_owns}
 use Rattle.std.specs.declared.alloc.Global.{Global}
 use Rattle.std.specs.contracts.impls.GlobalAllocator.TheImpl.{ghosts}
-use Rattle.sfc_debug.specs.declared.debugger.Debugger.{Debugger}
-use Rattle.sfc_debug.specs.contracts.debugger.Debugger.{the_row}
+use Rattle.sfc_replay.specs.sfc_debug.declared.debugger.Debugger.{Debugger}
+use Rattle.sfc_replay.specs.sfc_debug.contracts.debugger.Debugger.{the_row}
 
 -- the C library's heap
 abbrev pub heap : Global

@@ -4,14 +4,14 @@ use Rattle.std.specs.Prelude.{Option, Some, Result, Ok, Err}
 use Rattle.sfc_base.specs.declared.ids.ProgId.{ProgId}
 use Rattle.sfc_events.specs.declared.command.Command.TheVariants.{BreakIf}
 use Rattle.sfc_events.specs.declared.command.Point.{Point}
-use Rattle.sfc_debug.specs.declared.break_condition.BreakCondition.{BreakCondition}
-use Rattle.sfc_debug.specs.declared.debugger.Debugger.{Debugger}
-use Rattle.sfc_debug.specs.Histories.{CommandHistory, TimedCommand}
-use Rattle.sfc_debug.specs.States.{state_of}
-use Rattle.sfc_debug.specs.Verdict.{verdict, after}
-use Rattle.sfc_script.specs.Scripts.{ScriptData, ScriptReads}
-use Rattle.sfc_output.specs.Commands.{lines_at}
-use Rattle.sfc_output.specs.Steered.{Steered}
+use Rattle.sfc_replay.specs.sfc_debug.declared.break_condition.BreakCondition.{BreakCondition}
+use Rattle.sfc_replay.specs.sfc_debug.declared.debugger.Debugger.{Debugger}
+use Rattle.sfc_replay.specs.sfc_debug.Histories.{CommandHistory, TimedCommand}
+use Rattle.sfc_replay.specs.sfc_debug.States.{state_of}
+use Rattle.sfc_replay.specs.sfc_debug.Verdict.{verdict, after}
+use Rattle.sfc_replay.specs.sfc_script.Scripts.{ScriptData, ScriptReads}
+use Rattle.sfc_replay.specs.sfc_output.Commands.{lines_at}
+use Rattle.sfc_replay.specs.sfc_debug.Steered.{Steered}
 use Rattle.sfc_c.specs.declared.asked.Asked.{Asked}
 use Rattle.sfc_c.specs.declared.asked.Asked.TheVariants.{Nothing, Says, NoLine, NoCondition, NoMemory}
 use Rattle.sfc_c.specs.declared.obeying.Obeyed.{Obeyed}
@@ -26,7 +26,7 @@ use Rattle.sfc_c.specs.Texts.{GivesText}
 abbrev pub AsksWhen : List BreakCondition → BreakCondition → ProgId → Point → ℤ → Asked → Type 0
 AsksWhen table condition p point t asked =
     ((k : ℕ) × (slice_get table k ≡ Some condition) × (asked ≡ Says (BreakIf p point (record { 0 = k })) t))
-    ⊎ (((k : ℕ) → k < 65536 → slice_get table k ≡ Some condition → ⊥) × (asked ≡ NoCondition))
+    ⊎ (((k : ℕ) → k < 65535 → slice_get table k ≡ Some condition → ⊥) × (asked ≡ NoCondition))
 
 -- the command of the line, which has these conditions: none, or that of its breakpoint
 abbrev pub AsksOne : List BreakCondition → List BreakCondition → TimedCommand → Asked → Type 0

@@ -1,7 +1,7 @@
 -- What has a name: how many there are of a kind, the name of each, and the number of a name (our choice).
 use Rattle.std.specs.Prelude.{◌≡◌, ℕ, ◌==◌, nat_lt, Bool, true, false, cond, if◌then◌else◌, List, [], ◌∷◌, length}
 use Rattle.std.specs.Prelude.{slice_get, ◌<◌, MatchBool, ◌⊎◌}
-use Rattle.std.specs.Prelude.{ℤ, Option, Some, None, Result, Ok, Err}
+use Rattle.std.specs.Prelude.{ℤ, Option, Some, None, option_map, Result, Ok, Err}
 use Rattle.sfc_base.specs.declared.ids.ProgId.{ProgId}
 use Rattle.sfc_base.specs.declared.ids.VarId.{VarId}
 use Rattle.sfc_base.specs.declared.location.Location.{Location}
@@ -11,18 +11,16 @@ use Rattle.sfc_tokens.specs.declared.token.TokenKind.{TokenKind}
 use Rattle.sfc_tokens.specs.declared.token.TokenKind.TheVariants as token
 use Rattle.sfc_plant.specs.declared.chart.Transition.{Transition}
 use Rattle.sfc_plant.specs.declared.variable.Variable.{Variable}
-use Rattle.sfc_plant.specs.ElementNames.{step_place, transition_place}
-use Rattle.sfc_plant.specs.Finding.{chart_of}
+use Rattle.sfc_plant.specs.Finding.{chart_of, variable_named, step_named, transition_named}
 use Rattle.sfc_plant.specs.InstanceSpaces.{space_of}
 use Rattle.sfc_plant.specs.Names.{step_name}
 use Rattle.sfc_plant.specs.Plants.{PlantData}
-use Rattle.sfc_tables.specs.Actions.{actions_of}
-use Rattle.sfc_tables.specs.Tables.{Tabled, tables_of}
-use Rattle.sfc_image.specs.Values.{variable_count}
-use Rattle.sfc_variables.specs.Locations.{same_location}
-use Rattle.sfc_script.specs.Names.{variable_at_dot, first_dot}
-use Rattle.sfc_script.specs.Points.{action_from}
-use Rattle.sfc_output.specs.Names.{task_name, program_name, image_name, numbered_action}
+use Rattle.sfc_replay.specs.sfc_tables.Tables.{Tabled, tables_of}
+use Rattle.sfc_replay.specs.sfc_image.Values.{variable_count}
+use Rattle.sfc_explain.specs.sfc_variables.Locations.{same_location}
+use Rattle.sfc_replay.specs.sfc_script.Points.{find_action}
+use Rattle.sfc_plant.specs.PlantNames.{task_name, instance_name, image_name}
+use Rattle.sfc_replay.specs.sfc_tables.ActionNames.{numbered_action}
 use Rattle.sfc_c.specs.declared.kind.Kind.{Kind}
 use Rattle.sfc_c.specs.declared.kind.Kind.TheVariants as kinds
 use Rattle.sfc_plant.specs.Image.{image_variables}
@@ -89,7 +87,7 @@ point_name plant p _ n = numbered_action (space_of plant p) (tables_of (chart_of
 abbrev pub name_of : PlantData → ProgId → Kind → ℕ → List ℕ
 name_of plant p kinds.Variable n = image_name plant (record { 0 = n })
 name_of plant p kinds.Task n = task_name plant (record { 0 = n })
-name_of plant p kinds.Program n = program_name plant (record { 0 = n })
+name_of plant p kinds.Program n = instance_name plant (record { 0 = n })
 name_of plant p kind n = point_name plant p kind n
 
 -- there are more than n
@@ -103,10 +101,6 @@ named plant p None n = Err unknown
 named plant p (Some kind) n = cond (has (count_of plant p kind) n) (Ok (name_of plant p kind n)) (Err unknown)
 
 -- ---- numbers by names
-
--- NAME for a global variable, INST.NAME for a local one of a program instance
-abbrev pub variable_called : PlantData → List ℕ → Option VarId
-variable_called plant name = variable_at_dot plant name (first_dot name)
 
 -- it is this location, where it is one
 abbrev pub is_location : Location → Option Location → Bool
@@ -151,14 +145,13 @@ LocationFinds plant text result =
 -- by its location, or by its name
 abbrev pub VariableFinds : PlantData → List ℕ → ℤ → Type 0
 VariableFinds plant text result =
-    MatchBool (begins_location text) (LocationFinds plant text result) (result ≡ number_of_variable (variable_called plant text))
+    MatchBool (begins_location text) (LocationFinds plant text result) (result ≡ number_of_variable (variable_named plant text))
 
 -- the place of a point in the program instance's chart
 abbrev pub point_called : PlantData → ProgId → Kind → List ℕ → Option ℕ
-point_called plant p kinds.Step name = step_place (chart_of plant p) name
-point_called plant p kinds.Transition name = transition_place (chart_of plant p) name
-point_called plant p kinds.Action name =
-    cond (nat_lt p.0 (length plant.instances)) (action_from (space_of plant p) name 0 (actions_of (chart_of plant p))) None
+point_called plant p kinds.Step name = option_map (λ step. step.0) (step_named plant p name)
+point_called plant p kinds.Transition name = option_map (λ transition. transition.0) (transition_named plant p name)
+point_called plant p kinds.Action name = option_map (λ action. action.0) (find_action plant p name)
 point_called plant p kind name = None
 
 abbrev pub point_named : PlantData → ProgId → Option Kind → List ℕ → Option ℕ

@@ -7,26 +7,24 @@ use Rattle.sfc_base.specs.declared.ids.TaskId.{TaskId}
 use Rattle.sfc_base.specs.declared.ids.VarId.{VarId}
 use Rattle.sfc_plant.specs.Plants.{PlantData}
 use Rattle.sfc_plant.specs.Finding.{chart_of}
-use Rattle.sfc_tables.specs.Tables.{Tabled, tables_of}
-use Rattle.sfc_expr.specs.declared.fault.Fault.TheVariants.{DivZero, Range}
-use Rattle.sfc_action.specs.declared.fault.ControlFault.TheVariants.{TwoTimed, SdWhileSl, SlWhileSd}
-use Rattle.sfc_image.specs.Values.{variable_count}
-use Rattle.sfc_instance.specs.declared.scan_fault.ScanFault.{ScanFault}
-use Rattle.sfc_instance.specs.declared.scan_fault.ScanFault.TheVariants.{Expression, Control}
-use Rattle.sfc_instance.specs.Life.{InstanceState}
-use Rattle.sfc_instance.specs.Answers.{scan_count, is_step_active, step_elapsed, is_step_activated, is_transition_cleared}
-use Rattle.sfc_instance.specs.Answers.{action_q, is_action_executed}
+use Rattle.sfc_replay.specs.sfc_tables.Tables.{Tabled, tables_of}
+use Rattle.sfc_replay.specs.sfc_image.Values.{variable_count}
+use Rattle.sfc_replay.specs.sfc_instance.declared.scan_fault.ScanFault.{ScanFault}
+use Rattle.sfc_replay.specs.sfc_instance.FaultNames.{fault_number}
+use Rattle.sfc_replay.specs.sfc_instance.Life.{InstanceState}
+use Rattle.sfc_replay.specs.sfc_instance.Answers.{scan_count, is_step_active, step_elapsed, is_step_activated, is_transition_cleared}
+use Rattle.sfc_replay.specs.sfc_instance.Answers.{action_q, is_action_executed}
 use Rattle.sfc_events.specs.declared.command.Point.{Point}
 use Rattle.sfc_events.specs.declared.command.Point.TheVariants as points
 use Rattle.sfc_events.specs.History.{History}
-use Rattle.sfc_tasks.specs.Calls.{single_of}
-use Rattle.sfc_tasks.specs.Multiples.{next_release}
-use Rattle.sfc_tasks.specs.Releases.{interval_of}
-use Rattle.sfc_core.specs.Answers.{value_of, forced_of, instance_state_of, overruns_of}
-use Rattle.sfc_core.specs.Due.{singles_of}
-use Rattle.sfc_debug.specs.Histories.{CommandHistory}
-use Rattle.sfc_debug.specs.States.{state_of}
-use Rattle.sfc_output.specs.Steered.{Steered}
+use Rattle.sfc_replay.specs.sfc_tasks.Calls.{single_of}
+use Rattle.sfc_replay.specs.sfc_tasks.Multiples.{next_release}
+use Rattle.sfc_replay.specs.sfc_tasks.Releases.{interval_of}
+use Rattle.sfc_replay.specs.sfc_core.Answers.{value_of, forced_of, instance_state_of, overruns_of}
+use Rattle.sfc_replay.specs.sfc_core.Due.{singles_of}
+use Rattle.sfc_replay.specs.sfc_debug.Histories.{CommandHistory}
+use Rattle.sfc_replay.specs.sfc_debug.States.{state_of}
+use Rattle.sfc_replay.specs.sfc_debug.Steered.{Steered}
 use Rattle.sfc_c.specs.declared.reading.Status.{Status}
 use Rattle.sfc_c.specs.declared.reading.ProgramState.{ProgramState}
 use Rattle.sfc_c.specs.declared.image.VariableState.{VariableState}
@@ -95,14 +93,10 @@ task_state s h task = cond (nat_lt task.0 (length s.plant.tasks)) (Some (task_in
 
 -- ---- program instances
 
--- in the order in which the kinds of faults are told
+-- in the order in which the kinds of faults are told; 0 where there is none
 abbrev pub scan_fault_number : Option ScanFault → ℤ
 scan_fault_number None = pos 0
-scan_fault_number (Some (Expression DivZero)) = pos 1
-scan_fault_number (Some (Expression Range)) = pos 2
-scan_fault_number (Some (Control TwoTimed)) = pos 3
-scan_fault_number (Some (Control SdWhileSl)) = pos 4
-scan_fault_number (Some (Control SlWhileSd)) = pos 5
+scan_fault_number (Some fault) = pos (fault_number fault)
 
 abbrev pub state_in : InstanceState → ProgramState
 state_in instance_state = record { scans = scan_count instance_state; fault = scan_fault_number instance_state.fault }

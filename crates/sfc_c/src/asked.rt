@@ -1,20 +1,21 @@
 //! What a line of a script asks.
 
 ghost use Rattle.std.specs.Prelude.{◌≡◌, ◌<◌, ℕ, true, false, Some, MatchOption, slice_get};
-ghost use Rattle.sfc_debug.specs.Agreement.{table_of};
-ghost use Rattle.sfc_output.specs.Steered.{steered_by};
+ghost use Rattle.sfc_replay.specs.sfc_debug.Agreement.{table_of};
+ghost use Rattle.sfc_replay.specs.sfc_debug.Steered.{steered_by};
 ghost use Rattle.sfc_c.specs.Lines as lines;
 
 use crate::same::is_same;
+use crate::sfc_debug::break_condition::BreakCondition;
+use crate::sfc_debug::debugger::Debugger;
+use crate::sfc_debug::timed::Timed;
+use crate::sfc_script::script::{ScriptError, read_script};
 use sfc_base::ids::ProgId;
-use sfc_debug::break_condition::BreakCondition;
-use sfc_debug::debugger::Debugger;
 use sfc_events::command::{Command, CondId, Point};
-use sfc_script::script::{ScriptError, read_script};
 use std::alloc::Global;
 
 /// How many numbers of conditions there are.
-const CONDITIONS: usize = 65_536;
+const CONDITIONS: usize = 65_535;
 
 /// What a line of a script asks.
 #[derive(Clone, Copy, Debug, PartialEq, Eq)]
@@ -46,7 +47,7 @@ fn is_there(debugger: &Debugger, id: CondId, condition: &BreakCondition) -> bool
 
 // The number of a condition of the opening that is this one, if there is one.
 fn condition_number(debugger: &Debugger, condition: &BreakCondition) -> Option<CondId>
-    ensures { MatchOption result ((k : ℕ) → k < 65536 → slice_get (table_of debugger.now) k ≡ Some condition.now → ⊥)
+    ensures { MatchOption result ((k : ℕ) → k < 65535 → slice_get (table_of debugger.now) k ≡ Some condition.now → ⊥)
         (λ id. slice_get (table_of debugger.now) id.0 ≡ Some condition.now) }
 {
     'conditions: for k in 0..CONDITIONS {
@@ -74,24 +75,19 @@ fn asked_when(
 }
 
 // What a line of one command asks, which has these conditions: none, or that of its breakpoint.
-fn asked_one(debugger: &Debugger, conditions: &[BreakCondition], timed: (Command, i64)) -> Asked
+fn asked_one(debugger: &Debugger, conditions: &[BreakCondition], timed: Timed) -> Asked
     ensures { lines.AsksOne (table_of debugger.now) conditions.now timed result }
 {
-    let (command, t) = timed;
-    match (conditions.first(), command) {
+    match (conditions.first(), timed.command) {
         (Some(condition), Command::BreakIf(program, point, _)) => {
-            asked_when(debugger, condition, program, point, t)
+            asked_when(debugger, condition, program, point, timed.raw)
         }
-        _ => Asked::Says(command, t),
+        _ => Asked::Says(timed.command, timed.raw),
     }
 }
 
 // What these commands and conditions of a line ask.
-fn asked_in(
-    debugger: &Debugger,
-    commands: &[(Command, i64)],
-    conditions: &[BreakCondition],
-) -> Asked
+fn asked_in(debugger: &Debugger, commands: &[Timed], conditions: &[BreakCondition]) -> Asked
     ensures { lines.AsksIn (table_of debugger.now) conditions.now commands.now result }
 {
     match commands {

@@ -4,10 +4,9 @@ ghost use Rattle.std.specs.Prelude.{◌≡◌, None, Some, is_some, true};
 ghost use Rattle.sfc_base.specs.declared.value.Value.{Value as ValueData};
 ghost use Rattle.sfc_events.specs.declared.command.Command.TheVariants as commands;
 ghost use Rattle.sfc_events.specs.declared.command.Point.{Point as PointData};
-ghost use Rattle.sfc_debug.specs.Agreement.{Agrees, plant_of, table_of};
-ghost use Rattle.sfc_debug.specs.Histories.{CommandHistory};
-ghost use Rattle.sfc_debug.specs.Verdict.{after, verdict};
-ghost use Rattle.sfc_output.specs.Steered.{Steered, steered_by};
+ghost use Rattle.sfc_replay.specs.sfc_debug.Agreement.{plant_of};
+ghost use Rattle.sfc_replay.specs.sfc_debug.Histories.{CommandHistory};
+ghost use Rattle.sfc_replay.specs.sfc_debug.Steered.{Steered};
 ghost use Rattle.sfc_c.specs.Codes as codes;
 ghost use Rattle.sfc_c.specs.Handles.{Answers, Follows, Holds, Replies};
 
@@ -15,37 +14,24 @@ use crate::handle::Handle;
 use crate::number::value_of_number;
 use crate::point::{break_of, point_of};
 use crate::reply::{NOTHING, Reply, code, telling};
+use crate::sfc_debug::debugger::Debugger;
+use crate::sfc_debug::timed::Timed;
 use crate::status::{CLOSED, NO_VALUE, UNKNOWN};
 use sfc_base::ids::{ProgId, TaskId, VarId};
-use sfc_base::ticks::Ticks;
 use sfc_base::value::Value;
 use sfc_base::var_type::VarType;
-use sfc_debug::debugger::Debugger;
-use sfc_events::command::{Answer, Command};
-use sfc_events::refusal::Refusal;
+use sfc_events::command::Command;
 use sfc_plant::plant::Plant;
 use std::alloc::Global;
 
-// One command at the raw instant t, in microseconds.
-fn obey(debugger: &mut Debugger, command: Command, t: i64) -> Result<Answer, Refusal>
-    ensures answer { (h : CommandHistory) → Agrees debugger.old h →
-        result ≡ verdict (plant_of debugger.old) (table_of debugger.old) h command t }
-    ensures steered { steered_by debugger.new ≡ steered_by debugger.old }
-    ensures agrees { (h : CommandHistory) → Agrees debugger.old h →
-        Agrees debugger.new (after (plant_of debugger.old) (table_of debugger.old) h (command, t)) }
-{
-    let mut ticks = Ticks::new();
-    debugger.command(command, t, &mut ticks)
-}
-
-// The same with the debugger that a handle holds.
+// One command at the raw instant t, in microseconds, to the debugger that a handle holds.
 fn tell(alloc: Global, plc: &mut Handle, command: Command, t: i64, into: &mut Reply) -> i32
     ensures code { Answers plc.old.value command t result }
     ensures reply { Replies plc.old.value command t into.new }
     ensures kept { Follows plc.old.value plc.new.value command t }
     ensures closed { plc.old.value ≡ None → result ≡ codes.closed }
 {
-    match plc.change(alloc, |debugger| obey(debugger, command, t)) {
+    match plc.change(alloc, |debugger| debugger.obey(Timed { command, raw: t })) {
         None => CLOSED,
         Some(answered) => {
             *into = telling(answered);

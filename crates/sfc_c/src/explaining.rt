@@ -11,36 +11,16 @@ ghost use Rattle.sfc_c.specs.Texts.{GivesOr};
 use crate::giving::give_or;
 use crate::status::{NO_MEMORY, UNKNOWN};
 use sfc_explain::explanation::Explanation;
-use sfc_explain::finding::explanation_numbered;
+use sfc_explain::finding::find;
 use sfc_explain::page::put_page;
-use sfc_explain::table::{OF_CHARTS, OF_COMMANDS};
+use sfc_explain::table::{of_charts, of_commands};
 use std::alloc::Global;
-
-// What charts are refused for.
-fn of_charts() -> &'static [Explanation] {
-    &OF_CHARTS
-}
-
-// What commands are refused for.
-fn of_commands() -> &'static [Explanation] {
-    &OF_COMMANDS
-}
-
-// The explanation of a table with this number, if there is one.
-fn numbered(table: &'static [Explanation], number: u8) -> Option<&'static Explanation>
-    ensures { IfSome result (λ explanation. is_numbered number explanation.now ≡ true) }
-{
-    explanation_numbered(table, number)
-}
 
 // The explanation of a refusal, by its number.
 fn of_refusal(number: u8) -> Option<&'static Explanation>
     ensures { IfSome result (λ explanation. is_numbered number explanation.now ≡ true) }
 {
-    match numbered(of_charts(), number) {
-        Some(explanation) => Some(explanation),
-        None => numbered(of_commands(), number),
-    }
+    find(&[of_charts(), of_commands()], Some(number), b"")
 }
 
 // An explanation as a text; -4 where memory was refused.

@@ -1,55 +1,24 @@
 //! Numbers by names; case is not significant (2.1.2).
 
-ghost use Rattle.std.specs.Prelude.{◌≡◌, ◌<◌, None, length, IfSome};
-ghost use Rattle.sfc_base.specs.Case.{same_word};
-ghost use Rattle.sfc_plant.specs.Finding.{task_named, instance_named, chart_of};
-ghost use Rattle.sfc_plant.specs.ElementNames.{step_place, transition_place};
-ghost use Rattle.sfc_core.specs.Agreement as core;
-ghost use Rattle.sfc_debug.specs.Agreement.{plant_of};
-ghost use Rattle.sfc_debug.specs.Histories.{CommandHistory};
-ghost use Rattle.sfc_output.specs.Steered.{Steered};
-ghost use Rattle.sfc_script.specs.Names as script;
-ghost use Rattle.sfc_script.specs.Points as points;
-ghost use Rattle.sfc_script.specs.Points.{action_from};
+ghost use Rattle.std.specs.Prelude.{◌≡◌, None};
+ghost use Rattle.sfc_plant.specs.Finding.{task_named, instance_named};
+ghost use Rattle.sfc_replay.specs.sfc_debug.Agreement.{plant_of};
+ghost use Rattle.sfc_replay.specs.sfc_debug.Histories.{CommandHistory};
+ghost use Rattle.sfc_replay.specs.sfc_debug.Steered.{Steered};
 ghost use Rattle.sfc_c.specs.Codes as codes;
 ghost use Rattle.sfc_c.specs.Handles.{Holds};
 ghost use Rattle.sfc_c.specs.Found.{number_of_place, number_of_task, number_of_program};
 ghost use Rattle.sfc_c.specs.Names as names;
 
-use crate::charts::{names_of, type_of_instance};
 use crate::handle::Handle;
 use crate::kind::{Kind, kind_of};
 use crate::locating::{begins_location, number_of_location};
 use crate::number::{place_number, program_number, task_number, variable_number};
+use crate::sfc_debug::debugger::Debugger;
+use crate::sfc_script::point::find_action;
 use crate::status::CLOSED;
-use sfc_base::case::is_same_word;
-use sfc_base::ids::{ActionNumber, ProgId, TaskId, VarId};
-use sfc_core::resource::Resource;
-use sfc_debug::debugger::Debugger;
-use sfc_plant::association::Target;
-use sfc_plant::names::Names;
-use sfc_plant::plant::Plant;
-use sfc_tables::tables::Tables;
+use sfc_base::ids::{ProgId, TaskId};
 use std::alloc::Global;
-
-// Where the first dot stands, if there is one.
-fn first_dot(word: &[u8]) -> Option<usize>
-    ensures place { result ≡ script.first_dot word.now }
-    ensures within { IfSome result (λ dot. dot < length word.now) }
-{
-    word.iter().position(|byte| *byte == b'.')
-}
-
-// The variable that is called so: a local one of a program instance where the name has a dot.
-fn variable_called(plant: &Plant, name: &[u8]) -> Option<VarId>
-    ensures { result ≡ names.variable_called plant.now name.now }
-{
-    let Some(dot) = first_dot(name) else {
-        return plant.find_variable(name);
-    };
-    let instance = plant.find_instance(&name[..dot])?;
-    plant.find_local(instance, &name[dot + 1..])
-}
 
 // The number of the variable that is called so, or lies there.
 fn variable_in(alloc: Global, debugger: &Debugger, text: &[u8]) -> i32
@@ -58,64 +27,7 @@ fn variable_in(alloc: Global, debugger: &Debugger, text: &[u8]) -> i32
     if begins_location(text) {
         return number_of_location(alloc, debugger.resource(), text);
     }
-    variable_number(variable_called(debugger.resource().plant(), text))
-}
-
-// The place of a step in the chart of a program instance, if there is one with this name.
-fn step_in(plant: &Plant, program: ProgId, name: &[u8]) -> Option<usize>
-    ensures { result ≡ step_place (chart_of plant.now program) name.now }
-{
-    match type_of_instance(plant, program) {
-        Some(program_type) => program_type.find_step(name),
-        None => None,
-    }
-}
-
-// The place of a transition in the chart of a program instance, if there is one with this name.
-fn transition_in(plant: &Plant, program: ProgId, name: &[u8]) -> Option<usize>
-    ensures { result ≡ transition_place (chart_of plant.now program) name.now }
-{
-    match type_of_instance(plant, program) {
-        Some(program_type) => program_type.find_transition(name),
-        None => None,
-    }
-}
-
-// Whether this action has the name.
-fn is_named(names: &Names<'_>, target: Target, name: &[u8]) -> bool
-    ensures { result ≡ same_word name.now (points.target_name names.now target) }
-{
-    match target {
-        Target::Boolean(variable) => is_same_word(name, names.variable(variable)),
-        Target::Declared(id) => is_same_word(name, names.action(id)),
-    }
-}
-
-// The number of the first of the actions that has the name.
-fn action_among(names: &Names<'_>, tables: &Tables, name: &[u8]) -> Option<usize>
-    ensures { result ≡ action_from names.now name.now 0 tables.now.actions }
-{
-    'actions: for a in 0..tables.actions() {
-        if is_named(names, tables.target(ActionNumber(a)), name) {
-            return Some(a);
-        }
-    }
-    None
-}
-
-// The number of the first action of a program instance with this name, if there is one.
-fn action_in(resource: &Resource, program: ProgId, name: &[u8]) -> Option<usize>
-    ensures { result ≡ names.point_called (core.plant_of resource.now) program Kind.Action name.now }
-{
-    let plant = resource.plant();
-    if program.0 as usize >= plant.instances().len() {
-        return None;
-    }
-    action_among(
-        &names_of(plant, program),
-        resource.program(program).tables(),
-        name,
-    )
+    variable_number(debugger.resource().plant().find_variable(text))
 }
 
 // The number of a point of a program instance's chart, if there is one of the kind with this name.
@@ -124,9 +36,9 @@ fn point_in(debugger: &Debugger, program: ProgId, kind: Option<Kind>, name: &[u8
 {
     let resource = debugger.resource();
     match kind {
-        Some(Kind::Step) => step_in(resource.plant(), program, name),
-        Some(Kind::Transition) => transition_in(resource.plant(), program, name),
-        Some(Kind::Action) => action_in(resource, program, name),
+        Some(Kind::Step) => Some(resource.plant().find_step(program, name)?.0 as usize),
+        Some(Kind::Transition) => Some(resource.plant().find_transition(program, name)?.0 as usize),
+        Some(Kind::Action) => Some(find_action(resource, program, name)?.0),
         _ => None,
     }
 }

@@ -1,12 +1,12 @@
 //! A debugger on the heap, as one word that C keeps.
 
 ghost use Rattle.std.specs.Prelude.{◌≡◌, Option, Some, None};
-ghost use Rattle.sfc_debug.specs.declared.debugger.Debugger.{Debugger as DebuggerData};
-ghost use Rattle.sfc_debug.specs.contracts.debugger.Debugger as debugger_type;
+ghost use Rattle.sfc_replay.specs.sfc_debug.declared.debugger.Debugger.{Debugger as DebuggerData};
+ghost use Rattle.sfc_replay.specs.sfc_debug.contracts.debugger.Debugger as debugger_type;
 ghost use Rattle.std.specs.Coded.{codes};
 
 use crate::loose::Loose;
-use sfc_debug::debugger::Debugger;
+use crate::sfc_debug::debugger::Debugger;
 use std::alloc::Global;
 use std::marker::Model;
 use std::mem::replace;

@@ -1,22 +1,22 @@
 //! The whole image at once.
 
 ghost use Rattle.std.specs.Prelude.{◌≡◌, ◌<◌, ◌≤◌, None, length};
-ghost use Rattle.sfc_image.specs.Values.{variable_count};
-ghost use Rattle.sfc_core.specs.Agreement.{Agrees as ResourceAgrees, plant_of};
-ghost use Rattle.sfc_debug.specs.Agreement.{Agrees};
-ghost use Rattle.sfc_debug.specs.Histories.{CommandHistory};
+ghost use Rattle.sfc_replay.specs.sfc_image.Values.{variable_count};
+ghost use Rattle.sfc_replay.specs.sfc_core.Agreement.{Agrees as ResourceAgrees, plant_of};
+ghost use Rattle.sfc_replay.specs.sfc_debug.Agreement.{Agrees};
+ghost use Rattle.sfc_replay.specs.sfc_debug.Histories.{CommandHistory};
 ghost use Rattle.sfc_events.specs.History.{History};
-ghost use Rattle.sfc_output.specs.Steered.{Steered, steered_by};
+ghost use Rattle.sfc_replay.specs.sfc_debug.Steered.{Steered, steered_by};
 ghost use Rattle.sfc_c.specs.Codes as codes;
 ghost use Rattle.sfc_c.specs.Handles.{Holds};
 ghost use Rattle.sfc_c.specs.Readings as readings;
 
 use crate::handle::Handle;
 use crate::number::{flag, told};
+use crate::sfc_core::resource::Resource;
+use crate::sfc_debug::debugger::Debugger;
 use crate::status::{CLOSED, TOO_SHORT};
 use sfc_base::ids::VarId;
-use sfc_core::resource::Resource;
-use sfc_debug::debugger::Debugger;
 use std::alloc::Global;
 
 /// What a variable reads: `sfc_variable_state_t` of `sfc.h`.

@@ -4,7 +4,7 @@
 //! - `commands`: commands by number; `reply`, `point`: what C reads of answers and points.
 //! - `scripting`: lines of scripts, and the image as text; `asked`: what a line asks; `obeying`: what is done for it; `same`: expressions
 //!   that are the same.
-//! - `finding`: numbers by names; `locating`: variables by locations; `naming`: counts and names; `kind`, `charts`: what has a name.
+//! - `finding`: numbers by names; `locating`: variables by locations; `naming`: counts and names; `kind`: what has a name.
 //! - `reading`: what is read without a command; `showing`: steps, transitions and actions; `image`: all variables; `tasks`: tasks.
 //! - `explaining`: what numbers mean.
 //! - `handle`: a debugger on the heap, as one word that C keeps; `loose`: a box as its pointer.
@@ -12,7 +12,6 @@
 #![tactic(auto)]
 
 mod asked;
-mod charts;
 pub mod commands;
 pub mod explaining;
 pub mod fault;
@@ -36,3 +35,7 @@ pub mod scripting;
 pub mod showing;
 mod status;
 pub mod tasks;
+
+// What the crates above name through this one.
+pub use sfc_explain::sfc_variables;
+pub use sfc_replay::{sfc_core, sfc_debug, sfc_instance, sfc_output, sfc_script};

@@ -2,8 +2,8 @@
 
 ghost use Rattle.std.specs.Prelude.{◌≡◌, [], None, Option, Ok, pos};
 ghost use Rattle.sfc_plant.specs.Plants.{PlantData};
-ghost use Rattle.sfc_load.specs.Accepted.{IsAccepted};
-ghost use Rattle.sfc_output.specs.Steered.{Steered};
+ghost use Rattle.sfc_replay.specs.sfc_load.Accepted.{IsAccepted};
+ghost use Rattle.sfc_replay.specs.sfc_debug.Steered.{Steered};
 ghost use Rattle.sfc_c.specs.declared.fault.Fault.{Fault as FaultData};
 ghost use Rattle.sfc_c.specs.Faults as faults;
 ghost use Rattle.sfc_c.specs.Faults.{Finds, Refuses, RefusesBoth, SaysConditions};

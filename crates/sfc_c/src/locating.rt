@@ -3,20 +3,20 @@
 ghost use Rattle.std.specs.Prelude.{◌≡◌, IfOk, IfErr, Ok};
 ghost use Rattle.sfc_tokens.specs.Texts.{TextLexes};
 ghost use Rattle.sfc_tokens.specs.Tokens.{kinds};
-ghost use Rattle.sfc_core.specs.Agreement.{plant_of};
+ghost use Rattle.sfc_replay.specs.sfc_core.Agreement.{plant_of};
 ghost use Rattle.sfc_c.specs.Names as names;
 
 use crate::number::variable_number;
+use crate::sfc_core::resource::Resource;
+use crate::sfc_variables::located::same_location;
 use crate::status::{NO_MEMORY, UNKNOWN};
 use sfc_base::ids::VarId;
 use sfc_base::location::Location;
-use sfc_core::resource::Resource;
 use sfc_plant::plant::Plant;
 use sfc_plant::variable::Variable;
 use sfc_tokens::lex::tokens;
 use sfc_tokens::read_error::ReadErrorKind;
 use sfc_tokens::token::{Token, TokenKind};
-use sfc_variables::located::same_location;
 use std::alloc::Global;
 
 // Whether the location is this one, where it is one.

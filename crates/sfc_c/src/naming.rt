@@ -2,33 +2,29 @@
 
 ghost use Rattle.std.specs.Prelude.{◌≡◌, ◌<◌, ◌++◌, None, Some, length, OnOk, true};
 ghost use Rattle.sfc_plant.specs.Finding.{chart_of};
-ghost use Rattle.sfc_plant.specs.Names as plant_names;
-ghost use Rattle.sfc_core.specs.Agreement as core;
-ghost use Rattle.sfc_debug.specs.Agreement.{plant_of};
-ghost use Rattle.sfc_debug.specs.Histories.{CommandHistory};
-ghost use Rattle.sfc_output.specs.Names as output;
-ghost use Rattle.sfc_output.specs.Steered.{Steered};
+ghost use Rattle.sfc_replay.specs.sfc_core.Agreement as core;
+ghost use Rattle.sfc_replay.specs.sfc_debug.Agreement.{plant_of};
+ghost use Rattle.sfc_replay.specs.sfc_debug.Histories.{CommandHistory};
+ghost use Rattle.sfc_replay.specs.sfc_debug.Steered.{Steered};
 ghost use Rattle.sfc_c.specs.Codes as codes;
 ghost use Rattle.sfc_c.specs.Found.{number_of_place};
 ghost use Rattle.sfc_c.specs.Handles.{Holds};
 ghost use Rattle.sfc_c.specs.Names as names;
 ghost use Rattle.sfc_c.specs.Texts.{GivesOr, IsNone, Tells};
 
-use crate::charts::{names_of, type_of_instance};
 use crate::giving::give_or;
 use crate::handle::Handle;
 use crate::kind::{Kind, kind_of};
 use crate::number::place_number;
+use crate::sfc_core::resource::Resource;
+use crate::sfc_debug::debugger::Debugger;
+use crate::sfc_output::naming::append_image_name;
 use crate::status::{CLOSED, NO_MEMORY, UNKNOWN};
 use sfc_base::ids::{ActionNumber, ProgId, VarId};
 use sfc_base::name::Name;
 use sfc_base::references::StepId;
-use sfc_core::resource::Resource;
-use sfc_debug::debugger::Debugger;
-use sfc_output::append::append;
-use sfc_plant::association::Target;
-use sfc_plant::image_variable::ImageVariable;
-use sfc_plant::names::{Names, instance_name, task_name, variable_at};
+use sfc_page::append::append;
+use sfc_plant::names::{instance_name, task_name};
 use sfc_plant::plant::Plant;
 use std::alloc::{AllocError, Global};
 
@@ -87,21 +83,6 @@ pub extern "C" fn sfc_count(alloc: Global, plc: &mut Handle, kind: u8, program: 
     }
 }
 
-// The name of what a variable of the image is.
-fn append_image_name(out: &mut Vec<u8>, plant: &Plant, id: VarId) -> Result<(), AllocError>
-    ensures { OnOk result (out.new.items ≡ out.old.items ++ output.image_name plant.now id) }
-{
-    match plant.image_variable(id) {
-        None => Ok(()),
-        Some(ImageVariable::Global(id)) => append(out, variable_at(plant.globals(), id.0)),
-        Some(ImageVariable::Local(p, id)) => {
-            append(out, instance_name(plant.instances(), p.0 as usize))?;
-            append(out, b".")?;
-            append(out, variable_at(plant.locals(p), id.0))
-        }
-    }
-}
-
 // A name, or nothing.
 fn spelling(name: &Option<Name>) -> &[u8]
     ensures { result.now ≡ names.name_or_nothing name.now }
@@ -116,22 +97,12 @@ fn spelling(name: &Option<Name>) -> &[u8]
 fn transition_name(plant: &Plant, program: ProgId, number: usize) -> &[u8]
     ensures { result.now ≡ names.transition_name_of plant.now program number }
 {
-    let Some(program_type) = type_of_instance(plant, program) else {
+    let Some(program_type) = plant.type_of(program) else {
         return b"";
     };
     match program_type.chart.transitions.as_slice().get(number) {
         Some(transition) => spelling(&transition.name),
         None => b"",
-    }
-}
-
-// The name of what an action acts on.
-fn append_target(out: &mut Vec<u8>, names: &Names<'_>, target: Target) -> Result<(), AllocError>
-    ensures { OnOk result (out.new.items ≡ out.old.items ++ output.target_name names.now (Some target)) }
-{
-    match target {
-        Target::Boolean(variable) => append(out, names.variable(variable)),
-        Target::Declared(id) => append(out, names.action(id)),
     }
 }
 
@@ -148,12 +119,12 @@ fn append_point_name(
 {
     let plant = resource.plant();
     match kind {
-        Kind::Step => append(out, names_of(plant, program).step(StepId(number))),
+        Kind::Step => append(out, plant.names(program).step(StepId(number))),
         Kind::Transition => append(out, transition_name(plant, program, number as usize)),
         _ => {
             let tables = resource.program(program).tables();
-            let target = tables.target(ActionNumber(number as usize));
-            append_target(out, &names_of(plant, program), target)
+            let action = ActionNumber(number as usize);
+            append(out, tables.action_name(&plant.names(program), action))
         }
     }
 }

@@ -1,12 +1,12 @@
 //! Lines of scripts, obeyed.
 
 ghost use Rattle.std.specs.Prelude.{◌≡◌, ◌++◌, Some, OnOk, IfOk, IfSome};
-ghost use Rattle.sfc_debug.specs.Agreement.{Agrees, plant_of, table_of};
-ghost use Rattle.sfc_debug.specs.Histories.{CommandHistory};
-ghost use Rattle.sfc_debug.specs.Openings.{IsOpeningFor, past_of};
-ghost use Rattle.sfc_debug.specs.Past.{debug_past};
-ghost use Rattle.sfc_debug.specs.Verdict.{after, verdict};
-ghost use Rattle.sfc_output.specs.Steered.{steered_by};
+ghost use Rattle.sfc_replay.specs.sfc_debug.Agreement.{Agrees, plant_of, table_of};
+ghost use Rattle.sfc_replay.specs.sfc_debug.Histories.{CommandHistory};
+ghost use Rattle.sfc_replay.specs.sfc_debug.Openings.{IsOpeningFor, past_of};
+ghost use Rattle.sfc_replay.specs.sfc_debug.Past.{debug_past};
+ghost use Rattle.sfc_replay.specs.sfc_debug.Verdict.{after, verdict};
+ghost use Rattle.sfc_replay.specs.sfc_debug.Steered.{steered_by};
 ghost use Rattle.sfc_c.specs.declared.asked.Asked.{Asked as AskedData};
 ghost use Rattle.sfc_c.specs.Lines as lines;
 ghost use Rattle.sfc_c.specs.Lines.{Obeys, told_lines};
@@ -14,13 +14,13 @@ ghost use Rattle.sfc_c.specs.Lines.{Obeys, told_lines};
 use crate::asked::{Asked, asked_by};
 use crate::giving::give;
 use crate::reply::code;
+use crate::sfc_debug::debugger::Debugger;
+use crate::sfc_debug::opening::DebugOpening;
+use crate::sfc_debug::timed::Timed;
+use crate::sfc_output::answer::append_answer;
 use crate::status::{NO_LINE, NO_MEMORY, TOO_SHORT, UNKNOWN};
-use sfc_base::ticks::Ticks;
-use sfc_debug::debugger::Debugger;
-use sfc_debug::opening::DebugOpening;
-use sfc_events::command::{Answer, Command};
+use sfc_events::command::Answer;
 use sfc_events::refusal::Refusal;
-use sfc_output::answer::append_answer;
 use std::alloc::{AllocError, Global};
 
 /// What came of a command whose lines are to be written to a buffer.
@@ -34,25 +34,11 @@ pub enum Obeyed {
     OutOfMemory,
 }
 
-// One command at its raw instant, in microseconds.
-fn obey(debugger: &mut Debugger, timed: (Command, i64)) -> Result<Answer, Refusal>
-    ensures plant { plant_of debugger.new ≡ plant_of debugger.old }
-    ensures table { table_of debugger.new ≡ table_of debugger.old }
-    ensures answer { (h : CommandHistory) → Agrees debugger.old h →
-        result ≡ verdict (plant_of debugger.old) (table_of debugger.old) h timed.0 timed.1 }
-    ensures agrees { (h : CommandHistory) → Agrees debugger.old h →
-        Agrees debugger.new (after (plant_of debugger.old) (table_of debugger.old) h timed) }
-{
-    let (command, raw) = timed;
-    let mut ticks = Ticks::new();
-    debugger.command(command, raw, &mut ticks)
-}
-
 // One command, and its lines.
 fn obey_and_tell(
     alloc: Global,
     debugger: &mut Debugger,
-    timed: (Command, i64),
+    timed: Timed,
     out: &mut Vec<u8>,
 ) -> Result<Result<Answer, Refusal>, AllocError>
     ensures plant { plant_of debugger.new ≡ plant_of debugger.old }
@@ -64,8 +50,8 @@ fn obey_and_tell(
     ensures lines { (h : CommandHistory) → Agrees debugger.old h →
         OnOk result (out.new.items ≡ out.old.items ++ told_lines (steered_by debugger.old) h timed) }
 {
-    let answer = obey(debugger, timed);
-    append_answer(alloc, out, debugger, timed.0, answer)?;
+    let answer = debugger.obey(timed);
+    append_answer(alloc, out, debugger, timed.command, answer)?;
     Ok(answer)
 }
 
@@ -88,7 +74,7 @@ fn saved(alloc: Global, debugger: &Debugger) -> Option<DebugOpening>
 fn obey_into(
     alloc: Global,
     debugger: &mut Debugger,
-    timed: (Command, i64),
+    timed: Timed,
     into: &mut [u8],
     needed: &mut usize,
 ) -> Obeyed
@@ -139,7 +125,8 @@ pub fn obey_line(
     match asked_by(alloc, debugger, line) {
         Asked::Nothing => 0,
         Asked::Says(command, t) => {
-            number_of(obey_into(alloc, debugger, (command, t), into, needed))
+            let timed = Timed { command, raw: t };
+            number_of(obey_into(alloc, debugger, timed, into, needed))
         }
         Asked::NoLine => NO_LINE,
         Asked::NoCondition => UNKNOWN,

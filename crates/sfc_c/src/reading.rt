@@ -1,22 +1,20 @@
 //! What is read without a command: nothing changes, and no instant is wanted.
 
 ghost use Rattle.std.specs.Prelude.{◌≡◌, None, pos};
-ghost use Rattle.sfc_debug.specs.Agreement.{Agrees};
-ghost use Rattle.sfc_debug.specs.Histories.{CommandHistory};
-ghost use Rattle.sfc_output.specs.Steered.{Steered, steered_by};
+ghost use Rattle.sfc_replay.specs.sfc_debug.Agreement.{Agrees};
+ghost use Rattle.sfc_replay.specs.sfc_debug.Histories.{CommandHistory};
+ghost use Rattle.sfc_replay.specs.sfc_debug.Steered.{Steered, steered_by};
 ghost use Rattle.sfc_c.specs.Codes as codes;
 ghost use Rattle.sfc_c.specs.Handles.{Holds};
 ghost use Rattle.sfc_c.specs.Readings as readings;
 
 use crate::handle::Handle;
 use crate::number::{flag, told};
+use crate::sfc_debug::debugger::Debugger;
+use crate::sfc_debug::mode::Mode;
+use crate::sfc_instance::scan_fault::ScanFault;
 use crate::status::{CLOSED, UNKNOWN};
-use sfc_action::fault::ControlFault;
 use sfc_base::ids::{ProgId, VarId};
-use sfc_debug::debugger::Debugger;
-use sfc_debug::mode::Mode;
-use sfc_expr::fault::Fault;
-use sfc_instance::scan_fault::ScanFault;
 use std::alloc::Global;
 
 /// How a resource stands: `sfc_status_t` of `sfc.h`.
@@ -140,11 +138,7 @@ fn scan_fault_number(fault: Option<ScanFault>) -> i32
 {
     match fault {
         None => 0,
-        Some(ScanFault::Expression(Fault::DivZero)) => 1,
-        Some(ScanFault::Expression(Fault::Range)) => 2,
-        Some(ScanFault::Control(ControlFault::TwoTimed)) => 3,
-        Some(ScanFault::Control(ControlFault::SdWhileSl)) => 4,
-        Some(ScanFault::Control(ControlFault::SlWhileSd)) => 5,
+        Some(fault) => i32::from(fault.number()),
     }
 }
 

@@ -74,9 +74,9 @@ pub fn telling(answered: Result<Answer, Refusal>) -> Reply
                 hit,
             },
         ) => Reply {
-            ran,
-            faulted,
-            skipped,
+            ran: ran.bits,
+            faulted: faulted.bits,
+            skipped: skipped.bits,
             overruns,
             next: -1,
             value: 0,

@@ -1,11 +1,11 @@
 //! Lines of scripts, and the image as a script's end tells it.
 
 ghost use Rattle.std.specs.Prelude.{◌≡◌, None, Ok, OnOk};
-ghost use Rattle.sfc_core.specs.PlantState.{state_of};
-ghost use Rattle.sfc_debug.specs.Agreement.{Agrees, plant_of};
-ghost use Rattle.sfc_debug.specs.Histories.{CommandHistory};
-ghost use Rattle.sfc_output.specs.ImageLines.{image_lines};
-ghost use Rattle.sfc_output.specs.Steered.{Steered, steered_by};
+ghost use Rattle.sfc_replay.specs.sfc_core.PlantState.{state_of};
+ghost use Rattle.sfc_replay.specs.sfc_debug.Agreement.{Agrees, plant_of};
+ghost use Rattle.sfc_replay.specs.sfc_debug.Histories.{CommandHistory};
+ghost use Rattle.sfc_replay.specs.sfc_output.ImageLines.{image_lines};
+ghost use Rattle.sfc_replay.specs.sfc_debug.Steered.{Steered, steered_by};
 ghost use Rattle.sfc_c.specs.declared.asked.Asked.{Asked as AskedData};
 ghost use Rattle.sfc_c.specs.Codes as codes;
 ghost use Rattle.sfc_c.specs.Handles.{Holds, events_of};
@@ -15,9 +15,9 @@ ghost use Rattle.sfc_c.specs.Texts.{GivesOr, IsNone, Tells};
 use crate::giving::give_or;
 use crate::handle::Handle;
 use crate::obeying::obey_line;
+use crate::sfc_debug::debugger::Debugger;
+use crate::sfc_output::image_line::append_image;
 use crate::status::{CLOSED, NO_MEMORY};
-use sfc_debug::debugger::Debugger;
-use sfc_output::image_line::append_image;
 use std::alloc::Global;
 
 /// Obeys a line of a script, at the instant that it has, and writes the lines that `sfcmon replay` prints for it.

@@ -1,12 +1,12 @@
 //! Steps, transitions and actions after the latest scan.
 
 ghost use Rattle.std.specs.Prelude.{◌≡◌, List, None};
-ghost use Rattle.sfc_image.specs.Changes.{Change};
-ghost use Rattle.sfc_instance.specs.Life.{InstanceState};
-ghost use Rattle.sfc_instance.specs.Views.{Shows, tables_in};
-ghost use Rattle.sfc_debug.specs.Agreement.{Agrees};
-ghost use Rattle.sfc_debug.specs.Histories.{CommandHistory};
-ghost use Rattle.sfc_output.specs.Steered.{Steered, steered_by};
+ghost use Rattle.sfc_replay.specs.sfc_image.Changes.{Change};
+ghost use Rattle.sfc_replay.specs.sfc_instance.Life.{InstanceState};
+ghost use Rattle.sfc_replay.specs.sfc_instance.Views.{Shows, tables_in};
+ghost use Rattle.sfc_replay.specs.sfc_debug.Agreement.{Agrees};
+ghost use Rattle.sfc_replay.specs.sfc_debug.Histories.{CommandHistory};
+ghost use Rattle.sfc_replay.specs.sfc_debug.Steered.{Steered, steered_by};
 ghost use Rattle.sfc_c.specs.Codes as codes;
 ghost use Rattle.sfc_c.specs.Handles.{Holds};
 ghost use Rattle.sfc_c.specs.Readings as readings;
@@ -14,11 +14,11 @@ ghost use Rattle.sfc_c.specs.Readings as readings;
 use crate::handle::Handle;
 use crate::number::flag;
 use crate::point::point_of;
+use crate::sfc_debug::debugger::Debugger;
+use crate::sfc_instance::program_view::ProgramView;
 use crate::status::{CLOSED, UNKNOWN};
 use sfc_base::ids::ProgId;
-use sfc_debug::debugger::Debugger;
 use sfc_events::command::Point;
-use sfc_instance::program_view::ProgramView;
 use std::alloc::Global;
 
 /// How a step, a transition or an action stands after the latest scan: `sfc_point_state_t` of `sfc.h`.

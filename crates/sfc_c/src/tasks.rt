@@ -2,24 +2,24 @@
 
 ghost use Rattle.std.specs.Prelude.{◌≡◌, ◌<◌, None, length};
 ghost use Rattle.sfc_plant.specs.Sound.{IsPlant, IsSingle};
-ghost use Rattle.sfc_instances.specs.Singles.{single_in};
-ghost use Rattle.sfc_tasks.specs.Multiples.{multiples_to as count_to, next_multiple as next_after, next_release as next_release_of};
-ghost use Rattle.sfc_core.specs.Agreement.{Agrees as ResourceAgrees, plant_of};
-ghost use Rattle.sfc_core.specs.PlantState.{state_of};
-ghost use Rattle.sfc_debug.specs.Agreement.{Agrees};
-ghost use Rattle.sfc_debug.specs.Histories.{CommandHistory};
+ghost use Rattle.sfc_replay.specs.sfc_instances.Singles.{single_in};
+ghost use Rattle.sfc_replay.specs.sfc_tasks.Multiples.{multiples_to as count_to, next_multiple as next_after, next_release as next_release_of};
+ghost use Rattle.sfc_replay.specs.sfc_core.Agreement.{Agrees as ResourceAgrees, plant_of};
+ghost use Rattle.sfc_replay.specs.sfc_core.PlantState.{state_of};
+ghost use Rattle.sfc_replay.specs.sfc_debug.Agreement.{Agrees};
+ghost use Rattle.sfc_replay.specs.sfc_debug.Histories.{CommandHistory};
 ghost use Rattle.sfc_events.specs.History.{History};
-ghost use Rattle.sfc_output.specs.Steered.{Steered, steered_by};
+ghost use Rattle.sfc_replay.specs.sfc_debug.Steered.{Steered, steered_by};
 ghost use Rattle.sfc_c.specs.Codes as codes;
 ghost use Rattle.sfc_c.specs.Handles.{Holds};
 ghost use Rattle.sfc_c.specs.Readings as readings;
 
 use crate::handle::Handle;
+use crate::sfc_core::resource::Resource;
+use crate::sfc_debug::debugger::Debugger;
 use crate::status::{CLOSED, UNKNOWN};
 use sfc_base::ids::{TaskId, VarId};
 use sfc_base::references::GlobalId;
-use sfc_core::resource::Resource;
-use sfc_debug::debugger::Debugger;
 use sfc_plant::task::Task;
 use std::alloc::Global;
 

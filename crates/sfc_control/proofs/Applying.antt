@@ -23,7 +23,7 @@ use Rattle.sfc_debug.specs.States.{state_of}
 use Rattle.sfc_debug.specs.Tracing.{is_wanted, row_of}
 use Rattle.sfc_debug.specs.Verdict.{verdict, verdict_by}
 use Rattle.sfc_control.specs.declared.entry.Entry.{Entry}
-use Rattle.sfc_control.specs.Answering.{bar_by, bar, answered_by, answered}
+use Rattle.sfc_control.specs.Answering.{bar, answered_by, answered}
 use Rattle.sfc_control.specs.Holding.{first_after}
 use Rattle.sfc_control.specs.LegalHistory.{commands_of, IsLegal}
 use Rattle.sfc_control.specs.Rows.{Rise, IsRow}
@@ -32,24 +32,11 @@ use Rattle.sfc_control.proofs.Cutting.{Past-set, opened_after}
 use Rattle.sfc_control.proofs.FeedRows.{rows_kept, rise_kept}
 use Rattle.sfc_control.proofs.Legal.{length-told, legal-push, agrees-push, Verdict, here}
 
--- ---- answers
-
--- what is barred leaves room
-pub not_full : (ended full : Bool) → bar_by ended full ≡ None → full ≡ false
-not_full false false e = refl
-not_full false true e = search rules
-not_full true full e = search rules
-
-module _ (plant : PlantData) (table : List BreakCondition) (limit first : ℕ) (es : List Entry) (seat : ℕ) (command : Command) (raw : ℤ) where
-  pub barred_as : (refusal : Refusal) → bar plant table limit first es command ≡ Some refusal →
-      Err refusal ≡ answered plant table limit first es seat command raw
-  barred_as refusal is =
-      λ i. answered_by seat (length es + 1) command raw (verdict_by (sym is i) (verdict plant table (commands_of es) command raw))
-
-  pub answered_as : (v : Verdict) → bar plant table limit first es command ≡ None →
-      v ≡ verdict plant table (commands_of es) command raw →
-      answered_by seat (length es + 1) command raw v ≡ answered plant table limit first es seat command raw
-  answered_as v none is = λ i. answered_by seat (length es + 1) command raw (verdict_by (sym none i) (is i))
+-- what the debugger says is answered, where nothing bars the command
+pub answered_as : (plant : PlantData) (table : List BreakCondition) (limit : ℕ) (es : List Entry) (seat : ℕ) (command : Command) (raw : ℤ) (v : Verdict) →
+    bar plant table limit es command ≡ None → v ≡ verdict plant table (commands_of es) command raw →
+    answered_by seat (length es + 1) command raw v ≡ answered plant table limit es seat command raw
+answered_as plant table limit es seat command raw v none is = λ i. answered_by seat (length es + 1) command raw (verdict_by (sym none i) (is i))
 
 -- ---- what is known of the debugger
 

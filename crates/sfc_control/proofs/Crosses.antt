@@ -9,7 +9,7 @@ use Rattle.sfc_events.proofs.command.TraceRow.TheSendSync as row
 use Rattle.sfc_debug.proofs.Crosses.{debugger_send}
 use Rattle.sfc_debug.proofs.opening.DebugOpening.TheSendSync as opening
 use Rattle.sfc_control.proofs.history.History.TheSendSync as history
-use Rattle.sfc_control.specs.declared.session.Session.{Ghosts}
+use Rattle.sfc_control.specs.declared.opened_with.OpenedWith.{Ghosts}
 use Rattle.sfc_control.specs.contracts.book.Book as Book
 use Rattle.sfc_control.specs.contracts.locked.Locked as Locked
 use Rattle.sfc_control.specs.contracts.controller.Controller as Controller

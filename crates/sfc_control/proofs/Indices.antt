@@ -1,5 +1,5 @@
 -- Receipts whose indices rise.
-use Rattle.std.proofs.Common.{◌≡◌, ℕ, ◌<◌, List, [], ◌∷◌, ◌++◌, Option, Some, None, refl}
+use Rattle.std.proofs.Common.{◌≡◌, ℕ, ◌<◌, List, [], ◌∷◌, ◌++◌, Option, Some, None, arith}
 use Rattle.sfc_plant.specs.Plants.{PlantData}
 use Rattle.sfc_debug.specs.declared.break_condition.BreakCondition.{BreakCondition}
 use Rattle.sfc_control.specs.declared.receipt.Receipt.{Receipt}
@@ -10,11 +10,7 @@ pub rise_push : (low : ℕ) (rs : List Receipt) (r : Receipt) → Rise low rs �
 rise_push low [] r rises below = (below, tt)
 rise_push low (x ∷ rs) r rises below = (rises.0, rise_push x.index rs r rises.1 below)
 
-pub index_after_push : (low : ℕ) (rs : List Receipt) (r : Receipt) → index_after low (rs ++ r ∷ []) ≡ r.index
-index_after_push low [] r = refl
-index_after_push low (x ∷ rs) r = index_after_push x.index rs r
-
 pub rises_from : (plant : PlantData) (table : List BreakCondition) (last : Option Receipt) (r : Receipt) → BothStand plant table last r →
     last_index last < r.index
-rises_from plant table None r both = both.3
-rises_from plant table (Some q) r both = both.5.1
+rises_from plant table None r both = omega (arith, both.2)
+rises_from plant table (Some q) r both = both.3.1

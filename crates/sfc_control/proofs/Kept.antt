@@ -1,5 +1,5 @@
 -- The receipts that a worker keeps.
-use Rattle.std.proofs.Common.{◌≡◌, ℕ, ◌+◌, ◌<◌, ◌≤◌, List, [], ◌∷◌, ◌++◌, Bool, true, false, cond, All, refl, sym, ◌∙◌, ap, length, length-append, arith}
+use Rattle.std.proofs.Common.{◌≡◌, ℕ, ◌<◌, ◌≤◌, List, [], ◌∷◌, ◌++◌, Bool, true, false, cond, All, None, refl, sym, ◌∙◌, ap, subst, append_assoc, append-nil, arith}
 use Rattle.std.proofs.lemmas.Bool.{le-leb, lt-leb, leb-false}
 use Rattle.std.proofs.lemmas.List.Elements.{All-nil, All-push, All-head, All-tail, filter-append, filter_passes}
 use Rattle.std.proofs.Math.Nat.{max-le}
@@ -7,9 +7,12 @@ use Rattle.std.specs.Prelude.{filter, nat_le, max, Result, Ok, Err, IfOk, OnOk}
 use Rattle.sfc_base.specs.declared.ids.TaskId.{TaskId}
 use Rattle.sfc_events.specs.declared.command.Command.{Command}
 use Rattle.sfc_events.specs.declared.command.Command.TheVariants as commands
+use Rattle.sfc_control.specs.declared.given.AcceptedCall.{AcceptedCall}
 use Rattle.sfc_control.specs.declared.receipt.Receipt.{Receipt}
+use Rattle.sfc_control.specs.Calls.{last_of, receipts_of}
 use Rattle.sfc_control.specs.Holding.{first_after}
-use Rattle.sfc_control.specs.Working.{IsScanOf, Receives, held_from, index_after}
+use Rattle.sfc_control.specs.Working.{IsScanOf, Receives, Rise, held_from, last_index, index_after}
+use Rattle.sfc_control.proofs.Calls.{receipts_push, last_or_more, index_of_last}
 use Rattle.sfc_control.proofs.Indices.{rise_push}
 
 -- nothing is let go where each has the property
@@ -31,21 +34,27 @@ held_twice a b (r ∷ rs) low = by (nat_le a r.index) refl (held_twice a b rs lo
         let below : r.index < b = omega (arith, leb-false a r.index e, low) in
         rest ∙ sym (ap (λ k. cond k (r ∷ held_from b rs) (held_from b rs)) (lt-leb b r.index below))
 
--- a receipt more, behind which those are let go that are no longer held
-abbrev pub receives_push : (number : ℕ) (task : TaskId) (low before after more first later : ℕ) (kept now : List Receipt) (r : Receipt) →
-    (was : Receives number task low before after first kept) → IsScanOf number task r → index_after low was.all < r.index →
-    more ≡ after + 1 → first ≤ later → now ≡ held_from later (kept ++ r ∷ []) → Receives number task low before more later now
-receives_push number task low before after more first later kept now r was scan below counted rises is =
-    let grown : length (was.all ++ r ∷ []) ≡ length was.all + 1 = length-append was.all (r ∷ []) in
+-- an accepted call more, behind which those receipts are let go that are no longer held
+abbrev pub receives_push : (number : ℕ) (task : TaskId) (before after next : List AcceptedCall) (first later : ℕ) (kept now : List Receipt) (call : AcceptedCall) →
+    Receives number task before after first kept → IsScanOf number task call.receipt → last_index (last_of after) < call.receipt.index →
+    next ≡ after ++ call ∷ [] → first ≤ later → now ≡ held_from later (kept ++ call.receipt ∷ []) → Receives number task before next later now
+receives_push number task before after next first later kept now call was scan below put rises is =
+    let r = call.receipt in
+    let all = receipts_of was.more in
+    let low = last_index (last_of before) in
+    let grown : receipts_of (was.more ++ call ∷ []) ≡ all ++ r ∷ [] = receipts_push was.more call in
     let test : Receipt → Bool = λ x. nat_le later x.index in
+    let place : last_index (last_of after) ≡ index_after low all =
+    ap (λ calls. last_index (last_of calls)) was.behind ∙ ap last_index (last_or_more None before was.more) ∙ index_of_last (last_of before) was.more in
+    let above : index_after low all < r.index = subst (λ (k : ℕ). k < r.index) place below in
     record {
-      all = was.all ++ r ∷ [];
-      count = omega (arith, grown, was.count, counted);
-      scans = All-push (IsScanOf number task) was.all r was.scans scan;
-      rising = rise_push low was.all r was.rising below;
+      more = was.more ++ call ∷ [];
+      behind = put ∙ ap (λ calls. calls ++ call ∷ []) was.behind ∙ append_assoc before was.more (call ∷ []);
+      scans = subst (λ (rs : List Receipt). All (IsScanOf number task) rs) (sym grown) (All-push (IsScanOf number task) all r was.scans scan);
+      rising = subst (λ (rs : List Receipt). Rise low rs) (sym grown) (rise_push low all r was.rising above);
       held = is ∙ filter-append test kept (r ∷ [])
-          ∙ ap (λ l. l ++ held_from later (r ∷ [])) (ap (held_from later) was.held ∙ held_twice first later was.all rises)
-          ∙ sym (filter-append test was.all (r ∷ []));
+          ∙ ap (λ l. l ++ held_from later (r ∷ [])) (ap (held_from later) was.held ∙ held_twice first later all rises)
+          ∙ sym (filter-append test all (r ∷ [])) ∙ ap (held_from later) (sym grown);
     }
 
 -- none of those that are kept, and of one more, is from before the first entry that is held
@@ -54,20 +63,21 @@ pub kept_and_one : (first : ℕ) (all kept : List Receipt) (r : Receipt) → kep
 kept_and_one first all kept r is low =
     All-push (λ x. nat_le first x.index ≡ true) kept r (rw is (filter_passes (λ x. nat_le first x.index) all)) (le-leb first r.index low)
 
--- none was let go of a list with none
-abbrev pub receives_none : (number : ℕ) (task : TaskId) (low count first : ℕ) (kept : List Receipt) → kept ≡ [] → Receives number task low count count first kept
-receives_none number task low count first kept none =
-    record { all = []; count = omega arith; scans = All-nil (IsScanOf number task); rising = tt; held = none }
+-- none was let go where none was given
+abbrev pub receives_none : (number : ℕ) (task : TaskId) (calls : List AcceptedCall) (first : ℕ) (kept : List Receipt) → kept ≡ [] →
+    Receives number task calls calls first kept
+receives_none number task calls first kept none =
+    record { more = []; behind = sym (append-nil calls); scans = All-nil (IsScanOf number task); rising = tt; held = none }
 
 -- nothing has changed
-abbrev pub receives_same : (number : ℕ) (task : TaskId) (low before after first other later : ℕ) (kept now : List Receipt) →
-    Receives number task low before after first kept → other ≡ after → later ≡ first → now ≡ kept → Receives number task low before other later now
-receives_same number task low before after first other later kept now was counted at is = record {
-  all = was.all;
-  count = was.count ∙ sym counted;
+abbrev pub receives_same : (number : ℕ) (task : TaskId) (before after other : List AcceptedCall) (first later : ℕ) (kept now : List Receipt) →
+    Receives number task before after first kept → other ≡ after → later ≡ first → now ≡ kept → Receives number task before other later now
+receives_same number task before after other first later kept now was same at is = record {
+  more = was.more;
+  behind = same ∙ was.behind;
   scans = was.scans;
   rising = was.rising;
-  held = is ∙ was.held ∙ ap (λ f. held_from f was.all) (sym at);
+  held = is ∙ was.held ∙ ap (λ f. held_from f (receipts_of was.more)) (sym at);
 }
 
 -- the first entry that is held after an accepted command is no later than the command's own
@@ -95,7 +105,7 @@ met_after command was first next index below low is =
     max-le early (rw is (first_within command first index low))
 
 -- what a seat keeps of a call, by what the book says of it
-pub met_by : {E : Type 0} (res : Result Receipt E) (command : Command) (was now first next : ℕ) → OnOk res (now ≡ max was next) →
-    IfOk res (λ r. next ≡ first_after command first r.index) → IfOk res (λ r. now ≡ max was (first_after command first r.index))
-met_by (Ok r) command was now first next kept is = kept ∙ ap (max was) is
-met_by (Err e) command was now first next kept is = tt
+pub met_by : {E : Type 0} (res : Result Receipt E) (command : Command) (was now first next : ℕ) {cut : ℕ} → first ≡ cut → OnOk res (now ≡ max was next) →
+    IfOk res (λ r. next ≡ first_after command first r.index) → IfOk res (λ r. now ≡ max was (first_after command cut r.index))
+met_by (Ok r) command was now first next at kept is = kept ∙ ap (max was) (is ∙ ap (λ n. first_after command n r.index) at)
+met_by (Err e) command was now first next at kept is = tt

@@ -7,6 +7,10 @@ pub mod Applying
 pub mod FeedRows
 -- what an epoch cuts
 pub mod Cutting
+-- where a history is cut
+pub mod Cuts
+-- the accepted calls of a seat
+pub mod Calls
 -- receipts of a history that grows
 pub mod Standing
 -- the first item without a property
@@ -21,3 +25,7 @@ pub mod Manned
 pub mod Overlapping
 -- which values may go to another thread
 pub mod Crosses
+-- What the crates above name through this one.
+pub use Rattle.sfc_debug.proofs as of_sfc_debug
+pub use Rattle.sfc_debug.proofs.of_sfc_instances as of_sfc_instances
+pub use Rattle.sfc_debug.proofs.of_sfc_tasks as of_sfc_tasks

@@ -2,8 +2,10 @@
 use Rattle.std.proofs.Common.{◌≡◌, ℕ, ◌+◌, ◌<◌, List, [], ◌∷◌, ◌++◌, refl, sym, subst, length, length-append, arith, below_more}
 use Rattle.std.proofs.lemmas.List.{get_or_append_left, get_or_push}
 use Rattle.std.specs.Prelude.{slice_index_or}
+use Rattle.sfc_base.specs.declared.ids.TaskId.{TaskId}
 use Rattle.sfc_control.specs.declared.post.Post.{Post}
 use Rattle.sfc_control.specs.declared.post.EndOf.{EndOf}
+use Rattle.sfc_control.specs.declared.seat.Seat.{Seat}
 use Rattle.sfc_control.specs.declared.work.WorkerEnd.{WorkerEnd}
 use Rattle.sfc_control.specs.Ends.{IsEndOf}
 use Rattle.sfc_control.specs.Manning.{IsEndFor, AreEndsFor}
@@ -33,7 +35,8 @@ module _ {X G C : Type 0} where
       )
 
   -- what keeps a post's promise is an end for the post
-  pub kept_for : (post : Post X G C) (made kept : EndOf) (end : WorkerEnd X) → kept ≡ made → (made.task ≡ post.task) × (made.number ≡ post.seat.number) × (made.calls ≡ post.seat.calls) × (made.last ≡ post.seat.last) → IsEndOf kept.task kept.number kept.calls kept.last end → IsEndFor post end
-  kept_for post made kept end same of is =
-      let at : IsEndOf made.task made.number made.calls made.last end = subst (λ (p : EndOf). IsEndOf p.task p.number p.calls p.last end) same is in
-      subst (λ (p : EndOf). IsEndOf p.task p.number p.calls p.last end) (λ i. record { task = of.0 i; number = of.1 i; calls = of.2 i; last = of.3 i }) at
+  pub kept_for : (post : Post X G C) (made kept : EndOf X) (end : WorkerEnd X) → kept ≡ made → made.task ≡ post.task → made.seat.value ≡ post.seat →
+      IsEndOf kept.task kept.seat.value end → IsEndFor post end
+  kept_for post made kept end same task seat is =
+      let at : IsEndOf made.task made.seat.value end = subst (λ (p : EndOf X). IsEndOf p.task p.seat.value end) same is in
+      subst (λ (t : TaskId). IsEndOf t post.seat end) task (subst (λ (s : Seat X). IsEndOf made.task s end) seat at)

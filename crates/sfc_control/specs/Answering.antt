@@ -13,7 +13,7 @@ use Rattle.sfc_debug.specs.States.{state_of}
 use Rattle.sfc_debug.specs.Verdict.{verdict, verdict_by}
 use Rattle.sfc_control.specs.declared.entry.Entry.{Entry}
 use Rattle.sfc_control.specs.declared.receipt.Receipt.{Receipt}
-use Rattle.sfc_control.specs.Holding.{held_number, is_full}
+use Rattle.sfc_control.specs.Holding.{held_number, is_full, first_in}
 use Rattle.sfc_control.specs.LegalHistory.{commands_of}
 use Rattle.sfc_control.specs.Receipts.{receipt_of}
 
@@ -25,14 +25,14 @@ mode_of plant table h = (state_of plant table h).clock.mode
 abbrev pub bar_by : Bool → Bool → Option Refusal
 bar_by ended full = cond ended (Some Ended) (cond full (Some HistoryFull) None)
 
-abbrev pub bar : PlantData → List BreakCondition → ℕ → ℕ → List Entry → Command → Option Refusal
-bar plant table limit first es command =
-    bar_by (is_ended (mode_of plant table (commands_of es))) (is_full limit (held_number first (length es)) command)
+abbrev pub bar : PlantData → List BreakCondition → ℕ → List Entry → Command → Option Refusal
+bar plant table limit es command =
+    bar_by (is_ended (mode_of plant table (commands_of es))) (is_full limit (held_number (first_in es) (length es)) command)
 
--- after these entries, of which those from an index on are held
-abbrev pub book_verdict : PlantData → List BreakCondition → ℕ → ℕ → List Entry → Command → ℤ → Result Answer Refusal
-book_verdict plant table limit first es command raw =
-    verdict_by (bar plant table limit first es command) (verdict plant table (commands_of es) command raw)
+-- after all entries that were ever accepted, of which those from the cut on are held
+abbrev pub book_verdict : PlantData → List BreakCondition → ℕ → List Entry → Command → ℤ → Result Answer Refusal
+book_verdict plant table limit es command raw =
+    verdict_by (bar plant table limit es command) (verdict plant table (commands_of es) command raw)
 
 abbrev pub answered_by : ℕ → ℕ → Command → ℤ → Result Answer Refusal → Result Receipt Refusal
 answered_by seat index command raw (Ok answer) =
@@ -40,7 +40,6 @@ answered_by seat index command raw (Ok answer) =
 answered_by seat index command raw (Err refusal) = Err refusal
 
 -- to a seat, whose receipt has the next index
-abbrev pub answered : PlantData → List BreakCondition → ℕ → ℕ → List Entry → ℕ → Command → ℤ →
-    Result Receipt Refusal
-answered plant table limit first es seat command raw =
-    answered_by seat (length es + 1) command raw (book_verdict plant table limit first es command raw)
+abbrev pub answered : PlantData → List BreakCondition → ℕ → List Entry → ℕ → Command → ℤ → Result Receipt Refusal
+answered plant table limit es seat command raw =
+    answered_by seat (length es + 1) command raw (book_verdict plant table limit es command raw)

@@ -20,8 +20,8 @@ module _ {X : Type 0} where
   CountsRight es seat = seat.calls ≡ calls_in es seat.number
 
   -- each receipt stands, and each seat's count is right
-  abbrev pub AllRight : ℕ → List Entry → List (Seat X) → List Receipt → Type 0
-  AllRight first es seats receipts = All (Stands first es) receipts × All (CountsRight es) seats
+  abbrev pub AllRight : List Entry → List (Seat X) → List Receipt → Type 0
+  AllRight es seats receipts = All (Stands es) receipts × All (CountsRight es) seats
 
   -- the first seat whose count is wrong
   abbrev pub IsFirstMiscounted : List Entry → List (Seat X) → ℕ → Type 0
@@ -29,11 +29,11 @@ module _ {X : Type 0} where
       (k : ℕ) × (seat : Seat X) × IsFirstNot (CountsRight es) seats k seat × (seat.number ≡ number)
 
   -- the first receipt that doesn't stand, or else with index 0 the first seat whose count is wrong
-  abbrev pub IsFirstWrong : ℕ → List Entry → List (Seat X) → List Receipt → ℕ → ℕ → Type 0
-  IsFirstWrong first es seats receipts number index =
-      ((k : ℕ) × (receipt : Receipt) × IsFirstNot (Stands first es) receipts k receipt ×
+  abbrev pub IsFirstWrong : List Entry → List (Seat X) → List Receipt → ℕ → ℕ → Type 0
+  IsFirstWrong es seats receipts number index =
+      ((k : ℕ) × (receipt : Receipt) × IsFirstNot (Stands es) receipts k receipt ×
       (receipt.seat ≡ number) × (receipt.index ≡ index))
-      ⊎ (All (Stands first es) receipts × IsFirstMiscounted es seats number × (index ≡ 0))
+      ⊎ (All (Stands es) receipts × IsFirstMiscounted es seats number × (index ≡ 0))
 
   abbrev pub all_calls : List (Seat X) → ℕ
   all_calls seats = sum_by (λ seat. seat.calls) seats

@@ -1,5 +1,5 @@
 -- Which entries of a list are held: those since the latest epoch, which is the first of them.
-use Rattle.std.specs.Prelude.{ℕ, ◌+◌, ◌-◌, ◌==◌, nat_le, Bool, List, [], ◌∷◌, ◌++◌, count_by}
+use Rattle.std.specs.Prelude.{ℕ, ◌+◌, ◌-◌, ◌==◌, nat_le, Bool, List, [], ◌∷◌, ◌++◌, count_by, length, reverse}
 use Rattle.sfc_events.specs.declared.command.Command.{Command}
 use Rattle.sfc_events.specs.declared.command.Command.TheVariants.{Epoch}
 use Rattle.sfc_control.specs.declared.entry.Entry.{Entry}
@@ -21,6 +21,16 @@ held_after _ es e = es ++ e ∷ []
 abbrev pub first_after : Command → ℕ → ℕ → ℕ
 first_after Epoch first index = index
 first_after _ first index = first
+
+-- Where a history is cut, its entries the newest first: at its latest epoch, whose index is one more than there are entries before it; at 1
+-- where it has none.
+abbrev pub first_newest : List Entry → ℕ
+first_newest [] = 1
+first_newest (e ∷ es) = first_after e.command (first_newest es) (length es + 1)
+
+-- Where a history is cut, its entries the oldest first: the index of the first entry that is held.
+unfoldable pub first_in : List Entry → ℕ
+first_in es = first_newest (reverse es)
 
 -- how many entries stand under a seat's number
 abbrev pub calls_in : List Entry → ℕ → ℕ

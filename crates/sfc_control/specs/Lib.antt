@@ -2,10 +2,10 @@
 
 -- which lists of entries are legal histories
 pub mod LegalHistory
--- what a caller keeps of an accepted command
-pub mod Receipts
 -- which entries are held
 pub mod Holding
+-- what a caller keeps of an accepted command
+pub mod Receipts
 -- the numbers of seats
 pub mod Counts
 -- what contracts see of a history
@@ -22,6 +22,8 @@ pub mod Tails
 pub mod Books
 -- what contracts see of what lies under the lock
 pub mod Lock
+-- the accepted calls of a seat
+pub mod Calls
 -- what contracts see of a seat
 pub mod Seats
 -- what is found at the close
@@ -34,3 +36,6 @@ pub mod Ends
 pub mod Manning
 -- ---- what private clauses cite
 pub mod Private
+-- What the crates above name through this one.
+pub use Rattle.sfc_debug.specs.sfc_core as sfc_core
+pub use Rattle.sfc_debug.specs as sfc_debug

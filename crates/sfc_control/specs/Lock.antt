@@ -2,7 +2,7 @@
 use Rattle.std.specs.Prelude.{ℕ}
 use Rattle.sfc_control.specs.declared.book.Book.{Book}
 use Rattle.sfc_control.specs.declared.locked.Locked.{Locked}
-use Rattle.sfc_control.specs.declared.session.Session.{Ghosts}
+use Rattle.sfc_control.specs.declared.opened_with.OpenedWith.{Ghosts}
 
 module _ {X : Type 0} {g : Ghosts X} where
   abbrev pub book_of : Locked X g → Book

@@ -3,11 +3,10 @@ use Rattle.std.specs.Prelude.{ℕ, ◌≡◌, ◌<◌, List, length, slice_index
 use Rattle.sfc_control.specs.declared.post.Post.{Post}
 use Rattle.sfc_control.specs.declared.work.WorkerEnd.{WorkerEnd}
 use Rattle.sfc_control.specs.Ends.{IsEndOf}
-use Rattle.sfc_control.specs.Seats.{number, calls, last_receipt}
 
 module _ {X G C : Type 0} where
   abbrev pub IsEndFor : Post X G C → WorkerEnd X → Type 0
-  IsEndFor post end = IsEndOf post.task (number post.seat) (calls post.seat) (last_receipt post.seat) end
+  IsEndFor post end = IsEndOf post.task post.seat end
 
   -- one end for each post, in order
   abbrev pub AreEndsFor : List (Post X G C) → List (WorkerEnd X) → Type 0

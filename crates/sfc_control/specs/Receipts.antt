@@ -3,6 +3,7 @@ use Rattle.std.specs.Prelude.{ℕ, ◌≡◌, ◌-◌, ◌<◌, ◌≤◌, List,
 use Rattle.sfc_events.specs.declared.command.Command.{Command}
 use Rattle.sfc_control.specs.declared.entry.Entry.{Entry}
 use Rattle.sfc_control.specs.declared.receipt.Receipt.{Receipt}
+use Rattle.sfc_control.specs.Holding.{first_in}
 
 abbrev pub entry_of : Receipt → Entry
 entry_of r = record { seat = r.seat; command = r.command; raw = r.raw; answer = r.answer }
@@ -18,7 +19,6 @@ IsReceiptOf r seat command raw = (r.seat ≡ seat) × (r.command ≡ command) ×
 abbrev pub IsAt : List Entry → Receipt → Type 0
 IsAt es r = slice_get es (r.index - 1) ≡ Some (entry_of r)
 
--- A receipt from before the first entry that is held isn't compared; any other stands where its entry is at its index. The entries are
--- all that were ever accepted, and first is an index.
-abbrev pub Stands : ℕ → List Entry → Receipt → Type 0
-Stands first es r = (0 < r.index) × (first ≤ r.index → IsAt es r)
+-- A receipt from before the cut isn't compared; any other stands where its entry is at its index. The entries are all that were ever accepted.
+abbrev pub Stands : List Entry → Receipt → Type 0
+Stands es r = (0 < r.index) × (first_in es ≤ r.index → IsAt es r)

@@ -1,8 +1,10 @@
 -- What a worker's receipts are.
-use Rattle.std.specs.Prelude.{ℕ, ◌≡◌, ◌<◌, ◌+◌, nat_le, List, [], ◌∷◌, All, filter, length, Option, Some, None, ⊤}
+use Rattle.std.specs.Prelude.{ℕ, ◌≡◌, ◌<◌, nat_le, List, [], ◌∷◌, ◌++◌, All, filter, Option, Some, None, ⊤}
 use Rattle.sfc_base.specs.declared.ids.TaskId.{TaskId}
 use Rattle.sfc_events.specs.declared.command.Command.TheVariants.{Scan}
+use Rattle.sfc_control.specs.declared.given.AcceptedCall.{AcceptedCall}
 use Rattle.sfc_control.specs.declared.receipt.Receipt.{Receipt}
+use Rattle.sfc_control.specs.Calls.{last_of, receipts_of}
 
 -- a scan of the task, from the seat
 abbrev pub IsScanOf : ℕ → TaskId → Receipt → Type 0
@@ -25,11 +27,11 @@ index_after low (receipt ∷ receipts) = index_after receipt.index receipts
 abbrev pub held_from : ℕ → List Receipt → List Receipt
 held_from first receipts = filter (λ receipt. nat_le first receipt.index) receipts
 
--- The receipts of a seat's accepted scans of a task: as many as it has counted since, with rising indices. Those from
--- before the first entry that is held are let go, since nothing compares them, and all others are kept.
-pub record Receives (number : ℕ) (task : TaskId) (low before after first : ℕ) (kept : List Receipt) : Type 0 where
-  pub all : List Receipt
-  pub count : length all + before ≡ after
-  pub scans : All (IsScanOf number task) all
-  pub rising : Rise low all
-  pub held : kept ≡ held_from first all
+-- What a worker keeps of the calls of its seat that were accepted since those before: each is a scan of the task, with rising indices. The
+-- receipts from before the first entry that is held are let go, since nothing compares them, and all others are kept.
+pub record Receives (number : ℕ) (task : TaskId) (before after : List AcceptedCall) (first : ℕ) (kept : List Receipt) : Type 0 where
+  pub more : List AcceptedCall
+  pub behind : after ≡ before ++ more
+  pub scans : All (IsScanOf number task) (receipts_of more)
+  pub rising : Rise (last_index (last_of before)) (receipts_of more)
+  pub held : kept ≡ held_from first (receipts_of more)

@@ -8,6 +8,7 @@ ghost use Rattle.sfc_debug.specs.Openings.{IsOpeningFor, past_of};
 ghost use Rattle.sfc_debug.specs.Past.{debug_past};
 ghost use Rattle.sfc_debug.proofs.Openings.{opening_prop};
 ghost use Rattle.sfc_control.specs.Histories.{whole, first_of};
+ghost use Rattle.sfc_control.specs.Holding.{first_in};
 ghost use Rattle.sfc_control.specs.LegalHistory.{IsLegal, commands_of};
 ghost use Rattle.sfc_control.specs.Rows.{IsRow, Rise};
 
@@ -34,6 +35,7 @@ pub struct Book {
     opening: DebugOpening,
     history: History,
     pub(crate) feed: Producer<TraceRow, Global, Rising>,
+    pub ghost cut: { first_of history ≡ first_in (whole history) },
     pub ghost legal: { IsLegal (plant_of debugger) (table_of debugger) (whole history) } by { Prim.hlevel props },
     ghost agrees: { ∥ Agrees debugger (commands_of (whole history)) ∥₁ },
     ghost fits: { IsOpeningFor (plant_of debugger) opening } by { opening_prop (plant_of debugger) opening },
@@ -106,7 +108,7 @@ impl Book {
 
     /// Whether the receipt stands: its index is that of an entry that was dropped, or the entry at its index is the receipt's.
     pub fn stands(&self, receipt: &Receipt) -> bool
-        ensures { IsTrue result ↔ Stands (first self.now) (accepted self.now) receipt.now }
+        ensures { IsTrue result ↔ Stands (accepted self.now) receipt.now }
     {
         self.history.stands(receipt)
     }
@@ -152,7 +154,7 @@ impl Book {
 
     // Why the command isn't looked at.
     fn bar(&self, command: Command) -> Option<Refusal>
-        ensures { result ≡ bar (plant self.now) (table self.now) (limit self.now) (first self.now) (accepted self.now) command }
+        ensures { result ≡ bar (plant self.now) (table self.now) (limit self.now) (accepted self.now) command }
     {
         match self.debugger.mode() {
             Mode::Ended => Some(Refusal::Ended),
@@ -182,7 +184,7 @@ impl Book {
     ) -> Result<Receipt, Refusal>
         requires { seat < 24 }
         ensures answer { result ≡
-            answered (plant self.old) (table self.old) (limit self.old) (first self.old) (accepted self.old) seat command raw }
+            answered (plant self.old) (table self.old) (limit self.old) (accepted self.old) seat command raw }
         ensures accepted { IfOk result (λ receipt. accepted self.new ≡ accepted self.old ++ entry_of receipt ∷ []) }
         ensures entries { IfOk result (λ receipt. entries self.new ≡ held_after command (entries self.old) (entry_of receipt)) }
         ensures first { IfOk result (λ receipt. first self.new ≡ first_after command (first self.old) receipt.index) }

@@ -3,15 +3,15 @@
 ghost use Rattle.std.specs.Prelude.{◌≡◌, ◌<◌, ℕ, All, length, MatchOption, IfOk, IfErr};
 ghost use Rattle.sfc_control.specs.Receipts.{Stands};
 ghost use Rattle.sfc_control.specs.Books as books;
-ghost use Rattle.sfc_control.specs.Books.{accepted, first};
+ghost use Rattle.sfc_control.specs.Books.{accepted};
 ghost use Rattle.sfc_control.specs.Closing.{IsFirstNot, CountsRight, AllRight, IsFirstMiscounted, IsFirstWrong, all_calls};
 
 use crate::book::Book;
 use crate::controller::Controller;
 use crate::locked::Locked;
+use crate::opened_with::OpenedWith;
 use crate::receipt::Receipt;
 use crate::seat::Seat;
-use crate::session::Session;
 use std::sync::ledger;
 use std::sync::ledger::Ledger;
 
@@ -29,8 +29,8 @@ pub struct CloseError {
 
 // The first receipt that does not stand.
 fn first_fallen(book: &Book, receipts: &[Receipt]) -> Option<Receipt>
-    ensures { MatchOption result (All (Stands (first book.now) (accepted book.now)) receipts.now)
-        (λ receipt. (k : ℕ) × IsFirstNot (Stands (first book.now) (accepted book.now)) receipts.now k receipt) }
+    ensures { MatchOption result (All (Stands (accepted book.now)) receipts.now)
+        (λ receipt. (k : ℕ) × IsFirstNot (Stands (accepted book.now)) receipts.now k receipt) }
 {
     for receipt in receipts {
         if !book.stands(receipt) {
@@ -68,6 +68,7 @@ fn settle<L: Ledger>(total: &mut ledger::Book<L>, seats: Vec<Seat<L>>)
         calls: _,
         last: _,
         first: _,
+        given: _,
         share: mut all,
     } = last;
     while let Some(seat) = seats.pop() {
@@ -76,6 +77,7 @@ fn settle<L: Ledger>(total: &mut ledger::Book<L>, seats: Vec<Seat<L>>)
             calls: _,
             last: _,
             first: _,
+            given: _,
             share,
         } = seat;
         all.merge(share);
@@ -83,7 +85,7 @@ fn settle<L: Ledger>(total: &mut ledger::Book<L>, seats: Vec<Seat<L>>)
     total.audit(&mut all);
 }
 
-impl<L: Session> Controller<L> {
+impl<L: OpenedWith> Controller<L> {
     /// Gives the book back where each of the receipts stands in it and each seat's count is the number of entries under its number,
     /// dropped ones among them; else says what is wrong first, and gives the book back too. All seats are handed back. Controller and
     /// seats are given up.
@@ -94,9 +96,8 @@ impl<L: Session> Controller<L> {
         ensures table { IfOk result (λ book. books.table book ≡ L.table) }
         ensures mask { IfOk result (λ book. books.mask book ≡ L.mask) }
         ensures limit { IfOk result (λ book. books.limit book ≡ L.limit) }
-        ensures ok { IfOk result (λ book. AllRight (first book) (accepted book) seats.items receipts.items) }
-        ensures err { IfErr result (λ wrong. IsFirstWrong (first wrong.book) (accepted wrong.book) seats.items receipts.items
-            wrong.seat wrong.index) }
+        ensures ok { IfOk result (λ book. AllRight (accepted book) seats.items receipts.items) }
+        ensures err { IfErr result (λ wrong. IsFirstWrong (accepted wrong.book) seats.items receipts.items wrong.seat wrong.index) }
         ensures sum_ok { IfOk result (λ book. length (accepted book) ≡ all_calls seats.items) }
         ensures sum_err { IfErr result (λ wrong. length (accepted wrong.book) ≡ all_calls seats.items) }
     {

@@ -7,9 +7,10 @@ ghost use Rattle.sfc_control.specs.Seats.{AreFresh};
 ghost use Rattle.sfc_control.specs.Tails.{taken, capacity};
 
 use crate::book::Book;
+use crate::given::Given;
 use crate::locked::Locked;
+use crate::opened_with::OpenedWith;
 use crate::seat::Seat;
-use crate::session::Session;
 use crate::tail::Tail;
 use sfc_debug::debugger::Debugger;
 use std::alloc::{AllocError, Global};
@@ -18,12 +19,12 @@ use std::sync::{Mutex, ledger};
 
 /// A book under a lock, which the seats that it handed out share.
 #[derive(Drop)]
-pub struct Controller<L: Session> {
+pub struct Controller<L: OpenedWith> {
     pub(crate) locked: Mutex<Locked<L>>,
 }
 
 // The book under a ledger that has counted nothing.
-fn locked<L: Session>(book: Book, total: ledger::Book<L>) -> Locked<L>
+fn locked<L: OpenedWith>(book: Book, total: ledger::Book<L>) -> Locked<L>
     requires empty { books.accepted book ≡ [] }
     requires total { total.total ≡ 0 }
     requires plant { books.plant book ≡ L.plant }
@@ -50,13 +51,14 @@ fn seats_of<L: Ledger>(alloc: Global, all: Share<L>, count: u8) -> Result<Vec<Se
             calls: 0,
             last: None,
             first: 0,
+            given: Given::new(),
             share,
         })?;
     }
     Ok(seats)
 }
 
-impl<L: Session> Controller<L> {
+impl<L: OpenedWith> Controller<L> {
     /// A controller over a debugger that has accepted nothing, with its seats, from 1 to 24, and the end of its feed that takes rows.
     /// So many entries may be held, from 1 to 1,048,576; the feed has room for so many rows, from 1 to 65,536. The one error is that
     /// memory was refused, and then the debugger is given up.

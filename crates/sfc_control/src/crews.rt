@@ -2,24 +2,23 @@
 
 ghost use Rattle.std.specs.Prelude.{◌≡◌, IfOk, length, [], ◌∷◌, ◌++◌};
 ghost use Rattle.std.specs.Thread.{IsSync};
-ghost use Rattle.sfc_control.specs.Ends.{IsEndOf};
 ghost use Rattle.sfc_control.specs.Manning.{IsEndFor, AreEndsFor};
-ghost use Rattle.sfc_control.specs.Seats as seats;
 
 use crate::clock::Clock;
 use crate::controller::Controller;
 use crate::gate::Gate;
+use crate::opened_with::OpenedWith;
 use crate::post::{EndOf, Post};
-use crate::session::Session;
 use crate::work::{WorkerEnd, worker};
 use std::alloc::{AllocError, Global};
+use std::snapshot::Snapshot;
 use std::sync::Wait;
 use std::sync::ledger::Ledger;
 use std::thread;
 use std::thread::Threads;
 
 // The worker of a post.
-fn manned<L: Session, R: Wait, G: Gate + Drop, C: Clock + Drop>(
+fn manned<L: OpenedWith, R: Wait, G: Gate + Drop, C: Clock + Drop>(
     rt: &R,
     alloc: Global,
     controller: &Controller<L>,
@@ -37,21 +36,19 @@ fn manned<L: Session, R: Wait, G: Gate + Drop, C: Clock + Drop>(
 }
 
 // What the end of the post's worker has to be.
-fn promise_of<L: Ledger, G: Gate, C: Clock>(post: &Post<L, G, C>) -> EndOf
-    ensures { (result.task ≡ post.now.task) × (result.number ≡ seats.number post.now.seat)
-        × (result.calls ≡ seats.calls post.now.seat) × (result.last ≡ seats.last_receipt post.now.seat) }
+fn promise_of<L: Ledger, G: Gate, C: Clock>(post: &Post<L, G, C>) -> EndOf<L>
+    ensures task { result.task ≡ post.now.task }
+    ensures seat { result.seat.value ≡ post.now.seat }
 {
     EndOf {
         task: post.task,
-        number: post.seat.number,
-        calls: post.seat.calls,
-        last: post.seat.last,
+        seat: Snapshot::of(&post.seat),
     }
 }
 
 // Starts a thread for the last post, does the rest, and then joins.
 fn crew_of<
-    L: Session + Send + Sync,
+    L: OpenedWith + Send + Sync,
     R: Threads + Wait + Sync,
     G: Gate + Drop + Send,
     C: Clock + Drop + Send,
@@ -91,7 +88,7 @@ fn crew_of<
 /// A worker for each post, in a thread of its own, all of which are joined. The ends stand in the posts' order. The one error is that
 /// memory or a thread was refused: the workers that were started are joined, and the seats are given up.
 pub fn crew<
-    L: Session + Send + Sync,
+    L: OpenedWith + Send + Sync,
     R: Threads + Wait + Sync,
     G: Gate + Drop + Send,
     C: Clock + Drop + Send,

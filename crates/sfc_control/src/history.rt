@@ -3,7 +3,7 @@
 ghost use Rattle.std.specs.Prelude.{◌≡◌, ◌≤◌, ◌<◌, ◌+◌, ◌-◌, ◌^◌, ℕ, length, vec_capacity, drop};
 ghost use Rattle.std.proofs.Props.{props};
 ghost use Rattle.sfc_control.specs.Counts.{count_in};
-ghost use Rattle.sfc_control.specs.Holding.{calls_in};
+ghost use Rattle.sfc_control.specs.Holding.{calls_in, first_in};
 
 use crate::accepted::Accepted;
 use crate::entry::Entry;
@@ -24,6 +24,7 @@ pub struct History {
     ghost room: { limit ≤ vec_capacity entries },
     ghost within: { length entries.items ≤ limit },
     ghost some: { 0 < first },
+    ghost cut: { first ≡ first_in accepted.entries },
     ghost placed: { length entries.items + first ≡ length accepted.entries + 1 },
     ghost held: { entries.items ≡ drop (first - 1) accepted.entries } by { Prim.hlevel props },
     ghost counted: { (k : ℕ) → count_in counts k ≡ calls_in accepted.entries k },
@@ -43,11 +44,12 @@ ghost use Rattle.sfc_control.specs.Holding as holding;
 
 impl History {
     ghost use Rattle.std.specs.Prelude.{[], ◌∷◌, ◌++◌, false, IfOk, OnOk, OnErr, IsTrue, ◌↔◌};
-    ghost use Rattle.sfc_control.specs.Holding.{held_number, held_after, first_after};
+    ghost use Rattle.sfc_control.specs.Holding.{held_number, held_after, first_after, first_in};
     ghost use Rattle.sfc_control.specs.Receipts.{Stands};
     ghost use Rattle.sfc_control.specs.Histories.{whole, held, first_of, limit_of};
 
     /// With no entry, and limit 0. The one error is that memory was refused.
+    #[tactic(auto, using(crate::proofs::Cuts::first_in_none))]
     pub fn new(alloc: Global) -> Result<History, AllocError>
         ensures whole { IfOk result (λ history. whole history ≡ []) }
         ensures held { IfOk result (λ history. held history ≡ []) }
@@ -80,14 +82,16 @@ impl History {
 
     /// Whether the limit leaves no room for the command's entry.
     pub fn is_full(&self, command: Command) -> bool
-        ensures { result ≡ holding.is_full (limit_of self.now) (held_number (first_of self.now) (length (whole self.now))) command }
+        ensures { result ≡ holding.is_full (limit_of self.now) (held_number (first_in (whole self.now)) (length (whole self.now))) command }
     {
         is_full(self.limit, self.entries.len(), command)
     }
 
     // One entry behind the others.
+    #[tactic(auto, using(crate::proofs::Cuts::cut_stays, crate::proofs::Cuts::calls_push, std::proofs::lemmas::Grind::common_steps))]
     fn append(&mut self, entry: Entry)
         requires seat { entry.seat < 24 }
+        requires other { entry.command ≡ Command.Epoch → ⊥ }
         requires room { length (held self.old) < limit_of self.old }
         requires count { length (whole self.old) < 2 ^ 64 - 1 }
         ensures whole { whole self.new ≡ whole self.old ++ entry ∷ [] }
@@ -101,8 +105,10 @@ impl History {
     }
 
     // The others are dropped, and the epoch is the first.
+    #[tactic(auto, using(crate::proofs::Cuts::cut_moves, crate::proofs::Cuts::calls_push, std::proofs::lemmas::Grind::common_steps))]
     fn begin(&mut self, epoch: Entry, index: u64)
         requires seat { epoch.seat < 24 }
+        requires epoch { epoch.command ≡ Command.Epoch }
         requires room { 0 < limit_of self.old }
         requires index { index ≡ length (whole self.old) + 1 }
         ensures whole { whole self.new ≡ whole self.old ++ epoch ∷ [] }
@@ -120,7 +126,7 @@ impl History {
     /// One entry more, which stands at the index. An epoch drops those before it.
     pub fn push(&mut self, entry: Entry, index: u64)
         requires seat { entry.seat < 24 }
-        requires room { holding.is_full (limit_of self.old) (held_number (first_of self.old) (length (whole self.old)))
+        requires room { holding.is_full (limit_of self.old) (held_number (first_in (whole self.old)) (length (whole self.old)))
             entry.command ≡ false }
         requires index { index ≡ length (whole self.old) + 1 }
         ensures whole { whole self.new ≡ whole self.old ++ entry ∷ [] }
@@ -136,7 +142,7 @@ impl History {
 
     /// Whether the receipt's entry stands at its index, or is from before the first one held.
     pub fn stands(&self, receipt: &Receipt) -> bool
-        ensures { IsTrue result ↔ Stands (first_of self.now) (whole self.now) receipt.now }
+        ensures { IsTrue result ↔ Stands (whole self.now) receipt.now }
     {
         if receipt.index < self.first {
             return 0 < receipt.index;

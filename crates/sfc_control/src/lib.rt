@@ -10,11 +10,12 @@
 //! - `entry`, `receipt`: what is entered, and what a caller keeps of it.
 //! - `feed`, `tail`: where accepted commands are published, and the end that takes rows.
 //! - `gate`: what lets a worker go on.
+//! - `given`: the accepted calls of a seat, which proofs alone read.
 //! - `laws`: what holds of a book and its tail in one hand, and of what an epoch drops.
 //! - `locked`: what lies under the lock.
 //! - `post`: where a worker sits.
 //! - `seat`: a place at a controller.
-//! - `session`: what a controller is opened with.
+//! - `opened_with`: what a controller is opened with.
 //! - `telling`: a debugger that is told a command, where an epoch is kept.
 //! - `work`: a worker, which scans one task.
 #![tactic(auto)]
@@ -29,14 +30,19 @@ pub mod crews;
 pub mod entry;
 mod feed;
 pub mod gate;
+mod given;
 mod history;
 pub mod laws;
 pub mod locked;
+pub mod opened_with;
 pub mod post;
 pub mod receipt;
 pub mod seat;
 mod seat_counts;
-pub mod session;
 pub mod tail;
 mod telling;
 pub mod work;
+
+// What the crates above name through this one.
+pub use sfc_debug;
+pub use sfc_debug::sfc_core;

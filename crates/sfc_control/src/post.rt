@@ -4,10 +4,10 @@ ghost use Rattle.sfc_control.specs.Ends.{IsEndOf};
 
 use crate::clock::Clock;
 use crate::gate::Gate;
-use crate::receipt::Receipt;
 use crate::seat::Seat;
 use crate::work::WorkerEnd;
 use sfc_base::ids::TaskId;
+use std::snapshot::Snapshot;
 use std::sync::ledger::Ledger;
 use std::thread::Promise;
 
@@ -25,14 +25,12 @@ pub struct Post<L: Ledger, G: Gate, C: Clock> {
 }
 
 // What the end of a post's worker has to be.
-#[derive(Clone, Copy)]
-pub struct EndOf {
+#[derive(Drop)]
+pub struct EndOf<L: Ledger> {
     pub task: TaskId,
-    pub number: u8,
-    pub calls: u64,
-    pub last: Option<Receipt>,
+    pub seat: Snapshot<Seat<L>>,
 }
 
-impl<L: Ledger> Promise<WorkerEnd<L>> for EndOf {
-    ghost kept_by = { λ promise end. IsEndOf promise.task promise.number promise.calls promise.last end };
+impl<L: Ledger> Promise<WorkerEnd<L>> for EndOf<L> {
+    ghost kept_by = { λ promise end. IsEndOf promise.task promise.seat.value end };
 }

@@ -1,50 +1,56 @@
 //! A place at a controller.
 
-ghost use Rattle.std.specs.Prelude.{◌≡◌, ◌<◌, ◌≤◌};
+ghost use Rattle.std.specs.Prelude.{◌≡◌, ◌<◌, ◌≤◌, length};
+ghost use Rattle.std.proofs.Props.{props};
+ghost use Rattle.sfc_control.specs.Calls.{last_of, latest_cut};
 ghost use Rattle.sfc_control.specs.Working.{last_index};
 
 use crate::book::Book;
 use crate::call_error::CallError;
 use crate::clock::Clock;
 use crate::controller::Controller;
+use crate::given::{AcceptedCall, Given};
 use crate::locked::Locked;
+use crate::opened_with::OpenedWith;
 use crate::receipt::Receipt;
-use crate::session::Session;
 use sfc_base::ticks::Ticks;
 use sfc_events::command::Command;
 use std::sync::Wait;
 use std::sync::ledger::{Ledger, Share};
 
 /// A place at the controller that handed it out: its number, the number of its accepted calls, its last receipt, the index of the first
-/// entry that was held when it was given, and its part of the ledger.
+/// entry that was held when it was given, and its part of the ledger. Proofs see all its accepted calls besides, to which the others are held.
 #[derive(Drop)]
 pub struct Seat<L: Ledger> {
     pub(crate) number: u8,
     pub(crate) calls: u64,
     pub(crate) last: Option<Receipt>,
     pub(crate) first: u64,
+    pub(crate) given: Given,
     pub(crate) share: Share<L>,
     pub ghost known: { number < 24 },
     pub ghost one_part: { share.parts ≡ 1 },
     pub ghost counted: { share.amount ≡ calls },
+    pub ghost numbered: { calls ≡ length given.calls },
+    pub ghost latest: { last ≡ last_of given.calls } by { Prim.hlevel props },
+    pub ghost cut: { first ≡ latest_cut given.calls },
     pub ghost met: { first ≤ last_index last },
 }
 
-impl<L: Session> Seat<L> {
-    ghost use Rattle.std.specs.Prelude.{[], ◌∷◌, ◌++◌, ◌+◌, ◌-◌, Some, Err, IfOk, OnOk, OnErr};
-    ghost use Rattle.std.specs.Prelude.{ℤ, ℕ, List, IsTrue, ◌↔◌, length, max};
+impl<L: OpenedWith> Seat<L> {
+    ghost use Rattle.std.specs.Prelude.{[], ◌∷◌, ◌++◌, ◌+◌, Some, Err, IfOk, OnOk, OnErr, ℤ, List, IsTrue, ◌↔◌, max};
     ghost use Rattle.sfc_control.specs.declared.entry.Entry.{Entry};
     ghost use Rattle.sfc_control.specs.Answering.{answered};
     ghost use Rattle.sfc_control.specs.Holding.{held_after, first_after};
-    ghost use Rattle.sfc_control.specs.LegalHistory.{IsLegal};
     ghost use Rattle.sfc_control.specs.Receipts.{entry_of, IsReceiptOf};
     ghost use Rattle.sfc_control.specs.Books.{accepted, entries, first, limit};
     ghost use Rattle.sfc_control.specs.Lock.{book_of, total_of};
-    ghost use Rattle.sfc_control.specs.Seats.{number, calls, last_receipt, first_held, KeptStands, called, BothStand, IsEntered};
+    ghost use Rattle.sfc_control.specs.Seats.{number, calls, given, last_receipt, first_held};
+    ghost use Rattle.sfc_control.specs.Seats.{KeptStands, called, Puts, IsCalled, BothStand};
 
     // Whether the last receipt, if there is one, stands in the book.
     fn last_stands(&self, book: &Book) -> bool
-        ensures { IsTrue result ↔ KeptStands (last_receipt self.now) (first book.now) (accepted book.now) }
+        ensures { IsTrue result ↔ KeptStands (last_receipt self.now) (accepted book.now) }
     {
         match &self.last {
             Some(last) => book.stands(last),
@@ -61,11 +67,9 @@ impl<L: Session> Seat<L> {
         command: Command,
         raw: i64,
     ) -> Result<Receipt, CallError>
-        ensures audit { (KeptStands (last_receipt self.old) (first (book_of locked.old)) (accepted (book_of locked.old)) → ⊥) →
-            result ≡ Err CallError.AuditMismatch }
-        ensures answer { KeptStands (last_receipt self.old) (first (book_of locked.old)) (accepted (book_of locked.old)) →
-            result ≡ called (answered L.plant L.table L.limit (first (book_of locked.old)) (accepted (book_of locked.old))
-            (number self.old) command raw) }
+        ensures audit { (KeptStands (last_receipt self.old) (accepted (book_of locked.old)) → ⊥) → result ≡ Err CallError.AuditMismatch }
+        ensures answer { KeptStands (last_receipt self.old) (accepted (book_of locked.old)) →
+            result ≡ called (answered L.plant L.table L.limit (accepted (book_of locked.old)) (number self.old) command raw) }
         ensures accepted { IfOk result (λ receipt. accepted (book_of locked.new) ≡
             accepted (book_of locked.old) ++ entry_of receipt ∷ []) }
         ensures entries { IfOk result (λ receipt. entries (book_of locked.new) ≡
@@ -77,6 +81,7 @@ impl<L: Session> Seat<L> {
         ensures calls { OnOk result (calls self.new ≡ calls self.old + 1) }
         ensures last { IfOk result (λ receipt. last_receipt self.new ≡ Some receipt) }
         ensures held { OnOk result (first_held self.new ≡ max (first_held self.old) (first (book_of locked.new))) }
+        ensures put { Puts (accepted (book_of locked.old)) command (given self.old) (given self.new) result }
         ensures receipt { IfOk result (λ receipt. IsReceiptOf receipt (number self.old) command raw) }
         ensures legal { IfOk result (λ receipt. BothStand L.plant L.table (last_receipt self.old) receipt) }
         ensures seat { OnErr result (self.new ≡ self.old) }
@@ -96,7 +101,9 @@ impl<L: Session> Seat<L> {
         total.audit(&mut self.share);
         self.calls += 1;
         self.last = Some(receipt);
-        self.first = self.first.max(book.first());
+        let cut = book.first();
+        self.first = self.first.max(cut);
+        self.given.push(&AcceptedCall { receipt, cut });
         Ok(receipt)
     }
 
@@ -109,9 +116,8 @@ impl<L: Session> Seat<L> {
         command: Command,
         clock: &mut C,
     ) -> Result<Receipt, CallError>
-        ensures entered { (raw : ℤ) × (first : ℕ) × (es : List Entry) × C.reads clock.old raw clock.new × IsLegal L.plant L.table es
-            × IsEntered L.plant L.table L.limit (last_receipt self.old) (number self.old) first es command raw result
-            × IfOk result (λ receipt. first_held self.new ≡ max (first_held self.old) (first_after command first receipt.index)) }
+        ensures entered { (raw : ℤ) × (es : List Entry) × C.reads clock.old raw clock.new
+            × IsCalled L.plant L.table L.limit es command raw self.old self.new result }
         ensures receipt { IfOk result (λ receipt. (receipt.seat ≡ number self.old) × (receipt.command ≡ command)) }
         ensures number { number self.new ≡ number self.old }
         ensures calls { OnOk result (calls self.new ≡ calls self.old + 1) }

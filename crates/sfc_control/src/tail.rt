@@ -36,6 +36,7 @@ impl Tail {
         ensures coming { IfSome result (λ row. IsPrefix (coming self.old) (row ∷ coming self.new)) }
         ensures next { 0 < length (coming self.old) → IsSome result }
         ensures none { IfNone result (taken self.new ≡ taken self.old) }
+        ensures rest { IfNone result (coming self.new ≡ []) }
     {
         self.feed.pop().ok()
     }

@@ -1,16 +1,16 @@
 //! A worker, which scans one task.
 
 ghost use Rattle.std.specs.Prelude.{◌≡◌, ◌≤◌, ◌↔◌, nat_le, All, Err, true};
-ghost use Rattle.sfc_control.specs.Working.{Receives, held_from, last_index};
-ghost use Rattle.sfc_control.specs.Seats.{number, calls, last_receipt, first_held};
+ghost use Rattle.sfc_control.specs.Working.{Receives, held_from};
+ghost use Rattle.sfc_control.specs.Seats.{number, given, first_held};
 
 use crate::call_error::CallError;
 use crate::clock::Clock;
 use crate::controller::Controller;
 use crate::gate::{Gate, Turn};
+use crate::opened_with::OpenedWith;
 use crate::receipt::Receipt;
 use crate::seat::Seat;
-use crate::session::Session;
 use sfc_base::ids::TaskId;
 use sfc_events::command::Command;
 use sfc_events::refusal::Refusal;
@@ -77,7 +77,7 @@ fn let_go(receipts: &mut Vec<Receipt>, before: u64, first: u64)
 /// Scans the task each time that the gate answers true, until it answers false or a scan can't be answered. In each round the gate
 /// is asked, then room for the receipt is made, then comes the call. Receipts whose entries an epoch has dropped are let go at the next
 /// accepted scan, so that the memory is bounded by what is held. The task is one of the plant.
-pub fn worker<L: Session, R: Wait, G: Gate, C: Clock>(
+pub fn worker<L: OpenedWith, R: Wait, G: Gate, C: Clock>(
     rt: &R,
     alloc: Global,
     task: TaskId,
@@ -87,8 +87,7 @@ pub fn worker<L: Session, R: Wait, G: Gate, C: Clock>(
     clock: &mut C,
 ) -> WorkerEnd<L>
     ensures seat { number result.seat ≡ number seat }
-    ensures receipts { Receives (number seat) task (last_index (last_receipt seat)) (calls seat) (calls result.seat)
-        (first_held result.seat) result.receipts.items }
+    ensures receipts { Receives (number seat) task (given seat) (given result.seat) (first_held result.seat) result.receipts.items }
     ensures why { (result.why ≡ Why.Closed) ↔ (G.is_shut gate.new ≡ true) }
 {
     let mut seat = seat;

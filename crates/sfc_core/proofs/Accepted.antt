@@ -1,20 +1,21 @@
 -- What an accepted event leaves.
 use Rattle.std.proofs.Common.{◌≡◌, ◌∙◌, ℕ, List, ◌∷◌, Bool, Option, Some, None, ℤ, refl, ap, subst}
 use Rattle.sfc_plant.specs.Plants.{PlantData}
-use Rattle.sfc_image.specs.declared.image_error.ImageError.{ImageError}
-use Rattle.sfc_image.specs.declared.image_error.ImageError.TheVariants as image
-use Rattle.sfc_image.specs.Answers.{value_fault, release_fault}
-use Rattle.sfc_image.specs.Changes.{Change}
+use Rattle.sfc_instances.specs.sfc_image.declared.image_error.ImageError.{ImageError}
+use Rattle.sfc_instances.specs.sfc_image.declared.image_error.ImageError.TheVariants as image
+use Rattle.sfc_instances.specs.sfc_image.Answers.{value_fault, release_fault}
+use Rattle.sfc_instances.specs.sfc_image.Changes.{Change}
 use Rattle.sfc_tasks.specs.Agreement.{TasksAgree}
 use Rattle.sfc_tasks.specs.Calls.{Call, Elapsed}
 use Rattle.sfc_tasks.specs.declared.table.TaskTable.{TaskTable}
 use Rattle.sfc_events.specs.declared.event.Event.{Event}
 use Rattle.sfc_events.specs.declared.event.Event.TheVariants.{Scan, ForcedScan, Input, Force, Release, Reset}
 use Rattle.sfc_events.specs.declared.event.Outcome.TheVariants.{Scanned}
+use Rattle.sfc_events.specs.InstanceSets.{set_of}
 use Rattle.sfc_events.specs.declared.refusal.Refusal.{Refusal}
 use Rattle.sfc_events.specs.History.{History}
 use Rattle.sfc_base.specs.declared.ids.TaskId.{TaskId}
-use Rattle.sfc_instance.specs.declared.scan_end.ScanEnd.TheVariants.{Ran, Faulted}
+use Rattle.sfc_instances.specs.sfc_instance.declared.scan_end.ScanEnd.TheVariants.{Ran, Faulted}
 use Rattle.sfc_instances.specs.declared.bits.Bits.{Bits}
 use Rattle.sfc_instances.specs.declared.instances.Instances.{Instances}
 use Rattle.sfc_instances.specs.Agreement.{InstancesAgree}
@@ -26,7 +27,7 @@ use Rattle.sfc_core.specs.PlantState.{after_event, state_of}
 use Rattle.sfc_core.specs.Due.{singles_of, calls_of, calls_at, with_rises, with_service}
 use Rattle.sfc_core.specs.Answers.{overruns_of}
 use Rattle.sfc_core.specs.Keeping.{Keeps}
-use Rattle.sfc_core.specs.Verdict.{or_then, of_image, input_refusal, event_refusal, end_bits, scan_answer, answer}
+use Rattle.sfc_core.specs.Verdict.{or_then, of_image, input_refusal, event_refusal, ended, scan_answer, answer}
 use Rattle.sfc_core.specs.Private.Naming.{IsTaken}
 use Rattle.sfc_core.specs.Private.Ready.{flags_of, IsReady}
 use Rattle.sfc_core.specs.Private.Ending.{AreEventBits, scanned, outcome_by}
@@ -98,9 +99,9 @@ scan_answered : (plant : PlantData) (h : History) (event : Event) (task : TaskId
 unfolding scan_answer
 scan_answered plant h event task t bits are =
     let count : ℕ = overruns_of plant ((event, t) ∷ h) task in
-    ap (λ (n : ℕ). Scanned n bits.faulted bits.skipped count) are.ran
-    ∙ ap (λ (n : ℕ). Scanned (end_bits Ran plant h task t) n bits.skipped count) are.faulted
-    ∙ ap (λ (n : ℕ). Scanned (end_bits Ran plant h task t) (end_bits Faulted plant h task t) n count) are.skipped
+    ap (λ (n : ℕ). Scanned (set_of n) bits.faulted bits.skipped count) are.ran
+    ∙ ap (λ (n : ℕ). Scanned (ended Ran plant h task t) (set_of n) bits.skipped count) are.faulted
+    ∙ ap (λ (n : ℕ). Scanned (ended Ran plant h task t) (ended Faulted plant h task t) (set_of n) count) are.skipped
 
 pub answered : (plant : PlantData) (h : History) (event : Event) (t : ℤ) (bits : Bits) → AreEventBits plant event t (state_of plant h) bits
     → outcome_by plant.tasks (calls_of plant ((event, t) ∷ h)) bits event ≡ answer plant h event t

@@ -3,9 +3,9 @@ use Rattle.std.proofs.Common.{ℕ, suc, ◌≤◌, ◌==◌, Bool, true, false, 
 use Rattle.sfc_base.specs.declared.ids.TaskId.{TaskId}
 use Rattle.sfc_plant.specs.declared.instance.Instance.{Instance}
 use Rattle.sfc_plant.specs.Plants.{PlantData}
-use Rattle.sfc_image.specs.Values.{variable_count}
+use Rattle.sfc_instances.specs.sfc_image.Values.{variable_count}
 use Rattle.sfc_plant.specs.Finding.{chart_of}
-use Rattle.sfc_instance.proofs.Bounds.{scan_within}
+use Rattle.sfc_instances.proofs.of_sfc_instance.Bounds.{scan_within}
 use Rattle.sfc_instances.specs.Work.{task_work}
 use Rattle.sfc_core.specs.Work.{task_limit}
 

@@ -9,25 +9,25 @@ use Rattle.sfc_base.specs.declared.value.Value.{Value}
 use Rattle.sfc_base.specs.declared.references.Variable.{Variable}
 use Rattle.sfc_expr.specs.Environment.{Environment}
 use Rattle.sfc_expr.specs.Effect.{BodyEffect, effect}
-use Rattle.sfc_tables.specs.Tables.{Tabled, tables_of}
+use Rattle.sfc_instances.specs.sfc_tables.Tables.{Tabled, tables_of}
 use Rattle.sfc_plant.specs.declared.association.Target.{Target}
 use Rattle.sfc_plant.specs.declared.association.Target.TheVariants.{Boolean, Declared}
-use Rattle.sfc_action.specs.ActionControl as control
+use Rattle.sfc_instances.specs.sfc_action.ActionControl as control
 use Rattle.sfc_base.specs.declared.ids.ProgId.{ProgId}
 use Rattle.sfc_base.specs.declared.ids.TaskId.{TaskId}
 use Rattle.sfc_plant.specs.declared.instance.Instance.{Instance}
 use Rattle.sfc_plant.specs.Plants.{PlantData}
-use Rattle.sfc_image.specs.Changes.{Change, Stored, Forced, Released, Reset}
-use Rattle.sfc_image.specs.Values.{forced_value}
-use Rattle.sfc_image.specs.Environments.{number_of}
-use Rattle.sfc_image.specs.Bodies.{stored_to, left_in, left_by, changes_in, assignment, variables_of}
-use Rattle.sfc_image.proofs.Written.{forced_there, released_there}
-use Rattle.sfc_instance.specs.declared.scan_fault.ScanFault.{ScanFault}
-use Rattle.sfc_instance.specs.Life.{Life, Row, control_scans}
+use Rattle.sfc_instances.specs.sfc_image.Changes.{Change, Stored, Forced, Released, Reset}
+use Rattle.sfc_instances.specs.sfc_image.Values.{forced_value}
+use Rattle.sfc_instances.specs.sfc_image.Environments.{number_of}
+use Rattle.sfc_instances.specs.sfc_image.Bodies.{stored_to, left_in, left_by, changes_in, assignment, variables_of}
+use Rattle.sfc_instances.proofs.of_sfc_image.Written.{forced_there, released_there}
+use Rattle.sfc_instances.specs.sfc_instance.declared.scan_fault.ScanFault.{ScanFault}
+use Rattle.sfc_instances.specs.sfc_instance.Life.{Life, Row, control_scans}
 use Rattle.sfc_plant.specs.Finding.{chart_of}
-use Rattle.sfc_instance.specs.ProgramScan.{and_then, body_in, after_body, acted, after_actions, condition_fault, environment}
-use Rattle.sfc_instance.specs.ProgramScan.{unless, of_condition, of_control, of_body, with_row, next_row, attempt}
-use Rattle.sfc_instance.specs.ProgramScan.{after_attempt, unless_faulted}
+use Rattle.sfc_instances.specs.sfc_instance.ProgramScan.{and_then, body_in, after_body, acted, after_actions, condition_fault, environment}
+use Rattle.sfc_instances.specs.sfc_instance.ProgramScan.{unless, of_condition, of_control, of_body, with_row, next_row, attempt}
+use Rattle.sfc_instances.specs.sfc_instance.ProgramScan.{after_attempt, unless_faulted}
 use Rattle.sfc_events.specs.declared.event.Event.{Event}
 use Rattle.sfc_events.specs.declared.event.Event.TheVariants as event
 use Rattle.sfc_events.specs.History.{History}

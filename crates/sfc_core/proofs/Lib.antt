@@ -50,3 +50,7 @@ pub mod MomentsOpenings
 mod Bounds
 -- which values may go to another thread
 pub mod Crosses
+-- What the crates above name through this one.
+pub use Rattle.sfc_instances.proofs.of_sfc_image as of_sfc_image
+pub use Rattle.sfc_instances.proofs as of_sfc_instances
+pub use Rattle.sfc_tasks.proofs as of_sfc_tasks

@@ -23,15 +23,15 @@ use Rattle.sfc_plant.specs.declared.action.Action.{Action}
 use Rattle.sfc_plant.specs.declared.chart.Step.{Step}
 use Rattle.sfc_plant.specs.declared.chart.Transition.{Transition}
 use Rattle.sfc_plant.specs.declared.chart.Chart.{Chart}
-use Rattle.sfc_tables.specs.Tables.{Tabled, tables_of}
+use Rattle.sfc_instances.specs.sfc_tables.Tables.{Tabled, tables_of}
 use Rattle.sfc_plant.specs.declared.variable.Variable as declared
 use Rattle.sfc_plant.specs.declared.program_type.ProgramType.{ProgramType}
 use Rattle.sfc_plant.specs.declared.instance.Instance.{Instance}
 use Rattle.sfc_plant.specs.declared.task.Task.{Task}
 use Rattle.sfc_plant.specs.Plants.{PlantData}
-use Rattle.sfc_instance.specs.declared.scan_fault.ScanFault.{ScanFault}
+use Rattle.sfc_instances.specs.sfc_instance.declared.scan_fault.ScanFault.{ScanFault}
 use Rattle.sfc_plant.specs.Finding.{chart_of}
-use Rattle.sfc_instance.specs.Answers.{is_step_active, step_elapsed, is_transition_cleared, action_q, is_action_executed}
+use Rattle.sfc_instances.specs.sfc_instance.Answers.{is_step_active, step_elapsed, is_transition_cleared, action_q, is_action_executed}
 use Rattle.sfc_events.specs.declared.event.Event.TheVariants.{Scan, ForcedScan, Input, Force, Release, Reset}
 use Rattle.sfc_events.specs.declared.event.Outcome.{Outcome}
 use Rattle.sfc_events.specs.declared.refusal.Refusal.{Refusal}

@@ -3,11 +3,12 @@ use Rattle.std.proofs.Common.{◌≡◌, refl, true, false, List, [], ◌∷◌,
 use Rattle.std.specs.Prelude.{codes}
 use Rattle.sfc_base.specs.declared.value.Value.TheVariants as value
 use Rattle.sfc_plant.specs.declared.association.Qualifier.TheVariants.{NonStored}
-use Rattle.sfc_tables.specs.Ranks.{rank_order}
+use Rattle.sfc_instances.specs.sfc_tables.Ranks.{rank_order}
 use Rattle.sfc_plant.specs.Plants.{PlantData}
 use Rattle.sfc_tasks.specs.Pick.{picked}
 use Rattle.sfc_instances.specs.PlantState.{program_scan}
 use Rattle.sfc_events.specs.declared.event.Outcome.TheVariants.{Scanned}
+use Rattle.sfc_events.specs.InstanceSets.{set_of}
 use Rattle.sfc_events.specs.declared.refusal.Refusal.TheVariants.{NotDue}
 use Rattle.sfc_events.specs.History.{TimedEvent, History}
 use Rattle.sfc_core.specs.PlantState.{state_of}
@@ -50,7 +51,7 @@ unfolding state_of program_scan rank_order
 first_executes = refl
 
 -- its answer: instance 0 ran, and the task has no overrun
-first_answer : answer_to go_along [] (scan 0) ≡ Ok (Scanned 1 0 0 0)
+first_answer : answer_to go_along [] (scan 0) ≡ Ok (Scanned (set_of 1) (set_of 0) (set_of 0) 0)
 unfolding state_of program_scan rank_order singles_of calls_of picked first_refusal turn_refusal scan_answer
 first_answer = refl
 

@@ -10,7 +10,7 @@ use Rattle.sfc_plant.specs.declared.association.Association.{Association}
 use Rattle.sfc_plant.specs.declared.association.Qualifier.TheVariants.{NonStored, Reset, Set, Pulse, RisingPulse, FallingPulse}
 use Rattle.sfc_plant.specs.declared.chart.Step.{Step}
 use Rattle.sfc_plant.specs.declared.chart.Transition.{Transition}
-use Rattle.sfc_tables.specs.Ranks.{rank_order}
+use Rattle.sfc_instances.specs.sfc_tables.Ranks.{rank_order}
 use Rattle.sfc_plant.specs.Plants.{PlantData}
 use Rattle.sfc_instances.specs.PlantState.{program_scan}
 use Rattle.sfc_events.specs.History.{History}

@@ -5,7 +5,7 @@ use Rattle.sfc_expr.specs.Trees.{StepActive}
 use Rattle.sfc_plant.specs.declared.association.Qualifier.TheVariants.{Pulse}
 use Rattle.sfc_plant.specs.declared.chart.Step.{Step}
 use Rattle.sfc_plant.specs.declared.chart.Transition.{Transition}
-use Rattle.sfc_tables.specs.Ranks.{rank_order}
+use Rattle.sfc_instances.specs.sfc_tables.Ranks.{rank_order}
 use Rattle.sfc_plant.specs.Plants.{PlantData}
 use Rattle.sfc_instances.specs.PlantState.{program_scan}
 use Rattle.sfc_core.specs.PlantState.{state_of}

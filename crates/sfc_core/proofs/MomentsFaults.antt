@@ -12,13 +12,14 @@ use Rattle.sfc_base.specs.declared.qualifier.TimedQualifier.TheVariants.{Limited
 use Rattle.sfc_plant.specs.declared.association.Association.{Association}
 use Rattle.sfc_plant.specs.declared.association.Qualifier.TheVariants.{NonStored, Reset, Set}
 use Rattle.sfc_plant.specs.declared.chart.Transition.{Transition}
-use Rattle.sfc_tables.specs.Ranks.{rank_order}
-use Rattle.sfc_action.specs.declared.fault.ControlFault.TheVariants.{TwoTimed, SdWhileSl, SlWhileSd}
+use Rattle.sfc_instances.specs.sfc_tables.Ranks.{rank_order}
+use Rattle.sfc_instances.specs.sfc_action.declared.fault.ControlFault.TheVariants.{TwoTimed, SdWhileSl, SlWhileSd}
 use Rattle.sfc_plant.specs.Plants.{PlantData}
-use Rattle.sfc_instance.specs.declared.scan_fault.ScanFault.TheVariants as fault
+use Rattle.sfc_instances.specs.sfc_instance.declared.scan_fault.ScanFault.TheVariants as fault
 use Rattle.sfc_tasks.specs.Pick.{picked}
 use Rattle.sfc_instances.specs.PlantState.{program_scan}
 use Rattle.sfc_events.specs.declared.event.Outcome.TheVariants.{Scanned, Done}
+use Rattle.sfc_events.specs.InstanceSets.{set_of}
 use Rattle.sfc_events.specs.declared.refusal.Refusal.TheVariants.{NotDue}
 use Rattle.sfc_events.specs.History.{History}
 use Rattle.sfc_core.specs.PlantState.{state_of}
@@ -45,7 +46,7 @@ abbrev faulted : History
 faulted = scan 20 ∷ zeroed
 
 -- the scan at 20 ms faults
-divided_by_zero : answer_to dividing zeroed (scan 20) ≡ Ok (Scanned 0 1 0 0)
+divided_by_zero : answer_to dividing zeroed (scan 20) ≡ Ok (Scanned (set_of 0) (set_of 1) (set_of 0) 0)
 unfolding state_of program_scan rank_order singles_of calls_of picked first_refusal turn_refusal scan_answer
 divided_by_zero = refl
 
@@ -74,7 +75,7 @@ abbrev mended : History
 mended = input 1 (value.Int (pos 11)) 25 ∷ faulted
 
 -- at 30 ms the instance is skipped, though k is 11
-skipped : answer_to dividing mended (scan 30) ≡ Ok (Scanned 0 0 1 0)
+skipped : answer_to dividing mended (scan 30) ≡ Ok (Scanned (set_of 0) (set_of 0) (set_of 1) 0)
 unfolding state_of program_scan rank_order singles_of calls_of picked first_refusal turn_refusal scan_answer
 skipped = refl
 
@@ -108,7 +109,7 @@ unfolding state_of program_scan rank_order
 no_step = refl
 
 -- at 40 ms the instance runs
-runs_again : answer_to dividing begun_again (scan 40) ≡ Ok (Scanned 1 0 0 0)
+runs_again : answer_to dividing begun_again (scan 40) ≡ Ok (Scanned (set_of 1) (set_of 0) (set_of 0) 0)
 unfolding state_of program_scan rank_order singles_of calls_of picked first_refusal turn_refusal scan_answer
 runs_again = refl
 
@@ -250,7 +251,7 @@ abbrev first_at_fault : History
 first_at_fault = scan 0 ∷ force 1 (value.Int (pos 0)) 0 ∷ []
 
 -- the first faults, the second runs
-one_faults : answer_to two_instances (force 1 (value.Int (pos 0)) 0 ∷ []) (scan 0) ≡ Ok (Scanned 2 1 0 0)
+one_faults : answer_to two_instances (force 1 (value.Int (pos 0)) 0 ∷ []) (scan 0) ≡ Ok (Scanned (set_of 2) (set_of 1) (set_of 0) 0)
 unfolding state_of program_scan rank_order singles_of calls_of picked first_refusal turn_refusal scan_answer
 one_faults = refl
 
@@ -260,7 +261,7 @@ unfolding state_of program_scan rank_order
 other_runs = refl
 
 -- at 10 ms the first is skipped, and the second runs
-one_skipped : answer_to two_instances first_at_fault (scan 10) ≡ Ok (Scanned 2 0 1 0)
+one_skipped : answer_to two_instances first_at_fault (scan 10) ≡ Ok (Scanned (set_of 2) (set_of 0) (set_of 1) 0)
 unfolding state_of program_scan rank_order singles_of calls_of picked first_refusal turn_refusal scan_answer
 one_skipped = refl
 

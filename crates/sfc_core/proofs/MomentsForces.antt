@@ -6,12 +6,13 @@ use Rattle.sfc_base.specs.declared.value.Value.TheVariants as value
 use Rattle.sfc_expr.specs.declared.operator.Operator.TheVariants as op
 use Rattle.sfc_expr.specs.Trees.{Binary, Body, Nothing, Assign}
 use Rattle.sfc_plant.specs.declared.association.Qualifier.TheVariants.{NonStored}
-use Rattle.sfc_tables.specs.Ranks.{rank_order}
+use Rattle.sfc_instances.specs.sfc_tables.Ranks.{rank_order}
 use Rattle.sfc_plant.specs.Plants.{PlantData}
 use Rattle.sfc_tasks.specs.Pick.{picked}
 use Rattle.sfc_instances.specs.PlantState.{program_scan}
 use Rattle.sfc_events.specs.declared.event.Event.TheVariants.{Scan, Force}
 use Rattle.sfc_events.specs.declared.event.Outcome.TheVariants.{Scanned, Done}
+use Rattle.sfc_events.specs.InstanceSets.{set_of}
 use Rattle.sfc_events.specs.declared.refusal.Refusal.TheVariants.{InstantRange, ClockBack, UnknownTask, UnknownProgram}
 use Rattle.sfc_events.specs.declared.refusal.Refusal.TheVariants.{UnknownVar, ValueType, NotInput, NotForced, NotDue}
 use Rattle.sfc_events.specs.History.{History}
@@ -227,7 +228,7 @@ unfolding state_of program_scan rank_order singles_of calls_of picked first_refu
 turn_of_none = refl
 
 -- a forced scan runs the task at 5 ms all the same
-forced_turn : answer_to forcible (scans 1) (forced_scan 5) ≡ Ok (Scanned 1 0 0 0)
+forced_turn : answer_to forcible (scans 1) (forced_scan 5) ≡ Ok (Scanned (set_of 1) (set_of 0) (set_of 0) 0)
 unfolding state_of program_scan rank_order singles_of calls_of picked first_refusal turn_refusal scan_answer
 forced_turn = refl
 

@@ -10,13 +10,13 @@ use Rattle.sfc_base.specs.declared.qualifier.TimedQualifier.{TimedQualifier}
 use Rattle.sfc_base.specs.declared.qualifier.TimedQualifier.TheVariants.{Limited, Delayed, StoredDelayed, DelayedStored, StoredLimited}
 use Rattle.sfc_plant.specs.declared.association.Association.{Association}
 use Rattle.sfc_plant.specs.declared.association.Qualifier.TheVariants.{NonStored}
-use Rattle.sfc_tables.specs.Ranks.{rank_order}
-use Rattle.sfc_action.specs.Past.{DelayPast, ActionPast}
+use Rattle.sfc_instances.specs.sfc_tables.Ranks.{rank_order}
+use Rattle.sfc_instances.specs.sfc_action.Past.{DelayPast, ActionPast}
 use Rattle.sfc_plant.specs.Plants.{PlantData}
-use Rattle.sfc_image.specs.Past.{VariablePast}
+use Rattle.sfc_instances.specs.sfc_image.Past.{VariablePast}
 use Rattle.sfc_tasks.specs.Past.{TaskPast}
-use Rattle.sfc_instance.specs.declared.scan_fault.ScanFault.TheVariants as fault
-use Rattle.sfc_instance.specs.Past.{InstancePast}
+use Rattle.sfc_instances.specs.sfc_instance.declared.scan_fault.ScanFault.TheVariants as fault
+use Rattle.sfc_instances.specs.sfc_instance.Past.{InstancePast}
 use Rattle.sfc_instances.specs.PlantState.{program_scan}
 use Rattle.sfc_events.specs.History.{History}
 use Rattle.sfc_core.specs.Due.{singles_of, calls_of}

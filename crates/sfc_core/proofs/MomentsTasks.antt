@@ -8,13 +8,14 @@ use Rattle.sfc_base.specs.declared.references.Variable.TheVariants.{Local}
 use Rattle.sfc_expr.specs.Trees.{Read, Binary, Body, Nothing, Assign}
 use Rattle.sfc_plant.specs.declared.association.Qualifier.TheVariants.{NonStored, Pulse}
 use Rattle.sfc_plant.specs.declared.chart.Chart.{Chart}
-use Rattle.sfc_tables.specs.Ranks.{rank_order}
+use Rattle.sfc_instances.specs.sfc_tables.Ranks.{rank_order}
 use Rattle.sfc_plant.specs.declared.task.Task.{Task}
 use Rattle.sfc_plant.specs.Plants.{PlantData}
 use Rattle.sfc_tasks.specs.Pick.{picked}
 use Rattle.sfc_instances.specs.PlantState.{program_scan}
 use Rattle.sfc_events.specs.declared.event.Event.TheVariants.{Scan}
 use Rattle.sfc_events.specs.declared.event.Outcome.TheVariants.{Scanned}
+use Rattle.sfc_events.specs.InstanceSets.{set_of}
 use Rattle.sfc_events.specs.declared.refusal.Refusal.{Refusal}
 use Rattle.sfc_events.specs.declared.refusal.Refusal.TheVariants.{NotDue, Yield}
 use Rattle.sfc_events.specs.History.{TimedEvent, History}
@@ -40,7 +41,7 @@ abbrev ticking : PlantData
 ticking = small [] resting
 
 -- 0 is the first multiple (our choice)
-due_at_0 : answer_to ticking [] (scan 0) ≡ Ok (Scanned 1 0 0 0)
+due_at_0 : answer_to ticking [] (scan 0) ≡ Ok (Scanned (set_of 1) (set_of 0) (set_of 0) 0)
 unfolding state_of program_scan rank_order singles_of calls_of picked first_refusal turn_refusal scan_answer
 due_at_0 = refl
 
@@ -50,7 +51,7 @@ unfolding state_of program_scan rank_order singles_of calls_of picked first_refu
 not_due = refl
 
 -- at 19 ms the release at 10 ms waits; alone it is no overrun
-due_late : answer_to ticking (scan 0 ∷ []) (scan 19) ≡ Ok (Scanned 1 0 0 0)
+due_late : answer_to ticking (scan 0 ∷ []) (scan 19) ≡ Ok (Scanned (set_of 1) (set_of 0) (set_of 0) 0)
 unfolding state_of program_scan rank_order singles_of calls_of picked first_refusal turn_refusal scan_answer
 due_late = refl
 
@@ -60,7 +61,7 @@ unfolding state_of program_scan rank_order singles_of calls_of picked first_refu
 next_multiple = refl
 
 -- of the releases at 10, 20 and 30 ms two came before the one before them was served
-two_overruns : answer_to ticking (scan 0 ∷ []) (scan 35) ≡ Ok (Scanned 1 0 0 2)
+two_overruns : answer_to ticking (scan 0 ∷ []) (scan 35) ≡ Ok (Scanned (set_of 1) (set_of 0) (set_of 0) 2)
 unfolding state_of program_scan rank_order singles_of calls_of picked first_refusal turn_refusal scan_answer
 two_overruns = refl
 
@@ -70,12 +71,12 @@ unfolding state_of program_scan rank_order singles_of calls_of picked first_refu
 all_served = refl
 
 -- from 0 to 40 ms there are five releases
-late_first : answer_to ticking [] (scan 45) ≡ Ok (Scanned 1 0 0 4)
+late_first : answer_to ticking [] (scan 45) ≡ Ok (Scanned (set_of 1) (set_of 0) (set_of 0) 4)
 unfolding state_of program_scan rank_order singles_of calls_of picked first_refusal turn_refusal scan_answer
 late_first = refl
 
 -- overruns are counted since the opening, over a reset too (our choice)
-counted_on : answer_to ticking (reset 0 46 ∷ scan 45 ∷ []) (scan 75) ≡ Ok (Scanned 1 0 0 6)
+counted_on : answer_to ticking (reset 0 46 ∷ scan 45 ∷ []) (scan 75) ≡ Ok (Scanned (set_of 1) (set_of 0) (set_of 0) 6)
 unfolding state_of program_scan rank_order singles_of calls_of picked first_refusal turn_refusal scan_answer
 counted_on = refl
 
@@ -85,7 +86,7 @@ unfolding state_of program_scan rank_order singles_of calls_of
 waiting_only = refl
 
 -- a forced scan serves and counts too
-forced_counts : answer_to ticking (scan 0 ∷ []) (forced_scan 25) ≡ Ok (Scanned 1 0 0 1)
+forced_counts : answer_to ticking (scan 0 ∷ []) (forced_scan 25) ≡ Ok (Scanned (set_of 1) (set_of 0) (set_of 0) 1)
 unfolding state_of program_scan rank_order singles_of calls_of picked first_refusal turn_refusal scan_answer
 forced_counts = refl
 
@@ -112,7 +113,7 @@ abbrev at_the_end : TimedEvent
 at_the_end = (Scan (record { 0 = 0 }), pos (2 ^ 62))
 
 -- at the last instant two releases wait
-last_multiple : answer_to half_of_time (scan 0 ∷ []) at_the_end ≡ Ok (Scanned 1 0 0 1)
+last_multiple : answer_to half_of_time (scan 0 ∷ []) at_the_end ≡ Ok (Scanned (set_of 1) (set_of 0) (set_of 0) 1)
 unfolding state_of program_scan rank_order singles_of calls_of picked first_refusal turn_refusal scan_answer
 last_multiple = refl
 
@@ -138,12 +139,12 @@ unfolding state_of program_scan rank_order singles_of calls_of picked first_refu
 no_rise = refl
 
 -- Go rises at 5 ms: the task is due at 7 ms
-rise : answer_to (by_rise false) (on 5 ∷ []) (scan 7) ≡ Ok (Scanned 1 0 0 0)
+rise : answer_to (by_rise false) (on 5 ∷ []) (scan 7) ≡ Ok (Scanned (set_of 1) (set_of 0) (set_of 0) 0)
 unfolding state_of program_scan rank_order singles_of calls_of picked first_refusal turn_refusal scan_answer
 rise = refl
 
 -- it waits although SINGLE has fallen since
-fallen_since : answer_to (by_rise false) (off 6 ∷ on 5 ∷ []) (scan 7) ≡ Ok (Scanned 1 0 0 0)
+fallen_since : answer_to (by_rise false) (off 6 ∷ on 5 ∷ []) (scan 7) ≡ Ok (Scanned (set_of 1) (set_of 0) (set_of 0) 0)
 unfolding state_of program_scan rank_order singles_of calls_of picked first_refusal turn_refusal scan_answer
 fallen_since = refl
 
@@ -158,7 +159,7 @@ unfolding state_of program_scan rank_order singles_of calls_of picked first_refu
 still_true = refl
 
 -- two rises before a scan are one scan, and an overrun
-two_rises : answer_to (by_rise true) (on 4 ∷ off 3 ∷ on 2 ∷ off 1 ∷ []) (scan 5) ≡ Ok (Scanned 1 0 0 1)
+two_rises : answer_to (by_rise true) (on 4 ∷ off 3 ∷ on 2 ∷ off 1 ∷ []) (scan 5) ≡ Ok (Scanned (set_of 1) (set_of 0) (set_of 0) 1)
 unfolding state_of program_scan rank_order singles_of calls_of picked first_refusal turn_refusal scan_answer
 two_rises = refl
 
@@ -168,12 +169,12 @@ unfolding state_of program_scan rank_order singles_of calls_of picked first_refu
 held_down = refl
 
 -- at 3 ms Go is released, and reads TRUE
-rise_by_release : answer_to (by_rise false) (release 0 3 ∷ on 1 ∷ force 0 (value.Bool false) 0 ∷ []) (scan 4) ≡ Ok (Scanned 1 0 0 0)
+rise_by_release : answer_to (by_rise false) (release 0 3 ∷ on 1 ∷ force 0 (value.Bool false) 0 ∷ []) (scan 4) ≡ Ok (Scanned (set_of 1) (set_of 0) (set_of 0) 0)
 unfolding state_of program_scan rank_order singles_of calls_of picked first_refusal turn_refusal scan_answer
 rise_by_release = refl
 
 -- a force of TRUE is a rise too
-rise_by_force : answer_to (by_rise false) (force 0 (value.Bool true) 3 ∷ []) (scan 4) ≡ Ok (Scanned 1 0 0 0)
+rise_by_force : answer_to (by_rise false) (force 0 (value.Bool true) 3 ∷ []) (scan 4) ≡ Ok (Scanned (set_of 1) (set_of 0) (set_of 0) 0)
 unfolding state_of program_scan rank_order singles_of calls_of picked first_refusal turn_refusal scan_answer
 rise_by_force = refl
 
@@ -183,7 +184,7 @@ abbrev by_both : PlantData
 by_both = by_task (single_task 0 10 1)
 
 -- at 10 ms the multiple counts, as SINGLE read FALSE until then, and the rise counts too
-multiple_and_rise : answer_to by_both (on 10 ∷ scan 0 ∷ []) (scan 10) ≡ Ok (Scanned 1 0 0 1)
+multiple_and_rise : answer_to by_both (on 10 ∷ scan 0 ∷ []) (scan 10) ≡ Ok (Scanned (set_of 1) (set_of 0) (set_of 0) 1)
 unfolding state_of program_scan rank_order singles_of calls_of picked first_refusal turn_refusal scan_answer
 multiple_and_rise = refl
 
@@ -203,7 +204,7 @@ self_raising = plant (flag (codes "Go") ∷ []) (single_task 0 10 1 ∷ [])
     (program [] (chart (initial_step (sets NonStored 0 ∷ []) ∷ []) [] []) ∷ []) (instance 0 0 ∷ [])
 
 -- a rise that a scan makes itself waits for the next one
-raised_by_itself : answer_to self_raising (scan 0 ∷ []) (scan 0) ≡ Ok (Scanned 1 0 0 0)
+raised_by_itself : answer_to self_raising (scan 0 ∷ []) (scan 0) ≡ Ok (Scanned (set_of 1) (set_of 0) (set_of 0) 0)
 unfolding state_of program_scan rank_order singles_of calls_of picked first_refusal turn_refusal scan_answer
 raised_by_itself = refl
 
@@ -228,12 +229,12 @@ unfolding state_of program_scan rank_order singles_of calls_of picked first_refu
 first_in_text = refl
 
 -- the instance of the scanned task alone runs: bit 0, and then bit 1
-first_runs : answer_to alike [] (scan_of 0 0) ≡ Ok (Scanned 1 0 0 0)
+first_runs : answer_to alike [] (scan_of 0 0) ≡ Ok (Scanned (set_of 1) (set_of 0) (set_of 0) 0)
 unfolding state_of program_scan rank_order singles_of calls_of picked first_refusal turn_refusal scan_answer
 first_runs = refl
 
 -- task 0 was scanned: task 1 is next
-second_runs : answer_to alike (scan_of 0 0 ∷ []) (scan_of 1 0) ≡ Ok (Scanned 2 0 0 0)
+second_runs : answer_to alike (scan_of 0 0 ∷ []) (scan_of 1 0) ≡ Ok (Scanned (set_of 2) (set_of 0) (set_of 0) 0)
 unfolding state_of program_scan rank_order singles_of calls_of picked first_refusal turn_refusal scan_answer
 second_runs = refl
 
@@ -247,7 +248,7 @@ unfolding state_of program_scan rank_order singles_of calls_of picked first_refu
 longest_wait = refl
 
 -- its releases at 20, 40 and 60 ms are two overruns
-longest_goes : answer_to alike begun (scan_of 0 65) ≡ Ok (Scanned 1 0 0 2)
+longest_goes : answer_to alike begun (scan_of 0 65) ≡ Ok (Scanned (set_of 1) (set_of 0) (set_of 0) 2)
 unfolding state_of program_scan rank_order singles_of calls_of picked first_refusal turn_refusal scan_answer
 longest_goes = refl
 
@@ -257,7 +258,7 @@ unfolding state_of program_scan rank_order singles_of calls_of picked first_refu
 other_way_round = refl
 
 -- overruns are counted of each task: task 1 has one, by 30 and 60 ms
-own_overruns : answer_to alike (scan_of 0 65 ∷ begun) (scan_of 1 85) ≡ Ok (Scanned 2 0 0 1)
+own_overruns : answer_to alike (scan_of 0 65 ∷ begun) (scan_of 1 85) ≡ Ok (Scanned (set_of 2) (set_of 0) (set_of 0) 1)
 unfolding state_of program_scan rank_order singles_of calls_of picked first_refusal turn_refusal scan_answer
 own_overruns = refl
 
@@ -276,22 +277,22 @@ unfolding state_of program_scan rank_order singles_of calls_of picked first_refu
 lowest_number = refl
 
 -- task 1 may be scanned
-lowest_goes : answer_to by_priority (on 15 ∷ []) (scan_of 1 20) ≡ Ok (Scanned 2 0 0 0)
+lowest_goes : answer_to by_priority (on 15 ∷ []) (scan_of 1 20) ≡ Ok (Scanned (set_of 2) (set_of 0) (set_of 0) 0)
 unfolding state_of program_scan rank_order singles_of calls_of picked first_refusal turn_refusal scan_answer
 lowest_goes = refl
 
 -- and then task 0, with the releases at 0, 10 and 20 ms
-then_the_other : answer_to by_priority (scan_of 1 20 ∷ on 15 ∷ []) (scan_of 0 20) ≡ Ok (Scanned 1 0 0 2)
+then_the_other : answer_to by_priority (scan_of 1 20 ∷ on 15 ∷ []) (scan_of 0 20) ≡ Ok (Scanned (set_of 1) (set_of 0) (set_of 0) 2)
 unfolding state_of program_scan rank_order singles_of calls_of picked first_refusal turn_refusal scan_answer
 then_the_other = refl
 
 -- where the other does not wait, a higher number is no hindrance
-alone : answer_to by_priority [] (scan_of 0 20) ≡ Ok (Scanned 1 0 0 2)
+alone : answer_to by_priority [] (scan_of 0 20) ≡ Ok (Scanned (set_of 1) (set_of 0) (set_of 0) 2)
 unfolding state_of program_scan rank_order singles_of calls_of picked first_refusal turn_refusal scan_answer
 alone = refl
 
 -- a forced scan goes before the task whose turn it is (our choice)
-forced_before : answer_to by_priority (on 15 ∷ []) (forced_scan 20) ≡ Ok (Scanned 1 0 0 2)
+forced_before : answer_to by_priority (on 15 ∷ []) (forced_scan 20) ≡ Ok (Scanned (set_of 1) (set_of 0) (set_of 0) 2)
 unfolding state_of program_scan rank_order singles_of calls_of picked first_refusal turn_refusal scan_answer
 forced_before = refl
 
@@ -331,7 +332,7 @@ unfolding state_of program_scan rank_order singles_of calls_of picked first_refu
 raised_first = refl
 
 -- it is due at the instant of the scan that made it so
-raised_at_once : answer_to raising raised (scan_of 1 10) ≡ Ok (Scanned 2 0 0 0)
+raised_at_once : answer_to raising raised (scan_of 1 10) ≡ Ok (Scanned (set_of 2) (set_of 0) (set_of 0) 0)
 unfolding state_of program_scan rank_order singles_of calls_of picked first_refusal turn_refusal scan_answer
 raised_at_once = refl
 
@@ -353,7 +354,7 @@ abbrev all_scanned : History
 all_scanned = scan_of 1 10 ∷ scan_of 0 10 ∷ scan_of 1 0 ∷ scan_of 0 0 ∷ []
 
 -- the bits 0 and 2
-both_run : answer_to three_instances [] (scan_of 0 0) ≡ Ok (Scanned 5 0 0 0)
+both_run : answer_to three_instances [] (scan_of 0 0) ≡ Ok (Scanned (set_of 5) (set_of 0) (set_of 0) 0)
 unfolding state_of program_scan rank_order singles_of calls_of picked first_refusal turn_refusal scan_answer
 both_run = refl
 

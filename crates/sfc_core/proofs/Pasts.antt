@@ -5,19 +5,19 @@ use Rattle.std.proofs.Common.{refl, sym, ◌∙◌, ap, ℤ, Option, Some, None}
 use Rattle.std.specs.Prelude.{nat_lt, is_none}
 use Rattle.std.proofs.lemmas.Bool.{cases_lt}
 use mathlib.Core.Logic.{∥∥₁_elim}
-use Rattle.sfc_tables.specs.Tables.{tables_of}
+use Rattle.sfc_instances.specs.sfc_tables.Tables.{tables_of}
 use Rattle.sfc_base.specs.declared.ids.ProgId.{ProgId}
 use Rattle.sfc_base.specs.declared.ids.TaskId.{TaskId}
 use Rattle.sfc_base.specs.declared.ids.VarId.{VarId}
 use Rattle.sfc_plant.specs.Finding.{chart_of}
 use Rattle.sfc_plant.specs.Plants.{PlantData}
 use Rattle.sfc_plant.specs.Sound.{IsPlant}
-use Rattle.sfc_image.specs.Changes.{Stored, Forced, Released}
-use Rattle.sfc_image.specs.Past.{image_past}
-use Rattle.sfc_image.specs.Values.{variable_count}
-use Rattle.sfc_image.proofs.Pasts as image
-use Rattle.sfc_instance.specs.Past.{instance_past}
-use Rattle.sfc_instance.specs.declared.scan_end.ScanEnd.TheVariants.{Ran, Faulted, Skipped}
+use Rattle.sfc_instances.specs.sfc_image.Changes.{Stored, Forced, Released}
+use Rattle.sfc_instances.specs.sfc_image.Past.{image_past}
+use Rattle.sfc_instances.specs.sfc_image.Values.{variable_count}
+use Rattle.sfc_instances.proofs.of_sfc_image.Pasts as image
+use Rattle.sfc_instances.specs.sfc_instance.Past.{instance_past}
+use Rattle.sfc_instances.specs.sfc_instance.declared.scan_end.ScanEnd.TheVariants.{Ran, Faulted, Skipped}
 use Rattle.sfc_tasks.specs.Calls.{Call, Elapsed, Rose, Served, single_of}
 use Rattle.sfc_tasks.specs.Releases.{interval_of, waits_since}
 use Rattle.sfc_tasks.specs.Multiples.{next_release}
@@ -29,6 +29,7 @@ use Rattle.sfc_events.specs.declared.event.Event.{Event}
 use Rattle.sfc_events.specs.declared.event.Event.TheVariants.{Scan, ForcedScan, Input, Force, Release, Reset}
 use Rattle.sfc_events.specs.declared.event.Outcome.{Outcome}
 use Rattle.sfc_events.specs.declared.event.Outcome.TheVariants.{Scanned}
+use Rattle.sfc_events.specs.InstanceSets.{set_of}
 use Rattle.sfc_events.specs.declared.refusal.Refusal.{Refusal}
 use Rattle.sfc_events.specs.declared.refusal.Refusal.TheVariants.{UnknownTask, NotDue}
 use Rattle.sfc_events.specs.History.{TimedEvent, History, last_instant}
@@ -211,7 +212,7 @@ module _ (plant : PlantData) (sound : IsPlant plant) where
       let skipped = all_instances.bits_by plant task t sound Skipped (state_of plant h) (state_of plant g) e in
       let late = task_table.overruns_by plant.tasks (calls_of plant ((event, t) ∷ h)) (calls_of plant ((event, t) ∷ g))
       (calls_next (event, t) h g same) task.0 lt in
-      (λ i. Scanned (ran i) (faulted i) (skipped i) (late i))
+      (λ i. Scanned (set_of (ran i)) (set_of (faulted i)) (set_of (skipped i)) (late i))
 
   -- where the refusal and the answer are the same
   joined : (event : Event) (t : ℤ) (h g : History) → history_past plant h ≡ history_past plant g

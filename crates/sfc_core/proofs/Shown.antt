@@ -4,10 +4,10 @@ use Rattle.std.proofs.lemmas.Bool.{ne_eqb}
 use Rattle.sfc_base.specs.declared.ids.VarId.{VarId}
 use Rattle.sfc_plant.specs.Plants.{PlantData}
 use Rattle.sfc_base.specs.declared.value.Value.{Value}
-use Rattle.sfc_image.specs.Changes.{Change, Stored, Forced, Released}
-use Rattle.sfc_image.specs.Values.{stored_value, forced_value, value_of}
-use Rattle.sfc_image.proofs.Counting.{same_number}
-use Rattle.sfc_image.proofs.Written.{stored_here, stored_there, forced_here}
+use Rattle.sfc_instances.specs.sfc_image.Changes.{Change, Stored, Forced, Released}
+use Rattle.sfc_instances.specs.sfc_image.Values.{stored_value, forced_value, value_of}
+use Rattle.sfc_instances.proofs.of_sfc_image.Counting.{same_number}
+use Rattle.sfc_instances.proofs.of_sfc_image.Written.{stored_here, stored_there, forced_here}
 
 module _ (plant : PlantData) (changes : List Change) (id : VarId) (v : Value) where
   pub given_reads : forced_value changes id.0 ≡ None → value_of plant (Stored id v ∷ changes) id.0 ≡ v

@@ -4,7 +4,7 @@ use Rattle.std.specs.Prelude.{is_some}
 use Rattle.sfc_base.specs.declared.references.GlobalId.{GlobalId}
 use Rattle.sfc_plant.specs.declared.task.Task.{Task}
 use Rattle.sfc_plant.specs.Plants.{PlantData}
-use Rattle.sfc_image.specs.Changes.{Change}
+use Rattle.sfc_instances.specs.sfc_image.Changes.{Change}
 use Rattle.sfc_instances.specs.Singles.{single_in}
 use Rattle.sfc_core.specs.Private.Alone.{HaveNoSingle}
 

@@ -4,7 +4,7 @@ use Rattle.std.proofs.Common.{ℤ, Option, Some, None, Ok, Err, is_none}
 use Rattle.std.proofs.lemmas.Bool.Decides.{eqb_tells, nat_tests}
 use Rattle.sfc_base.specs.declared.ids.TaskId.{TaskId}
 use Rattle.sfc_plant.specs.Plants.{PlantData}
-use Rattle.sfc_image.proofs.Counting.{same_number}
+use Rattle.sfc_instances.proofs.of_sfc_image.Counting.{same_number}
 use Rattle.sfc_plant.specs.declared.task.Task.{Task}
 use Rattle.sfc_tasks.specs.Calls.{Call, single_of}
 use Rattle.sfc_tasks.specs.Multiples.{next_release}

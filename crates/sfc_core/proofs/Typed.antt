@@ -8,11 +8,11 @@ use Rattle.sfc_base.specs.declared.var_type.VarType.{VarType}
 use Rattle.sfc_base.specs.declared.var_type.VarType.TheVariants.{Bool as BoolType, Int, Dint, Time}
 use Rattle.sfc_expr.specs.Types.{IsOf, lies_in_range}
 use Rattle.sfc_plant.specs.Plants.{PlantData}
-use Rattle.sfc_image.specs.declared.image_error.ImageError.TheVariants.{UnknownVar, ValueType}
-use Rattle.sfc_image.specs.Answers.{is_variable, value_fault}
-use Rattle.sfc_image.specs.Changes.{Stored, Forced, Released}
-use Rattle.sfc_image.specs.Values.{type_of_variable}
-use Rattle.sfc_instance.specs.Types.{IsInstant}
+use Rattle.sfc_instances.specs.sfc_image.declared.image_error.ImageError.TheVariants.{UnknownVar, ValueType}
+use Rattle.sfc_instances.specs.sfc_image.Answers.{is_variable, value_fault}
+use Rattle.sfc_instances.specs.sfc_image.Changes.{Stored, Forced, Released}
+use Rattle.sfc_instances.specs.sfc_image.Values.{type_of_variable}
+use Rattle.sfc_instances.specs.sfc_instance.Types.{IsInstant}
 use Rattle.sfc_instances.specs.PlantState.{PlantState}
 use Rattle.sfc_instances.specs.Types.{IsTypedPlant, IsTypedState}
 use Rattle.sfc_instances.proofs.Typed.{opened_typed, task_typed, change_typed, reset_typed}

@@ -5,9 +5,9 @@ use Rattle.sfc_base.specs.declared.ids.ProgId.{ProgId}
 use Rattle.sfc_base.specs.declared.ids.TaskId.{TaskId}
 use Rattle.sfc_base.specs.declared.ids.VarId.{VarId}
 use Rattle.sfc_plant.specs.Plants.{PlantData}
-use Rattle.sfc_image.specs.Values as image
+use Rattle.sfc_instances.specs.sfc_image.Values as image
 use Rattle.sfc_tasks.specs.Releases as tasks
-use Rattle.sfc_instance.specs.Life.{InstanceState}
+use Rattle.sfc_instances.specs.sfc_instance.Life.{InstanceState}
 use Rattle.sfc_events.specs.History.{History}
 use Rattle.sfc_core.specs.PlantState.{state_of}
 use Rattle.sfc_core.specs.Due.{calls_of}

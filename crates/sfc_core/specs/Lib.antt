@@ -28,3 +28,9 @@ pub mod Past
 pub mod Openings
 -- What private clauses cite.
 pub mod Private
+-- What the crates above name through this one.
+pub use Rattle.sfc_instances.specs.sfc_image as sfc_image
+pub use Rattle.sfc_instances.specs.sfc_instance as sfc_instance
+pub use Rattle.sfc_instances.specs as sfc_instances
+pub use Rattle.sfc_instances.specs.sfc_tables as sfc_tables
+pub use Rattle.sfc_tasks.specs as sfc_tasks

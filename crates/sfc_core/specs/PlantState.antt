@@ -1,7 +1,7 @@
 -- How the variables and the program instances of a plant stand after a history.
 use Rattle.std.specs.Prelude.{[], ◌∷◌, ℤ}
 use Rattle.sfc_plant.specs.Plants.{PlantData}
-use Rattle.sfc_image.specs.Changes.{Stored, Forced, Released}
+use Rattle.sfc_instances.specs.sfc_image.Changes.{Stored, Forced, Released}
 use Rattle.sfc_events.specs.declared.event.Event.{Event}
 use Rattle.sfc_events.specs.declared.event.Event.TheVariants.{Scan, ForcedScan, Input, Force, Release, Reset}
 use Rattle.sfc_events.specs.History.{History}

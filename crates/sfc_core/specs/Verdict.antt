@@ -12,12 +12,12 @@ use Rattle.sfc_base.specs.declared.ids.VarId.{VarId}
 use Rattle.sfc_plant.specs.declared.task.Task.{Task}
 use Rattle.sfc_plant.specs.Plants.{PlantData}
 use Rattle.sfc_plant.specs.Image.{image_variables}
-use Rattle.sfc_image.specs.declared.image_error.ImageError.{ImageError}
-use Rattle.sfc_image.specs.declared.image_error.ImageError.TheVariants as image
-use Rattle.sfc_image.specs.Changes.{Change}
-use Rattle.sfc_image.specs.Answers.{value_fault, release_fault}
-use Rattle.sfc_instance.specs.declared.scan_end.ScanEnd.{ScanEnd}
-use Rattle.sfc_instance.specs.declared.scan_end.ScanEnd.TheVariants.{Ran, Faulted, Skipped}
+use Rattle.sfc_instances.specs.sfc_image.declared.image_error.ImageError.{ImageError}
+use Rattle.sfc_instances.specs.sfc_image.declared.image_error.ImageError.TheVariants as image
+use Rattle.sfc_instances.specs.sfc_image.Changes.{Change}
+use Rattle.sfc_instances.specs.sfc_image.Answers.{value_fault, release_fault}
+use Rattle.sfc_instances.specs.sfc_instance.declared.scan_end.ScanEnd.{ScanEnd}
+use Rattle.sfc_instances.specs.sfc_instance.declared.scan_end.ScanEnd.TheVariants.{Ran, Faulted, Skipped}
 use Rattle.sfc_tasks.specs.Multiples.{next_release}
 use Rattle.sfc_tasks.specs.Calls.{Call, single_of}
 use Rattle.sfc_tasks.specs.Releases.{interval_of, waits_since}
@@ -26,6 +26,8 @@ use Rattle.sfc_events.specs.declared.event.Event.{Event}
 use Rattle.sfc_events.specs.declared.event.Event.TheVariants.{Scan, ForcedScan, Input, Force, Release, Reset}
 use Rattle.sfc_events.specs.declared.event.Outcome.{Outcome}
 use Rattle.sfc_events.specs.declared.event.Outcome.TheVariants.{Done, Scanned}
+use Rattle.sfc_events.specs.declared.instance_set.InstanceSet.{InstanceSet}
+use Rattle.sfc_events.specs.InstanceSets.{set_of}
 use Rattle.sfc_events.specs.declared.refusal.Refusal.{Refusal}
 use Rattle.sfc_events.specs.declared.refusal.Refusal.TheVariants.{InstantRange, ClockBack, UnknownTask, UnknownProgram}
 use Rattle.sfc_events.specs.declared.refusal.Refusal.TheVariants.{UnknownVar, ValueType, NotInput, NotForced, NotDue, Yield}
@@ -130,14 +132,14 @@ first_refusal plant h event t =
 
 -- ---- answers
 
--- one bit for each instance of which a scan of the task after a history ends so
-abbrev pub end_bits : ScanEnd → PlantData → History → TaskId → ℤ → ℕ
-end_bits how plant h task t = bits_of how plant task t 0 plant.instances (state_of plant h)
+-- the instances of which a scan of the task after a history ends so
+abbrev pub ended : ScanEnd → PlantData → History → TaskId → ℤ → InstanceSet
+ended how plant h task t = set_of (bits_of how plant task t 0 plant.instances (state_of plant h))
 
 -- to an event at t that is a scan of this task
 unfoldable pub scan_answer : PlantData → History → Event → TaskId → ℤ → Outcome
 scan_answer plant h event task t =
-    Scanned (end_bits Ran plant h task t) (end_bits Faulted plant h task t) (end_bits Skipped plant h task t)
+    Scanned (ended Ran plant h task t) (ended Faulted plant h task t) (ended Skipped plant h task t)
     (overruns_of plant ((event, t) ∷ h) task)
 
 -- to an event at t that is a scan of this task, or of none

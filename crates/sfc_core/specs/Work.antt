@@ -5,9 +5,9 @@ use Rattle.sfc_plant.specs.declared.instance.Instance.{Instance}
 use Rattle.sfc_plant.specs.Plants.{PlantData}
 use Rattle.sfc_events.specs.declared.event.Event.{Event}
 use Rattle.sfc_events.specs.declared.event.Event.TheVariants.{Scan, ForcedScan, Input, Force, Release, Reset}
-use Rattle.sfc_image.specs.Values.{variable_count}
+use Rattle.sfc_instances.specs.sfc_image.Values.{variable_count}
 use Rattle.sfc_plant.specs.Finding.{chart_of}
-use Rattle.sfc_instance.specs.Work.{scan_limit}
+use Rattle.sfc_instances.specs.sfc_instance.Work.{scan_limit}
 use Rattle.sfc_instances.specs.Work.{task_work, reset_work}
 
 -- among the variables and the program instances

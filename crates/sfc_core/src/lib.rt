@@ -18,3 +18,7 @@ pub mod opening;
 mod refusing;
 pub mod resource;
 mod singles;
+
+// What the crates above name through this one.
+pub use sfc_instances;
+pub use sfc_instances::{sfc_action, sfc_image, sfc_instance, sfc_tables};

@@ -1,18 +1,18 @@
 //! Why an event is refused.
 
 ghost use Rattle.std.specs.Prelude.{◌≡◌, ◌<◌, ◌≤ℤ◌, ◌^◌, pos, length, None};
-ghost use Rattle.sfc_image.specs.Answers as answers;
+ghost use Rattle.sfc_instances.specs.sfc_image.Answers as answers;
 ghost use Rattle.sfc_instances.specs.Agreement.{InstancesAgree};
 ghost use Rattle.sfc_instances.specs.PlantState.{PlantState};
 ghost use Rattle.sfc_core.specs.Verdict as verdict;
 ghost use Rattle.sfc_core.specs.Private.Naming.{IsKnown};
 
 use crate::inputs::is_input;
+use crate::sfc_image::image_error::ImageError;
 use sfc_base::ids::{ProgId, TaskId, VarId};
 use sfc_base::value::Value;
 use sfc_events::event::Event;
 use sfc_events::refusal::Refusal;
-use sfc_image::image_error::ImageError;
 use sfc_instances::instances::Instances;
 use sfc_plant::plant::Plant;
 

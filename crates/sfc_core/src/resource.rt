@@ -3,7 +3,6 @@
 ghost use Rattle.std.specs.Prelude.{◌≡◌, ◌<◌, ◌≤◌, ◌≤ℤ◌, ◌^◌, length, pos, negsuc, false};
 ghost use Rattle.sfc_base.specs.declared.limits.TheConstants.{TASKS};
 ghost use Rattle.sfc_tasks.specs.Agreement.{task_total};
-ghost use Rattle.sfc_instance.proofs.Places.{for_prop};
 ghost use Rattle.sfc_events.specs.History.{History};
 ghost use Rattle.sfc_instances.specs.Agreement.{AreInstancesOf, InstancesAgree};
 ghost use Rattle.sfc_instances.specs.PlantState.{PlantState};
@@ -17,6 +16,7 @@ use crate::changing::{change, outcome};
 use crate::due::{refuse_turn, serve, tell_rises};
 use crate::opening::Opening;
 use crate::refusing::{refuse_event, refuse_instant};
+use crate::sfc_instance::program_view::ProgramView;
 use crate::singles::{Singles, has_single};
 use sfc_base::ids::{ProgId, TaskId, VarId};
 use sfc_base::limits::VARIABLES;
@@ -24,7 +24,6 @@ use sfc_base::ticks::Ticks;
 use sfc_base::value::Value;
 use sfc_events::event::{Event, Outcome};
 use sfc_events::refusal::Refusal;
-use sfc_instance::program_view::ProgramView;
 use sfc_instances::instances::Instances;
 use sfc_plant::plant::Plant;
 use sfc_tasks::table::TaskTable;
@@ -38,7 +37,7 @@ pub struct Resource {
     tasks: TaskTable,
     singles: Singles,
     last: i64,
-    ghost whole: { AreInstancesOf plant instances } by { instances_prop for_prop plant instances },
+    ghost whole: { AreInstancesOf plant instances } by { instances_prop plant instances },
     ghost tasks_sized: { task_total tasks ≡ length plant.tasks },
     ghost singles_sized: { length (flags_of singles) ≡ length plant.tasks },
     ghost few: { length plant.tasks ≤ TASKS },
@@ -66,8 +65,8 @@ impl Drop for Resource {
 impl Resource {
     ghost use Rattle.std.specs.Prelude.{◌∷◌, ◌≤◌, [], List, None, OnOk, OnErr, IfOk, is_ok, ◌+◌, ◌*◌};
     ghost use Rattle.sfc_base.specs.Ticks.{Within};
-    ghost use Rattle.sfc_image.specs.Values.{variable_count};
-    ghost use Rattle.sfc_instance.specs.Views.{plant_in, instance_in, Shows};
+    ghost use Rattle.sfc_instances.specs.sfc_image.Values.{variable_count};
+    ghost use Rattle.sfc_instances.specs.sfc_instance.Views.{plant_in, instance_in, Shows};
     ghost use Rattle.sfc_events.specs.History.{TimedEvent, History, last_instant};
     ghost use Rattle.sfc_core.specs.PlantState.{state_of};
     ghost use Rattle.sfc_core.specs.Answers.{value_of, forced_of, instance_state_of, overruns_of};

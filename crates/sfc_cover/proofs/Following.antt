@@ -4,10 +4,10 @@ use Rattle.std.specs.Prelude.{IsOk, nat_lt}
 use Rattle.std.proofs.lemmas.Int.{ints}
 use Rattle.std.proofs.lemmas.Bool.Decides.{nat_tests}
 use Rattle.sfc_plant.specs.Plants.{PlantData}
-use Rattle.sfc_image.specs.Changes.{Change}
-use Rattle.sfc_instances.specs.Agreement.{InstancesAgree}
-use Rattle.sfc_instances.specs.declared.instances.Instances.{Instances}
-use Rattle.sfc_instances.specs.PlantState.{PlantState}
+use Rattle.sfc_replay.specs.sfc_image.Changes.{Change}
+use Rattle.sfc_replay.specs.sfc_instances.Agreement.{InstancesAgree}
+use Rattle.sfc_replay.specs.sfc_instances.declared.instances.Instances.{Instances}
+use Rattle.sfc_replay.specs.sfc_instances.PlantState.{PlantState}
 use Rattle.sfc_events.specs.Commands.{event_of}
 use Rattle.sfc_events.specs.declared.command.Command.{Command}
 use Rattle.sfc_events.specs.declared.event.Event.{Event}
@@ -15,18 +15,18 @@ use Rattle.sfc_events.specs.declared.event.Event.TheVariants.{Scan, ForcedScan, 
 use Rattle.sfc_events.specs.declared.event.Outcome.{Outcome}
 use Rattle.sfc_events.specs.declared.refusal.Refusal.{Refusal}
 use Rattle.sfc_events.specs.History.{History, last_instant}
-use Rattle.sfc_core.specs.PlantState as core
-use Rattle.sfc_core.specs.PlantState.{after_event}
-use Rattle.sfc_core.specs.Verdict as events
-use Rattle.sfc_core.specs.Verdict.{refused_if, or_then, instant_refusal, event_refusal, first_refusal, program_refusal, is_out_of_range}
-use Rattle.sfc_core.specs.Private.Naming.{NamesInstance}
-use Rattle.sfc_core.proofs.Accepted.{taken}
-use Rattle.sfc_debug.specs.declared.break_condition.BreakCondition.{BreakCondition}
-use Rattle.sfc_debug.specs.Histories.{CommandHistory}
-use Rattle.sfc_debug.specs.RunClock.{run_instant}
-use Rattle.sfc_debug.specs.States.{DebugState, state_of, erasure, hits, with_event}
-use Rattle.sfc_debug.specs.Verdict.{verdict, verdict_at, answer_by}
-use Rattle.sfc_debug.proofs.Accepting.{neither, not_refused, by_itself}
+use Rattle.sfc_replay.specs.sfc_core.PlantState as core
+use Rattle.sfc_replay.specs.sfc_core.PlantState.{after_event}
+use Rattle.sfc_replay.specs.sfc_core.Verdict as events
+use Rattle.sfc_replay.specs.sfc_core.Verdict.{refused_if, or_then, instant_refusal, event_refusal, first_refusal, program_refusal, is_out_of_range}
+use Rattle.sfc_replay.specs.sfc_core.Private.Naming.{NamesInstance}
+use Rattle.sfc_replay.proofs.of_sfc_core.Accepted.{taken}
+use Rattle.sfc_replay.specs.sfc_debug.declared.break_condition.BreakCondition.{BreakCondition}
+use Rattle.sfc_replay.specs.sfc_debug.Histories.{CommandHistory}
+use Rattle.sfc_replay.specs.sfc_debug.RunClock.{run_instant}
+use Rattle.sfc_replay.specs.sfc_debug.States.{DebugState, state_of, erasure, hits, with_event}
+use Rattle.sfc_replay.specs.sfc_debug.Verdict.{verdict, verdict_at, answer_by}
+use Rattle.sfc_replay.proofs.of_sfc_debug.Accepting.{neither, not_refused, by_itself}
 use Rattle.sfc_cover.specs.Private.Given.{IsGiven}
 
 -- ---- an event that is accepted may be given

@@ -5,9 +5,9 @@ use Rattle.std.proofs.Math.Seq.{drop-cons}
 use Rattle.sfc_base.specs.declared.ids.TaskId.{TaskId}
 use Rattle.sfc_plant.specs.declared.instance.Instance.{Instance}
 use Rattle.sfc_plant.specs.Plants.{PlantData}
-use Rattle.sfc_instances.specs.declared.instances.Instances.{Instances}
-use Rattle.sfc_instances.specs.Agreement.{InstancesAgree}
-use Rattle.sfc_instances.specs.PlantState.{PlantState, program_scan, after_program, after_instance, after_task}
+use Rattle.sfc_replay.specs.sfc_instances.declared.instances.Instances.{Instances}
+use Rattle.sfc_replay.specs.sfc_instances.Agreement.{InstancesAgree}
+use Rattle.sfc_replay.specs.sfc_instances.PlantState.{PlantState, program_scan, after_program, after_instance, after_task}
 use Rattle.sfc_cover.specs.Private.Scanning.{Follows}
 
 module _ (plant : PlantData) (task : TaskId) (t : ℤ) (k : ℕ) (instance : Instance) (lt : k < length plant.instances)

@@ -4,5 +4,3 @@
 pub mod Given
 -- a scan of a task, instance by instance
 pub mod Scanning
--- the commands that are left
-pub mod Playing

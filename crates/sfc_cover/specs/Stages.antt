@@ -1,8 +1,8 @@
 -- What a `Stage` and a `Watch` are for.
 use Rattle.std.specs.Prelude.{◌≡◌, false, length}
 use Rattle.sfc_plant.specs.Plants.{PlantData}
-use Rattle.sfc_image.specs.Values.{variable_count}
-use Rattle.sfc_image.specs.Agreement.{variable_total, instance_total, is_open}
+use Rattle.sfc_replay.specs.sfc_image.Values.{variable_count}
+use Rattle.sfc_replay.specs.sfc_image.Agreement.{variable_total, instance_total, is_open}
 use Rattle.sfc_cover.specs.declared.stage.Stage.{Stage}
 use Rattle.sfc_cover.specs.declared.watch.Watch.{Watch}
 

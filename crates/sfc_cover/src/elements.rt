@@ -4,9 +4,9 @@ ghost use Rattle.std.specs.Prelude.{ℕ, All};
 ghost use Rattle.sfc_plant.specs.Sound.{IsProgram};
 
 use crate::arms::Arms;
+use crate::sfc_tables::tables::Tables;
 use sfc_plant::plant::Plant;
 use sfc_plant::program_type::ProgramType;
-use sfc_tables::tables::Tables;
 use std::alloc::{AllocError, Global};
 
 /// Of each program type the tables of its chart, and the branches of the IFs in its bodies.

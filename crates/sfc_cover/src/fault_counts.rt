@@ -1,8 +1,8 @@
 //! How many scans each fault ended.
 
-use sfc_action::fault::ControlFault;
+use crate::sfc_action::fault::ControlFault;
+use crate::sfc_instance::scan_fault::ScanFault;
 use sfc_expr::fault::Fault;
-use sfc_instance::scan_fault::ScanFault;
 
 /// How many scans each fault ended; at most 2^64 - 1, where a count stays.
 #[derive(Clone, Copy, Debug)]

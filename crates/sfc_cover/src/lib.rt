@@ -30,3 +30,7 @@ mod sheet;
 mod stage;
 mod walk;
 pub mod watch;
+
+// What the crates above name through this one.
+pub use sfc_replay;
+pub use sfc_replay::{sfc_action, sfc_debug, sfc_image, sfc_instance, sfc_instances, sfc_tables};

@@ -1,33 +1,30 @@
 //! What is seen of a program instance before a scan and after it.
 
 ghost use Rattle.std.specs.Prelude.{◌<◌, ◌≤ℤ◌, ◌^◌, pos, length};
-ghost use Rattle.sfc_instance.specs.Views.{tables_in};
+ghost use Rattle.sfc_replay.specs.sfc_instance.Views.{tables_in};
 
 use crate::reach::{Reach, mark};
 use crate::reached::Reached;
+use crate::sfc_instance::program_moment::ProgramMoment;
+use crate::sfc_instance::program_view::ProgramView;
 use sfc_base::ids::TransitionId;
 use sfc_base::references::StepId;
 use sfc_base::ticks::Ticks;
 use sfc_expr::eval::eval;
 use sfc_expr::view::View;
 use sfc_flags::flags::Flags;
-use sfc_instance::program_moment::ProgramMoment;
-use sfc_instance::program_view::ProgramView;
 use sfc_plant::chart::{Chart, Transition};
 
 /// The number of the program type of an instance, if there is such an instance.
 pub fn program_of(view: &ProgramView<'_>) -> Option<usize> {
-    let instance = view
-        .plant()
-        .instances()
-        .get(usize::from(view.instance().0))?;
+    let plant = view.plant();
+    let instance = plant.instances().get(usize::from(view.instance().0))?;
     Some(instance.program.0)
 }
 
 /// The chart of an instance, if there is such an instance.
 pub fn chart_of<'a>(view: &ProgramView<'a>) -> Option<&'a Chart> {
-    let program = view.plant().types().get(program_of(view)?)?;
-    Some(&program.chart)
+    Some(&view.plant().type_of(view.instance())?.chart)
 }
 
 // Whether all of these steps are active.

@@ -6,8 +6,7 @@ use crate::reach::Reach;
 use crate::share::Share;
 use crate::sheet::{Sheet, append_share};
 use crate::watch::Watch;
-use sfc_output::append::{append, append_number};
-use sfc_output::program::fault_name;
+use sfc_page::append::{append, append_number};
 use sfc_plant::instance::Instance;
 use sfc_plant::names::type_name;
 use sfc_plant::plant::Plant;
@@ -24,7 +23,7 @@ fn append_faults(out: &mut Vec<u8>, faults: FaultCounts) -> Result<(), AllocErro
     let mut is_first = true;
     for (fault, count) in &faults.counted() {
         if *count > 0 {
-            append_named(out, if is_first { b"" } else { b"," }, fault_name(*fault))?;
+            append_named(out, if is_first { b"" } else { b"," }, fault.name())?;
             append(out, b" ")?;
             append_number(out, *count)?;
             is_first = false;

@@ -10,6 +10,7 @@ use std::alloc::{AllocError, Global};
 /// What of a program instance was reached, or together of all instances of a program type: how many scans ran and how many ended with
 /// which fault; which steps were active, how far transitions came, which actions were executed and which branches of IFs taken, each by
 /// number.
+#[derive(Clone)]
 pub struct Reach {
     pub scans: u64,
     pub faults: FaultCounts,

@@ -1,17 +1,17 @@
 //! Program instances that are told the events of a resource, each scan one instance at a time.
 
 ghost use Rattle.std.specs.Prelude.{◌<◌, ◌≤ℤ◌, ◌^◌, pos, length};
-ghost use Rattle.sfc_instances.specs.Agreement.{AreInstancesOf, InstancesAgree};
-ghost use Rattle.sfc_instances.specs.PlantState.{PlantState, after_program, after_reset, after_task, program_scan};
-ghost use Rattle.sfc_core.specs.PlantState.{after_event};
+ghost use Rattle.sfc_replay.specs.sfc_instances.Agreement.{AreInstancesOf, InstancesAgree};
+ghost use Rattle.sfc_replay.specs.sfc_instances.PlantState.{PlantState, after_program, after_reset, after_task, program_scan};
+ghost use Rattle.sfc_replay.specs.sfc_core.PlantState.{after_event};
 ghost use Rattle.sfc_cover.specs.Private.Given.{IsGiven};
 ghost use Rattle.sfc_cover.specs.Stages.{IsWatchOf};
 
+use crate::sfc_instances::instances::Instances;
 use crate::watch::Watch;
 use sfc_base::ids::{ProgId, TaskId};
 use sfc_base::ticks::Ticks;
 use sfc_events::event::Event;
-use sfc_instances::instances::Instances;
 use sfc_plant::plant::Plant;
 
 /// The last instant, in microseconds.

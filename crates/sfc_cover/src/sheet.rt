@@ -4,15 +4,14 @@ use crate::arms::{Arm, ArmKind, Arms};
 use crate::elements::Elements;
 use crate::reach::Reach;
 use crate::reached::{Reached, TransitionReach};
+use crate::sfc_tables::tables::Tables;
 use crate::share::Share;
 use sfc_base::ids::{ActionId, ActionNumber, TransitionId};
 use sfc_base::references::StepId;
-use sfc_output::append::{append, append_number};
-use sfc_plant::association::Target;
+use sfc_page::append::{append, append_number};
 use sfc_plant::chart::{Chart, Transition};
 use sfc_plant::names::Names;
 use sfc_plant::plant::Plant;
-use sfc_tables::tables::Tables;
 use std::alloc::AllocError;
 
 /// A program type with its names, and what of it was reached.
@@ -127,17 +126,6 @@ impl<'a> Sheet<'a> {
         })
     }
 
-    // The name of an action.
-    fn action_name(&self, number: usize) -> &[u8] {
-        if number >= self.tables.actions() {
-            return b"";
-        }
-        match self.tables.target(ActionNumber(number)) {
-            Target::Declared(action) => self.names.action(action),
-            Target::Boolean(variable) => self.names.variable(variable),
-        }
-    }
-
     // The name of a step.
     fn step_name(&self, number: usize) -> &[u8] {
         match u16::try_from(number) {
@@ -190,7 +178,7 @@ impl<'a> Sheet<'a> {
                 append_missed(
                     out,
                     b"  action ",
-                    self.action_name(number),
+                    self.tables.action_name(&self.names, ActionNumber(number)),
                     b" never executed\n",
                 )?;
             }

@@ -1,6 +1,6 @@
 //! A stage on which the executed bodies of a scan are gone through once more.
 
-use sfc_image::image::Image;
+use crate::sfc_image::image::Image;
 
 /// The variables as they stood before the scan of an instance.
 pub struct Stage {
@@ -15,23 +15,23 @@ impl Drop for Stage {
 }
 
 ghost use Rattle.std.specs.Prelude.{◌≡◌, ◌<◌, IfOk, length};
-ghost use Rattle.sfc_image.specs.Agreement.{IsAsLarge, instance_total, is_open};
-ghost use Rattle.sfc_instance.specs.Views.{instance_in, plant_in, tables_in};
-ghost use Rattle.sfc_instances.specs.Agreement.{AreInstancesOf};
+ghost use Rattle.sfc_replay.specs.sfc_image.Agreement.{IsAsLarge, instance_total, is_open};
+ghost use Rattle.sfc_replay.specs.sfc_instance.Views.{instance_in, plant_in, tables_in};
+ghost use Rattle.sfc_replay.specs.sfc_instances.Agreement.{AreInstancesOf};
 ghost use Rattle.sfc_cover.specs.Stages.{IsStageOf};
 
 use crate::arms::Arms;
 use crate::look::chart_of;
+use crate::sfc_instance::program_view::ProgramView;
+use crate::sfc_instances::instances::Instances;
+use crate::sfc_tables::tables::Tables;
 use crate::walk::{Acting, walk_statements};
 use sfc_base::ids::ActionNumber;
 use sfc_base::ticks::Ticks;
 use sfc_expr::fault::Fault;
-use sfc_instance::program_view::ProgramView;
-use sfc_instances::instances::Instances;
 use sfc_plant::association::Target;
 use sfc_plant::chart::Chart;
 use sfc_plant::plant::Plant;
-use sfc_tables::tables::Tables;
 use std::alloc::{AllocError, Global};
 
 /// The bodies of an instance: its chart, and the branches of its IFs.

@@ -1,18 +1,18 @@
 //! Which branches of IFs an executed body takes (3.3.2.3).
 
 ghost use Rattle.std.specs.Prelude.{◌≡◌, ◌<◌};
-ghost use Rattle.sfc_image.specs.Agreement.{IsAsLarge, instance_total, is_open};
+ghost use Rattle.sfc_replay.specs.sfc_image.Agreement.{IsAsLarge, instance_total, is_open};
 
 use crate::arms::Arms;
 use crate::reach::mark;
+use crate::sfc_image::image::Image;
+use crate::sfc_image::step_readings::StepReadings;
 use sfc_base::ids::ProgId;
 use sfc_base::ticks::Ticks;
 use sfc_expr::eval::eval;
 use sfc_expr::expr::Expr;
 use sfc_expr::fault::Fault;
 use sfc_expr::statement::{Branch, Statement};
-use sfc_image::image::Image;
-use sfc_image::step_readings::StepReadings;
 use std::slice::from_ref;
 
 /// What the statements of an executed action read beside the variables: the instance whose action it is, the branches of its IFs, its

@@ -23,15 +23,15 @@ impl Drop for Watch {
 }
 
 ghost use Rattle.std.specs.Prelude.{◌<◌, ◌≤ℤ◌, ◌^◌, pos, length, IfOk};
-ghost use Rattle.sfc_instance.specs.Views.{plant_in};
-ghost use Rattle.sfc_instances.specs.Agreement.{AreInstancesOf};
+ghost use Rattle.sfc_replay.specs.sfc_instance.Views.{plant_in};
+ghost use Rattle.sfc_replay.specs.sfc_instances.Agreement.{AreInstancesOf};
 ghost use Rattle.sfc_cover.specs.Stages.{IsWatchOf};
 
 use crate::look::{look_before, note_after, program_of};
+use crate::sfc_instance::program_view::ProgramView;
+use crate::sfc_instance::scan_end::ScanEnd;
+use crate::sfc_instances::instances::Instances;
 use sfc_base::ids::ProgId;
-use sfc_instance::program_view::ProgramView;
-use sfc_instance::scan_end::ScanEnd;
-use sfc_instances::instances::Instances;
 use sfc_plant::instance::Instance;
 use sfc_plant::plant::Plant;
 use std::alloc::{AllocError, Global};
@@ -64,12 +64,18 @@ impl Watch {
         })
     }
 
-    /// What was reached stays, and this plant, which has the same text, is watched from now on. The one error is that memory was refused.
-    pub fn turn_to(&mut self, alloc: Global, plant: &Plant) -> Result<(), AllocError>
-        ensures { IfOk result (λ _. IsWatchOf plant.now self.new) }
+    /// One by which the same was reached, of this plant, which has the same text. The one error is that memory was refused.
+    pub fn turned_to(&self, alloc: Global, plant: &Plant) -> Result<Watch, AllocError>
+        ensures { IfOk result (λ watch. IsWatchOf plant.now watch) }
     {
-        self.stage = Stage::new(alloc, plant, self.elements.tables())?;
-        Ok(())
+        let elements = Elements::of_plant(alloc, plant)?;
+        let stage = Stage::new(alloc, plant, elements.tables())?;
+        let reaches = self.reaches.clone()?;
+        Ok(Watch {
+            elements,
+            reaches,
+            stage,
+        })
     }
 
     /// What there is to be reached.

@@ -8,6 +8,7 @@ use Rattle.sfc_events.specs.declared.command.Command.{Command}
 use Rattle.sfc_events.specs.declared.command.Command.TheVariants as commands
 use Rattle.sfc_events.specs.declared.event.Event.TheVariants as events
 use Rattle.sfc_events.specs.declared.event.Outcome.TheVariants as outcome
+use Rattle.sfc_events.specs.declared.instance_set.InstanceSet.{InstanceSet}
 use Rattle.sfc_events.specs.declared.refusal.Refusal.{Refusal}
 use Rattle.sfc_core.specs.Verdict as core
 use Rattle.sfc_core.specs.Verdict.{or_then, scan_answer}
@@ -65,7 +66,7 @@ hit_in (Ok answer) = has_hit answer
 hit_in (Err why) = false
 
 -- the resource's answer to a scan tells of the hit that is put to it
-scan_hit : (hit : Bool) (refusal : Option Refusal) (ran faulted skipped overruns : ℕ) (answer : Answer) →
+scan_hit : (hit : Bool) (refusal : Option Refusal) (ran faulted skipped : InstanceSet) (overruns : ℕ) (answer : Answer) →
     Ok answer ≡ answer_by hit (core.verdict_by refusal (outcome.Scanned ran faulted skipped overruns)) → has_hit answer ≡ hit
 scan_hit hit None ran faulted skipped overruns answer e = ap hit_in e
 scan_hit hit (Some why) ran faulted skipped overruns answer e = absurd (no_answer e)

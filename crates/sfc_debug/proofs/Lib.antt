@@ -42,3 +42,8 @@ pub mod MomentsTasks
 pub mod MomentsRefusals
 -- which values may go to another thread
 pub mod Crosses
+pub mod Sums
+-- What the crates above name through this one.
+pub use Rattle.sfc_core.proofs as of_sfc_core
+pub use Rattle.sfc_core.proofs.of_sfc_instances as of_sfc_instances
+pub use Rattle.sfc_core.proofs.of_sfc_tasks as of_sfc_tasks

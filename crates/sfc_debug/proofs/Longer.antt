@@ -8,7 +8,7 @@ use Rattle.sfc_base.specs.declared.ids.ProgId.{ProgId}
 use Rattle.sfc_expr.specs.Environment.{Environment}
 use Rattle.sfc_plant.specs.Finding.{chart_of}
 use Rattle.sfc_plant.specs.Plants.{PlantData}
-use Rattle.sfc_tables.specs.Tables.{tables_of}
+use Rattle.sfc_core.specs.sfc_tables.Tables.{tables_of}
 use Rattle.sfc_events.specs.Commands.{event_of}
 use Rattle.sfc_events.specs.History.{History}
 use Rattle.sfc_events.specs.declared.command.Command.{Command}
@@ -18,19 +18,21 @@ use Rattle.sfc_events.specs.declared.command.Point.{Point}
 use Rattle.sfc_events.specs.declared.event.Event.{Event}
 use Rattle.sfc_events.specs.declared.refusal.Refusal.TheVariants.{NoSuchCondition}
 use Rattle.sfc_events.specs.declared.event.Event.TheVariants as events
-use Rattle.sfc_instance.specs.declared.scan_end.ScanEnd.TheVariants.{Ran}
-use Rattle.sfc_instances.specs.PlantState.{PlantState}
+use Rattle.sfc_core.specs.sfc_instance.declared.scan_end.ScanEnd.TheVariants.{Ran}
+use Rattle.sfc_core.specs.sfc_instances.PlantState.{PlantState}
 use Rattle.sfc_core.specs.Agreement as core_agreement
 use Rattle.sfc_core.specs.declared.resource.Resource.{Resource}
 use Rattle.sfc_core.specs.PlantState as core_state
 use Rattle.sfc_core.specs.Verdict as core
-use Rattle.sfc_core.specs.Verdict.{end_bits, or_then, refused_if}
+use Rattle.sfc_core.specs.Verdict.{ended, or_then, refused_if}
 use Rattle.sfc_debug.specs.declared.break_condition.BreakCondition.{BreakCondition}
 use Rattle.sfc_debug.specs.declared.breakpoint.Breakpoint.{Breakpoint}
 use Rattle.sfc_debug.specs.declared.debugger.Debugger.{Debugger}
 use Rattle.sfc_debug.specs.Agreement.{Agrees, plant_of, table_of}
 use Rattle.sfc_debug.specs.Histories.{CommandHistory}
-use Rattle.sfc_debug.specs.Hits.{is_set, has_happened, is_met, holds, environment_after, is_hit, any_hit}
+use Rattle.sfc_events.specs.declared.instance_set.InstanceSet.{InstanceSet}
+use Rattle.sfc_events.specs.InstanceSets.{has}
+use Rattle.sfc_debug.specs.Hits.{has_happened, is_met, holds, environment_after, is_hit, any_hit}
 use Rattle.sfc_debug.specs.Longer.{IsNamedWithin, NamesWithin}
 use Rattle.sfc_debug.specs.Points.{has_point, place_of, put_at, with_breakpoint, without_place, points_after}
 use Rattle.sfc_debug.specs.RunClock.{run_instant}
@@ -56,16 +58,16 @@ module _ (plant : PlantData) (table more : List BreakCondition) where
   holds_same env None named = refl
   holds_same env (Some id) named = ap (is_met env) (slice_get-append_left table more id.0 named)
 
-  hit_same : (ran : ℕ) (state : PlantState) (breakpoint : Breakpoint) → IsNamed breakpoint
+  hit_same : (ran : InstanceSet) (state : PlantState) (breakpoint : Breakpoint) → IsNamed breakpoint
       → is_hit plant longer ran state breakpoint ≡ is_hit plant table ran state breakpoint
   unfolding is_hit
   hit_same ran state breakpoint named =
       let p = breakpoint.program in
       let met = holds_same (environment_after plant state p) breakpoint.condition named in
-      (λ i. has_point plant p breakpoint.point && is_set ran p.0
+      (λ i. has_point plant p breakpoint.point && has ran p.0
       && has_happened (tables_of (chart_of plant p)) (state.instance_state p.0) breakpoint.point && met i)
 
-  any_same : (ran : ℕ) (state : PlantState) (set : List Breakpoint) → All IsNamed set
+  any_same : (ran : InstanceSet) (state : PlantState) (set : List Breakpoint) → All IsNamed set
       → any_hit plant longer ran state set ≡ any_hit plant table ran state set
   any_same ran state [] named = refl
   any_same ran state (breakpoint ∷ set) named =
@@ -76,7 +78,7 @@ module _ (plant : PlantData) (table more : List BreakCondition) where
   hits_same : (command : Command) (t : ℤ) (set : List Breakpoint) (h : History) → All IsNamed set
       → hits plant longer command t set h ≡ hits plant table command t set h
   hits_same (commands.Scan task) t set h named =
-      any_same (end_bits Ran plant h task t) (core_state.state_of plant ((events.Scan task, t) ∷ h)) set named
+      any_same (ended Ran plant h task t) (core_state.state_of plant ((events.Scan task, t) ∷ h)) set named
   hits_same command t set h named = refl
 
   -- ---- breakpoints

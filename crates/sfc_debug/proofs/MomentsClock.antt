@@ -6,9 +6,10 @@ use Rattle.sfc_base.specs.declared.value.Value.TheVariants as value
 use Rattle.sfc_plant.specs.declared.association.Qualifier.TheVariants.{NonStored}
 use Rattle.sfc_plant.specs.declared.task.Task.{Task}
 use Rattle.sfc_plant.specs.Plants.{PlantData}
-use Rattle.sfc_tables.specs.Ranks.{rank_order}
-use Rattle.sfc_instances.specs.PlantState.{program_scan}
+use Rattle.sfc_core.specs.sfc_tables.Ranks.{rank_order}
+use Rattle.sfc_core.specs.sfc_instances.PlantState.{program_scan}
 use Rattle.sfc_events.specs.declared.command.Answer.TheVariants.{Done, Value, Scanned}
+use Rattle.sfc_events.specs.InstanceSets.{set_of}
 use Rattle.sfc_events.specs.declared.refusal.Refusal.TheVariants.{NotDue, Stopped, Ended}
 use Rattle.sfc_core.specs.PlantState as core
 use Rattle.sfc_core.specs.Due.{singles_of, calls_of}
@@ -80,7 +81,7 @@ unfolding verdict state_of core.state_of singles_of calls_of first_refusal turn_
 not_due_yet = refl
 
 -- at 20 ms one does; while halted none came, so there is no overrun
-due_then : answer_to delayed [] gone_on (scan 5_020) ≡ Ok (Scanned 1 0 0 0 false)
+due_then : answer_to delayed [] gone_on (scan 5_020) ≡ Ok (Scanned (set_of 1) (set_of 0) (set_of 0) 0 false)
 unfolding verdict state_of is_hit core.state_of program_scan rank_order singles_of calls_of scan_answer
 due_then = sole delayed (erasure delayed [] gone_on) (ms 20) false refl refl refl
 
@@ -107,7 +108,7 @@ told_scans = refl
 -- ---- single scans of this task
 
 -- at once: the release at 0 is served
-single_at_once : answer_to delayed [] (stop 0 ∷ []) (single 0 5) ≡ Ok (Scanned 1 0 0 0 false)
+single_at_once : answer_to delayed [] (stop 0 ∷ []) (single 0 5) ≡ Ok (Scanned (set_of 1) (set_of 0) (set_of 0) 0 false)
 unfolding verdict state_of core.state_of program_scan rank_order singles_of calls_of first_refusal turn_refusal scan_answer
 single_at_once = refl
 
@@ -117,7 +118,7 @@ unfolding state_of
 no_time_passes = refl
 
 -- and at once again, though no release waits
-single_undue : answer_to delayed [] (single 0 5 ∷ stop 0 ∷ []) (single 0 5) ≡ Ok (Scanned 1 0 0 0 false)
+single_undue : answer_to delayed [] (single 0 5 ∷ stop 0 ∷ []) (single 0 5) ≡ Ok (Scanned (set_of 1) (set_of 0) (set_of 0) 0 false)
 unfolding verdict state_of core.state_of program_scan rank_order singles_of calls_of first_refusal turn_refusal scan_answer
 single_undue = refl
 
@@ -132,7 +133,7 @@ unfolding verdict state_of core.state_of program_scan rank_order
 delay_by_singles = refl
 
 -- they serve what waits: 0, 10, 20 and 30 ms, of which three are overruns
-serves_all : answer_to delayed [] (stop 0 ∷ []) (single 30 5) ≡ Ok (Scanned 1 0 0 3 false)
+serves_all : answer_to delayed [] (stop 0 ∷ []) (single 30 5) ≡ Ok (Scanned (set_of 1) (set_of 0) (set_of 0) 3 false)
 unfolding verdict state_of core.state_of program_scan rank_order singles_of calls_of first_refusal turn_refusal scan_answer
 serves_all = refl
 
@@ -154,7 +155,7 @@ half_of_time =
     plant [] (half ∷ []) (program [] (chart (initial_step [] ∷ []) [] []) ∷ []) (instance 0 0 ∷ [])
 
 -- a single scan may let all of it pass, and serves 0, 2^61 and 2^62
-all_of_time : answer_to half_of_time [] (stop 0 ∷ []) (single_of 0 (pos (2 ^ 62)) 5) ≡ Ok (Scanned 1 0 0 2 false)
+all_of_time : answer_to half_of_time [] (stop 0 ∷ []) (single_of 0 (pos (2 ^ 62)) 5) ≡ Ok (Scanned (set_of 1) (set_of 0) (set_of 0) 2 false)
 unfolding verdict state_of core.state_of program_scan rank_order singles_of calls_of first_refusal turn_refusal scan_answer
 all_of_time = refl
 
@@ -236,7 +237,7 @@ by_rise = plant (switch (codes "Go") false ∷ []) (single_task 0 0 1 ∷ []) (p
 
 -- it rises while halted, and waits: a scan after Go is due
 rise_while_halted : answer_to by_rise [] (go 200 ∷ input 0 (value.Bool true) 100 ∷ stop 5 ∷ []) (scan 201)
-    ≡ Ok (Scanned 1 0 0 0 false)
+    ≡ Ok (Scanned (set_of 1) (set_of 0) (set_of 0) 0 false)
 unfolding verdict state_of is_hit core.state_of program_scan rank_order singles_of calls_of scan_answer
 rise_while_halted =
     sole by_rise (erasure by_rise [] (go 200 ∷ input 0 (value.Bool true) 100 ∷ stop 5 ∷ [])) (ms 6) false refl refl refl
@@ -259,6 +260,6 @@ unfolding state_of
 epoch_leaves_halted = refl
 
 -- the releases that wait are kept: 10 and 20 ms, of which one is an overrun
-epoch_keeps_releases : answer_to lit [] (epoch 15 ∷ scan 0 ∷ []) (scan 20) ≡ Ok (Scanned 1 0 0 1 false)
+epoch_keeps_releases : answer_to lit [] (epoch 15 ∷ scan 0 ∷ []) (scan 20) ≡ Ok (Scanned (set_of 1) (set_of 0) (set_of 0) 1 false)
 unfolding verdict state_of is_hit core.state_of program_scan rank_order singles_of calls_of scan_answer
 epoch_keeps_releases = sole lit (erasure lit [] (epoch 15 ∷ scan 0 ∷ [])) (ms 20) false refl refl refl

@@ -8,9 +8,10 @@ use Rattle.sfc_expr.specs.Trees.{Expression, Literal, Not, StepActive, Binary}
 use Rattle.sfc_plant.specs.declared.association.Qualifier.TheVariants.{NonStored}
 use Rattle.sfc_plant.specs.declared.chart.Chart.{Chart}
 use Rattle.sfc_plant.specs.Plants.{PlantData}
-use Rattle.sfc_tables.specs.Ranks.{rank_order}
-use Rattle.sfc_instances.specs.PlantState.{program_scan}
+use Rattle.sfc_core.specs.sfc_tables.Ranks.{rank_order}
+use Rattle.sfc_core.specs.sfc_instances.PlantState.{program_scan}
 use Rattle.sfc_events.specs.declared.command.Answer.TheVariants.{Scanned}
+use Rattle.sfc_events.specs.InstanceSets.{set_of}
 use Rattle.sfc_events.specs.declared.refusal.Refusal.TheVariants.{Stopped}
 use Rattle.sfc_core.specs.PlantState as core
 use Rattle.sfc_core.specs.Due.{singles_of, calls_of}
@@ -55,35 +56,35 @@ abbrev leaving : TimedCommand → CommandHistory
 leaving set = set ∷ input 0 (value.Bool true) 15 ∷ scan 10 ∷ scan 0 ∷ []
 
 -- it activates step 1 (2.6.2)
-by_step : answer_to go_along table (leaving (break (at_step 1) 15)) (scan 20) ≡ Ok (Scanned 1 0 0 0 true)
+by_step : answer_to go_along table (leaving (break (at_step 1) 15)) (scan 20) ≡ Ok (Scanned (set_of 1) (set_of 0) (set_of 0) 0 true)
 unfolding verdict state_of is_hit core.state_of program_scan rank_order singles_of calls_of scan_answer
 by_step = sole go_along (erasure go_along table (leaving (break (at_step 1) 15))) (ms 20) true refl refl refl
 
 -- it clears transition 0 (2.6.5)
-by_transition : answer_to go_along table (leaving (break (at_transition 0) 15)) (scan 20) ≡ Ok (Scanned 1 0 0 0 true)
+by_transition : answer_to go_along table (leaving (break (at_transition 0) 15)) (scan 20) ≡ Ok (Scanned (set_of 1) (set_of 0) (set_of 0) 0 true)
 unfolding verdict state_of is_hit core.state_of program_scan rank_order singles_of calls_of scan_answer
 by_transition = sole go_along (erasure go_along table (leaving (break (at_transition 0) 15))) (ms 20) true refl refl refl
 
 -- it executes the lamp's action a last time, with Q at 0 (2.6.4.5)
-by_action : answer_to go_along table (leaving (break (at_action 0) 15)) (scan 20) ≡ Ok (Scanned 1 0 0 0 true)
+by_action : answer_to go_along table (leaving (break (at_action 0) 15)) (scan 20) ≡ Ok (Scanned (set_of 1) (set_of 0) (set_of 0) 0 true)
 unfolding verdict state_of is_hit core.state_of program_scan rank_order singles_of calls_of scan_answer
 by_action = sole go_along (erasure go_along table (leaving (break (at_action 0) 15))) (ms 20) true refl refl refl
 
 -- it leaves step 0, which is no hit
-not_by_leaving : answer_to go_along table (leaving (break (at_step 0) 15)) (scan 20) ≡ Ok (Scanned 1 0 0 0 false)
+not_by_leaving : answer_to go_along table (leaving (break (at_step 0) 15)) (scan 20) ≡ Ok (Scanned (set_of 1) (set_of 0) (set_of 0) 0 false)
 unfolding verdict state_of is_hit core.state_of program_scan rank_order singles_of calls_of scan_answer
 not_by_leaving = sole go_along (erasure go_along table (leaving (break (at_step 0) 15))) (ms 20) false refl refl refl
 
 -- a breakpoint that was taken away is not hit
 not_by_unset : answer_to go_along table (unbreak (at_step 1) 15 ∷ leaving (break (at_step 1) 15)) (scan 20)
-    ≡ Ok (Scanned 1 0 0 0 false)
+    ≡ Ok (Scanned (set_of 1) (set_of 0) (set_of 0) 0 false)
 unfolding verdict state_of is_hit core.state_of program_scan rank_order singles_of calls_of scan_answer
 not_by_unset =
     sole go_along (erasure go_along table (unbreak (at_step 1) 15 ∷ leaving (break (at_step 1) 15))) (ms 20) false refl refl refl
 
 -- one of two is enough: the condition of the other is FALSE
 by_one_of_two : answer_to go_along table (break (at_transition 0) 15 ∷ leaving (break_if (at_step 1) 1 15)) (scan 20)
-    ≡ Ok (Scanned 1 0 0 0 true)
+    ≡ Ok (Scanned (set_of 1) (set_of 0) (set_of 0) 0 true)
 unfolding verdict state_of is_hit core.state_of program_scan rank_order singles_of calls_of scan_answer
 by_one_of_two =
     sole go_along (erasure go_along table (break (at_transition 0) 15 ∷ leaving (break_if (at_step 1) 1 15))) (ms 20) true refl refl refl
@@ -91,37 +92,37 @@ by_one_of_two =
 -- ---- scans that go on
 
 -- the first scan of a life activates the initial step (2.6.2)
-by_initial : answer_to go_along table (break (at_step 0) 0 ∷ []) (scan 0) ≡ Ok (Scanned 1 0 0 0 true)
+by_initial : answer_to go_along table (break (at_step 0) 0 ∷ []) (scan 0) ≡ Ok (Scanned (set_of 1) (set_of 0) (set_of 0) 0 true)
 unfolding verdict state_of is_hit core.state_of program_scan rank_order singles_of calls_of scan_answer
 by_initial = sole go_along (erasure go_along table (break (at_step 0) 0 ∷ [])) (ms 0) true refl refl refl
 
 -- it clears no transition, though Go is TRUE
 not_by_first : answer_to go_along table (break (at_transition 0) 0 ∷ input 0 (value.Bool true) 0 ∷ []) (scan 0)
-    ≡ Ok (Scanned 1 0 0 0 false)
+    ≡ Ok (Scanned (set_of 1) (set_of 0) (set_of 0) 0 false)
 unfolding verdict state_of is_hit core.state_of program_scan rank_order singles_of calls_of scan_answer
 not_by_first =
     sole go_along (erasure go_along table (break (at_transition 0) 0 ∷ input 0 (value.Bool true) 0 ∷ [])) (ms 0) false refl refl refl
 
 -- at 10 ms step 0 is active as it was, and was activated before
-not_by_staying : answer_to go_along table (break (at_step 0) 5 ∷ scan 0 ∷ []) (scan 10) ≡ Ok (Scanned 1 0 0 0 false)
+not_by_staying : answer_to go_along table (break (at_step 0) 5 ∷ scan 0 ∷ []) (scan 10) ≡ Ok (Scanned (set_of 1) (set_of 0) (set_of 0) 0 false)
 unfolding verdict state_of is_hit core.state_of program_scan rank_order singles_of calls_of scan_answer
 not_by_staying = sole go_along (erasure go_along table (break (at_step 0) 5 ∷ scan 0 ∷ [])) (ms 10) false refl refl refl
 
 -- the first scan after a reset activates it anew
 by_new_life : answer_to go_along table (break (at_step 0) 15 ∷ reset 0 15 ∷ scan 10 ∷ scan 0 ∷ []) (scan 20)
-    ≡ Ok (Scanned 1 0 0 0 true)
+    ≡ Ok (Scanned (set_of 1) (set_of 0) (set_of 0) 0 true)
 unfolding verdict state_of is_hit core.state_of program_scan rank_order singles_of calls_of scan_answer
 by_new_life =
     sole go_along (erasure go_along table (break (at_step 0) 15 ∷ reset 0 15 ∷ scan 10 ∷ scan 0 ∷ [])) (ms 20) true refl refl refl
 
 -- an action is executed in each scan of its step
-by_each_scan : answer_to go_along table (break (at_action 0) 5 ∷ scan 0 ∷ []) (scan 10) ≡ Ok (Scanned 1 0 0 0 true)
+by_each_scan : answer_to go_along table (break (at_action 0) 5 ∷ scan 0 ∷ []) (scan 10) ≡ Ok (Scanned (set_of 1) (set_of 0) (set_of 0) 0 true)
 unfolding verdict state_of is_hit core.state_of program_scan rank_order singles_of calls_of scan_answer
 by_each_scan = sole go_along (erasure go_along table (break (at_action 0) 5 ∷ scan 0 ∷ [])) (ms 10) true refl refl refl
 
 -- and after its last one no more; the breakpoint of step 0 was not hit at 20 ms
 not_behind_last : answer_to go_along table (break (at_action 0) 25 ∷ scan 20 ∷ leaving (break (at_step 0) 15)) (scan 30)
-    ≡ Ok (Scanned 1 0 0 0 false)
+    ≡ Ok (Scanned (set_of 1) (set_of 0) (set_of 0) 0 false)
 unfolding verdict state_of is_hit core.state_of program_scan rank_order singles_of calls_of scan_answer
 not_behind_last =
     sole go_along (erasure go_along table (break (at_action 0) 25 ∷ scan 20 ∷ leaving (break (at_step 0) 15))) (ms 30) false
@@ -130,66 +131,66 @@ not_behind_last =
 -- ---- conditions
 
 -- TRUE
-if_true : answer_to go_along table (leaving (break_if (at_step 1) 0 15)) (scan 20) ≡ Ok (Scanned 1 0 0 0 true)
+if_true : answer_to go_along table (leaving (break_if (at_step 1) 0 15)) (scan 20) ≡ Ok (Scanned (set_of 1) (set_of 0) (set_of 0) 0 true)
 unfolding verdict state_of is_hit core.state_of program_scan rank_order singles_of calls_of scan_answer
 if_true = sole go_along (erasure go_along table (leaving (break_if (at_step 1) 0 15))) (ms 20) true refl refl refl
 
 -- FALSE
-if_false : answer_to go_along table (leaving (break_if (at_step 1) 1 15)) (scan 20) ≡ Ok (Scanned 1 0 0 0 false)
+if_false : answer_to go_along table (leaving (break_if (at_step 1) 1 15)) (scan 20) ≡ Ok (Scanned (set_of 1) (set_of 0) (set_of 0) 0 false)
 unfolding verdict state_of is_hit core.state_of program_scan rank_order singles_of calls_of scan_answer
 if_false = sole go_along (erasure go_along table (leaving (break_if (at_step 1) 1 15))) (ms 20) false refl refl refl
 
 -- a fault is no hit, and the answer doesn't tell of it: the instance ran
-if_faulty : answer_to go_along table (leaving (break_if (at_step 1) 2 15)) (scan 20) ≡ Ok (Scanned 1 0 0 0 false)
+if_faulty : answer_to go_along table (leaving (break_if (at_step 1) 2 15)) (scan 20) ≡ Ok (Scanned (set_of 1) (set_of 0) (set_of 0) 0 false)
 unfolding verdict state_of is_hit core.state_of program_scan rank_order singles_of calls_of scan_answer
 if_faulty = sole go_along (erasure go_along table (leaving (break_if (at_step 1) 2 15))) (ms 20) false refl refl refl
 
 -- a breakpoint at the same point takes the place of one whose condition is FALSE
 if_no_more : answer_to go_along table (break (at_step 1) 15 ∷ leaving (break_if (at_step 1) 1 15)) (scan 20)
-    ≡ Ok (Scanned 1 0 0 0 true)
+    ≡ Ok (Scanned (set_of 1) (set_of 0) (set_of 0) 0 true)
 unfolding verdict state_of is_hit core.state_of program_scan rank_order singles_of calls_of scan_answer
 if_no_more =
     sole go_along (erasure go_along table (break (at_step 1) 15 ∷ leaving (break_if (at_step 1) 1 15))) (ms 20) true refl refl refl
 
 -- what is read is the lamp after the scan: the first one lights it
-if_lit : answer_to go_along table (break_if (at_step 0) 3 0 ∷ []) (scan 0) ≡ Ok (Scanned 1 0 0 0 true)
+if_lit : answer_to go_along table (break_if (at_step 0) 3 0 ∷ []) (scan 0) ≡ Ok (Scanned (set_of 1) (set_of 0) (set_of 0) 0 true)
 unfolding verdict state_of is_hit core.state_of program_scan rank_order singles_of calls_of scan_answer
 if_lit = sole go_along (erasure go_along table (break_if (at_step 0) 3 0 ∷ [])) (ms 0) true refl refl refl
 
 -- so it was dark before, and isn't any more
-if_dark : answer_to go_along table (break_if (at_step 0) 4 0 ∷ []) (scan 0) ≡ Ok (Scanned 1 0 0 0 false)
+if_dark : answer_to go_along table (break_if (at_step 0) 4 0 ∷ []) (scan 0) ≡ Ok (Scanned (set_of 1) (set_of 0) (set_of 0) 0 false)
 unfolding verdict state_of is_hit core.state_of program_scan rank_order singles_of calls_of scan_answer
 if_dark = sole go_along (erasure go_along table (break_if (at_step 0) 4 0 ∷ [])) (ms 0) false refl refl refl
 
 -- a force hides that: the lamp reads FALSE
 if_forced_dark : answer_to go_along table (break_if (at_step 0) 3 0 ∷ force 1 (value.Bool false) 0 ∷ []) (scan 0)
-    ≡ Ok (Scanned 1 0 0 0 false)
+    ≡ Ok (Scanned (set_of 1) (set_of 0) (set_of 0) 0 false)
 unfolding verdict state_of is_hit core.state_of program_scan rank_order singles_of calls_of scan_answer
 if_forced_dark =
     sole go_along (erasure go_along table (break_if (at_step 0) 3 0 ∷ force 1 (value.Bool false) 0 ∷ [])) (ms 0) false refl refl refl
 
 -- at 20 ms it goes out
-if_lit_still : answer_to go_along table (leaving (break_if (at_step 1) 3 15)) (scan 20) ≡ Ok (Scanned 1 0 0 0 false)
+if_lit_still : answer_to go_along table (leaving (break_if (at_step 1) 3 15)) (scan 20) ≡ Ok (Scanned (set_of 1) (set_of 0) (set_of 0) 0 false)
 unfolding verdict state_of is_hit core.state_of program_scan rank_order singles_of calls_of scan_answer
 if_lit_still = sole go_along (erasure go_along table (leaving (break_if (at_step 1) 3 15))) (ms 20) false refl refl refl
 
 -- and is dark
-if_dark_then : answer_to go_along table (leaving (break_if (at_step 1) 4 15)) (scan 20) ≡ Ok (Scanned 1 0 0 0 true)
+if_dark_then : answer_to go_along table (leaving (break_if (at_step 1) 4 15)) (scan 20) ≡ Ok (Scanned (set_of 1) (set_of 0) (set_of 0) 0 true)
 unfolding verdict state_of is_hit core.state_of program_scan rank_order singles_of calls_of scan_answer
 if_dark_then = sole go_along (erasure go_along table (leaving (break_if (at_step 1) 4 15))) (ms 20) true refl refl refl
 
 -- the steps are those after the scan: step 1 is active
-if_active : answer_to go_along table (leaving (break_if (at_step 1) 7 15)) (scan 20) ≡ Ok (Scanned 1 0 0 0 true)
+if_active : answer_to go_along table (leaving (break_if (at_step 1) 7 15)) (scan 20) ≡ Ok (Scanned (set_of 1) (set_of 0) (set_of 0) 0 true)
 unfolding verdict state_of is_hit core.state_of program_scan rank_order singles_of calls_of scan_answer
 if_active = sole go_along (erasure go_along table (leaving (break_if (at_step 1) 7 15))) (ms 20) true refl refl refl
 
 -- and their times those at its instant: that of step 0 is 20 ms
-if_so_long : answer_to go_along table (leaving (break_if (at_step 1) 5 15)) (scan 20) ≡ Ok (Scanned 1 0 0 0 true)
+if_so_long : answer_to go_along table (leaving (break_if (at_step 1) 5 15)) (scan 20) ≡ Ok (Scanned (set_of 1) (set_of 0) (set_of 0) 0 true)
 unfolding verdict state_of is_hit core.state_of program_scan rank_order singles_of calls_of scan_answer
 if_so_long = sole go_along (erasure go_along table (leaving (break_if (at_step 1) 5 15))) (ms 20) true refl refl refl
 
 -- and not 21 ms
-if_longer : answer_to go_along table (leaving (break_if (at_step 1) 6 15)) (scan 20) ≡ Ok (Scanned 1 0 0 0 false)
+if_longer : answer_to go_along table (leaving (break_if (at_step 1) 6 15)) (scan 20) ≡ Ok (Scanned (set_of 1) (set_of 0) (set_of 0) 0 false)
 unfolding verdict state_of is_hit core.state_of program_scan rank_order singles_of calls_of scan_answer
 if_longer = sole go_along (erasure go_along table (leaving (break_if (at_step 1) 6 15))) (ms 20) false refl refl refl
 
@@ -233,13 +234,13 @@ ended_by_end = refl
 -- ---- single scans
 
 -- one that activates step 0 is no hit
-no_hit_by_single : answer_to go_along table (stop 0 ∷ break (at_step 0) 0 ∷ []) (single 0 0) ≡ Ok (Scanned 1 0 0 0 false)
+no_hit_by_single : answer_to go_along table (stop 0 ∷ break (at_step 0) 0 ∷ []) (single 0 0) ≡ Ok (Scanned (set_of 1) (set_of 0) (set_of 0) 0 false)
 unfolding verdict state_of is_hit core.state_of program_scan rank_order singles_of calls_of first_refusal turn_refusal scan_answer
 no_hit_by_single = refl
 
 -- nor is one that clears transition 0
 no_hit_by_clearing : answer_to go_along table (stop 15 ∷ leaving (break (at_transition 0) 15)) (single 5 15)
-    ≡ Ok (Scanned 1 0 0 0 false)
+    ≡ Ok (Scanned (set_of 1) (set_of 0) (set_of 0) 0 false)
 unfolding verdict state_of is_hit core.state_of program_scan rank_order singles_of calls_of first_refusal turn_refusal scan_answer
 no_hit_by_clearing = refl
 
@@ -260,17 +261,17 @@ abbrev zeroed : CommandHistory
 zeroed = input 1 (value.Int (pos 0)) 6 ∷ watched
 
 -- with 5 the scan at 10 ms runs, and executes the action
-hit_without_fault : answer_to dividing [] watched (scan 10) ≡ Ok (Scanned 1 0 0 0 true)
+hit_without_fault : answer_to dividing [] watched (scan 10) ≡ Ok (Scanned (set_of 1) (set_of 0) (set_of 0) 0 true)
 unfolding verdict state_of is_hit core.state_of program_scan rank_order singles_of calls_of scan_answer
 hit_without_fault = sole dividing (erasure dividing [] watched) (ms 10) true refl refl refl
 
 -- with 0 it faults: the latest scan that ran executed the action, but that was not this one
-no_hit_by_fault : answer_to dividing [] zeroed (scan 10) ≡ Ok (Scanned 0 1 0 0 false)
+no_hit_by_fault : answer_to dividing [] zeroed (scan 10) ≡ Ok (Scanned (set_of 0) (set_of 1) (set_of 0) 0 false)
 unfolding verdict state_of is_hit core.state_of program_scan rank_order singles_of calls_of scan_answer
 no_hit_by_fault = sole dividing (erasure dividing [] zeroed) (ms 10) false refl refl refl
 
 -- at 20 ms the instance is skipped
-no_hit_by_skipped : answer_to dividing [] (scan 10 ∷ zeroed) (scan 20) ≡ Ok (Scanned 0 0 1 0 false)
+no_hit_by_skipped : answer_to dividing [] (scan 10 ∷ zeroed) (scan 20) ≡ Ok (Scanned (set_of 0) (set_of 0) (set_of 1) 0 false)
 unfolding verdict state_of is_hit core.state_of program_scan rank_order singles_of calls_of scan_answer
 no_hit_by_skipped = sole dividing (erasure dividing [] (scan 10 ∷ zeroed)) (ms 20) false refl refl refl
 
@@ -285,13 +286,13 @@ half_faulting =
     (instance 0 0 ∷ instance 0 1 ∷ [])
 
 -- at 10 ms the first faults, and the second runs: a breakpoint at B is hit
-hit_beside_fault : answer_to half_faulting [] (break_in 1 (at_action 0) 5 ∷ scan 0 ∷ []) (scan 10) ≡ Ok (Scanned 2 1 0 0 true)
+hit_beside_fault : answer_to half_faulting [] (break_in 1 (at_action 0) 5 ∷ scan 0 ∷ []) (scan 10) ≡ Ok (Scanned (set_of 2) (set_of 1) (set_of 0) 0 true)
 unfolding verdict state_of is_hit core.state_of program_scan rank_order singles_of calls_of scan_answer
 hit_beside_fault =
     sole half_faulting (erasure half_faulting [] (break_in 1 (at_action 0) 5 ∷ scan 0 ∷ [])) (ms 10) true refl refl refl
 
 -- and one at A isn't
-no_hit_beside_fault : answer_to half_faulting [] (break_in 0 (at_action 0) 5 ∷ scan 0 ∷ []) (scan 10) ≡ Ok (Scanned 2 1 0 0 false)
+no_hit_beside_fault : answer_to half_faulting [] (break_in 0 (at_action 0) 5 ∷ scan 0 ∷ []) (scan 10) ≡ Ok (Scanned (set_of 2) (set_of 1) (set_of 0) 0 false)
 unfolding verdict state_of is_hit core.state_of program_scan rank_order singles_of calls_of scan_answer
 no_hit_beside_fault =
     sole half_faulting (erasure half_faulting [] (break_in 0 (at_action 0) 5 ∷ scan 0 ∷ [])) (ms 10) false refl refl refl
@@ -317,7 +318,7 @@ abbrev g : List BreakCondition
 g = condition_of 0 (reads 0) ∷ []
 
 -- the first runs before the second; but what is read are the variables after the whole scan
-after_the_others : answer_to one_task g (break_if (at_step 0) 0 0 ∷ []) (scan 0) ≡ Ok (Scanned 3 0 0 0 true)
+after_the_others : answer_to one_task g (break_if (at_step 0) 0 0 ∷ []) (scan 0) ≡ Ok (Scanned (set_of 3) (set_of 0) (set_of 0) 0 true)
 unfolding verdict state_of is_hit core.state_of program_scan rank_order singles_of calls_of scan_answer
 after_the_others = sole one_task (erasure one_task g (break_if (at_step 0) 0 0 ∷ [])) (ms 0) true refl refl refl
 

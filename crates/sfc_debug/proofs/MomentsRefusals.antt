@@ -3,7 +3,7 @@ use Rattle.std.proofs.Common.{◌≡◌, refl, ℕ, ◌+◌, ◌-◌, ◌^◌, t
 use Rattle.std.specs.Prelude.{codes, replicate}
 use Rattle.sfc_base.specs.declared.value.Value.TheVariants as value
 use Rattle.sfc_plant.specs.declared.association.Qualifier.TheVariants.{NonStored}
-use Rattle.sfc_tables.specs.Ranks.{rank_order}
+use Rattle.sfc_core.specs.sfc_tables.Ranks.{rank_order}
 use Rattle.sfc_plant.specs.Plants.{PlantData}
 use Rattle.sfc_events.specs.declared.command.Answer.TheVariants.{Done}
 use Rattle.sfc_events.specs.declared.command.Command.TheVariants as commands

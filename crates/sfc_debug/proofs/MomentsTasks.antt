@@ -8,9 +8,10 @@ use Rattle.sfc_expr.specs.declared.operator.Operator.TheVariants as op
 use Rattle.sfc_expr.specs.Trees.{Expression, Binary}
 use Rattle.sfc_plant.specs.declared.association.Qualifier.TheVariants.{NonStored}
 use Rattle.sfc_plant.specs.Plants.{PlantData}
-use Rattle.sfc_tables.specs.Ranks.{rank_order}
-use Rattle.sfc_instances.specs.PlantState.{program_scan}
+use Rattle.sfc_core.specs.sfc_tables.Ranks.{rank_order}
+use Rattle.sfc_core.specs.sfc_instances.PlantState.{program_scan}
 use Rattle.sfc_events.specs.declared.command.Answer.TheVariants.{Done, Value, Scanned}
+use Rattle.sfc_events.specs.InstanceSets.{set_of}
 use Rattle.sfc_events.specs.declared.event.Event.TheVariants.{Scan}
 use Rattle.sfc_events.specs.declared.refusal.Refusal.{Refusal}
 use Rattle.sfc_events.specs.declared.refusal.Refusal.TheVariants.{NotDue, Yield, Stopped, NotRunning, NotStopped, NoSuchCondition}
@@ -100,12 +101,12 @@ unfolding verdict state_of is_hit core_state.state_of program_scan rank_order si
 lo_waits = ap (answer_by false) (lo_yields [] (ms 0) refl refl refl)
 
 -- Hi goes first
-hi_goes : answer_to both [] [] (scan_of 0 0) ≡ Ok (Scanned 1 0 0 0 false)
+hi_goes : answer_to both [] [] (scan_of 0 0) ≡ Ok (Scanned (set_of 1) (set_of 0) (set_of 0) 0 false)
 unfolding verdict state_of is_hit core_state.state_of program_scan rank_order singles_of calls_of scan_answer
 hi_goes = ap (answer_by false) (hi_accepted [] (ms 0) refl refl)
 
 -- then Lo, of which instance 1 is
-lo_goes : answer_to both [] (scan_of 0 0 ∷ []) (scan_of 1 0) ≡ Ok (Scanned 2 0 0 0 false)
+lo_goes : answer_to both [] (scan_of 0 0 ∷ []) (scan_of 1 0) ≡ Ok (Scanned (set_of 2) (set_of 0) (set_of 0) 0 false)
 unfolding verdict state_of is_hit core_state.state_of program_scan rank_order singles_of calls_of scan_answer
 lo_goes = ap (answer_by false) (lo_accepted (erasure both [] (scan_of 0 0 ∷ [])) (ms 0) (NotDue (Some (ms 20))) refl refl refl)
 
@@ -115,12 +116,12 @@ unfolding verdict state_of core_state.state_of singles_of calls_of first_refusal
 lo_not_due = refl
 
 -- at 35 ms Hi waits since 20 ms, and nothing else of it came: no overrun
-hi_in_time : answer_to both [] begun (scan_of 0 35) ≡ Ok (Scanned 1 0 0 0 false)
+hi_in_time : answer_to both [] begun (scan_of 0 35) ≡ Ok (Scanned (set_of 1) (set_of 0) (set_of 0) 0 false)
 unfolding verdict state_of is_hit core_state.state_of program_scan rank_order singles_of calls_of scan_answer
 hi_in_time = ap (answer_by false) (hi_accepted (erasure both [] begun) (ms 35) refl refl)
 
 -- of Lo 10, 20 and 30 ms wait: two overruns
-lo_late : answer_to both [] (scan_of 0 35 ∷ begun) (scan_of 1 35) ≡ Ok (Scanned 2 0 0 2 false)
+lo_late : answer_to both [] (scan_of 0 35 ∷ begun) (scan_of 1 35) ≡ Ok (Scanned (set_of 2) (set_of 0) (set_of 0) 2 false)
 unfolding verdict state_of is_hit core_state.state_of program_scan rank_order singles_of calls_of scan_answer
 lo_late = ap (answer_by false) (lo_accepted (erasure both [] (scan_of 0 35 ∷ begun)) (ms 35) (NotDue (Some (ms 40))) refl refl refl)
 
@@ -154,7 +155,7 @@ unfolding verdict state_of
 scan_not_yet = refl
 
 -- but one at a time, here 7 ms later
-first_single : answer_to one [] (stop 0 ∷ []) (single 7 2) ≡ Ok (Scanned 1 0 0 0 false)
+first_single : answer_to one [] (stop 0 ∷ []) (single 7 2) ≡ Ok (Scanned (set_of 1) (set_of 0) (set_of 0) 0 false)
 unfolding verdict state_of core_state.state_of program_scan rank_order singles_of calls_of first_refusal turn_refusal scan_answer
 first_single = refl
 
@@ -164,7 +165,7 @@ unfolding state_of
 first_at = refl
 
 -- and 2 ms later
-second_single : answer_to one [] (single 7 2 ∷ stop 0 ∷ []) (single 2 3) ≡ Ok (Scanned 1 0 0 0 false)
+second_single : answer_to one [] (single 7 2 ∷ stop 0 ∷ []) (single 2 3) ≡ Ok (Scanned (set_of 1) (set_of 0) (set_of 0) 0 false)
 unfolding verdict state_of core_state.state_of program_scan rank_order singles_of calls_of first_refusal turn_refusal scan_answer
 second_single = refl
 
@@ -189,7 +190,7 @@ unfolding state_of
 goes_on_at = refl
 
 -- a millisecond later the task is due
-due_again : answer_to one [] singles (scan 5) ≡ Ok (Scanned 1 0 0 0 false)
+due_again : answer_to one [] singles (scan 5) ≡ Ok (Scanned (set_of 1) (set_of 0) (set_of 0) 0 false)
 unfolding verdict state_of is_hit core_state.state_of program_scan rank_order singles_of calls_of scan_answer
 due_again = sole one (erasure one [] singles) (ms 10) false refl refl refl
 
@@ -230,12 +231,12 @@ abbrev hit : CommandHistory
 hit = scan 20 ∷ watched
 
 -- at 20 ms it is activated: a hit
-hits_at_20 : answer_to branched [] watched (scan 20) ≡ Ok (Scanned 1 0 0 0 true)
+hits_at_20 : answer_to branched [] watched (scan 20) ≡ Ok (Scanned (set_of 1) (set_of 0) (set_of 0) 0 true)
 unfolding verdict state_of is_hit core_state.state_of program_scan rank_order singles_of calls_of scan_answer
 hits_at_20 = sole branched (erasure branched [] watched) (ms 20) true refl refl refl
 
 -- at 10 ms it wasn't
-no_hit_at_10 : answer_to branched [] (scan 0 ∷ break (at_step 2) 0 ∷ []) (scan 10) ≡ Ok (Scanned 1 0 0 0 false)
+no_hit_at_10 : answer_to branched [] (scan 0 ∷ break (at_step 2) 0 ∷ []) (scan 10) ≡ Ok (Scanned (set_of 1) (set_of 0) (set_of 0) 0 false)
 unfolding verdict state_of is_hit core_state.state_of program_scan rank_order singles_of calls_of scan_answer
 no_hit_at_10 = sole branched (erasure branched [] (scan 0 ∷ break (at_step 2) 0 ∷ [])) (ms 10) false refl refl refl
 
@@ -250,7 +251,7 @@ unfolding state_of is_hit core_state.state_of program_scan rank_order
 on_again_at = refl
 
 -- 10 ms later the task is due; the breakpoint is set still, but step 2 was activated before
-due_after_hit : answer_to branched [] (go 5_000 ∷ hit) (scan 5_010) ≡ Ok (Scanned 1 0 0 0 false)
+due_after_hit : answer_to branched [] (go 5_000 ∷ hit) (scan 5_010) ≡ Ok (Scanned (set_of 1) (set_of 0) (set_of 0) 0 false)
 unfolding verdict state_of is_hit core_state.state_of program_scan rank_order singles_of calls_of scan_answer
 due_after_hit = sole branched (erasure branched [] (go 5_000 ∷ hit)) (ms 30) false refl refl refl
 
@@ -280,18 +281,18 @@ abbrev passed : TimedCommand → CommandHistory
 passed set = scan 20 ∷ scan 10 ∷ scan 0 ∷ set ∷ []
 
 -- at 20 ms V is FALSE
-while_dark : answer_to branched table (scan 10 ∷ scan 0 ∷ break_if (at_step 2) 0 0 ∷ []) (scan 20) ≡ Ok (Scanned 1 0 0 0 false)
+while_dark : answer_to branched table (scan 10 ∷ scan 0 ∷ break_if (at_step 2) 0 0 ∷ []) (scan 20) ≡ Ok (Scanned (set_of 1) (set_of 0) (set_of 0) 0 false)
 unfolding verdict state_of is_hit core_state.state_of program_scan rank_order singles_of calls_of scan_answer
 while_dark =
     sole branched (erasure branched table (scan 10 ∷ scan 0 ∷ break_if (at_step 2) 0 0 ∷ [])) (ms 20) false refl refl refl
 
 -- at 30 ms V's action is executed, and step 2 lasts for 10 ms
-so_long : answer_to branched table (passed (break_if (at_action 0) 1 0)) (scan 30) ≡ Ok (Scanned 1 0 0 0 true)
+so_long : answer_to branched table (passed (break_if (at_action 0) 1 0)) (scan 30) ≡ Ok (Scanned (set_of 1) (set_of 0) (set_of 0) 0 true)
 unfolding verdict state_of is_hit core_state.state_of program_scan rank_order singles_of calls_of scan_answer
 so_long = sole branched (erasure branched table (passed (break_if (at_action 0) 1 0))) (ms 30) true refl refl refl
 
 -- with a condition that faults that is no hit
-at_fault : answer_to branched table (passed (break_if (at_action 0) 2 0)) (scan 30) ≡ Ok (Scanned 1 0 0 0 false)
+at_fault : answer_to branched table (passed (break_if (at_action 0) 2 0)) (scan 30) ≡ Ok (Scanned (set_of 1) (set_of 0) (set_of 0) 0 false)
 unfolding verdict state_of is_hit core_state.state_of program_scan rank_order singles_of calls_of scan_answer
 at_fault = sole branched (erasure branched table (passed (break_if (at_action 0) 2 0))) (ms 30) false refl refl refl
 

@@ -8,19 +8,19 @@ use Rattle.sfc_base.specs.declared.ids.ProgId.{ProgId}
 use Rattle.sfc_plant.specs.Finding.{chart_of}
 use Rattle.sfc_plant.specs.Plants.{PlantData}
 use Rattle.sfc_plant.specs.Sound.{IsPlant}
-use Rattle.sfc_tables.specs.Tables.{Tabled, tables_of}
-use Rattle.sfc_image.specs.Environments.{environment_of}
-use Rattle.sfc_image.specs.Values.{variable_count}
-use Rattle.sfc_image.proofs.Counting.{bool_cases}
-use Rattle.sfc_image.proofs.Pasts as image
-use Rattle.sfc_instance.specs.Answers.{is_step_activated, is_transition_cleared, is_action_executed, step_elapsed}
-use Rattle.sfc_instance.specs.Life.{InstanceState, latest_instant}
-use Rattle.sfc_instance.specs.Past.{instance_past}
-use Rattle.sfc_instance.specs.ProgramScan.{moment}
-use Rattle.sfc_instance.specs.declared.scan_end.ScanEnd.TheVariants.{Ran}
-use Rattle.sfc_instances.specs.Past.{instances_past}
-use Rattle.sfc_instances.specs.PlantState.{PlantState}
-use Rattle.sfc_instances.proofs.Pasts as all_instances
+use Rattle.sfc_core.specs.sfc_tables.Tables.{Tabled, tables_of}
+use Rattle.sfc_core.specs.sfc_image.Environments.{environment_of}
+use Rattle.sfc_core.specs.sfc_image.Values.{variable_count}
+use Rattle.sfc_core.proofs.of_sfc_image.Counting.{bool_cases}
+use Rattle.sfc_core.proofs.of_sfc_image.Pasts as image
+use Rattle.sfc_core.specs.sfc_instance.Answers.{is_step_activated, is_transition_cleared, is_action_executed, step_elapsed}
+use Rattle.sfc_core.specs.sfc_instance.Life.{InstanceState, latest_instant}
+use Rattle.sfc_core.specs.sfc_instance.Past.{instance_past}
+use Rattle.sfc_core.specs.sfc_instance.ProgramScan.{moment}
+use Rattle.sfc_core.specs.sfc_instance.declared.scan_end.ScanEnd.TheVariants.{Ran}
+use Rattle.sfc_core.specs.sfc_instances.Past.{instances_past}
+use Rattle.sfc_core.specs.sfc_instances.PlantState.{PlantState}
+use Rattle.sfc_core.proofs.of_sfc_instances.Pasts as all_instances
 use Rattle.sfc_events.specs.Commands.{event_of}
 use Rattle.sfc_events.specs.History.{History}
 use Rattle.sfc_events.specs.declared.command.Answer.TheVariants.{Value}
@@ -32,12 +32,14 @@ use Rattle.sfc_events.specs.declared.event.Event.{Event}
 use Rattle.sfc_events.specs.declared.event.Event.TheVariants as events
 use Rattle.sfc_core.specs.Past.{history_past}
 use Rattle.sfc_core.specs.PlantState as core_state
-use Rattle.sfc_core.specs.Verdict.{end_bits, or_then}
+use Rattle.sfc_core.specs.Verdict.{ended, or_then}
 use Rattle.sfc_core.proofs.Pasts as core
 use Rattle.sfc_debug.specs.declared.break_condition.BreakCondition.{BreakCondition}
 use Rattle.sfc_debug.specs.declared.breakpoint.Breakpoint.{Breakpoint}
 use Rattle.sfc_debug.specs.Histories.{CommandHistory}
-use Rattle.sfc_debug.specs.Hits.{is_set, has_happened, holds, environment_after, is_hit, any_hit}
+use Rattle.sfc_events.specs.declared.instance_set.InstanceSet.{InstanceSet}
+use Rattle.sfc_events.specs.InstanceSets.{has, set_of}
+use Rattle.sfc_debug.specs.Hits.{has_happened, holds, environment_after, is_hit, any_hit}
 use Rattle.sfc_debug.specs.Meaning.{hits_at}
 use Rattle.sfc_debug.specs.Past.{past_in, debug_past}
 use Rattle.sfc_debug.specs.Points.{has_point, is_point_of, points_after}
@@ -102,7 +104,7 @@ module _ (shows : ShowsByPast) (plant : PlantData) (table : List BreakCondition)
       ∙ image.environment_by plant one.changes two.changes p (ap (λ past. past.variables) same)
       (moment (tables_of (chart_of plant p)) life (latest_instant life) false)
 
-  hit_by : (ran : ℕ) (breakpoint : Breakpoint) → is_hit plant table ran one breakpoint ≡ is_hit plant table ran two breakpoint
+  hit_by : (ran : InstanceSet) (breakpoint : Breakpoint) → is_hit plant table ran one breakpoint ≡ is_hit plant table ran two breakpoint
   unfolding is_hit
   hit_by ran breakpoint =
       let p = breakpoint.program in
@@ -113,11 +115,11 @@ module _ (shows : ShowsByPast) (plant : PlantData) (table : List BreakCondition)
             let happened = happened_by shows (tables_of (chart_of plant p)) (one.instance_state p.0) (two.instance_state p.0)
             (life_by p lt) point parts.1 in
             let env = environment_by p lt in
-            (λ i. has_point plant p point && is_set ran p.0 && happened i && holds table (env i) breakpoint.condition))
-        | inr none ↦ unmet (has_point plant p point) (is_set ran p.0) _ _ _ _ none
+            (λ i. has_point plant p point && has ran p.0 && happened i && holds table (env i) breakpoint.condition))
+        | inr none ↦ unmet (has_point plant p point) (has ran p.0) _ _ _ _ none
       ]
 
-  any_by : (ran : ℕ) (points : List Breakpoint) → any_hit plant table ran one points ≡ any_hit plant table ran two points
+  any_by : (ran : InstanceSet) (points : List Breakpoint) → any_hit plant table ran one points ≡ any_hit plant table ran two points
   any_by ran [] = refl
   any_by ran (breakpoint ∷ points) =
       let first = hit_by ran breakpoint in
@@ -135,9 +137,9 @@ module _ (shows : ShowsByPast) (plant : PlantData) (sound : IsPlant plant) (tabl
       (ap (λ p. p.instances) same) in
       let after = core_state.state_of plant ((events.Scan task, t) ∷ h) in
       let next = core.past_next plant sound (events.Scan task, t) h g same in
-      (λ i. any_hit plant table (ran i) after points)
+      (λ i. any_hit plant table (set_of (ran i)) after points)
       ∙ any_by shows plant table after (core_state.state_of plant ((events.Scan task, t) ∷ g)) (ap (λ p. p.instances) next)
-      (end_bits Ran plant g task t) points
+      (ended Ran plant g task t) points
   hits_by command t points = refl
 
   -- what is no event

@@ -1,7 +1,6 @@
 -- When a scan hits a breakpoint (our choice).
 use Rattle.std.specs.Prelude.{ℕ, ◌==◌, Bool, true, false, ◌&&◌, ◌||◌, List, [], ◌∷◌, slice_get, Option, Some}
 use Rattle.std.specs.Prelude.{None, Result, Ok}
-use Rattle.std.specs.Int.{bit_at}
 use Rattle.sfc_base.specs.declared.value.Value.{Value}
 use Rattle.sfc_base.specs.declared.value.Value.TheVariants as value
 use Rattle.sfc_base.specs.declared.ids.ProgId.{ProgId}
@@ -11,14 +10,16 @@ use Rattle.sfc_expr.specs.Trees.{Expression}
 use Rattle.sfc_expr.specs.declared.fault.Fault.{Fault}
 use Rattle.sfc_plant.specs.Plants.{PlantData}
 use Rattle.sfc_plant.specs.Finding.{chart_of}
-use Rattle.sfc_tables.specs.Tables.{Tabled, tables_of}
-use Rattle.sfc_instance.specs.Answers.{is_step_activated, is_transition_cleared, is_action_executed}
-use Rattle.sfc_instance.specs.Life.{InstanceState, latest_instant}
-use Rattle.sfc_instance.specs.ProgramScan.{environment}
-use Rattle.sfc_instances.specs.PlantState.{PlantState}
+use Rattle.sfc_core.specs.sfc_tables.Tables.{Tabled, tables_of}
+use Rattle.sfc_core.specs.sfc_instance.Answers.{is_step_activated, is_transition_cleared, is_action_executed}
+use Rattle.sfc_core.specs.sfc_instance.Life.{InstanceState, latest_instant}
+use Rattle.sfc_core.specs.sfc_instance.ProgramScan.{environment}
+use Rattle.sfc_core.specs.sfc_instances.PlantState.{PlantState}
 use Rattle.sfc_events.specs.declared.command.CondId.{CondId}
 use Rattle.sfc_events.specs.declared.command.Point.{Point}
 use Rattle.sfc_events.specs.declared.command.Point.TheVariants.{Step, Transition, Action}
+use Rattle.sfc_events.specs.declared.instance_set.InstanceSet.{InstanceSet}
+use Rattle.sfc_events.specs.InstanceSets.{has}
 use Rattle.sfc_debug.specs.declared.break_condition.BreakCondition.{BreakCondition}
 use Rattle.sfc_debug.specs.declared.breakpoint.Breakpoint.{Breakpoint}
 use Rattle.sfc_debug.specs.Points.{has_point}
@@ -53,23 +54,19 @@ has_happened tables instance_state (Step s) = is_step_activated tables instance_
 has_happened tables instance_state (Transition tr) = is_transition_cleared tables instance_state tr.0
 has_happened tables instance_state (Action a) = is_action_executed tables instance_state a.0
 
--- bit k of a number is set
-abbrev pub is_set : ℕ → ℕ → Bool
-is_set bits k = bit_at bits k == 1
-
 -- what a condition reads after a scan: the variables after the whole scan, the instance's steps, and their times at its instant
 abbrev pub environment_after : PlantData → PlantState → ProgId → Environment
 environment_after plant state p =
     environment plant p (state.instance_state p.0).life state.changes (latest_instant (state.instance_state p.0).life) false
 
--- The breakpoint is hit by a scan in which the instances with these bits ran without fault, and after which everything stands so.
-unfoldable pub is_hit : PlantData → List BreakCondition → ℕ → PlantState → Breakpoint → Bool
+-- The breakpoint is hit by a scan in which these instances ran without fault, and after which everything stands so.
+unfoldable pub is_hit : PlantData → List BreakCondition → InstanceSet → PlantState → Breakpoint → Bool
 is_hit plant table ran state breakpoint =
-    has_point plant breakpoint.program breakpoint.point && is_set ran breakpoint.program.0
+    has_point plant breakpoint.program breakpoint.point && has ran breakpoint.program.0
     && has_happened (tables_of (chart_of plant breakpoint.program)) (state.instance_state breakpoint.program.0) breakpoint.point
     && holds table (environment_after plant state breakpoint.program) breakpoint.condition
 
 -- one of them is
-abbrev pub any_hit : PlantData → List BreakCondition → ℕ → PlantState → List Breakpoint → Bool
+abbrev pub any_hit : PlantData → List BreakCondition → InstanceSet → PlantState → List Breakpoint → Bool
 any_hit plant table ran state [] = false
 any_hit plant table ran state (breakpoint ∷ set) = is_hit plant table ran state breakpoint || any_hit plant table ran state set

@@ -22,11 +22,22 @@ pub mod Tracing
 pub mod Work
 -- what debuggers agree with
 pub mod Agreement
+-- what a debugger steers
+pub mod Steered
 -- what a list of commands leaves
 pub mod Past
 -- what an opening stands for
 pub mod Openings
+-- the run instant as a sum, the rows that are wanted, and the work of a scan with its number
+pub mod Sums
 -- what the laws say of halting, of breakpoints, of hits, of a pause, and of what was told
 pub mod Meaning
 -- ---- what private clauses cite
 pub mod Private
+-- What the crates above name through this one.
+pub use Rattle.sfc_core.specs as sfc_core
+pub use Rattle.sfc_core.specs.sfc_image as sfc_image
+pub use Rattle.sfc_core.specs.sfc_instance as sfc_instance
+pub use Rattle.sfc_core.specs.sfc_instances as sfc_instances
+pub use Rattle.sfc_core.specs.sfc_tables as sfc_tables
+pub use Rattle.sfc_core.specs.sfc_tasks as sfc_tasks

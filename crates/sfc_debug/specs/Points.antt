@@ -5,7 +5,7 @@ use Rattle.std.specs.Prelude.{Option, Some, None}
 use Rattle.sfc_base.specs.declared.ids.ProgId.{ProgId}
 use Rattle.sfc_plant.specs.Plants.{PlantData}
 use Rattle.sfc_plant.specs.Finding.{chart_of}
-use Rattle.sfc_tables.specs.Tables.{Tabled, tables_of}
+use Rattle.sfc_core.specs.sfc_tables.Tables.{Tabled, tables_of}
 use Rattle.sfc_events.specs.declared.command.Command.{Command}
 use Rattle.sfc_events.specs.declared.command.Command.TheVariants.{Break, BreakIf, Unbreak}
 use Rattle.sfc_events.specs.declared.command.Point.{Point}

@@ -7,9 +7,9 @@ use Rattle.sfc_events.specs.declared.event.Event.{Event}
 use Rattle.sfc_events.specs.declared.event.Event.TheVariants as events
 use Rattle.sfc_events.specs.Commands.{event_of}
 use Rattle.sfc_events.specs.History.{History}
-use Rattle.sfc_instance.specs.declared.scan_end.ScanEnd.TheVariants.{Ran}
+use Rattle.sfc_core.specs.sfc_instance.declared.scan_end.ScanEnd.TheVariants.{Ran}
 use Rattle.sfc_core.specs.PlantState as core
-use Rattle.sfc_core.specs.Verdict.{end_bits}
+use Rattle.sfc_core.specs.Verdict.{ended}
 use Rattle.sfc_debug.specs.declared.break_condition.BreakCondition.{BreakCondition}
 use Rattle.sfc_debug.specs.declared.breakpoint.Breakpoint.{Breakpoint}
 use Rattle.sfc_debug.specs.declared.mode.Mode.TheVariants.{Running}
@@ -37,7 +37,7 @@ with_event (Some event) t h = (event, t) ∷ h
 -- A scan at t hits one of these breakpoints; no other command hits.
 abbrev pub hits : PlantData → List BreakCondition → Command → ℤ → List Breakpoint → History → Bool
 hits plant table (Scan task) t points h =
-    any_hit plant table (end_bits Ran plant h task t) (core.state_of plant ((events.Scan task, t) ∷ h)) points
+    any_hit plant table (ended Ran plant h task t) (core.state_of plant ((events.Scan task, t) ∷ h)) points
 hits plant table _ t points h = false
 
 -- after a command with this run instant that hit, or not

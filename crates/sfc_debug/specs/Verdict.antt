@@ -1,11 +1,11 @@
 -- The verdict on a command: the first refusal that applies, in one order (our choice), else the answer.
 use Rattle.std.specs.Prelude.{ℕ, ◌-◌, ◌==◌, ◌^◌, nat_lt, Bool, false, not, ◌||◌, cond, is_none, List, [], ◌∷◌}
 use Rattle.std.specs.Prelude.{length}
-use Rattle.std.specs.Prelude.{ℤ, pos, int_lt, Option, Some, None, Result, Ok, Err, slice_get}
+use Rattle.std.specs.Prelude.{ℤ, pos, int_lt, Option, Some, None, Result, Ok, Err, slice_get, unwrap_or}
 use Rattle.sfc_base.specs.declared.ids.ProgId.{ProgId}
 use Rattle.sfc_base.specs.declared.ids.VarId.{VarId}
 use Rattle.sfc_plant.specs.Plants.{PlantData}
-use Rattle.sfc_image.specs.Values.{variable_count}
+use Rattle.sfc_core.specs.sfc_image.Values.{variable_count}
 use Rattle.sfc_events.specs.declared.command.Answer.{Answer}
 use Rattle.sfc_events.specs.declared.command.Answer.TheVariants.{Done, Value, Scanned}
 use Rattle.sfc_events.specs.declared.command.Command.{Command}
@@ -146,6 +146,16 @@ verdict_in plant table state accepted command raw =
 -- on a command at a raw instant after the accepted ones
 unfoldable pub verdict : PlantData → List BreakCondition → CommandHistory → Command → ℤ → Result Answer Refusal
 verdict plant table h command raw = verdict_in plant table (state_of plant table h) (length h) command raw
+
+-- what a breakpoint at this point, with a condition that isn't in the table, is refused for by what it names
+abbrev pub unnumbered : PlantData → ProgId → Point → Refusal
+unnumbered plant p point = unwrap_or (point_refusal plant p point) NoSuchCondition
+
+-- and where everything stands so, after so many accepted commands: the end and the clock come first
+abbrev pub refused_unnumbered : PlantData → DebugState → ℕ → ProgId → Point → ℤ → Refusal
+refused_unnumbered plant state accepted p point raw =
+    unwrap_or (or_then (end_refusal state.clock.mode accepted) (clock_refusal state.clock (commands.BreakIf p point (record { 0 = 0 })) raw))
+    (unnumbered plant p point)
 
 -- ---- many commands
 

@@ -3,6 +3,9 @@
 use sfc_base::ids::ProgId;
 use sfc_plant::typed::Condition;
 
+/// How many conditions a table has at most, so that a number is left that names none.
+pub const MOST: usize = 65_535;
+
 /// A condition that breakpoints of a program instance may wait for (3.3).
 #[derive(Debug)]
 pub struct BreakCondition {

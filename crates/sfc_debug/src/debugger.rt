@@ -6,7 +6,6 @@ ghost use Rattle.sfc_expr.specs.Trees.{expression_of};
 ghost use Rattle.sfc_events.specs.Commands.{event_of};
 ghost use Rattle.sfc_events.specs.History.{History};
 ghost use Rattle.sfc_events.specs.declared.command.TraceRow.{TraceRow};
-ghost use Rattle.sfc_events.specs.declared.refusal.Refusal.TheVariants.{NoSuchCondition};
 ghost use Rattle.sfc_core.specs.Agreement as core;
 ghost use Rattle.sfc_core.specs.PlantState as plant_state;
 ghost use Rattle.sfc_core.specs.Verdict as events;
@@ -23,13 +22,14 @@ ghost use Rattle.sfc_debug.specs.Tracing.{row_at, row_of, with_row};
 ghost use Rattle.sfc_debug.specs.Verdict as verdict;
 ghost use Rattle.sfc_debug.specs.Work.{command_work, hits_work, resource_work};
 
-use crate::break_condition::BreakCondition;
+use crate::break_condition::{BreakCondition, MOST};
 use crate::breakpoints::Breakpoints;
 use crate::hits::any_hit;
 use crate::mode::Mode;
 use crate::opening::DebugOpening;
-use crate::refusing::refuse_own;
+use crate::refusing::{refuse_own, refuse_unnumbered};
 use crate::run_clock::RunClock;
+use crate::timed::Timed;
 use crate::trace::Trace;
 use crate::trace_mask::TraceMask;
 use sfc_base::ids::ProgId;
@@ -108,6 +108,7 @@ impl Debugger {
     ghost use Rattle.sfc_debug.specs.Longer.{NamesWithin, with_condition, break_when};
     ghost use Rattle.sfc_debug.specs.Openings.{IsOpeningFor, past_of};
     ghost use Rattle.sfc_debug.specs.Past.{debug_past};
+    ghost use Rattle.sfc_debug.specs.Steered.{steered_by};
 
     /// A debugger without conditions; else as `with_conditions` says.
     pub fn new(
@@ -356,6 +357,24 @@ impl Debugger {
         Ok(answer)
     }
 
+    /// One command at its raw instant: what `command` says of it, with counted work of its own.
+    pub fn obey(&mut self, timed: Timed) -> Result<Answer, Refusal>
+        ensures steered { steered_by self.new ≡ steered_by self.old }
+        ensures mask { mask_of self.new ≡ mask_of self.old }
+        ensures capacity { capacity_of self.new ≡ capacity_of self.old }
+        ensures answer { (h : CommandHistory) → Agrees self.old h →
+            result ≡ verdict.verdict (plant_of self.old) (table_of self.old) h timed.0 timed.1 }
+        ensures agrees { (h : CommandHistory) → Agrees self.old h →
+            Agrees self.new (verdict.after (plant_of self.old) (table_of self.old) h timed) }
+        ensures traces { IfOk result (λ answer. (h : CommandHistory) (rows : List TraceRow) → Agrees self.old h → Traces self.old rows →
+            Traces self.new (with_row (mask_of self.old) (row_of (plant_of self.old) (table_of self.old) h timed.0 timed.1 answer) rows)) }
+        ensures err { OnErr result (self.new ≡ self.old) }
+    {
+        let Timed { command, raw } = timed;
+        let mut ticks = Ticks::new();
+        self.command(command, raw, &mut ticks)
+    }
+
     // One more condition in the table, behind all others.
     fn add_condition(&mut self, condition: BreakCondition) -> Result<(), AllocError>
         ensures plant { plant_of self.new ≡ plant_of self.old }
@@ -384,9 +403,21 @@ impl Debugger {
         self.conditions.truncate(count);
     }
 
+    // What a breakpoint with a condition that isn't in the table is refused for.
+    fn refuse_unnumbered(&self, program: ProgId, point: Point, raw: i64) -> Refusal
+        ensures { (h : CommandHistory) → Agrees self.now h → result ≡ verdict.refused_unnumbered (plant_of self.now)
+            (state_of (plant_of self.now) (table_of self.now) h) (length h) program point raw }
+    {
+        let command = Command::BreakIf(program, point, CondId(0));
+        match self.at(command, raw) {
+            Err(refusal) => refusal,
+            Ok(_) => refuse_unnumbered(&self.resource, program, point),
+        }
+    }
+
     /// Sets a breakpoint that waits for a condition: the command `BreakIf` of this condition, which joins the table behind all others.
-    /// What is refused, as by `command`, leaves the debugger as it was, and the condition is given up; so does a table of 65,536
-    /// conditions, beyond which none has a number, with `NoSuchCondition`. The one error is that memory was refused.
+    /// What is refused, as by `command`, leaves the debugger as it was, and the condition is given up. A table of 65,535 conditions takes
+    /// no more: then the condition is one that isn't there, which is refused in its turn. The one error is that memory was refused.
     ///
     /// Of the accepted commands none names a condition that the table doesn't have, as it is where each came by `command` and was
     /// accepted. Then nothing that was answered would have been answered otherwise with the longer table (`laws::longer_table`).
@@ -400,8 +431,9 @@ impl Debugger {
         ensures plant { plant_of self.new ≡ plant_of self.old }
         ensures mask { mask_of self.new ≡ mask_of self.old }
         ensures capacity { capacity_of self.new ≡ capacity_of self.old }
-        ensures full { 2 ^ 16 ≤ length (table_of self.old) → IfOk result (λ answer. answer ≡ Err NoSuchCondition) }
-        ensures answer { (h : CommandHistory) → length (table_of self.old) < 2 ^ 16 → NamesWithin (length (table_of self.old)) h →
+        ensures full { (h : CommandHistory) → 65535 ≤ length (table_of self.old) → Agrees self.old h → IfOk result (λ answer. answer ≡ Err
+            (verdict.refused_unnumbered (plant_of self.old) (state_of (plant_of self.old) (table_of self.old) h) (length h) condition.program point raw)) }
+        ensures answer { (h : CommandHistory) → length (table_of self.old) < 65535 → NamesWithin (length (table_of self.old)) h →
             Agrees self.old h → IfOk result (λ answer. answer ≡ verdict.verdict (plant_of self.old)
             (with_condition (table_of self.old) condition) h (break_when (table_of self.old) point condition) raw) }
         ensures table { IfOk result (λ answer. OnOk answer (table_of self.new ≡ with_condition (table_of self.old) condition)) }
@@ -421,8 +453,8 @@ impl Debugger {
         ensures err_traces { (rows : List TraceRow) → Traces self.old rows → OnErr result (Traces self.new rows) }
     {
         let place = self.conditions.len();
-        if place > u16::MAX as usize {
-            return Ok(Err(Refusal::NoSuchCondition));
+        if place >= MOST {
+            return Ok(Err(self.refuse_unnumbered(condition.program, point, raw)));
         }
         let command = Command::BreakIf(condition.program, point, CondId(place as u16));
         self.add_condition(condition)?;

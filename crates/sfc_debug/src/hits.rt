@@ -3,11 +3,11 @@
 ghost use Rattle.std.specs.Prelude.{◌≡◌, ◌<◌, ◌+◌, List, length, true};
 ghost use Rattle.sfc_base.specs.Ticks.{Within};
 ghost use Rattle.sfc_events.specs.History.{History};
-ghost use Rattle.sfc_image.specs.Changes.{Change};
+ghost use Rattle.sfc_core.specs.sfc_image.Changes.{Change};
 ghost use Rattle.sfc_plant.specs.Finding.{chart_of};
-ghost use Rattle.sfc_tables.specs.Tables.{tables_of};
-ghost use Rattle.sfc_instance.specs.Life.{InstanceState};
-ghost use Rattle.sfc_instance.specs.Views.{Shows, environment_in, tables_in};
+ghost use Rattle.sfc_core.specs.sfc_tables.Tables.{tables_of};
+ghost use Rattle.sfc_core.specs.sfc_instance.Life.{InstanceState};
+ghost use Rattle.sfc_core.specs.sfc_instance.Views.{Shows, environment_in, tables_in};
 ghost use Rattle.sfc_core.specs.Agreement as core;
 ghost use Rattle.sfc_core.specs.PlantState.{state_of};
 ghost use Rattle.sfc_debug.specs.Hits as rules;
@@ -16,15 +16,16 @@ ghost use Rattle.sfc_debug.specs.Work.{condition_nodes, points_work};
 
 use crate::break_condition::BreakCondition;
 use crate::breakpoint::Breakpoint;
+use crate::sfc_instance::laws::window;
+use crate::sfc_instance::program_view::ProgramView;
+use crate::sfc_tables::tables::Tables;
 use sfc_base::ids::ProgId;
 use sfc_base::ticks::Ticks;
 use sfc_base::value::Value;
 use sfc_core::resource::Resource;
 use sfc_events::command::{CondId, Point};
+use sfc_events::instance_set::InstanceSet;
 use sfc_expr::eval::eval;
-use sfc_instance::laws::window;
-use sfc_instance::program_view::ProgramView;
-use sfc_tables::tables::Tables;
 
 // Whether the chart with these tables has the point.
 fn is_point_of(tables: &Tables, point: Point) -> bool
@@ -86,21 +87,13 @@ fn holds(
     }
 }
 
-// Bit k of a number is set.
-fn is_set(bits: u64, k: u32) -> bool
-    requires { k < 64 }
-    ensures { result ≡ rules.is_set bits k }
-{
-    (bits >> k) & 1 == 1
-}
-
-/// Whether a scan after which the resource stands so, and in which the instances with these bits ran without fault, hits the
+/// Whether a scan after which the resource stands so, and in which these instances ran without fault, hits the
 /// breakpoint.
 #[tactic(auto, unfolding(crate::specs::Hits::is_hit))]
 fn is_hit(
     resource: &Resource,
     table: &[BreakCondition],
-    ran: u64,
+    ran: InstanceSet,
     breakpoint: Breakpoint,
     ticks: &mut Ticks,
 ) -> bool
@@ -115,7 +108,7 @@ fn is_hit(
         point,
         condition,
     } = breakpoint;
-    if !has_point(resource, program, point) || !is_set(ran, u32::from(program.0)) {
+    if !has_point(resource, program, point) || !ran.contains(program) {
         return false;
     }
     let view = resource.program(program);
@@ -126,7 +119,7 @@ fn is_hit(
 pub fn any_hit(
     resource: &Resource,
     table: &[BreakCondition],
-    ran: u64,
+    ran: InstanceSet,
     set: &[Breakpoint],
     ticks: &mut Ticks,
 ) -> bool

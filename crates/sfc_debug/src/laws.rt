@@ -1,7 +1,7 @@
 //! What holds of the definitions themselves. Each law is a function whose contract is the law; a body, where there is
 //! one, cites another law.
 
-ghost use Rattle.std.specs.Prelude.{◌≡◌, ◌↔◌, ◌+ℤ◌, ◌≤◌, ◌≤ℤ◌, ◌^◌, ℤ, pos, Bool, true, Ok, Some};
+ghost use Rattle.std.specs.Prelude.{◌≡◌, ◌↔◌, ◌+◌, ◌+ℤ◌, ◌≤◌, ◌≤ℤ◌, ◌^◌, ℤ, pos, Bool, true, Ok, Some};
 ghost use Rattle.std.specs.Prelude.{List, [], ◌∷◌, ◌++◌, length, All};
 ghost use Rattle.sfc_base.specs.declared.ids.ProgId.{ProgId};
 ghost use Rattle.sfc_base.specs.declared.ids.TaskId.{TaskId};
@@ -20,24 +20,55 @@ ghost use Rattle.sfc_debug.specs.declared.debugger.Debugger.{Debugger};
 ghost use Rattle.sfc_debug.specs.RunClock.{run_instant, delta_of};
 ghost use Rattle.sfc_debug.specs.States as rules;
 ghost use Rattle.sfc_debug.specs.States.{state_of, hits};
+ghost use Rattle.sfc_debug.specs.Sums.{running_stretches, single_deltas, wanted_rows, nodes_of_points};
+ghost use Rattle.sfc_debug.specs.Tracing.{row_of, with_row};
 ghost use Rattle.sfc_debug.specs.Verdict.{verdict, after_all};
+ghost use Rattle.sfc_debug.specs.Work.{command_work};
+ghost use Rattle.sfc_core.specs.Work.{event_work};
 ghost use Rattle.sfc_debug.specs.declared.break_condition.BreakCondition.{BreakCondition};
 ghost use Rattle.sfc_debug.specs.declared.mode.Mode.{Mode};
 ghost use Rattle.sfc_debug.specs.declared.mode.Mode.TheVariants.{Stopped};
 ghost use Rattle.sfc_debug.specs.declared.run_clock.RunClock.{RunClock};
+ghost use Rattle.sfc_debug.specs.declared.trace_mask.TraceMask.{TraceMask};
+ghost use Rattle.sfc_events.specs.declared.command.Answer.{Answer};
 ghost use Rattle.sfc_events.specs.declared.command.Answer.TheVariants.{Done};
 ghost use Rattle.sfc_events.specs.declared.command.Command.{Command};
 ghost use Rattle.sfc_events.specs.declared.command.Command.TheVariants.{Scan, Read, Stop, Go};
 ghost use Rattle.sfc_events.specs.declared.command.Point.{Point};
 ghost use Rattle.sfc_events.specs.declared.event.Event.{Event};
+ghost use Rattle.sfc_events.specs.declared.event.Event.TheVariants as events;
 ghost use Rattle.sfc_events.specs.Commands.{event_of};
 
-use sfc_instance::laws as instance;
+use crate::sfc_instance::laws as instance;
 
 /// While halted the run instant stands still, but for what a single scan lets pass.
 pub fn halted()
     ensures { (clock : RunClock) (command : Command) (raw : ℤ) → clock.mode ≡ Stopped →
         run_instant clock command raw ≡ (clock.instant +ℤ delta_of command) }
+{}
+
+/// The run instant after accepted commands is the sum of the stretches of raw time from command to command, the first from 0, behind
+/// which command the mode is Running, and of the deltas of all single scans.
+pub fn run_time()
+    ensures { (plant : PlantData) (table : List BreakCondition) (h : CommandHistory) →
+        (state_of plant table h).clock.instant ≡ running_stretches plant table h +ℤ single_deltas h }
+{}
+
+/// A debugger that agrees with one list of commands and keeps the rows that are wanted of it, keeps those that are wanted behind one
+/// command more: so the n-th of its rows is the n-th newest of the wanted ones.
+pub fn rows()
+    ensures none { (plant : PlantData) (table : List BreakCondition) (mask : TraceMask) → wanted_rows plant table mask [] ≡ [] }
+    ensures more { (plant : PlantData) (table : List BreakCondition) (mask : TraceMask) (h : CommandHistory) (command : Command) (raw : ℤ)
+        (answer : Answer) → verdict plant table h command raw ≡ Ok answer → wanted_rows plant table mask ((command, raw) ∷ h) ≡
+        with_row mask (row_of plant table h command raw answer) (wanted_rows plant table mask h) }
+{}
+
+/// A scan of a debugger handles at most 64 things more than the resource's own scan, one for each breakpoint, and the nodes of their
+/// conditions.
+pub fn scan_work()
+    ensures { (plant : PlantData) (table : List BreakCondition) (h : CommandHistory) (task : TaskId) → IsAccepted plant table h →
+        command_work plant table (state_of plant table h).points (Scan task) ≤
+        event_work plant (events.Scan task) + 64 + nodes_of_points table (state_of plant table h).points }
 {}
 
 /// After an accepted command all is halted exactly where the command was a scan that hit a breakpoint, or Stop, or

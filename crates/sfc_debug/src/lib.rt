@@ -10,6 +10,7 @@
 //! - `opening`: what came before, in place of the commands.
 //! - `refusing`: why a command is refused that is no event.
 //! - `run_clock`: when a command happens, and why it may not.
+//! - `timed`: a command, and when it is given.
 //! - `trace`, `trace_mask`: the newest rows of what was accepted.
 #![tactic(auto)]
 
@@ -23,5 +24,10 @@ pub mod mode;
 pub mod opening;
 mod refusing;
 mod run_clock;
+pub mod timed;
 mod trace;
 pub mod trace_mask;
+
+// What the crates above name through this one.
+pub use sfc_core;
+pub use sfc_core::{sfc_action, sfc_image, sfc_instance, sfc_instances, sfc_tables};

@@ -68,6 +68,16 @@ fn refuse_unset(points: &Breakpoints, program: ProgId, point: Point) -> Option<R
     }
 }
 
+/// Why a breakpoint with a condition that isn't in the table is refused, by what it names.
+pub fn refuse_unnumbered(resource: &Resource, program: ProgId, point: Point) -> Refusal
+    ensures { result ≡ verdict.unnumbered (core.plant_of resource.now) program point }
+{
+    match refuse_point(resource, program, point) {
+        Some(refusal) => refusal,
+        None => Refusal::NoSuchCondition,
+    }
+}
+
 /// Why a command is refused that is no event, by what it names.
 pub fn refuse_own(
     resource: &Resource,

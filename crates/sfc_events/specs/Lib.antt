@@ -1,5 +1,7 @@
 -- The rules, in reading order.
 
+-- sets of program instances
+pub mod InstanceSets
 -- what an event is
 pub mod Events
 -- which event a command of the debugger is

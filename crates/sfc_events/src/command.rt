@@ -4,6 +4,7 @@ ghost use Rattle.std.specs.Prelude.{◌≡◌};
 ghost use Rattle.sfc_events.specs.Commands as commands;
 
 use crate::event::Event;
+use crate::instance_set::InstanceSet;
 use sfc_base::ids::{ActionNumber, ProgId, TaskId, TransitionId, VarId};
 use sfc_base::references::StepId;
 use sfc_base::value::Value;
@@ -87,14 +88,14 @@ pub enum Answer {
     Done,
     /// What the variable reads.
     Value(Value),
-    /// A task was scanned. The first three have one bit for each program instance of the plant, the lowest for the first.
+    /// A task was scanned.
     Scanned {
         /// The task's instances that ran without a fault.
-        ran: u64,
+        ran: InstanceSet,
         /// Those whose scan ended with a fault.
-        faulted: u64,
+        faulted: InstanceSet,
         /// Those that were passed over because of an earlier fault.
-        skipped: u64,
+        skipped: InstanceSet,
         /// The task's overruns since the opening; at most 2^64 - 1, where the count stays.
         overruns: u64,
         /// Whether a breakpoint was hit.

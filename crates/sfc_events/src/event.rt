@@ -3,6 +3,7 @@
 ghost use Rattle.std.specs.Prelude.{◌≡◌};
 ghost use Rattle.sfc_events.specs.Events as events;
 
+use crate::instance_set::InstanceSet;
 use sfc_base::ids::{ProgId, TaskId, VarId};
 use sfc_base::value::Value;
 
@@ -40,14 +41,14 @@ impl Event {
 pub enum Outcome {
     /// The event is done, and there is nothing to tell.
     Done,
-    /// A task was scanned. The first three have one bit for each program instance of the plant, the lowest for the first.
+    /// A task was scanned.
     Scanned {
         /// The task's instances that ran without a fault.
-        ran: u64,
+        ran: InstanceSet,
         /// Those whose scan ended with a fault.
-        faulted: u64,
+        faulted: InstanceSet,
         /// Those that were passed over because of an earlier fault.
-        skipped: u64,
+        skipped: InstanceSet,
         /// The task's overruns since the opening; at most 2^64 - 1, where the count stays.
         overruns: u64,
     },

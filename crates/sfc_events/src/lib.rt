@@ -2,9 +2,11 @@
 //!
 //! - `event`: events, and what an accepted one answers.
 //! - `command`: what the debugger is asked, and what it answers.
+//! - `instance_set`: sets of program instances.
 //! - `refusal`: why an event or a command is refused.
 #![tactic(auto)]
 
 pub mod command;
 pub mod event;
+pub mod instance_set;
 pub mod refusal;

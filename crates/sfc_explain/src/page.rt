@@ -5,8 +5,8 @@ ghost use Rattle.sfc_base.specs.Writing.{Writes};
 ghost use Rattle.sfc_explain.specs.Pages as text;
 
 use crate::explanation::{ExampleKind, Explanation, LineMark};
-use sfc_base::time_text::put_decimal;
 use sfc_base::write_fault::{WriteFault, put_all};
+use sfc_page::time_text::put_decimal;
 use std::io::Write;
 
 /// What a line of an explanation says.

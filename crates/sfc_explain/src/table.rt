@@ -1,5 +1,7 @@
 //! All refusals and faults, in three tables: one of all is more than the prover takes in at once.
 
+ghost use Rattle.std.specs.Prelude.{◌≡◌, length};
+
 use crate::explanation::{ExampleKind, Explanation, LineMark};
 use crate::topic::Topic;
 use sfc_base::ids::TaskId;
@@ -8,7 +10,7 @@ use sfc_tokens::read_error::ReadErrorKind;
 use sfc_variables::load_error::{Limit, LoadError};
 
 /// What a chart is refused for, in the order of its numbers: by the reader, and then by the loader.
-pub static OF_CHARTS: [Explanation; 23] = [
+static OF_CHARTS: [Explanation; 23] = [
     Explanation {
         topic: Topic::Reading(ReadErrorKind::TooLong),
         from: "reader",
@@ -221,7 +223,7 @@ pub static OF_CHARTS: [Explanation; 23] = [
 ];
 
 /// What a command is refused for, in the order of its numbers.
-pub static OF_COMMANDS: [Explanation; 19] = [
+static OF_COMMANDS: [Explanation; 19] = [
     Explanation {
         topic: Topic::Command(Refusal::UnknownVar),
         from: "INPUT, FORCE, RELEASE, READ",
@@ -396,7 +398,7 @@ pub static OF_COMMANDS: [Explanation; 19] = [
 ];
 
 /// Faults, which have no number.
-pub static FAULTS: [Explanation; 9] = [
+static FAULTS: [Explanation; 9] = [
     Explanation {
         topic: Topic::Named("DivZero"),
         from: "scan",
@@ -481,3 +483,24 @@ pub static FAULTS: [Explanation; 9] = [
         example: "    (ulimit -v 20000; sfcmon check large.chart)    # of a million bytes\n",
     },
 ];
+
+/// What a chart is refused for, in the order of its numbers: by the reader, and then by the loader.
+pub fn of_charts() -> &'static [Explanation]
+    ensures { length result.now ≡ 23 }
+{
+    &OF_CHARTS
+}
+
+/// What a command is refused for, in the order of its numbers.
+pub fn of_commands() -> &'static [Explanation]
+    ensures { length result.now ≡ 19 }
+{
+    &OF_COMMANDS
+}
+
+/// Faults, which have no number.
+pub fn faults() -> &'static [Explanation]
+    ensures { length result.now ≡ 9 }
+{
+    &FAULTS
+}

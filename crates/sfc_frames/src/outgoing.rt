@@ -7,8 +7,8 @@ ghost use Rattle.sfc_frames.specs.Frames.{frame, length_field};
 
 use crate::frame_fault::PutFault;
 use crate::line::LONGEST;
-use sfc_base::time_text::put_decimal;
 use sfc_base::write_fault::{WriteFault, put_all};
+use sfc_page::time_text::put_decimal;
 use std::io::Write;
 
 // Writes the field that says how many bytes a message has.

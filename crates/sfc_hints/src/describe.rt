@@ -1,6 +1,6 @@
 //! Elements of a text in words.
 
-use crate::writing::add_number;
+use sfc_page::append::append_number;
 use sfc_places::declared::{Declared, Kind};
 use sfc_places::finding::{Element, Part};
 use sfc_places::marks::spelling_at;
@@ -10,7 +10,7 @@ use std::alloc::AllocError;
 // A number, which an element is counted by.
 fn add_count(told: &mut Vec<u8>, before: &[u8], number: usize) -> Result<(), AllocError> {
     told.extend_from_slice(before)?;
-    add_number(told, number as u64)
+    append_number(told, number as u64)
 }
 
 // What an element is, and its name, if it stands there.
@@ -145,6 +145,6 @@ pub fn add_declared(
     told.extend_from_slice(b" (")?;
     told.extend_from_slice(kind_text(declared.kind))?;
     told.extend_from_slice(b", line ")?;
-    add_number(told, u64::from(line))?;
+    append_number(told, u64::from(line))?;
     told.extend_from_slice(b")")
 }

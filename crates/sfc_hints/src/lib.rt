@@ -17,3 +17,6 @@ pub mod short_front;
 pub mod surroundings;
 pub mod trial;
 pub mod writing;
+
+// What the crates above name through this one.
+pub use sfc_places;

@@ -3,9 +3,10 @@
 use crate::candidates::candidates;
 use crate::describe::{add_declared, add_element, add_part};
 use crate::near::nearest;
-use crate::writing::{add_joint, add_line, add_number};
+use crate::writing::{add_joint, add_line};
 use sfc_base::location::Size;
 use sfc_base::var_type::VarType;
+use sfc_page::append::{append_number, append_signed};
 use sfc_places::chart_text::ChartText;
 use sfc_places::declared::Declared;
 use sfc_places::finding::{Detail, Element, Finding, Part, Sort, Types};
@@ -66,7 +67,7 @@ fn add_first_in_list(told: &mut Vec<u8>, tokens: &[Token], first: usize) -> Resu
     told.extend_from_slice(b"  first: ")?;
     told.extend_from_slice(spelling_at(tokens, first))?;
     told.extend_from_slice(b" (line ")?;
-    add_number(told, u64::from(line_at(tokens, first)))?;
+    append_number(told, u64::from(line_at(tokens, first)))?;
     add_line(told, b")")
 }
 
@@ -134,19 +135,16 @@ fn add_range(told: &mut Vec<u8>, wanted: VarType, found: i64) -> Result<(), Allo
     told.extend_from_slice(b"  wanted: ")?;
     add_line(told, range_text(wanted))?;
     told.extend_from_slice(b"  found: ")?;
-    if found < 0 {
-        told.extend_from_slice(b"-")?;
-    }
-    add_number(told, found.unsigned_abs())?;
+    append_signed(told, found)?;
     told.extend_from_slice(b"\n")
 }
 
 // Adds a line of how many there are, and one of how many there may be.
 fn add_count(told: &mut Vec<u8>, found: usize, most: usize) -> Result<(), AllocError> {
     told.extend_from_slice(b"  there are: ")?;
-    add_number(told, found as u64)?;
+    append_number(told, found as u64)?;
     told.extend_from_slice(b"\n  there may be: ")?;
-    add_number(told, most as u64)?;
+    append_number(told, most as u64)?;
     told.extend_from_slice(b"\n")
 }
 

@@ -2,15 +2,6 @@
 
 use std::alloc::AllocError;
 
-/// Adds a number in decimal digits.
-pub fn add_number(text: &mut Vec<u8>, number: u64) -> Result<(), AllocError> {
-    if number >= 10 {
-        add_number(text, number / 10)?;
-    }
-    let digit = b'0' + (number % 10) as u8;
-    text.extend_from_slice(&[digit])
-}
-
 /// Adds a text and the end of a line.
 pub fn add_line(text: &mut Vec<u8>, line: &[u8]) -> Result<(), AllocError> {
     text.extend_from_slice(line)?;

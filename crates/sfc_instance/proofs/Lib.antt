@@ -36,3 +36,5 @@ pub mod Bounds
 -- the past of how an instance stands
 pub mod Pasts
 pub mod Windows
+-- What the crates above name through this one.
+pub use Rattle.sfc_image.proofs as of_sfc_image

@@ -10,6 +10,8 @@ pub mod ProgramScan
 pub mod Types
 -- how much a scan handles
 pub mod Work
+-- the names and the numbers of the faults of scans
+pub mod FaultNames
 -- what a `Program` shows
 pub mod Answers
 -- what a `Program` agrees with; opaque to the crates above
@@ -20,3 +22,7 @@ pub mod Views
 pub mod Past
 -- What private clauses cite.
 pub mod Private
+-- What the crates above name through this one.
+pub use Rattle.sfc_action.specs as sfc_action
+pub use Rattle.sfc_image.specs as sfc_image
+pub use Rattle.sfc_tables.specs as sfc_tables

@@ -31,3 +31,8 @@ pub mod scan_end;
 pub mod scan_fault;
 mod scan_run;
 pub mod state;
+
+// What the crates above name through this one.
+pub use sfc_action;
+pub use sfc_image;
+pub use sfc_tables;

@@ -6,7 +6,7 @@ use Rattle.std.proofs.lemmas.Option.{slice_get-get_or, slice_get-map, slice_get_
 use Rattle.std.specs.Option.{option_map}
 use Rattle.std.proofs.Math.Seq.{get_or-append_seam}
 use Rattle.sfc_plant.specs.declared.chart.Chart.{Chart}
-use Rattle.sfc_tables.specs.Tables.{Tabled, tables_of}
+use Rattle.sfc_instance.specs.sfc_tables.Tables.{Tabled, tables_of}
 use Rattle.sfc_plant.specs.declared.program_type.ProgramType.{ProgramType}
 use Rattle.sfc_plant.specs.declared.instance.Instance.{Instance}
 use Rattle.sfc_plant.specs.Plants.{PlantData}

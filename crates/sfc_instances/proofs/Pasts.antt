@@ -17,11 +17,11 @@ use Rattle.sfc_plant.specs.declared.task.Task.{Task}
 use Rattle.sfc_plant.specs.Plants.{PlantData}
 use Rattle.sfc_plant.specs.Image.{locals_of}
 use Rattle.sfc_plant.specs.Sound.{IsPlant, IsTask, IsSingle}
-use Rattle.sfc_image.specs.Changes.{Change}
-use Rattle.sfc_image.specs.Changes as image
-use Rattle.sfc_image.specs.Past.{image_past}
-use Rattle.sfc_image.proofs.Pasts as variables
-use Rattle.sfc_image.proofs.Counting.{bool_cases}
+use Rattle.sfc_instance.specs.sfc_image.Changes.{Change}
+use Rattle.sfc_instance.specs.sfc_image.Changes as image
+use Rattle.sfc_instance.specs.sfc_image.Past.{image_past}
+use Rattle.sfc_instance.proofs.of_sfc_image.Pasts as variables
+use Rattle.sfc_instance.proofs.of_sfc_image.Counting.{bool_cases}
 use Rattle.sfc_instance.specs.declared.scan_end.ScanEnd.{ScanEnd}
 use Rattle.sfc_instance.specs.declared.program.Program.{Program}
 use Rattle.sfc_instance.specs.Life.{InstanceState, fresh}

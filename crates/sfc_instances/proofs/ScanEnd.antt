@@ -2,7 +2,7 @@
 use Rattle.std.proofs.Common.{◌≡◌, ◌↔◌, true, List, Option, Some, None, Result, Ok, Err, is_some, refl, ℤ}
 use Rattle.sfc_base.specs.declared.ids.ProgId.{ProgId}
 use Rattle.sfc_plant.specs.Plants.{PlantData}
-use Rattle.sfc_image.specs.Changes.{Change}
+use Rattle.sfc_instance.specs.sfc_image.Changes.{Change}
 use Rattle.sfc_instance.specs.declared.scan_end.ScanEnd.TheVariants.{Faulted, Skipped}
 use Rattle.sfc_instance.specs.declared.scan_fault.ScanFault.{ScanFault}
 use Rattle.sfc_instance.specs.Life.{Life, Row}

@@ -7,16 +7,16 @@ use Rattle.std.specs.Vec.{with_item}
 use Rattle.sfc_base.specs.declared.ticks.Ticks.{Ticks}
 use Rattle.sfc_base.specs.Ticks.{Within}
 use Rattle.sfc_plant.specs.declared.chart.Chart.{Chart}
-use Rattle.sfc_tables.specs.Tables.{Tabled, tables_of}
+use Rattle.sfc_instance.specs.sfc_tables.Tables.{Tabled, tables_of}
 use Rattle.sfc_plant.specs.declared.program_type.ProgramType.{ProgramType}
 use Rattle.sfc_base.specs.declared.ids.ProgId.{ProgId}
 use Rattle.sfc_plant.specs.declared.instance.Instance.{Instance}
 use Rattle.sfc_plant.specs.Plants.{PlantData}
 use Rattle.sfc_plant.specs.Sound.{IsPlant}
-use Rattle.sfc_image.specs.declared.image.Image.{Image}
-use Rattle.sfc_image.specs.Changes.{settled}
-use Rattle.sfc_image.specs.Agreement.{ImageAgrees}
-use Rattle.sfc_image.specs.Values.{variable_count}
+use Rattle.sfc_instance.specs.sfc_image.declared.image.Image.{Image}
+use Rattle.sfc_instance.specs.sfc_image.Changes.{settled}
+use Rattle.sfc_instance.specs.sfc_image.Agreement.{ImageAgrees}
+use Rattle.sfc_instance.specs.sfc_image.Values.{variable_count}
 use Rattle.sfc_instance.specs.declared.program.Program.{Program}
 use Rattle.sfc_instance.specs.Agreement.{ProgramAgrees}
 use Rattle.sfc_instance.specs.Life.{InstanceState}

@@ -38,9 +38,9 @@ module _ (plant : PlantData) (task : TaskId) (t : ℤ) (k : ℕ) (instance : Ins
   -- one instance further, with its bits
   step : (state : PlantState) (instances new : Instances) (bits more : Bits) (h : Follows plant task t state k instances bits)
       → InstancesAgree plant new (after_instance plant task t k instance h.now)
-      → more.ran ≡ bits.ran + instance_bit Ran plant task t k instance h.now
-      → more.faulted ≡ bits.faulted + instance_bit Faulted plant task t k instance h.now
-      → more.skipped ≡ bits.skipped + instance_bit Skipped plant task t k instance h.now
+      → more.ran.bits ≡ bits.ran.bits + instance_bit Ran plant task t k instance h.now
+      → more.faulted.bits ≡ bits.faulted.bits + instance_bit Faulted plant task t k instance h.now
+      → more.skipped.bits ≡ bits.skipped.bits + instance_bit Skipped plant task t k instance h.now
       → Follows plant task t state (suc k) new more
   step state instances new bits more h agrees ran faulted skipped = record {
     now = after_instance plant task t k instance h.now;
@@ -75,8 +75,8 @@ module _ (plant : PlantData) (task : TaskId) (t : ℤ) (k : ℕ) (instance : Ins
       → ((now : PlantState) → InstancesAgree plant instances now → scan_end ≡ (program_scan plant t k now).scan_end)
       → ((now : PlantState) → InstancesAgree plant instances now
       → InstancesAgree plant new (after_program (record { 0 = k }) (program_scan plant t k now) now))
-      → more.ran ≡ bits.ran + bit_of Ran k scan_end → more.faulted ≡ bits.faulted + bit_of Faulted k scan_end
-      → more.skipped ≡ bits.skipped + bit_of Skipped k scan_end
+      → more.ran.bits ≡ bits.ran.bits + bit_of Ran k scan_end → more.faulted.bits ≡ bits.faulted.bits + bit_of Faulted k scan_end
+      → more.skipped.bits ≡ bits.skipped.bits + bit_of Skipped k scan_end
       → Follows plant task t state k instances bits → Follows plant task t state (suc k) new more
   follows_scanned state instances new bits more scan_end e ends agrees_on ran faulted skipped h =
       let now : PlantState = h.now in
@@ -85,8 +85,8 @@ module _ (plant : PlantData) (task : TaskId) (t : ℤ) (k : ℕ) (instance : Ins
       (eq-eqb instance.task.0 task.0 e)) in
       let bit = λ (how : ScanEnd). ap (bit_of how k) (ends now h.agrees) ∙ sym (own e how now) in
       step state instances new bits more h (subst (λ (x : PlantState). InstancesAgree plant new x) done (agrees_on now h.agrees))
-      (ran ∙ ap (λ (n : ℕ). bits.ran + n) (bit Ran)) (faulted ∙ ap (λ (n : ℕ). bits.faulted + n) (bit Faulted))
-      (skipped ∙ ap (λ (n : ℕ). bits.skipped + n) (bit Skipped))
+      (ran ∙ ap (λ (n : ℕ). bits.ran.bits + n) (bit Ran)) (faulted ∙ ap (λ (n : ℕ). bits.faulted.bits + n) (bit Faulted))
+      (skipped ∙ ap (λ (n : ℕ). bits.skipped.bits + n) (bit Skipped))
 
 -- ---- bits
 

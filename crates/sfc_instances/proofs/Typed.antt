@@ -5,8 +5,8 @@ use Rattle.sfc_base.specs.declared.ids.ProgId.{ProgId}
 use Rattle.sfc_base.specs.declared.ids.TaskId.{TaskId}
 use Rattle.sfc_plant.specs.declared.instance.Instance.{Instance}
 use Rattle.sfc_plant.specs.Plants.{PlantData}
-use Rattle.sfc_image.specs.Changes as image
-use Rattle.sfc_image.specs.Types.{GivesType}
+use Rattle.sfc_instance.specs.sfc_image.Changes as image
+use Rattle.sfc_instance.specs.sfc_image.Types.{GivesType}
 use Rattle.sfc_instance.specs.Life.{Row, InstanceState, fresh}
 use Rattle.sfc_instance.specs.Types.{IsInstant, AreInstants}
 use Rattle.sfc_instance.proofs.Typed.{scan_typed, scan_instants}

@@ -1,11 +1,11 @@
 -- What `Instances` agree with.
 use Rattle.std.specs.Prelude.{ℕ, ◌≡◌, ◌<◌, false, List, length, map, slice_index_or}
-use Rattle.sfc_tables.specs.Tables.{tables_of}
+use Rattle.sfc_instance.specs.sfc_tables.Tables.{tables_of}
 use Rattle.sfc_plant.specs.declared.program_type.ProgramType.{ProgramType}
 use Rattle.sfc_plant.specs.Plants.{PlantData}
-use Rattle.sfc_image.specs.Changes.{settled}
-use Rattle.sfc_image.specs.Values.{variable_count}
-use Rattle.sfc_image.specs.Agreement as image
+use Rattle.sfc_instance.specs.sfc_image.Changes.{settled}
+use Rattle.sfc_instance.specs.sfc_image.Values.{variable_count}
+use Rattle.sfc_instance.specs.sfc_image.Agreement as image
 use Rattle.sfc_instance.specs.declared.program.Program.{Program}
 use Rattle.sfc_plant.specs.Finding.{chart_of}
 use Rattle.sfc_instance.specs.Agreement as program

@@ -33,6 +33,6 @@ bits_of how plant task t k (instance ∷ instances) state =
 
 -- the bits of a scan of the task at t, where variables and instances stood so before it
 pub record AreBits (plant : PlantData) (task : TaskId) (t : ℤ) (state : PlantState) (bits : Bits) : Type 0 where
-  pub ran : bits.ran ≡ bits_of Ran plant task t 0 plant.instances state
-  pub faulted : bits.faulted ≡ bits_of Faulted plant task t 0 plant.instances state
-  pub skipped : bits.skipped ≡ bits_of Skipped plant task t 0 plant.instances state
+  pub ran : bits.ran.bits ≡ bits_of Ran plant task t 0 plant.instances state
+  pub faulted : bits.faulted.bits ≡ bits_of Faulted plant task t 0 plant.instances state
+  pub skipped : bits.skipped.bits ≡ bits_of Skipped plant task t 0 plant.instances state

@@ -16,3 +16,8 @@ pub mod Agreement
 pub mod Past
 -- What private clauses cite.
 pub mod Private
+-- What the crates above name through this one.
+pub use Rattle.sfc_instance.specs.sfc_action as sfc_action
+pub use Rattle.sfc_instance.specs.sfc_image as sfc_image
+pub use Rattle.sfc_instance.specs as sfc_instance
+pub use Rattle.sfc_instance.specs.sfc_tables as sfc_tables

@@ -1,11 +1,11 @@
 -- What later answers need of how the variables and the program instances of a plant came to stand.
 use Rattle.std.specs.Prelude.{ℕ, ◌+◌, List, [], ◌∷◌, map, length}
 use Rattle.std.specs.List.{range_with_len}
-use Rattle.sfc_tables.specs.Tables.{Tabled, tables_of}
+use Rattle.sfc_instance.specs.sfc_tables.Tables.{Tabled, tables_of}
 use Rattle.sfc_plant.specs.Plants.{PlantData}
 use Rattle.sfc_plant.specs.Finding.{chart_of}
-use Rattle.sfc_image.specs.Past as image
-use Rattle.sfc_image.specs.Past.{VariablePast, image_past}
+use Rattle.sfc_instance.specs.sfc_image.Past as image
+use Rattle.sfc_instance.specs.sfc_image.Past.{VariablePast, image_past}
 use Rattle.sfc_instance.specs.declared.program.Program.{Program}
 use Rattle.sfc_instance.specs.Past as program
 use Rattle.sfc_instance.specs.Past.{InstancePast, instance_past}

@@ -4,8 +4,8 @@ use Rattle.sfc_base.specs.declared.references.GlobalId.{GlobalId}
 use Rattle.sfc_base.specs.Values.{truth}
 use Rattle.sfc_plant.specs.declared.task.Task.{Task}
 use Rattle.sfc_plant.specs.Plants.{PlantData}
-use Rattle.sfc_image.specs.Changes.{Change}
-use Rattle.sfc_image.specs.Values.{value_of}
+use Rattle.sfc_instance.specs.sfc_image.Changes.{Change}
+use Rattle.sfc_instance.specs.sfc_image.Values.{value_of}
 
 -- what the SINGLE of a task reads; FALSE where it has none
 abbrev pub single_in : PlantData → List Change → Option GlobalId → Bool

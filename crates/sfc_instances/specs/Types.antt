@@ -1,7 +1,7 @@
 -- Plants whose variables and actions have types, and what is done with them (2.4.2, 2.4.3, 3.3.2).
 use Rattle.std.specs.Prelude.{ℕ, ◌<◌, All, length}
 use Rattle.sfc_plant.specs.Plants.{PlantData}
-use Rattle.sfc_image.specs.Types.{BeginsTyped, GivesType}
+use Rattle.sfc_instance.specs.sfc_image.Types.{BeginsTyped, GivesType}
 use Rattle.sfc_instance.specs.Types.{IsTypedInstance, AreInstants}
 use Rattle.sfc_instances.specs.PlantState.{PlantState}
 

@@ -1,11 +1,11 @@
 -- How much an event handles, at most.
 use Rattle.std.specs.Prelude.{ℕ, ◌+◌, ◌==◌, suc, cond, List, [], ◌∷◌, length}
-use Rattle.sfc_tables.specs.Tables.{tables_of}
+use Rattle.sfc_instance.specs.sfc_tables.Tables.{tables_of}
 use Rattle.sfc_base.specs.declared.ids.ProgId.{ProgId}
 use Rattle.sfc_base.specs.declared.ids.TaskId.{TaskId}
 use Rattle.sfc_plant.specs.declared.instance.Instance.{Instance}
 use Rattle.sfc_plant.specs.Plants.{PlantData}
-use Rattle.sfc_image.specs.Values.{variable_count}
+use Rattle.sfc_instance.specs.sfc_image.Values.{variable_count}
 use Rattle.sfc_plant.specs.Finding.{chart_of, instance_locals}
 use Rattle.sfc_instance.specs.Work.{scan_work, copy_work}
 

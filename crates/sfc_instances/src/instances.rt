@@ -1,9 +1,9 @@
 //! The variables and the program instances of a plant, in running form.
 
+use crate::sfc_image::image::Image;
+use crate::sfc_tables::tables::Tables;
 use sfc_base::limits::VARIABLES;
-use sfc_image::image::Image;
 use sfc_instance::program::Program;
-use sfc_tables::tables::Tables;
 
 /// The tables of each program type, the variables, and each program instance.
 ///
@@ -27,13 +27,13 @@ impl Drop for Instances {
 
 ghost use Rattle.std.specs.Prelude.{◌≡◌, ◌<◌, ◌≤◌, ◌≤ℤ◌, ◌^◌, ℕ, pos, false, All, length, map, IfOk, OnOk, OnErr};
 ghost use Rattle.sfc_base.specs.Ticks.{Within};
-ghost use Rattle.sfc_tables.specs.Tables.{tables_of};
+ghost use Rattle.sfc_instance.specs.sfc_tables.Tables.{tables_of};
 ghost use Rattle.sfc_plant.specs.Plants.{PlantData};
 ghost use Rattle.sfc_plant.specs.Sound.{IsProgram, IsSingle};
-ghost use Rattle.sfc_image.specs.Changes as changes;
-ghost use Rattle.sfc_image.specs.Agreement.{ImageAgrees, variable_total as image_total, instance_total as image_instances, is_open};
-ghost use Rattle.sfc_image.specs.Changes.{settled};
-ghost use Rattle.sfc_image.specs.Answers as answers;
+ghost use Rattle.sfc_instance.specs.sfc_image.Changes as changes;
+ghost use Rattle.sfc_instance.specs.sfc_image.Agreement.{ImageAgrees, variable_total as image_total, instance_total as image_instances, is_open};
+ghost use Rattle.sfc_instance.specs.sfc_image.Changes.{settled};
+ghost use Rattle.sfc_instance.specs.sfc_image.Answers as answers;
 ghost use Rattle.sfc_plant.specs.Finding.{chart_of};
 ghost use Rattle.sfc_instance.specs.Contexts.{IsContextOf};
 ghost use Rattle.sfc_instance.specs.Views.{plant_in, instance_in, Shows};
@@ -45,11 +45,11 @@ ghost use Rattle.sfc_instances.specs.Agreement.{AreInstancesOf, InstancesAgree, 
 ghost use Rattle.sfc_instances.specs.Private.Building.{AreOpened};
 
 use crate::bits::Bits;
+use crate::sfc_image::image_error::ImageError;
 use sfc_base::ids::{ProgId, TaskId, VarId};
 use sfc_base::references::GlobalId;
 use sfc_base::ticks::Ticks;
 use sfc_base::value::Value;
-use sfc_image::image_error::ImageError;
 use sfc_instance::program_context::ProgramContext;
 use sfc_instance::program_view::ProgramView;
 use sfc_instance::scan_end::ScanEnd;

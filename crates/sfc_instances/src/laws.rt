@@ -3,7 +3,7 @@
 ghost use Rattle.std.specs.Prelude.{◌≡◌, ◌≢◌, ◌<◌, ◌≤◌, ◌↔◌, ℕ, ℤ, length, true, is_some, slice_get, Some, take};
 ghost use Rattle.std.specs.Int.{bit_at};
 ghost use Rattle.sfc_plant.specs.Sound.{IsPlant};
-ghost use Rattle.sfc_image.specs.Changes.{Change};
+ghost use Rattle.sfc_instance.specs.sfc_image.Changes.{Change};
 ghost use Rattle.sfc_instance.specs.declared.scan_end.ScanEnd.{ScanEnd};
 ghost use Rattle.sfc_instances.specs.declared.instances.Instances.{Instances};
 ghost use Rattle.sfc_instances.specs.PlantState.{with_change};
@@ -17,7 +17,7 @@ ghost use Rattle.sfc_plant.specs.declared.instance.Instance.{Instance};
 ghost use Rattle.sfc_plant.specs.Plants.{PlantData};
 ghost use Rattle.sfc_instance.specs.declared.scan_end.ScanEnd.TheVariants.{Faulted, Skipped};
 ghost use Rattle.sfc_instance.specs.Life.{fresh};
-ghost use Rattle.sfc_image.specs.Types.{GivesType};
+ghost use Rattle.sfc_instance.specs.sfc_image.Types.{GivesType};
 ghost use Rattle.sfc_instance.specs.Types.{IsInstant};
 ghost use Rattle.sfc_instances.specs.PlantState.{PlantState, opened, after_program, after_reset, after_task};
 ghost use Rattle.sfc_instances.specs.PlantState.{program_scan};

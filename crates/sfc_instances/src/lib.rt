@@ -8,3 +8,7 @@
 pub mod bits;
 pub mod instances;
 pub mod laws;
+
+// What the crates above name through this one.
+pub use sfc_instance;
+pub use sfc_instance::{sfc_action, sfc_image, sfc_tables};

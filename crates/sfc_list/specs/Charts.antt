@@ -1,13 +1,9 @@
 -- The text of steps (2.6.2), transitions (2.6.3) and actions (2.6.4).
 use Rattle.std.specs.Prelude.{◌++◌, ℕ, List, [], ◌∷◌, Bool, true, false, map, flat_map, Option, Some, None, codes}
 use Rattle.std.specs.Fmt.{decimal}
-use Rattle.sfc_base.specs.declared.qualifier.TimedQualifier.{TimedQualifier}
-use Rattle.sfc_base.specs.declared.qualifier.TimedQualifier.TheVariants as timed
 use Rattle.sfc_base.specs.TimeText.{time_text}
 use Rattle.sfc_base.specs.declared.references.Variable.{Variable}
 use Rattle.sfc_plant.specs.declared.association.Association.{Association}
-use Rattle.sfc_plant.specs.declared.association.Target.{Target}
-use Rattle.sfc_plant.specs.declared.association.Target.TheVariants as target
 use Rattle.sfc_plant.specs.declared.association.Time.{Time}
 use Rattle.sfc_plant.specs.declared.association.Time.TheVariants as time
 use Rattle.sfc_plant.specs.declared.association.Qualifier.{Qualifier}
@@ -17,22 +13,12 @@ use Rattle.sfc_plant.specs.declared.chart.Step.{Step}
 use Rattle.sfc_plant.specs.declared.chart.Transition.{Transition}
 use Rattle.sfc_plant.specs.Spaces.{Space}
 use Rattle.sfc_list.specs.Layout.{line, after_commas, with_commas}
-use Rattle.sfc_plant.specs.Names.{variable_name, step_name, action_name}
+use Rattle.sfc_plant.specs.Letters.{letters, timed_letters}
+use Rattle.sfc_plant.specs.Names.{variable_name, step_name, target_name}
 use Rattle.sfc_list.specs.Expressions.{expression_text}
 use Rattle.sfc_list.specs.Statements.{body_text}
 
 -- ---- steps and their action blocks
-
-abbrev pub target_text : Space → Target → List ℕ
-target_text space (target.Declared id) = action_name space id
-target_text space (target.Boolean v) = variable_name space v
-
-abbrev pub timed_text : TimedQualifier → List ℕ
-timed_text timed.Limited = codes "L"
-timed_text timed.Delayed = codes "D"
-timed_text timed.StoredDelayed = codes "SD"
-timed_text timed.DelayedStored = codes "DS"
-timed_text timed.StoredLimited = codes "SL"
 
 abbrev pub association_time : Space → Time → List ℕ
 association_time space (time.Literal t) = time_text t
@@ -40,20 +26,15 @@ association_time space (time.Variable v) = variable_name space v
 
 -- a qualifier with its time, if it has one (2.6.4.4)
 abbrev pub qualifier_text : Space → Qualifier → List ℕ
-qualifier_text space qualifier.NonStored = codes "N"
-qualifier_text space qualifier.Reset = codes "R"
-qualifier_text space qualifier.Set = codes "S"
-qualifier_text space qualifier.Pulse = codes "P"
-qualifier_text space qualifier.RisingPulse = codes "P1"
-qualifier_text space qualifier.FallingPulse = codes "P0"
-qualifier_text space (qualifier.Timed q t) = timed_text q ++ codes ", " ++ association_time space t
+qualifier_text space (qualifier.Timed q t) = timed_letters q ++ codes ", " ++ association_time space t
+qualifier_text space q = letters q
 
 abbrev pub indicators_text : Space → List Variable → List ℕ
 indicators_text space indicators = after_commas (map (variable_name space) indicators)
 
 abbrev pub association_text : Space → Association → List ℕ
 association_text space a =
-    target_text space a.target ++ codes "(" ++ qualifier_text space a.qualifier ++ indicators_text space a.indicators
+    target_name space a.target ++ codes "(" ++ qualifier_text space a.qualifier ++ indicators_text space a.indicators
     ++ codes ");"
 
 abbrev pub step_word : Bool → List ℕ

@@ -4,14 +4,12 @@
 //! - `program`, `configuration`: the two kinds of blocks that a text has.
 //! - `variables`, `step`, `transition`, `action`: what stands in them; `statement`, `expression`: what stands in bodies
 //!   and conditions; `value`: types, literals and locations.
-//! - `laws`: what holds of listings themselves.
 //! - `layout`: lines and indentation; `sink`: writing that stops at the first fault.
 #![tactic(auto)]
 
 mod action;
 mod configuration;
 mod expression;
-pub mod laws;
 mod layout;
 pub mod list;
 pub mod list_expr;

@@ -11,18 +11,8 @@ use crate::sink::Sink;
 use sfc_base::ids::ProgId;
 use sfc_base::write_fault::WriteFault;
 use sfc_expr::expr::Expr;
-use sfc_plant::names::Names;
 use sfc_plant::plant::Plant;
 use std::io::Write;
-
-// The names in the program type of an instance of the plant.
-fn names_of(plant: &Plant, instance: ProgId) -> Names<'_>
-    requires { instance.0 < length plant.now.instances }
-    ensures { result ≡ space_of plant.now instance }
-{
-    let instance = &plant.instances()[instance.0 as usize];
-    Names::new(plant.globals(), &plant.types()[instance.program.0])
-}
 
 /// Writes the text of an expression that stands in a condition of this program instance, which is one of the plant's,
 /// as `list_to` writes the condition of a transition (3.3.1, 2.6.3): operators between spaces, literals with their
@@ -41,7 +31,7 @@ pub fn list_expr<W: Write>(
     ensures { Writes (W.contents writer.old) (W.contents writer.new) result
         (expression_text (space_of plant.now instance) [] (expression_of expr.now)) }
 {
-    let names = names_of(plant, instance);
+    let names = plant.names(instance);
     let mut sink = Sink {
         writer,
         is_broken: false,

@@ -6,8 +6,8 @@ ghost use Rattle.sfc_base.specs.TimeText.{time_text};
 ghost use Rattle.sfc_base.specs.Writing.{Writes};
 ghost use Rattle.sfc_list.specs.Private.Sinking.{Puts, joined};
 
-use sfc_base::time_text::{put_decimal, put_time};
 use sfc_base::write_fault::{WriteFault, put_all};
+use sfc_page::time_text::{put_decimal, put_time};
 use std::io::Write;
 
 /// A writer that is given nothing more after its first fault, so that a text is put together without a test after each

@@ -7,35 +7,11 @@ ghost use Rattle.sfc_list.specs.Private.Parts.{indicator_text, association_line}
 ghost use Rattle.sfc_list.specs.Private.Sinking.{Puts};
 
 use crate::sink::Sink;
-use sfc_base::qualifier::TimedQualifier;
 use sfc_base::references::Variable;
-use sfc_plant::association::{Association, Qualifier, Target, Time};
+use sfc_plant::association::{Association, Qualifier, Time};
 use sfc_plant::chart::Step;
 use sfc_plant::names::Names;
 use std::io::Write;
-
-// The name of an action.
-fn target_name<'a>(names: &'a Names, target: Target) -> &'a [u8]
-    ensures { result.now ≡ text.target_text names.now target }
-{
-    match target {
-        Target::Declared(id) => names.action(id),
-        Target::Boolean(variable) => names.variable(variable),
-    }
-}
-
-// The letters of a qualifier with a time.
-fn timed_letters(qualifier: TimedQualifier) -> &'static [u8]
-    ensures { result.now ≡ text.timed_text qualifier }
-{
-    match qualifier {
-        TimedQualifier::Limited => b"L",
-        TimedQualifier::Delayed => b"D",
-        TimedQualifier::StoredDelayed => b"SD",
-        TimedQualifier::DelayedStored => b"DS",
-        TimedQualifier::StoredLimited => b"SL",
-    }
-}
 
 // Writes the time of an association.
 fn put_association_time<W: Write>(names: &Names, time: Time, out: &mut Sink<'_, W>)
@@ -53,14 +29,14 @@ fn put_qualifier<W: Write>(names: &Names, qualifier: Qualifier, out: &mut Sink<'
     ensures { Puts W.contents out.old out.new (text.qualifier_text names.now qualifier) }
 {
     match qualifier {
-        Qualifier::NonStored => out.put(b"N"),
-        Qualifier::Reset => out.put(b"R"),
-        Qualifier::Set => out.put(b"S"),
-        Qualifier::Pulse => out.put(b"P"),
-        Qualifier::RisingPulse => out.put(b"P1"),
-        Qualifier::FallingPulse => out.put(b"P0"),
-        Qualifier::Timed(timed, time) => {
-            out.put(timed_letters(timed));
+        Qualifier::NonStored
+        | Qualifier::Reset
+        | Qualifier::Set
+        | Qualifier::Pulse
+        | Qualifier::RisingPulse
+        | Qualifier::FallingPulse => out.put(qualifier.letters()),
+        Qualifier::Timed(_, time) => {
+            out.put(qualifier.letters());
             out.put(b", ");
             put_association_time(names, time, out);
         }
@@ -91,7 +67,7 @@ fn put_indicators<W: Write>(names: &Names, indicators: &[Variable], out: &mut Si
 fn put_association<W: Write>(names: &Names, association: &Association, out: &mut Sink<'_, W>)
     ensures { Puts W.contents out.old out.new (text.association_text names.now association.now) }
 {
-    out.put(target_name(names, association.target));
+    out.put(names.target(association.target));
     out.put(b"(");
     put_qualifier(names, association.qualifier, out);
     put_indicators(names, association.indicators.as_slice(), out);

@@ -11,7 +11,7 @@ use Rattle.sfc_plant.specs.declared.variable.Variable.{Variable}
 use Rattle.sfc_plant.specs.InstanceSpaces.{space_of, space_at, space_among}
 use Rattle.sfc_plant.specs.Plants.{PlantData}
 use Rattle.sfc_plant.specs.Spaces.{Space, space_in}
-use Rattle.sfc_variables.specs.Declarations.{globals_of}
+use Rattle.sfc_program.specs.sfc_variables.Declarations.{globals_of}
 use Rattle.sfc_program.specs.Built.{program_of, step_of, action_of}
 use Rattle.sfc_program.specs.Elements.{steps_of, actions_of}
 use Rattle.sfc_program.specs.Loading as loading

@@ -12,15 +12,15 @@ use Rattle.sfc_text.specs.declared.tree.Source.{Source}
 use Rattle.sfc_text.specs.declared.tree.Task as text_task
 use Rattle.sfc_text.specs.Trees.{source_of, program_of as program_tree}
 use Rattle.sfc_base.specs.declared.references.Variable.TheVariants.{Global}
-use Rattle.sfc_check.specs.Checking.{checked_literal}
+use Rattle.sfc_program.specs.sfc_check.Checking.{checked_literal}
 use Rattle.sfc_base.specs.NameLists.{has, place_of}
-use Rattle.sfc_variables.specs.declared.load_error.LoadError.TheVariants as fault
-use Rattle.sfc_variables.specs.declared.load_error.Limit.TheVariants as limit
+use Rattle.sfc_program.specs.sfc_variables.declared.load_error.LoadError.TheVariants as fault
+use Rattle.sfc_program.specs.sfc_variables.declared.load_error.Limit.TheVariants as limit
 use Rattle.sfc_plant.specs.declared.variable.Variable.{Variable}
-use Rattle.sfc_variables.specs.Checks.{when, in_turn, typed}
-use Rattle.sfc_variables.specs.Declarations.{globals_check, globals_of}
+use Rattle.sfc_program.specs.sfc_variables.Checks.{when, in_turn, typed}
+use Rattle.sfc_program.specs.sfc_variables.Declarations.{globals_check, globals_of}
 use Rattle.sfc_plant.specs.VariableNames.{names_of, variable_place, typed_at}
-use Rattle.sfc_variables.specs.Own.{global_id}
+use Rattle.sfc_program.specs.sfc_variables.Own.{global_id}
 use Rattle.sfc_program.specs.Built.{program_of}
 use Rattle.sfc_program.specs.Loading.{variable_check}
 use Rattle.sfc_program.proofs.Soundness.{then_first, then_second, when_none, in_turn_passes, found_below, literal_sound, not_above, program_sound}

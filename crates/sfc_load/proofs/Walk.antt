@@ -2,11 +2,11 @@
 use Rattle.std.proofs.Common.{◌≡◌, List, map, None, sym, ap, ◌∙◌, subst}
 use Rattle.sfc_text.specs.declared.tree.Instance as text_instance
 use Rattle.sfc_text.specs.Trees.{SourceTree}
-use Rattle.sfc_variables.specs.declared.load_error.LoadError.{LoadError}
+use Rattle.sfc_program.specs.sfc_variables.declared.load_error.LoadError.{LoadError}
 use Rattle.sfc_plant.specs.declared.variable.Variable.{Variable}
-use Rattle.sfc_variables.specs.Checks.{Fails}
-use Rattle.sfc_variables.specs.Declarations.{globals_check, globals_of}
-use Rattle.sfc_variables.proofs.Checks.{passes}
+use Rattle.sfc_program.specs.sfc_variables.Checks.{Fails}
+use Rattle.sfc_program.specs.sfc_variables.Declarations.{globals_check, globals_of}
+use Rattle.sfc_program.proofs.of_sfc_variables.Checks.{passes}
 use Rattle.sfc_plant.specs.declared.program_type.ProgramType.{ProgramType}
 use Rattle.sfc_program.specs.Built.{program_of}
 use Rattle.sfc_plant.specs.declared.task.Task.{Task}

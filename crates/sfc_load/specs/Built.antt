@@ -6,9 +6,9 @@ use Rattle.sfc_text.specs.declared.tree.Task as text_task
 use Rattle.sfc_text.specs.Trees.{SourceTree}
 use Rattle.sfc_base.specs.NameLists.{place_of}
 use Rattle.sfc_plant.specs.declared.variable.Variable.{Variable}
-use Rattle.sfc_variables.specs.Checks.{Check, ◌then◌}
-use Rattle.sfc_variables.specs.Declarations.{globals_check, globals_of}
-use Rattle.sfc_variables.specs.Own.{global_id}
+use Rattle.sfc_program.specs.sfc_variables.Checks.{Check, ◌then◌}
+use Rattle.sfc_program.specs.sfc_variables.Declarations.{globals_check, globals_of}
+use Rattle.sfc_program.specs.sfc_variables.Own.{global_id}
 use Rattle.sfc_program.specs.Built.{program_of}
 use Rattle.sfc_plant.specs.declared.task.Task.{Task}
 use Rattle.sfc_plant.specs.declared.instance.Instance.{Instance}

@@ -8,3 +8,7 @@ pub mod Built
 pub mod Accepted
 -- What private clauses cite.
 pub mod Assembly
+-- What the crates above name through this one.
+pub use Rattle.sfc_program.specs.sfc_check as sfc_check
+pub use Rattle.sfc_program.specs as sfc_program
+pub use Rattle.sfc_program.specs.sfc_variables as sfc_variables

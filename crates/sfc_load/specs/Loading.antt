@@ -7,14 +7,14 @@ use Rattle.sfc_text.specs.declared.tree.Instance.{Instance}
 use Rattle.sfc_text.specs.declared.tree.Literal.TheVariants as literal
 use Rattle.sfc_text.specs.declared.tree.Task.{Task}
 use Rattle.sfc_text.specs.Trees.{ProgramTree}
-use Rattle.sfc_check.specs.Checking.{checked_literal}
+use Rattle.sfc_program.specs.sfc_check.Checking.{checked_literal}
 use Rattle.sfc_base.specs.NameLists.{has, place_of}
-use Rattle.sfc_variables.specs.declared.load_error.LoadError.TheVariants as fault
-use Rattle.sfc_variables.specs.declared.load_error.Limit.TheVariants as limit
+use Rattle.sfc_program.specs.sfc_variables.declared.load_error.LoadError.TheVariants as fault
+use Rattle.sfc_program.specs.sfc_variables.declared.load_error.Limit.TheVariants as limit
 use Rattle.sfc_plant.specs.declared.variable.Variable.{Variable}
-use Rattle.sfc_variables.specs.Checks.{Check, ◌then◌, when, in_turn, typed}
+use Rattle.sfc_program.specs.sfc_variables.Checks.{Check, ◌then◌, when, in_turn, typed}
 use Rattle.sfc_plant.specs.VariableNames.{global_named}
-use Rattle.sfc_variables.specs.Locations.{repeats}
+use Rattle.sfc_program.specs.sfc_variables.Locations.{repeats}
 use Rattle.sfc_program.specs.Loading.{program_check, variable_check}
 use Rattle.sfc_plant.specs.Image.{locations_of}
 

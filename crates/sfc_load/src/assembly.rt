@@ -2,7 +2,7 @@
 
 ghost use Rattle.std.specs.Prelude.{◌≡◌, IfOk};
 ghost use Rattle.sfc_text.specs.Trees.{source_of};
-ghost use Rattle.sfc_variables.specs.Checks.{Loads};
+ghost use Rattle.sfc_program.specs.sfc_variables.Checks.{Loads};
 ghost use Rattle.sfc_plant.specs.Sound.{IsPlant};
 ghost use Rattle.sfc_load.specs.Built.{source_check, plant_of};
 ghost use Rattle.sfc_plant.specs.PlantParts.{AreNamed};
@@ -11,12 +11,12 @@ ghost use Rattle.sfc_load.specs.Assembly.Declared.{titles_of, plant_from};
 use crate::declaring::load_declarations;
 use crate::image_check::check_image;
 use crate::instances::load_instances;
+use crate::sfc_variables::load_error::LoadError;
 use sfc_base::items::Items;
 use sfc_plant::parts::Parts;
 use sfc_plant::plant::Plant;
 use sfc_plant::titles::Titles;
 use sfc_text::tree::Source;
-use sfc_variables::load_error::LoadError;
 use std::alloc::{AllocError, Global};
 
 /// The parts of the plant that a text is, or the first fault.

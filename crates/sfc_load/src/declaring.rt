@@ -2,17 +2,17 @@
 
 ghost use Rattle.std.specs.Prelude.{IfErr, IfOk};
 ghost use Rattle.sfc_text.specs.Trees.{source_of};
-ghost use Rattle.sfc_variables.specs.Checks.{Fails};
+ghost use Rattle.sfc_program.specs.sfc_variables.Checks.{Fails};
 ghost use Rattle.sfc_load.specs.Built.{source_check};
 ghost use Rattle.sfc_load.specs.Assembly.Declared.{AreDeclared};
 
 use crate::programs::load_programs;
+use crate::sfc_variables::globals::load_globals;
+use crate::sfc_variables::load_error::LoadError;
 use crate::tasks::load_tasks;
 use sfc_base::items::Items;
 use sfc_plant::declarations::Declarations;
 use sfc_text::tree::Source;
-use sfc_variables::globals::load_globals;
-use sfc_variables::load_error::LoadError;
 use std::alloc::Global;
 
 /// The declarations of a text, or its first fault, where that is in one of them.

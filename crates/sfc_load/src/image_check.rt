@@ -1,22 +1,22 @@
 //! What loading checks of the variables of all instances (2.4.1.1).
 
 ghost use Rattle.std.specs.Prelude.{◌≡◌, ◌++◌, length, flat_map, nat_lt, OnOk, IfOk};
-ghost use Rattle.sfc_variables.specs.Checks.{Loads, when};
-ghost use Rattle.sfc_variables.specs.declared.load_error.LoadError.TheVariants as fault;
-ghost use Rattle.sfc_variables.specs.declared.load_error.Limit.TheVariants as limit;
-ghost use Rattle.sfc_variables.specs.Locations as located;
+ghost use Rattle.sfc_program.specs.sfc_variables.Checks.{Loads, when};
+ghost use Rattle.sfc_program.specs.sfc_variables.declared.load_error.LoadError.TheVariants as fault;
+ghost use Rattle.sfc_program.specs.sfc_variables.declared.load_error.Limit.TheVariants as limit;
+ghost use Rattle.sfc_program.specs.sfc_variables.Locations as located;
 ghost use Rattle.sfc_plant.specs.Image as image;
 ghost use Rattle.sfc_plant.specs.Image.{image_of, locations_of, starts_from};
 ghost use Rattle.sfc_load.specs.Loading.{image_check};
 
+use crate::sfc_variables::load_error::{Limit, LoadError};
+use crate::sfc_variables::located::repeats;
 use sfc_base::limits::VARIABLES;
 use sfc_base::location::Location;
 use sfc_plant::image::locals_of;
 use sfc_plant::instance::Instance;
 use sfc_plant::program_type::ProgramType;
 use sfc_plant::variable::Variable;
-use sfc_variables::load_error::{Limit, LoadError};
-use sfc_variables::located::repeats;
 use std::alloc::{AllocError, Global};
 
 // The number of the first local of each instance, if there are at most 4,096 variables.

@@ -1,18 +1,18 @@
 //! Program instances (2.7.2).
 
 ghost use Rattle.std.specs.Prelude.{◌≡◌, ◌≤◌, ◌++◌, ◌∷◌, [], length, map, OnOk, IfOk};
-ghost use Rattle.sfc_variables.specs.Checks.{Loads, in_turn};
+ghost use Rattle.sfc_program.specs.sfc_variables.Checks.{Loads, in_turn};
 ghost use Rattle.sfc_load.specs.Loading as loading;
 ghost use Rattle.sfc_load.specs.Loading.{instance_name, instance_check, instances_check};
 ghost use Rattle.sfc_load.specs.Built.{instance_of};
 
+use crate::sfc_variables::load_error::{Limit, LoadError};
 use sfc_base::ids::{TaskId, TypeId};
 use sfc_base::limits::{INSTANCES, TASKS};
 use sfc_base::name::Name;
 use sfc_plant::instance::Instance;
 use sfc_plant::name_table::NameTable;
 use sfc_text::tree;
-use sfc_variables::load_error::{Limit, LoadError};
 use std::alloc::Global;
 
 // The number of a task, if one is named that is there.

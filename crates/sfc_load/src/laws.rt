@@ -5,7 +5,7 @@ ghost use Rattle.sfc_base.specs.NameLists.{place_of};
 ghost use Rattle.sfc_base.specs.declared.ids.ProgId.{ProgId};
 ghost use Rattle.sfc_text.specs.Trees.{ProgramTree, SourceTree};
 ghost use Rattle.sfc_text.specs.declared.tree.Instance.{Instance};
-ghost use Rattle.sfc_variables.specs.Declarations.{globals_of};
+ghost use Rattle.sfc_program.specs.sfc_variables.Declarations.{globals_of};
 ghost use Rattle.sfc_plant.specs.InstanceSpaces as instances;
 ghost use Rattle.sfc_program.specs.Loading as loading;
 ghost use Rattle.sfc_load.specs.Loading.{program_names};

@@ -16,3 +16,6 @@ pub mod load;
 mod programs;
 pub mod scope;
 mod tasks;
+
+// What the crates above name through this one.
+pub use sfc_program::{sfc_check, sfc_variables};

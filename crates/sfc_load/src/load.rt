@@ -1,12 +1,12 @@
 //! Trees to plants: names are looked up, types and limits are checked.
 ghost use Rattle.sfc_text.specs.Trees.{source_of};
-ghost use Rattle.sfc_variables.specs.Checks.{Loads};
+ghost use Rattle.sfc_program.specs.sfc_variables.Checks.{Loads};
 ghost use Rattle.sfc_load.specs.Built.{source_check, plant_of};
 
 use crate::assembly::{assemble, load_parts};
+use crate::sfc_variables::load_error::LoadError;
 use sfc_plant::plant::Plant;
 use sfc_text::tree::Source;
-use sfc_variables::load_error::LoadError;
 use std::alloc::Global;
 
 /// The plant that the trees of a text are (2.4 to 2.7).

@@ -2,16 +2,16 @@
 
 ghost use Rattle.std.specs.Prelude.{◌≡◌, ◌++◌, ◌∷◌, [], map, OnOk, IfOk};
 ghost use Rattle.sfc_text.specs.Trees as trees;
-ghost use Rattle.sfc_variables.specs.Checks.{Loads};
+ghost use Rattle.sfc_program.specs.sfc_variables.Checks.{Loads};
 ghost use Rattle.sfc_program.specs.Built.{program_of};
 ghost use Rattle.sfc_load.specs.Loading.{program_names, named_program_check, programs_check};
 
+use crate::sfc_variables::load_error::LoadError;
 use sfc_plant::name_table::NameTable;
 use sfc_plant::program_type::ProgramType;
 use sfc_plant::variable_table::VariableTable;
 use sfc_program::load::load_program;
 use sfc_text::tree::Program;
-use sfc_variables::load_error::LoadError;
 use std::alloc::Global;
 
 fn load_named(

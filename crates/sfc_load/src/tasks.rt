@@ -2,24 +2,24 @@
 
 ghost use Rattle.std.specs.Prelude.{◌≡◌, ◌≤◌, ◌++◌, ◌∷◌, [], length, map, OnOk, IfOk};
 ghost use Rattle.std.specs.Option.{option_map};
-ghost use Rattle.sfc_variables.specs.Checks.{Loads, in_turn};
-ghost use Rattle.sfc_variables.specs.Own.{global_id};
+ghost use Rattle.sfc_program.specs.sfc_variables.Checks.{Loads, in_turn};
+ghost use Rattle.sfc_program.specs.sfc_variables.Own.{global_id};
 ghost use Rattle.sfc_load.specs.Loading as loading;
 ghost use Rattle.sfc_load.specs.Loading.{task_name, task_check, task_names, tasks_check};
 ghost use Rattle.sfc_load.specs.Built.{task_of};
 
+use crate::sfc_check::literal::check_literal;
+use crate::sfc_variables::load_error::{Limit, LoadError};
 use sfc_base::limits::TASKS;
 use sfc_base::name::Name;
 use sfc_base::references::GlobalId;
 use sfc_base::time_value::TimeValue;
 use sfc_base::value::Value;
 use sfc_base::var_type::VarType;
-use sfc_check::literal::check_literal;
 use sfc_plant::name_table::NameTable;
 use sfc_plant::task::Task;
 use sfc_plant::variable_table::VariableTable;
 use sfc_text::tree::{self, Literal};
-use sfc_variables::load_error::{Limit, LoadError};
 use std::alloc::Global;
 
 // The BOOL variable that SINGLE names, if it is there.

@@ -7,17 +7,18 @@ use Rattle.sfc_plant.specs.Finding.{chart_of}
 use Rattle.sfc_plant.specs.InstanceSpaces.{space_of}
 use Rattle.sfc_plant.specs.Plants.{PlantData}
 use Rattle.sfc_plant.specs.Spaces.{Space}
-use Rattle.sfc_tables.specs.Tables.{Tabled, tables_of}
-use Rattle.sfc_instance.specs.Answers.{scan_count, is_transition_cleared, is_action_executed}
-use Rattle.sfc_instance.specs.Life.{InstanceState}
-use Rattle.sfc_instance.specs.declared.scan_end.ScanEnd.TheVariants.{Ran, Faulted, Skipped}
+use Rattle.sfc_debug.specs.sfc_tables.Tables.{Tabled, tables_of}
+use Rattle.sfc_debug.specs.sfc_instance.Answers.{scan_count, is_transition_cleared, is_action_executed}
+use Rattle.sfc_debug.specs.sfc_instance.Life.{InstanceState}
+use Rattle.sfc_debug.specs.sfc_instance.declared.scan_end.ScanEnd.TheVariants.{Ran, Faulted, Skipped}
 use Rattle.sfc_output.specs.Lists.{listed}
 use Rattle.sfc_output.specs.Memories.{effects_text}
-use Rattle.sfc_output.specs.Names.{numbered_action, program_name}
+use Rattle.sfc_plant.specs.PlantNames.{instance_name}
+use Rattle.sfc_debug.specs.sfc_tables.ActionNames.{numbered_action}
 use Rattle.sfc_output.specs.Programs.{transition_text, cleared_texts, executed_texts, step_texts, program_line, fault_text, scans_text}
-use Rattle.sfc_output.specs.Private.Told.{did_text, done_text, fault_line, lacking, ran_text}
-use Rattle.sfc_output.specs.Values.{line_end}
-use Rattle.sfc_output.proofs.Appended.{two_appended}
+use Rattle.sfc_output.specs.Private.Pieces.{did_text, done_text, fault_line, lacking, ran_text}
+use Rattle.sfc_page.specs.Values.{line_end}
+use Rattle.sfc_page.proofs.Appended.{two_appended}
 use Rattle.sfc_output.proofs.Texts.{texts_all}
 
 -- the sets are those of an instance that stands so
@@ -39,12 +40,12 @@ ran_parts : (head name blank number steps listed_steps cleared listed_cleared ru
 ran_parts head name blank number steps listed_steps cleared listed_cleared run listed_executed last = simp append_assoc
 
 pub ran_regrouped : (plant : PlantData) (p : ProgId) (instance_state : InstanceState)
-    → ran_text (program_name plant p) (space_of plant p) (tables_of (chart_of plant p)) instance_state ≡ program_line plant p instance_state Ran
+    → ran_text (instance_name plant p) (space_of plant p) (tables_of (chart_of plant p)) instance_state ≡ program_line plant p instance_state Ran
 unfolding ran_text scans_text done_text program_line
 ran_regrouped plant p instance_state =
     let space = space_of plant p in
     let tables = tables_of (chart_of plant p) in
-    ran_parts (codes "  ") (program_name plant p) (codes " ") (decimal (scan_count instance_state)) (codes " steps ")
+    ran_parts (codes "  ") (instance_name plant p) (codes " ") (decimal (scan_count instance_state)) (codes " steps ")
     (listed (step_texts space tables instance_state)) (codes " cleared ") (listed (cleared_texts tables instance_state))
     (codes " run ") (listed (executed_texts space tables instance_state)) line_end
 
@@ -69,7 +70,7 @@ did_appended old first second space tables instance_state e f =
 
 -- With what is lacking, the line of an instance whose scan ran stands; a view shows the plant and the instance.
 pub line_ran : {shown plant : PlantData} {q p : ProgId} {rest r : Option ℕ} (instance_state : InstanceState) (old head put : List ℕ)
-    → shown ≡ plant → q ≡ p → rest ≡ r → head ≡ old ++ scans_text (program_name plant p) (scan_count instance_state)
+    → shown ≡ plant → q ≡ p → rest ≡ r → head ≡ old ++ scans_text (instance_name plant p) (scan_count instance_state)
     → put ++ lacking rest (done_text (space_of shown q) (tables_of (chart_of shown q)) instance_state)
     ≡ head ++ did_text (space_of shown q) (tables_of (chart_of shown q)) instance_state
     → put ++ lacking r (done_text (space_of plant p) (tables_of (chart_of plant p)) instance_state) ≡ old ++ program_line plant p instance_state Ran
@@ -80,20 +81,20 @@ line_ran {shown} {plant} {q} {p} {rest} {r} instance_state old head put a b d e 
     let did : all ≡ head ++ did_text space tables instance_state =
     sym (λ i. put ++ lacking (d i) (done_text (space_of (a i) (b i)) (tables_of (chart_of (a i) (b i))) instance_state)) ∙ f
     ∙ (λ i. head ++ did_text (space_of (a i) (b i)) (tables_of (chart_of (a i) (b i))) instance_state) in
-    ran_appended old head all (program_name plant p) space tables instance_state e did
+    ran_appended old head all (instance_name plant p) space tables instance_state e did
     ∙ ap (λ (xs : List ℕ). old ++ xs) (ran_regrouped plant p instance_state)
 
 fault_parts : (head name word fault last : List ℕ) → head ++ name ++ word ++ fault ++ last ≡ (head ++ name) ++ (word ++ fault) ++ last
 fault_parts head name word fault last = simp append_assoc
 
 pub faulted_regrouped : (plant : PlantData) (p : ProgId) (instance_state : InstanceState)
-    → fault_line (program_name plant p) (codes " fault ") instance_state.fault ≡ program_line plant p instance_state Faulted
+    → fault_line (instance_name plant p) (codes " fault ") instance_state.fault ≡ program_line plant p instance_state Faulted
 unfolding fault_line program_line
 faulted_regrouped plant p instance_state =
-    fault_parts (codes "  ") (program_name plant p) (codes " fault ") (fault_text instance_state.fault) line_end
+    fault_parts (codes "  ") (instance_name plant p) (codes " fault ") (fault_text instance_state.fault) line_end
 
 pub skipped_regrouped : (plant : PlantData) (p : ProgId) (instance_state : InstanceState)
-    → fault_line (program_name plant p) (codes " skipped ") instance_state.fault ≡ program_line plant p instance_state Skipped
+    → fault_line (instance_name plant p) (codes " skipped ") instance_state.fault ≡ program_line plant p instance_state Skipped
 unfolding fault_line program_line
 skipped_regrouped plant p instance_state =
-    fault_parts (codes "  ") (program_name plant p) (codes " skipped ") (fault_text instance_state.fault) line_end
+    fault_parts (codes "  ") (instance_name plant p) (codes " skipped ") (fault_text instance_state.fault) line_end

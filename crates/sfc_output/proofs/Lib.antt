@@ -1,11 +1,3 @@
--- texts put at the end, one after the other
-pub mod Appended
--- decimal digits, as they are put
-pub mod Numbers
--- the table of the digits of numbers below a thousand
-pub mod Triples
--- text that was put in two pieces
-pub mod Overlaps
 -- texts of numbered places, one after the other
 pub mod Texts
 -- what is kept
@@ -16,5 +8,8 @@ pub mod Done
 pub mod Heads
 -- lines of numbered places, one after the other
 pub mod Numbered
--- what stands at the end of a buffer and in a line behind it
-pub mod Told
+-- the line of a scan that hit no breakpoint, piece by piece
+pub mod Scans
+-- What the crates above name through this one.
+pub use Rattle.sfc_debug.proofs.of_sfc_core as of_sfc_core
+pub use Rattle.sfc_debug.proofs as of_sfc_debug

@@ -4,7 +4,8 @@ use Rattle.std.specs.List.{flat_map, range_with_len}
 use Rattle.sfc_plant.specs.Plants.{PlantData}
 use Rattle.sfc_events.specs.declared.command.Answer.{Answer}
 use Rattle.sfc_events.specs.declared.command.Answer.TheVariants.{Done, Scanned, Value}
-use Rattle.sfc_instance.specs.Life.{InstanceState}
+use Rattle.sfc_events.specs.declared.instance_set.InstanceSet.{InstanceSet}
+use Rattle.sfc_debug.specs.sfc_instance.Life.{InstanceState}
 use Rattle.sfc_output.specs.Commands.{program_lines, scan_end_in, written_line}
 
 module _ (line : ℕ → List ℕ) where
@@ -27,7 +28,7 @@ module _ (line : ℕ → List ℕ) where
 
 -- an answer that isn't one to a scan tells of no instance
 pub untold : (plant : PlantData) (instance_state : ℕ → InstanceState) (answer : Answer)
-    → ((ran faulted skipped overruns : ℕ) (hit : Bool) → answer ≡ Scanned ran faulted skipped overruns hit → ⊥)
+    → ((ran faulted skipped : InstanceSet) (overruns : ℕ) (hit : Bool) → answer ≡ Scanned ran faulted skipped overruns hit → ⊥)
     → program_lines plant instance_state answer ≡ []
 untold plant instance_state Done other =
     lines_blank (λ k. written_line plant instance_state k (scan_end_in Done k)) 0 (length plant.instances) (λ j. refl)

@@ -1,7 +1,6 @@
 -- The lines of commands and of their answers (our choice of format).
 use Rattle.std.specs.Prelude.{ℕ, suc, ◌==◌, Bool, true, false, List, [], ◌++◌, if◌then◌else◌, flat_map, length, ℤ, codes}
 use Rattle.std.specs.Prelude.{Option, Some, None, Result, Ok, Err, slice_get}
-use Rattle.std.specs.Int.{bit_at}
 use Rattle.std.specs.List.{range_with_len}
 use Rattle.std.specs.Fmt.{decimal}
 use Rattle.sfc_base.specs.TimeText.{time_text}
@@ -15,7 +14,7 @@ use Rattle.sfc_plant.specs.InstanceSpaces.{space_of}
 use Rattle.sfc_plant.specs.Names.{step_name}
 use Rattle.sfc_plant.specs.Plants.{PlantData}
 use Rattle.sfc_plant.specs.Spaces.{Space}
-use Rattle.sfc_tables.specs.Tables.{Tabled, tables_of}
+use Rattle.sfc_debug.specs.sfc_tables.Tables.{Tabled, tables_of}
 use Rattle.sfc_events.specs.declared.command.Answer.{Answer}
 use Rattle.sfc_events.specs.declared.command.Answer.TheVariants as answers
 use Rattle.sfc_events.specs.declared.command.Command.{Command}
@@ -23,24 +22,26 @@ use Rattle.sfc_events.specs.declared.command.Command.TheVariants as commands
 use Rattle.sfc_events.specs.declared.command.Point.{Point}
 use Rattle.sfc_events.specs.declared.command.Point.TheVariants as points
 use Rattle.sfc_events.specs.declared.command.TraceRow.{TraceRow}
+use Rattle.sfc_events.specs.InstanceSets.{has}
 use Rattle.sfc_events.specs.declared.refusal.Refusal.{Refusal}
 use Rattle.sfc_events.specs.declared.refusal.Refusal.TheVariants.{NotDue, Yield}
 use Rattle.sfc_events.specs.Refusals.{refusal_text}
-use Rattle.sfc_instance.specs.declared.scan_end.ScanEnd.{ScanEnd}
-use Rattle.sfc_instance.specs.declared.scan_end.ScanEnd.TheVariants.{Ran, Faulted, Skipped}
-use Rattle.sfc_instance.specs.Life.{InstanceState}
+use Rattle.sfc_debug.specs.sfc_instance.declared.scan_end.ScanEnd.{ScanEnd}
+use Rattle.sfc_debug.specs.sfc_instance.declared.scan_end.ScanEnd.TheVariants.{Ran, Faulted, Skipped}
+use Rattle.sfc_debug.specs.sfc_instance.Life.{InstanceState}
 use Rattle.sfc_expr.specs.Trees.{Expression}
-use Rattle.sfc_core.specs.PlantState as core
+use Rattle.sfc_debug.specs.sfc_core.PlantState as core
 use Rattle.sfc_debug.specs.declared.debugger.Debugger.{Debugger}
 use Rattle.sfc_debug.specs.Agreement.{plant_of, table_of}
 use Rattle.sfc_debug.specs.Histories.{CommandHistory}
 use Rattle.sfc_debug.specs.Hits.{shown_condition}
 use Rattle.sfc_debug.specs.States.{DebugState, state_of}
 use Rattle.sfc_list.specs.Expressions.{expression_text}
-use Rattle.sfc_output.specs.Names.{task_name, program_name, image_name, numbered_action}
+use Rattle.sfc_plant.specs.PlantNames.{task_name, instance_name, image_name}
+use Rattle.sfc_debug.specs.sfc_tables.ActionNames.{numbered_action}
 use Rattle.sfc_output.specs.Programs.{program_line}
-use Rattle.sfc_output.specs.Steered.{Steered, steered_by}
-use Rattle.sfc_output.specs.Values.{line_end, value_text}
+use Rattle.sfc_debug.specs.Steered.{Steered, steered_by}
+use Rattle.sfc_page.specs.Values.{line_end, value_text}
 
 -- ---- breakpoints
 
@@ -56,7 +57,7 @@ point_in plant p point (Some instance) = point_text (space_of plant p) (tables_o
 
 -- where a breakpoint stands: a program instance, and a point of its chart
 abbrev pub place_text : PlantData → ProgId → Point → List ℕ
-place_text plant p point = program_name plant p ++ point_in plant p point (slice_get plant.instances p.0)
+place_text plant p point = instance_name plant p ++ point_in plant p point (slice_get plant.instances p.0)
 
 -- an expression, as the condition of a transition of this program instance is listed
 abbrev pub expression_in : PlantData → ProgId → Expression → Option Instance → List ℕ
@@ -84,7 +85,7 @@ command_text steered (commands.Scan task) = codes " SCAN " ++ task_name steered.
 command_text steered (commands.Input id v) = codes " INPUT " ++ valued_text steered.plant id v
 command_text steered (commands.Force id v) = codes " FORCE " ++ valued_text steered.plant id v
 command_text steered (commands.Release id) = codes " RELEASE " ++ image_name steered.plant id
-command_text steered (commands.Reset p) = codes " RESET " ++ program_name steered.plant p
+command_text steered (commands.Reset p) = codes " RESET " ++ instance_name steered.plant p
 command_text steered (commands.Read id) = codes " READ " ++ image_name steered.plant id
 command_text steered (commands.Break p point) = codes " BREAK " ++ place_text steered.plant p point
 command_text steered (commands.BreakIf p point id) =
@@ -130,16 +131,12 @@ refusal_line plant refusal = refusal_text refusal ++ refusal_detail plant refusa
 
 -- ---- the programs of a scan
 
--- bit k of a number is set
-abbrev pub is_set : ℕ → ℕ → Bool
-is_set bits k = bit_at bits k == 1
-
 -- how the scan of instance k ended, if the answer tells of it
 abbrev pub scan_end_in : Answer → ℕ → Option ScanEnd
 scan_end_in (answers.Scanned ran faulted skipped overruns hit) k =
-    if is_set ran k then Some Ran else
-    if is_set faulted k then Some Faulted else
-    if is_set skipped k then Some Skipped else None
+    if has ran k then Some Ran else
+    if has faulted k then Some Faulted else
+    if has skipped k then Some Skipped else None
 scan_end_in _ k = None
 
 abbrev pub written_line : PlantData → (ℕ → InstanceState) → ℕ → Option ScanEnd → List ℕ

@@ -4,10 +4,10 @@ use Rattle.std.specs.List.{range_with_len}
 use Rattle.sfc_base.specs.declared.value.Value.{Value}
 use Rattle.sfc_base.specs.declared.ids.VarId.{VarId}
 use Rattle.sfc_plant.specs.Plants.{PlantData}
-use Rattle.sfc_image.specs.Values.{variable_count, value_of, forced_value}
-use Rattle.sfc_instances.specs.PlantState.{PlantState}
-use Rattle.sfc_output.specs.Names.{image_name}
-use Rattle.sfc_output.specs.Values.{line_end, value_text}
+use Rattle.sfc_debug.specs.sfc_image.Values.{variable_count, value_of, forced_value}
+use Rattle.sfc_debug.specs.sfc_instances.PlantState.{PlantState}
+use Rattle.sfc_plant.specs.PlantNames.{image_name}
+use Rattle.sfc_page.specs.Values.{line_end, value_text}
 
 abbrev pub forced_text : Option Value → List ℕ
 forced_text None = []

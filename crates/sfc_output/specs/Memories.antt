@@ -2,7 +2,7 @@
 use Rattle.std.specs.Prelude.{ℕ, ◌≡◌, ◌<◌, ◌≤◌, ◌+◌, ◌-◌, List, [], ◌++◌, codes, map, take, Bool, Option, Some, None, slice_get, slice_set}
 use Rattle.std.specs.Fmt.{decimal}
 use Rattle.sfc_flags.specs.Flags.{places_from}
-use Rattle.sfc_tables.specs.Tables.{Tabled, tables_of}
+use Rattle.sfc_debug.specs.sfc_tables.Tables.{Tabled, tables_of}
 use Rattle.sfc_plant.specs.Spaces.{Space}
 use Rattle.sfc_plant.specs.Finding.{chart_of}
 use Rattle.sfc_plant.specs.InstanceSpaces.{space_of}
@@ -10,13 +10,14 @@ use Rattle.sfc_plant.specs.Plants.{PlantData}
 use Rattle.sfc_output.specs.declared.effects.Effects.{Effects}
 use Rattle.sfc_output.specs.declared.kept_head.KeptHead.{KeptHead}
 use Rattle.sfc_output.specs.declared.kept_text.KeptText.{KeptText}
-use Rattle.sfc_output.specs.declared.memory.Kept.{Kept}
-use Rattle.sfc_output.specs.declared.memory.Memory.{Memory}
-use Rattle.sfc_output.specs.declared.memory.ProgramMemory.{ProgramMemory}
+use Rattle.sfc_output.specs.declared.kept_lines.Kept.{Kept}
+use Rattle.sfc_output.specs.declared.kept_lines.KeptLines.{KeptLines}
+use Rattle.sfc_output.specs.declared.kept_lines.ProgramMemory.{ProgramMemory}
 use Rattle.sfc_output.specs.Lists.{listed}
-use Rattle.sfc_output.specs.Names.{numbered_action, program_name, task_name}
+use Rattle.sfc_plant.specs.PlantNames.{instance_name, task_name}
+use Rattle.sfc_debug.specs.sfc_tables.ActionNames.{numbered_action}
 use Rattle.sfc_output.specs.Programs.{scans_text, transition_text}
-use Rattle.sfc_output.specs.Values.{line_end}
+use Rattle.sfc_page.specs.Values.{line_end}
 
 -- the end of the line of a program instance: the transitions that were cleared and the actions that were executed, as these sets have them
 unfoldable pub effects_text : Space → Tabled → List Bool → List Bool → List ℕ
@@ -75,7 +76,7 @@ heads_in (Some kept) = kept.heads.items
 -- all that is kept of heads is right
 abbrev pub HeadsRight : PlantData → List KeptHead → Type 0
 HeadsRight plant heads =
-    (k : ℕ) (head : KeptHead) → slice_get heads k ≡ Some head → IsHead (program_name plant (record { 0 = k })) head
+    (k : ℕ) (head : KeptHead) → slice_get heads k ≡ Some head → IsHead (instance_name plant (record { 0 = k })) head
 
 -- what is kept of tasks, by their numbers
 abbrev pub tasks_in : Option Kept → List KeptText
@@ -87,7 +88,7 @@ abbrev pub TasksRight : PlantData → List KeptText → Type 0
 TasksRight plant tasks = (k : ℕ) (kept : KeptText) → slice_get tasks k ≡ Some kept → IsKept (plain_scan_text plant k) kept
 
 -- all that is kept is right for the tasks and the program instances of this plant
-unfoldable pub Fits : PlantData → Memory → Type 0
+unfoldable pub Fits : PlantData → KeptLines → Type 0
 Fits plant memory =
     TasksRight plant (tasks_in memory.kept)
     × HeadsRight plant (heads_in memory.kept)

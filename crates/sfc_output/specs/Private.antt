@@ -2,5 +2,5 @@
 
 -- lists that are written text by text
 pub mod ListParts
--- what stands at the end of a buffer and in a line
-pub mod Told
+-- the lines of scans and of program instances, piece by piece
+pub mod Pieces

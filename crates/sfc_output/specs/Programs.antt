@@ -3,24 +3,23 @@ use Rattle.std.specs.Prelude.{ℕ, suc, Bool, List, [], ◌++◌, length, map, f
 use Rattle.std.specs.List.{range_with_len}
 use Rattle.std.specs.Fmt.{decimal}
 use Rattle.sfc_base.specs.TimeText.{time_text}
-use Rattle.sfc_expr.specs.declared.fault.Fault.TheVariants.{DivZero, Range}
-use Rattle.sfc_tables.specs.Tables.{Tabled, tables_of}
+use Rattle.sfc_debug.specs.sfc_tables.Tables.{Tabled, tables_of}
 use Rattle.sfc_plant.specs.Spaces.{Space}
-use Rattle.sfc_action.specs.declared.fault.ControlFault.TheVariants.{TwoTimed, SdWhileSl, SlWhileSd}
 use Rattle.sfc_base.specs.declared.ids.ProgId.{ProgId}
 use Rattle.sfc_plant.specs.Plants.{PlantData}
-use Rattle.sfc_instance.specs.declared.scan_end.ScanEnd.{ScanEnd}
-use Rattle.sfc_instance.specs.declared.scan_end.ScanEnd.TheVariants.{Ran, Faulted, Skipped}
-use Rattle.sfc_instance.specs.declared.scan_fault.ScanFault.{ScanFault}
-use Rattle.sfc_instance.specs.declared.scan_fault.ScanFault.TheVariants.{Expression, Control}
-use Rattle.sfc_instance.specs.Life.{InstanceState}
+use Rattle.sfc_debug.specs.sfc_instance.declared.scan_end.ScanEnd.{ScanEnd}
+use Rattle.sfc_debug.specs.sfc_instance.declared.scan_end.ScanEnd.TheVariants.{Ran, Faulted, Skipped}
+use Rattle.sfc_debug.specs.sfc_instance.declared.scan_fault.ScanFault.{ScanFault}
+use Rattle.sfc_debug.specs.sfc_instance.FaultNames.{fault_name}
+use Rattle.sfc_debug.specs.sfc_instance.Life.{InstanceState}
 use Rattle.sfc_plant.specs.Finding.{chart_of}
 use Rattle.sfc_plant.specs.InstanceSpaces.{space_of}
-use Rattle.sfc_instance.specs.Answers.{scan_count, is_step_active, step_elapsed, is_transition_cleared, is_action_executed}
+use Rattle.sfc_debug.specs.sfc_instance.Answers.{scan_count, is_step_active, step_elapsed, is_transition_cleared, is_action_executed}
 use Rattle.sfc_plant.specs.Names.{step_name}
 use Rattle.sfc_output.specs.Lists.{listed}
-use Rattle.sfc_output.specs.Names.{program_name, numbered_action}
-use Rattle.sfc_output.specs.Values.{line_end}
+use Rattle.sfc_plant.specs.PlantNames.{instance_name}
+use Rattle.sfc_debug.specs.sfc_tables.ActionNames.{numbered_action}
+use Rattle.sfc_page.specs.Values.{line_end}
 
 -- the texts of those of n places, from place k on, that are in a set
 unfoldable pub texts_from : (ℕ → Bool) → (ℕ → List ℕ) → ℕ → ℕ → List (List ℕ)
@@ -54,7 +53,7 @@ executed_texts space tables instance_state =
 
 -- two blanks and a name
 abbrev pub program_head : PlantData → ProgId → List ℕ
-program_head plant p = codes "  " ++ program_name plant p
+program_head plant p = codes "  " ++ instance_name plant p
 
 -- what stands before the steps, where the scan ran: the name, how many scans the life has had, and the word before the steps
 unfoldable pub scans_text : List ℕ → ℕ → List ℕ
@@ -67,13 +66,6 @@ scan_text space tables instance_state =
     ++ codes " steps " ++ listed (step_texts space tables instance_state)
     ++ codes " cleared " ++ listed (cleared_texts tables instance_state)
     ++ codes " run " ++ listed (executed_texts space tables instance_state)
-
-abbrev pub fault_name : ScanFault → List ℕ
-fault_name (Expression DivZero) = codes "DivZero"
-fault_name (Expression Range) = codes "Range"
-fault_name (Control TwoTimed) = codes "TwoTimed"
-fault_name (Control SdWhileSl) = codes "SdWhileSl"
-fault_name (Control SlWhileSd) = codes "SlWhileSd"
 
 abbrev pub fault_text : Option ScanFault → List ℕ
 fault_text None = []

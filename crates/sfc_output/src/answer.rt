@@ -4,35 +4,39 @@ ghost use Rattle.std.specs.Prelude.{◌≡◌, ◌<◌, ◌++◌, length, Ok, On
 ghost use Rattle.sfc_events.specs.History.{History};
 ghost use Rattle.sfc_plant.specs.Finding.{chart_of};
 ghost use Rattle.sfc_plant.specs.InstanceSpaces.{space_of};
-ghost use Rattle.sfc_tables.specs.Tables.{tables_of};
-ghost use Rattle.sfc_core.specs.Agreement as core;
-ghost use Rattle.sfc_core.specs.PlantState as plant_state;
+ghost use Rattle.sfc_debug.specs.sfc_tables.Tables.{tables_of};
+ghost use Rattle.sfc_debug.specs.sfc_core.Agreement as core;
+ghost use Rattle.sfc_debug.specs.sfc_core.PlantState as plant_state;
 ghost use Rattle.sfc_debug.specs.Agreement.{Agrees, plant_of};
 ghost use Rattle.sfc_debug.specs.Histories.{CommandHistory};
 ghost use Rattle.sfc_debug.specs.States.{state_of};
 ghost use Rattle.sfc_output.specs.Commands.{command_line, lines_at, lines_of, program_lines, refusal_line};
 ghost use Rattle.sfc_output.specs.Memories.{Fits};
-ghost use Rattle.sfc_instance.specs.declared.scan_end.ScanEnd.TheVariants.{Ran};
-ghost use Rattle.sfc_output.specs.Names.{task_name};
+ghost use Rattle.sfc_debug.specs.sfc_instance.declared.scan_end.ScanEnd.TheVariants.{Ran};
+ghost use Rattle.sfc_plant.specs.PlantNames.{task_name};
 ghost use Rattle.sfc_output.specs.Programs.{program_line};
-ghost use Rattle.sfc_output.specs.Private.Told.{told, done_text, head_text, scanned_line};
-ghost use Rattle.sfc_output.specs.Steered.{steered_by};
+ghost use Rattle.sfc_output.specs.Private.Pieces.{done_text, head_text, scanned_line};
+ghost use Rattle.sfc_page.specs.Lines.{written};
+ghost use Rattle.sfc_debug.specs.Steered.{steered_by};
 
 use crate::command::{Accepted, append_refusal, put_command, put_scan, scan_end_in};
 use crate::kept_head::KeptHead;
-use crate::line::Line;
-use crate::memory::Memory;
-use crate::naming;
-use crate::page::Page;
+use crate::kept_lines::KeptLines;
+use crate::line::put_scans;
 use crate::program::{put_done, put_program, put_steps_and_effects};
+use crate::sfc_core::resource::Resource;
+use crate::sfc_instance::scan_end::ScanEnd;
 use sfc_base::ids::{ProgId, TaskId};
-use sfc_core::resource::Resource;
 use sfc_debug::debugger::Debugger;
 use sfc_events::command::{Answer, Command};
 use sfc_events::refusal::Refusal;
-use sfc_instance::scan_end::ScanEnd;
+use sfc_page::line::Line;
+use sfc_page::page::Page;
 use sfc_plant::plant::Plant;
 use std::alloc::{AllocError, Global};
+
+// How many bytes most answers have at the most.
+const ANSWER: usize = 256;
 
 // What the scan of an instance did, to the end of the line, which is kept at this place.
 #[cold]
@@ -40,13 +44,13 @@ use std::alloc::{AllocError, Global};
 fn put_done_of(
     line: &mut Line,
     out: &mut Vec<u8>,
-    memory: &mut Memory,
+    memory: &mut KeptLines,
     resource: &Resource,
     at: (ProgId, usize),
 ) -> Result<(), AllocError>
     requires { at.0.0 < length (core.plant_of resource.now).instances }
     ensures line { (h : History) → core.Agrees resource.now h →
-        OnOk result (told out.new.items line.new ≡ told out.old.items line.old ++ done_text (space_of (core.plant_of resource.now) at.0)
+        OnOk result (written out.new.items line.new ≡ written out.old.items line.old ++ done_text (space_of (core.plant_of resource.now) at.0)
         (tables_of (chart_of (core.plant_of resource.now) at.0)) ((plant_state.state_of (core.plant_of resource.now) h).instance_state at.0.0)) }
     ensures fits { Fits (core.plant_of resource.now) memory.old → Fits (core.plant_of resource.now) memory.new }
 {
@@ -60,20 +64,20 @@ fn put_done_of(
 fn put_new_head(
     line: &mut Line,
     out: &mut Vec<u8>,
-    memory: &mut Memory,
+    memory: &mut KeptLines,
     resource: &Resource,
     instance: ProgId,
 ) -> Result<(), AllocError>
     requires { instance.0 < length (core.plant_of resource.now).instances }
     ensures line { (h : History) → core.Agrees resource.now h →
-        OnOk result (told out.new.items line.new ≡ told out.old.items line.old ++ head_text (core.plant_of resource.now) instance
+        OnOk result (written out.new.items line.new ≡ written out.old.items line.old ++ head_text (core.plant_of resource.now) instance
         ((plant_state.state_of (core.plant_of resource.now) h).instance_state instance.0)) }
     ensures fits { Fits (core.plant_of resource.now) memory.old → Fits (core.plant_of resource.now) memory.new }
 {
     let view = resource.program(instance);
     let scans = view.scans();
     let (passed_on, held) = (out.len(), line.len());
-    line.put_scans(out, naming::program_name(view.plant(), instance), scans)?;
+    put_scans(line, out, view.plant().instance_name(instance), scans)?;
     // What was passed on no longer stands in the line.
     if out.len() != passed_on {
         return Ok(());
@@ -86,13 +90,13 @@ fn put_new_head(
 fn put_head(
     line: &mut Line,
     out: &mut Vec<u8>,
-    memory: &mut Memory,
+    memory: &mut KeptLines,
     resource: &Resource,
     instance: ProgId,
 ) -> Result<(), AllocError>
     requires { instance.0 < length (core.plant_of resource.now).instances }
     ensures line { (h : History) → core.Agrees resource.now h → Fits (core.plant_of resource.now) memory.old →
-        OnOk result (told out.new.items line.new ≡ told out.old.items line.old ++ head_text (core.plant_of resource.now) instance
+        OnOk result (written out.new.items line.new ≡ written out.old.items line.old ++ head_text (core.plant_of resource.now) instance
         ((plant_state.state_of (core.plant_of resource.now) h).instance_state instance.0)) }
     ensures fits { Fits (core.plant_of resource.now) memory.old → Fits (core.plant_of resource.now) memory.new }
 {
@@ -108,13 +112,13 @@ fn put_head(
 fn put_ran(
     line: &mut Line,
     out: &mut Vec<u8>,
-    memory: &mut Memory,
+    memory: &mut KeptLines,
     resource: &Resource,
     instance: ProgId,
 ) -> Result<(), AllocError>
     requires { instance.0 < length (core.plant_of resource.now).instances }
     ensures line { (h : History) → core.Agrees resource.now h → Fits (core.plant_of resource.now) memory.old →
-        OnOk result (told out.new.items line.new ≡ told out.old.items line.old ++ program_line (core.plant_of resource.now) instance
+        OnOk result (written out.new.items line.new ≡ written out.old.items line.old ++ program_line (core.plant_of resource.now) instance
         ((plant_state.state_of (core.plant_of resource.now) h).instance_state instance.0) Ran) }
     ensures fits { Fits (core.plant_of resource.now) memory.old → Fits (core.plant_of resource.now) memory.new }
 {
@@ -137,7 +141,7 @@ fn put_ended(
 ) -> Result<(), AllocError>
     requires { instance.0 < length (core.plant_of resource.now).instances }
     ensures { (h : History) → core.Agrees resource.now h →
-        OnOk result (told out.new.items line.new ≡ told out.old.items line.old ++ program_line (core.plant_of resource.now) instance
+        OnOk result (written out.new.items line.new ≡ written out.old.items line.old ++ program_line (core.plant_of resource.now) instance
         ((plant_state.state_of (core.plant_of resource.now) h).instance_state instance.0) scan_end) }
 {
     put_program(line, out, &resource.program(instance), scan_end)
@@ -148,12 +152,12 @@ fn put_ended(
 fn put_programs(
     line: &mut Line,
     out: &mut Vec<u8>,
-    memory: &mut Memory,
+    memory: &mut KeptLines,
     resource: &Resource,
     answer: &Answer,
 ) -> Result<(), AllocError>
     ensures lines { (h : History) → core.Agrees resource.now h → Fits (core.plant_of resource.now) memory.old →
-        OnOk result (told out.new.items line.new ≡ told out.old.items line.old
+        OnOk result (written out.new.items line.new ≡ written out.old.items line.old
         ++ program_lines (core.plant_of resource.now) (plant_state.state_of (core.plant_of resource.now) h).instance_state answer.now) }
     ensures fits { Fits (core.plant_of resource.now) memory.old → Fits (core.plant_of resource.now) memory.new }
 {
@@ -161,7 +165,7 @@ fn put_programs(
         return Ok(());
     };
     for k in 0..resource.plant().instances().len() {
-        match scan_end_in(answer, k as u32) {
+        match scan_end_in(answer, ProgId(k as u8)) {
             Some(ScanEnd::Ran) => put_ran(line, out, memory, resource, ProgId(k as u8))?,
             Some(scan_end) => put_ended(line, out, resource, ProgId(k as u8), scan_end)?,
             None => {}
@@ -176,17 +180,17 @@ fn put_programs(
 fn put_new_scan(
     line: &mut Line,
     out: &mut Vec<u8>,
-    memory: &mut Memory,
+    memory: &mut KeptLines,
     plant: &Plant,
     timed: (TaskId, i64),
 ) -> Result<(), AllocError>
-    ensures line { OnOk result (told out.new.items line.new ≡ told out.old.items line.old
+    ensures line { OnOk result (written out.new.items line.new ≡ written out.old.items line.old
         ++ scanned_line timed.1 (task_name plant.now timed.0) 0) }
     ensures fits { Fits plant.now memory.old → Fits plant.now memory.new }
 {
     let (task, t) = timed;
     memory.keep_tasks(plant, task)?;
-    put_scan(line, out, t, naming::task_name(plant, task), 0)
+    put_scan(line, out, t, plant.task_name(task), 0)
 }
 
 // The same: as it is kept, or else put together.
@@ -194,11 +198,11 @@ fn put_new_scan(
 fn put_plain_scan(
     line: &mut Line,
     out: &mut Vec<u8>,
-    memory: &mut Memory,
+    memory: &mut KeptLines,
     plant: &Plant,
     timed: (TaskId, i64),
 ) -> Result<(), AllocError>
-    ensures line { Fits plant.now memory.old → OnOk result (told out.new.items line.new ≡ told out.old.items line.old
+    ensures line { Fits plant.now memory.old → OnOk result (written out.new.items line.new ≡ written out.old.items line.old
         ++ scanned_line timed.1 (task_name plant.now timed.0) 0) }
     ensures fits { Fits plant.now memory.old → Fits plant.now memory.new }
 {
@@ -212,17 +216,17 @@ fn put_plain_scan(
 }
 
 // The line of an accepted command itself, at the run instant.
-#[tactic(auto, unfolding(crate::specs::Commands::command_line, crate::specs::Private::Told::scanned_line))]
+#[tactic(auto, unfolding(crate::specs::Commands::command_line, crate::specs::Private::Pieces::scanned_line))]
 #[inline(always)]
 fn put_first(
     line: &mut Line,
     out: &mut Vec<u8>,
-    memory: &mut Memory,
+    memory: &mut KeptLines,
     debugger: &Debugger,
     accepted: &Accepted<'_>,
 ) -> Result<(), AllocError>
     ensures line { (h : CommandHistory) → Agrees debugger.now h → Fits (plant_of debugger.now) memory.old →
-        OnOk result (told out.new.items line.new ≡ told out.old.items line.old
+        OnOk result (written out.new.items line.new ≡ written out.old.items line.old
         ++ command_line (steered_by debugger.now) accepted.now.command.now
         (state_of (steered_by debugger.now).plant (steered_by debugger.now).table h).clock.instant accepted.now.answer.now) }
     ensures fits { Fits (plant_of debugger.now) memory.old → Fits (plant_of debugger.now) memory.new }
@@ -247,12 +251,12 @@ fn put_first(
 fn put_accepted(
     line: &mut Line,
     out: &mut Vec<u8>,
-    memory: &mut Memory,
+    memory: &mut KeptLines,
     debugger: &Debugger,
     accepted: &Accepted<'_>,
 ) -> Result<(), AllocError>
     ensures lines { (h : CommandHistory) → Agrees debugger.now h → Fits (plant_of debugger.now) memory.old →
-        OnOk result (told out.new.items line.new ≡ told out.old.items line.old ++ lines_of debugger.now h accepted.now.command.now (Ok accepted.now.answer.now)) }
+        OnOk result (written out.new.items line.new ≡ written out.old.items line.old ++ lines_of debugger.now h accepted.now.command.now (Ok accepted.now.answer.now)) }
     ensures fits { Fits (plant_of debugger.now) memory.old → Fits (plant_of debugger.now) memory.new }
 {
     put_first(line, out, memory, debugger, accepted)?;
@@ -263,7 +267,7 @@ fn put_accepted(
 #[inline(always)]
 fn put_accepted_on(
     page: &mut Page,
-    memory: &mut Memory,
+    memory: &mut KeptLines,
     debugger: &Debugger,
     command: &Command,
     answer: &Answer,
@@ -272,7 +276,7 @@ fn put_accepted_on(
         OnOk result (page.new ≡ page.old ++ lines_of debugger.now h command.now (Ok answer.now)) }
     ensures fits { Fits (plant_of debugger.now) memory.old → Fits (plant_of debugger.now) memory.new }
 {
-    page.line.make_room(&mut page.text)?;
+    page.line.reserve(&mut page.text, ANSWER)?;
     put_accepted(
         &mut page.line,
         &mut page.text,
@@ -285,7 +289,7 @@ fn put_accepted_on(
 // The line of a refused command, at the end of the page.
 #[cold]
 #[inline(never)]
-#[tactic(auto, using(crate::proofs::Told::told_none))]
+#[tactic(auto, using(sfc_page::proofs::Lines::written_none))]
 fn put_refused_on(page: &mut Page, debugger: &Debugger, refusal: Refusal) -> Result<(), AllocError>
     ensures { OnOk result (page.new ≡ page.old ++ refusal_line (plant_of debugger.now) refusal) }
 {
@@ -300,7 +304,7 @@ fn put_refused_on(page: &mut Page, debugger: &Debugger, refusal: Refusal) -> Res
 #[inline(always)]
 pub fn put_answer(
     page: &mut Page,
-    memory: &mut Memory,
+    memory: &mut KeptLines,
     debugger: &Debugger,
     command: &Command,
     answer: &Result<Answer, Refusal>,
@@ -317,7 +321,7 @@ pub fn put_answer(
 }
 
 // The lines of an accepted command, with nothing kept.
-#[tactic(auto, using(crate::proofs::Told::told_none))]
+#[tactic(auto, using(sfc_page::proofs::Lines::written_none))]
 fn append_accepted(
     out: &mut Vec<u8>,
     debugger: &Debugger,
@@ -328,7 +332,7 @@ fn append_accepted(
         OnOk result (out.new.items ≡ out.old.items ++ lines_of debugger.now h command.now (Ok answer.now)) }
 {
     let mut line = Line::new();
-    let mut memory = Memory::none();
+    let mut memory = KeptLines::none();
     let accepted = Accepted { command, answer };
     put_accepted(&mut line, out, &mut memory, debugger, &accepted)?;
     line.pass_on(out)

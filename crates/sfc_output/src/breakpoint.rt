@@ -1,37 +1,24 @@
 //! Where breakpoints stand, and their conditions.
 
 ghost use Rattle.std.specs.Prelude.{◌≡◌, ◌++◌, slice_get, OnOk};
-ghost use Rattle.sfc_core.specs.Agreement as core;
+ghost use Rattle.sfc_debug.specs.sfc_core.Agreement as core;
 ghost use Rattle.sfc_expr.specs.Trees.{expression_of};
 ghost use Rattle.sfc_debug.specs.Hits.{shown_condition};
 ghost use Rattle.sfc_output.specs.Commands as output;
-ghost use Rattle.sfc_output.specs.Names.{numbered_action};
-ghost use Rattle.sfc_output.specs.Steered.{steered_by};
+ghost use Rattle.sfc_debug.specs.Steered.{steered_by};
 
-use crate::append::{append, append_number};
-use crate::naming::{names_of, program_name, target_name};
-use sfc_base::ids::{ActionNumber, ProgId};
-use sfc_core::resource::Resource;
+use crate::sfc_core::resource::Resource;
+use crate::sfc_instance::program_view::ProgramView;
+use crate::sfc_tables::tables::Tables;
+use sfc_base::ids::ProgId;
 use sfc_debug::debugger::Debugger;
 use sfc_events::command::{CondId, Point};
 use sfc_expr::expr::Expr;
-use sfc_instance::program_view::ProgramView;
 use sfc_list::list_expr::list_expr;
+use sfc_page::append::{append, append_number};
 use sfc_plant::names::Names;
 use sfc_plant::plant::Plant;
-use sfc_tables::tables::Tables;
 use std::alloc::AllocError;
-
-// The name of the action with this number; nothing where the chart has none.
-fn action_name<'a>(names: &'a Names<'a>, tables: &Tables, action: ActionNumber) -> &'a [u8]
-    ensures { result.now ≡ numbered_action names.now tables.now action.0 }
-{
-    if action.0 < tables.actions() {
-        target_name(names, tables.target(action))
-    } else {
-        b""
-    }
-}
 
 // A point of the chart.
 fn append_point(
@@ -53,7 +40,7 @@ fn append_point(
         }
         Point::Action(action) => {
             append(out, b" ACTION ")?;
-            append(out, action_name(names, tables, action))
+            append(out, tables.action_name(names, action))
         }
     }
 }
@@ -73,7 +60,7 @@ fn append_point_of(
         return Ok(());
     }
     let view = resource.program(program);
-    append_point(out, &names_of(plant, program), view.tables(), point)
+    append_point(out, &plant.names(program), view.tables(), point)
 }
 
 /// Puts at the end where a breakpoint stands: the name of the program instance, and the point of its chart. The one error is that
@@ -86,7 +73,7 @@ pub fn append_place(
 ) -> Result<(), AllocError>
     ensures { OnOk result (out.new.items ≡ out.old.items ++ output.place_text (core.plant_of resource.now) program point) }
 {
-    append(out, program_name(resource.plant(), program))?;
+    append(out, resource.plant().instance_name(program))?;
     append_point_of(out, resource, program, point)
 }
 

@@ -4,21 +4,25 @@ ghost use Rattle.std.specs.Prelude.{◌≡◌, ◌<◌, ◌++◌, codes, length,
 ghost use Rattle.std.specs.Fmt.{decimal};
 ghost use Rattle.sfc_events.specs.declared.command.Command.TheVariants.{BreakIf};
 ghost use Rattle.sfc_output.specs.Commands as output;
-ghost use Rattle.sfc_output.specs.Names.{image_name};
-ghost use Rattle.sfc_output.specs.Private.Told.{told, scanned_line};
-ghost use Rattle.sfc_output.specs.Steered.{steered_by};
-ghost use Rattle.sfc_output.specs.Values.{value_text};
+ghost use Rattle.sfc_plant.specs.PlantNames.{image_name};
+ghost use Rattle.sfc_output.specs.Private.Pieces.{scanned_line};
+ghost use Rattle.sfc_page.specs.Lines.{written};
+ghost use Rattle.sfc_debug.specs.Steered.{steered_by};
+ghost use Rattle.sfc_page.specs.Values.{value_text};
 
-use crate::append::{append, append_number, append_time, append_value};
 use crate::breakpoint::{append_condition, append_place};
-use crate::line::Line;
-use crate::naming::{append_image_name, program_name, task_name};
+use crate::line::put_scanned;
+use crate::naming::append_image_name;
+use crate::sfc_instance::scan_end::ScanEnd;
 use sfc_base::ids::{ProgId, TaskId, VarId};
 use sfc_base::value::Value;
 use sfc_debug::debugger::Debugger;
 use sfc_events::command::{Answer, Command, CondId, Point, TraceRow};
 use sfc_events::refusal::Refusal;
-use sfc_instance::scan_end::ScanEnd;
+use sfc_page::append::{append, append_number, append_time, append_value};
+use sfc_page::digits::NUMBER;
+use sfc_page::line::Line;
+use sfc_page::times::TIME;
 use sfc_plant::plant::Plant;
 use std::alloc::{AllocError, Global};
 
@@ -97,7 +101,7 @@ fn append_single(
 ) -> Result<(), AllocError>
     ensures { OnOk result (out.new.items ≡ out.old.items ++ output.single_text plant.now task delta) }
 {
-    append_named(out, b" SINGLE ", task_name(plant, task))?;
+    append_named(out, b" SINGLE ", plant.task_name(task))?;
     append(out, b" ")?;
     append_time(out, delta)
 }
@@ -108,11 +112,11 @@ fn append_words(out: &mut Vec<u8>, debugger: &Debugger, command: Command) -> Res
 {
     let plant = debugger.resource().plant();
     match command {
-        Command::Scan(task) => append_named(out, b" SCAN ", task_name(plant, task)),
+        Command::Scan(task) => append_named(out, b" SCAN ", plant.task_name(task)),
         Command::Input(id, value) => append_valued(out, plant, b" INPUT ", id, value),
         Command::Force(id, value) => append_valued(out, plant, b" FORCE ", id, value),
         Command::Release(id) => append_variable_word(out, plant, b" RELEASE ", id),
-        Command::Reset(p) => append_named(out, b" RESET ", program_name(plant, p)),
+        Command::Reset(p) => append_named(out, b" RESET ", plant.instance_name(p)),
         Command::Read(id) => append_variable_word(out, plant, b" READ ", id),
         Command::Break(p, point) => append_placed(out, debugger, b" BREAK ", p, point),
         Command::BreakIf(p, point, id) => append_conditional(out, debugger, p, point, id),
@@ -126,43 +130,51 @@ fn append_words(out: &mut Vec<u8>, debugger: &Debugger, command: Command) -> Res
 }
 
 // The words of a command; those of a scan go by the line.
-#[tactic(auto, using(crate::proofs::Told::told_none))]
+#[tactic(auto, using(sfc_page::proofs::Lines::written_none))]
 fn put_words(
     line: &mut Line,
     out: &mut Vec<u8>,
     debugger: &Debugger,
     command: Command,
 ) -> Result<(), AllocError>
-    ensures { OnOk result (told out.new.items line.new ≡
-        told out.old.items line.old ++ output.command_text (steered_by debugger.now) command) }
+    ensures { OnOk result (written out.new.items line.new ≡
+        written out.old.items line.old ++ output.command_text (steered_by debugger.now) command) }
 {
     if let Command::Scan(task) = command {
         line.put(out, b" SCAN ")?;
-        return line.put(out, task_name(debugger.resource().plant(), task));
+        return line.put(out, debugger.resource().plant().task_name(task));
     }
     line.pass_on(out)?;
     append_words(out, debugger, command)
 }
 
+// Whether a breakpoint was hit.
+fn hit_text(hit: bool) -> &'static [u8]
+    ensures { result.now ≡ output.hit_text hit }
+{
+    if hit { b" hit" } else { b"" }
+}
+
 // What the answer to a scan adds.
-fn put_scanned(
+#[tactic(auto, using(sfc_page::proofs::Lines::written_pieces))]
+fn put_overruns(
     line: &mut Line,
     out: &mut Vec<u8>,
     overruns: u64,
     hit: bool,
 ) -> Result<(), AllocError>
-    ensures { OnOk result (told out.new.items line.new ≡
-        told out.old.items line.old ++ codes " overruns " ++ decimal overruns ++ output.hit_text hit) }
+    ensures { OnOk result (written out.new.items line.new ≡
+        written out.old.items line.old ++ codes " overruns " ++ decimal overruns ++ output.hit_text hit) }
 {
-    line.put(out, b" overruns ")?;
-    line.put_number(out, overruns)?;
-    if hit { line.put(out, b" hit") } else { Ok(()) }
+    line.put_and_reserve(out, b" overruns ", NUMBER)?;
+    line.push_number(overruns);
+    line.put(out, hit_text(hit))
 }
 
 // What a variable reads.
-#[tactic(auto, using(crate::proofs::Told::told_none))]
+#[tactic(auto, using(sfc_page::proofs::Lines::written_none))]
 fn put_read(line: &mut Line, out: &mut Vec<u8>, value: Value) -> Result<(), AllocError>
-    ensures { OnOk result (told out.new.items line.new ≡ told out.old.items line.old ++ codes " " ++ value_text value) }
+    ensures { OnOk result (written out.new.items line.new ≡ written out.old.items line.old ++ codes " " ++ value_text value) }
 {
     line.put(out, b" ")?;
     line.pass_on(out)?;
@@ -171,19 +183,19 @@ fn put_read(line: &mut Line, out: &mut Vec<u8>, value: Value) -> Result<(), Allo
 
 // What the answer adds.
 fn put_answer(line: &mut Line, out: &mut Vec<u8>, answer: Answer) -> Result<(), AllocError>
-    ensures { OnOk result (told out.new.items line.new ≡ told out.old.items line.old ++ output.answer_text answer) }
+    ensures { OnOk result (written out.new.items line.new ≡ written out.old.items line.old ++ output.answer_text answer) }
 {
     match answer {
         Answer::Done => Ok(()),
         Answer::Value(value) => put_read(line, out, value),
-        Answer::Scanned { overruns, hit, .. } => put_scanned(line, out, overruns, hit),
+        Answer::Scanned { overruns, hit, .. } => put_overruns(line, out, overruns, hit),
     }
 }
 
 // The line of any accepted command.
 #[cold]
 #[inline(never)]
-#[tactic(auto, unfolding(crate::specs::Commands::command_line))]
+#[tactic(auto, using(sfc_page::proofs::Lines::written_pieces), unfolding(crate::specs::Commands::command_line))]
 fn put_any(
     line: &mut Line,
     out: &mut Vec<u8>,
@@ -191,18 +203,19 @@ fn put_any(
     timed: (Command, i64),
     answer: Answer,
 ) -> Result<(), AllocError>
-    ensures { OnOk result (told out.new.items line.new ≡
-        told out.old.items line.old ++ output.command_line (steered_by debugger.now) timed.0 timed.1 answer) }
+    ensures { OnOk result (written out.new.items line.new ≡
+        written out.old.items line.old ++ output.command_line (steered_by debugger.now) timed.0 timed.1 answer) }
 {
     let (command, t) = timed;
-    line.put_time(out, t)?;
+    line.reserve(out, TIME)?;
+    line.push_time(t);
     put_words(line, out, debugger, command)?;
     put_answer(line, out, answer)?;
     line.put(out, b"\n")
 }
 
 // The line of a scan that hit no breakpoint. Most have no overruns, and what is written of those is kept.
-#[tactic(auto, using(crate::proofs::Told::scanned_regrouped))]
+#[tactic(auto, using(crate::proofs::Scans::scanned_regrouped))]
 #[cold]
 #[inline(never)]
 pub(crate) fn put_scan(
@@ -212,9 +225,9 @@ pub(crate) fn put_scan(
     task: &[u8],
     overruns: u64,
 ) -> Result<(), AllocError>
-    ensures { OnOk result (told out.new.items line.new ≡ told out.old.items line.old ++ scanned_line t task.now overruns) }
+    ensures { OnOk result (written out.new.items line.new ≡ written out.old.items line.old ++ scanned_line t task.now overruns) }
 {
-    line.put_scanned(out, t, task, overruns)
+    put_scanned(line, out, t, task, overruns)
 }
 
 /// A command that was accepted, and its answer.
@@ -226,7 +239,7 @@ pub(crate) struct Accepted<'a> {
 
 /// Puts the line of an accepted command behind the line, with its run instant in microseconds. The one error is that memory was refused;
 /// then a front of it may stand there.
-#[tactic(auto, unfolding(crate::specs::Commands::command_line, crate::specs::Private::Told::scanned_line))]
+#[tactic(auto, unfolding(crate::specs::Commands::command_line, crate::specs::Private::Pieces::scanned_line))]
 #[inline(always)]
 pub(crate) fn put_command(
     line: &mut Line,
@@ -235,8 +248,8 @@ pub(crate) fn put_command(
     t: i64,
     accepted: &Accepted<'_>,
 ) -> Result<(), AllocError>
-    ensures { OnOk result (told out.new.items line.new ≡
-        told out.old.items line.old ++ output.command_line (steered_by debugger.now) accepted.now.command.now t accepted.now.answer.now) }
+    ensures { OnOk result (written out.new.items line.new ≡
+        written out.old.items line.old ++ output.command_line (steered_by debugger.now) accepted.now.command.now t accepted.now.answer.now) }
 {
     let Accepted { command, answer } = *accepted;
     if let Command::Scan(task) = command
@@ -246,7 +259,7 @@ pub(crate) fn put_command(
             ..
         } = answer
     {
-        let name = task_name(debugger.resource().plant(), *task);
+        let name = debugger.resource().plant().task_name(*task);
         return put_scan(line, out, t, name, *overruns);
     }
     put_any(line, out, debugger, (*command, t), *answer)
@@ -254,7 +267,7 @@ pub(crate) fn put_command(
 
 /// Puts the line of an accepted command at the end: its run instant in microseconds, its words, and what its answer adds. The
 /// one error is that memory was refused; then a front of it may stand there.
-#[tactic(auto, using(crate::proofs::Told::told_none))]
+#[tactic(auto, using(sfc_page::proofs::Lines::written_none))]
 pub fn append_command(
     out: &mut Vec<u8>,
     debugger: &Debugger,
@@ -291,7 +304,7 @@ fn append_detail(out: &mut Vec<u8>, plant: &Plant, refusal: Refusal) -> Result<(
         }
         Refusal::Yield(task) => {
             append(out, b" ")?;
-            append(out, task_name(plant, task))
+            append(out, plant.task_name(task))
         }
         _ => Ok(()),
     }
@@ -314,11 +327,10 @@ pub fn append_refusal(
     append(out, b"\n")
 }
 
-// How the answer to a scan tells that the scan of instance k ended; `None` where it doesn't tell of it.
+// How the answer to a scan tells that the scan of an instance ended; `None` where it doesn't tell of it.
 #[inline(always)]
-pub(crate) fn scan_end_in(answer: &Answer, k: u32) -> Option<ScanEnd>
-    requires { k < 64 }
-    ensures { result ≡ output.scan_end_in answer.now k }
+pub(crate) fn scan_end_in(answer: &Answer, instance: ProgId) -> Option<ScanEnd>
+    ensures { result ≡ output.scan_end_in answer.now instance.0 }
 {
     let Answer::Scanned {
         ran,
@@ -329,21 +341,13 @@ pub(crate) fn scan_end_in(answer: &Answer, k: u32) -> Option<ScanEnd>
     else {
         return None;
     };
-    if is_set(*ran, k) {
+    if ran.contains(instance) {
         Some(ScanEnd::Ran)
-    } else if is_set(*faulted, k) {
+    } else if faulted.contains(instance) {
         Some(ScanEnd::Faulted)
-    } else if is_set(*skipped, k) {
+    } else if skipped.contains(instance) {
         Some(ScanEnd::Skipped)
     } else {
         None
     }
-}
-
-// Bit k of a number is set.
-fn is_set(bits: u64, k: u32) -> bool
-    requires { k < 64 }
-    ensures { result ≡ output.is_set bits k }
-{
-    (bits >> k) & 1 == 1
 }

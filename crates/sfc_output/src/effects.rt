@@ -47,7 +47,7 @@ fn take_over(alloc: Global, kept: &mut SparseFlags, flags: &SparseFlags) -> Resu
 impl Effects {
     ghost use Rattle.std.specs.Prelude.{◌≡◌, IfOk, IfSome};
     ghost use Rattle.sfc_plant.specs.Spaces.{Space};
-    ghost use Rattle.sfc_tables.specs.Tables.{Tabled};
+    ghost use Rattle.sfc_debug.specs.sfc_tables.Tables.{Tabled};
     ghost use Rattle.sfc_output.specs.Memories.{IsRight, effects_text, text_in};
 
     /// Nothing. The one error is that memory was refused.

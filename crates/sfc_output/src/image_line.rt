@@ -1,17 +1,17 @@
 //! The lines of the image.
 
 ghost use Rattle.std.specs.Prelude.{◌≡◌, ◌<◌, ◌++◌, OnOk};
-ghost use Rattle.sfc_image.specs.Values.{variable_count};
+ghost use Rattle.sfc_debug.specs.sfc_image.Values.{variable_count};
 ghost use Rattle.sfc_events.specs.History.{History};
-ghost use Rattle.sfc_core.specs.Agreement as core;
-ghost use Rattle.sfc_core.specs.PlantState.{state_of};
+ghost use Rattle.sfc_debug.specs.sfc_core.Agreement as core;
+ghost use Rattle.sfc_debug.specs.sfc_core.PlantState.{state_of};
 ghost use Rattle.sfc_output.specs.ImageLines as output;
 
-use crate::append::{append, append_value};
 use crate::naming::append_image_name;
+use crate::sfc_core::resource::Resource;
 use sfc_base::ids::VarId;
 use sfc_base::value::Value;
-use sfc_core::resource::Resource;
+use sfc_page::append::{append, append_value};
 use sfc_plant::plant::Plant;
 use std::alloc::AllocError;
 

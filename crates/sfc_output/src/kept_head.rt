@@ -3,7 +3,7 @@
 ghost use Rattle.std.specs.Prelude.{◌≡◌, ◌<◌, ◌≤◌, ◌+◌, ◌++◌, List, ℕ, OnOk, IsTrue};
 
 use crate::kept_text::KeptText;
-use crate::line::Line;
+use sfc_page::line::Line;
 use std::alloc::AllocError;
 
 /// What stands before the steps in the line of a program instance, for ten numbers of scans that follow each other and differ in the
@@ -21,7 +21,7 @@ const BEHIND: usize = 8;
 impl KeptHead {
     ghost use Rattle.sfc_output.specs.Memories.{HasScans, IsHead};
     ghost use Rattle.sfc_output.specs.Programs.{scans_text};
-    ghost use Rattle.sfc_output.specs.Private.Told.{told};
+    ghost use Rattle.sfc_page.specs.Lines.{written};
 
     /// Nothing.
     pub fn none() -> KeptHead
@@ -57,7 +57,7 @@ impl KeptHead {
     pub fn put(&self, line: &mut Line, out: &mut Vec<u8>, scans: u64) -> Result<(), AllocError>
         requires { HasScans self.now scans }
         ensures { (name : List ℕ) → IsHead name self.now →
-            OnOk result (told out.new.items line.new ≡ told out.old.items line.old ++ scans_text name scans) }
+            OnOk result (written out.new.items line.new ≡ written out.old.items line.old ++ scans_text name scans) }
     {
         let digit = b'0' + (scans - self.first) as u8;
         self.text

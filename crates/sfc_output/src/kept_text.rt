@@ -2,8 +2,9 @@
 
 ghost use Rattle.std.specs.Prelude.{◌≤◌};
 
-use crate::line::{KEPT, Line};
-use crate::pieces::put_text;
+use sfc_page::line::{KEPT, Line};
+use sfc_page::pieces::put_text;
+use sfc_page::times::TIME;
 use std::alloc::AllocError;
 
 /// A text of at most 64 bytes; or nothing, where it is empty.
@@ -14,11 +15,12 @@ pub struct KeptText {
     ghost short: { count ≤ 64 },
 }
 
+#[tactic(auto, using(sfc_page::proofs::Lines::written_pieces))]
 impl KeptText {
     ghost use Rattle.std.specs.Prelude.{◌≡◌, ◌<◌, ◌++◌, List, ℕ, length, slice_set, OnOk, IsTrue};
     ghost use Rattle.sfc_base.specs.TimeText as text;
     ghost use Rattle.sfc_output.specs.Memories.{IsKept, text_in};
-    ghost use Rattle.sfc_output.specs.Private.Told.{told};
+    ghost use Rattle.sfc_page.specs.Lines.{written};
 
     /// Nothing.
     pub fn none() -> KeptText
@@ -70,17 +72,21 @@ impl KeptText {
         at: (usize, u8),
     ) -> Result<(), AllocError>
         requires { at.0 < self.now.count }
-        ensures { OnOk result (told out.new.items line.new ≡ told out.old.items line.old ++ slice_set (text_in self.now) at.0 at.1) }
+        ensures { OnOk result (written out.new.items line.new ≡ written out.old.items line.old ++ slice_set (text_in self.now) at.0 at.1) }
     {
-        line.put_kept_with(out, &self.bytes, self.count, at)
+        line.reserve(out, KEPT)?;
+        line.push_kept_with(&self.bytes, self.count, at);
+        Ok(())
     }
 
     /// Puts the text behind the line. The one error is that memory was refused; then a front of it may stand there.
     #[inline(always)]
     pub fn put(&self, line: &mut Line, out: &mut Vec<u8>) -> Result<(), AllocError>
-        ensures { OnOk result (told out.new.items line.new ≡ told out.old.items line.old ++ text_in self.now) }
+        ensures { OnOk result (written out.new.items line.new ≡ written out.old.items line.old ++ text_in self.now) }
     {
-        line.put_kept(out, &self.bytes, self.count)
+        line.reserve(out, KEPT)?;
+        line.push_kept(&self.bytes, self.count);
+        Ok(())
     }
 
     /// Puts a time behind the line, in microseconds, and the text behind it. The one error is that memory was refused; then a front of
@@ -92,8 +98,11 @@ impl KeptText {
         out: &mut Vec<u8>,
         micros: i64,
     ) -> Result<(), AllocError>
-        ensures { OnOk result (told out.new.items line.new ≡ told out.old.items line.old ++ (text.time_text micros ++ text_in self.now)) }
+        ensures { OnOk result (written out.new.items line.new ≡ written out.old.items line.old ++ (text.time_text micros ++ text_in self.now)) }
     {
-        line.put_time_and_kept(out, micros, &self.bytes, self.count)
+        line.reserve(out, TIME + KEPT)?;
+        line.push_time(micros);
+        line.push_kept(&self.bytes, self.count);
+        Ok(())
     }
 }

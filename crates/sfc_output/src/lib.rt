@@ -2,34 +2,33 @@
 //! format). The names, times and marks are those of IEC 61131-3:2003.
 //!
 //! - `answer`: the lines of a command and of its answer, with those of the instances that were scanned.
-//! - `append`: pieces of text, put at the end of a buffer.
 //! - `breakpoint`: where breakpoints stand, and their conditions.
 //! - `command`: the lines of commands and of their answers; of rows of the trace.
 //! - `effects`: what a scan did, and how that is written.
 //! - `image_line`: the lines of the image.
 //! - `kept_head`: the head of the lines of a program instance, put again and again.
 //! - `kept_text`: short texts that are put again and again.
-//! - `line`: the end of a text, put together before it goes to a buffer.
+//! - `line`: what stands in the lines of scans and of program instances, piece by piece.
 //! - `list`: lists in a line.
-//! - `memory`: what is kept of the lines of scans and of program instances.
-//! - `naming`: names as they were declared.
-//! - `page`: a text that is put together, answer by answer.
-//! - `pieces`: pieces of text in a line that has room for them.
+//! - `kept_lines`: what is kept of the lines of scans and of program instances.
+//! - `naming`: names of variables of the image.
 //! - `program`: the line of a program after a scan.
 #![tactic(auto)]
 
 pub mod answer;
-pub mod append;
 mod breakpoint;
 pub mod command;
 mod effects;
 pub mod image_line;
 mod kept_head;
+pub mod kept_lines;
 mod kept_text;
 mod line;
 mod list;
-pub mod memory;
-mod naming;
-pub mod page;
-mod pieces;
+pub mod naming;
 pub mod program;
+
+// What the crates above name through this one.
+pub use sfc_debug;
+pub use sfc_debug::{sfc_action, sfc_core, sfc_image, sfc_instance, sfc_instances, sfc_tables};
+pub use sfc_list;

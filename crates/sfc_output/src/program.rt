@@ -1,41 +1,41 @@
 //! The line of a program after a scan.
 
 ghost use Rattle.std.specs.Prelude.{◌≡◌, ◌<◌, ◌+◌, ◌^◌, ◌++◌, List, codes, length, map, suc, true, IfOk, OnOk};
-ghost use Rattle.sfc_instance.specs.Answers.{is_step_active};
+ghost use Rattle.sfc_debug.specs.sfc_instance.Answers.{is_step_active};
 ghost use Rattle.sfc_flags.specs.Flags.{places_from};
 ghost use Rattle.sfc_plant.specs.InstanceSpaces.{space_of};
 ghost use Rattle.sfc_plant.specs.Spaces.{Space};
-ghost use Rattle.sfc_image.specs.Changes.{Change};
-ghost use Rattle.sfc_instance.specs.Life.{InstanceState};
-ghost use Rattle.sfc_instance.specs.Views.{plant_in, instance_in, tables_in, Shows};
+ghost use Rattle.sfc_debug.specs.sfc_image.Changes.{Change};
+ghost use Rattle.sfc_debug.specs.sfc_instance.Life.{InstanceState};
+ghost use Rattle.sfc_debug.specs.sfc_instance.Views.{plant_in, instance_in, tables_in, Shows};
 ghost use Rattle.sfc_output.specs.Lists.{listed};
 ghost use Rattle.sfc_output.specs.Memories.{Fits, effects_text};
-ghost use Rattle.sfc_output.specs.Names.{numbered_action, program_name};
+ghost use Rattle.sfc_plant.specs.PlantNames.{instance_name};
+ghost use Rattle.sfc_debug.specs.sfc_tables.ActionNames.{numbered_action};
 ghost use Rattle.sfc_output.specs.Programs as output;
 ghost use Rattle.sfc_output.specs.Private.ListParts.{separator};
-ghost use Rattle.sfc_output.specs.Private.Told.{told, did_text, done_text, fault_line, lacking, ran_text};
+ghost use Rattle.sfc_output.specs.Private.Pieces.{did_text, done_text, fault_line, lacking, ran_text};
+ghost use Rattle.sfc_page.specs.Lines.{written};
 
 use crate::effects::Sets;
-use crate::line::Line;
+use crate::kept_lines::KeptLines;
+use crate::line::{put_next, put_next_number, put_scans, put_timed};
 use crate::list::put_end;
-use crate::memory::Memory;
-use crate::naming::{names_of, program_name, target_name};
-use sfc_action::fault::ControlFault;
+use crate::sfc_instance::program_view::ProgramView;
+use crate::sfc_instance::scan_end::ScanEnd;
+use crate::sfc_instance::scan_fault::ScanFault;
+use crate::sfc_tables::tables::Tables;
 use sfc_base::ids::ActionNumber;
 use sfc_base::references::StepId;
 use sfc_base::ticks::Ticks;
-use sfc_expr::fault::Fault;
 use sfc_flags::sparse_flags::SparseFlags;
-use sfc_instance::program_view::ProgramView;
-use sfc_instance::scan_end::ScanEnd;
-use sfc_instance::scan_fault::ScanFault;
+use sfc_page::line::Line;
 use sfc_plant::names::Names;
-use sfc_tables::tables::Tables;
 use std::alloc::AllocError;
 
 // Puts an active step with its time, and before it what parts it from one before it; whether it is the first is told with it. It
 // answers the time.
-#[tactic(auto, unfolding(crate::specs::Private::Told::timed_text))]
+#[tactic(auto, unfolding(crate::specs::Private::Pieces::timed_text))]
 #[inline(always)]
 fn put_step(
     line: &mut Line,
@@ -47,12 +47,12 @@ fn put_step(
     requires { place.1.0 < length (tables_in view.now).initial }
     ensures { (changes : List Change) (instance_state : InstanceState) → Shows view.now changes instance_state →
         is_step_active (tables_in view.now) instance_state place.1.0 ≡ true →
-        OnOk result (told out.new.items line.new ≡ told out.old.items line.old
+        OnOk result (written out.new.items line.new ≡ written out.old.items line.old
         ++ (separator place.0 ++ output.step_text names.now (tables_in view.now) instance_state place.1.0)) }
 {
     let (is_first, step) = place;
     let elapsed = view.elapsed_of_active(step);
-    line.put_timed(out, is_first, names.step(step), elapsed)?;
+    put_timed(line, out, is_first, names.step(step), elapsed)?;
     Ok(elapsed)
 }
 
@@ -76,8 +76,8 @@ fn put_steps(
     names: &Names<'_>,
 ) -> Result<usize, AllocError>
     ensures { (changes : List Change) (instance_state : InstanceState) → Shows view.now changes instance_state →
-        OnOk result (told out.new.items line.new ≡
-        told out.old.items line.old ++ listed (output.step_texts names.now (tables_in view.now) instance_state)) }
+        OnOk result (written out.new.items line.new ≡
+        written out.old.items line.old ++ listed (output.step_texts names.now (tables_in view.now) instance_state)) }
 {
     let _steps = view.tables().steps();
     let active = view.active_flags();
@@ -106,14 +106,14 @@ fn number_of(transition: usize) -> u64
 // The numbers of the cleared transitions.
 #[inline(always)]
 fn put_cleared(line: &mut Line, out: &mut Vec<u8>, cleared: &SparseFlags) -> Result<(), AllocError>
-    ensures { OnOk result (told out.new.items line.new ≡
-        told out.old.items line.old ++ listed (map output.transition_text (places_from cleared.now 0))) }
+    ensures { OnOk result (written out.new.items line.new ≡
+        written out.old.items line.old ++ listed (map output.transition_text (places_from cleared.now 0))) }
 {
     let mut ticks = Ticks::new();
     let mut is_first = true;
     let mut from = 0;
     'places: while let Some(tr) = cleared.next_set(from, &mut ticks) {
-        line.put_next_number(out, is_first, number_of(tr))?;
+        put_next_number(line, out, is_first, number_of(tr))?;
         is_first = false;
         from = tr + 1;
     }
@@ -130,15 +130,15 @@ fn put_executed(
     executed: &SparseFlags,
 ) -> Result<(), AllocError>
     requires { length executed.now ≡ length tables.now.actions }
-    ensures { OnOk result (told out.new.items line.new ≡
-        told out.old.items line.old ++ listed (map (numbered_action names.now tables.now) (places_from executed.now 0))) }
+    ensures { OnOk result (written out.new.items line.new ≡
+        written out.old.items line.old ++ listed (map (numbered_action names.now tables.now) (places_from executed.now 0))) }
 {
     let mut ticks = Ticks::new();
     let mut is_first = true;
     let mut from = 0;
     'places: while let Some(action) = executed.next_set(from, &mut ticks) {
         let target = tables.target(ActionNumber(action));
-        line.put_next(out, is_first, target_name(&*names, target))?;
+        put_next(line, out, is_first, names.target(target))?;
         is_first = false;
         from = action + 1;
     }
@@ -156,8 +156,8 @@ fn put_sets(
     sets: &Sets<'_>,
 ) -> Result<(), AllocError>
     requires { length sets.now.executed.now ≡ length tables.now.actions }
-    ensures { OnOk result (told out.new.items line.new ≡
-        told out.old.items line.old ++ effects_text names.now tables.now sets.now.cleared.now sets.now.executed.now) }
+    ensures { OnOk result (written out.new.items line.new ≡
+        written out.old.items line.old ++ effects_text names.now tables.now sets.now.cleared.now sets.now.executed.now) }
 {
     line.put(out, b" cleared ")?;
     put_cleared(line, out, sets.cleared)?;
@@ -180,19 +180,19 @@ fn sets_of<'a>(view: &ProgramView<'a>) -> Sets<'a>
 }
 
 // What a scan did, to the end of the line, if it is kept; else nothing, and the place at which it is to be kept.
-#[tactic(auto, unfolding(crate::specs::Private::Told::lacking))]
+#[tactic(auto, unfolding(crate::specs::Private::Pieces::lacking))]
 #[inline(always)]
 fn put_effects(
     line: &mut Line,
     out: &mut Vec<u8>,
-    memory: &Memory,
+    memory: &KeptLines,
     view: &ProgramView<'_>,
     place: usize,
 ) -> Result<Option<usize>, AllocError>
     ensures { (changes : List Change) (instance_state : InstanceState) → Shows view.now changes instance_state →
-        Fits (plant_in view.now) memory.now → IfOk result (λ rest. told out.new.items line.new
+        Fits (plant_in view.now) memory.now → IfOk result (λ rest. written out.new.items line.new
         ++ lacking rest (done_text (space_of (plant_in view.now) (instance_in view.now)) (tables_in view.now) instance_state)
-        ≡ told out.old.items line.old ++ done_text (space_of (plant_in view.now) (instance_in view.now)) (tables_in view.now) instance_state) }
+        ≡ written out.old.items line.old ++ done_text (space_of (plant_in view.now) (instance_in view.now)) (tables_in view.now) instance_state) }
 {
     let sets = sets_of(view);
     if let Some(effects) = memory.effects(view.instance(), place)
@@ -204,25 +204,12 @@ fn put_effects(
     Ok(Some(place))
 }
 
-/// The name of a fault.
-pub fn fault_name(fault: ScanFault) -> &'static [u8]
-    ensures { result.now ≡ output.fault_name fault }
-{
-    match fault {
-        ScanFault::Expression(Fault::DivZero) => b"DivZero",
-        ScanFault::Expression(Fault::Range) => b"Range",
-        ScanFault::Control(ControlFault::TwoTimed) => b"TwoTimed",
-        ScanFault::Control(ControlFault::SdWhileSl) => b"SdWhileSl",
-        ScanFault::Control(ControlFault::SlWhileSd) => b"SlWhileSd",
-    }
-}
-
 // The name of a fault, if there is one.
 fn fault_text(fault: Option<ScanFault>) -> &'static [u8]
     ensures { result.now ≡ output.fault_text fault }
 {
     match fault {
-        Some(fault) => fault_name(fault),
+        Some(fault) => fault.name(),
         None => b"",
     }
 }
@@ -233,16 +220,16 @@ fn fault_text(fault: Option<ScanFault>) -> &'static [u8]
 pub(crate) fn put_steps_and_effects(
     line: &mut Line,
     out: &mut Vec<u8>,
-    memory: &Memory,
+    memory: &KeptLines,
     view: &ProgramView<'_>,
 ) -> Result<Option<usize>, AllocError>
     ensures { (changes : List Change) (instance_state : InstanceState) → Shows view.now changes instance_state →
-        Fits (plant_in view.now) memory.now → IfOk result (λ rest. told out.new.items line.new
+        Fits (plant_in view.now) memory.now → IfOk result (λ rest. written out.new.items line.new
         ++ lacking rest (done_text (space_of (plant_in view.now) (instance_in view.now)) (tables_in view.now) instance_state)
-        ≡ told out.old.items line.old
+        ≡ written out.old.items line.old
         ++ did_text (space_of (plant_in view.now) (instance_in view.now)) (tables_in view.now) instance_state) }
 {
-    let names = names_of(view.plant(), view.instance());
+    let names = view.plant().names(view.instance());
     let place = put_steps(line, out, view, &names)?;
     put_effects(line, out, memory, view, place)
 }
@@ -255,18 +242,18 @@ fn put_new_ran(
     name: &[u8],
 ) -> Result<(), AllocError>
     ensures { (changes : List Change) (instance_state : InstanceState) → Shows view.now changes instance_state →
-        OnOk result (told out.new.items line.new ≡ told out.old.items line.old
+        OnOk result (written out.new.items line.new ≡ written out.old.items line.old
         ++ ran_text name.now (space_of (plant_in view.now) (instance_in view.now)) (tables_in view.now) instance_state) }
 {
-    let names = names_of(view.plant(), view.instance());
+    let names = view.plant().names(view.instance());
     let sets = sets_of(view);
-    line.put_scans(out, name, view.scans())?;
+    put_scans(line, out, name, view.scans())?;
     put_steps(line, out, view, &names)?;
     put_sets(line, out, view.tables(), &names, &sets)
 }
 
 // The line of a program instance whose scan ended with a fault, or was passed over for one.
-#[tactic(auto, unfolding(crate::specs::Private::Told::fault_line))]
+#[tactic(auto, unfolding(crate::specs::Private::Pieces::fault_line))]
 #[cold]
 #[inline(never)]
 fn put_fault(
@@ -276,7 +263,7 @@ fn put_fault(
     word: &[u8],
     fault: Option<ScanFault>,
 ) -> Result<(), AllocError>
-    ensures { OnOk result (told out.new.items line.new ≡ told out.old.items line.old ++ fault_line name.now word.now fault) }
+    ensures { OnOk result (written out.new.items line.new ≡ written out.old.items line.old ++ fault_line name.now word.now fault) }
 {
     line.put(out, b"  ")?;
     line.put(out, name)?;
@@ -295,10 +282,10 @@ pub(crate) fn put_program(
     scan_end: ScanEnd,
 ) -> Result<(), AllocError>
     ensures { (changes : List Change) (instance_state : InstanceState) → Shows view.now changes instance_state →
-        OnOk result (told out.new.items line.new ≡ told out.old.items line.old
+        OnOk result (written out.new.items line.new ≡ written out.old.items line.old
         ++ output.program_line (plant_in view.now) (instance_in view.now) instance_state scan_end) }
 {
-    let name = program_name(view.plant(), view.instance());
+    let name = view.plant().instance_name(view.instance());
     match scan_end {
         ScanEnd::Ran => put_new_ran(line, out, view, name),
         ScanEnd::Faulted => put_fault(line, out, name, b" fault ", view.fault()),
@@ -311,16 +298,16 @@ pub(crate) fn put_program(
 pub(crate) fn put_done(
     line: &mut Line,
     out: &mut Vec<u8>,
-    memory: &mut Memory,
+    memory: &mut KeptLines,
     view: &ProgramView<'_>,
     place: usize,
 ) -> Result<(), AllocError>
     ensures line { (changes : List Change) (instance_state : InstanceState) → Shows view.now changes instance_state →
-        OnOk result (told out.new.items line.new ≡ told out.old.items line.old
+        OnOk result (written out.new.items line.new ≡ written out.old.items line.old
         ++ done_text (space_of (plant_in view.now) (instance_in view.now)) (tables_in view.now) instance_state) }
     ensures fits { Fits (plant_in view.now) memory.old → Fits (plant_in view.now) memory.new }
 {
-    let names = names_of(view.plant(), view.instance());
+    let names = view.plant().names(view.instance());
     let sets = sets_of(view);
     let (passed_on, held) = (out.len(), line.len());
     put_sets(line, out, view.tables(), &names, &sets)?;
@@ -333,7 +320,7 @@ pub(crate) fn put_done(
 
 /// Puts the line of the program instance at the end, whose scan ended so: what it did, or the fault that ended it or an
 /// earlier one. The one error is that memory was refused; then a front of it may stand there.
-#[tactic(auto, using(crate::proofs::Told::told_none))]
+#[tactic(auto, using(sfc_page::proofs::Lines::written_none))]
 pub fn append_program(
     out: &mut Vec<u8>,
     view: &ProgramView<'_>,

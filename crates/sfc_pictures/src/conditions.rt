@@ -1,8 +1,8 @@
 //! The conditions of transitions, as a listing has them.
 
-use sfc_list::list::list;
+use crate::sfc_list::list::list;
+use crate::sfc_script::arriving::ended_line;
 use sfc_plant::plant::Plant;
-use sfc_script::arriving::ended_line;
 use std::alloc::{AllocError, Global};
 
 /// What stands in front of a condition on its line of a listing, and behind it.

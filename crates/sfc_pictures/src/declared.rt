@@ -1,14 +1,12 @@
 //! The declarations of a waveform: scopes and signals with their names.
 
 use crate::piece::{append_code, append_scope};
+use crate::sfc_core::resource::Resource;
+use crate::sfc_instance::program_view::ProgramView;
 use crate::signal::Signal;
 use crate::signals::Signals;
-use sfc_base::ids::{ActionNumber, ProgId, TaskId, VarId};
-use sfc_core::resource::Resource;
-use sfc_instance::program_view::ProgramView;
-use sfc_output::append::{append, append_number};
-use sfc_plant::association::Target;
-use sfc_plant::names;
+use sfc_base::ids::{ProgId, VarId};
+use sfc_page::append::{append, append_number};
 use sfc_plant::names::Names;
 use sfc_plant::plant::Plant;
 use std::alloc::AllocError;
@@ -27,28 +25,12 @@ fn variable_name(plant: &Plant, variable: VarId) -> &[u8] {
     }
 }
 
-// The name of a task.
-fn task_name(plant: &Plant, task: TaskId) -> &[u8] {
-    names::task_name(plant.tasks(), usize::from(task.0))
-}
-
-// The name of an action of an instance.
-fn action_name<'a>(names: &'a Names<'_>, view: &ProgramView<'_>, action: ActionNumber) -> &'a [u8] {
-    if action.0 >= view.tables().actions() {
-        return b"";
-    }
-    match view.tables().target(action) {
-        Target::Declared(action) => names.action(action),
-        Target::Boolean(variable) => names.variable(variable),
-    }
-}
-
 // The name of a signal of the resource, or of a variable.
 fn append_name(out: &mut Vec<u8>, plant: &Plant, signal: Signal) -> Result<(), AllocError> {
     match signal {
         Signal::Running => append(out, b"mode.Running"),
-        Signal::Scan(task) => append_named(out, task_name(plant, task), b".scan"),
-        Signal::Overruns(task) => append_named(out, task_name(plant, task), b".overruns"),
+        Signal::Scan(task) => append_named(out, plant.task_name(task), b".scan"),
+        Signal::Overruns(task) => append_named(out, plant.task_name(task), b".overruns"),
         Signal::Variable(variable, _) => append(out, variable_name(plant, variable)),
         Signal::Forced(variable) => append_named(out, variable_name(plant, variable), b".forced"),
         _ => Ok(()),
@@ -65,8 +47,10 @@ fn append_name_in(
     match signal {
         Signal::Active(_, step) => append_named(out, names.step(step), b".X"),
         Signal::Elapsed(_, step) => append_named(out, names.step(step), b".T"),
-        Signal::Q(_, action) => append_named(out, action_name(names, view, action), b".Q"),
-        Signal::Executed(_, action) => append_named(out, action_name(names, view, action), b".A"),
+        Signal::Q(_, action) => append_named(out, view.tables().action_name(names, action), b".Q"),
+        Signal::Executed(_, action) => {
+            append_named(out, view.tables().action_name(names, action), b".A")
+        }
         _ => append_name(out, view.plant(), signal),
     }
 }
@@ -122,13 +106,10 @@ fn append_instance(
     let Some(instance) = plant.instances().get(number) else {
         return Ok(());
     };
-    let Some(program) = plant.types().get(instance.program.0) else {
-        return Ok(());
-    };
     append_scope(out, instance.name.spelling())?;
-    let view = resource.program(ProgId(number as u8));
-    let names = Names::new(plant.globals(), program);
-    append_signals(out, &view, &names, signals, number)?;
+    let instance = ProgId(number as u8);
+    let view = resource.program(instance);
+    append_signals(out, &view, &plant.names(instance), signals, number)?;
     append(out, b"$upscope $end\n")
 }
 

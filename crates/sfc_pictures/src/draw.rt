@@ -1,23 +1,19 @@
 //! A chart as Graphviz text, from bytes to bytes.
 
-ghost use Rattle.std.specs.Prelude.{[]};
-ghost use Rattle.sfc_core.specs.Agreement.{Agrees};
-
 use crate::drawing::{picture_of_instances, picture_of_types};
 use crate::picture_error::PictureError;
 use crate::quiet::Quiet;
+use crate::sfc_core::resource::Resource;
+use crate::sfc_debug::debugger::Debugger;
 use sfc_base::ids::TypeId;
 use sfc_base::write_fault::put_all;
-use sfc_core::resource::Resource;
-use sfc_debug::debugger::Debugger;
-use sfc_debug::trace_mask::TraceMask;
-use sfc_monitor::chart::plant_of_text;
-use sfc_monitor::input::read_to_end;
-use sfc_monitor::monitor_error::MonitorError;
-use sfc_monitor::play::play;
 use sfc_plant::plant::Plant;
-use sfc_script::script::{Script, read_script};
-use std::alloc::{AllocError, Global};
+use sfc_replay::chart::plant_of_text;
+use sfc_replay::input::read_to_end;
+use sfc_replay::opening::{Opened, open_from};
+use sfc_replay::play::play;
+use sfc_replay::replay_error::ReplayError;
+use std::alloc::Global;
 use std::io::{Read, Write};
 
 // The program type of this name, where one is named.
@@ -74,28 +70,19 @@ pub fn draw_chart<C: Read, W: Write>(
     put_types(alloc, &plant, name, w)
 }
 
-// A debugger of the resource behind all commands of the script.
-fn played(alloc: Global, resource: Resource, script: Script) -> Result<Debugger, MonitorError>
-    requires untold { Agrees resource [] }
-{
-    let (commands, conditions) = script.into_parts();
-    let mut debugger = Debugger::with_conditions(alloc, resource, 1, TraceMask(0), conditions)?;
+// The debugger of a chart behind a script.
+fn played<C: Read, S: Read>(
+    alloc: Global,
+    chart: &mut C,
+    script: &mut S,
+) -> Result<Debugger, ReplayError> {
+    let Opened {
+        mut debugger,
+        commands,
+    } = open_from(alloc, chart, script)?;
     let mut nothing = Vec::new(alloc);
     play(alloc, &mut Quiet, &mut debugger, &commands, &mut nothing)?;
     Ok(debugger)
-}
-
-// A debugger of the chart behind the script.
-fn played_on<S: Read>(
-    alloc: Global,
-    text: &[u8],
-    script: &mut S,
-) -> Result<Debugger, MonitorError> {
-    let plant = plant_of_text(alloc, text)?;
-    let resource = Resource::open(alloc, plant)?;
-    let bytes = read_to_end(alloc, script)?;
-    let said = read_script(alloc, &resource, &bytes)?;
-    played(alloc, resource, said)
 }
 
 /// Writes the program instances of a chart as a picture, as they stand when a script has been played: active steps are filled, with their
@@ -110,7 +97,6 @@ pub fn draw_after<C: Read, S: Read, W: Write>(
     name: Option<&[u8]>,
     w: &mut W,
 ) -> Result<(), PictureError> {
-    let text = read_to_end(alloc, chart)?;
-    let debugger = played_on(alloc, &text, script)?;
+    let debugger = played(alloc, chart, script)?;
     put_instances(alloc, debugger.resource(), name, w)
 }

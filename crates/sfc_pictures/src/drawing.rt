@@ -1,14 +1,13 @@
 //! The drawings of program types and of instances.
 
 use crate::conditions::Conditions;
+use crate::sfc_core::resource::Resource;
+use crate::sfc_instance::program_view::ProgramView;
 use crate::sheet::Sheet;
 use crate::step::append_step;
 use crate::transition::append_transition;
 use sfc_base::ids::{ProgId, TypeId};
-use sfc_core::resource::Resource;
-use sfc_instance::program_view::ProgramView;
-use sfc_output::append::{append, append_number};
-use sfc_output::program::fault_name;
+use sfc_page::append::{append, append_number};
 use sfc_plant::chart::{Step, Transition};
 use sfc_plant::names::Names;
 use sfc_plant::plant::Plant;
@@ -70,7 +69,7 @@ fn append_title(
         None => Ok(()),
         Some(fault) => {
             append(out, b", fault ")?;
-            append(out, fault_name(fault))
+            append(out, fault.name())
         }
     }
 }
@@ -126,7 +125,7 @@ fn append_instance<'a>(
     append_title(out, instance.name.spelling(), program, &view)?;
     let sheet = Sheet {
         number,
-        names: Names::new(plant.globals(), program),
+        names: plant.names(ProgId(number as u8)),
         chart: &program.chart,
         conditions,
         transitions_before: transitions_before(plant, instance.program.0),

@@ -1,15 +1,15 @@
 //! Which variables are looked at behind a scan.
 
 use crate::assigned::Assigned;
+use crate::sfc_core::resource::Resource;
+use crate::sfc_instance::program_view::ProgramView;
 use crate::shown::copy;
 use crate::signals::Signals;
 use sfc_base::ids::{ActionNumber, ProgId, TypeId, VarId};
 use sfc_base::location::Area;
 use sfc_base::references::Variable;
 use sfc_base::ticks::Ticks;
-use sfc_core::resource::Resource;
 use sfc_flags::flags::Flags;
-use sfc_instance::program_view::ProgramView;
 use sfc_plant::association::Target;
 use sfc_plant::plant::Plant;
 use std::alloc::{AllocError, Global};

@@ -1,7 +1,7 @@
 //! A Value Change Dump as it goes on (IEEE 1364-2001, 18.2).
 
 use crate::piece::Piece;
-use sfc_output::append::append;
+use sfc_page::append::append;
 use std::alloc::{AllocError, Global};
 
 /// A Value Change Dump, whose text waits to be written: what each signal read when it was shown last, and the changes since.

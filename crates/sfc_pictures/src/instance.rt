@@ -1,10 +1,10 @@
 //! The signals of the steps and actions of an instance.
 
 use crate::dump::Dump;
+use crate::sfc_instance::program_view::ProgramView;
 use crate::shown::{Shown, nearer};
 use sfc_base::ids::ActionNumber;
 use sfc_base::references::StepId;
-use sfc_instance::program_view::ProgramView;
 use std::alloc::AllocError;
 
 /// How many bits a step time has.

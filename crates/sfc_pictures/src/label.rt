@@ -1,6 +1,6 @@
 //! Pieces of text in labels of Graphviz.
 
-use sfc_output::append::append;
+use sfc_page::append::append;
 use std::alloc::AllocError;
 
 /// How many bytes of a condition a label shows.

@@ -42,3 +42,6 @@ mod step;
 mod transition;
 pub mod wave;
 mod waveform;
+
+// What the crates above name through this one.
+pub use sfc_replay::{sfc_core, sfc_debug, sfc_instance, sfc_list, sfc_script};

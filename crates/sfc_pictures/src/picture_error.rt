@@ -1,8 +1,7 @@
 //! Why there is no picture.
 
 use sfc_base::write_fault::WriteFault;
-use sfc_monitor::monitor_error::MonitorError;
-use sfc_script::script::ScriptError;
+use sfc_replay::replay_error::ReplayError;
 use std::alloc::AllocError;
 use thiserror::Error;
 
@@ -14,29 +13,23 @@ pub enum PictureError {
     NoSuchType,
     /// The chart or the script is refused, a device failed, or memory was refused, as in a replay.
     #[error("{0}")]
-    Monitor(MonitorError),
+    Monitor(ReplayError),
 }
 
-impl From<MonitorError> for PictureError {
-    fn from(error: MonitorError) -> PictureError {
+impl From<ReplayError> for PictureError {
+    fn from(error: ReplayError) -> PictureError {
         PictureError::Monitor(error)
     }
 }
 
 impl From<AllocError> for PictureError {
     fn from(error: AllocError) -> PictureError {
-        PictureError::Monitor(MonitorError::from(error))
+        PictureError::Monitor(ReplayError::from(error))
     }
 }
 
 impl From<WriteFault> for PictureError {
     fn from(fault: WriteFault) -> PictureError {
-        PictureError::Monitor(MonitorError::from(fault))
-    }
-}
-
-impl From<ScriptError> for PictureError {
-    fn from(error: ScriptError) -> PictureError {
-        PictureError::Monitor(MonitorError::from(error))
+        PictureError::Monitor(ReplayError::from(fault))
     }
 }

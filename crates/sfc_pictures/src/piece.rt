@@ -2,8 +2,8 @@
 
 ghost use Rattle.std.specs.Prelude.{◌<◌, ◌≤◌};
 
-use itoa::Buffer;
-use sfc_output::append::append;
+use sfc_page::append::append;
+use sfc_page::digits::{NUMBER, put_number};
 use std::alloc::AllocError;
 
 /// The first character of codes of signals, and how many characters there are.
@@ -132,13 +132,6 @@ impl Piece {
         self.count = end;
     }
 
-    // Bytes.
-    fn push_all(&mut self, bytes: &[u8]) {
-        for byte in bytes {
-            self.push(*byte);
-        }
-    }
-
     /// What a signal of so many bits reads from now on, on a line.
     pub fn push_change(&mut self, number: usize, width: u32, bits: u64) {
         if width == 1 {
@@ -163,11 +156,17 @@ impl Piece {
         }
     }
 
+    // A number in decimal digits.
+    fn push_number(&mut self, number: u64) {
+        if self.count <= ROOM - NUMBER {
+            self.count = put_number(&mut self.bytes, self.count, number);
+        }
+    }
+
     /// The mark of an instant, in microseconds.
     pub fn push_instant(&mut self, micros: i64) {
         self.push(b'#');
-        let mut digits = Buffer::new();
-        self.push_all(digits.format(micros.unsigned_abs()).as_bytes());
+        self.push_number(micros.unsigned_abs());
         self.push(b'\n');
     }
 }

@@ -1,12 +1,13 @@
 //! A report that writes nothing.
 
-ghost use Rattle.std.specs.Prelude.{[], ⊤};
+ghost use Rattle.std.specs.Prelude.{[], Some, ⊤};
 
-use sfc_debug::debugger::Debugger;
-use sfc_events::command::{Answer, Command};
+use crate::sfc_debug::debugger::Debugger;
+use crate::sfc_debug::timed::Timed;
+use sfc_events::command::Answer;
 use sfc_events::refusal::Refusal;
-use sfc_monitor::report::Report;
-use sfc_output::page::Page;
+use sfc_page::page::Page;
+use sfc_replay::report::Report;
 use std::alloc::{AllocError, Global};
 
 /// Nothing is written of a run.
@@ -14,22 +15,24 @@ use std::alloc::{AllocError, Global};
 pub struct Quiet;
 
 impl Report for Quiet {
-    ghost lines = { λ _. record { command = λ _ _ _. []; closing = λ _. [] } };
+    ghost lines = { λ _. Some (record { command = λ _ _ _. []; closing = λ _. [] }) };
 
     ghost fits = { λ _ _. ⊤ };
+
+    ghost agrees = { λ _ _ _. ⊤ };
 
     fn put_answer(
         &mut self,
         _page: &mut Page,
         _debugger: &Debugger,
-        _timed: &(Command, i64),
+        _timed: &Timed,
         _answer: &Result<Answer, Refusal>,
     ) -> Result<(), AllocError> {
         Ok(())
     }
 
     fn append_closing(
-        &self,
+        &mut self,
         _alloc: Global,
         _out: &mut Vec<u8>,
         _debugger: &Debugger,

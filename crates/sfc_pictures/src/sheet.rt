@@ -1,10 +1,10 @@
 //! What one drawing is made from.
 
 use crate::conditions::Conditions;
+use crate::sfc_instance::program_view::ProgramView;
 use sfc_base::ids::TransitionId;
 use sfc_base::references::StepId;
-use sfc_instance::program_view::ProgramView;
-use sfc_output::append::{append, append_number};
+use sfc_page::append::{append, append_number};
 use sfc_plant::chart::Chart;
 use sfc_plant::names::Names;
 use std::alloc::AllocError;

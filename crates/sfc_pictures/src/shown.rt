@@ -1,8 +1,8 @@
 //! What was shown last of an instance.
 
+use crate::sfc_instance::program_view::ProgramView;
 use sfc_base::ticks::Ticks;
 use sfc_flags::flags::Flags;
-use sfc_instance::program_view::ProgramView;
 use std::alloc::{AllocError, Global};
 
 /// Which steps of an instance were active, and which actions had Q and were executed, as they were shown last.

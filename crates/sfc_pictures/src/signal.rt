@@ -1,13 +1,13 @@
 //! What a waveform shows, one signal each.
 
+use crate::sfc_core::resource::Resource;
+use crate::sfc_debug::debugger::Debugger;
+use crate::sfc_debug::mode::Mode;
+use crate::sfc_instance::program_view::ProgramView;
 use sfc_base::ids::{ActionNumber, ProgId, TaskId, VarId};
 use sfc_base::references::StepId;
 use sfc_base::value::Value;
 use sfc_base::var_type::VarType;
-use sfc_core::resource::Resource;
-use sfc_debug::debugger::Debugger;
-use sfc_debug::mode::Mode;
-use sfc_instance::program_view::ProgramView;
 
 /// Something that a waveform shows. A number that names nothing in a resource reads 0.
 #[derive(Clone, Copy, Debug, PartialEq, Eq)]

@@ -1,11 +1,11 @@
 //! The signals of a waveform, in the order in which it declares them.
 
+use crate::sfc_core::resource::Resource;
+use crate::sfc_instance::program_view::ProgramView;
 use crate::signal::Signal;
 use sfc_base::ids::{ActionNumber, ProgId, TaskId, VarId};
 use sfc_base::references::{StepId, Variable};
 use sfc_base::var_type::VarType;
-use sfc_core::resource::Resource;
-use sfc_instance::program_view::ProgramView;
 use sfc_plant::image_variable::ImageVariable;
 use sfc_plant::plant::Plant;
 use std::alloc::{AllocError, Global};

@@ -1,30 +1,12 @@
 //! Steps with their action blocks (2.6.2, 2.6.4).
 
 use crate::sheet::Sheet;
-use sfc_base::qualifier::TimedQualifier;
 use sfc_base::references::Variable;
-use sfc_output::append::{append, append_time};
-use sfc_plant::association::{Association, Qualifier, Target, Time};
+use sfc_page::append::{append, append_time};
+use sfc_plant::association::{Association, Qualifier, Time};
 use sfc_plant::chart::Step;
 use sfc_plant::names::Names;
 use std::alloc::AllocError;
-
-// The letters of a qualifier.
-fn letters_of(qualifier: Qualifier) -> &'static [u8] {
-    match qualifier {
-        Qualifier::NonStored => b"N",
-        Qualifier::Reset => b"R",
-        Qualifier::Set => b"S",
-        Qualifier::Pulse => b"P",
-        Qualifier::RisingPulse => b"P1",
-        Qualifier::FallingPulse => b"P0",
-        Qualifier::Timed(TimedQualifier::Limited, _) => b"L",
-        Qualifier::Timed(TimedQualifier::Delayed, _) => b"D",
-        Qualifier::Timed(TimedQualifier::StoredDelayed, _) => b"SD",
-        Qualifier::Timed(TimedQualifier::DelayedStored, _) => b"DS",
-        Qualifier::Timed(TimedQualifier::StoredLimited, _) => b"SL",
-    }
-}
 
 // A qualifier, with its time where it has one.
 fn append_qualifier(
@@ -32,7 +14,7 @@ fn append_qualifier(
     names: &Names<'_>,
     qualifier: Qualifier,
 ) -> Result<(), AllocError> {
-    append(out, letters_of(qualifier))?;
+    append(out, qualifier.letters())?;
     match qualifier {
         Qualifier::Timed(_, Time::Literal(micros)) => {
             append(out, b" ")?;
@@ -65,14 +47,6 @@ fn append_indicators(
     Ok(())
 }
 
-// The name of an action.
-fn target_name<'a>(names: &'a Names<'_>, target: Target) -> &'a [u8] {
-    match target {
-        Target::Declared(action) => names.action(action),
-        Target::Boolean(variable) => names.variable(variable),
-    }
-}
-
 // A line of an action block: the qualifier, the action, the indicators.
 fn append_association(
     out: &mut Vec<u8>,
@@ -82,7 +56,7 @@ fn append_association(
     append(out, b"<tr><td>")?;
     append_qualifier(out, names, association.qualifier)?;
     append(out, b"</td>")?;
-    append_cell(out, target_name(names, association.target))?;
+    append_cell(out, names.target(association.target))?;
     append_indicators(out, names, association.indicators.as_slice())?;
     append(out, b"</tr>")
 }

@@ -3,7 +3,7 @@
 use crate::label::{append_cut, append_escaped};
 use crate::sheet::Sheet;
 use sfc_base::references::StepId;
-use sfc_output::append::{append, append_number};
+use sfc_page::append::{append, append_number};
 use sfc_plant::chart::Transition;
 use std::alloc::AllocError;
 

@@ -1,24 +1,20 @@
 //! A script on a chart as a waveform, from bytes to bytes.
 
-ghost use Rattle.std.specs.Prelude.{[]};
-ghost use Rattle.sfc_core.specs.Agreement.{Agrees};
+ghost use Rattle.std.specs.Prelude.{None, ⊤};
 
+use crate::sfc_debug::debugger::Debugger;
+use crate::sfc_debug::timed::Timed;
 use crate::waveform::Waveform;
-use sfc_base::ticks::Ticks;
-use sfc_base::write_fault::put_all;
-use sfc_core::resource::Resource;
-use sfc_debug::debugger::Debugger;
-use sfc_debug::trace_mask::TraceMask;
-use sfc_events::command::Command;
-use sfc_monitor::chart::plant_of_text;
-use sfc_monitor::input::read_to_end;
-use sfc_monitor::monitor_error::MonitorError;
-use sfc_script::script::{Script, read_script};
-use std::alloc::Global;
+use sfc_events::command::Answer;
+use sfc_events::refusal::Refusal;
+use sfc_page::append::append;
+use sfc_page::page::Page;
+use sfc_replay::opening::{Opened, open_from};
+use sfc_replay::play::play;
+use sfc_replay::replay_error::ReplayError;
+use sfc_replay::report::Report;
+use std::alloc::{AllocError, Global};
 use std::io::{Read, Write};
-
-/// How many bytes wait before they are written.
-const PIECE: usize = 65_536;
 
 /// Which instants a waveform has.
 #[derive(Clone, Copy, Debug, PartialEq, Eq)]
@@ -29,79 +25,59 @@ pub enum Instants {
     Raw,
 }
 
-// Writes what waits, where it is long.
-fn pass_on<W: Write>(text: &mut Vec<u8>, w: &mut W) -> Result<(), MonitorError> {
-    if text.len() < PIECE {
-        return Ok(());
+// The waveform of a run, with these instants.
+#[derive(Drop)]
+struct Traced {
+    waveform: Waveform,
+    instants: Instants,
+}
+
+impl Traced {
+    // The instant of an accepted command.
+    fn instant_of(&self, debugger: &Debugger, timed: &Timed) -> i64 {
+        match self.instants {
+            Instants::Run => debugger.run_instant(),
+            Instants::Raw => timed.raw,
+        }
     }
-    put_all(w, text)?;
-    text.clear();
-    Ok(())
 }
 
-// One command: what it changes, if it is accepted.
-fn follow_command(
-    debugger: &mut Debugger,
-    timed: (Command, i64),
-    instants: Instants,
-    waveform: &mut Waveform,
-) -> Result<(), MonitorError> {
-    let (command, raw) = timed;
-    let mut ticks = Ticks::new();
-    let Ok(answer) = debugger.command(command, raw, &mut ticks) else {
-        return Ok(());
-    };
-    let instant = match instants {
-        Instants::Run => debugger.run_instant(),
-        Instants::Raw => raw,
-    };
-    waveform.follow(debugger, instant, command, answer)?;
-    Ok(())
-}
+// What it says of a command is what has changed, which no rule says by how the debugger stands.
+impl Report for Traced {
+    ghost lines = { λ _. None };
 
-// The commands in turn.
-fn follow_commands<W: Write>(
-    debugger: &mut Debugger,
-    commands: &[(Command, i64)],
-    instants: Instants,
-    waveform: &mut Waveform,
-    w: &mut W,
-) -> Result<(), MonitorError> {
-    for timed in commands {
-        follow_command(debugger, *timed, instants, waveform)?;
-        pass_on(&mut waveform.dump.text, w)?;
+    ghost fits = { λ _ _. ⊤ };
+
+    ghost agrees = { λ _ _ _. ⊤ };
+
+    fn put_answer(
+        &mut self,
+        page: &mut Page,
+        debugger: &Debugger,
+        timed: &Timed,
+        answer: &Result<Answer, Refusal>,
+    ) -> Result<(), AllocError> {
+        let Ok(answer) = answer else {
+            return Ok(());
+        };
+        let instant = self.instant_of(debugger, timed);
+        self.waveform
+            .follow(debugger, instant, timed.command, *answer)?;
+        page.line.pass_on(&mut page.text)?;
+        append(&mut page.text, &self.waveform.dump.text)?;
+        self.waveform.dump.text.clear();
+        Ok(())
     }
-    Ok(())
-}
 
-// The whole waveform of a debugger that was told nothing.
-fn put_waveform<W: Write>(
-    alloc: Global,
-    debugger: &mut Debugger,
-    commands: &[(Command, i64)],
-    instants: Instants,
-    w: &mut W,
-) -> Result<(), MonitorError> {
-    let mut waveform = Waveform::new(alloc, debugger)?;
-    follow_commands(debugger, commands, instants, &mut waveform, w)?;
-    waveform.end()?;
-    put_all(w, &waveform.dump.text)?;
-    Ok(())
-}
-
-// The waveform of a script on a resource.
-fn put_script<W: Write>(
-    alloc: Global,
-    resource: Resource,
-    script: Script,
-    instants: Instants,
-    w: &mut W,
-) -> Result<(), MonitorError>
-    requires untold { Agrees resource [] }
-{
-    let (commands, conditions) = script.into_parts();
-    let mut debugger = Debugger::with_conditions(alloc, resource, 1, TraceMask(0), conditions)?;
-    put_waveform(alloc, &mut debugger, &commands, instants, w)
+    fn append_closing(
+        &mut self,
+        _alloc: Global,
+        out: &mut Vec<u8>,
+        _debugger: &Debugger,
+    ) -> Result<(), AllocError> {
+        self.waveform.end()?;
+        append(out, &self.waveform.dump.text)
+    }
 }
 
 /// Plays a script on a chart, and writes how its signals go as a Value Change Dump (IEEE 1364): of each step X and T, of each action Q and A,
@@ -117,11 +93,15 @@ pub fn wave_script<C: Read, S: Read, W: Write>(
     script: &mut S,
     instants: Instants,
     w: &mut W,
-) -> Result<(), MonitorError> {
-    let text = read_to_end(alloc, chart)?;
-    let plant = plant_of_text(alloc, &text)?;
-    let resource = Resource::open(alloc, plant)?;
-    let bytes = read_to_end(alloc, script)?;
-    let said = read_script(alloc, &resource, &bytes)?;
-    put_script(alloc, resource, said, instants, w)
+) -> Result<(), ReplayError> {
+    let Opened {
+        mut debugger,
+        commands,
+    } = open_from(alloc, chart, script)?;
+    let mut traced = Traced {
+        waveform: Waveform::new(alloc, &debugger)?,
+        instants,
+    };
+    play(alloc, &mut traced, &mut debugger, &commands, w)?;
+    Ok(())
 }

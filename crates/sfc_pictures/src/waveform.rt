@@ -4,16 +4,17 @@ use crate::declared::append_declarations;
 use crate::due::{Due, output_of};
 use crate::dump::Dump;
 use crate::instance::{put_actions, put_steps};
+use crate::sfc_core::resource::Resource;
+use crate::sfc_debug::debugger::Debugger;
+use crate::sfc_debug::mode::Mode;
+use crate::sfc_instance::program_view::ProgramView;
 use crate::shown::Shown;
 use crate::signal::{bits_of, overruns_of, width_of};
 use crate::signals::Signals;
 use sfc_base::ids::{ProgId, TaskId, VarId};
-use sfc_core::resource::Resource;
-use sfc_debug::debugger::Debugger;
-use sfc_debug::mode::Mode;
 use sfc_events::command::{Answer, Command};
-use sfc_instance::program_view::ProgramView;
-use sfc_output::append::append;
+use sfc_events::instance_set::InstanceSet;
+use sfc_page::append::append;
 use std::alloc::{AllocError, Global};
 
 /// The signal of the mode.
@@ -70,19 +71,6 @@ fn scanned_task(command: Command) -> Option<TaskId> {
 // The number of the signal of a task's scans.
 fn scan_of(task: TaskId) -> usize {
     FIRST_SCAN + STRIDE * usize::from(task.0)
-}
-
-// The next instance from this one on whose bit is set.
-fn next_of(bits: u64, from: usize) -> Option<usize> {
-    if from >= INSTANCES {
-        return None;
-    }
-    let rest = bits >> from;
-    if rest == 0 {
-        None
-    } else {
-        Some(from + rest.trailing_zeros() as usize)
-    }
 }
 
 // The window on an instance, if there is such an instance.
@@ -224,16 +212,16 @@ impl Waveform {
     }
 
     // Marks the variables that the scans of these instances may have changed.
-    fn mark_values(&mut self, resource: &Resource, ran: u64) {
+    fn mark_values(&mut self, resource: &Resource, ran: InstanceSet) {
         self.due.begin();
         let mut has_body = false;
-        let mut from = 0;
+        let mut rest = ran;
         for _ in 0..INSTANCES {
-            let Some(number) = next_of(ran, from) else {
+            let Some((instance, others)) = rest.split_first() else {
                 break;
             };
-            has_body |= self.mark_outputs(resource, number);
-            from = number.saturating_add(1);
+            has_body |= self.mark_outputs(resource, usize::from(instance.0));
+            rest = others;
         }
         if has_body {
             self.due.mark_assigned();
@@ -256,15 +244,15 @@ impl Waveform {
         Ok(())
     }
 
-    // Puts the instances whose bits are set.
-    fn put_instances(&mut self, resource: &Resource, ran: u64) -> Result<(), AllocError> {
-        let mut from = 0;
+    // Puts the instances whose scans ran.
+    fn put_instances(&mut self, resource: &Resource, ran: InstanceSet) -> Result<(), AllocError> {
+        let mut rest = ran;
         for _ in 0..INSTANCES {
-            let Some(number) = next_of(ran, from) else {
+            let Some((instance, others)) = rest.split_first() else {
                 break;
             };
-            self.put_instance(resource, number)?;
-            from = number.saturating_add(1);
+            self.put_instance(resource, usize::from(instance.0))?;
+            rest = others;
         }
         Ok(())
     }
@@ -279,7 +267,7 @@ impl Waveform {
         &mut self,
         debugger: &Debugger,
         task: TaskId,
-        ran: u64,
+        ran: InstanceSet,
     ) -> Result<(), AllocError> {
         let resource = debugger.resource();
         let scan = scan_of(task);

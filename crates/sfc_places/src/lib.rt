@@ -29,3 +29,6 @@ mod walk_image;
 pub mod walk_programs;
 pub mod walk_tasks;
 pub mod walk_variables;
+
+// What the crates above name through this one.
+pub use sfc_variables::sfc_check;

@@ -4,11 +4,11 @@
 use crate::declared::Space;
 use crate::finding::{Detail, Sort, Types};
 use crate::marks::{Mark, behind, is_at};
+use crate::sfc_check::family::{Family, family_of, operator_of};
+use crate::sfc_check::literal::check_literal;
 use sfc_base::case::is_same_word;
 use sfc_base::delimiter::Delimiter;
 use sfc_base::var_type::VarType;
-use sfc_check::family::{Family, family_of, operator_of};
-use sfc_check::literal::check_literal;
 use sfc_text::expression::{Expression, Operator, Variable};
 use sfc_text::tree::Literal;
 use sfc_tokens::token::Token;

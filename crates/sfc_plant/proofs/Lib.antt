@@ -1,5 +1,6 @@
 pub mod Images
 pub mod Charts
+pub mod Elements
 pub mod NamesAt
 pub mod Places
 -- which values may go to another thread

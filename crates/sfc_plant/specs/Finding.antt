@@ -1,22 +1,26 @@
--- What a name stands for in a plant (2.4.3, 2.7.1, 2.7.2).
-use Rattle.std.specs.Prelude.{ℕ, ◌+◌, List, [], length, map, Option, Some, None, slice_get, take}
-use Rattle.std.specs.Option.{option_map}
+-- What a name stands for in a plant (2.1.2, 2.4.3, 2.6.2, 2.6.3, 2.7.1, 2.7.2).
+use Rattle.std.specs.Prelude.{ℕ, ◌+◌, ◌==◌, List, [], length, map, position, slice_get, take, drop}
+use Rattle.std.specs.Prelude.{Option, Some, None, option_map, option_and_then}
 use Rattle.sfc_base.specs.NameLists.{place_of}
 use Rattle.sfc_plant.specs.VariableNames.{variable_place}
 use Rattle.sfc_plant.specs.declared.variable.Variable.{Variable}
 use Rattle.sfc_plant.specs.declared.chart.Chart.{Chart}
 use Rattle.sfc_plant.specs.declared.program_type.ProgramType.{ProgramType}
 use Rattle.sfc_plant.specs.declared.instance.Instance.{Instance}
+use Rattle.sfc_base.specs.declared.references.StepId.{StepId}
+use Rattle.sfc_base.specs.declared.ids.TransitionId.{TransitionId}
 use Rattle.sfc_base.specs.declared.ids.VarId.{VarId}
 use Rattle.sfc_base.specs.declared.ids.TaskId.{TaskId}
 use Rattle.sfc_base.specs.declared.ids.TypeId.{TypeId}
 use Rattle.sfc_base.specs.declared.ids.ProgId.{ProgId}
 use Rattle.sfc_plant.specs.Plants.{PlantData}
+use Rattle.sfc_plant.specs.ElementNames.{step_place, transition_place}
 use Rattle.sfc_plant.specs.Image.{image_of, locals_of}
+use Rattle.sfc_plant.specs.ProgramTypes.{type_at, type_of}
 
 -- the global variable with this name
-abbrev pub variable_named : PlantData → List ℕ → Option VarId
-variable_named plant name = option_map (λ place. record { 0 = place }) (variable_place plant.globals name)
+abbrev pub global_named : PlantData → List ℕ → Option VarId
+global_named plant name = option_map (λ place. record { 0 = place }) (variable_place plant.globals name)
 
 abbrev pub task_named : PlantData → List ℕ → Option TaskId
 task_named plant name = option_map (λ place. record { 0 = place }) (place_of name (map (λ t. t.name) plant.tasks))
@@ -44,14 +48,43 @@ chart_in None = record { steps = []; transitions = []; actions = [] }
 chart_in (Some p) = p.chart
 
 abbrev pub chart_among : List ProgramType → Option Instance → Chart
-chart_among types None = chart_in None
-chart_among types (Some instance) = chart_in (slice_get types instance.program.0)
+chart_among types instance = chart_in (type_at types instance)
 
 -- the chart of this instance is that of its program type
 abbrev pub chart_of : PlantData → ProgId → Chart
-chart_of plant i = chart_among plant.types (slice_get plant.instances i.0)
+chart_of plant i = chart_in (type_of plant i)
 
 -- the variable of the image that this instance's local of this name is
 abbrev pub local_named : PlantData → ProgId → List ℕ → Option VarId
 local_named plant i name =
     option_map (λ place. record { 0 = first_local plant i + place }) (variable_place (instance_locals plant i) name)
+
+-- ---- NAME is a global variable, and INST.NAME a local one of a program instance
+
+-- where the first dot stands
+abbrev pub first_dot : List ℕ → Option ℕ
+first_dot word = position (λ b. b == 46) word
+
+-- INST.NAME, with its dot at this place: the local variable NAME of the program instance INST
+abbrev pub local_at_dot : PlantData → List ℕ → ℕ → Option VarId
+local_at_dot plant word dot =
+    option_and_then (λ i. local_named plant i (drop (dot + 1) word)) (instance_named plant (take dot word))
+
+-- a word with a dot is a local variable, and one without is a global
+abbrev pub variable_at_dot : PlantData → List ℕ → Option ℕ → Option VarId
+variable_at_dot plant word None = global_named plant word
+variable_at_dot plant word (Some dot) = local_at_dot plant word dot
+
+-- the variable of the image with this name
+abbrev pub variable_named : PlantData → List ℕ → Option VarId
+variable_named plant word = variable_at_dot plant word (first_dot word)
+
+-- ---- in the chart of a program instance
+
+-- the step with this name
+abbrev pub step_named : PlantData → ProgId → List ℕ → Option StepId
+step_named plant i name = option_map (λ place. record { 0 = place }) (step_place (chart_of plant i) name)
+
+-- the transition with this name
+abbrev pub transition_named : PlantData → ProgId → List ℕ → Option TransitionId
+transition_named plant i name = option_map (λ place. record { 0 = place }) (transition_place (chart_of plant i) name)

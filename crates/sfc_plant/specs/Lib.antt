@@ -12,6 +12,8 @@ pub mod Spaces
 pub mod Names
 -- plants as values
 pub mod Plants
+-- the program type of a program instance
+pub mod ProgramTypes
 -- the variables of a plant, those of all instances among them
 pub mod Image
 -- the names in a program instance
@@ -20,6 +22,10 @@ pub mod InstanceSpaces
 pub mod Sound
 -- what a name stands for in a plant
 pub mod Finding
+-- the names of what a plant numbers
+pub mod PlantNames
+-- the letters of qualifiers
+pub mod Letters
 -- what a plant is made of
 pub mod PlantParts
 -- typed trees as lists

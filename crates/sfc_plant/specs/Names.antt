@@ -6,6 +6,8 @@ use Rattle.sfc_base.specs.declared.references.StepId.{StepId}
 use Rattle.sfc_base.specs.declared.ids.ActionId.{ActionId}
 use Rattle.sfc_plant.specs.VariableNames.{names_of}
 use Rattle.sfc_plant.specs.Spaces.{Space}
+use Rattle.sfc_plant.specs.declared.association.Target.{Target}
+use Rattle.sfc_plant.specs.declared.association.Target.TheVariants.{Boolean, Declared}
 use Rattle.sfc_plant.specs.declared.instance.Instance.{Instance}
 use Rattle.sfc_plant.specs.declared.program_type.ProgramType.{ProgramType}
 use Rattle.sfc_plant.specs.declared.task.Task.{Task}
@@ -23,6 +25,11 @@ step_name space id = name_at space.steps id.0
 
 abbrev pub action_name : Space → ActionId → List ℕ
 action_name space id = name_at space.actions id.0
+
+-- a Boolean action has the name of its variable (2.6.4.1)
+abbrev pub target_name : Space → Target → List ℕ
+target_name space (Declared id) = action_name space id
+target_name space (Boolean v) = variable_name space v
 
 -- ---- tasks, instances and program types
 

@@ -1,5 +1,8 @@
 //! Which action a step is associated with, and how (2.6.4.3, 2.6.4.4).
 
+ghost use Rattle.std.specs.Prelude.{◌≡◌};
+ghost use Rattle.sfc_plant.specs.Letters as letters;
+
 use sfc_base::ids::ActionId;
 use sfc_base::items::Items;
 use sfc_base::qualifier::TimedQualifier;
@@ -40,6 +43,36 @@ pub enum Qualifier {
     FallingPulse,
     /// One of the qualifiers with a time: L, D, SD, DS or SL.
     Timed(TimedQualifier, Time),
+}
+
+// The letters of a qualifier with a time.
+fn timed_letters(qualifier: TimedQualifier) -> &'static [u8]
+    ensures { result.now ≡ letters.timed_letters qualifier }
+{
+    match qualifier {
+        TimedQualifier::Limited => b"L",
+        TimedQualifier::Delayed => b"D",
+        TimedQualifier::StoredDelayed => b"SD",
+        TimedQualifier::DelayedStored => b"DS",
+        TimedQualifier::StoredLimited => b"SL",
+    }
+}
+
+impl Qualifier {
+    /// Its letters: `N`, `R`, `S`, `L`, `D`, `P`, `SD`, `DS`, `SL`, `P1` or `P0` (2.6.4.4). Its time is not among them.
+    pub fn letters(self) -> &'static [u8]
+        ensures { result.now ≡ letters.letters self }
+    {
+        match self {
+            Qualifier::NonStored => b"N",
+            Qualifier::Reset => b"R",
+            Qualifier::Set => b"S",
+            Qualifier::Pulse => b"P",
+            Qualifier::RisingPulse => b"P1",
+            Qualifier::FallingPulse => b"P0",
+            Qualifier::Timed(timed, _) => timed_letters(timed),
+        }
+    }
 }
 
 /// A line of an action block: which action, how it goes with the step, and its indicator variables.

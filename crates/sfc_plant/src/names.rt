@@ -1,10 +1,14 @@
 //! Names as they were declared (2.1.2), of what stands in a plant as a number.
 
 ghost use Rattle.std.specs.Prelude.{◌≡◌};
+ghost use Rattle.sfc_plant.specs.InstanceSpaces.{no_space};
 ghost use Rattle.sfc_plant.specs.Spaces.{space_in};
 ghost use Rattle.sfc_plant.specs.VariableNames.{names_of};
 ghost use Rattle.sfc_plant.specs.Names as names;
 
+use crate::action::Action;
+use crate::association::Target;
+use crate::chart::Step;
 use crate::instance::Instance;
 use crate::program_type::ProgramType;
 use crate::task::Task;
@@ -57,19 +61,27 @@ pub fn type_name(types: &[ProgramType], place: usize) -> &[u8]
     }
 }
 
-/// A program type among the global variables of its plant.
+/// The names of a program type among the global variables of its plant.
 #[derive(Drop)]
 pub struct Names<'a> {
     globals: &'a [Declared],
-    program: &'a ProgramType,
+    locals: &'a [Declared],
+    steps: &'a [Step],
+    actions: &'a [Action],
 }
 
 impl<'a> Model for Names<'a> {
-    ghost use Rattle.sfc_plant.specs.Spaces.{Space, space_in};
+    ghost use Rattle.std.specs.Prelude.{map};
+    ghost use Rattle.sfc_plant.specs.Spaces.{Space};
 
     ghost Value = { Space };
 
-    ghost view = { λ names. space_in names.globals.now names.program.now };
+    ghost view = { λ names. record {
+      globals = names.globals.now;
+      locals = names.locals.now;
+      steps = map (λ step. step.name) names.steps.now;
+      actions = map (λ action. action.name) names.actions.now;
+    } };
 }
 
 impl<'a> Names<'a> {
@@ -77,7 +89,24 @@ impl<'a> Names<'a> {
     pub fn new(globals: &'a [Declared], program: &'a ProgramType) -> Names<'a>
         ensures { result ≡ space_in globals.now program.now }
     {
-        Names { globals, program }
+        Names {
+            globals,
+            locals: program.locals.as_slice(),
+            steps: program.chart.steps.as_slice(),
+            actions: program.chart.actions.as_slice(),
+        }
+    }
+
+    // No names at all.
+    pub(crate) fn none() -> Names<'a>
+        ensures { result ≡ no_space }
+    {
+        Names {
+            globals: &[],
+            locals: &[],
+            steps: &[],
+            actions: &[],
+        }
     }
 
     /// The global variables.
@@ -93,7 +122,7 @@ impl<'a> Names<'a> {
     {
         match variable {
             Variable::Global(id) => variable_at(self.globals, id.0),
-            Variable::Local(id) => variable_at(self.program.locals.as_slice(), id.0),
+            Variable::Local(id) => variable_at(self.locals, id.0),
         }
     }
 
@@ -102,7 +131,7 @@ impl<'a> Names<'a> {
     pub fn step(&self, step: StepId) -> &[u8]
         ensures { result.now ≡ names.step_name self.now step }
     {
-        match self.program.chart.steps.as_slice().get(step.0 as usize) {
+        match self.steps.get(step.0 as usize) {
             Some(step) => step.name.spelling(),
             None => b"",
         }
@@ -113,9 +142,20 @@ impl<'a> Names<'a> {
     pub fn action(&self, action: ActionId) -> &[u8]
         ensures { result.now ≡ names.action_name self.now action }
     {
-        match self.program.chart.actions.as_slice().get(action.0) {
+        match self.actions.get(action.0) {
             Some(action) => action.name.spelling(),
             None => b"",
+        }
+    }
+
+    /// The name of what an association acts on: that of a declared action, or of the variable that is a Boolean one
+    /// (2.6.4.1).
+    pub fn target(&self, target: Target) -> &[u8]
+        ensures { result.now ≡ names.target_name self.now target }
+    {
+        match target {
+            Target::Declared(action) => self.action(action),
+            Target::Boolean(variable) => self.variable(variable),
         }
     }
 }

@@ -10,3 +10,6 @@ pub mod Loading
 pub mod Built
 -- What private clauses cite.
 pub mod Scoping
+-- What the crates above name through this one.
+pub use Rattle.sfc_check.specs as sfc_check
+pub use Rattle.sfc_variables.specs as sfc_variables

@@ -16,3 +16,7 @@ pub mod load;
 mod scope;
 mod transitions;
 pub mod type_scope;
+
+// What the crates above name through this one.
+pub use sfc_check;
+pub use sfc_variables;

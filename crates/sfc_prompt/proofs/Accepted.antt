@@ -18,20 +18,20 @@ use Rattle.sfc_events.specs.Commands.{event_of}
 use Rattle.sfc_events.specs.History.{History, last_instant}
 use Rattle.sfc_events.specs.declared.refusal.Refusal.{Refusal}
 use Rattle.sfc_events.specs.declared.refusal.Refusal.TheVariants.{ClockBack, InstantRange, UnknownProgram, UnknownTask}
-use Rattle.sfc_core.specs.PlantState as core_state
-use Rattle.sfc_core.specs.Verdict as core
-use Rattle.sfc_core.specs.Verdict.{event_refusal, first_refusal, instant_refusal, is_out_of_range, or_then, program_refusal, refused_if}
-use Rattle.sfc_debug.specs.declared.break_condition.BreakCondition.{BreakCondition}
-use Rattle.sfc_debug.specs.declared.mode.Mode.{Mode}
-use Rattle.sfc_debug.specs.declared.mode.Mode.TheVariants as modes
-use Rattle.sfc_debug.specs.declared.run_clock.RunClock.{RunClock}
-use Rattle.sfc_debug.specs.Histories.{CommandHistory, TimedCommand}
-use Rattle.sfc_debug.specs.Meaning.{IsAccepted}
-use Rattle.sfc_debug.specs.Private.Ranges.{IsInRange}
-use Rattle.sfc_debug.specs.RunClock.{delta_of, run_instant, running_time}
-use Rattle.sfc_debug.specs.States.{state_of}
-use Rattle.sfc_debug.specs.Verdict.{verdict, verdict_at, answer_by, clock_refusal, end_refusal, mode_refusal, own_refusal, point_refusal}
-use Rattle.sfc_debug.proofs.Accepting.{by_itself, in_time, neither, not_refused, own_granted}
+use Rattle.sfc_asking.specs.sfc_core.PlantState as core_state
+use Rattle.sfc_asking.specs.sfc_core.Verdict as core
+use Rattle.sfc_asking.specs.sfc_core.Verdict.{event_refusal, first_refusal, instant_refusal, is_out_of_range, or_then, program_refusal, refused_if}
+use Rattle.sfc_asking.specs.sfc_debug.declared.break_condition.BreakCondition.{BreakCondition}
+use Rattle.sfc_asking.specs.sfc_debug.declared.mode.Mode.{Mode}
+use Rattle.sfc_asking.specs.sfc_debug.declared.mode.Mode.TheVariants as modes
+use Rattle.sfc_asking.specs.sfc_debug.declared.run_clock.RunClock.{RunClock}
+use Rattle.sfc_asking.specs.sfc_debug.Histories.{CommandHistory, TimedCommand}
+use Rattle.sfc_asking.specs.sfc_debug.Meaning.{IsAccepted}
+use Rattle.sfc_asking.specs.sfc_debug.Private.Ranges.{IsInRange}
+use Rattle.sfc_asking.specs.sfc_debug.RunClock.{delta_of, run_instant, running_time}
+use Rattle.sfc_asking.specs.sfc_debug.States.{state_of}
+use Rattle.sfc_asking.specs.sfc_debug.Verdict.{verdict, verdict_at, answer_by, clock_refusal, end_refusal, mode_refusal, own_refusal, point_refusal}
+use Rattle.sfc_asking.proofs.of_sfc_debug.Accepting.{by_itself, in_time, neither, not_refused, own_granted}
 
 not_so : (b : Bool) (refusal : Refusal) → refused_if b refusal ≡ None → b ≡ false
 not_so false refusal e = refl

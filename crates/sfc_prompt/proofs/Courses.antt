@@ -2,14 +2,14 @@
 use Rattle.std.proofs.Common.{◌≡◌, ◌∙◌, sym, ap, subst, ℕ, ◌<◌, arith, nat_lt, Bool, true, ◌&&◌, List, length, Option, Some, Result, Ok, Err}
 use Rattle.std.specs.Prelude.{OnOk}
 use Rattle.std.proofs.lemmas.Bool.Decides.{nat_tests}
-use Rattle.sfc_debug.specs.declared.break_condition.BreakCondition.{BreakCondition}
-use Rattle.sfc_debug.specs.Histories.{CommandHistory}
-use Rattle.sfc_debug.specs.Hits.{environment_after, is_met}
-use Rattle.sfc_output.specs.Steered.{Steered}
-use Rattle.sfc_monitor.specs.Output.{debugger_of, plant_state}
+use Rattle.sfc_asking.specs.sfc_debug.declared.break_condition.BreakCondition.{BreakCondition}
+use Rattle.sfc_asking.specs.sfc_debug.Histories.{CommandHistory}
+use Rattle.sfc_asking.specs.sfc_debug.Hits.{environment_after, is_met}
+use Rattle.sfc_asking.specs.sfc_debug.Steered.{Steered}
+use Rattle.sfc_asking.specs.sfc_output.Output.{debugger_of, plant_state}
 use Rattle.sfc_base.specs.declared.ids.ProgId.{ProgId}
 use Rattle.sfc_plant.specs.Plants.{PlantData}
-use Rattle.sfc_script.specs.Scripts.{ConditionReads}
+use Rattle.sfc_asking.specs.sfc_script.Scripts.{ConditionReads}
 use Rattle.sfc_prompt.specs.declared.course.Course.{Course}
 use Rattle.sfc_prompt.specs.declared.course.Wanted.{Wanted}
 use Rattle.sfc_prompt.specs.Courses.{BeginsUntil, asked, holds_after, until_by, wanted_course}

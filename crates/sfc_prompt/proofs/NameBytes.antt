@@ -8,7 +8,7 @@ use Rattle.sfc_base.specs.Classes.{class_of, first_class}
 use Rattle.sfc_base.specs.Names.{IsName, is_spaced, is_word, starts_word}
 use Rattle.sfc_base.specs.Runs.{has}
 use Rattle.sfc_base.specs.Words.{keyword_of}
-use Rattle.sfc_script.proofs.PlainInstants.{IsPlain, ArePlain}
+use Rattle.sfc_asking.proofs.of_sfc_script.PlainInstants.{IsPlain, ArePlain}
 
 -- bytes that part neither lines nor words and begin no comment, one at least
 abbrev pub Word : List ℕ → Type 0

@@ -20,20 +20,18 @@ use Rattle.sfc_text.specs.Limits.{ours}
 use Rattle.sfc_text.specs.Reads as reads
 use Rattle.sfc_text.specs.Reads.{TextReads}
 use Rattle.sfc_text.specs.Trees.{SourceTree}
+use Rattle.sfc_text.specs.Declares.{OfTask}
 use Rattle.sfc_text.proofs.Declaring.{declares}
-use Rattle.sfc_text.proofs.Keeping.{keeps}
-use Rattle.sfc_variables.specs.declared.load_error.LoadError.TheVariants as fault
-use Rattle.sfc_variables.specs.Checks.{Check, in_turn, when}
-use Rattle.sfc_variables.specs.Declarations.{globals_check, globals_of}
-use Rattle.sfc_program.proofs.Soundness.{then_first, then_second, when_none}
+use Rattle.sfc_asking.specs.sfc_variables.declared.load_error.LoadError.TheVariants as fault
+use Rattle.sfc_asking.specs.sfc_variables.Checks.{Check, in_turn, when}
+use Rattle.sfc_asking.specs.sfc_variables.Declarations.{globals_check, globals_of}
+use Rattle.sfc_asking.proofs.of_sfc_program.Soundness.{then_first, then_second, when_none}
 use Rattle.sfc_plant.specs.declared.task.Task.{Task}
 use Rattle.sfc_plant.specs.declared.variable.Variable.{Variable}
 use Rattle.sfc_plant.specs.Plants.{PlantData}
-use Rattle.sfc_load.specs.Accepted.{IsAccepted}
-use Rattle.sfc_load.specs.Built.{plant_of, source_check, task_of}
-use Rattle.sfc_load.specs.Loading.{task_check, task_name, tasks_check}
-use Rattle.sfc_list.specs.SpelledPlants.{CanSpellPlant, CanSpellTask}
-use Rattle.sfc_list.proofs.SpellablePlants.{plant_spelled}
+use Rattle.sfc_asking.specs.sfc_load.Accepted.{IsAccepted}
+use Rattle.sfc_asking.specs.sfc_load.Built.{plant_of, source_check, task_of}
+use Rattle.sfc_asking.specs.sfc_load.Loading.{task_check, task_name, tasks_check}
 use Rattle.sfc_prompt.specs.Pieces.{AreNamed}
 
 -- ---- names of which no two are one
@@ -98,9 +96,11 @@ found_at names i less other =
 
 -- ---- tasks
 
-spelled : (text : List ℕ) (tree : SourceTree) → TextReads text (Ok tree) → source_check tree ≡ None → CanSpellPlant (plant_of tree)
-spelled text tree (reads.tree {ts = ts} lexes derives) passes =
-    plant_spelled ours tree (declares CanStand ours ts tree (tokens_stand text ts lexes) derives) (keeps ours ts tree derives) passes
+spelled : (text : List ℕ) (tree : SourceTree) → TextReads text (Ok tree) → All IsName (map task_name tree.configuration.tasks)
+spelled text tree (reads.tree {ts = ts} lexes derives) =
+    let stands = declares CanStand ours ts tree (tokens_stand text ts lexes) derives in
+    All-map IsName task_name tree.configuration.tasks
+    (All-weaker (OfTask CanStand) (λ t. IsName t.name) (λ t is. is.name) tree.configuration.tasks stands.configuration.tasks)
 
 tasks_pass : (tree : SourceTree) → source_check tree ≡ None
     → in_turn task_name (task_check (globals_of tree.configuration.globals)) [] tree.configuration.tasks ≡ None
@@ -117,16 +117,14 @@ named_in text tree read passes i less =
     let globals : List Variable = globals_of tree.configuration.globals in
     let tasks : List text_task.Task = tree.configuration.tasks in
     let names : List (List ℕ) = map (λ (t : Task). t.name) (plant_of tree).tasks in
-    let can = spelled text tree read passes in
+    let are : All IsName names = subst (All IsName) (sym (names_are tree)) (spelled text tree read) in
     let there : i < length names = subst (λ (n : ℕ). i < n) (sym (length-map (plant_of tree).tasks (λ (t : Task). t.name))) less in
     let count : i < length tasks = subst (λ (n : ℕ). i < n) (length-map tasks (task_of globals)) less in
     let other : (k : ℕ) → k < i → same_word (get_or names i []) (get_or names k []) ≡ false =
     λ k below. subst (λ (ns : List (List ℕ)). same_word (get_or ns i []) (get_or ns k []) ≡ false) (sym (names_are tree))
     (apart globals [] tasks (tasks_pass tree passes) i k below count) in
     record {
-      name = All-get_or IsName names i [] there
-          (All-map IsName (λ (t : Task). t.name) (plant_of tree).tasks
-          (All-weaker (CanSpellTask (plant_of tree).globals) (λ (t : Task). IsName t.name) (λ t is. is.name) (plant_of tree).tasks can.tasks));
+      name = All-get_or IsName names i [] there are;
       found = ap (λ o. option_map (λ place. record { 0 = place }) o) (found_at names i there other);
     }
 

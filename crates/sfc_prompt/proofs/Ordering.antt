@@ -9,7 +9,7 @@ use Rattle.sfc_base.specs.TimeText.{time_text}
 use Rattle.sfc_base.specs.declared.ids.ProgId.{ProgId}
 use Rattle.sfc_base.specs.declared.ids.TaskId.{TaskId}
 use Rattle.sfc_plant.specs.InstanceSpaces.{space_of}
-use Rattle.sfc_program.specs.Names.{names_in}
+use Rattle.sfc_asking.specs.sfc_program.Names.{names_in}
 use Rattle.sfc_base.specs.declared.var_type.VarType.TheVariants as types
 use Rattle.sfc_plant.specs.Plants.{PlantData}
 use Rattle.sfc_plant.specs.declared.instance.Instance.{Instance}
@@ -18,29 +18,29 @@ use Rattle.sfc_tokens.specs.ReadErrors.{Read}
 use Rattle.sfc_tokens.proofs.DurationWords.{word_again}
 use Rattle.sfc_tokens.proofs.TimeLaw.{time_is}
 use Rattle.sfc_text.specs.Trees.{Tree}
-use Rattle.sfc_check.specs.Checking.{checked}
-use Rattle.sfc_check.specs.TypeFaults.{Checked}
+use Rattle.sfc_asking.specs.sfc_check.Checking.{checked}
+use Rattle.sfc_asking.specs.sfc_check.TypeFaults.{Checked}
 use Rattle.sfc_expr.specs.Trees as typed
 use Rattle.sfc_events.specs.declared.command.Command.{Command}
 use Rattle.sfc_events.specs.declared.command.Command.TheVariants as commands
 use Rattle.sfc_events.specs.declared.command.Command.TheVariants.{BreakIf, Scan}
 use Rattle.sfc_events.specs.declared.command.Point.{Point}
-use Rattle.sfc_events.specs.declared.refusal.Refusal.TheVariants.{NoSuchCondition}
-use Rattle.sfc_debug.specs.declared.break_condition.BreakCondition.{BreakCondition}
-use Rattle.sfc_debug.specs.Histories.{CommandHistory, TimedCommand}
-use Rattle.sfc_debug.specs.Meaning.{IsAccepted}
-use Rattle.sfc_output.specs.Names.{task_name}
-use Rattle.sfc_output.specs.Steered.{Steered}
-use Rattle.sfc_conditions.specs.Conditions.{condition_by, condition_in}
-use Rattle.sfc_script.specs.Commands.{Conditional, Said as ScriptSaid, Plain, When, command_of, conditional_of, said_by, said_of, scan_of, single_of}
-use Rattle.sfc_script.specs.Lines.{first_word, is_blank, is_one_line, only_word, split_before, two_words}
-use Rattle.sfc_script.specs.Names.{task_of}
-use Rattle.sfc_script.specs.Scripts.{ConditionReads, LineReads, ScriptData, added_by, added_of, in_table}
-use Rattle.sfc_script.proofs.PlainInstants.{ArePlain}
-use Rattle.sfc_script.proofs.PlainTimes.{letter_first, time_plain}
-use Rattle.sfc_script.proofs.Splits.{split_more, split_stop}
-use Rattle.sfc_script.proofs.TimedLines.{timed_says}
-use Rattle.sfc_monitor.specs.Output.{Verdict, debugger_of}
+use Rattle.sfc_events.specs.declared.refusal.Refusal.{Refusal}
+use Rattle.sfc_asking.specs.sfc_debug.declared.break_condition.BreakCondition.{BreakCondition}
+use Rattle.sfc_asking.specs.sfc_debug.Histories.{CommandHistory, TimedCommand}
+use Rattle.sfc_asking.specs.sfc_debug.Meaning.{IsAccepted}
+use Rattle.sfc_plant.specs.PlantNames.{task_name}
+use Rattle.sfc_asking.specs.sfc_debug.Steered.{Steered}
+use Rattle.sfc_asking.specs.sfc_script.Conditions.{condition_by, condition_in}
+use Rattle.sfc_asking.specs.sfc_script.Commands.{Conditional, Said as ScriptSaid, Plain, When, command_of, conditional_of, said_by, said_of, scan_of, single_of}
+use Rattle.sfc_asking.specs.sfc_script.Lines.{first_word, is_blank, is_one_line, only_word, split_before, two_words}
+use Rattle.sfc_asking.specs.sfc_script.Names.{task_of}
+use Rattle.sfc_asking.specs.sfc_script.Scripts.{ConditionReads, LineReads, ScriptData, added_by, added_of, in_table}
+use Rattle.sfc_asking.proofs.of_sfc_script.PlainInstants.{ArePlain}
+use Rattle.sfc_asking.proofs.of_sfc_script.PlainTimes.{letter_first, time_plain}
+use Rattle.sfc_asking.proofs.of_sfc_script.Splits.{split_more, split_stop}
+use Rattle.sfc_asking.proofs.of_sfc_script.TimedLines.{timed_says}
+use Rattle.sfc_asking.specs.sfc_output.Output.{Verdict, debugger_of}
 use Rattle.sfc_session.specs.declared.step.Step.{Step}
 use Rattle.sfc_session.specs.declared.step.Step.TheVariants as steps
 use Rattle.sfc_prompt.specs.Lines.{Said, Nothing, Remark, Says, Asks}
@@ -75,7 +75,7 @@ plain_said plant k command raw words small one is =
 -- that of a breakpoint with a condition
 when_said : (plant : PlantData) (k : ℕ) (conditional : Conditional) (raw : ℤ) (words : List ℕ) (condition : BreakCondition)
     → unsigned_abs raw ≤ greatest → is_one_line words ≡ true → command_of plant words ≡ None → conditional_of plant words ≡ Some conditional
-    → ConditionReads plant k conditional.place.program conditional.text (Some (condition ∷ [])) → k < 2 ^ 16
+    → ConditionReads plant k conditional.place.program conditional.text (Some (condition ∷ [])) → k < 65535
     → IsSaid plant k (BreakIf conditional.place.program conditional.place.point (record { 0 = k }), raw) (condition ∷ []) words
 when_said plant k conditional raw words condition small one none is reads few =
     let says : said_of plant (line_text raw words) ≡ When conditional raw =
@@ -90,7 +90,7 @@ when_said plant k conditional raw words condition small one none is reads few =
       says = subst (λ (s : ScriptSaid). LineReads plant k s (Some read)) (sym says) (Some (condition ∷ []), reads, numbered);
     }
   where
-    below : (k : ℕ) → k < 2 ^ 16 → nat_lt k 65536 ≡ true
+    below : (k : ℕ) → k < 65535 → nat_lt k 65535 ≡ true
     below k few = grind (arith, nat_tests)
 
 -- ---- words
@@ -264,10 +264,10 @@ module _ (plant : PlantData) (p : ProgId) (text : List ℕ) where
 -- ---- orders
 
 -- what was accepted with the longer table has a number for its condition
-waited : (w : Verdict) (n m : ℕ) → IsOk (cond (nat_lt n m) w (Err NoSuchCondition)) → (n < m) × IsOk w
-waited w n m = by (nat_lt n m) refl
+waited : (w : Verdict) (r : Refusal) (n m : ℕ) → IsOk (cond (nat_lt n m) w (Err r)) → (n < m) × IsOk w
+waited w r n m = by (nat_lt n m) refl
   where
-    by : (b : Bool) → nat_lt n m ≡ b → IsOk (cond b w (Err NoSuchCondition)) → (n < m) × IsOk w
+    by : (b : Bool) → nat_lt n m ≡ b → IsOk (cond b w (Err r)) → (n < m) × IsOk w
     by true test ok = (grind (arith, nat_tests), ok)
     by false test ok = absurd (search rules)
 
@@ -298,7 +298,7 @@ condition_says st h conditional raw words condition conditions says reads ok =
     let point : Point = conditional.place.point in
     let longer : Steered = with_one_more st condition in
     let timed : TimedCommand = waiting st (point, raw) condition in
-    let granted = waited ((debugger_of longer).verdict h timed) (length st.table) (2 ^ 16) ok in
+    let granted = waited ((debugger_of longer).verdict h timed) _ (length st.table) 65535 ok in
     let at = reads_at st.plant p conditional.text (length st.table) condition conditions reads in
     subst (λ (q : ProgId). IsSaid st.plant (length st.table) (BreakIf q point (record { 0 = length st.table }), raw) (condition ∷ []) words)
     (sym at.1)

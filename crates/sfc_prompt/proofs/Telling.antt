@@ -4,14 +4,14 @@ use Rattle.std.specs.Prelude.{IsOk, OnOk}
 use Rattle.std.proofs.lemmas.List.{append-nil, length-append}
 use Rattle.sfc_events.specs.declared.command.Command.TheVariants.{BreakIf}
 use Rattle.sfc_events.specs.declared.command.Point.{Point}
-use Rattle.sfc_debug.specs.declared.break_condition.BreakCondition.{BreakCondition}
-use Rattle.sfc_debug.specs.Histories.{CommandHistory, TimedCommand}
-use Rattle.sfc_debug.specs.Verdict.{history_by}
-use Rattle.sfc_output.specs.Steered.{Steered}
+use Rattle.sfc_asking.specs.sfc_debug.declared.break_condition.BreakCondition.{BreakCondition}
+use Rattle.sfc_asking.specs.sfc_debug.Histories.{CommandHistory, TimedCommand}
+use Rattle.sfc_asking.specs.sfc_debug.Verdict.{history_by}
+use Rattle.sfc_asking.specs.sfc_debug.Steered.{Steered}
 use Rattle.sfc_plant.specs.Plants.{PlantData}
-use Rattle.sfc_script.specs.Commands.{Conditional}
-use Rattle.sfc_script.specs.Scripts.{ConditionReads}
-use Rattle.sfc_monitor.specs.Output.{Verdict, command_lines, debugger_of, text_of}
+use Rattle.sfc_asking.specs.sfc_script.Commands.{Conditional}
+use Rattle.sfc_asking.specs.sfc_script.Scripts.{ConditionReads}
+use Rattle.sfc_asking.specs.sfc_output.Output.{Verdict, command_lines, debugger_of, text_of}
 use Rattle.sfc_session.specs.declared.session.Session.{Session}
 use Rattle.sfc_prompt.specs.Orders.{BreaksBy, IsShown, Obeys, Order, Gives, Waits, Shows}
 use Rattle.sfc_prompt.specs.Pieces.{Piece, Accepted, Other, piece_text, written, history_after, said, saved, added, AreNamed, AreSaid, IsSaid}

@@ -4,10 +4,10 @@ use Rattle.std.specs.List.{AllByRecursion}
 use Rattle.std.specs.Prelude.{if◌then◌else◌, reverse}
 use Rattle.std.proofs.lemmas.List.{reverse-append}
 use Rattle.sfc_tokens.specs.Lexing.DurationWords.{duration_value}
-use Rattle.sfc_script.specs.Arriving.{is_lf}
-use Rattle.sfc_script.specs.Commands.{begins_comment}
-use Rattle.sfc_script.specs.Lines.{first_word, is_blank, is_one_line, split_before}
-use Rattle.sfc_script.proofs.PlainInstants.{ArePlain}
+use Rattle.sfc_asking.specs.sfc_script.Arriving.{is_lf}
+use Rattle.sfc_asking.specs.sfc_script.Commands.{begins_comment}
+use Rattle.sfc_asking.specs.sfc_script.Lines.{first_word, is_blank, is_one_line, split_before}
+use Rattle.sfc_asking.proofs.of_sfc_script.PlainInstants.{ArePlain}
 use Rattle.sfc_prompt.specs.declared.line.Word.{Word}
 use Rattle.sfc_prompt.specs.Lines.{Said, Nothing, Remark, Says, Asks, line_said, own_word, said_behind, said_by}
 use Rattle.sfc_prompt.specs.Words.{before_lf, from_end, from_word, is_ending, trimmed}

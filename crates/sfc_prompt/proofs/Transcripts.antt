@@ -3,15 +3,15 @@ use Rattle.std.proofs.Common.{◌≡◌, ◌∙◌, refl, sym, ap, subst, ℕ, s
 use Rattle.std.specs.Prelude.{MatchBool, reverse}
 use Rattle.std.proofs.lemmas.Bool.Decides.{nat_tests}
 use Rattle.std.proofs.lemmas.List.{append-nil, reverse-append, reverse-reverse}
-use Rattle.sfc_debug.specs.Histories.{CommandHistory, TimedCommand}
-use Rattle.sfc_output.specs.Steered.{Steered}
+use Rattle.sfc_asking.specs.sfc_debug.Histories.{CommandHistory, TimedCommand}
+use Rattle.sfc_asking.specs.sfc_debug.Steered.{Steered}
 use Rattle.sfc_plant.specs.Plants.{PlantData}
-use Rattle.sfc_load.specs.Accepted.{IsAccepted}
-use Rattle.sfc_script.specs.Lines.{lines_of}
-use Rattle.sfc_script.specs.Scripts.{LinesRead, ScriptData, ScriptReads}
-use Rattle.sfc_script.proofs.TimedLines.{in_front}
-use Rattle.sfc_monitor.specs.Output.{closing_lines, commands_lines, debugger_of, lines_of_play, session_after, text_of}
-use Rattle.sfc_monitor.specs.Replay.{played_on}
+use Rattle.sfc_asking.specs.sfc_load.Accepted.{IsAccepted}
+use Rattle.sfc_asking.specs.sfc_script.Lines.{lines_of}
+use Rattle.sfc_asking.specs.sfc_script.Scripts.{LinesRead, ScriptData, ScriptReads}
+use Rattle.sfc_asking.proofs.of_sfc_script.TimedLines.{in_front}
+use Rattle.sfc_asking.specs.sfc_output.Output.{closing_lines, commands_lines, debugger_of, lines_of_play, session_after, text_of}
+use Rattle.sfc_replay.specs.Replay.{played_on}
 use Rattle.sfc_session.specs.declared.session.Session.{Session}
 use Rattle.sfc_session.specs.Sessions.{script_in, script_line, steered_in}
 use Rattle.sfc_prompt.specs.Pieces.{Piece, Accepted, Other, added, commands, history_after, saved, line_text, AreSaid}

@@ -4,7 +4,7 @@ use Rattle.std.proofs.lemmas.List.{append-nil}
 use Rattle.std.specs.Io.KnownBytes.{Appends}
 use Rattle.sfc_base.specs.Writing.{AppendsFront, Writes}
 use Rattle.sfc_base.proofs.Written.{Appends-none, Appends-more, front_second}
-use Rattle.sfc_debug.specs.Histories.{CommandHistory}
+use Rattle.sfc_asking.specs.sfc_debug.Histories.{CommandHistory}
 use Rattle.sfc_session.specs.declared.session.Session.{Session}
 use Rattle.sfc_prompt.specs.Desks.{Told, BreaksOff, Tells}
 use Rattle.sfc_prompt.specs.Pieces.{history_after, said}

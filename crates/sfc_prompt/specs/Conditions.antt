@@ -1,8 +1,8 @@
 -- What a text is as a condition.
 use Rattle.std.specs.Prelude.{◌≡◌, List, [], ◌∷◌, Option, Some, None, Result, Ok, Err}
-use Rattle.sfc_conditions.specs.declared.condition_error.ConditionError.{ConditionError}
-use Rattle.sfc_conditions.specs.declared.condition_error.ConditionError.TheVariants as error
-use Rattle.sfc_debug.specs.declared.break_condition.BreakCondition.{BreakCondition}
+use Rattle.sfc_asking.specs.sfc_script.declared.condition_error.ConditionError.{ConditionError}
+use Rattle.sfc_asking.specs.sfc_script.declared.condition_error.ConditionError.TheVariants as error
+use Rattle.sfc_asking.specs.sfc_debug.declared.break_condition.BreakCondition.{BreakCondition}
 use Rattle.sfc_prompt.specs.declared.expression.Found.{Found}
 use Rattle.sfc_prompt.specs.declared.expression.Found.TheVariants.{Condition, NoProgram, Faulty}
 

@@ -6,14 +6,14 @@ use Rattle.sfc_base.specs.Case.{same_word}
 use Rattle.sfc_base.specs.declared.ids.ProgId.{ProgId}
 use Rattle.sfc_plant.specs.Finding.{instance_named}
 use Rattle.sfc_plant.specs.Plants.{PlantData}
-use Rattle.sfc_debug.specs.declared.break_condition.BreakCondition.{BreakCondition}
-use Rattle.sfc_debug.specs.Histories.{CommandHistory}
-use Rattle.sfc_debug.specs.Hits.{environment_after, is_met}
-use Rattle.sfc_output.specs.Steered.{Steered}
-use Rattle.sfc_monitor.specs.Output.{debugger_of, plant_state}
-use Rattle.sfc_script.specs.Lines.{first_word, only_word}
-use Rattle.sfc_script.specs.Scripts.{ConditionReads}
-use Rattle.sfc_script.specs.Values.{decimal_of, limited}
+use Rattle.sfc_asking.specs.sfc_debug.declared.break_condition.BreakCondition.{BreakCondition}
+use Rattle.sfc_asking.specs.sfc_debug.Histories.{CommandHistory}
+use Rattle.sfc_asking.specs.sfc_debug.Hits.{environment_after, is_met}
+use Rattle.sfc_asking.specs.sfc_debug.Steered.{Steered}
+use Rattle.sfc_asking.specs.sfc_output.Output.{debugger_of, plant_state}
+use Rattle.sfc_asking.specs.sfc_script.Lines.{first_word, only_word}
+use Rattle.sfc_asking.specs.sfc_script.Scripts.{ConditionReads}
+use Rattle.sfc_asking.specs.sfc_script.Values.{decimal_of, limited}
 use Rattle.sfc_session.specs.declared.step.Step.{Step}
 use Rattle.sfc_session.specs.declared.step.Step.TheVariants as steps
 use Rattle.sfc_prompt.specs.declared.course.Course.{Course}

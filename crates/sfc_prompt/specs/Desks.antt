@@ -2,7 +2,7 @@
 use Rattle.std.specs.Prelude.{ℕ, List, Option, Result, Ok, Err}
 use Rattle.std.specs.Io.KnownBytes.{Appends}
 use Rattle.sfc_base.specs.Writing.{AppendsFront}
-use Rattle.sfc_debug.specs.Histories.{CommandHistory}
+use Rattle.sfc_asking.specs.sfc_debug.Histories.{CommandHistory}
 use Rattle.sfc_session.specs.declared.session.Session.{Session}
 use Rattle.sfc_session.specs.Sessions.{HasSaid, script_in, steered_in}
 use Rattle.sfc_prompt.specs.Transcripts.{HasGoneOn}

@@ -3,8 +3,8 @@ use Rattle.std.specs.Prelude.{ℕ, if◌then◌else◌, List, codes, ℤ, Option
 use Rattle.std.specs.Option.{option_or}
 use Rattle.sfc_base.specs.Case.{same_word}
 use Rattle.sfc_tokens.specs.Lexing.DurationWords.{duration_value}
-use Rattle.sfc_script.specs.Commands.{begins_comment}
-use Rattle.sfc_script.specs.Lines.{first_word}
+use Rattle.sfc_asking.specs.sfc_script.Commands.{begins_comment}
+use Rattle.sfc_asking.specs.sfc_script.Lines.{first_word}
 use Rattle.sfc_prompt.specs.declared.line.Line.{Line}
 use Rattle.sfc_prompt.specs.declared.line.Line.TheVariants as line
 use Rattle.sfc_prompt.specs.declared.line.Word.{Word}

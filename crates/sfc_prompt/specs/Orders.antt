@@ -4,12 +4,12 @@ use Rattle.sfc_base.specs.declared.ids.TaskId.{TaskId}
 use Rattle.sfc_plant.specs.Plants.{PlantData}
 use Rattle.sfc_events.specs.declared.command.Command.{Command}
 use Rattle.sfc_events.specs.declared.command.Command.TheVariants.{BreakIf, Scan}
-use Rattle.sfc_debug.specs.declared.break_condition.BreakCondition.{BreakCondition}
-use Rattle.sfc_debug.specs.Histories.{CommandHistory, TimedCommand}
-use Rattle.sfc_output.specs.Steered.{Steered}
-use Rattle.sfc_script.specs.Commands.{Conditional, command_of, conditional_of}
-use Rattle.sfc_script.specs.Scripts.{ConditionReads}
-use Rattle.sfc_monitor.specs.Output.{Verdict}
+use Rattle.sfc_asking.specs.sfc_debug.declared.break_condition.BreakCondition.{BreakCondition}
+use Rattle.sfc_asking.specs.sfc_debug.Histories.{CommandHistory, TimedCommand}
+use Rattle.sfc_asking.specs.sfc_debug.Steered.{Steered}
+use Rattle.sfc_asking.specs.sfc_script.Commands.{Conditional, command_of, conditional_of}
+use Rattle.sfc_asking.specs.sfc_script.Scripts.{ConditionReads}
+use Rattle.sfc_asking.specs.sfc_output.Output.{Verdict}
 use Rattle.sfc_session.specs.declared.session.Session.{Session}
 use Rattle.sfc_session.specs.declared.step.Step.{Step}
 use Rattle.sfc_session.specs.declared.step.Step.TheVariants as steps

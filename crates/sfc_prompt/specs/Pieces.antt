@@ -6,11 +6,11 @@ use Rattle.sfc_base.specs.TimeText.{time_text}
 use Rattle.sfc_plant.specs.Finding.{task_named}
 use Rattle.sfc_plant.specs.Names.{task_name}
 use Rattle.sfc_plant.specs.Plants.{PlantData}
-use Rattle.sfc_debug.specs.declared.break_condition.BreakCondition.{BreakCondition}
-use Rattle.sfc_debug.specs.Histories.{CommandHistory, TimedCommand}
-use Rattle.sfc_script.specs.Commands.{said_of}
-use Rattle.sfc_script.specs.Lines.{is_one_line}
-use Rattle.sfc_script.specs.Scripts.{LineReads}
+use Rattle.sfc_asking.specs.sfc_debug.declared.break_condition.BreakCondition.{BreakCondition}
+use Rattle.sfc_asking.specs.sfc_debug.Histories.{CommandHistory, TimedCommand}
+use Rattle.sfc_asking.specs.sfc_script.Commands.{said_of}
+use Rattle.sfc_asking.specs.sfc_script.Lines.{is_one_line}
+use Rattle.sfc_asking.specs.sfc_script.Scripts.{LineReads}
 use Rattle.sfc_session.specs.Sessions.{script_line}
 
 -- a piece of it

@@ -1,10 +1,10 @@
 -- What a session has written: pieces of which those of accepted commands are what a replay writes for them, and a script that says them.
 use Rattle.std.specs.Prelude.{◌≡◌, ℕ, List, [], ◌++◌, length, reverse}
 use Rattle.sfc_plant.specs.Plants.{PlantData}
-use Rattle.sfc_debug.specs.Histories.{CommandHistory}
-use Rattle.sfc_output.specs.Steered.{Steered}
-use Rattle.sfc_monitor.specs.Output.{closing_lines, commands_lines, debugger_of, session_after, text_of}
-use Rattle.sfc_monitor.specs.Replay.{IsOutput}
+use Rattle.sfc_asking.specs.sfc_debug.Histories.{CommandHistory}
+use Rattle.sfc_asking.specs.sfc_debug.Steered.{Steered}
+use Rattle.sfc_asking.specs.sfc_output.Output.{closing_lines, commands_lines, debugger_of, session_after, text_of}
+use Rattle.sfc_replay.specs.Replay.{IsOutput}
 use Rattle.sfc_session.specs.declared.session.Session.{Session}
 use Rattle.sfc_prompt.specs.Pieces.{Piece, written, history_after, said, saved, commands, added, AreNamed, AreSaid}
 use Rattle.sfc_session.specs.Sessions.{HasSaid, script_in, steered_in}

@@ -1,8 +1,8 @@
 -- Words of a line (our choice of format).
 use Rattle.std.specs.Prelude.{ℕ, ◌==◌, Bool, false, ◌||◌, if◌then◌else◌, List, [], ◌∷◌, reverse, Option, Some, None}
 use Rattle.sfc_base.specs.Case.{same_word}
-use Rattle.sfc_script.specs.Arriving.{is_lf}
-use Rattle.sfc_script.specs.Lines.{is_blank, only_word, split_before}
+use Rattle.sfc_asking.specs.sfc_script.Arriving.{is_lf}
+use Rattle.sfc_asking.specs.sfc_script.Lines.{is_blank, only_word, split_before}
 
 -- what stands before the first LF
 abbrev pub before_lf : List ℕ → List ℕ

@@ -1,9 +1,9 @@
 //! Steps that are taken one after the other: until a condition is TRUE, or so often.
 
 ghost use Rattle.std.specs.Prelude.{◌≡◌, ◌<◌, ◌-◌, true, IfOk, IsFalse, IsTrue, List, ℕ, MatchOption, None, OnOk, Option, Some};
-ghost use Rattle.sfc_debug.specs.Histories.{CommandHistory};
-ghost use Rattle.sfc_debug.specs.Hits.{is_met};
-ghost use Rattle.sfc_instance.specs.Views.{environment_in};
+ghost use Rattle.sfc_asking.specs.sfc_debug.Histories.{CommandHistory};
+ghost use Rattle.sfc_asking.specs.sfc_debug.Hits.{is_met};
+ghost use Rattle.sfc_asking.specs.sfc_instance.Views.{environment_in};
 ghost use Rattle.sfc_prompt.specs.declared.course.Course.{Course};
 ghost use Rattle.sfc_prompt.specs.Courses as courses;
 ghost use Rattle.sfc_prompt.specs.Courses.{BeginsUntil, asked, begun, holds_after, is_met_after, most, wanted_course};
@@ -12,18 +12,19 @@ ghost use Rattle.sfc_session.specs.declared.step.Step.TheVariants.{First};
 ghost use Rattle.sfc_session.specs.Sessions.{HasSaid, steered_in};
 
 use crate::expression::{Fault, Found, UNKNOWN_PROGRAM, read_condition};
-use crate::words::{first_word, from_word, only_word};
+use crate::sfc_debug::break_condition::BreakCondition;
+use crate::sfc_instance::laws::window;
+use crate::sfc_instance::program_view::ProgramView;
+use crate::sfc_script::number::magnitude;
+use crate::sfc_script::split::{first_word, only_word};
+use crate::words::from_word;
 use sfc_base::case::is_same_word;
 use sfc_base::ids::ProgId;
 use sfc_base::ticks::Ticks;
 use sfc_base::value::Value;
-use sfc_debug::break_condition::BreakCondition;
 use sfc_expr::eval::eval;
-use sfc_instance::laws::window;
-use sfc_instance::program_view::ProgramView;
-use sfc_output::append::{append, append_number};
+use sfc_page::append::{append, append_number};
 use sfc_plant::plant::Plant;
-use sfc_script::number::magnitude;
 use sfc_session::session::Session;
 use sfc_session::step::Step;
 use std::alloc::{AllocError, Global};

@@ -1,6 +1,6 @@
 //! Lines as they come from a reader.
 
-ghost use Rattle.std.specs.Prelude.{◌≡◌, ◌≤◌, [], length, IfOk, OnOk};
+ghost use Rattle.std.specs.Prelude.{◌≡◌, [], OnOk};
 ghost use Rattle.sfc_base.specs.Writing.{Writes};
 ghost use Rattle.sfc_prompt.specs.Desks.{Tells};
 ghost use Rattle.sfc_prompt.specs.Prompts.{session_in};
@@ -8,21 +8,19 @@ ghost use Rattle.sfc_prompt.specs.Prompts.{session_in};
 use crate::archive::Archive;
 use crate::course::MOST;
 use crate::prompt::{Flow, Prompt};
+use crate::sfc_debug::trace_mask::TraceMask;
 use sfc_base::write_fault::put_all;
-use sfc_monitor::chart::plant_of_text;
-use sfc_monitor::input::read_to_end;
-use sfc_monitor::monitor_error::MonitorError;
-use sfc_output::append::append;
-use sfc_script::arriving::ended_line;
+use sfc_page::append::append;
+use sfc_replay::arriving::ArrivingLines;
+use sfc_replay::input::read_to_end;
+use sfc_replay::opening::debugger_of_text;
+use sfc_replay::replay_error::ReplayError;
 use sfc_session::session::Session;
 use std::alloc::Global;
 use std::io::{Read, Write};
 
 /// The most bytes of a line.
 const LONGEST: usize = 1_048_576;
-
-/// How many bytes are asked for at a time.
-const PIECE: usize = 4096;
 
 /// Where answers go, and where scripts are kept.
 #[derive(Drop)]
@@ -50,7 +48,7 @@ struct Held<W: Write, A: Archive> {
 
 impl<W: Write, A: Archive> Held<W, A> {
     // Writes what waits, and flushes the writer.
-    fn pass(&mut self) -> Result<(), MonitorError>
+    fn pass(&mut self) -> Result<(), ReplayError>
         ensures session { session_in self.new.prompt ≡ session_in self.old.prompt }
         ensures empty { OnOk result (self.new.text.items ≡ []) }
         ensures written { Writes (W.contents self.old.w) (W.contents self.new.w) result self.old.text.items }
@@ -59,12 +57,12 @@ impl<W: Write, A: Archive> Held<W, A> {
         self.text.clear();
         match self.w.flush() {
             Ok(()) => Ok(()),
-            Err(_) => Err(MonitorError::Write),
+            Err(_) => Err(ReplayError::Write),
         }
     }
 
     // Takes the next of the steps that are under way, and writes its answer; whether more are under way.
-    fn step(&mut self) -> Result<bool, MonitorError>
+    fn step(&mut self) -> Result<bool, ReplayError>
         requires { self.old.text.items ≡ [] }
         ensures empty { OnOk result (self.new.text.items ≡ []) }
         ensures tells { Tells (session_in self.old.prompt) (session_in self.new.prompt) (W.contents self.old.w) (W.contents self.new.w) result }
@@ -75,7 +73,7 @@ impl<W: Write, A: Archive> Held<W, A> {
     }
 
     // Takes the steps that are under way, each answer written at once.
-    fn go_on(&mut self) -> Result<(), MonitorError>
+    fn go_on(&mut self) -> Result<(), ReplayError>
         requires { self.old.text.items ≡ [] }
         ensures empty { OnOk result (self.new.text.items ≡ []) }
         ensures tells { Tells (session_in self.old.prompt) (session_in self.new.prompt) (W.contents self.old.w) (W.contents self.new.w) result }
@@ -89,7 +87,7 @@ impl<W: Write, A: Archive> Held<W, A> {
     }
 
     // Answers a line.
-    fn answer(&mut self, line: &[u8]) -> Result<Flow, MonitorError>
+    fn answer(&mut self, line: &[u8]) -> Result<Flow, ReplayError>
         requires { self.old.text.items ≡ [] }
         ensures empty { OnOk result (self.new.text.items ≡ []) }
         ensures tells { Tells (session_in self.old.prompt) (session_in self.new.prompt) (W.contents self.old.w) (W.contents self.new.w) result }
@@ -100,7 +98,7 @@ impl<W: Write, A: Archive> Held<W, A> {
     }
 
     // Obeys a line.
-    fn obey(&mut self, line: &[u8]) -> Result<Flow, MonitorError>
+    fn obey(&mut self, line: &[u8]) -> Result<Flow, ReplayError>
         requires { self.old.text.items ≡ [] }
         ensures empty { OnOk result (self.new.text.items ≡ []) }
         ensures tells { Tells (session_in self.old.prompt) (session_in self.new.prompt) (W.contents self.old.w) (W.contents self.new.w) result }
@@ -111,7 +109,7 @@ impl<W: Write, A: Archive> Held<W, A> {
     }
 
     // Writes a text that answers nothing.
-    fn tell(&mut self, text: &[u8]) -> Result<(), MonitorError>
+    fn tell(&mut self, text: &[u8]) -> Result<(), ReplayError>
         requires { self.old.text.items ≡ [] }
         ensures empty { OnOk result (self.new.text.items ≡ []) }
         ensures tells { Tells (session_in self.old.prompt) (session_in self.new.prompt) (W.contents self.old.w) (W.contents self.new.w) result }
@@ -121,7 +119,7 @@ impl<W: Write, A: Archive> Held<W, A> {
     }
 
     // Obeys a line, or tells that it is too long.
-    fn take(&mut self, line: &[u8]) -> Result<Flow, MonitorError>
+    fn take(&mut self, line: &[u8]) -> Result<Flow, ReplayError>
         requires { self.old.text.items ≡ [] }
         ensures empty { OnOk result (self.new.text.items ≡ []) }
         ensures tells { Tells (session_in self.old.prompt) (session_in self.new.prompt) (W.contents self.old.w) (W.contents self.new.w) result }
@@ -135,7 +133,7 @@ impl<W: Write, A: Archive> Held<W, A> {
     }
 
     // Shows where to write, where somebody sits there.
-    fn invite(&mut self) -> Result<(), MonitorError>
+    fn invite(&mut self) -> Result<(), ReplayError>
         requires { self.old.text.items ≡ [] }
         ensures empty { OnOk result (self.new.text.items ≡ []) }
         ensures tells { Tells (session_in self.old.prompt) (session_in self.new.prompt) (W.contents self.old.w) (W.contents self.new.w) result }
@@ -146,41 +144,36 @@ impl<W: Write, A: Archive> Held<W, A> {
         self.tell(b"sfc> ")
     }
 
-    // Obeys each line that has its end, until the session ends; how many bytes are left behind these, and whether it goes on.
-    fn take_lines(&mut self, bytes: &[u8]) -> Result<(usize, Flow), MonitorError>
+    // Obeys each line that has its end, until the session ends; whether it goes on.
+    fn take_lines(&mut self, lines: &mut ArrivingLines) -> Result<Flow, ReplayError>
         requires { self.old.text.items ≡ [] }
-        ensures left { IfOk result (λ r. r.0 ≤ length bytes.now) }
         ensures empty { OnOk result (self.new.text.items ≡ []) }
         ensures tells { Tells (session_in self.old.prompt) (session_in self.new.prompt) (W.contents self.old.w) (W.contents self.new.w) result }
     {
-        let mut rest = bytes;
-        'lines: while let Some((line, behind)) = ended_line(rest) {
-            if self.take(line)? == Flow::Ends {
-                return Ok((behind.len(), Flow::Ends));
+        'lines: while let Some((line, behind)) = lines.first() {
+            let flow = self.take(line)?;
+            lines.keep(behind);
+            if flow == Flow::Ends {
+                return Ok(Flow::Ends);
             }
-            rest = behind;
         }
-        Ok((rest.len(), Flow::GoesOn))
+        Ok(Flow::GoesOn)
     }
 
-    // Obeys each line that a piece ends behind what waits.
-    fn take_piece(&mut self, waiting: &mut Vec<u8>, piece: &[u8]) -> Result<Flow, MonitorError>
-        requires { self.old.text.items ≡ [] }
-        ensures empty { OnOk result (self.new.text.items ≡ []) }
-        ensures tells { Tells (session_in self.old.prompt) (session_in self.new.prompt) (W.contents self.old.w) (W.contents self.new.w) result }
+    // Passes over the front of a line that is too long.
+    fn pass_over(&mut self, lines: &mut ArrivingLines)
+        ensures session { session_in self.new.prompt ≡ session_in self.old.prompt }
+        ensures text { self.new.text ≡ self.old.text }
+        ensures writer { self.new.w ≡ self.old.w }
     {
-        waiting.extend_from_slice(piece)?;
-        let (left, flow) = self.take_lines(waiting)?;
-        keep_last(waiting, left);
-        if waiting.len() > LONGEST {
-            waiting.clear();
+        if lines.waiting().len() > LONGEST {
+            lines.keep(0);
             self.is_cut = true;
         }
-        Ok(flow)
     }
 
     // Obeys the last line, where it has no end.
-    fn take_rest(&mut self, waiting: &[u8]) -> Result<(), MonitorError>
+    fn take_rest(&mut self, waiting: &[u8]) -> Result<(), ReplayError>
         requires { self.old.text.items ≡ [] }
         ensures empty { OnOk result (self.new.text.items ≡ []) }
         ensures tells { Tells (session_in self.old.prompt) (session_in self.new.prompt) (W.contents self.old.w) (W.contents self.new.w) result }
@@ -193,7 +186,7 @@ impl<W: Write, A: Archive> Held<W, A> {
     }
 
     // Ends the line on which somebody was shown where to write.
-    fn leave(&mut self) -> Result<(), MonitorError>
+    fn leave(&mut self) -> Result<(), ReplayError>
         requires { self.old.text.items ≡ [] }
         ensures empty { OnOk result (self.new.text.items ≡ []) }
         ensures tells { Tells (session_in self.old.prompt) (session_in self.new.prompt) (W.contents self.old.w) (W.contents self.new.w) result }
@@ -205,7 +198,7 @@ impl<W: Write, A: Archive> Held<W, A> {
     }
 
     // Obeys the last line, and leaves.
-    fn take_last(&mut self, waiting: &[u8]) -> Result<(), MonitorError>
+    fn take_last(&mut self, waiting: &[u8]) -> Result<(), ReplayError>
         requires { self.old.text.items ≡ [] }
         ensures empty { OnOk result (self.new.text.items ≡ []) }
         ensures tells { Tells (session_in self.old.prompt) (session_in self.new.prompt) (W.contents self.old.w) (W.contents self.new.w) result }
@@ -215,39 +208,27 @@ impl<W: Write, A: Archive> Held<W, A> {
     }
 }
 
-// Keeps so many bytes, the last ones.
-fn keep_last(bytes: &mut Vec<u8>, left: usize)
-    requires { left ≤ length bytes.old.items }
-{
-    let gone = bytes.len() - left;
-    bytes.copy_within(gone.., 0);
-    bytes.truncate(left);
-}
-
 // Obeys lines as they come, until the session or the reader ends.
 fn obey_pieces<S: Read, W: Write, A: Archive>(
     alloc: Global,
     held: &mut Held<W, A>,
-    lines: &mut S,
-) -> Result<(), MonitorError>
+    reader: &mut S,
+) -> Result<(), ReplayError>
     requires { held.old.text.items ≡ [] }
     ensures { Tells (session_in held.old.prompt) (session_in held.new.prompt) (W.contents held.old.w) (W.contents held.new.w) result }
 {
-    let mut waiting = Vec::new(alloc);
-    let mut piece = [0u8; PIECE];
+    let mut lines = ArrivingLines::new(alloc);
     'pieces: for _ in 0..u64::MAX {
         held.invite()?;
-        let Ok(count) = lines.read(&mut piece) else {
-            return Err(MonitorError::Read);
-        };
-        if count == 0 {
-            return held.take_last(&waiting);
+        if lines.take(reader, LONGEST)? == 0 {
+            break;
         }
-        if held.take_piece(&mut waiting, &piece[..count])? == Flow::Ends {
+        if held.take_lines(&mut lines)? == Flow::Ends {
             return Ok(());
         }
+        held.pass_over(&mut lines);
     }
-    held.take_last(&waiting)
+    held.take_last(lines.waiting())
 }
 
 /// Holds a session with the plant that the bytes of a chart are: reads lines as they come, and answers each at once, as `Prompt::obey`. It ends
@@ -261,10 +242,10 @@ pub fn hold<C: Read, S: Read, W: Write + Drop, A: Archive + Drop>(
     chart: &mut C,
     lines: &mut S,
     desk: Desk<W, A>,
-) -> Result<(), MonitorError> {
+) -> Result<(), ReplayError> {
     let text = read_to_end(alloc, chart)?;
-    let plant = plant_of_text(alloc, &text)?;
-    let session = Session::open(alloc, plant)?;
+    let debugger = debugger_of_text(alloc, &text, 1, TraceMask(0))?;
+    let session = Session::new(alloc, debugger);
     let Desk {
         answers,
         archive,

@@ -3,15 +3,15 @@
 ghost use Rattle.std.specs.Prelude.{◌≢◌, OnOk, IfOk};
 ghost use Rattle.sfc_prompt.specs.Conditions.{IsFound, added_by};
 ghost use Rattle.sfc_prompt.specs.Notes.{Adds};
-ghost use Rattle.sfc_script.specs.Scripts.{ConditionReads};
+ghost use Rattle.sfc_asking.specs.sfc_script.Scripts.{ConditionReads};
 ghost use Rattle.sfc_tokens.specs.declared.read_error.ReadErrorKind.TheVariants.{Memory};
 
+use crate::sfc_check::type_error::TypeError;
+use crate::sfc_debug::break_condition::BreakCondition;
+use crate::sfc_script::condition_error::ConditionError;
+use crate::sfc_script::conditions::condition_of;
 use sfc_base::ids::ProgId;
-use sfc_check::type_error::TypeError;
-use sfc_conditions::condition_error::ConditionError;
-use sfc_conditions::conditions::condition_of;
-use sfc_debug::break_condition::BreakCondition;
-use sfc_output::append::{append, append_number};
+use sfc_page::append::{append, append_number};
 use sfc_plant::plant::Plant;
 use sfc_text::read_expr::read_expr;
 use sfc_tokens::read_error::ReadErrorKind;

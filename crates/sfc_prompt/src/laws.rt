@@ -2,7 +2,7 @@
 
 ghost use Rattle.std.specs.Prelude.{◌≤◌, ℕ, List, [], length};
 ghost use Rattle.sfc_plant.specs.Plants.{PlantData};
-ghost use Rattle.sfc_load.specs.Accepted.{IsAccepted};
+ghost use Rattle.sfc_asking.specs.sfc_load.Accepted.{IsAccepted};
 ghost use Rattle.sfc_session.specs.declared.session.Session.{Session};
 ghost use Rattle.sfc_session.specs.Sessions.{script_in};
 ghost use Rattle.sfc_prompt.specs.Transcripts.{HasGoneOn, IsReplayed, IsTranscript, opened_on};

@@ -24,3 +24,6 @@ mod releases;
 mod showing;
 mod spoken;
 mod words;
+
+// What the crates above name through this one.
+pub use sfc_asking::{sfc_check, sfc_debug, sfc_instance, sfc_script};

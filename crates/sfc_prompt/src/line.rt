@@ -3,10 +3,11 @@
 ghost use Rattle.std.specs.Prelude.{◌≡◌};
 ghost use Rattle.sfc_prompt.specs.Lines as lines;
 ghost use Rattle.sfc_prompt.specs.Lines.{as_said, line_said};
-ghost use Rattle.sfc_script.specs.Commands as commands;
+ghost use Rattle.sfc_asking.specs.sfc_script.Commands as commands;
 ghost use Rattle.sfc_tokens.specs.Lexing.DurationWords.{duration_value};
 
-use crate::words::{before_lf, first_word, trimmed};
+use crate::sfc_script::split::first_word;
+use crate::words::{before_lf, trimmed};
 use sfc_base::case::is_same_word;
 use sfc_tokens::duration::duration;
 

@@ -11,7 +11,7 @@ use crate::line::{Line, Word, read_line};
 use crate::showing::shown;
 use crate::spoken::{Spoken, say};
 use sfc_asking::note::{append_named, append_note};
-use sfc_output::append::append;
+use sfc_page::append::append;
 use sfc_session::session::Session;
 use sfc_session::step::{Step, ends_steps, take};
 use std::alloc::{AllocError, Global};
@@ -58,7 +58,7 @@ impl Drop for Prompt {
 #[tactic(auto, unfolding(crate::specs::Prompts::session_in, crate::specs::Prompts::course_in, crate::specs::Prompts::last_in))]
 impl Prompt {
     ghost use Rattle.std.specs.Prelude.{List, ℕ};
-    ghost use Rattle.sfc_debug.specs.Histories.{CommandHistory};
+    ghost use Rattle.sfc_asking.specs.sfc_debug.Histories.{CommandHistory};
     ghost use Rattle.sfc_prompt.specs.declared.course.Course.{Course};
     ghost use Rattle.sfc_prompt.specs.Courses as courses;
     ghost use Rattle.sfc_prompt.specs.Courses.{Begins, BeginsUntil, IsBehindStep, asked, is_met_after, step_behind};

@@ -1,12 +1,12 @@
 //! When tasks are scanned next.
 
 ghost use Rattle.std.specs.Prelude.{List, ℕ};
-ghost use Rattle.sfc_debug.specs.Histories.{CommandHistory};
+ghost use Rattle.sfc_asking.specs.sfc_debug.Histories.{CommandHistory};
 ghost use Rattle.sfc_session.specs.Sessions.{HasSaid, Stays};
 
+use crate::sfc_debug::mode::Mode;
 use sfc_asking::release::Release;
 use sfc_base::ids::TaskId;
-use sfc_debug::mode::Mode;
 use sfc_events::command::{Answer, Command};
 use sfc_events::refusal::Refusal;
 use sfc_session::session::Session;

@@ -1,12 +1,13 @@
 //! The words that change nothing.
 
 ghost use Rattle.std.specs.Prelude.{List, ℕ};
-ghost use Rattle.sfc_debug.specs.Histories.{CommandHistory};
+ghost use Rattle.sfc_asking.specs.sfc_debug.Histories.{CommandHistory};
 ghost use Rattle.sfc_session.specs.Sessions.{HasSaid, Stays};
 
 use crate::line::Word;
 use crate::releases::releases;
-use crate::words::{first_word, is_empty, number, only_word};
+use crate::sfc_script::split::{first_word, only_word};
+use crate::words::{is_empty, number};
 use sfc_asking::explaining::append_explanation;
 use sfc_asking::help::append_help;
 use sfc_asking::image::append_image;
@@ -105,7 +106,7 @@ fn append_shown(
 {
     match word {
         Word::Show => show(alloc, session, out),
-        Word::Image => append_image(alloc, out, session.debugger().resource(), text),
+        Word::Image => append_image(out, session.debugger().resource(), text),
         Word::Points => append_points(alloc, out, session.debugger(), session.rows()),
         Word::Trace => trace(session, text, out),
         Word::List => { append_listing(alloc, out, session.debugger().resource().plant(), text) }

@@ -1,18 +1,19 @@
 //! Texts that should be commands of a script.
 
 ghost use Rattle.std.specs.Prelude.{◌≡◌, List, ℕ, IfOk, OnOk, unwrap_or};
-ghost use Rattle.sfc_debug.specs.Histories.{CommandHistory};
+ghost use Rattle.sfc_asking.specs.sfc_debug.Histories.{CommandHistory};
 ghost use Rattle.sfc_prompt.specs.Orders as orders;
 ghost use Rattle.sfc_prompt.specs.Orders.{Obeys, Waits, command_order, order_by, text_order, text_step};
 ghost use Rattle.sfc_session.specs.Sessions.{HasSaid, last_instant, steered_in};
-ghost use Rattle.sfc_script.specs.Private.Reading.{as_conditional};
+ghost use Rattle.sfc_asking.specs.sfc_script.Private.Reading.{as_conditional};
 
 use crate::expression::{Found, append_fault, read_condition};
+use crate::sfc_debug::timed::Timed;
+use crate::sfc_script::command::{Conditional, read_command, read_conditional};
 use crate::words::is_word;
 use sfc_asking::note::append_note;
 use sfc_base::ids::TaskId;
 use sfc_events::command::{Command, CondId};
-use sfc_script::command::{Conditional, read_command, read_conditional};
 use sfc_session::scanning::{scan, scan_first};
 use sfc_session::session::Session;
 use sfc_session::step::{Step, step_of};
@@ -66,7 +67,7 @@ fn give(
         }
         None => {
             let raw = instant_or_last(session, spoken.instant);
-            let _ = session.command(alloc, (command, raw), spoken.text, out)?;
+            let _ = session.command(alloc, Timed { command, raw }, spoken.text, out)?;
             Ok(())
         }
     }
@@ -93,7 +94,7 @@ fn place(
         }
         Found::NoProgram => {
             let command = Command::BreakIf(place.program, place.point, CondId(0));
-            let _ = session.command(alloc, (command, raw), spoken.text, out)?;
+            let _ = session.command(alloc, Timed { command, raw }, spoken.text, out)?;
             Ok(())
         }
         Found::Faulty(fault) => append_fault(out, fault),

@@ -1,18 +1,10 @@
 //! Words of a line.
 
-ghost use Rattle.std.specs.Prelude.{◌≡◌, Some, None, MatchOption};
+ghost use Rattle.std.specs.Prelude.{◌≡◌};
 ghost use Rattle.sfc_prompt.specs.Words as words;
-ghost use Rattle.sfc_script.specs.Lines as lines;
-ghost use Rattle.sfc_script.specs.Lines.{split_before};
 
+use crate::sfc_script::split::{is_blank, only_word, split_line};
 use sfc_base::case::is_same_word;
-
-// Whether the byte parts words.
-fn is_blank(byte: u8) -> bool
-    ensures { result ≡ lines.is_blank byte }
-{
-    byte == b' ' || byte == b'\t'
-}
 
 // Whether no text ends with the byte: a blank, or a CR.
 fn is_ending(byte: u8) -> bool
@@ -22,18 +14,10 @@ fn is_ending(byte: u8) -> bool
 }
 
 /// The bytes before the first LF.
-#[tactic(auto, unfolding(sfc_script::specs::Lines::split_before))]
 pub fn before_lf(bytes: &[u8]) -> &[u8]
     ensures { result.now ≡ words.before_lf bytes.now }
 {
-    let mut count = 0;
-    'all: for byte in bytes {
-        if *byte == b'\n' {
-            break;
-        }
-        count += 1;
-    }
-    let (line, _) = bytes.split_at(count);
+    let (line, _) = split_line(bytes);
     line
 }
 
@@ -70,47 +54,6 @@ pub fn trimmed(text: &[u8]) -> &[u8]
     ensures { result.now ≡ words.trimmed text.now }
 {
     without_end(from_word(text))
-}
-
-// The bytes before the first blank, and the rest.
-#[tactic(auto, unfolding(sfc_script::specs::Lines::split_before))]
-fn split_word(bytes: &[u8]) -> (&[u8], &[u8])
-    ensures { (result.0.now, result.1.now) ≡ split_before lines.is_blank bytes.now }
-{
-    let mut count = 0;
-    'all: for byte in bytes {
-        if is_blank(*byte) {
-            break;
-        }
-        count += 1;
-    }
-    bytes.split_at(count)
-}
-
-/// The first word, and what stands behind it; None where there are no words.
-pub fn first_word(text: &[u8]) -> Option<(&[u8], &[u8])>
-    ensures { MatchOption result (lines.first_word text.now ≡ None)
-        (λ w. lines.first_word text.now ≡ Some (w.0.now, w.1.now)) }
-{
-    let mut rest = text;
-    'blanks: while let Some((byte, after)) = rest.split_first() {
-        if !is_blank(*byte) {
-            return Some(split_word(rest));
-        }
-        rest = after;
-    }
-    None
-}
-
-/// The word of a text that has just one; None where it has none or more.
-pub fn only_word(text: &[u8]) -> Option<&[u8]>
-    ensures { MatchOption result (lines.only_word text.now ≡ None) (λ w. lines.only_word text.now ≡ Some w.now) }
-{
-    let (word, behind) = first_word(text)?;
-    if first_word(behind).is_some() {
-        return None;
-    }
-    Some(word)
 }
 
 /// Whether the text has no words.

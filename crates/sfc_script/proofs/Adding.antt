@@ -34,11 +34,11 @@ at_instant commands command z t e = ap (λ y. commands ++ (command, y) ∷ []) e
 
 -- ---- a breakpoint with a condition
 
-below : (k : ℕ) → k < 65536 → nat_lt k 65536 ≡ true
+below : (k : ℕ) → k < 65535 → nat_lt k 65535 ≡ true
 below k h = grind (arith, nat_tests)
 
 -- the breakpoint was put behind the commands, and its condition, if it is known, behind the others
-pub adds_breakpoint : (place : Place) (t z : ℤ) (condition : Option BreakCondition) (n k : ℕ) (old new : Script) → k ≡ length old.conditions.items → k < 65536 → z ≡ t
+pub adds_breakpoint : (place : Place) (t z : ℤ) (condition : Option BreakCondition) (n k : ℕ) (old new : Script) → k ≡ length old.conditions.items → k < 65535 → z ≡ t
     → new.commands.items ≡ old.commands.items ++ (BreakIf place.program place.point (record { 0 = k }), z) ∷ []
     → new.conditions.items ≡ old.conditions.items ++ option_to_list condition → AddsCondition place t condition n old new (Ok tt)
 adds_breakpoint place t z condition n k old new here small same e f =

@@ -1,7 +1,7 @@
-pub mod Actions
 pub mod Adding
-pub mod Charts
-pub mod Conditions
+-- tables of conditions that are made entry by entry
+pub mod ConditionTables
+pub mod ConditionTexts
 pub mod Decimals
 pub mod Digits
 pub mod FirstLines
@@ -12,3 +12,6 @@ pub mod PlainTimes
 pub mod Said
 pub mod Splits
 pub mod TimedLines
+-- What the crates above name through this one.
+pub use Rattle.sfc_load.proofs.of_sfc_check as of_sfc_check
+pub use Rattle.sfc_load.proofs.of_sfc_program as of_sfc_program

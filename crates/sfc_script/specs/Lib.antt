@@ -8,6 +8,8 @@ pub mod Values
 pub mod Names
 -- the points of a chart at which a breakpoint may stand
 pub mod Points
+-- which table of conditions a list of expressions is
+pub mod Conditions
 -- the commands: a keyword, and what stands behind it; what a line says
 pub mod Commands
 -- whole scripts
@@ -19,3 +21,9 @@ pub mod SessionLines
 pub mod Answers
 -- What private clauses cite.
 pub mod Private
+-- What the crates above name through this one.
+pub use Rattle.sfc_load.specs.sfc_check as sfc_check
+pub use Rattle.sfc_debug.specs.sfc_instance as sfc_instance
+pub use Rattle.sfc_load.specs as sfc_load
+pub use Rattle.sfc_load.specs.sfc_program as sfc_program
+pub use Rattle.sfc_load.specs.sfc_variables as sfc_variables

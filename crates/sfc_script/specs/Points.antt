@@ -1,5 +1,5 @@
 -- The points of a chart at which a breakpoint may stand: a step, a transition or an action (our choice of format).
-use Rattle.std.specs.Prelude.{ℕ, suc, ◌-◌, nat_lt, Bool, true, ◌&&◌, if◌then◌else◌, List, [], ◌∷◌, codes}
+use Rattle.std.specs.Prelude.{ℕ, ◌-◌, nat_lt, Bool, true, ◌&&◌, if◌then◌else◌, List, [], ◌∷◌, codes}
 use Rattle.std.specs.Prelude.{Option, Some, None, option_map, option_and_then, unwrap_or}
 use Rattle.sfc_base.specs.Case.{same_word}
 use Rattle.sfc_base.specs.Classes.{between}
@@ -7,15 +7,11 @@ use Rattle.sfc_base.specs.declared.ids.ActionNumber.{ActionNumber}
 use Rattle.sfc_base.specs.declared.ids.ProgId.{ProgId}
 use Rattle.sfc_base.specs.declared.ids.TransitionId.{TransitionId}
 use Rattle.sfc_base.specs.declared.references.StepId.{StepId}
-use Rattle.sfc_plant.specs.declared.association.Target.{Target}
-use Rattle.sfc_plant.specs.declared.association.Target.TheVariants.{Boolean, Declared}
-use Rattle.sfc_plant.specs.ElementNames.{step_place, transition_place}
-use Rattle.sfc_plant.specs.Finding.{chart_of}
+use Rattle.sfc_plant.specs.Finding.{chart_of, step_named, transition_named}
 use Rattle.sfc_plant.specs.InstanceSpaces.{space_of}
-use Rattle.sfc_plant.specs.Names.{variable_name, action_name}
 use Rattle.sfc_plant.specs.Plants.{PlantData}
-use Rattle.sfc_plant.specs.Spaces.{Space}
-use Rattle.sfc_tables.specs.Actions.{actions_of}
+use Rattle.sfc_debug.specs.sfc_tables.ActionNames.{action_named}
+use Rattle.sfc_debug.specs.sfc_tables.Actions.{actions_of}
 use Rattle.sfc_events.specs.declared.command.Point.{Point}
 use Rattle.sfc_events.specs.declared.command.Point.TheVariants.{Step, Transition, Action}
 use Rattle.sfc_script.specs.Lines.{first_word}
@@ -25,13 +21,9 @@ use Rattle.sfc_script.specs.Values.{decimal_of, limited}
 
 -- the step of a program instance with this name; else a number that no chart has
 abbrev pub step_of : PlantData → ProgId → List ℕ → StepId
-step_of plant p name = record { 0 = unwrap_or (step_place (chart_of plant p) name) 65535 }
+step_of plant p name = unwrap_or (step_named plant p name) (record { 0 = 65535 })
 
 -- ---- transitions
-
--- the transition of a program instance with this name; else a number that no chart has
-abbrev pub transition_named : PlantData → ProgId → List ℕ → TransitionId
-transition_named plant p name = record { 0 = unwrap_or (transition_place (chart_of plant p) name) 65535 }
 
 -- decimal digits alone
 abbrev pub are_digits : List ℕ → Bool
@@ -47,27 +39,24 @@ abbrev pub numbered_transition : List ℕ → Option TransitionId
 numbered_transition word = option_and_then counted_as (limited 65535 (decimal_of word))
 
 -- a word of digits alone is a number, and any other is a name
+abbrev pub find_transition : PlantData → ProgId → List ℕ → Option TransitionId
+find_transition plant p word = if are_digits word then numbered_transition word else transition_named plant p word
+
+-- a name that isn't found stands for a number that no chart has
 abbrev pub transition_of : PlantData → ProgId → List ℕ → Option TransitionId
 transition_of plant p word =
-    if are_digits word then numbered_transition word else Some (transition_named plant p word)
+    if are_digits word then numbered_transition word else
+    Some (unwrap_or (transition_named plant p word) (record { 0 = 65535 }))
 
 -- ---- actions
 
--- a Boolean action has the name of its variable
-abbrev pub target_name : Space → Target → List ℕ
-target_name space (Boolean v) = variable_name space v
-target_name space (Declared id) = action_name space id
+-- the first action of a program instance with this name, in the order of their numbers
+abbrev pub find_action : PlantData → ProgId → List ℕ → Option ActionNumber
+find_action plant p name = action_named (space_of plant p) (actions_of (chart_of plant p)) name
 
--- the number of the first of these actions that has the name, where the first of them has number n
-abbrev pub action_from : Space → List ℕ → ℕ → List Target → Option ℕ
-action_from space name n [] = None
-action_from space name n (target ∷ targets) =
-    if same_word name (target_name space target) then Some n else action_from space name (suc n) targets
-
--- the first action of a program instance with this name, in the order of their numbers; else a number that no chart has
+-- else a number that no chart has
 abbrev pub action_of : PlantData → ProgId → List ℕ → ActionNumber
-action_of plant p name =
-    record { 0 = unwrap_or (action_from (space_of plant p) name 0 (actions_of (chart_of plant p))) 65535 }
+action_of plant p name = unwrap_or (find_action plant p name) (record { 0 = 65535 })
 
 -- ---- points
 

@@ -9,8 +9,8 @@ use Rattle.sfc_text.specs.Trees.{Tree}
 use Rattle.sfc_events.specs.declared.command.Command.TheVariants.{BreakIf}
 use Rattle.sfc_debug.specs.declared.break_condition.BreakCondition.{BreakCondition}
 use Rattle.sfc_debug.specs.Histories.{TimedCommand}
-use Rattle.sfc_conditions.specs.Conditions as conditions
-use Rattle.sfc_conditions.specs.Conditions.{ConditionFault, condition_of}
+use Rattle.sfc_script.specs.Conditions as conditions
+use Rattle.sfc_script.specs.Conditions.{ConditionFault, condition_of}
 use Rattle.sfc_script.specs.Lines.{lines_of}
 use Rattle.sfc_script.specs.Commands.{Conditional, Said, Nothing, Plain, When, Wrong, said_of}
 
@@ -51,10 +51,10 @@ abbrev pub numbered : ℕ → Conditional → ℤ → List BreakCondition → Sc
 numbered k c t added =
     record { commands = (BreakIf c.place.program c.place.point (record { 0 = k }), t) ∷ []; table = added }
 
--- A number of a condition is below 65,536. No script has a line for each of these, since it has 1,048,576 bytes at most.
+-- A number of a condition is below 65,535. No script has a line for each of these, since it has 1,048,576 bytes at most.
 abbrev pub in_table : ℕ → Conditional → ℤ → Option (List BreakCondition) → Option ScriptData
 in_table k c t None = None
-in_table k c t (Some added) = if nat_lt k 65536 then Some (numbered k c t added) else None
+in_table k c t (Some added) = if nat_lt k 65535 then Some (numbered k c t added) else None
 
 -- what a line says behind others with k conditions; None where it is no command
 abbrev pub LineReads : PlantData → ℕ → Said → Option ScriptData → Type 0

@@ -1,18 +1,18 @@
 //! The commands of a script: a keyword, and what stands behind it on its line.
 
 ghost use Rattle.std.specs.Prelude.{◌≡◌, MatchOption, Some, None};
-ghost use Rattle.sfc_core.specs.Agreement.{plant_of};
+ghost use Rattle.sfc_debug.specs.sfc_core.Agreement.{plant_of};
 ghost use Rattle.sfc_script.specs.Commands as commands;
 ghost use Rattle.sfc_script.specs.Private.Reading.{as_conditional};
 
 use crate::names::{program_of, task_of, type_of, variable_of};
 use crate::point::{Place, first_place, only_place};
+use crate::sfc_core::resource::Resource;
 use crate::split::{first_word, only_word, two_words};
 use crate::value::value_of_word;
 use sfc_base::case::is_same_word;
 use sfc_base::ids::VarId;
 use sfc_base::value::Value;
-use sfc_core::resource::Resource;
 use sfc_events::command::Command;
 use sfc_plant::plant::Plant;
 use sfc_tokens::duration::duration;

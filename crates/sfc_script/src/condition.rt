@@ -5,9 +5,9 @@ ghost use Rattle.sfc_script.specs.Private.Adding as adding;
 ghost use Rattle.sfc_script.specs.Private.Reading.{as_conditional};
 
 use crate::command::Conditional;
+use crate::condition_error::ConditionError;
+use crate::conditions::condition_of;
 use crate::script::ScriptError;
-use sfc_conditions::condition_error::ConditionError;
-use sfc_conditions::conditions::condition_of;
 use sfc_debug::break_condition::BreakCondition;
 use sfc_plant::plant::Plant;
 use sfc_text::read_expr::read_expr;

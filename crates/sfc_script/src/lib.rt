@@ -4,6 +4,7 @@
 //! - `laws`: what the definitions mean.
 //! - `script`: whole scripts.
 //! - `condition`: the conditions of breakpoints, by their texts.
+//! - `conditions`: the table of conditions that a debugger is handed, of expressions; `condition_error`: why none is made.
 //! - `line`: a line: an instant, and what stands behind it.
 //! - `session_line`: a line of a session, which has no instant.
 //! - `command`: commands: a keyword, and what stands behind it.
@@ -17,14 +18,22 @@
 pub mod arriving;
 pub mod command;
 mod condition;
+pub mod condition_error;
+pub mod conditions;
 mod instant;
 pub mod laws;
 mod line;
 mod names;
 pub mod number;
-mod point;
+pub mod point;
 mod repeated;
 pub mod script;
 pub mod session_line;
-mod split;
+pub mod split;
 mod value;
+
+// What the crates above name through this one.
+pub use sfc_debug;
+pub use sfc_debug::{sfc_core, sfc_instance};
+pub use sfc_load;
+pub use sfc_load::{sfc_check, sfc_variables};

@@ -1,13 +1,13 @@
 //! Lines of a script.
 
 ghost use Rattle.std.specs.Prelude.{◌≡◌, Some};
-ghost use Rattle.sfc_core.specs.Agreement.{plant_of};
+ghost use Rattle.sfc_debug.specs.sfc_core.Agreement.{plant_of};
 ghost use Rattle.sfc_script.specs.Commands as commands;
 ghost use Rattle.sfc_script.specs.Private.Reading.{as_said};
 
 use crate::command::{Conditional, read_command, read_conditional};
+use crate::sfc_core::resource::Resource;
 use crate::split::first_word;
-use sfc_core::resource::Resource;
 use sfc_events::command::Command;
 use sfc_tokens::duration::duration;
 

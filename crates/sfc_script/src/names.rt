@@ -1,6 +1,6 @@
 //! Names of tasks, of program instances and of variables.
 
-ghost use Rattle.std.specs.Prelude.{◌≡◌, ◌<◌, length, IfSome};
+ghost use Rattle.std.specs.Prelude.{◌≡◌};
 ghost use Rattle.sfc_script.specs.Names as names;
 
 use sfc_base::ids::{ProgId, TaskId, VarId};
@@ -21,31 +21,12 @@ pub fn program_of(plant: &Plant, word: &[u8]) -> ProgId
     plant.find_instance(word).unwrap_or(ProgId(255))
 }
 
-// Where the first dot stands, if there is one.
-fn first_dot(word: &[u8]) -> Option<usize>
-    ensures place { result ≡ names.first_dot word.now }
-    ensures within { IfSome result (λ dot. dot < length word.now) }
-{
-    word.iter().position(|byte| *byte == b'.')
-}
-
-// The variable with this name, if there is one: a local variable where the name has a dot.
-fn find_variable(plant: &Plant, word: &[u8]) -> Option<VarId>
-    ensures { result ≡ names.variable_at_dot plant.now word.now (names.first_dot word.now) }
-{
-    let Some(dot) = first_dot(word) else {
-        return plant.find_variable(word);
-    };
-    let instance = plant.find_instance(&word[..dot])?;
-    plant.find_local(instance, &word[dot + 1..])
-}
-
 /// The variable with this name: `NAME` for a global, `INST.NAME` for a local of a program instance; else a number that
 /// no plant has.
 pub fn variable_of(plant: &Plant, word: &[u8]) -> VarId
     ensures { result ≡ names.variable_of plant.now word.now }
 {
-    find_variable(plant, word).unwrap_or(VarId(65535))
+    plant.find_variable(word).unwrap_or(VarId(65535))
 }
 
 /// The type of a variable, if there is one with this number.

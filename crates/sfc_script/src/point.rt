@@ -1,28 +1,19 @@
 //! Points of charts, at which breakpoints may stand.
 
-ghost use Rattle.std.specs.Prelude.{◌≡◌, ◌<◌, ◌≤◌, length, slice_get, Some, MatchOption, IfSome};
-ghost use Rattle.sfc_core.specs.Agreement.{plant_of};
-ghost use Rattle.sfc_base.specs.Case as case;
-ghost use Rattle.sfc_plant.specs.Finding as finding;
-ghost use Rattle.sfc_plant.specs.InstanceSpaces.{space_of};
-ghost use Rattle.sfc_tables.specs.Actions.{actions_of};
+ghost use Rattle.std.specs.Prelude.{◌≡◌, Some, None, MatchOption};
+ghost use Rattle.sfc_debug.specs.sfc_core.Agreement.{plant_of};
 ghost use Rattle.sfc_script.specs.Commands as commands;
 ghost use Rattle.sfc_script.specs.Points as points;
 
 use crate::names::program_of;
 use crate::number::magnitude;
+use crate::sfc_core::resource::Resource;
 use crate::split::first_word;
 use sfc_base::case::is_same_word;
 use sfc_base::ids::{ActionNumber, ProgId, TransitionId};
-use sfc_base::limits::{STEPS, TRANSITIONS};
 use sfc_base::references::StepId;
-use sfc_core::resource::Resource;
 use sfc_events::command::Point;
-use sfc_plant::association::Target;
-use sfc_plant::names::Names;
 use sfc_plant::plant::Plant;
-use sfc_plant::program_type::ProgramType;
-use sfc_tables::tables::Tables;
 
 /// The greatest number of a transition, counted from 1.
 const GREATEST_NUMBER: u64 = 65_535;
@@ -32,45 +23,6 @@ const GREATEST_NUMBER: u64 = 65_535;
 pub struct Place {
     pub program: ProgId,
     pub point: Point,
-}
-
-// The program type of this instance, if it is there.
-fn type_of_instance(plant: &Plant, program: ProgId) -> Option<&ProgramType>
-    ensures chart { MatchOption result (finding.chart_of plant.now program ≡ finding.chart_in None)
-        (λ program_type. finding.chart_of plant.now program ≡ program_type.now.chart) }
-    ensures limits { IfSome result (λ program_type. (length program_type.now.chart.steps ≤ STEPS)
-        × (length program_type.now.chart.transitions ≤ TRANSITIONS)) }
-{
-    let instance = plant.instances().get(program.0 as usize)?;
-    plant.types().get(instance.program.0)
-}
-
-// The step of a program instance with this name; else a number that no chart has.
-#[tactic(auto, using(crate::proofs::Charts::step_within))]
-fn step_of(plant: &Plant, program: ProgId, name: &[u8]) -> StepId
-    ensures { result ≡ points.step_of plant.now program name.now }
-{
-    let Some(program_type) = type_of_instance(plant, program) else {
-        return StepId(65535);
-    };
-    match program_type.find_step(name) {
-        Some(place) => StepId(place as u16),
-        None => StepId(65535),
-    }
-}
-
-// The transition of a program instance with this name; else a number that no chart has.
-#[tactic(auto, using(crate::proofs::Charts::transition_within))]
-fn transition_named(plant: &Plant, program: ProgId, name: &[u8]) -> TransitionId
-    ensures { result ≡ points.transition_named plant.now program name.now }
-{
-    let Some(program_type) = type_of_instance(plant, program) else {
-        return TransitionId(65535);
-    };
-    match program_type.find_transition(name) {
-        Some(place) => TransitionId(place as u16),
-        None => TransitionId(65535),
-    }
 }
 
 // Whether the word has decimal digits alone.
@@ -98,61 +50,54 @@ fn numbered_transition(word: &[u8]) -> Option<TransitionId>
     Some(TransitionId((number - 1) as u16))
 }
 
-// The transition of a program instance with this number or name.
-fn transition_of(plant: &Plant, program: ProgId, word: &[u8]) -> Option<TransitionId>
-    ensures { result ≡ points.transition_of plant.now program word.now }
+/// The transition of a program instance with this number, which is counted from 1, or with this name; case is not
+/// significant (2.1.2, 2.6.3). Whether the chart has one of that number is not asked. It takes no memory.
+pub fn find_transition(plant: &Plant, program: ProgId, word: &[u8]) -> Option<TransitionId>
+    ensures { result ≡ points.find_transition plant.now program word.now }
 {
     if are_digits(word) {
         numbered_transition(word)
     } else {
-        Some(transition_named(plant, program, word))
+        plant.find_transition(program, word)
     }
 }
 
-// Whether this action has the name.
-fn is_named(names: &Names<'_>, target: Target, name: &[u8]) -> bool
-    ensures { result ≡ case.same_word name.now (points.target_name names.now target) }
+/// The first action of a program instance with this name, in the order of their numbers; case is not significant (2.1.2,
+/// 2.6.4.1). It takes no memory.
+pub fn find_action(resource: &Resource, program: ProgId, name: &[u8]) -> Option<ActionNumber>
+    ensures { result ≡ points.find_action (plant_of resource.now) program name.now }
 {
-    match target {
-        Target::Boolean(variable) => is_same_word(name, names.variable(variable)),
-        Target::Declared(id) => is_same_word(name, names.action(id)),
+    let plant = resource.plant();
+    if program.0 as usize >= plant.instances().len() {
+        return None;
     }
+    let tables = resource.program(program).tables();
+    tables.find_action(&plant.names(program), name)
 }
 
-// The names in the program type of an instance of the plant.
-fn names_of(plant: &Plant, program: ProgId) -> Names<'_>
-    requires { program.0 < length plant.now.instances }
-    ensures { result ≡ space_of plant.now program }
+// The step of a program instance with this name; else a number that no chart has.
+fn step_of(plant: &Plant, program: ProgId, name: &[u8]) -> StepId
+    ensures { result ≡ points.step_of plant.now program name.now }
 {
-    let instance = &plant.instances()[program.0 as usize];
-    Names::new(plant.globals(), &plant.types()[instance.program.0])
+    plant.find_step(program, name).unwrap_or(StepId(65535))
 }
 
-// The number of the first of these actions that has the name.
-fn find_action(names: &Names<'_>, tables: &Tables, name: &[u8]) -> Option<usize>
-    ensures { result ≡ points.action_from names.now name.now 0 tables.now.actions }
+// The transition of a program instance with this number or name; for a name that isn't found a number that no chart has.
+fn transition_of(plant: &Plant, program: ProgId, word: &[u8]) -> Option<TransitionId>
+    ensures { result ≡ points.transition_of plant.now program word.now }
 {
-    'actions: for a in 0..tables.actions() {
-        if is_named(names, tables.target(ActionNumber(a)), name) {
-            return Some(a);
-        }
+    if are_digits(word) {
+        return numbered_transition(word);
     }
-    None
+    let named = plant.find_transition(program, word);
+    Some(named.unwrap_or(TransitionId(65535)))
 }
 
 // The first action of a program instance with this name; else a number that no chart has.
 fn action_of(resource: &Resource, program: ProgId, name: &[u8]) -> ActionNumber
     ensures { result ≡ points.action_of (plant_of resource.now) program name.now }
 {
-    let plant = resource.plant();
-    if program.0 as usize >= plant.instances().len() {
-        return ActionNumber(65535);
-    }
-    let tables = resource.program(program).tables();
-    match find_action(&names_of(plant, program), tables, name) {
-        Some(action) => ActionNumber(action),
-        None => ActionNumber(65535),
-    }
+    find_action(resource, program, name).unwrap_or(ActionNumber(65535))
 }
 
 // The point of a program instance that the word is behind this keyword.

@@ -1,13 +1,13 @@
 //! Commands that a script says again and again, at other instants.
 
 ghost use Rattle.std.specs.Prelude.{◌≡◌, ◌<◌, length, MatchOption, IfSome, Some, None};
-ghost use Rattle.sfc_core.specs.Agreement.{plant_of};
+ghost use Rattle.sfc_debug.specs.sfc_core.Agreement.{plant_of};
 ghost use Rattle.sfc_script.specs.Lines.{lines_of};
 ghost use Rattle.sfc_script.specs.Private.Repeating.{command_first, IsLast};
 
 use crate::command::read_command;
+use crate::sfc_core::resource::Resource;
 use crate::split::next_line;
-use sfc_core::resource::Resource;
 use sfc_events::command::Command;
 
 /// A command without a condition that was read.

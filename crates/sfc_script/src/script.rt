@@ -1,7 +1,7 @@
 //! Scripts.
 
 ghost use Rattle.std.specs.Prelude.{◌≡◌, ◌<◌, [], length, MatchOption};
-ghost use Rattle.sfc_core.specs.Agreement.{plant_of};
+ghost use Rattle.sfc_debug.specs.sfc_core.Agreement.{plant_of};
 ghost use Rattle.sfc_script.specs.declared.script.ScriptError.TheVariants.{Memory};
 ghost use Rattle.sfc_script.specs.Lines.{lines_of};
 ghost use Rattle.sfc_script.specs.Scripts.{LinesRead};
@@ -15,9 +15,10 @@ use crate::instant::instant;
 use crate::line::{Line, read_line};
 use crate::point::Place;
 use crate::repeated::{Repeated, command_behind};
+use crate::sfc_core::resource::Resource;
 use crate::split::next_line;
-use sfc_core::resource::Resource;
 use sfc_debug::break_condition::BreakCondition;
+use sfc_debug::timed::Timed;
 use sfc_events::command::{Command, CondId};
 use std::alloc::{AllocError, AllocFailed, Global};
 
@@ -28,7 +29,7 @@ const LONGEST: usize = 1_048_576;
 const COMMAND: usize = 20;
 
 /// The most conditions of a script. None is long enough for more, since each has a line of its own.
-const CONDITIONS: usize = 65_536;
+const CONDITIONS: usize = 65_535;
 
 /// Why a script was refused.
 #[derive(Clone, Copy, Debug, PartialEq, Eq)]
@@ -59,7 +60,7 @@ impl<T: Drop> From<AllocFailed<T>> for ScriptError {
 #[derive(Debug)]
 pub struct Script {
     /// The commands, with their instants in microseconds.
-    pub commands: Vec<(Command, i64)>,
+    pub commands: Vec<Timed>,
     /// The conditions of breakpoints. The `CondId` of a breakpoint is the place of its condition here, from 0. Where the
     /// program instance of a breakpoint isn't there, its condition isn't either.
     pub conditions: Vec<BreakCondition>,
@@ -77,7 +78,7 @@ impl Drop for Script {
 
 impl Script {
     /// The commands, and the conditions.
-    pub fn into_parts(self) -> (Vec<(Command, i64)>, Vec<BreakCondition>)
+    pub fn into_parts(self) -> (Vec<Timed>, Vec<BreakCondition>)
         ensures commands { result.0 ≡ self.commands }
         ensures conditions { result.1 ≡ self.conditions }
     {
@@ -103,7 +104,7 @@ impl Script {
             return Err(ScriptError::Faulty(number));
         }
         let command = Command::BreakIf(place.program, place.point, CondId(id as u16));
-        self.commands.push((command, t))?;
+        self.commands.push(Timed { command, raw: t })?;
         if let Some(condition) = condition {
             self.conditions.push(condition)?;
         }
@@ -123,7 +124,7 @@ impl Script {
         match line {
             Line::Skipped => Ok(()),
             Line::Plain(command, t) => {
-                self.commands.push((command, t))?;
+                self.commands.push(Timed { command, raw: t })?;
                 Ok(())
             }
             Line::When(conditional, t) => {

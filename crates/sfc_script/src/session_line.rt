@@ -1,13 +1,13 @@
 //! Lines of a session, which have no instants.
 
 ghost use Rattle.std.specs.Prelude.{◌≡◌};
-ghost use Rattle.sfc_core.specs.Agreement.{plant_of};
+ghost use Rattle.sfc_debug.specs.sfc_core.Agreement.{plant_of};
 ghost use Rattle.sfc_script.specs.SessionLines as sessions;
 
 use crate::command::read_command;
 use crate::line::begins_comment;
+use crate::sfc_core::resource::Resource;
 use crate::split::first_word;
-use sfc_core::resource::Resource;
 use sfc_events::command::Command;
 
 /// What a line of a session is.

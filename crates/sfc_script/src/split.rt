@@ -8,7 +8,8 @@ ghost use Rattle.sfc_script.specs.Lines.{split_before};
 ghost use Rattle.sfc_script.specs.Private.Splitting as splitting;
 ghost use Rattle.sfc_script.specs.Private.Splitting.{IsLine};
 
-fn is_blank(byte: u8) -> bool
+/// Whether the byte is a space or a tab, which part words.
+pub fn is_blank(byte: u8) -> bool
     ensures { result ≡ lines.is_blank byte }
 {
     byte == b' ' || byte == b'\t'

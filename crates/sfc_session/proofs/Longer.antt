@@ -9,21 +9,21 @@ use Rattle.sfc_plant.specs.Plants.{PlantData}
 use Rattle.sfc_events.specs.declared.command.Command.{Command}
 use Rattle.sfc_events.specs.declared.command.Command.TheVariants as commands
 use Rattle.sfc_events.specs.declared.refusal.Refusal.TheVariants.{NoSuchCondition}
-use Rattle.sfc_instance.specs.Life.{InstanceState}
-use Rattle.sfc_debug.specs.declared.break_condition.BreakCondition.{BreakCondition}
-use Rattle.sfc_debug.specs.Histories.{CommandHistory, TimedCommand}
-use Rattle.sfc_debug.specs.Hits.{shown_condition}
-use Rattle.sfc_debug.specs.Longer.{IsNamedWithin, NamesWithin}
-use Rattle.sfc_debug.specs.Meaning.{IsAccepted}
-use Rattle.sfc_debug.specs.States.{DebugState, state_of}
-use Rattle.sfc_debug.specs.Verdict.{verdict, history_by, is_condition_of, own_refusal, point_refusal, condition_refusal, room_refusal}
-use Rattle.sfc_core.specs.Verdict.{or_then}
-use Rattle.sfc_debug.proofs.Accepting.{neither, not_refused, own_granted, by_itself}
-use Rattle.sfc_debug.proofs.Longer.{state_same, verdict_same}
+use Rattle.sfc_output.specs.sfc_instance.Life.{InstanceState}
+use Rattle.sfc_output.specs.sfc_debug.declared.break_condition.BreakCondition.{BreakCondition}
+use Rattle.sfc_output.specs.sfc_debug.Histories.{CommandHistory, TimedCommand}
+use Rattle.sfc_output.specs.sfc_debug.Hits.{shown_condition}
+use Rattle.sfc_output.specs.sfc_debug.Longer.{IsNamedWithin, NamesWithin}
+use Rattle.sfc_output.specs.sfc_debug.Meaning.{IsAccepted}
+use Rattle.sfc_output.specs.sfc_debug.States.{DebugState, state_of}
+use Rattle.sfc_output.specs.sfc_debug.Verdict.{verdict, history_by, is_condition_of, own_refusal, point_refusal, condition_refusal, room_refusal}
+use Rattle.sfc_output.specs.sfc_core.Verdict.{or_then}
+use Rattle.sfc_output.proofs.of_sfc_debug.Accepting.{neither, not_refused, own_granted, by_itself}
+use Rattle.sfc_output.proofs.of_sfc_debug.Longer.{state_same, verdict_same}
 use Rattle.sfc_output.specs.Commands.{answer_lines, answer_text, command_line, command_text, condition_text, place_text, program_lines}
-use Rattle.sfc_output.specs.Steered.{Steered}
-use Rattle.sfc_output.specs.Values.{line_end}
-use Rattle.sfc_monitor.specs.Output.{Verdict, command_lines, debugger_of, plant_state, text_of}
+use Rattle.sfc_output.specs.sfc_debug.Steered.{Steered}
+use Rattle.sfc_page.specs.Values.{line_end}
+use Rattle.sfc_output.specs.Output.{Verdict, command_lines, debugger_of, plant_state, text_of}
 use Rattle.sfc_session.specs.Sessions.{history_lines}
 
 -- ---- accepted commands name conditions of the table

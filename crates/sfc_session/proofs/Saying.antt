@@ -2,12 +2,12 @@
 use Rattle.std.proofs.Common.{◌≡◌, ◌∙◌, refl, sym, ap, subst, ℕ, List, [], ◌∷◌, ◌++◌, length, append_assoc, Ok, Err, rules}
 use Rattle.std.specs.Prelude.{IsOk, is_ok, reverse, IfOk, OnErr}
 use Rattle.std.proofs.lemmas.List.{append-nil, reverse-append}
-use Rattle.sfc_debug.specs.Agreement.{Agrees}
-use Rattle.sfc_debug.specs.Histories.{CommandHistory, TimedCommand}
-use Rattle.sfc_debug.specs.Meaning.{IsAccepted}
-use Rattle.sfc_debug.specs.Verdict.{verdict, history_by}
-use Rattle.sfc_output.specs.Steered.{Steered}
-use Rattle.sfc_monitor.specs.Output.{Verdict, command_lines, commands_lines, debugger_of, session_after, text_of}
+use Rattle.sfc_output.specs.sfc_debug.Agreement.{Agrees}
+use Rattle.sfc_output.specs.sfc_debug.Histories.{CommandHistory, TimedCommand}
+use Rattle.sfc_output.specs.sfc_debug.Meaning.{IsAccepted}
+use Rattle.sfc_output.specs.sfc_debug.Verdict.{verdict, history_by}
+use Rattle.sfc_output.specs.sfc_debug.Steered.{Steered}
+use Rattle.sfc_output.specs.Output.{Verdict, command_lines, commands_lines, debugger_of, session_after, text_of}
 use Rattle.sfc_session.specs.declared.session.Session.{Session}
 use Rattle.sfc_session.specs.Sessions.{HasSaid, count_in, debugger_in, history_lines, instant_in, steered_in, with_lines}
 

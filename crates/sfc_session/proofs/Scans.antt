@@ -3,9 +3,9 @@ use Rattle.std.proofs.Common.{◌≡◌, ◌∙◌, refl, sym, ap, ℕ, List, �
 use Rattle.std.proofs.Math.Seq.{take-append_seam}
 use Rattle.sfc_base.specs.declared.ids.TaskId.{TaskId}
 use Rattle.sfc_events.specs.declared.command.Command.TheVariants.{Scan}
-use Rattle.sfc_debug.specs.Histories.{CommandHistory}
-use Rattle.sfc_output.specs.Steered.{Steered}
-use Rattle.sfc_monitor.specs.Output.{Verdict, debugger_of}
+use Rattle.sfc_output.specs.sfc_debug.Histories.{CommandHistory}
+use Rattle.sfc_output.specs.sfc_debug.Steered.{Steered}
+use Rattle.sfc_output.specs.Output.{Verdict, debugger_of}
 use Rattle.sfc_session.specs.Scanning.{goes_on, next_among, raw_of, release_in, scan_after, first_scan_after, scan_at, tasks_of, turn_among, turn_instant, turn_scan}
 use Rattle.sfc_session.specs.Sessions.{last_instant}
 

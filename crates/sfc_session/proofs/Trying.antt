@@ -1,9 +1,9 @@
 -- Scans of tasks that are tried one after the other.
 use Rattle.std.proofs.Common.{◌≡◌, ◌∙◌, refl, sym, ap, true, false, ℕ, ◌+◌, ◌<◌, ◌≤◌, List, length, Option, None, ℤ}
 use Rattle.sfc_events.specs.declared.command.Command.TheVariants.{Scan}
-use Rattle.sfc_debug.specs.Histories.{CommandHistory}
-use Rattle.sfc_output.specs.Steered.{Steered}
-use Rattle.sfc_monitor.specs.Output.{Verdict}
+use Rattle.sfc_output.specs.sfc_debug.Histories.{CommandHistory}
+use Rattle.sfc_output.specs.sfc_debug.Steered.{Steered}
+use Rattle.sfc_output.specs.Output.{Verdict}
 use Rattle.sfc_session.specs.declared.scanning.Tried.TheVariants.{Answered, NoTurn}
 use Rattle.sfc_session.specs.declared.session.Session.{Session}
 use Rattle.sfc_session.specs.Scanning.{earlier, is_out_of_turn, next_among, release_in, scan_at, scan_verdict, tasks_of, turn_among, turn_scan}

@@ -1,8 +1,8 @@
 -- Tasks that are gone through by their numbers.
 use Rattle.std.proofs.Common.{◌≡◌, ◌∙◌, ap, ℕ, suc, ◌+◌, ◌-◌, ◌<◌, ◌≤◌, arith, Bool, true, false, not, cond, List, [], ◌∷◌, length, Option, Some, None, ℤ}
 use Rattle.std.specs.List.{range_with_len}
-use Rattle.sfc_debug.specs.Histories.{CommandHistory}
-use Rattle.sfc_output.specs.Steered.{Steered}
+use Rattle.sfc_output.specs.sfc_debug.Histories.{CommandHistory}
+use Rattle.sfc_output.specs.sfc_debug.Steered.{Steered}
 use Rattle.sfc_session.specs.Scanning.{earlier, is_out_of_turn, next_among, release_in, scan_verdict, tasks_of, turn_among}
 
 -- ---- numbers

@@ -3,18 +3,18 @@ use Rattle.std.proofs.Common.{◌≡◌, ◌∙◌, refl, sym, ap, subst, ℕ, �
 use Rattle.std.proofs.lemmas.Bool.Decides.{nat_tests}
 use Rattle.std.proofs.lemmas.List.{length-append}
 use Rattle.std.specs.Prelude.{IfOk, OnOk, OnErr, is_ok}
-use Rattle.sfc_events.specs.declared.refusal.Refusal.TheVariants.{NoSuchCondition}
+use Rattle.sfc_events.specs.declared.refusal.Refusal.{Refusal}
 use Rattle.sfc_events.specs.declared.command.Command.{Command}
 use Rattle.sfc_events.specs.declared.command.Point.{Point}
-use Rattle.sfc_debug.specs.declared.break_condition.BreakCondition.{BreakCondition}
-use Rattle.sfc_debug.specs.declared.debugger.Debugger.{Debugger}
-use Rattle.sfc_debug.specs.Agreement.{Agrees}
-use Rattle.sfc_debug.specs.Histories.{CommandHistory, TimedCommand}
-use Rattle.sfc_debug.specs.Meaning.{IsAccepted}
-use Rattle.sfc_debug.specs.Verdict.{history_by}
+use Rattle.sfc_output.specs.sfc_debug.declared.break_condition.BreakCondition.{BreakCondition}
+use Rattle.sfc_output.specs.sfc_debug.declared.debugger.Debugger.{Debugger}
+use Rattle.sfc_output.specs.sfc_debug.Agreement.{Agrees}
+use Rattle.sfc_output.specs.sfc_debug.Histories.{CommandHistory, TimedCommand}
+use Rattle.sfc_output.specs.sfc_debug.Meaning.{IsAccepted}
+use Rattle.sfc_output.specs.sfc_debug.Verdict.{history_by}
 use Rattle.sfc_output.specs.Commands.{refusal_line}
-use Rattle.sfc_output.specs.Steered.{Steered}
-use Rattle.sfc_monitor.specs.Output.{Verdict, debugger_of, text_of}
+use Rattle.sfc_output.specs.sfc_debug.Steered.{Steered}
+use Rattle.sfc_output.specs.Output.{Verdict, debugger_of, text_of}
 use Rattle.sfc_session.specs.declared.session.Session.{Session}
 use Rattle.sfc_session.specs.Sessions.{HasSaid, count_in, debugger_in, history_lines, instant_in, steered_in, with_lines}
 use Rattle.sfc_session.specs.Sessions.{lines_by, steered_after, waiting, waiting_verdict, with_one_more}
@@ -22,13 +22,13 @@ use Rattle.sfc_session.proofs.Longer.{accepted_longer, history_same}
 
 -- ---- the debugger
 
-pub numbered : {E : Type 0} (result : Result Verdict E) (v : Verdict) (n m : ℕ) → (m ≤ n → IfOk result (λ a. a ≡ Err NoSuchCondition))
-    → (n < m → IfOk result (λ a. a ≡ v)) → IfOk result (λ a. a ≡ cond (nat_lt n m) v (Err NoSuchCondition))
-numbered {E} result v n m full few = by_test (nat_lt n m) refl
+pub numbered : {E : Type 0} (result : Result Verdict E) (v : Verdict) (r : Refusal) (n m : ℕ) → (m ≤ n → IfOk result (λ a. a ≡ Err r))
+    → (n < m → IfOk result (λ a. a ≡ v)) → IfOk result (λ a. a ≡ cond (nat_lt n m) v (Err r))
+numbered {E} result v r n m full few = by_test (nat_lt n m) refl
   where
-    by_test : (b : Bool) → nat_lt n m ≡ b → IfOk result (λ a. a ≡ cond (nat_lt n m) v (Err NoSuchCondition))
-    by_test true is = subst (λ (b : Bool). IfOk result (λ a. a ≡ cond b v (Err NoSuchCondition))) (sym is) (few (grind (arith, nat_tests)))
-    by_test false is = subst (λ (b : Bool). IfOk result (λ a. a ≡ cond b v (Err NoSuchCondition))) (sym is) (full (grind (arith, nat_tests)))
+    by_test : (b : Bool) → nat_lt n m ≡ b → IfOk result (λ a. a ≡ cond (nat_lt n m) v (Err r))
+    by_test true is = subst (λ (b : Bool). IfOk result (λ a. a ≡ cond b v (Err r))) (sym is) (few (grind (arith, nat_tests)))
+    by_test false is = subst (λ (b : Bool). IfOk result (λ a. a ≡ cond b v (Err r))) (sym is) (full (grind (arith, nat_tests)))
 
 pub agrees_by : {E : Type 0} (result : Result Verdict E) (d : Debugger) (timed : TimedCommand) (h : CommandHistory)
     → IfOk result (λ a. OnOk a (Agrees d (timed ∷ h))) → IfOk result (λ a. OnErr a (Agrees d h))
@@ -38,16 +38,16 @@ agrees_by (Ok (Err refusal)) d timed h accepted refused = refused
 agrees_by (Err error) d timed h accepted refused = tt
 
 -- what was accepted has a number, and was answered with the longer table
-joined : (v w : Verdict) (n m : ℕ) → v ≡ cond (nat_lt n m) w (Err NoSuchCondition) → OnOk v ((n < m) × (v ≡ w))
-joined (Err refusal) w n m is = tt
-joined (Ok answer) w n m is = by_test (nat_lt n m) refl
+joined : (v w : Verdict) (r : Refusal) (n m : ℕ) → v ≡ cond (nat_lt n m) w (Err r) → OnOk v ((n < m) × (v ≡ w))
+joined (Err refusal) w r n m is = tt
+joined (Ok answer) w r n m is = by_test (nat_lt n m) refl
   where
-    no : Ok answer ≡ Err NoSuchCondition → (n < m) × (Ok answer ≡ w)
+    no : Ok answer ≡ Err r → (n < m) × (Ok answer ≡ w)
     no e = search rules
 
     by_test : (b : Bool) → nat_lt n m ≡ b → (n < m) × (Ok answer ≡ w)
-    by_test true test = (grind (arith, nat_tests), is ∙ ap (λ b. cond b w (Err NoSuchCondition)) test)
-    by_test false test = no (is ∙ ap (λ b. cond b w (Err NoSuchCondition)) test)
+    by_test true test = (grind (arith, nat_tests), is ∙ ap (λ b. cond b w (Err r)) test)
+    by_test false test = no (is ∙ ap (λ b. cond b w (Err r)) test)
 
 -- ---- lines
 
@@ -59,11 +59,11 @@ module _ (st : Steered) (placed : Point × ℤ) (condition : BreakCondition) (h 
   timed = waiting st placed condition
 
   pub lines_are : (new : Steered) (told : TimedCommand) (v : Verdict) → new ≡ steered_after v st condition
-      → v ≡ waiting_verdict st h placed condition → (length st.table < 2 ^ 16 → told.0 ≡ timed.0)
+      → v ≡ waiting_verdict st h placed condition → (length st.table < 65535 → told.0 ≡ timed.0)
       → (text_of new).command ((debugger_of new).state (history_by v timed h)) told v ≡ lines_by v longer h timed
   lines_are new told (Err refusal) same is named = ap (λ (s : Steered). refusal_line s.plant refusal) same
   lines_are new told (Ok answer) same is named =
-      let few = (joined (Ok answer) ((debugger_of longer).verdict h timed) (length st.table) (2 ^ 16) is).0 in
+      let few = (joined (Ok answer) ((debugger_of longer).verdict h timed) _ (length st.table) 65535 is).0 in
       ap (λ (s : Steered). (text_of s).command ((debugger_of s).state (timed ∷ h)) told (Ok answer)) same
       ∙ ap (λ (command : Command). (text_of longer).command ((debugger_of longer).state (timed ∷ h)) (command, placed.1) (Ok answer))
       (named few)
@@ -82,12 +82,12 @@ module _ (old new : Session) (placed : Point × ℤ) (condition : BreakCondition
   set = waiting st placed condition
 
   by_answer : (v : Verdict) → v ≡ waiting_verdict st h placed condition → steered_in new ≡ steered_after v st condition
-      → Agrees (debugger_in new) (history_by v set h) → (count_in old < 2 ^ 16 → OnOk v (count_in new ≡ count_in old + 1))
+      → Agrees (debugger_in new) (history_by v set h) → (count_in old < 65535 → OnOk v (count_in new ≡ count_in old + 1))
       → OnErr v (count_in new ≡ count_in old) → IfOk v (λ _. instant_in new ≡ placed.1) → OnErr v (instant_in new ≡ instant_in old)
       → HasSaid new (history_by v set h) (with_lines v lines (lines_by v long h set))
   by_answer (Ok answer) is same agrees counted stayed later stays =
-      let both = joined (Ok answer) ((debugger_of long).verdict h set) (length st.table) (2 ^ 16) is in
-      let few : count_in old < 2 ^ 16 = subst (λ (n : ℕ). n < 2 ^ 16) (sym said.count) both.0 in
+      let both = joined (Ok answer) ((debugger_of long).verdict h set) _ (length st.table) 65535 is in
+      let few : count_in old < 65535 = subst (λ (n : ℕ). n < 65535) (sym said.count) both.0 in
       record {
         agrees = agrees;
         accepted =
@@ -112,7 +112,7 @@ module _ (old new : Session) (placed : Point × ℤ) (condition : BreakCondition
   }
 
   pub waits_on : (v : Verdict) → v ≡ waiting_verdict st h placed condition → steered_in new ≡ steered_after v st condition
-      → Agrees (debugger_in new) (history_by v set h) → (count_in old < 2 ^ 16 → OnOk v (count_in new ≡ count_in old + 1))
+      → Agrees (debugger_in new) (history_by v set h) → (count_in old < 65535 → OnOk v (count_in new ≡ count_in old + 1))
       → OnErr v (count_in new ≡ count_in old) → IfOk v (λ _. instant_in new ≡ placed.1) → OnErr v (instant_in new ≡ instant_in old)
       → HasSaid new (history_by (waiting_verdict st h placed condition) set h) (with_lines (waiting_verdict st h placed condition) lines
       (lines_by (waiting_verdict st h placed condition) long h set))

@@ -7,9 +7,9 @@ use Rattle.sfc_events.specs.declared.command.Command.{Command}
 use Rattle.sfc_events.specs.declared.command.Command.TheVariants as commands
 use Rattle.sfc_events.specs.declared.command.Command.TheVariants.{Scan}
 use Rattle.sfc_events.specs.declared.refusal.Refusal.TheVariants.{NotDue, Yield}
-use Rattle.sfc_debug.specs.Histories.{CommandHistory, TimedCommand}
-use Rattle.sfc_output.specs.Steered.{Steered}
-use Rattle.sfc_monitor.specs.Output.{Verdict, debugger_of}
+use Rattle.sfc_output.specs.sfc_debug.Histories.{CommandHistory, TimedCommand}
+use Rattle.sfc_output.specs.sfc_debug.Steered.{Steered}
+use Rattle.sfc_output.specs.Output.{Verdict, debugger_of}
 use Rattle.sfc_session.specs.declared.step.Step.{Step}
 use Rattle.sfc_session.specs.declared.step.Step.TheVariants as steps
 use Rattle.sfc_session.specs.Sessions.{last_instant}

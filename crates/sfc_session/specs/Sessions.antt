@@ -1,19 +1,18 @@
 -- A session: commands one after the other, each answered with the lines that a replay writes for it.
-use Rattle.std.specs.Prelude.{◌≡◌, ℕ, ◌^◌, nat_lt, cond, List, [], ◌∷◌, ◌++◌, length, ℤ, pos, Ok, Err, codes}
+use Rattle.std.specs.Prelude.{◌≡◌, ℕ, nat_lt, cond, List, [], ◌∷◌, ◌++◌, length, ℤ, pos, Ok, Err, codes}
 use Rattle.sfc_base.specs.TimeText.{time_text}
 use Rattle.sfc_events.specs.declared.command.Command.{Command}
 use Rattle.sfc_events.specs.declared.command.Point.{Point}
-use Rattle.sfc_events.specs.declared.refusal.Refusal.TheVariants.{NoSuchCondition}
-use Rattle.sfc_debug.specs.declared.break_condition.BreakCondition.{BreakCondition}
-use Rattle.sfc_debug.specs.declared.debugger.Debugger.{Debugger}
-use Rattle.sfc_debug.specs.Agreement.{Agrees}
-use Rattle.sfc_debug.specs.Histories.{CommandHistory, TimedCommand}
-use Rattle.sfc_debug.specs.Longer.{break_when, with_condition}
-use Rattle.sfc_debug.specs.Meaning.{IsAccepted}
-use Rattle.sfc_debug.specs.Verdict.{history_by}
+use Rattle.sfc_output.specs.sfc_debug.declared.break_condition.BreakCondition.{BreakCondition}
+use Rattle.sfc_output.specs.sfc_debug.declared.debugger.Debugger.{Debugger}
+use Rattle.sfc_output.specs.sfc_debug.Agreement.{Agrees}
+use Rattle.sfc_output.specs.sfc_debug.Histories.{CommandHistory, TimedCommand}
+use Rattle.sfc_output.specs.sfc_debug.Longer.{break_when, with_condition}
+use Rattle.sfc_output.specs.sfc_debug.Meaning.{IsAccepted}
+use Rattle.sfc_output.specs.sfc_debug.Verdict.{history_by, refused_unnumbered}
 use Rattle.sfc_output.specs.Commands.{command_text}
-use Rattle.sfc_output.specs.Steered.{Steered, steered_by}
-use Rattle.sfc_monitor.specs.Output.{Verdict, command_lines, debugger_of, text_of}
+use Rattle.sfc_output.specs.sfc_debug.Steered.{Steered, steered_by}
+use Rattle.sfc_output.specs.Output.{Verdict, command_lines, debugger_of, text_of}
 use Rattle.sfc_session.specs.declared.session.Session.{Session}
 
 -- ---- what a session holds
@@ -73,12 +72,12 @@ with_one_more steered condition = record { plant = steered.plant; table = with_c
 abbrev pub waiting : Steered → Point × ℤ → BreakCondition → TimedCommand
 waiting steered placed condition = (break_when steered.table placed.0 condition, placed.1)
 
--- What it is answered with the longer table. A table of 65,536 conditions takes no more of them.
+-- What it is answered with the longer table. A table of 65,535 conditions takes no more of them: then the condition isn't there.
 abbrev pub waiting_verdict : Steered → CommandHistory → Point × ℤ → BreakCondition → Verdict
 waiting_verdict steered h placed condition =
-    cond (nat_lt (length steered.table) (2 ^ 16))
+    cond (nat_lt (length steered.table) 65535)
     ((debugger_of (with_one_more steered condition)).verdict h (waiting steered placed condition))
-    (Err NoSuchCondition)
+    (Err (refused_unnumbered steered.plant ((debugger_of steered).state h) (length h) condition.program placed.0 placed.1))
 
 -- Where it was accepted the condition has joined the table, else it is given up.
 abbrev pub steered_after : Verdict → Steered → BreakCondition → Steered

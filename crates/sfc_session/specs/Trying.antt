@@ -1,8 +1,8 @@
 -- Scans that are tried.
 use Rattle.std.specs.Prelude.{◌≡◌, ℕ, true, false, List, ℤ, Some, None}
 use Rattle.sfc_events.specs.declared.command.Command.TheVariants.{Scan}
-use Rattle.sfc_debug.specs.Histories.{CommandHistory, TimedCommand}
-use Rattle.sfc_monitor.specs.Output.{Verdict, debugger_of}
+use Rattle.sfc_output.specs.sfc_debug.Histories.{CommandHistory, TimedCommand}
+use Rattle.sfc_output.specs.Output.{Verdict, debugger_of}
 use Rattle.sfc_session.specs.declared.scanning.Tried.{Tried}
 use Rattle.sfc_session.specs.declared.scanning.Tried.TheVariants.{Answered, NoTurn}
 use Rattle.sfc_session.specs.declared.session.Session.{Session}

@@ -1,8 +1,8 @@
 //! What holds of a session.
 
 ghost use Rattle.std.specs.Prelude.{◌≡◌, ℕ, List, [], reverse};
-ghost use Rattle.sfc_debug.specs.Histories.{CommandHistory};
-ghost use Rattle.sfc_monitor.specs.Output.{commands_lines, debugger_of, session_after, text_of};
+ghost use Rattle.sfc_output.specs.sfc_debug.Histories.{CommandHistory};
+ghost use Rattle.sfc_output.specs.Output.{commands_lines, debugger_of, session_after, text_of};
 ghost use Rattle.sfc_session.specs.declared.session.Session.{Session};
 ghost use Rattle.sfc_session.specs.Sessions.{HasSaid, steered_in};
 

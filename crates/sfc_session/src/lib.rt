@@ -10,3 +10,6 @@ mod saved;
 pub mod scanning;
 pub mod session;
 pub mod step;
+
+// What the crates above name through this one.
+pub use sfc_output::sfc_debug;

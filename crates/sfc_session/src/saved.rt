@@ -3,7 +3,7 @@
 ghost use Rattle.std.specs.Prelude.{◌≡◌, ◌++◌, OnOk};
 ghost use Rattle.sfc_session.specs.Sessions.{script_line};
 
-use sfc_output::append::{append, append_time};
+use sfc_page::append::{append, append_time};
 use std::alloc::AllocError;
 
 /// Puts the line of a command at the end: its raw instant in microseconds, and its words. The one error is that memory was refused; then

@@ -1,19 +1,20 @@
 //! Scans that have no instant of their own.
 
 ghost use Rattle.std.specs.Prelude.{◌≡◌, List, ℕ, IfOk};
-ghost use Rattle.sfc_debug.specs.Histories.{CommandHistory};
+ghost use Rattle.sfc_output.specs.sfc_debug.Histories.{CommandHistory};
 ghost use Rattle.sfc_events.specs.declared.command.Command.TheVariants.{Scan};
-ghost use Rattle.sfc_monitor.specs.Output.{debugger_of};
+ghost use Rattle.sfc_output.specs.Output.{debugger_of};
 ghost use Rattle.sfc_session.specs.Scanning as scanning;
 ghost use Rattle.sfc_session.specs.Scanning.{first_scan_after, goes_on, scan_after};
 ghost use Rattle.sfc_session.specs.Sessions.{HasSaid, IsTaken, last_instant, steered_in, words_of};
 ghost use Rattle.sfc_session.specs.Trying.{IsTried, TriesAll};
 
 use crate::session::Session;
+use crate::sfc_debug::timed::Timed;
 use sfc_base::ids::TaskId;
 use sfc_events::command::{Answer, Command};
 use sfc_events::refusal::Refusal;
-use sfc_output::append::append;
+use sfc_page::append::append;
 use sfc_plant::names::task_name;
 use std::alloc::{AllocError, Global};
 
@@ -41,7 +42,11 @@ fn scan_then(
         IsTaken session.old session.new out.old.items out.new.items answer h lines (Scan task, raw)) }
 {
     let words = scan_words(alloc, session, task)?;
-    session.command(alloc, (Command::Scan(task), raw), &words, out)
+    let timed = Timed {
+        command: Command::Scan(task),
+        raw,
+    };
+    session.command(alloc, timed, &words, out)
 }
 
 // The next release of a task whose scan was refused since it isn't due, a run instant, if there is one.

@@ -1,23 +1,22 @@
 //! Commands one after the other, and the script that they are.
 
 ghost use Rattle.std.specs.Prelude.{◌≡◌, ◌++◌, ◌<◌, ◌+◌, ◌^◌, [], pos, length, IfOk, OnOk, OnErr};
-ghost use Rattle.sfc_debug.specs.Agreement.{Agrees};
-ghost use Rattle.sfc_debug.specs.Histories.{CommandHistory};
-ghost use Rattle.sfc_debug.specs.Meaning.{IsAccepted};
-ghost use Rattle.sfc_debug.specs.Verdict.{history_by};
+ghost use Rattle.sfc_output.specs.sfc_debug.Agreement.{Agrees};
+ghost use Rattle.sfc_output.specs.sfc_debug.Histories.{CommandHistory};
+ghost use Rattle.sfc_output.specs.sfc_debug.Meaning.{IsAccepted};
+ghost use Rattle.sfc_output.specs.sfc_debug.Verdict.{history_by};
 ghost use Rattle.sfc_events.specs.declared.command.Command.TheVariants.{BreakIf};
-ghost use Rattle.sfc_monitor.specs.Output.{debugger_of};
-ghost use Rattle.sfc_output.specs.Steered.{steered_by};
+ghost use Rattle.sfc_output.specs.Output.{debugger_of};
+ghost use Rattle.sfc_output.specs.sfc_debug.Steered.{steered_by};
 ghost use Rattle.sfc_session.specs.Sessions.{steered_after, waiting, waiting_verdict};
 
 use crate::saved::append_line;
+use crate::sfc_debug::break_condition::BreakCondition;
+use crate::sfc_debug::debugger::Debugger;
+use crate::sfc_debug::opening::DebugOpening;
+use crate::sfc_debug::timed::Timed;
 use sfc_base::ids::ProgId;
 use sfc_base::ticks::Ticks;
-use sfc_core::resource::Resource;
-use sfc_debug::break_condition::BreakCondition;
-use sfc_debug::debugger::Debugger;
-use sfc_debug::opening::DebugOpening;
-use sfc_debug::trace_mask::TraceMask;
 use sfc_events::command::{Answer, Command, CondId, Point, TraceRow};
 use sfc_events::refusal::Refusal;
 use sfc_output::answer::append_answer;
@@ -50,19 +49,6 @@ impl Drop for Session {
     }
 }
 
-// One command.
-fn obey(debugger: &mut Debugger, timed: (Command, i64)) -> Result<Answer, Refusal>
-    ensures steered { steered_by debugger.new ≡ steered_by debugger.old }
-    ensures answer { (h : CommandHistory) → Agrees debugger.old h →
-        result ≡ (debugger_of (steered_by debugger.old)).verdict h timed }
-    ensures agrees { (h : CommandHistory) → Agrees debugger.old h →
-        Agrees debugger.new ((debugger_of (steered_by debugger.old)).after h timed) }
-{
-    let (command, raw) = timed;
-    let mut ticks = Ticks::new();
-    debugger.command(command, raw, &mut ticks)
-}
-
 // A breakpoint with a condition, at a point and a raw instant.
 fn obey_break(
     debugger: &mut Debugger,
@@ -84,44 +70,39 @@ fn obey_break(
 #[tactic(auto, unfolding(crate::specs::Sessions::debugger_in, crate::specs::Sessions::instant_in, crate::specs::Sessions::script_in, crate::specs::Sessions::count_in))]
 impl Session {
     ghost use Rattle.std.specs.Prelude.{List, ℕ};
-    ghost use Rattle.sfc_debug.specs.Histories.{CommandHistory};
-    ghost use Rattle.sfc_debug.specs.Verdict.{history_by};
-    ghost use Rattle.sfc_monitor.specs.Output.{command_lines, debugger_of, text_of};
+    ghost use Rattle.sfc_output.specs.sfc_debug.Agreement.{Agrees};
+    ghost use Rattle.sfc_output.specs.sfc_debug.Histories.{CommandHistory};
+    ghost use Rattle.sfc_output.specs.sfc_debug.Steered.{steered_by};
+    ghost use Rattle.sfc_output.specs.sfc_debug.Verdict.{history_by};
+    ghost use Rattle.sfc_output.specs.Output.{command_lines, debugger_of, text_of};
     ghost use Rattle.sfc_session.specs.Scanning as scanning;
     ghost use Rattle.sfc_session.specs.Sessions.{HasSaid, debugger_in, instant_in, script_in, steered_in};
     ghost use Rattle.sfc_session.specs.Sessions.{count_in, last_instant, with_lines, script_after, script_line};
     ghost use Rattle.sfc_session.specs.Sessions.{lines_by, steered_after, waiting, waiting_verdict, with_one_more};
 
-    /// A session that has accepted nothing. The one error is that memory was refused, and then the plant is given up.
-    pub fn open(alloc: Global, plant: Plant) -> Result<Session, AllocError>
-        ensures said { IfOk result (λ session. HasSaid session [] []) }
-        ensures steered { IfOk result (λ session. steered_in session ≡ record { plant = plant; table = [] }) }
-        ensures script { IfOk result (λ session. script_in session ≡ []) }
+    /// A session with a debugger that has no condition and was told nothing.
+    pub fn new(alloc: Global, debugger: Debugger) -> Session
+        ensures said { Agrees debugger [] → (steered_by debugger).table ≡ [] → HasSaid result [] [] }
+        ensures steered { steered_in result ≡ steered_by debugger }
+        ensures script { script_in result ≡ [] }
     {
-        let resource = Resource::open(alloc, plant)?;
-        let debugger = Debugger::new(alloc, resource, 1, TraceMask(0))?;
-        Ok(Session {
+        Session {
             debugger,
             conditions: 0,
             instant: 0,
             script: Vec::new(alloc),
             rows: Vec::new(alloc),
-        })
+        }
     }
 
     // Keeps an accepted command. The error is that memory was refused.
-    fn keep(
-        &mut self,
-        timed: (Command, i64),
-        answer: Answer,
-        words: &[u8],
-    ) -> Result<(), AllocError>
+    fn keep(&mut self, timed: Timed, answer: Answer, words: &[u8]) -> Result<(), AllocError>
         ensures debugger { debugger_in self.new ≡ debugger_in self.old }
         ensures count { count_in self.new ≡ count_in self.old }
         ensures instant { instant_in self.new ≡ timed.1 }
         ensures script { OnOk result (script_in self.new ≡ script_in self.old ++ script_line timed.1 words.now) }
     {
-        let (command, raw) = timed;
+        let Timed { command, raw } = timed;
         self.instant = raw;
         self.rows.push(TraceRow {
             number: self.debugger.accepted(),
@@ -136,7 +117,7 @@ impl Session {
     // Keeps what was accepted of a command, if it was. The error is that memory was refused.
     fn keep_if(
         &mut self,
-        timed: (Command, i64),
+        timed: Timed,
         answer: Result<Answer, Refusal>,
         words: &[u8],
     ) -> Result<(), AllocError>
@@ -158,7 +139,7 @@ impl Session {
     pub fn command(
         &mut self,
         alloc: Global,
-        timed: (Command, i64),
+        timed: Timed,
         words: &[u8],
         out: &mut Vec<u8>,
     ) -> Result<Result<Answer, Refusal>, AllocError>
@@ -172,15 +153,15 @@ impl Session {
             (command_lines (debugger_of (steered_in self.old)) (text_of (steered_in self.old)) h timed))) }
         ensures script { IfOk result (λ answer. script_in self.new ≡ script_after answer (script_in self.old) timed.1 words.now) }
     {
-        let answer = obey(&mut self.debugger, timed);
-        append_answer(alloc, out, &self.debugger, timed.0, answer)?;
+        let answer = self.debugger.obey(timed);
+        append_answer(alloc, out, &self.debugger, timed.command, answer)?;
         self.keep_if(timed, answer, words)?;
         Ok(answer)
     }
 
     // A breakpoint that waits for the condition which the table would have next.
     fn next_break(&self, program: ProgId, point: Point) -> Command
-        ensures { count_in self.now < 2 ^ 16 → result ≡ BreakIf program point (record { 0 = count_in self.now }) }
+        ensures { count_in self.now < 65535 → result ≡ BreakIf program point (record { 0 = count_in self.now }) }
     {
         let place = self.conditions.min(65_535);
         Command::BreakIf(program, point, CondId(place as u16))
@@ -191,7 +172,7 @@ impl Session {
         ensures debugger { debugger_in self.new ≡ debugger_in self.old }
         ensures instant { instant_in self.new ≡ instant_in self.old }
         ensures script { script_in self.new ≡ script_in self.old }
-        ensures count { count_in self.old < 2 ^ 16 → OnOk answer (count_in self.new ≡ count_in self.old + 1) }
+        ensures count { count_in self.old < 65535 → OnOk answer (count_in self.new ≡ count_in self.old + 1) }
         ensures stays { OnErr answer (count_in self.new ≡ count_in self.old) }
     {
         if answer.is_ok() {
@@ -200,8 +181,8 @@ impl Session {
     }
 
     /// A breakpoint with a condition, at a point and a raw instant in microseconds: as `command` of `BreakIf` and this condition, which
-    /// joins the table behind all others where it is accepted, and is given up where it is refused. A table of 65,536 conditions takes
-    /// no more: `NoSuchCondition`.
+    /// joins the table behind all others where it is accepted, and is given up where it is refused. A table of 65,535 conditions takes
+    /// no more: then it is refused in its turn as one that isn't there.
     pub fn break_when(
         &mut self,
         alloc: Global,
@@ -224,9 +205,12 @@ impl Session {
         ensures script { IfOk result (λ answer. script_in self.new ≡ script_after answer (script_in self.old) placed.1 words.now) }
     {
         let (point, raw) = placed;
-        let timed = (self.next_break(condition.program, point), raw);
+        let timed = Timed {
+            command: self.next_break(condition.program, point),
+            raw,
+        };
         let answer = obey_break(&mut self.debugger, placed, condition)?;
-        append_answer(alloc, out, &self.debugger, timed.0, answer)?;
+        append_answer(alloc, out, &self.debugger, timed.command, answer)?;
         self.count_if(answer);
         self.keep_if(timed, answer, words)?;
         Ok(answer)
@@ -290,9 +274,15 @@ impl Session {
         let mut opening = DebugOpening::new(alloc, &self.debugger)?;
         self.debugger.save(&mut opening);
         if let Some(first) = first {
-            let _ = obey(&mut self.debugger, (first, self.instant));
+            let _ = self.debugger.obey(Timed {
+                command: first,
+                raw: self.instant,
+            });
         }
-        let answer = obey(&mut self.debugger, (command, self.instant));
+        let answer = self.debugger.obey(Timed {
+            command,
+            raw: self.instant,
+        });
         self.debugger.restore(&opening);
         Ok(answer)
     }

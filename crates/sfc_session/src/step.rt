@@ -1,7 +1,7 @@
 //! Steps, which may be done again.
 
 ghost use Rattle.std.specs.Prelude.{◌≡◌, List, ℕ, IfOk};
-ghost use Rattle.sfc_debug.specs.Histories.{CommandHistory};
+ghost use Rattle.sfc_output.specs.sfc_debug.Histories.{CommandHistory};
 ghost use Rattle.sfc_events.specs.declared.command.Command.TheVariants.{Single};
 ghost use Rattle.sfc_session.specs.Scanning as scanning;
 ghost use Rattle.sfc_session.specs.Scanning.{step_after};
@@ -9,10 +9,11 @@ ghost use Rattle.sfc_session.specs.Sessions.{HasSaid, IsTaken, last_instant, ste
 
 use crate::scanning::{scan, scan_first};
 use crate::session::Session;
+use crate::sfc_debug::timed::Timed;
 use sfc_base::ids::TaskId;
 use sfc_events::command::{Answer, Command};
 use sfc_events::refusal::Refusal;
-use sfc_output::append::{append, append_time};
+use sfc_page::append::{append, append_time};
 use sfc_plant::names::task_name;
 use std::alloc::{AllocError, Global};
 
@@ -41,7 +42,7 @@ pub fn step_of(command: Command) -> Option<Step>
 /// Whether no more steps should follow one that was answered so: it was refused, hit a breakpoint, or ended a program's scan with a fault.
 pub fn ends_steps(answer: Result<Answer, Refusal>) -> bool {
     match answer {
-        Ok(Answer::Scanned { faulted, hit, .. }) => hit || faulted != 0,
+        Ok(Answer::Scanned { faulted, hit, .. }) => hit || !faulted.is_empty(),
         Ok(_) => false,
         Err(_) => true,
     }
@@ -78,7 +79,10 @@ fn single(
         IsTaken session.old session.new out.old.items out.new.items answer h lines (Single task micros, last_instant h)) }
 {
     let words = single_words(alloc, session, task, micros)?;
-    let timed = (Command::Single(task, micros), session.instant());
+    let timed = Timed {
+        command: Command::Single(task, micros),
+        raw: session.instant(),
+    };
     session.command(alloc, timed, &words, out)
 }
 

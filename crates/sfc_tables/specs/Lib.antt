@@ -8,6 +8,8 @@ pub mod Actions
 pub mod LeastTimes
 -- the tables of a chart
 pub mod Tables
+-- the names of actions by number, and actions by name
+pub mod ActionNames
 -- the transitions that a step is the first to precede
 pub mod Places
 pub mod Departures

@@ -134,6 +134,13 @@ impl ActionList {
         self.targets.len()
     }
 
+    /// All of them, by number.
+    pub fn as_slice(&self) -> &[Target]
+        ensures { result.now ≡ self.now }
+    {
+        &self.targets
+    }
+
     /// The action of this number.
     pub fn target(&self, action: ActionNumber) -> Target
         requires { action.0 < length self.now }

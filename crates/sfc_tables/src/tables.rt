@@ -45,8 +45,11 @@ impl Model for Tables {
         tables.blocks tables.departures };
 }
 
-ghost use Rattle.std.specs.Prelude.{◌≡◌, ◌<◌, ◌≤◌, ◌==◌, ◌-◌, map, filter, length, slice_get, Some, IfOk};
+ghost use Rattle.std.specs.Prelude.{◌≡◌, ◌<◌, ◌≤◌, ◌==◌, ◌-◌, map, filter, length, position, slice_get, Some, IfOk};
+ghost use Rattle.sfc_base.specs.Case.{same_word};
 ghost use Rattle.sfc_flags.specs.Flags.{flag};
+ghost use Rattle.sfc_plant.specs.Names.{target_name};
+ghost use Rattle.sfc_tables.specs.ActionNames.{action_named, numbered_action};
 ghost use Rattle.sfc_tables.specs.Actions.{number_of};
 ghost use Rattle.sfc_plant.specs.Chart.{Counts, IsChart};
 ghost use Rattle.sfc_tables.specs.Departures.{departures};
@@ -56,10 +59,12 @@ use crate::departures::list_departures;
 use crate::least_time::{LeastTime, list_least_times};
 use crate::rank;
 use crate::step_action::StepAction;
+use sfc_base::case::is_same_word;
 use sfc_base::ids::ActionNumber;
 use sfc_base::references::StepId;
 use sfc_plant::association::Target;
 use sfc_plant::chart::{Chart, Step};
+use sfc_plant::names::Names;
 use std::alloc::{AllocError, Global};
 
 // Which steps are initial.
@@ -67,6 +72,22 @@ fn initial_steps(alloc: Global, steps: &[Step]) -> Result<Vec<bool>, AllocError>
     ensures { IfOk result (λ initial. initial.items ≡ map (λ step. step.is_initial) steps.now) }
 {
     steps.iter().map(|step| step.is_initial).collect(alloc)
+}
+
+// Whether an action has this name.
+fn is_named(target: Target, names: &Names<'_>, name: &[u8]) -> bool
+    ensures { result ≡ same_word name.now (target_name names.now target) }
+{
+    is_same_word(name, names.target(target))
+}
+
+// The place of the first of these actions with this name.
+fn find_target(targets: &[Target], names: &Names<'_>, name: &[u8]) -> Option<usize>
+    ensures { result ≡ position (λ target. same_word name.now (target_name names.now target)) targets.now }
+{
+    targets
+        .iter()
+        .position(|target| is_named(*target, names, name))
 }
 
 impl Tables {
@@ -186,6 +207,26 @@ impl Tables {
         ensures { result ≡ number_of self.now.actions target }
     {
         self.blocks.actions().number(target)
+    }
+
+    /// The name of the action of this number, among the names of the chart's program type; nothing where there is no such
+    /// action (2.6.4.1).
+    pub fn action_name<'a>(&self, names: &'a Names<'_>, action: ActionNumber) -> &'a [u8]
+        ensures { result.now ≡ numbered_action names.now self.now action.0 }
+    {
+        match self.blocks.actions().as_slice().get(action.0) {
+            Some(target) => names.target(*target),
+            None => b"",
+        }
+    }
+
+    /// The first action with this name, among the names of the chart's program type; case is not significant (2.1.2,
+    /// 2.6.4.1). It takes no memory.
+    pub fn find_action(&self, names: &Names<'_>, name: &[u8]) -> Option<ActionNumber>
+        ensures { result ≡ action_named names.now self.now.actions name.now }
+    {
+        let place = find_target(self.blocks.actions().as_slice(), names, name)?;
+        Some(ActionNumber(place))
     }
 
     /// All associations, in text order (2.6.4.3).

@@ -16,6 +16,5 @@ pub mod read_expr;
 pub mod statement;
 pub mod tree;
 
-pub use sfc_base::time_text::put_time;
 pub use sfc_tokens::lex::tokens;
 pub use sfc_tokens::read_error::{ReadError, ReadErrorKind};

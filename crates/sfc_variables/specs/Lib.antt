@@ -12,3 +12,5 @@ pub mod Declarations
 pub mod Own
 -- What private clauses cite.
 pub mod Drafts
+-- What the crates above name through this one.
+pub use Rattle.sfc_check.specs as sfc_check

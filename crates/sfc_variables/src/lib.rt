@@ -11,3 +11,6 @@ pub mod globals;
 pub mod load_error;
 pub mod located;
 pub mod own;
+
+// What the crates above name through this one.
+pub use sfc_check;

@@ -4,15 +4,15 @@ use Rattle.std.specs.Fmt.{decimal}
 use Rattle.sfc_explain.specs.declared.explanation.Explanation.{Explanation}
 use Rattle.sfc_explain.specs.Finding.{is_numbered, is_named}
 use Rattle.sfc_tokens.specs.ReadErrors as reading
-use Rattle.sfc_variables.specs.declared.load_error.Limit.{Limit as LimitKind}
-use Rattle.sfc_variables.specs.declared.load_error.LoadError.{LoadError}
-use Rattle.sfc_variables.specs.declared.load_error.LoadError.TheVariants.{Limit}
-use Rattle.sfc_variables.specs.LoadErrors as loading
+use Rattle.sfc_explain.specs.sfc_variables.declared.load_error.Limit.{Limit as LimitKind}
+use Rattle.sfc_explain.specs.sfc_variables.declared.load_error.LoadError.{LoadError}
+use Rattle.sfc_explain.specs.sfc_variables.declared.load_error.LoadError.TheVariants.{Limit}
+use Rattle.sfc_explain.specs.sfc_variables.LoadErrors as loading
 use Rattle.sfc_why.specs.declared.page.Piece.{Piece}
 use Rattle.sfc_why.specs.declared.page.Piece.TheVariants.{Blank, Colon, Behind, LineEnd, ScriptLine, Meaning, Cause}
 use Rattle.sfc_why.specs.declared.position.Position.{Position}
-use Rattle.sfc_why.specs.declared.report.Refusal.{Refusal}
-use Rattle.sfc_why.specs.declared.report.Refusal.TheVariants.{Reading, Loading, Script}
+use Rattle.sfc_why.specs.declared.report.Fault.{Fault}
+use Rattle.sfc_why.specs.declared.report.Fault.TheVariants.{Reading, Loading, Script}
 use Rattle.sfc_why.specs.declared.report.Report.{Report}
 
 -- what stands between parts
@@ -46,7 +46,7 @@ unfoldable pub loading_text : LoadError → List ℕ
 loading_text error = numbered (loading.number_of error) (loading.name_of error) ++ limit_text error
 
 -- what is refused: by number and name, a script by its line
-abbrev pub refusal_text : Refusal → List ℕ
+abbrev pub refusal_text : Fault → List ℕ
 refusal_text (Reading kind) = numbered (reading.number_of kind) (reading.name_of kind)
 refusal_text (Loading error) = loading_text error
 refusal_text (Script line) = script_text line
@@ -59,7 +59,7 @@ unfoldable pub position_text : Position → List ℕ
 position_text position = counted position.line ++ counted position.column
 
 -- what is refused, and the word, behind a place
-unfoldable pub refused : Refusal → List ℕ
+unfoldable pub refused : Fault → List ℕ
 refused refusal = piece_text Behind ++ refusal_text refusal
 
 unfoldable pub word_text : List ℕ → List ℕ
@@ -88,7 +88,7 @@ abbrev pub page : List ℕ → Report → Option Explanation → List ℕ
 page file report explanation = heading file report ++ (report.lines.items ++ sense explanation)
 
 -- the explanation is that of the refusal: by its number, of a script by its name
-abbrev pub IsExplainedBy : Refusal → Explanation → Type 0
+abbrev pub IsExplainedBy : Fault → Explanation → Type 0
 IsExplainedBy (Reading kind) explanation = is_numbered (reading.number_of kind) explanation ≡ true
 IsExplainedBy (Loading error) explanation = is_numbered (loading.number_of error) explanation ≡ true
 IsExplainedBy (Script line) explanation = is_named (codes "script line") explanation ≡ true

@@ -7,24 +7,24 @@ ghost use Rattle.sfc_tokens.specs.Tokens.{kinds};
 ghost use Rattle.sfc_why.specs.Places.{IsPlaceOf};
 ghost use Rattle.sfc_why.specs.Telling.{Explains, IsReportFor};
 ghost use Rattle.sfc_tokens.specs.declared.read_error.ReadErrorKind.TheVariants.{TooLong, Memory};
-ghost use Rattle.sfc_variables.specs.declared.load_error.LoadError.TheVariants as load;
-ghost use Rattle.sfc_why.specs.declared.report.Refusal.TheVariants.{Reading, Loading};
+ghost use Rattle.sfc_explain.specs.sfc_variables.declared.load_error.LoadError.TheVariants as load;
+ghost use Rattle.sfc_why.specs.declared.report.Fault.TheVariants.{Reading, Loading};
 
 use crate::place::{Place, token_place};
 use crate::reading::reading_fault;
-use crate::report::{Refusal, Report, report_at};
+use crate::report::{Fault, Report, report_at};
+use crate::sfc_load::load::load;
+use crate::sfc_places::chart_text::ChartText;
+use crate::sfc_places::finding::Finding;
+use crate::sfc_places::span::find_spans;
+use crate::sfc_places::walk::first_fault;
+use crate::sfc_variables::load_error::LoadError;
 use sfc_hints::notes::add_finding;
 use sfc_hints::trial::Goal;
-use sfc_load::load::load;
-use sfc_places::chart_text::ChartText;
-use sfc_places::finding::Finding;
-use sfc_places::span::find_spans;
-use sfc_places::walk::first_fault;
 use sfc_plant::plant::Plant;
 use sfc_text::read::read;
 use sfc_tokens::lex::tokens;
 use sfc_tokens::read_error::{ReadError, ReadErrorKind};
-use sfc_variables::load_error::LoadError;
 use std::alloc::{AllocError, Global};
 
 /// What is told of a chart.
@@ -40,7 +40,7 @@ pub enum Told {
 fn too_long(alloc: Global, text: &[u8]) -> Result<Report, AllocError>
     ensures { IfOk result (IsReportFor text.now (Reading TooLong)) }
 {
-    let refusal = Refusal::Reading(ReadErrorKind::TooLong);
+    let refusal = Fault::Reading(ReadErrorKind::TooLong);
     let lines = b"  there may be: 1048576 bytes\n";
     report_at(alloc, text, refusal, Place::Whole, lines)
 }
@@ -51,7 +51,7 @@ fn refused_by_reader(alloc: Global, text: &[u8], error: ReadError) -> Result<Rep
 {
     let spans = find_spans(alloc, text)?;
     let fault = reading_fault(alloc, Goal::Chart, text, &spans, error)?;
-    let refusal = Refusal::Reading(error.kind);
+    let refusal = Fault::Reading(error.kind);
     report_at(alloc, text, refusal, fault.place, &fault.lines)
 }
 
@@ -130,7 +130,7 @@ fn refused_by_loader(alloc: Global, text: &[u8], error: LoadError) -> Result<Rep
 {
     let mut lines = Vec::new(alloc);
     let place = loading_place(alloc, text, error, &mut lines)?;
-    report_at(alloc, text, Refusal::Loading(error), place, &lines)
+    report_at(alloc, text, Fault::Loading(error), place, &lines)
 }
 
 // A fault of a text that loading refuses, unless memory was refused.

@@ -17,3 +17,9 @@ pub mod report;
 pub mod script;
 mod source_line;
 mod words;
+
+// What the crates above name through this one.
+pub use sfc_explain;
+pub use sfc_explain::sfc_variables;
+pub use sfc_hints::sfc_places;
+pub use sfc_script::{sfc_core, sfc_debug, sfc_load};

@@ -6,24 +6,14 @@ ghost use Rattle.sfc_explain.specs.Finding.{is_numbered, is_named};
 ghost use Rattle.sfc_why.specs.Pages as text;
 
 use crate::position::Position;
-use crate::report::{Refusal, Report};
-use sfc_base::time_text::put_decimal;
+use crate::report::{Fault, Report};
+use crate::sfc_variables::load_error::{Limit, LoadError};
 use sfc_base::write_fault::{WriteFault, put_all};
 use sfc_explain::explanation::Explanation;
-use sfc_explain::finding::{explanation_named, explanation_numbered};
-use sfc_explain::table::{FAULTS, OF_CHARTS};
-use sfc_variables::load_error::{Limit, LoadError};
+use sfc_explain::finding::find;
+use sfc_explain::table::{faults, of_charts};
+use sfc_page::time_text::put_decimal;
 use std::io::Write;
-
-// What a chart is refused for.
-fn of_charts() -> &'static [Explanation] {
-    &OF_CHARTS
-}
-
-// Faults.
-fn faults() -> &'static [Explanation] {
-    &FAULTS
-}
 
 /// What stands between the parts of a report.
 #[derive(Clone, Copy)]
@@ -102,13 +92,13 @@ fn put_script<W: Write>(line: usize, writer: &mut W) -> Result<(), WriteFault>
 }
 
 // Writes what a chart or a script is refused for.
-fn put_refusal<W: Write>(refusal: Refusal, writer: &mut W) -> Result<(), WriteFault>
+fn put_refusal<W: Write>(refusal: Fault, writer: &mut W) -> Result<(), WriteFault>
     ensures { Writes (W.contents writer.old) (W.contents writer.new) result (text.refusal_text refusal) }
 {
     match refusal {
-        Refusal::Reading(kind) => put_numbered(kind.number(), kind.name(), writer),
-        Refusal::Loading(error) => put_loading(error, writer),
-        Refusal::Script(line) => put_script(line, writer),
+        Fault::Reading(kind) => put_numbered(kind.number(), kind.name(), writer),
+        Fault::Loading(error) => put_loading(error, writer),
+        Fault::Script(line) => put_script(line, writer),
     }
 }
 
@@ -132,7 +122,7 @@ fn put_position<W: Write>(position: Position, writer: &mut W) -> Result<(), Writ
 
 // Writes what is refused, behind a colon.
 #[tactic(auto, unfolding(crate::specs::Pages::refused), using(crate::proofs::Put::then_writes, crate::proofs::Put::front_first))]
-fn put_refused<W: Write>(refusal: Refusal, writer: &mut W) -> Result<(), WriteFault>
+fn put_refused<W: Write>(refusal: Fault, writer: &mut W) -> Result<(), WriteFault>
     ensures { Writes (W.contents writer.old) (W.contents writer.new) result (text.refused refusal) }
 {
     put_all(writer, piece_text(Piece::Behind))?;
@@ -172,24 +162,24 @@ fn put_heading<W: Write>(file: &[u8], report: &Report, writer: &mut W) -> Result
 fn explanation_by_number(number: u8) -> Option<&'static Explanation>
     ensures { IfSome result (λ explanation. is_numbered number explanation.now ≡ true) }
 {
-    explanation_numbered(of_charts(), number)
+    find(&[of_charts()], Some(number), b"")
 }
 
 // The explanation of a fault with this name.
 fn explanation_by_name(name: &[u8]) -> Option<&'static Explanation>
     ensures { IfSome result (λ explanation. is_named name.now explanation.now ≡ true) }
 {
-    explanation_named(faults(), name)
+    find(&[faults()], None, name)
 }
 
 /// What is explained of a refusal, in the tables of `sfcmon explain`.
-pub fn explanation_of(refusal: Refusal) -> Option<&'static Explanation>
+pub fn explanation_of(refusal: Fault) -> Option<&'static Explanation>
     ensures { IfSome result (λ explanation. text.IsExplainedBy refusal explanation.now) }
 {
     match refusal {
-        Refusal::Reading(kind) => explanation_by_number(kind.number()),
-        Refusal::Loading(error) => explanation_by_number(error.number()),
-        Refusal::Script(_) => explanation_by_name(b"script line"),
+        Fault::Reading(kind) => explanation_by_number(kind.number()),
+        Fault::Loading(error) => explanation_by_number(error.number()),
+        Fault::Script(_) => explanation_by_name(b"script line"),
     }
 }
 

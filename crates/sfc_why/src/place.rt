@@ -5,8 +5,8 @@ ghost use Rattle.sfc_tokens.specs.Texts.{TextLexes};
 ghost use Rattle.sfc_tokens.specs.Tokens.{kinds};
 ghost use Rattle.sfc_why.specs.Places.{AreTokens, IsPlaceOf, IsPlaceOfScript, front, piece};
 
+use crate::sfc_places::span::Span;
 use sfc_base::location::Location;
-use sfc_places::span::Span;
 use sfc_tokens::lex::tokens;
 use sfc_tokens::read_error::ReadErrorKind;
 use sfc_tokens::token::{Token, TokenKind};

@@ -7,14 +7,14 @@ ghost use Rattle.sfc_why.specs.Places.{IsPlaceOf};
 ghost use Rattle.sfc_why.specs.declared.place.Place.TheVariants.{Whole};
 
 use crate::place::{Place, byte_place, token_place};
+use crate::sfc_places::chart_text::ChartText;
+use crate::sfc_places::finding::Part;
+use crate::sfc_places::span::{Span, Spans};
 use sfc_hints::expected::{Front, find_expected};
 use sfc_hints::notes::add_in;
 use sfc_hints::short_front::{LONGEST, short_front};
 use sfc_hints::surroundings::element_before;
 use sfc_hints::trial::{Goal, Outcome, try_front};
-use sfc_places::chart_text::ChartText;
-use sfc_places::finding::Part;
-use sfc_places::span::{Span, Spans};
 use sfc_tokens::lex::tokens;
 use sfc_tokens::read_error::{ReadError, ReadErrorKind};
 use sfc_tokens::token::Token;

@@ -5,14 +5,14 @@ ghost use Rattle.sfc_why.specs.Telling.{IsReportAt};
 
 use crate::place::{Place, front_of};
 use crate::position::{Position, position_behind};
+use crate::sfc_variables::load_error::LoadError;
 use crate::source_line::{add_source_line, told_word};
 use sfc_tokens::read_error::ReadErrorKind;
-use sfc_variables::load_error::LoadError;
 use std::alloc::{AllocError, Global};
 
 /// Why a chart or a script is refused.
 #[derive(Clone, Copy)]
-pub enum Refusal {
+pub enum Fault {
     /// A chart, by the reader.
     Reading(ReadErrorKind),
     /// A chart, by the loader.
@@ -23,7 +23,7 @@ pub enum Refusal {
 
 /// What is told of the first fault of a chart or a script.
 pub struct Report {
-    pub refusal: Refusal,
+    pub refusal: Fault,
     /// The token at fault, or where else the fault is.
     pub place: Place,
     /// Its line and column.
@@ -86,7 +86,7 @@ fn shown(
 pub fn report_at(
     alloc: Global,
     text: &[u8],
-    refusal: Refusal,
+    refusal: Fault,
     place: Place,
     more: &[u8],
 ) -> Result<Report, AllocError>

@@ -6,25 +6,26 @@ ghost use Rattle.sfc_why.specs.Telling.{ExplainsScript, IsReportForScript};
 use crate::command_line::{CommandLine, LineFault, Wanted, near_commands};
 use crate::place::{Place, word_place};
 use crate::reading::reading_fault;
-use crate::report::{Refusal, Report, report_at};
+use crate::report::{Fault, Report, report_at};
+use crate::sfc_core::resource::Resource;
+use crate::sfc_places::chart_text::ChartText;
+use crate::sfc_places::declared::Space;
+use crate::sfc_places::finding::Stop;
+use crate::sfc_places::marks::{behind, spelling_at};
+use crate::sfc_places::regions::{Region, configuration, program_types};
+use crate::sfc_places::span::{Span, find_spans};
+use crate::sfc_places::types::{Names, TypeFinding, locate};
+use crate::sfc_places::variables::variables;
+use crate::sfc_places::walk_programs::space_of;
+use crate::sfc_places::walk_tasks::{instance_places, type_name};
+use crate::sfc_places::walk_variables::walk_globals;
 use crate::words::{Words, words_of};
 use sfc_base::case::is_same_word;
 use sfc_base::var_type::VarType;
-use sfc_core::resource::Resource;
 use sfc_hints::notes::add_detail;
 use sfc_hints::trial::Goal;
-use sfc_hints::writing::{add_joint, add_line, add_number};
-use sfc_places::chart_text::ChartText;
-use sfc_places::declared::Space;
-use sfc_places::finding::Stop;
-use sfc_places::marks::{behind, spelling_at};
-use sfc_places::regions::{Region, configuration, program_types};
-use sfc_places::span::{Span, find_spans};
-use sfc_places::types::{Names, TypeFinding, locate};
-use sfc_places::variables::variables;
-use sfc_places::walk_programs::space_of;
-use sfc_places::walk_tasks::{instance_places, type_name};
-use sfc_places::walk_variables::walk_globals;
+use sfc_hints::writing::{add_joint, add_line};
+use sfc_page::append::append_number;
 use sfc_plant::plant::Plant;
 use sfc_script::script::{ScriptError, read_script};
 use sfc_text::read_expr::read_expr;
@@ -98,7 +99,7 @@ fn condition_lines(
 ) -> Result<Vec<u8>, AllocError> {
     let mut lines = Vec::new(alloc);
     lines.extend_from_slice(b"  in: the condition behind WHEN, ")?;
-    add_number(&mut lines, u64::from(number))?;
+    append_number(&mut lines, u64::from(number))?;
     lines.extend_from_slice(b" ")?;
     add_line(&mut lines, name.as_bytes())?;
     lines.extend_from_slice(more)?;
@@ -301,7 +302,7 @@ fn refused_at(
 {
     let fault = line_fault(alloc, chart, script, line)?;
     let place = word_place(script, fault.span);
-    report_at(alloc, script, Refusal::Script(line), place, &fault.lines)
+    report_at(alloc, script, Fault::Script(line), place, &fault.lines)
 }
 
 // What is told of a script that is too long.
@@ -309,7 +310,7 @@ fn too_long(alloc: Global, script: &[u8]) -> Result<Report, AllocError>
     ensures { IfOk result (IsReportForScript script.now 0) }
 {
     let lines = b"  there may be: 1048576 bytes\n";
-    report_at(alloc, script, Refusal::Script(0), Place::Whole, lines)
+    report_at(alloc, script, Fault::Script(0), Place::Whole, lines)
 }
 
 // What is told of a script that is refused at a line, over the text of a chart.

@@ -1,8 +1,9 @@
 //! A line of a text with a mark below it. Tabs stay tabs, so that the mark stands below its word however wide they are;
 //! of a long line so much is shown as stands round the word.
 
-use sfc_hints::writing::{add_line, add_number, add_repeated};
-use sfc_places::span::{Span, character_length};
+use crate::sfc_places::span::{Span, character_length};
+use sfc_hints::writing::{add_line, add_repeated};
+use sfc_page::digits;
 use std::alloc::{AllocError, Global};
 
 /// The most characters of a line that are shown.
@@ -186,15 +187,6 @@ fn add_window(
     Ok(())
 }
 
-// How many digits a number has.
-fn digits(number: u64) -> usize {
-    if number < 10 {
-        1
-    } else {
-        digits(number / 10).saturating_add(1)
-    }
-}
-
 /// Adds the line in which the word stands, with its number, and below it a line with marks under the word. The one error is
 /// that memory was refused.
 pub fn add_source_line(
@@ -220,9 +212,11 @@ pub fn add_source_line(
 
 // Adds a line with its number, and the line of its marks.
 fn add_shown(shown: &Shown, number: u64, told: &mut Vec<u8>) -> Result<(), AllocError> {
-    let width = digits(number).max(NUMBER);
-    add_repeated(told, b" ", width.saturating_sub(digits(number)))?;
-    add_number(told, number)?;
+    let mut number_text = [0; digits::NUMBER];
+    let count = digits::put_number(&mut number_text, 0, number);
+    let width = count.max(NUMBER);
+    add_repeated(told, b" ", width - count)?;
+    told.extend_from_slice(&number_text[..count])?;
     told.extend_from_slice(b" | ")?;
     add_line(told, &shown.line)?;
     add_repeated(told, b" ", width)?;

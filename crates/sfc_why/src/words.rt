@@ -1,6 +1,7 @@
 //! The words of a line of a script, with their bytes.
 
-use sfc_places::span::Span;
+use crate::sfc_places::span::Span;
+use sfc_script::split::is_blank;
 use std::alloc::{AllocError, Global};
 
 /// A line of a script, without its end, and its words.
@@ -40,11 +41,6 @@ fn line_span(script: &[u8], number: usize) -> Span {
         from,
         to: if is_return { last } else { end },
     }
-}
-
-// Whether the byte parts words.
-fn is_blank(byte: u8) -> bool {
-    byte == b' ' || byte == b'\t'
 }
 
 // Whether a blank stands at the place, or the line ends there.

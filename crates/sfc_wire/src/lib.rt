@@ -20,3 +20,6 @@ pub mod rpc_message;
 pub mod rpc_outbox;
 pub mod rpc_server;
 pub mod texts;
+
+// What the crates above name through this one.
+pub use sfc_frames;

@@ -1,11 +1,11 @@
 //! The command line.
 
 use crate::files::end_with;
+use crate::sfc_debug::trace_mask::TraceMask;
+use crate::sfc_replay::replay_error::ReplayError;
 use clap::builder::ValueParser;
 use clap::error::ErrorKind;
 use clap::{Arg, ArgAction, ArgMatches, Command, Error};
-use sfc_debug::trace_mask::TraceMask;
-use sfc_monitor::monitor_error::MonitorError;
 use sfc_pictures::wave::Instants;
 use std::alloc::{AllocError, Global};
 
@@ -737,7 +737,7 @@ fn parsed(alloc: Global, words: &[String]) -> Result<Request, Error> {
 // Prints what clap has to say; the exit status.
 fn answer<R: Print + Eprint>(rt: &R, error: &Error) -> u8 {
     if error.kind() == ErrorKind::OutOfMemory {
-        return end_with(rt, MonitorError::Memory);
+        return end_with(rt, ReplayError::Memory);
     }
     match error.print(rt) {
         Ok(()) if error.use_stderr() => 2,
@@ -758,7 +758,7 @@ fn invalid_words(alloc: Global) -> Result<Error, AllocError> {
 pub fn refuse_words<R: Print + Eprint + AllocGlobal>(rt: &R) -> u8 {
     match invalid_words(rt.alloc()) {
         Ok(error) => answer(rt, &error),
-        Err(_) => end_with(rt, MonitorError::Memory),
+        Err(_) => end_with(rt, ReplayError::Memory),
     }
 }
 

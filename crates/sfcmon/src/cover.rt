@@ -2,14 +2,14 @@
 
 use crate::arguments::Covering;
 use crate::files::end_with;
+use crate::sfc_replay::replay_error::ReplayError;
 use sfc_cover::cover::Cover;
-use sfc_monitor::monitor_error::MonitorError;
 use std::io::Read;
 use std::rt::Files;
 use std::{fs, io};
 
 // Prints the text of an error of a script behind the name of its file; the exit status.
-fn end_with_script<R: Eprint>(rt: &R, script: &str, error: MonitorError) -> u8 {
+fn end_with_script<R: Eprint>(rt: &R, script: &str, error: ReplayError) -> u8 {
     let _ = eprintln!(rt; "{script}: {error}");
     error.status()
 }
@@ -22,10 +22,10 @@ fn open_scripts<R: Eprint + Files + AllocGlobal>(
     let mut files = Vec::new(rt.alloc());
     for name in names {
         let Ok(file) = fs::open(rt, name.as_str()) else {
-            return Err(end_with_script(rt, name.as_str(), MonitorError::Read));
+            return Err(end_with_script(rt, name.as_str(), ReplayError::Read));
         };
         if files.push(file).is_err() {
-            return Err(end_with(rt, MonitorError::Memory));
+            return Err(end_with(rt, ReplayError::Memory));
         }
     }
     Ok(files)
@@ -78,7 +78,7 @@ fn cover_opened<R: Print + Eprint + AllocGlobal, C: Read, S: Read>(
 /// fault. What is wrong with a script is told behind the name of its file.
 pub fn cover_files<R: Print + Eprint + Files + AllocGlobal>(rt: &R, covering: &Covering) -> u8 {
     let Ok(mut chart) = fs::open(rt, covering.chart.as_str()) else {
-        return end_with(rt, MonitorError::Read);
+        return end_with(rt, ReplayError::Read);
     };
     match open_scripts(rt, &covering.scripts) {
         Ok(mut scripts) => cover_opened(rt, &mut chart, &mut scripts, covering),

@@ -1,7 +1,7 @@
 //! A chart that is stepped by hand.
 
 use crate::files::{Streams, end_with};
-use sfc_monitor::monitor_error::MonitorError;
+use crate::sfc_replay::replay_error::ReplayError;
 use sfc_prompt::archive::Archive;
 use sfc_prompt::desk::{Desk, hold};
 use std::alloc::{AllocError, Global};
@@ -41,7 +41,7 @@ impl<R: Files> Archive for FileArchive<'_, R> {
 /// that can't be opened is a read fault.
 pub fn debug_file<R: Eprint + Files + AllocGlobal>(rt: &R, streams: Streams, chart: &str) -> u8 {
     let Ok(mut chart) = fs::open(rt, chart) else {
-        return end_with(rt, MonitorError::Read);
+        return end_with(rt, ReplayError::Read);
     };
     let Streams {
         mut input,

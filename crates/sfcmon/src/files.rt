@@ -1,10 +1,10 @@
 //! Files, standard output and exit status.
 
-use sfc_debug::trace_mask::TraceMask;
-use sfc_monitor::check::{check_chart, list_chart};
-use sfc_monitor::monitor_error::MonitorError;
-use sfc_monitor::replay::{replay, replay_strict};
-use sfc_monitor::run::run_chart;
+use crate::sfc_debug::trace_mask::TraceMask;
+use crate::sfc_replay::check::{check_chart, list_chart};
+use crate::sfc_replay::replay::{replay, replay_strict};
+use crate::sfc_replay::replay_error::ReplayError;
+use sfc_run::run::run_chart;
 use std::alloc::Global;
 use std::io::{Read, Stderr, Stdin, Stdout, Write};
 use std::rt::Files;
@@ -13,7 +13,7 @@ use std::thread::Threads;
 use std::{fs, io, time};
 
 /// Prints the text of the error on standard error, where a fault is passed over; the exit status.
-pub fn end_with<R: Eprint>(rt: &R, error: MonitorError) -> u8 {
+pub fn end_with<R: Eprint>(rt: &R, error: ReplayError) -> u8 {
     let _ = eprintln!(rt; "{error}");
     error.status()
 }
@@ -21,7 +21,7 @@ pub fn end_with<R: Eprint>(rt: &R, error: MonitorError) -> u8 {
 /// Checks the chart of a file: the exit status. A file that can't be opened is a read fault.
 pub fn check_file<R: Print + Eprint + Files + AllocGlobal>(rt: &R, chart: &str) -> u8 {
     let Ok(mut chart) = fs::open(rt, chart) else {
-        return end_with(rt, MonitorError::Read);
+        return end_with(rt, ReplayError::Read);
     };
     let mut out = io::writer(rt);
     match check_chart(rt.alloc(), &mut chart, &mut out) {
@@ -33,7 +33,7 @@ pub fn check_file<R: Print + Eprint + Files + AllocGlobal>(rt: &R, chart: &str) 
 /// Prints the text of the plant that a file's chart is: the exit status. A file that can't be opened is a read fault.
 pub fn list_file<R: Print + Eprint + Files + AllocGlobal>(rt: &R, chart: &str) -> u8 {
     let Ok(mut chart) = fs::open(rt, chart) else {
-        return end_with(rt, MonitorError::Read);
+        return end_with(rt, ReplayError::Read);
     };
     let mut out = io::writer(rt);
     match list_chart(rt.alloc(), &mut chart, &mut out) {
@@ -50,7 +50,7 @@ fn play<C: Read, S: Read, W: Write>(
     script: &mut S,
     writer: &mut W,
     strict: bool,
-) -> Result<u8, MonitorError> {
+) -> Result<u8, ReplayError> {
     if !strict {
         replay(alloc, chart, script, writer)?;
         return Ok(0);
@@ -70,10 +70,10 @@ pub fn replay_files<R: Print + Eprint + Files + AllocGlobal>(
     strict: bool,
 ) -> u8 {
     let Ok(mut chart) = fs::open(rt, chart) else {
-        return end_with(rt, MonitorError::Read);
+        return end_with(rt, ReplayError::Read);
     };
     let Ok(mut script) = fs::open(rt, script) else {
-        return end_with(rt, MonitorError::Read);
+        return end_with(rt, ReplayError::Read);
     };
     let mut out = io::writer(rt);
     match play(rt.alloc(), &mut chart, &mut script, &mut out, strict) {
@@ -96,7 +96,7 @@ where
     R: Threads + Wait + time::Clock + Sync + Eprint + Files + AllocGlobal,
 {
     let Ok(mut chart) = fs::open(rt, chart) else {
-        return end_with(rt, MonitorError::Read);
+        return end_with(rt, ReplayError::Read);
     };
     let Streams {
         mut input,

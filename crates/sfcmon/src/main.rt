@@ -18,9 +18,11 @@ mod files;
 mod pictures;
 mod why;
 
+use crate::sfc_replay::replay_error::ReplayError;
 use arguments::{Asking, Playing, Request, read_words, refuse_words};
 use files::Streams;
-use sfc_monitor::monitor_error::MonitorError;
+use sfc_cover::sfc_replay;
+use sfc_why::{sfc_debug, sfc_explain};
 use std::process::ExitCode;
 use std::rt::Files;
 use std::sync::Wait;
@@ -81,7 +83,7 @@ fn request_of(rt: &HostRuntime) -> Request {
         Err(error) if error.kind() == io::ErrorKind::InvalidData => {
             Request::Answered(refuse_words(rt))
         }
-        Err(_) => Request::Answered(files::end_with(rt, MonitorError::Memory)),
+        Err(_) => Request::Answered(files::end_with(rt, ReplayError::Memory)),
     }
 }
 

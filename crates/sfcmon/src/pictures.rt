@@ -2,7 +2,7 @@
 
 use crate::arguments::{Drawing, Waving};
 use crate::files::end_with;
-use sfc_monitor::monitor_error::MonitorError;
+use crate::sfc_replay::replay_error::ReplayError;
 use sfc_pictures::draw::{draw_after, draw_chart};
 use sfc_pictures::picture_error::PictureError;
 use sfc_pictures::wave::wave_script;
@@ -40,7 +40,7 @@ fn draw_behind<R: Eprint + Files + AllocGlobal, C: Read, W: Write>(
     out: &mut W,
 ) -> u8 {
     let Ok(mut script) = fs::open(rt, script) else {
-        return end_with(rt, MonitorError::Read);
+        return end_with(rt, ReplayError::Read);
     };
     status_of(rt, draw_after(rt.alloc(), chart, &mut script, name, out))
 }
@@ -48,7 +48,7 @@ fn draw_behind<R: Eprint + Files + AllocGlobal, C: Read, W: Write>(
 /// Draws the chart of a file on standard output: the exit status. A file that can't be opened is a read fault.
 pub fn draw_file<R: Print + Eprint + Files + AllocGlobal>(rt: &R, drawing: &Drawing) -> u8 {
     let Ok(mut chart) = fs::open(rt, drawing.chart.as_str()) else {
-        return end_with(rt, MonitorError::Read);
+        return end_with(rt, ReplayError::Read);
     };
     let name = bytes_of(&drawing.program);
     let mut out = io::writer(rt);
@@ -62,10 +62,10 @@ pub fn draw_file<R: Print + Eprint + Files + AllocGlobal>(rt: &R, drawing: &Draw
 /// before either is read; one that can't be opened is a read fault.
 pub fn wave_files<R: Print + Eprint + Files + AllocGlobal>(rt: &R, waving: &Waving) -> u8 {
     let Ok(mut chart) = fs::open(rt, waving.chart.as_str()) else {
-        return end_with(rt, MonitorError::Read);
+        return end_with(rt, ReplayError::Read);
     };
     let Ok(mut script) = fs::open(rt, waving.script.as_str()) else {
-        return end_with(rt, MonitorError::Read);
+        return end_with(rt, ReplayError::Read);
     };
     let mut out = io::writer(rt);
     match wave_script(

@@ -1,9 +1,9 @@
 //! Where the first fault of a chart or a script is.
 
 use crate::files::end_with;
+use crate::sfc_replay::input::read_to_end;
+use crate::sfc_replay::replay_error::ReplayError;
 use sfc_base::write_fault::put_all;
-use sfc_monitor::input::read_to_end;
-use sfc_monitor::monitor_error::MonitorError;
 use sfc_why::chart::{Told, explain_chart};
 use sfc_why::page::{explanation_of, put_report};
 use sfc_why::report::Report;
@@ -14,14 +14,14 @@ use std::rt::Files;
 use std::{fs, io};
 
 // Writes a report of a fault of a file: the exit status.
-fn tell<W: Write>(file: &str, report: &Report, writer: &mut W) -> Result<u8, MonitorError> {
+fn tell<W: Write>(file: &str, report: &Report, writer: &mut W) -> Result<u8, ReplayError> {
     let explanation = explanation_of(report.refusal);
     put_report(file.as_bytes(), report, explanation, writer)?;
     Ok(1)
 }
 
 // Writes that there is no fault: the exit status.
-fn tell_none<W: Write>(writer: &mut W) -> Result<u8, MonitorError> {
+fn tell_none<W: Write>(writer: &mut W) -> Result<u8, ReplayError> {
     put_all(writer, b"no fault\n")?;
     Ok(0)
 }
@@ -32,7 +32,7 @@ fn why_chart<C: Read, W: Write>(
     file: &str,
     chart: &mut C,
     writer: &mut W,
-) -> Result<u8, MonitorError> {
+) -> Result<u8, ReplayError> {
     let text = read_to_end(alloc, chart)?;
     match explain_chart(alloc, &text)? {
         Told::Fault(report) => tell(file, &report, writer),
@@ -45,7 +45,7 @@ fn tell_script<W: Write>(
     file: &str,
     report: &Option<Report>,
     writer: &mut W,
-) -> Result<u8, MonitorError> {
+) -> Result<u8, ReplayError> {
     match report {
         Some(report) => tell(file, report, writer),
         None => tell_none(writer),
@@ -66,7 +66,7 @@ fn why_script<C: Read, S: Read, W: Write>(
     chart: &mut C,
     script: &mut S,
     writer: &mut W,
-) -> Result<u8, MonitorError> {
+) -> Result<u8, ReplayError> {
     let text = read_to_end(alloc, chart)?;
     match explain_chart(alloc, &text)? {
         Told::Fault(report) => tell(names.chart, &report, writer),
@@ -81,7 +81,7 @@ fn why_script<C: Read, S: Read, W: Write>(
 /// Tells the first fault of a file's chart: the exit status. A file that can't be opened is a read fault.
 pub fn why_file<R: Print + Eprint + Files + AllocGlobal>(rt: &R, file: &str) -> u8 {
     let Ok(mut chart) = fs::open(rt, file) else {
-        return end_with(rt, MonitorError::Read);
+        return end_with(rt, ReplayError::Read);
     };
     let mut out = io::writer(rt);
     match why_chart(rt.alloc(), file, &mut chart, &mut out) {
@@ -98,10 +98,10 @@ pub fn why_files<R: Print + Eprint + Files + AllocGlobal>(
     script_file: &str,
 ) -> u8 {
     let Ok(mut chart) = fs::open(rt, chart_file) else {
-        return end_with(rt, MonitorError::Read);
+        return end_with(rt, ReplayError::Read);
     };
     let Ok(mut script) = fs::open(rt, script_file) else {
-        return end_with(rt, MonitorError::Read);
+        return end_with(rt, ReplayError::Read);
     };
     let names = Names {
         chart: chart_file,

@@ -2,8 +2,8 @@
 use Rattle.std.specs.Prelude.{ℕ, ◌≡◌, ◌<◌, ⊤, length, List, Option, Some, None}
 use Rattle.sfc_base.specs.declared.ids.TaskId.{TaskId}
 use Rattle.sfc_plant.specs.Plants.{PlantData}
-use Rattle.sfc_image.specs.Changes.{Change}
-use Rattle.sfc_image.specs.Answers.{value_fault, release_fault}
+use Rattle.sfc_instances.specs.sfc_image.Changes.{Change}
+use Rattle.sfc_instances.specs.sfc_image.Answers.{value_fault, release_fault}
 use Rattle.sfc_events.specs.declared.event.Event.{Event}
 use Rattle.sfc_events.specs.declared.event.Event.TheVariants.{Input, Force, Release, Reset}
 use Rattle.sfc_events.specs.Events.{scanned_task}

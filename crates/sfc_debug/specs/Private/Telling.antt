@@ -5,7 +5,7 @@ use Rattle.sfc_events.specs.declared.command.Command.{Command}
 use Rattle.sfc_events.specs.declared.command.Command.TheVariants.{Scan}
 use Rattle.sfc_events.specs.declared.event.Outcome.{Outcome}
 use Rattle.sfc_events.specs.declared.event.Outcome.TheVariants.{Scanned}
-use Rattle.sfc_instances.specs.PlantState.{PlantState}
+use Rattle.sfc_core.specs.sfc_instances.PlantState.{PlantState}
 use Rattle.sfc_debug.specs.declared.break_condition.BreakCondition.{BreakCondition}
 use Rattle.sfc_debug.specs.declared.breakpoint.Breakpoint.{Breakpoint}
 use Rattle.sfc_debug.specs.Hits.{any_hit}

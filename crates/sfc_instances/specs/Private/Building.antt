@@ -1,6 +1,6 @@
 -- What the instances of a plant are built of.
 use Rattle.std.specs.Prelude.{ℕ, ◌≡◌, List, Some, slice_get, slice_index_or}
-use Rattle.sfc_tables.specs.Tables.{Tabled}
+use Rattle.sfc_instance.specs.sfc_tables.Tables.{Tabled}
 use Rattle.sfc_plant.specs.declared.instance.Instance.{Instance}
 use Rattle.sfc_instance.specs.declared.program.Program.{Program}
 use Rattle.sfc_instance.specs.Agreement.{IsFor, ProgramAgrees}

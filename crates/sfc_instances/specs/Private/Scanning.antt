@@ -16,11 +16,11 @@ pub record Follows (plant : PlantData) (task : TaskId) (t : ℤ) (state : PlantS
   pub agrees : InstancesAgree plant instances now
   pub rest : after_task plant task t k (drop k plant.instances) now ≡ after_task plant task t 0 plant.instances state
   pub ran :
-      bits.ran + bits_of Ran plant task t k (drop k plant.instances) now
+      bits.ran.bits + bits_of Ran plant task t k (drop k plant.instances) now
       ≡ bits_of Ran plant task t 0 plant.instances state
   pub faulted :
-      bits.faulted + bits_of Faulted plant task t k (drop k plant.instances) now
+      bits.faulted.bits + bits_of Faulted plant task t k (drop k plant.instances) now
       ≡ bits_of Faulted plant task t 0 plant.instances state
   pub skipped :
-      bits.skipped + bits_of Skipped plant task t k (drop k plant.instances) now
+      bits.skipped.bits + bits_of Skipped plant task t k (drop k plant.instances) now
       ≡ bits_of Skipped plant task t 0 plant.instances state

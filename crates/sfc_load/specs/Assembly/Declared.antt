@@ -3,7 +3,7 @@ use Rattle.std.specs.Prelude.{◌≡◌, ◌≤◌, None, length, map}
 use Rattle.sfc_base.specs.declared.limits.TheConstants.{TASKS}
 use Rattle.sfc_text.specs.declared.tree.Source.{Source}
 use Rattle.sfc_text.specs.Trees.{SourceTree}
-use Rattle.sfc_variables.specs.Declarations.{globals_check, globals_of}
+use Rattle.sfc_program.specs.sfc_variables.Declarations.{globals_check, globals_of}
 use Rattle.sfc_program.specs.Built.{program_of}
 use Rattle.sfc_plant.specs.declared.declarations.Declarations.{Declarations}
 use Rattle.sfc_plant.specs.declared.parts.Parts.{Parts}

@@ -5,8 +5,8 @@ use Rattle.sfc_plant.specs.Plants.{PlantData}
 use Rattle.sfc_tokens.specs.declared.read_error.ReadErrorKind.{ReadErrorKind}
 use Rattle.sfc_tokens.specs.declared.read_error.ReadErrorKind.TheVariants as kind
 use Rattle.sfc_debug.specs.declared.break_condition.BreakCondition.{BreakCondition}
-use Rattle.sfc_conditions.specs.declared.condition_error.ConditionError.{ConditionError}
-use Rattle.sfc_conditions.specs.declared.condition_error.ConditionError.TheVariants.{UnknownProgram, Wrong, Memory}
+use Rattle.sfc_script.specs.declared.condition_error.ConditionError.{ConditionError}
+use Rattle.sfc_script.specs.declared.condition_error.ConditionError.TheVariants.{UnknownProgram, Wrong, Memory}
 use Rattle.sfc_script.specs.declared.point.Place.{Place}
 use Rattle.sfc_script.specs.declared.script.Script.{Script}
 use Rattle.sfc_script.specs.declared.script.ScriptError.{ScriptError}

@@ -5,7 +5,7 @@ use Rattle.std.proofs.lemmas.List.{drop-set-lt, take_more_set}
 use Rattle.std.proofs.lemmas.List.FromFn.{map-range_with_len_more}
 use Rattle.sfc_events.specs.History.{History}
 use Rattle.sfc_plant.specs.Plants.{PlantData}
-use Rattle.sfc_core.specs.Agreement.{plant_of}
+use Rattle.sfc_replay.specs.sfc_core.Agreement.{plant_of}
 use Rattle.sfc_c.specs.declared.image.VariableState.{VariableState}
 use Rattle.sfc_c.specs.Readings.{HasStates, variable_state}
 use Rattle.sfc_c.proofs.image.fill.Goals as goal

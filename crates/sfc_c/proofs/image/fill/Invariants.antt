@@ -1,5 +1,5 @@
 use Rattle.sfc_events.specs.History.{History}
-use Rattle.sfc_core.specs.Agreement.{Agrees, plant_of}
+use Rattle.sfc_replay.specs.sfc_core.Agreement.{Agrees, plant_of}
 use Rattle.sfc_c.specs.Readings.{HasStates}
 use Rattle.sfc_c.proofs.image.fill.Given as goal
 

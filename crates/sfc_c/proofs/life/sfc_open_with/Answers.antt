@@ -1,5 +1,5 @@
 use Rattle.std.proofs.Common.{[], refl, subst, sym}
-use Rattle.sfc_output.specs.Steered.{steered_by}
+use Rattle.sfc_replay.specs.sfc_debug.Steered.{steered_by}
 use Rattle.sfc_c.specs.Handles.{Holds}
 use Rattle.sfc_c.proofs.life.sfc_open_with.Goals as goal
 

@@ -1,5 +1,5 @@
 use Rattle.std.proofs.Common.{◌≡◌, ◌<◌, ℕ, false}
-use Rattle.sfc_core.specs.Agreement.{plant_of}
+use Rattle.sfc_replay.specs.sfc_core.Agreement.{plant_of}
 use Rattle.sfc_c.specs.Names.{lies_at}
 use Rattle.sfc_c.proofs.locating.variable_at.Given as goal
 

@@ -2,8 +2,8 @@ use Rattle.std.proofs.Common.{◌≡◌, ◌∙◌, ℤ, List, ap, get_or, sym, 
 use Rattle.std.proofs.lemmas.Int.{to_z-of_z}
 use Rattle.sfc_plant.specs.declared.task.Task.{Task}
 use Rattle.sfc_plant.specs.Plants.{PlantData}
-use Rattle.sfc_core.specs.Agreement.{plant_of}
-use Rattle.sfc_tasks.specs.Multiples.{next_release}
+use Rattle.sfc_replay.specs.sfc_core.Agreement.{plant_of}
+use Rattle.sfc_replay.specs.sfc_tasks.Multiples.{next_release}
 use Rattle.sfc_c.specs.Codes.{instant_or_none}
 use Rattle.sfc_c.proofs.Releases.{next_by}
 use Rattle.sfc_c.proofs.tasks.next_release.Goals as goal

@@ -1,5 +1,5 @@
-use Rattle.sfc_image.proofs.Written.{reset_here}
-use Rattle.sfc_instance.specs.Life.{fresh}
+use Rattle.sfc_instances.proofs.of_sfc_image.Written.{reset_here}
+use Rattle.sfc_instances.specs.sfc_instance.Life.{fresh}
 use Rattle.sfc_instances.proofs.InstanceState.{instance_state_here, instance_state_there}
 use Rattle.sfc_core.specs.PlantState.{state_of}
 use Rattle.sfc_core.proofs.laws.resets.Goals as goal

@@ -1,5 +1,5 @@
 use Rattle.std.proofs.Common.{[]}
-use Rattle.sfc_image.proofs.Typed.{stored_typed, read_typed, forced_typed}
+use Rattle.sfc_instances.proofs.of_sfc_image.Typed.{stored_typed, read_typed, forced_typed}
 use Rattle.sfc_core.specs.PlantState.{state_of}
 use Rattle.sfc_core.specs.Verdict.{after_all}
 use Rattle.sfc_core.proofs.Typed.{all_typed}

@@ -1,4 +1,4 @@
-use Rattle.sfc_image.proofs.Happened.{release_shows}
+use Rattle.sfc_instances.proofs.of_sfc_image.Happened.{release_shows}
 use Rattle.sfc_core.specs.PlantState.{state_of}
 use Rattle.sfc_core.proofs.Shown.{given_reads, hidden_reads, forced_reads, other_reads, force_elsewhere, release_elsewhere}
 use Rattle.sfc_core.proofs.laws.values.Goals as goal

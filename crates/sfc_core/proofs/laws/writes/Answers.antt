@@ -1,7 +1,7 @@
 use Rattle.std.proofs.Common.{◌∙◌, List, ap}
-use Rattle.sfc_image.specs.Changes.{Change}
-use Rattle.sfc_image.specs.Values.{stored_value}
-use Rattle.sfc_image.proofs.Happened.{store_is_latest}
+use Rattle.sfc_instances.specs.sfc_image.Changes.{Change}
+use Rattle.sfc_instances.specs.sfc_image.Values.{stored_value}
+use Rattle.sfc_instances.proofs.of_sfc_image.Happened.{store_is_latest}
 use Rattle.sfc_core.specs.PlantState.{state_of}
 use Rattle.sfc_core.proofs.Grows.{history_grows}
 use Rattle.sfc_core.proofs.laws.writes.Goals as goal

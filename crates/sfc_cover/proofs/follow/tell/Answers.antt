@@ -1,10 +1,10 @@
 use Rattle.std.proofs.Common.{◌≡◌, ◌∙◌, ◌∷◌, Some, None, rules, subst, sym, w64, SFits, to_z-of_z}
 use Rattle.sfc_plant.specs.Plants.{PlantData}
 use Rattle.sfc_events.specs.Commands.{event_of}
-use Rattle.sfc_instances.specs.Agreement.{InstancesAgree}
-use Rattle.sfc_instances.specs.PlantState.{PlantState}
-use Rattle.sfc_core.specs.PlantState.{after_event}
-use Rattle.sfc_debug.specs.Agreement.{plant_of, table_of}
+use Rattle.sfc_replay.specs.sfc_instances.Agreement.{InstancesAgree}
+use Rattle.sfc_replay.specs.sfc_instances.PlantState.{PlantState}
+use Rattle.sfc_replay.specs.sfc_core.PlantState.{after_event}
+use Rattle.sfc_replay.specs.sfc_debug.Agreement.{plant_of, table_of}
 use Rattle.sfc_cover.specs.Private.Given.{IsGiven}
 use Rattle.sfc_cover.proofs.Following.{event_followed, nothing_followed}
 use Rattle.sfc_cover.proofs.follow.tell.Goals as goal

@@ -1,5 +1,5 @@
-use Rattle.sfc_instances.specs.Agreement.{AreInstancesOf, InstancesAgree}
-use Rattle.sfc_instances.specs.PlantState.{PlantState}
+use Rattle.sfc_replay.specs.sfc_instances.Agreement.{AreInstancesOf, InstancesAgree}
+use Rattle.sfc_replay.specs.sfc_instances.PlantState.{PlantState}
 use Rattle.sfc_cover.specs.Private.Scanning.{Follows}
 use Rattle.sfc_cover.specs.Stages.{IsWatchOf}
 use Rattle.sfc_cover.proofs.shadow.scan_task.Given as goal

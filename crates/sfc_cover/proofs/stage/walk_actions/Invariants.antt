@@ -1,5 +1,5 @@
 use Rattle.std.proofs.Common.{◌≡◌}
-use Rattle.sfc_image.specs.Agreement.{IsAsLarge, is_open}
+use Rattle.sfc_replay.specs.sfc_image.Agreement.{IsAsLarge, is_open}
 use Rattle.sfc_cover.proofs.stage.walk_actions.Given as goal
 
 abbrev pub invariant-loop-number : goal.invariant-loop-number

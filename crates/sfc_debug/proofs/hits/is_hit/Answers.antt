@@ -1,12 +1,13 @@
 use Rattle.std.proofs.Common.{◌≡◌, ◌∙◌, true, false, sym, ap}
-use Rattle.sfc_instance.specs.Life.{latest_instant}
-use Rattle.sfc_instance.specs.ProgramScan.{environment}
-use Rattle.sfc_instance.specs.Views.{environment_in}
+use Rattle.sfc_core.specs.sfc_instance.Life.{latest_instant}
+use Rattle.sfc_core.specs.sfc_instance.ProgramScan.{environment}
+use Rattle.sfc_core.specs.sfc_instance.Views.{environment_in}
 use Rattle.sfc_plant.specs.Finding.{chart_of}
-use Rattle.sfc_tables.specs.Tables.{tables_of}
+use Rattle.sfc_core.specs.sfc_tables.Tables.{tables_of}
 use Rattle.sfc_core.specs.Agreement as core
 use Rattle.sfc_core.specs.PlantState.{state_of}
-use Rattle.sfc_debug.specs.Hits.{is_hit, is_set, has_happened, holds, environment_after}
+use Rattle.sfc_events.specs.InstanceSets.{has}
+use Rattle.sfc_debug.specs.Hits.{is_hit, has_happened, holds, environment_after}
 use Rattle.sfc_debug.specs.Points.{has_point}
 use Rattle.sfc_debug.proofs.Hitting.{all_but_last}
 use Rattle.sfc_debug.proofs.hits.is_hit.Goals as goal
@@ -29,5 +30,5 @@ returns-then-has_happened-clause-value c h a =
     ∙ sym (c.has_happened.ensures state.changes stands shown) ∙ c.if-has_happened.true in
     c.holds.ensures.value ∙ ap (λ e. holds c.args.table.now e breakpoint.condition) env
     ∙ sym
-    (all_but_last (has_point plant p breakpoint.point) (is_set c.args.ran p.0) _ _ (sym c.has_point.ensures.value ∙ c.if-not-has_point.false)
-    (ap (is_set c.args.ran) (sym c.from.ensures) ∙ sym c.is_set.ensures ∙ c.if-not-is_set.false) happened)
+    (all_but_last (has_point plant p breakpoint.point) (has c.args.ran p.0) _ _ (sym c.has_point.ensures.value ∙ c.if-not-has_point.false)
+    (sym c.contains.ensures ∙ c.if-not-contains.false) happened)

@@ -1,6 +1,6 @@
 use Rattle.std.proofs.Common.{◌≡◌, map, take}
 use Rattle.sfc_plant.specs.declared.program_type.ProgramType.{ProgramType}
-use Rattle.sfc_tables.specs.Tables.{tables_of}
+use Rattle.sfc_instance.specs.sfc_tables.Tables.{tables_of}
 use Rattle.sfc_instances.proofs.instances.build_tables.Given as goal
 
 abbrev pub invariant-loop-k : goal.invariant-loop-k

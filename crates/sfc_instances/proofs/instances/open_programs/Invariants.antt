@@ -1,5 +1,5 @@
 use Rattle.std.proofs.Common.{◌≡◌, ℕ, ◌<◌, length, slice_get, slice_index_or, Some}
-use Rattle.sfc_tables.specs.Tables.{Tabled}
+use Rattle.sfc_instance.specs.sfc_tables.Tables.{Tabled}
 use Rattle.sfc_plant.specs.declared.instance.Instance.{Instance}
 use Rattle.sfc_instance.specs.declared.program.Program.{Program}
 use Rattle.sfc_instances.specs.Private.Building.{IsOpened}

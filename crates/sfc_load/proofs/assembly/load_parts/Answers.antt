@@ -1,7 +1,7 @@
 use Rattle.std.proofs.Common.{◌≡◌, List, length, map, sym, ap, subst, ◌∙◌}
 use Rattle.std.proofs.lemmas.Result.{err_from_is_err_and}
 use Rattle.sfc_text.specs.Trees.{source_of}
-use Rattle.sfc_variables.specs.Checks.{Fails}
+use Rattle.sfc_program.specs.sfc_variables.Checks.{Fails}
 use Rattle.sfc_plant.specs.declared.declarations.Declarations.{Declarations}
 use Rattle.sfc_plant.specs.declared.instance.Instance.{Instance}
 use Rattle.sfc_plant.specs.Image.{image_of, starts_from}

@@ -1,5 +1,5 @@
 use Rattle.std.proofs.Common.{◌≡◌, ◌++◌, [], length, map}
-use Rattle.sfc_variables.specs.Checks.{in_turn}
+use Rattle.sfc_program.specs.sfc_variables.Checks.{in_turn}
 use Rattle.sfc_load.specs.Loading.{instance_name, instance_check}
 use Rattle.sfc_load.specs.Built.{instance_of}
 use Rattle.sfc_load.proofs.instances.load_each.Given as goal

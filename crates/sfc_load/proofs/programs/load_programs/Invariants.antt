@@ -1,6 +1,6 @@
 use Rattle.std.proofs.Common.{◌≡◌, ◌++◌, [], length, map}
 use Rattle.sfc_text.specs.Trees.{program_of as program_tree}
-use Rattle.sfc_variables.specs.Checks.{in_turn}
+use Rattle.sfc_program.specs.sfc_variables.Checks.{in_turn}
 use Rattle.sfc_program.specs.Built.{program_of}
 use Rattle.sfc_load.specs.Loading.{program_name, named_program_check, program_names}
 use Rattle.sfc_load.proofs.programs.load_programs.Given as goal

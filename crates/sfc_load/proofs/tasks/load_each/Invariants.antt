@@ -1,5 +1,5 @@
 use Rattle.std.proofs.Common.{◌≡◌, ◌++◌, [], length, map}
-use Rattle.sfc_variables.specs.Checks.{in_turn}
+use Rattle.sfc_program.specs.sfc_variables.Checks.{in_turn}
 use Rattle.sfc_load.specs.Loading.{task_name, task_check, task_names}
 use Rattle.sfc_load.specs.Built.{task_of}
 use Rattle.sfc_load.proofs.tasks.load_each.Given as goal

@@ -1,14 +1,14 @@
 use Rattle.std.proofs.Common.{◌++◌, ap, ◌∙◌, sym, subst}
 use Rattle.std.proofs.lemmas.Result.{on_ok_weaker}
 use Rattle.sfc_plant.specs.Plants.{PlantData}
-use Rattle.sfc_core.specs.PlantState as plant_state
+use Rattle.sfc_debug.specs.sfc_core.PlantState as plant_state
 use Rattle.sfc_debug.specs.Agreement.{plant_of, table_of}
 use Rattle.sfc_debug.specs.States.{state_of}
 use Rattle.sfc_output.specs.Commands.{command_line, program_lines}
 use Rattle.sfc_output.specs.Memories.{Fits}
-use Rattle.sfc_output.specs.Private.Told.{told}
-use Rattle.sfc_output.specs.Steered.{steered_by}
-use Rattle.sfc_output.proofs.Appended.{two_appended}
+use Rattle.sfc_page.specs.Lines.{written}
+use Rattle.sfc_debug.specs.Steered.{steered_by}
+use Rattle.sfc_page.proofs.Appended.{two_appended}
 use Rattle.sfc_output.proofs.answer.put_accepted.Goals as goal
 
 pub returns-clause-lines : goal.returns-clause-lines
@@ -16,9 +16,9 @@ returns-clause-lines c h agrees fits =
     let plant = plant_of c.args.debugger.now in
     let state = state_of plant (table_of c.args.debugger.now) h in
     let answer = c.args.accepted.now.answer.now in
-    let old = told c.args.out.now.items c.args.line.now in
-    let first = told c.put_first.new.out.items c.put_first.new.line in
-    let both = told c.put_programs.new.out.items c.put_programs.new.line in
+    let old = written c.args.out.now.items c.args.line.now in
+    let first = written c.put_first.new.out.items c.put_first.new.line in
+    let both = written c.put_programs.new.out.items c.put_programs.new.line in
     let line = command_line (steered_by c.args.debugger.now) c.args.accepted.now.command.now state.clock.instant answer in
     let lines = λ (p : PlantData). program_lines p (plant_state.state_of p state.events).instance_state answer in
     on_ok_weaker c.put_programs.result

@@ -3,12 +3,12 @@ use Rattle.std.specs.List.{flat_map, range_with_len}
 use Rattle.std.proofs.lemmas.List.{append-nil}
 use Rattle.sfc_events.specs.History.{History}
 use Rattle.sfc_plant.specs.Plants.{PlantData}
-use Rattle.sfc_instance.specs.declared.scan_end.ScanEnd.{ScanEnd}
-use Rattle.sfc_core.specs.Agreement.{Agrees, plant_of}
-use Rattle.sfc_core.specs.PlantState.{state_of}
+use Rattle.sfc_debug.specs.sfc_instance.declared.scan_end.ScanEnd.{ScanEnd}
+use Rattle.sfc_debug.specs.sfc_core.Agreement.{Agrees, plant_of}
+use Rattle.sfc_debug.specs.sfc_core.PlantState.{state_of}
 use Rattle.sfc_output.specs.Commands.{scan_end_in, written_line}
 use Rattle.sfc_output.specs.Memories.{Fits}
-use Rattle.sfc_output.specs.Private.Told.{told}
+use Rattle.sfc_page.specs.Lines.{written}
 use Rattle.sfc_output.proofs.Numbered.{lines_head, untold}
 use Rattle.sfc_output.proofs.answer.put_programs.Goals.{in-Some-Ran+in_ok-put_ran-in-Some-Ran, in-Some+in_ok-put_ended-in-Some, in-None}
 use Rattle.sfc_output.proofs.answer.put_programs.Goals as goal
@@ -17,27 +17,27 @@ pub loop-k-preserved : goal.loop-k-preserved
 loop-k-preserved c =
     let plant = plant_of c.args.resource.now in
     let k = c.loop-k.k in
-    let old = told c.loop-k.out.items c.loop-k.line in
-    let new = told c.match-scan_end_in.out.items c.match-scan_end_in.line in
+    let old = written c.loop-k.out.items c.loop-k.line in
+    let new = written c.match-scan_end_in.out.items c.match-scan_end_in.line in
     let line = λ (h : History) (e : Option ScanEnd). written_line plant (state_of plant h).instance_state k e in
     let written : ((h : History) → Agrees c.args.resource.now h → Fits plant c.loop-k.memory → new ≡ old ++ line h (scan_end_in c.args.answer.now k))
     × (Fits plant c.loop-k.memory → Fits plant c.match-scan_end_in.memory) =
     elim c.match-scan_end_in.branch [
       | in-Some-Ran+in_ok-put_ran-in-Some-Ran w ↦ (
         λ h agrees fits.
-            (λ i. told (w.out-is i).items (w.line-is i)) ∙ w.in_ok-put_ran-in-Some-Ran.ensures.line h agrees fits
+            (λ i. written (w.out-is i).items (w.line-is i)) ∙ w.in_ok-put_ran-in-Some-Ran.ensures.line h agrees fits
             ∙ ap (λ (e : Option ScanEnd). old ++ line h e) (ap Some (sym w.in-Some-Ran.field-0-is) ∙ sym w.in-Some-Ran.is ∙ c.scan_end_in.ensures),
         λ fits. subst (Fits plant) (sym w.memory-is) (w.put_ran.ensures.fits fits),
       )
       | in-Some+in_ok-put_ended-in-Some w ↦ (
         λ h agrees fits.
-            (λ i. told (w.out-is i).items (w.line-is i)) ∙ w.in_ok-put_ended-in-Some.ensures h agrees
+            (λ i. written (w.out-is i).items (w.line-is i)) ∙ w.in_ok-put_ended-in-Some.ensures h agrees
             ∙ ap (λ (e : Option ScanEnd). old ++ line h e) (sym w.in-Some.is ∙ c.scan_end_in.ensures),
         λ fits. subst (Fits plant) (sym w.memory-is) fits,
       )
       | in-None w ↦ (
         λ h agrees fits.
-            (λ i. told (w.out-is i).items (w.line-is i)) ∙ sym (append-nil old)
+            (λ i. written (w.out-is i).items (w.line-is i)) ∙ sym (append-nil old)
             ∙ ap (λ (e : Option ScanEnd). old ++ line h e) (sym w.in-None.is ∙ c.scan_end_in.ensures),
         λ fits. subst (Fits plant) (sym w.memory-is) fits,
       )
@@ -58,7 +58,7 @@ pub returns-in_default : goal.returns-in_default
 returns-in_default c = record {
   lines = λ h agrees fits.
       let plant = plant_of c.args.resource.now in
-      let old = told c.args.out.now.items c.args.line.now in
+      let old = written c.args.out.now.items c.args.line.now in
       sym (append-nil old)
       ∙ ap (λ (xs : List ℕ). old ++ xs) (sym (untold plant (state_of plant h).instance_state c.args.answer.now c.in_default.not-Scanned));
   fits = λ fits. fits;

@@ -1,9 +1,9 @@
 use Rattle.std.proofs.Common.{◌≡◌, ◌-◌, ◌++◌}
 use Rattle.std.specs.List.{flat_map, range_with_len}
-use Rattle.sfc_image.specs.Values.{variable_count}
+use Rattle.sfc_debug.specs.sfc_image.Values.{variable_count}
 use Rattle.sfc_events.specs.History.{History}
-use Rattle.sfc_core.specs.PlantState.{state_of}
-use Rattle.sfc_core.specs.Agreement.{Agrees, plant_of}
+use Rattle.sfc_debug.specs.sfc_core.PlantState.{state_of}
+use Rattle.sfc_debug.specs.sfc_core.Agreement.{Agrees, plant_of}
 use Rattle.sfc_output.specs.ImageLines.{variable_line}
 use Rattle.sfc_output.proofs.image_line.append_image.Given as goal
 

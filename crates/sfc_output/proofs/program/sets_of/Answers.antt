@@ -1,4 +1,4 @@
-use Rattle.sfc_instance.specs.Views.{tables_in}
+use Rattle.sfc_debug.specs.sfc_instance.Views.{tables_in}
 use Rattle.sfc_output.proofs.Done.{sets_done}
 use Rattle.sfc_output.proofs.program.sets_of.Goals as goal
 

@@ -2,15 +2,15 @@ use Rattle.std.proofs.Common.{◌≡◌, ◌∙◌, false, sym, ap, subst, ℕ, 
 use Rattle.sfc_plant.specs.Plants.{PlantData}
 use Rattle.sfc_plant.specs.declared.instance.Instance.{Instance}
 use Rattle.sfc_events.specs.History.{History}
-use Rattle.sfc_instance.specs.Life.{latest_instant}
-use Rattle.sfc_instance.specs.ProgramScan.{environment}
-use Rattle.sfc_instance.specs.Views.{environment_in}
-use Rattle.sfc_core.specs.Agreement as core
-use Rattle.sfc_core.specs.PlantState.{state_of}
-use Rattle.sfc_debug.specs.declared.debugger.Debugger.{Debugger}
-use Rattle.sfc_debug.specs.Agreement.{Agrees, plant_of, table_of}
-use Rattle.sfc_debug.specs.Hits.{environment_after, is_met}
-use Rattle.sfc_debug.specs.States.{erasure}
+use Rattle.sfc_asking.specs.sfc_instance.Life.{latest_instant}
+use Rattle.sfc_asking.specs.sfc_instance.ProgramScan.{environment}
+use Rattle.sfc_asking.specs.sfc_instance.Views.{environment_in}
+use Rattle.sfc_asking.specs.sfc_core.Agreement as core
+use Rattle.sfc_asking.specs.sfc_core.PlantState.{state_of}
+use Rattle.sfc_asking.specs.sfc_debug.declared.debugger.Debugger.{Debugger}
+use Rattle.sfc_asking.specs.sfc_debug.Agreement.{Agrees, plant_of, table_of}
+use Rattle.sfc_asking.specs.sfc_debug.Hits.{environment_after, is_met}
+use Rattle.sfc_asking.specs.sfc_debug.States.{erasure}
 use Rattle.sfc_session.specs.Sessions.{steered_in}
 use Rattle.sfc_prompt.proofs.Courses.{holds_here}
 use Rattle.sfc_prompt.proofs.course.holds.Goals as goal

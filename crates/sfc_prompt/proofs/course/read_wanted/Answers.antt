@@ -1,5 +1,5 @@
 use Rattle.std.proofs.Common.{refl, subst}
-use Rattle.sfc_script.specs.Scripts.{ConditionReads}
+use Rattle.sfc_asking.specs.sfc_script.Scripts.{ConditionReads}
 use Rattle.sfc_prompt.specs.declared.course.Wanted.TheVariants.{Several, Until}
 use Rattle.sfc_prompt.specs.declared.expression.Found.{Found}
 use Rattle.sfc_prompt.specs.declared.expression.Found.TheVariants.{Condition, NoProgram}

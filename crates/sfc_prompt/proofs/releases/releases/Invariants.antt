@@ -1,5 +1,5 @@
 use Rattle.std.proofs.Common.{ℕ, List}
-use Rattle.sfc_debug.specs.Histories.{CommandHistory}
+use Rattle.sfc_asking.specs.sfc_debug.Histories.{CommandHistory}
 use Rattle.sfc_session.specs.Sessions.{HasSaid, Stays}
 use Rattle.sfc_prompt.proofs.releases.releases.Given as goal
 

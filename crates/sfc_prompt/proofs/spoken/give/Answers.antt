@@ -1,7 +1,7 @@
 use Rattle.std.proofs.Common.{◌≡◌, ◌∙◌, sym, ap, subst, ℤ, Option, w64, SFits, to_z, of_z, to_z-of_z, rules}
 use Rattle.std.specs.Prelude.{unwrap_or}
 use Rattle.sfc_base.specs.declared.ids.TaskId.{TaskId}
-use Rattle.sfc_debug.specs.Histories.{TimedCommand}
+use Rattle.sfc_asking.specs.sfc_debug.Histories.{TimedCommand}
 use Rattle.sfc_session.specs.declared.session.Session.{Session}
 use Rattle.sfc_prompt.specs.Orders.{Obeys, command_order}
 use Rattle.sfc_session.specs.Sessions.{last_instant, steered_in}

@@ -2,7 +2,7 @@ use Rattle.std.proofs.Common.{◌≡◌, ◌∙◌, ap, subst, ℤ, [], ◌∷�
 use Rattle.std.specs.Prelude.{unwrap_or}
 use Rattle.sfc_plant.specs.Plants.{PlantData}
 use Rattle.sfc_events.specs.declared.command.Command.TheVariants.{BreakIf}
-use Rattle.sfc_script.specs.Scripts.{ConditionReads}
+use Rattle.sfc_asking.specs.sfc_script.Scripts.{ConditionReads}
 use Rattle.sfc_prompt.specs.declared.expression.Found.{Found}
 use Rattle.sfc_session.specs.declared.session.Session.{Session}
 use Rattle.sfc_prompt.specs.Conditions.{added_by}

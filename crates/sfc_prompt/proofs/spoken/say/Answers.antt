@@ -1,10 +1,10 @@
 use Rattle.std.proofs.Common.{◌≡◌, ◌∙◌, sym, ap, subst, ℕ, List, Option, Some}
 use Rattle.sfc_plant.specs.Plants.{PlantData}
 use Rattle.sfc_events.specs.declared.command.Command.{Command}
-use Rattle.sfc_core.specs.Agreement as core
-use Rattle.sfc_debug.specs.Agreement.{plant_of}
-use Rattle.sfc_output.specs.Steered.{Steered}
-use Rattle.sfc_script.specs.Commands.{command_of, conditional_of}
+use Rattle.sfc_asking.specs.sfc_core.Agreement as core
+use Rattle.sfc_asking.specs.sfc_debug.Agreement.{plant_of}
+use Rattle.sfc_asking.specs.sfc_debug.Steered.{Steered}
+use Rattle.sfc_asking.specs.sfc_script.Commands.{command_of, conditional_of}
 use Rattle.sfc_session.specs.declared.session.Session.{Session}
 use Rattle.sfc_prompt.specs.Orders.{Obeys, order_by}
 use Rattle.sfc_session.specs.Sessions.{steered_in}

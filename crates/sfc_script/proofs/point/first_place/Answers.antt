@@ -1,5 +1,5 @@
 use Rattle.std.proofs.Common.{ap, ◌∙◌}
-use Rattle.sfc_core.specs.Agreement.{plant_of}
+use Rattle.sfc_debug.specs.sfc_core.Agreement.{plant_of}
 use Rattle.sfc_script.specs.Names.{program_of}
 use Rattle.sfc_script.proofs.Places.{place_is}
 use Rattle.sfc_script.proofs.point.first_place.Goals as goal

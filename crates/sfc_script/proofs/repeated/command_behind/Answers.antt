@@ -1,7 +1,7 @@
 use Rattle.std.proofs.Common.{Some}
 use Rattle.std.proofs.lemmas.Bool.Decides.{Decides-eqb}
 use Rattle.std.proofs.lemmas.Slice.Eq.{strip_prefix_is}
-use Rattle.sfc_core.specs.Agreement.{plant_of}
+use Rattle.sfc_debug.specs.sfc_core.Agreement.{plant_of}
 use Rattle.sfc_script.proofs.FirstLines.{command_again, rest_shorter}
 use Rattle.sfc_script.proofs.repeated.command_behind.Goals as goal
 

@@ -1,6 +1,6 @@
 use Rattle.std.proofs.Common.{arith, rules, sym, subst, SFits, w64}
 use Rattle.std.proofs.lemmas.Int.{to_z-of_z}
-use Rattle.sfc_core.specs.Agreement.{plant_of}
+use Rattle.sfc_debug.specs.sfc_core.Agreement.{plant_of}
 use Rattle.sfc_script.specs.Commands.{Plain}
 use Rattle.sfc_script.specs.Private.Repeating.{Begins}
 use Rattle.sfc_script.proofs.FirstLines.{plain_first}

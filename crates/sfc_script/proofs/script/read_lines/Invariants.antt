@@ -1,5 +1,5 @@
 use Rattle.std.proofs.Common.{◌+◌, ◌≤◌, length}
-use Rattle.sfc_core.specs.Agreement.{plant_of}
+use Rattle.sfc_debug.specs.sfc_core.Agreement.{plant_of}
 use Rattle.sfc_script.specs.Lines.{lines_of}
 use Rattle.sfc_script.specs.Private.Repeating.{IsLast}
 use Rattle.sfc_script.proofs.Said.{GoesOn}

@@ -1,6 +1,6 @@
 use Rattle.std.proofs.Common.{◌∙◌, sym, ap, ℤ, w64, SFits, to_z-of_z, rules}
-use Rattle.sfc_output.specs.Steered.{Steered}
-use Rattle.sfc_monitor.specs.Output.{debugger_of}
+use Rattle.sfc_output.specs.sfc_debug.Steered.{Steered}
+use Rattle.sfc_output.specs.Output.{debugger_of}
 use Rattle.sfc_session.specs.Scanning.{goes_on, raw_of}
 use Rattle.sfc_session.specs.Sessions.{last_instant, steered_in}
 use Rattle.sfc_session.proofs.scanning.instant_of.Goals as goal

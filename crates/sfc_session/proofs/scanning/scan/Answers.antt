@@ -1,7 +1,7 @@
 use Rattle.std.proofs.Common.{rules, ◌≡◌, ◌∙◌, refl, sym, ap, ℕ, ℤ, List, Some, w64, SFits, to_z, of_z, to_z-of_z, take, length}
 use Rattle.sfc_events.specs.declared.command.Command.TheVariants.{Scan}
-use Rattle.sfc_output.specs.Steered.{Steered}
-use Rattle.sfc_monitor.specs.Output.{Verdict, command_lines, debugger_of, text_of}
+use Rattle.sfc_output.specs.sfc_debug.Steered.{Steered}
+use Rattle.sfc_output.specs.Output.{Verdict, command_lines, debugger_of, text_of}
 use Rattle.sfc_session.specs.declared.session.Session.{Session}
 use Rattle.sfc_session.specs.Scanning.{raw_of, scan_after}
 use Rattle.sfc_session.specs.Scanning as scanning

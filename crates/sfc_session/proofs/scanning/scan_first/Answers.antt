@@ -1,7 +1,7 @@
 use Rattle.std.proofs.Common.{rules, ◌≡◌, ◌∙◌, refl, ap, subst, ℤ, ℕ, List, Option, w64, SFits, to_z, of_z, to_z-of_z}
 use Rattle.sfc_events.specs.declared.command.Command.TheVariants.{Scan}
-use Rattle.sfc_monitor.specs.Output.{debugger_of}
-use Rattle.sfc_output.specs.Steered.{Steered}
+use Rattle.sfc_output.specs.Output.{debugger_of}
+use Rattle.sfc_output.specs.sfc_debug.Steered.{Steered}
 use Rattle.sfc_session.specs.declared.scanning.Tried.{Tried}
 use Rattle.sfc_session.specs.declared.scanning.Tried.TheVariants.{Answered, NoTurn}
 use Rattle.sfc_session.specs.declared.session.Session.{Session}

@@ -1,7 +1,7 @@
 use Rattle.std.proofs.Common.{◌≡◌, ◌∙◌, subst, ℤ, List, ℕ, w64, SFits, to_z, of_z, to_z-of_z, rules}
 use Rattle.std.specs.Prelude.{IfOk}
 use Rattle.sfc_events.specs.declared.command.Command.TheVariants.{Scan}
-use Rattle.sfc_debug.specs.Histories.{TimedCommand}
+use Rattle.sfc_output.specs.sfc_debug.Histories.{TimedCommand}
 use Rattle.sfc_session.specs.Sessions.{IsTaken, script_after, script_in, steered_in, words_of}
 use Rattle.sfc_session.proofs.Given.{given_by}
 use Rattle.sfc_session.proofs.scanning.scan_then.Goals as goal

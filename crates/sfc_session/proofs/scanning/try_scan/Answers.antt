@@ -1,7 +1,7 @@
 use Rattle.std.proofs.Common.{rules, ◌≡◌, ◌∙◌, sym, ap, subst, ℕ, ℤ, List, w64, SFits, to_z, of_z, to_z-of_z, take, length}
 use Rattle.sfc_events.specs.declared.command.Command.TheVariants.{Scan}
-use Rattle.sfc_output.specs.Steered.{Steered}
-use Rattle.sfc_monitor.specs.Output.{command_lines, debugger_of, text_of}
+use Rattle.sfc_output.specs.sfc_debug.Steered.{Steered}
+use Rattle.sfc_output.specs.Output.{command_lines, debugger_of, text_of}
 use Rattle.sfc_session.specs.Sessions.{steered_in}
 use Rattle.sfc_session.specs.Trying.{IsTried}
 use Rattle.sfc_session.proofs.Given.{tried_away, tried_in_turn}

@@ -1,8 +1,8 @@
 use Rattle.std.proofs.Common.{rules, ◌≡◌, ◌∙◌, sym, ap, subst, ℕ, ◌+◌, ◌<◌, ◌≤◌, ℤ, List, Option, w64, SFits, to_z, of_z, to_z-of_z, length}
 use Rattle.sfc_plant.specs.Plants.{PlantData}
 use Rattle.sfc_plant.specs.declared.task.Task.{Task}
-use Rattle.sfc_debug.specs.Histories.{CommandHistory}
-use Rattle.sfc_monitor.specs.Output.{Verdict}
+use Rattle.sfc_output.specs.sfc_debug.Histories.{CommandHistory}
+use Rattle.sfc_output.specs.Output.{Verdict}
 use Rattle.sfc_session.specs.declared.scanning.Tried.TheVariants.{Answered, NoTurn}
 use Rattle.sfc_session.specs.declared.session.Session.{Session}
 use Rattle.sfc_session.specs.Scanning.{earlier, release_in}

@@ -1,5 +1,5 @@
 use Rattle.std.proofs.Common.{◌≡◌, ℕ, List}
-use Rattle.sfc_debug.specs.Histories.{CommandHistory}
+use Rattle.sfc_output.specs.sfc_debug.Histories.{CommandHistory}
 use Rattle.sfc_session.specs.Sessions.{HasSaid, steered_in}
 use Rattle.sfc_session.proofs.Trying.{GoesThrough}
 use Rattle.sfc_session.proofs.scanning.try_tasks.Given as goal

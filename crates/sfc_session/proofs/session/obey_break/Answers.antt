@@ -1,7 +1,7 @@
 use Rattle.std.proofs.Common.{rules, length, w64, SFits, to_z-of_z}
-use Rattle.sfc_debug.specs.Agreement.{table_of}
+use Rattle.sfc_output.specs.sfc_debug.Agreement.{table_of}
 use Rattle.sfc_session.specs.Sessions.{waiting}
-use Rattle.sfc_output.specs.Steered.{steered_by}
+use Rattle.sfc_output.specs.sfc_debug.Steered.{steered_by}
 use Rattle.sfc_session.proofs.Longer.{named}
 use Rattle.sfc_session.proofs.Waiting.{numbered, agrees_by}
 use Rattle.sfc_session.proofs.session.obey_break.Goals as goal
@@ -11,7 +11,7 @@ returns-clause-answer c h accepted agrees =
     let table = table_of c.args.debugger.now in
     let fits : SFits w64 c.args.placed.1 = search rules in
     let within = named _ table h accepted in
-    numbered c.break_when.result _ (length table) _ c.break_when.ensures.full
+    numbered c.break_when.result _ _ (length table) 65535 (λ full. simp (to_z-of_z, fits) at (c.break_when.ensures.full h full agrees))
     (λ few. simp (to_z-of_z, fits) at (c.break_when.ensures.answer h few within agrees))
 
 pub returns-clause-agrees : goal.returns-clause-agrees

@@ -31,7 +31,7 @@ returns-in-Err-clause-answer c =
     let es = whole b.history in
     let is = here Verdict-set b.debugger es (λ h. verdict (plant_of b.debugger) (table_of b.debugger) h c.args.command c.args.raw) (Err c.in-Err.refusal) b.agrees
     (λ h a. simp (to_z-of_z, fits) at (c.in-Err.ensures.answer h a)) in
-    answered_as (plant_of b.debugger) (table_of b.debugger) (limit_of b.history) (first_of b.history) es c.args.seat c.args.command c.args.raw (Err c.in-Err.refusal)
+    answered_as (plant_of b.debugger) (table_of b.debugger) (limit_of b.history) es c.args.seat c.args.command c.args.raw (Err c.in-Err.refusal)
     (sym c.bar.ensures ∙ c.in_default.is) is
 
 pub returns-in-Err-clause-ticks : goal.returns-in-Err-clause-ticks
@@ -145,7 +145,7 @@ returns-clause-answer c =
     let index = index_is b.debugger c.tell.new.debugger es c.args.command c.args.raw b.agrees goes c.accepted-index.result (λ h a. c.accepted-index.ensures h a) in
     let is = here Verdict-set b.debugger es (λ h. verdict (plant_of b.debugger) (table_of b.debugger) h c.args.command c.args.raw) (Ok c.in-Ok.answer) b.agrees
     (λ h a. simp (to_z-of_z, fits) at (c.in-Ok.ensures.answer h a)) in
-    let e = answered_as (plant_of b.debugger) (table_of b.debugger) (limit_of b.history) (first_of b.history) es c.args.seat c.args.command c.args.raw (Ok c.in-Ok.answer)
+    let e = answered_as (plant_of b.debugger) (table_of b.debugger) (limit_of b.history) es c.args.seat c.args.command c.args.raw (Ok c.in-Ok.answer)
     (sym c.bar.ensures ∙ c.in_default.is) is in
     rw (to_z-of_z, index) e
 

@@ -1,6 +1,6 @@
 use Rattle.std.proofs.Common.{◌≡◌, ◌∙◌, ◌<◌, List, ap, arith, get_or, length, map, subst, sym}
 use Rattle.sfc_plant.specs.declared.program_type.ProgramType.{ProgramType}
-use Rattle.sfc_tables.specs.Tables.{tables_of}
+use Rattle.sfc_instance.specs.sfc_tables.Tables.{tables_of}
 use Rattle.sfc_plant.specs.Sound.{IsProgram}
 use Rattle.sfc_instances.specs.Agreement.{InstancesAgree}
 use Rattle.sfc_instances.proofs.Built.{opened_for}

@@ -2,7 +2,7 @@ use Rattle.std.proofs.Common.{◌≡◌, ◌∙◌, ◌+◌, ◌<◌, ℕ, Bool,
 use Rattle.std.proofs.lemmas.List.{map_more, take-map, take_more_set}
 use Rattle.sfc_plant.specs.declared.task.Task.{Task}
 use Rattle.sfc_plant.specs.Plants.{PlantData}
-use Rattle.sfc_image.specs.Changes.{Change}
+use Rattle.sfc_instance.specs.sfc_image.Changes.{Change}
 use Rattle.sfc_instances.specs.Singles.{single_in, singles_in}
 use Rattle.sfc_instances.proofs.instances.Instances.read_singles.Goals as goal
 

@@ -24,9 +24,9 @@ loop-k-preserved c =
           let bits = w.add.new.self in
           rw (w.self-is, w.ticks-is, w.bits-is, add-one) (record {
             sizes = w.scan_program-scan_end.ensures.sizes;
-            ran = bits_below k Ran scan_end c.loop-k.bits.ran bits.ran invariant.ran w.add.ensures.ran;
-            faulted = bits_below k Faulted scan_end c.loop-k.bits.faulted bits.faulted invariant.faulted w.add.ensures.faulted;
-            skipped = bits_below k Skipped scan_end c.loop-k.bits.skipped bits.skipped invariant.skipped w.add.ensures.skipped;
+            ran = bits_below k Ran scan_end c.loop-k.bits.ran.bits bits.ran.bits invariant.ran w.add.ensures.ran;
+            faulted = bits_below k Faulted scan_end c.loop-k.bits.faulted.bits bits.faulted.bits invariant.faulted w.add.ensures.faulted;
+            skipped = bits_below k Skipped scan_end c.loop-k.bits.skipped.bits bits.skipped.bits invariant.skipped w.add.ensures.skipped;
             low = omega (arith, invariant.low, w.scan_program-scan_end.ensures.ticks.0);
             high =
                 work_scanned plant task k instance lt is _ c.loop-k.ticks.count w.scan_program-scan_end.new.ticks.count e
@@ -40,9 +40,9 @@ loop-k-preserved c =
           let other = λ (e : instance.task.0 ≡ task.0). w.if-instances-k.false (sym own ∙ e) in
           rw (w.self-is, w.ticks-is, w.bits-is, add-one) (record {
             sizes = invariant.sizes;
-            ran = bits_still k c.loop-k.bits.ran invariant.ran;
-            faulted = bits_still k c.loop-k.bits.faulted invariant.faulted;
-            skipped = bits_still k c.loop-k.bits.skipped invariant.skipped;
+            ran = bits_still k c.loop-k.bits.ran.bits invariant.ran;
+            faulted = bits_still k c.loop-k.bits.faulted.bits invariant.faulted;
+            skipped = bits_still k c.loop-k.bits.skipped.bits invariant.skipped;
             low = invariant.low;
             high = work_passed plant task k instance lt is _ c.loop-k.ticks.count invariant.high;
             follows = λ state h.

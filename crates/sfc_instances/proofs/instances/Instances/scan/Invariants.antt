@@ -8,9 +8,9 @@ use Rattle.sfc_instances.proofs.instances.Instances.scan.Given as goal
 abbrev pub invariant-loop-k : goal.invariant-loop-k
 invariant-loop-k l = record {
   sizes : AreInstancesOf l.plant l.self;
-  ran : l.bits.ran < 2 ^ l.k;
-  faulted : l.bits.faulted < 2 ^ l.k;
-  skipped : l.bits.skipped < 2 ^ l.k;
+  ran : l.bits.ran.bits < 2 ^ l.k;
+  faulted : l.bits.faulted.bits < 2 ^ l.k;
+  skipped : l.bits.skipped.bits < 2 ^ l.k;
   low : l.initial.ticks.count ≤ l.ticks.count;
   high :
       l.ticks.count + task_work l.plant l.task l.k (drop l.k l.plant.instances)

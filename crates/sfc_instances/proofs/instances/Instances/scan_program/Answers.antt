@@ -1,8 +1,8 @@
 use Rattle.std.proofs.Common.{◌≡◌, ◌<◌, ◌∙◌, arith, rules, ap, subst, length, w64, SFits, to_z-of_z}
-use Rattle.sfc_tables.specs.Tables.{tables_of}
+use Rattle.sfc_instance.specs.sfc_tables.Tables.{tables_of}
 use Rattle.sfc_base.specs.declared.ids.ProgId.{ProgId}
-use Rattle.sfc_image.specs.Agreement.{ImageAgrees}
-use Rattle.sfc_image.specs.Changes.{settled}
+use Rattle.sfc_instance.specs.sfc_image.Agreement.{ImageAgrees}
+use Rattle.sfc_instance.specs.sfc_image.Changes.{settled}
 use Rattle.sfc_instance.specs.Agreement.{ProgramAgrees}
 use Rattle.sfc_instance.specs.ProgramScan.{after_scan}
 use Rattle.sfc_plant.specs.Finding.{chart_of}

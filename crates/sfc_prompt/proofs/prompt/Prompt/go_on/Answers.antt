@@ -1,5 +1,5 @@
 use Rattle.std.proofs.Common.{◌≡◌, ◌∙◌, sym, ap, subst, true, false, ◌<◌, Some}
-use Rattle.sfc_output.specs.Steered.{Steered}
+use Rattle.sfc_asking.specs.sfc_debug.Steered.{Steered}
 use Rattle.sfc_prompt.specs.declared.course.Course.{Course}
 use Rattle.sfc_session.specs.declared.session.Session.{Session}
 use Rattle.sfc_session.specs.declared.step.Step.{Step}

@@ -1,6 +1,6 @@
 use Rattle.std.proofs.Common.{◌≡◌, ◌∙◌, sym, subst, ℕ, List, []}
 use Rattle.std.proofs.lemmas.List.{append-nil}
-use Rattle.sfc_monitor.specs.Output.{Verdict}
+use Rattle.sfc_asking.specs.sfc_output.Output.{Verdict}
 use Rattle.sfc_session.specs.declared.session.Session.{Session}
 use Rattle.sfc_prompt.specs.Notes.{Adds}
 use Rattle.sfc_prompt.specs.Orders.{Takes, TakesFirst}

@@ -1,6 +1,6 @@
 use Rattle.std.proofs.Common.{◌≡◌, ◌∙◌, refl, sym, ap, Option, Some}
 use Rattle.sfc_plant.specs.Plants.{PlantData}
-use Rattle.sfc_debug.specs.Agreement.{plant_of}
+use Rattle.sfc_asking.specs.sfc_debug.Agreement.{plant_of}
 use Rattle.sfc_session.specs.Sessions.{debugger_in}
 use Rattle.sfc_prompt.specs.declared.course.Course.{Course}
 use Rattle.sfc_prompt.specs.declared.course.Wanted.TheVariants.{Until, Several, Faulty}

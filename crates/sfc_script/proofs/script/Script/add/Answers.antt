@@ -1,7 +1,7 @@
 use Rattle.std.proofs.Common.{rules, ◌≡◌, length, Some, refl, SFits, w64, subst, arith}
 use Rattle.std.specs.Option.{option_to_list}
 use Rattle.std.proofs.lemmas.Int.{to_z-of_z}
-use Rattle.sfc_core.specs.Agreement.{plant_of}
+use Rattle.sfc_debug.specs.sfc_core.Agreement.{plant_of}
 use Rattle.sfc_script.specs.Scripts.{ConditionReads}
 use Rattle.sfc_script.specs.Private.Adding.{AddsCondition}
 use Rattle.sfc_script.proofs.Adding.{adds_nothing, adds_plain, adds_when}

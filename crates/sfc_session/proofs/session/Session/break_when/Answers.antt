@@ -1,12 +1,12 @@
 use Rattle.std.proofs.Common.{rules, ◌≡◌, ◌∙◌, sym, ap, subst, ℕ, ◌+◌, ◌<◌, ◌^◌, List, ◌++◌, w64, SFits, to_z-of_z}
 use Rattle.std.specs.Prelude.{OnOk, OnErr}
 use Rattle.sfc_events.specs.declared.command.Command.TheVariants.{BreakIf}
-use Rattle.sfc_debug.specs.declared.debugger.Debugger.{Debugger}
-use Rattle.sfc_debug.specs.Agreement.{Agrees}
-use Rattle.sfc_debug.specs.Histories.{TimedCommand}
-use Rattle.sfc_debug.specs.Verdict.{history_by}
-use Rattle.sfc_output.specs.Steered.{Steered, steered_by}
-use Rattle.sfc_monitor.specs.Output.{Verdict}
+use Rattle.sfc_output.specs.sfc_debug.declared.debugger.Debugger.{Debugger}
+use Rattle.sfc_output.specs.sfc_debug.Agreement.{Agrees}
+use Rattle.sfc_output.specs.sfc_debug.Histories.{TimedCommand}
+use Rattle.sfc_output.specs.sfc_debug.Verdict.{history_by}
+use Rattle.sfc_output.specs.sfc_debug.Steered.{Steered, steered_by}
+use Rattle.sfc_output.specs.Output.{Verdict}
 use Rattle.sfc_session.specs.Sessions.{count_in, debugger_in, instant_in, lines_by, steered_after, steered_in, waiting, with_one_more}
 use Rattle.sfc_session.proofs.Waiting.{waits_on, lines_are}
 use Rattle.sfc_session.proofs.session.Session.break_when.Goals as goal
@@ -45,6 +45,6 @@ returns-clause-written c h lines said =
     c.in_ok-append_answer.ensures (history_by v timed h) agrees
     ∙ ap (λ text. out ++ text)
     (lines_are st c.args.placed condition h (steered_by c.obey_break.new.debugger) told v c.in_ok-answer.ensures.steered is
-    (λ few. c.next_break.ensures (subst (λ (n : ℕ). n < 2 ^ 16) (sym said.count) few)
+    (λ few. c.next_break.ensures (subst (λ (n : ℕ). n < 65535) (sym said.count) few)
     ∙ ap (λ n. BreakIf condition.program c.args.placed.0 (record { 0 = n })) said.count))
     ∙ ap (λ (v : Verdict). out ++ lines_by v (with_one_more st condition) h timed) is

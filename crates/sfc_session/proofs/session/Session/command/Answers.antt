@@ -1,8 +1,8 @@
 use Rattle.std.proofs.Common.{◌≡◌, ◌∙◌, sym, ap, subst}
-use Rattle.sfc_debug.specs.declared.debugger.Debugger.{Debugger}
-use Rattle.sfc_debug.specs.Agreement.{Agrees}
-use Rattle.sfc_output.specs.Steered.{steered_by}
-use Rattle.sfc_monitor.specs.Output.{debugger_of}
+use Rattle.sfc_output.specs.sfc_debug.declared.debugger.Debugger.{Debugger}
+use Rattle.sfc_output.specs.sfc_debug.Agreement.{Agrees}
+use Rattle.sfc_output.specs.sfc_debug.Steered.{steered_by}
+use Rattle.sfc_output.specs.Output.{debugger_of}
 use Rattle.sfc_session.specs.Sessions.{count_in, debugger_in, instant_in, steered_in}
 use Rattle.sfc_session.proofs.Saying.{goes_on}
 use Rattle.sfc_session.proofs.session.Session.command.Goals as goal
@@ -12,7 +12,7 @@ unfolding debugger_in instant_in count_in
 returns-clause-said c h lines said =
     let old = c.args.self.now in
     let new = c.keep_if.new.self in
-    let debugger : debugger_in new ≡ c.obey-answer.new.debugger = c.in_ok-keep_if.ensures.debugger in
+    let debugger : debugger_in new ≡ c.obey-answer.new.self = c.in_ok-keep_if.ensures.debugger in
     let same : steered_in new ≡ steered_in old = ap steered_by debugger ∙ c.obey-answer.ensures.steered in
     let count : count_in new ≡ count_in old = c.in_ok-keep_if.ensures.count in
     let answer = c.obey-answer.ensures.answer h said.agrees in

@@ -1,2 +1,0 @@
--- tables that are made entry by entry
-pub mod Tables

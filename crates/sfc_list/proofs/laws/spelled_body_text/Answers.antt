@@ -1,5 +1,0 @@
-use Rattle.sfc_list.proofs.SpelledBodies.{body_spells}
-use Rattle.sfc_list.proofs.laws.spelled_body_text.Goals as goal
-
-pub returns : goal.returns
-returns c = λ space own level body rest are. body_spells space own level body are rest

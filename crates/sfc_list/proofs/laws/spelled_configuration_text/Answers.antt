@@ -1,5 +1,0 @@
-use Rattle.sfc_list.proofs.SpelledConfigurations.{configuration_spelled}
-use Rattle.sfc_list.proofs.laws.spelled_configuration_text.Goals as goal
-
-pub returns : goal.returns
-returns c = λ plant rest is. configuration_spelled plant is rest

@@ -1,5 +1,0 @@
-use Rattle.sfc_list.proofs.SpelledExpressions.{expression_spells}
-use Rattle.sfc_list.proofs.laws.spelled_expression_text.Goals as goal
-
-pub returns : goal.returns
-returns c = λ space own e rest are ends. expression_spells space own e are rest ends

@@ -1,6 +1,0 @@
-use Rattle.std.proofs.Common.{[]}
-use Rattle.sfc_list.proofs.SpelledConfigurations.{listing_spelled}
-use Rattle.sfc_list.proofs.laws.spelled_listing.Goals as goal
-
-pub returns : goal.returns
-returns c = λ plant is. listing_spelled plant is []

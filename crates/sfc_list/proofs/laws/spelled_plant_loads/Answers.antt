@@ -1,5 +1,0 @@
-use Rattle.sfc_list.proofs.WrittenPlants.{loads_again}
-use Rattle.sfc_list.proofs.laws.spelled_plant_loads.Goals as goal
-
-pub returns : goal.returns
-returns c = record { passes = λ tree e. (loads_again tree e).checks; equal = λ tree e. (loads_again tree e).built }

@@ -1,5 +1,0 @@
-use Rattle.sfc_list.proofs.SpelledTransitions.{transition_spelled}
-use Rattle.sfc_list.proofs.laws.spelled_transition_text.Goals as goal
-
-pub returns : goal.returns
-returns c = λ space t rest is. transition_spelled space t is rest

@@ -1,4 +1,0 @@
--- which values may go to another thread
-pub mod Crosses
--- lines of rows
-pub mod RowLines

@@ -1,8 +1,0 @@
-use Rattle.std.proofs.Common.{subst}
-use Rattle.sfc_instances.specs.Types.{IsTypedPlant}
-use Rattle.sfc_monitor.proofs.laws.loaded_variables_keep_their_types.Goals as goal
-
-pub returns : goal.returns
-returns c = λ text plant events id accepted range.
-    c.types.ensures.reads plant events id
-    (subst IsTypedPlant accepted.built (c.loaded_plants_are_typed.ensures accepted.tree accepted.passes)) range

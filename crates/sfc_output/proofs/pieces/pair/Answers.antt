@@ -1,7 +1,0 @@
-use Rattle.sfc_output.proofs.Triples.{pair_at}
-use Rattle.sfc_output.proofs.pieces.pair.Goals as goal
-
-pub returns : goal.returns
-returns c =
-    let at = pair_at c.args.number c.requires in
-    rw (at.0, at.1)

@@ -1,7 +1,0 @@
-use Rattle.sfc_output.proofs.Triples.{triple_at}
-use Rattle.sfc_output.proofs.pieces.triple.Goals as goal
-
-pub returns : goal.returns
-returns c =
-    let at = triple_at c.args.number c.requires in
-    rw (at.0, at.1, at.2)

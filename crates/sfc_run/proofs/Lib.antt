@@ -1,0 +1,12 @@
+-- which values may go to another thread
+pub mod Crosses
+-- the same of what the thread that prints looks at
+pub mod Boards
+-- what holds of a value, where there is one
+pub mod Ends
+-- lines of rows
+pub mod RowLines
+-- one post more
+pub mod Posting
+-- what one worker more leaves
+pub mod Gathering

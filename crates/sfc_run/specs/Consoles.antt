@@ -1,0 +1,28 @@
+-- What a console keeps of a call.
+use Rattle.std.specs.Prelude.{◌≡◌, ◌+◌, ◌⊎◌, [], ◌∷◌, ◌++◌, Result, Ok, Err, ⊤}
+use Rattle.std.specs.declared.alloc.AllocError.{AllocError}
+use Rattle.sfc_events.specs.declared.command.Command.{Command}
+use Rattle.sfc_control.specs.declared.call_error.CallError.{CallError}
+use Rattle.sfc_control.specs.declared.receipt.Receipt.{Receipt}
+use Rattle.sfc_control.specs.Seats.{number, calls}
+use Rattle.sfc_run.specs.declared.console.Console.{Console}
+
+module _ {X C : Type 0} where
+  -- an accepted command's receipt is the seat's, and is kept behind the others; a refusal leaves all as it was, but for the clock
+  abbrev pub Keeps : Command → Console X C → Console X C → Result Receipt CallError → Type 0
+  Keeps command old new (Ok receipt) =
+      (receipt.seat ≡ number old.seat) × (receipt.command ≡ command)
+      × (new.receipts.items ≡ old.receipts.items ++ receipt ∷ []) × (calls new.seat ≡ calls old.seat + 1)
+  Keeps command old new (Err error) = (new.receipts.items ≡ old.receipts.items) × (new.seat ≡ old.seat)
+
+  -- of the call that ends a session the answer is told, and the receipt is kept where there is memory for it
+  abbrev pub Ends : {A : Type 0} → Console X C → Console X C → Result Receipt CallError → Result A CallError → Type 0
+  Ends old new (Ok receipt) (Ok done) =
+      (new.receipts.items ≡ old.receipts.items ++ receipt ∷ []) ⊎ (new.receipts.items ≡ old.receipts.items)
+  Ends old new (Err error) (Err told) = (told ≡ error) × (new.receipts.items ≡ old.receipts.items)
+  Ends old new answer result = ⊥
+
+  -- without memory nothing was called
+  abbrev pub KeepsOr : {A : Type 0} → Console X C → Console X C → Result A AllocError → Type 0
+  KeepsOr old new (Ok answer) = ⊤
+  KeepsOr old new (Err error) = (new.receipts.items ≡ old.receipts.items) × (new.seat ≡ old.seat) × (new.clock ≡ old.clock)
