@@ -1,5 +1,5 @@
 -- Lines that are taken as a reader gives them, and what is written for them.
-use Rattle.std.proofs.Common.{◌≡◌, ◌∙◌, refl, sym, ap, subst, ℕ, Bool, true, false, List, [], ◌∷◌, ◌++◌, append_assoc, inl, inr, Option, Some, None, Result, Ok, Err}
+use Rattle.std.proofs.Common.{◌≡◌, ◌∙◌, refl, sym, ap, subst, arith, ℕ, length, Bool, true, false, List, [], ◌∷◌, ◌++◌, append_assoc, inl, inr, Option, Some, None, Result, Ok, Err}
 use Rattle.std.proofs.lemmas.List.{append-nil}
 use Rattle.std.specs.Io.KnownBytes.{Appends, Consumes}
 use Rattle.sfc_asking.specs.sfc_script.Arriving.{ended_line}
@@ -73,6 +73,11 @@ left_of : (old new : Option (List ℕ)) (bytes : List ℕ) → Consumes old new 
 left_of None new bytes consumes = ([], tt)
 left_of (Some xs) None bytes consumes = absurd consumes
 left_of (Some xs) (Some ys) bytes consumes = (ys, consumes)
+
+-- no byte is a piece of none
+pub no_bytes : (bytes piece : List ℕ) → length piece ≡ 0 → ended_line bytes ≡ None → ended_line (bytes ++ piece) ≡ None
+no_bytes bytes [] e none = ap ended_line (append-nil bytes) ∙ none
+no_bytes bytes (b ∷ piece) e none = absurd (omega arith)
 
 -- The lines of bytes that a reader lost were taken but for these, and what was put for them was written.
 pub record HasTaken (terminal : Bool) (reader writer : Device) (old new : Prompt) (left : List ℕ) : Type 0 where
@@ -152,10 +157,10 @@ module _ (terminal : Bool) (r w : Option (List ℕ)) (old : Prompt) where
 
     -- ---- the end
 
-    pub serves_quit : {X E : Type 0} (result : Result X E) (value : X) → result ≡ Ok value → (x : Option (List ℕ)) (new : Prompt)
-        (arrived : Arrived) (text : List ℕ) → TakesEnded terminal mid new left arrived Ends text → Appends v x text
-        → Serves terminal (r, s) (w, x) old new result
-    serves_quit {X} {E} result value is x new arrived text ended appends =
+    pub serves_quit : (x : Option (List ℕ)) (new : Prompt) (arrived : Arrived) (text : List ℕ)
+        → TakesEnded terminal mid new left arrived Ends text → Appends v x text
+        → (bytes : List ℕ) × Consumes r s bytes × (whole : List ℕ) × WalksOut terminal (lines_of bytes) old new whole × Appends w x whole
+    serves_quit x new arrived text ended appends =
         let done : List (List ℕ) = taken.done ++ ended.done in
         let parts : lines_of taken.bytes ≡ done ++ lines_of (ended.left ++ []) =
         lines_all ∙ ap (λ (l : List ℕ). taken.done ++ lines_of l) (sym (append-nil left))
@@ -166,9 +171,7 @@ module _ (terminal : Bool) (r w : Option (List ℕ)) (old : Prompt) where
         let over : flow_after done ≡ Ends = flow_more taken.done ended.done taken.flows ∙ sym ended.flows in
         let whole : Walks terminal (lines_of taken.bytes) old new (taken.text ++ text) =
         subst (λ (ls : List (List ℕ)). Walks terminal ls old new (taken.text ++ text)) (sym parts)
-        (walk_ended terminal done (lines_of (ended.left ++ [])) old new (taken.text ++ text) walks over) in
-        subst (λ (o : Result X E). Serves terminal (r, s) (w, x) old new o) (sym is)
-        (
+        (walk_ended terminal done (lines_of (ended.left ++ [])) old new (taken.text ++ text) walks over) in (
           taken.bytes,
           taken.consumes,
           taken.text ++ text,
@@ -188,8 +191,7 @@ module _ (terminal : Bool) (r w : Option (List ℕ)) (old : Prompt) where
         let out = writes.1 in
         let walks : Walks terminal (lines_of taken.bytes) old new (taken.text ++ out.0) =
         subst (λ (ls : List (List ℕ)). Walks terminal ls old new (taken.text ++ out.0)) (sym lines_all)
-        (walk_then terminal taken.done (lines_of left) old mid new taken.text out.0 taken.walks taken.flows out.2) in
-        (
+        (walk_then terminal taken.done (lines_of left) old mid new taken.text out.0 taken.walks taken.flows out.2) in (
           taken.bytes,
           taken.consumes,
           taken.text ++ writes.0,
@@ -204,8 +206,7 @@ module _ (terminal : Bool) (r w : Option (List ℕ)) (old : Prompt) where
         )
     serves_last (Err error) x new writes =
         let off = writes.1 in
-        let front = left_of r s taken.bytes taken.consumes in
-        (
+        let front = left_of r s taken.bytes taken.consumes in (
           taken.bytes,
           front.0,
           front.1,
@@ -225,8 +226,7 @@ module _ (terminal : Bool) (r w : Option (List ℕ)) (old : Prompt) where
         (u : List ℕ) → WalksInto terminal (lines_of left) mid u → AppendsFront v x u → Serves terminal (r, y) (w, x) old new result
     serves_into {X} {E} result error is x y new u into appends =
         let front = left_of r s taken.bytes taken.consumes in
-        subst (λ (o : Result X E). Serves terminal (r, y) (w, x) old new o) (sym is)
-        (
+        subst (λ (o : Result X E). Serves terminal (r, y) (w, x) old new o) (sym is) (
           taken.bytes,
           front.0,
           front.1,

@@ -3,7 +3,7 @@ use Rattle.std.proofs.Common.{◌≡◌, ◌∙◌, refl, sym, ap, subst, ℕ, �
 use Rattle.std.proofs.lemmas.Bool.Decides.{nat_tests}
 use Rattle.std.proofs.lemmas.List.{append-nil, length-append}
 use Rattle.sfc_asking.specs.sfc_script.Arriving.{ended_line}
-use Rattle.sfc_asking.specs.sfc_script.Lines.{lines_of}
+use Rattle.sfc_asking.specs.sfc_script.Lines.{lines_of, split_before}
 use Rattle.sfc_asking.proofs.of_sfc_script.Splits.{stays}
 use Rattle.sfc_prompt.specs.declared.arrived.Arrived.{Arrived}
 use Rattle.sfc_prompt.specs.declared.prompt.Flow.{Flow}
@@ -15,6 +15,10 @@ use Rattle.sfc_prompt.proofs.Arriving.{only_line, passed_line, unended_more}
 use Rattle.sfc_prompt.proofs.Walking.{flow_more, flow_one, flow_same, into_line, into_then, invites_none, line_broken, line_taken, walk_one, walk_then}
 
 -- ---- what waits
+
+pub nothing_ended : ended_line [] ≡ None
+unfolding split_before
+nothing_ended = refl
 
 pub waits_new : (arrived : Arrived) → arrived.lines ≡ [] → arrived.is_cut ≡ false → Waits arrived []
 waits_new arrived none whole = record {

@@ -1,11 +1,11 @@
 -- Lines that are taken one after the other, and what is put for them.
-use Rattle.std.proofs.Common.{◌≡◌, ◌∙◌, refl, sym, ap, subst, ℕ, zero, suc, ◌+◌, arith, Bool, true, false, List, [], ◌∷◌, ◌++◌, append_assoc, inl, inr, codes}
+use Rattle.std.proofs.Common.{◌≡◌, ◌∙◌, refl, sym, ap, subst, ℕ, zero, suc, ◌+◌, arith, Bool, true, false, List, [], ◌∷◌, ◌++◌, append_assoc, inl, inr, None, codes}
 use Rattle.std.proofs.lemmas.List.{append-nil}
 use Rattle.sfc_prompt.specs.declared.prompt.Flow.{Flow}
 use Rattle.sfc_prompt.specs.declared.prompt.Flow.TheVariants.{GoesOn, Ends}
 use Rattle.sfc_prompt.specs.declared.prompt.Prompt.{Prompt}
 use Rattle.sfc_prompt.specs.Prompts.{course_in}
-use Rattle.sfc_prompt.specs.Walks.{AnswersInto, BreaksAt, BreaksLine, IfOn, Invites, IsAnswered, IsNext, StepsInto, TakesAll, TakesLine, TakesPart, TakesSome}
+use Rattle.sfc_prompt.specs.Walks.{AnswersInto, BreaksAt, BreaksLine, IfOn, Invites, IsAnswered, IsNext, StepsInto, TakesAll, TakesLine, TakesPart, TakesSome, TakesSteps}
 use Rattle.sfc_prompt.specs.Walks.{Walks, WalksInto, flow_after, flow_behind, flow_line, invitations, is_long}
 
 -- ---- steps
@@ -15,6 +15,36 @@ steps_none prompt = (0, (refl, refl))
 
 pub steps_more : (a b c : Prompt) (s u : List ℕ) → TakesSome a b s → IsNext b c u → TakesSome a c (s ++ u)
 steps_more a b c s u some next = (suc some.0, (b, s, u, some.1, next, refl))
+
+steps_on : (n : ℕ) (a b c : Prompt) (s u : List ℕ) → TakesSome a b s → TakesSteps n b c u → TakesSome a c (s ++ u)
+steps_on zero a b c s u some last =
+    subst (λ (p : Prompt). TakesSome a p (s ++ u)) (sym last.0)
+    (subst (λ (t : List ℕ). TakesSome a b t) (sym (append-nil s) ∙ ap (λ t. s ++ t) (sym last.1)) some)
+steps_on (suc n) a b c s u some last =
+    let front = steps_on n a b last.0 s last.1 some last.3 in
+    subst (λ (t : List ℕ). TakesSome a c t) (append_assoc s last.1 last.2 ∙ ap (λ t. s ++ t) (sym last.5))
+    (steps_more a last.0 c (s ++ last.1) last.2 front last.4)
+
+pub steps_then : (a b : Prompt) (s u : List ℕ) → TakesSome a b s → StepsInto b u → StepsInto a (s ++ u)
+steps_then a b s u some into = (into.0, steps_on into.1.0 a b into.0 s u some into.1.1)
+
+pub steps_one : (a b : Prompt) (u : List ℕ) → IsNext a b u → StepsInto a u
+steps_one a b u next = (b, steps_more a a b [] u (steps_none a) next)
+
+-- ---- a line that is obeyed
+
+pub answers_break : (a : Prompt) (line text : List ℕ) → AnswersInto a line text → BreaksLine false a line text
+answers_break a line text (inl none) = inl none
+answers_break a line text (inr answered) =
+    inr (answered.0, answered.0, text, [], answered.1, steps_none answered.0, sym (append-nil text))
+
+pub part_then : (a b : Prompt) (line first rest : List ℕ) → IsAnswered a b line first → StepsInto b rest
+    → BreaksLine false a line (first ++ rest)
+part_then a b line first rest answered into = inr (b, into.0, first, rest, answered, into.1, refl)
+
+pub all_taken : (a b c : Prompt) (line first rest : List ℕ) → IsAnswered a b line first → TakesSome b c rest → course_in c ≡ None
+    → TakesAll a c line (first ++ rest)
+all_taken a b c line first rest answered some none = (b, first, rest, answered, some, none, refl)
 
 -- ---- invitations
 
@@ -114,8 +144,7 @@ module _ (terminal : Bool) where
       let flow : Flow = flow_line (is_long line) line in
       let both = on_first flow (flow_after xs) e in
       let on : Walks terminal xs walks.0 b walks.3 =
-      subst (λ (f : Flow). IfOn f (Walks terminal xs walks.0 b walks.3) ((b ≡ walks.0) × (walks.3 ≡ []))) both.0 walks.6 in
-      (
+      subst (λ (f : Flow). IfOn f (Walks terminal xs walks.0 b walks.3) ((b ≡ walks.0) × (walks.3 ≡ []))) both.0 walks.6 in (
         walks.0,
         walks.1,
         walks.2,

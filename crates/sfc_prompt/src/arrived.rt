@@ -64,8 +64,8 @@ impl Arrived {
 
     /// Takes a piece from the reader: its bytes wait behind the others. It answers how many they are; none at the end of the reader.
     pub fn take<R: Read>(&mut self, reader: &mut R) -> Result<usize, ReplayError>
-        ensures { IfOk result (λ count. (piece : List ℕ) × (length piece ≡ count) × Consumes (R.remaining reader.old) (R.remaining reader.new) piece
-            × ((bytes : List ℕ) → Waits self.old bytes → Waits self.new (bytes ++ piece))) }
+        ensures { IfOk result (λ count. (piece : List ℕ) × (length piece ≡ count)
+            × Consumes (R.remaining reader.old) (R.remaining reader.new) piece × ((bytes : List ℕ) → Waits self.old bytes → Waits self.new (bytes ++ piece))) }
     {
         self.lines.take(reader, LONGEST)
     }

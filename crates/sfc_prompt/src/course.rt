@@ -30,7 +30,7 @@ use sfc_session::step::Step;
 use std::alloc::{AllocError, Global};
 
 /// The most steps that one line takes.
-pub const MOST: u64 = 100_000;
+const MOST: u64 = 100_000;
 
 /// Steps that are under way.
 pub struct Course {

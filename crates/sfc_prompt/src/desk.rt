@@ -68,7 +68,8 @@ impl<W: Write, A: Archive> Held<W, A> {
         requires empty { self.old.text.items ≡ [] }
         requires under_way { is_some (course_in self.old.prompt) ≡ true }
         ensures empty { OnOk result (self.new.text.items ≡ []) }
-        ensures left { (course : Course) → course_in self.old.prompt ≡ Some course → OnOk result (IsBehindStep course (course_in self.new.prompt)) }
+        ensures left { (course : Course) → course_in self.old.prompt ≡ Some course →
+            OnOk result (IsBehindStep course (course_in self.new.prompt)) }
         ensures tells { Tells (session_in self.old.prompt) (session_in self.new.prompt) (W.contents self.old.w) (W.contents self.new.w) result }
         ensures walks { WritesBy (W.contents self.old.w) (W.contents self.new.w) result
             (λ _ text. IsNext self.old.prompt self.new.prompt text) (StepsInto self.old.prompt) }
@@ -158,7 +159,8 @@ impl<W: Write, A: Archive> Held<W, A> {
         ensures prompt { self.new.prompt ≡ self.old.prompt }
         ensures empty { OnOk result (self.new.text.items ≡ []) }
         ensures tells { Tells (session_in self.old.prompt) (session_in self.new.prompt) (W.contents self.old.w) (W.contents self.new.w) result }
-        ensures invites { WritesBy (W.contents self.old.w) (W.contents self.new.w) result (λ _ text. Invites is_terminal text) (Invites is_terminal) }
+        ensures invites { WritesBy (W.contents self.old.w) (W.contents self.new.w) result
+            (λ _ text. Invites is_terminal text) (Invites is_terminal) }
     {
         if !is_terminal {
             return Ok(());
@@ -173,14 +175,16 @@ impl<W: Write, A: Archive> Held<W, A> {
         ensures empty { OnOk result (self.new.text.items ≡ []) }
         ensures idle { OnOk result (course_in self.new.prompt ≡ None) }
         ensures tells { Tells (session_in self.old.prompt) (session_in self.new.prompt) (W.contents self.old.w) (W.contents self.new.w) result }
-        ensures walks { (terminal : Bool) (bytes : List ℕ) → Waits arrived.old bytes → WritesBy (W.contents self.old.w) (W.contents self.new.w) result
+        ensures walks { (terminal : Bool) (bytes : List ℕ) → Waits arrived.old bytes →
+            WritesBy (W.contents self.old.w) (W.contents self.new.w) result
             (TakesEnded terminal self.old.prompt self.new.prompt bytes arrived.new) (WalksInto terminal (lines_of bytes) self.old.prompt) }
     {
         'lines: while let Some((line, is_long, left)) = arrived.first() {
             let flow = self.take(line, is_long)?;
             arrived.keep(left);
-            if flow == Flow::Ends {
-                return Ok(Flow::Ends);
+            match flow {
+                Flow::GoesOn => {}
+                Flow::Ends => return Ok(Flow::Ends),
             }
         }
         Ok(Flow::GoesOn)
@@ -194,7 +198,8 @@ impl<W: Write, A: Archive> Held<W, A> {
         ensures tells { Tells (session_in self.old.prompt) (session_in self.new.prompt) (W.contents self.old.w) (W.contents self.new.w) result }
         ensures walks { (terminal : Bool) (bytes : List ℕ) → Waits arrived.now bytes → ended_line bytes ≡ None →
             WritesBy (W.contents self.old.w) (W.contents self.new.w) result
-            (λ _ text. Walks terminal (lines_of bytes) self.old.prompt self.new.prompt text) (WalksInto terminal (lines_of bytes) self.old.prompt) }
+            (λ _ text. Walks terminal (lines_of bytes) self.old.prompt self.new.prompt text)
+            (WalksInto terminal (lines_of bytes) self.old.prompt) }
     {
         let Some((line, is_long)) = arrived.last() else {
             return Ok(());
@@ -208,7 +213,8 @@ impl<W: Write, A: Archive> Held<W, A> {
         requires { self.old.text.items ≡ [] }
         ensures prompt { self.new.prompt ≡ self.old.prompt }
         ensures tells { Tells (session_in self.old.prompt) (session_in self.new.prompt) (W.contents self.old.w) (W.contents self.new.w) result }
-        ensures leaves { WritesBy (W.contents self.old.w) (W.contents self.new.w) result (λ _ text. Leaves is_terminal text) (Leaves is_terminal) }
+        ensures leaves { WritesBy (W.contents self.old.w) (W.contents self.new.w) result
+            (λ _ text. Leaves is_terminal text) (Leaves is_terminal) }
     {
         if !is_terminal {
             return Ok(());
@@ -223,7 +229,8 @@ impl<W: Write, A: Archive> Held<W, A> {
         ensures tells { Tells (session_in self.old.prompt) (session_in self.new.prompt) (W.contents self.old.w) (W.contents self.new.w) result }
         ensures walks { (bytes : List ℕ) → Waits arrived.now bytes → ended_line bytes ≡ None →
             WritesBy (W.contents self.old.w) (W.contents self.new.w) result
-            (λ _ text. WalksOut is_terminal (lines_of bytes) self.old.prompt self.new.prompt text) (WalksOff is_terminal (lines_of bytes) self.old.prompt) }
+            (λ _ text. WalksOut is_terminal (lines_of bytes) self.old.prompt self.new.prompt text)
+            (WalksOff is_terminal (lines_of bytes) self.old.prompt) }
     {
         self.take_rest(arrived)?;
         self.leave(is_terminal)
@@ -249,8 +256,9 @@ fn obey_pieces<S: Read, W: Write, A: Archive>(
         if arrived.take(reader)? == 0 {
             break;
         }
-        if held.take_lines(&mut arrived)? == Flow::Ends {
-            return Ok(());
+        match held.take_lines(&mut arrived)? {
+            Flow::GoesOn => {}
+            Flow::Ends => return Ok(()),
         }
         arrived.pass_over();
     }
