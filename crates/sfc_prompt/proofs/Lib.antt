@@ -13,3 +13,11 @@ pub mod Transcripts
 pub mod Writing
 -- conditions until which steps are taken
 pub mod Courses
+-- steps of a prompt, one after the other
+pub mod Stepping
+-- bytes that have come and wait, line by line
+pub mod Arriving
+pub mod Waits
+-- lines that are taken one after the other, and as a reader gives them
+pub mod Walking
+pub mod Serving

@@ -1,5 +1,5 @@
 -- Steps that are taken one after the other: the conditions until which they are, and which of them a line begins.
-use Rattle.std.specs.Prelude.{◌≡◌, ℕ, ◌+◌, ◌==◌, ⊤, Bool, false, ◌&&◌, nat_lt, if◌then◌else◌, List, [], ◌∷◌, length, codes}
+use Rattle.std.specs.Prelude.{◌≡◌, ℕ, ◌+◌, ◌==◌, ⊤, Bool, true, false, ◌&&◌, ◌||◌, nat_lt, if◌then◌else◌, List, [], ◌∷◌, length, codes}
 use Rattle.std.specs.Prelude.{Option, Some, None, option_map, option_and_then}
 use Rattle.std.specs.Option.{option_or}
 use Rattle.sfc_base.specs.Case.{same_word}
@@ -10,17 +10,21 @@ use Rattle.sfc_asking.specs.sfc_debug.declared.break_condition.BreakCondition.{B
 use Rattle.sfc_asking.specs.sfc_debug.Histories.{CommandHistory}
 use Rattle.sfc_asking.specs.sfc_debug.Hits.{environment_after, is_met}
 use Rattle.sfc_asking.specs.sfc_debug.Steered.{Steered}
-use Rattle.sfc_asking.specs.sfc_output.Output.{debugger_of, plant_state}
+use Rattle.sfc_asking.specs.sfc_output.Output.{Verdict, debugger_of, plant_state}
 use Rattle.sfc_asking.specs.sfc_script.Lines.{first_word, only_word}
 use Rattle.sfc_asking.specs.sfc_script.Scripts.{ConditionReads}
 use Rattle.sfc_asking.specs.sfc_script.Values.{decimal_of, limited}
+use Rattle.sfc_session.specs.declared.session.Session.{Session}
 use Rattle.sfc_session.specs.declared.step.Step.{Step}
 use Rattle.sfc_session.specs.declared.step.Step.TheVariants as steps
+use Rattle.sfc_session.specs.Scanning.{ends_steps, step_after}
+use Rattle.sfc_session.specs.Sessions.{IsTaken, Stays, steered_in}
 use Rattle.sfc_prompt.specs.declared.course.Course.{Course}
 use Rattle.sfc_prompt.specs.declared.course.Wanted.{Wanted}
 use Rattle.sfc_prompt.specs.declared.course.Wanted.TheVariants.{Until, Several, Faulty}
 use Rattle.sfc_prompt.specs.declared.line.Word.TheVariants as words
 use Rattle.sfc_prompt.specs.Lines.{Said, Nothing, Remark, Says, Asks}
+use Rattle.sfc_prompt.specs.Notes.{Adds}
 use Rattle.sfc_prompt.specs.Orders.{text_step}
 use Rattle.sfc_prompt.specs.Words.{from_word}
 
@@ -115,6 +119,38 @@ step_behind plant last (Says instant text) = option_or (text_step plant instant 
 step_behind plant last (Asks word text) = last
 step_behind plant last Remark = last
 step_behind plant last Nothing = last
+
+-- ---- a step of these
+
+-- None of these steps is taken any more behind these commands: none is left, or the condition is TRUE.
+abbrev pub is_over_after : Steered → CommandHistory → Course → Bool
+is_over_after steered h course = course.left == 0 || is_met_after steered h course.condition
+
+-- the same steps, of which one less is left
+pub record IsOneLess (course next : Course) : Type 0 where
+  pub step : next.step ≡ course.step
+  pub condition : next.condition ≡ course.condition
+  pub left : next.left + 1 ≡ course.left
+
+-- How steps ended is told where they had a condition.
+abbrev pub TellsEnd : Option BreakCondition → List ℕ → List ℕ → Type 0
+TellsEnd None before behind = behind ≡ before
+TellsEnd (Some condition) before behind = Adds before behind
+
+-- Behind a step that ends them none is under way, and that is told; behind any other one less is left, and nothing is told.
+abbrev pub GoesBehind : Course → List ℕ → List ℕ → Bool → Option Course → Type 0
+GoesBehind course before behind true next = (next ≡ None) × TellsEnd course.condition before behind
+GoesBehind course before behind false None = ⊥
+GoesBehind course before behind false (Some next) = IsOneLess course next × (behind ≡ before)
+
+-- Where they are over none is under way any more, that is told, and nothing was accepted. Else the next one was taken, in the words of a
+-- replay, and what it was answered says whether they go on.
+abbrev pub StepsOn : Session → Session → List ℕ → List ℕ → CommandHistory → List ℕ → Course → Option Course → Bool → Type 0
+StepsOn old new before behind h lines course next true =
+    (next ≡ None) × TellsEnd course.condition before behind × Stays old new h lines
+StepsOn old new before behind h lines course next false =
+    (told : Verdict) × (middle : List ℕ) × IsTaken old new before middle told h lines (step_after (steered_in old) h course.step)
+    × GoesBehind course middle behind (ends_steps told) next
 
 -- ---- what is read of it
 

@@ -1,11 +1,15 @@
--- What a session writes to a device.
-use Rattle.std.specs.Prelude.{ℕ, List, Option, Result, Ok, Err}
-use Rattle.std.specs.Io.KnownBytes.{Appends}
+-- What a session reads from a device, and writes to another.
+use Rattle.std.specs.Prelude.{◌≡◌, ◌⊎◌, ℕ, Bool, true, false, List, [], ◌++◌, codes, Option, Some, Result, Ok, Err}
+use Rattle.std.specs.Io.KnownBytes.{Appends, Consumes}
 use Rattle.sfc_base.specs.Writing.{AppendsFront}
 use Rattle.sfc_asking.specs.sfc_debug.Histories.{CommandHistory}
+use Rattle.sfc_asking.specs.sfc_script.Lines.{lines_of}
+use Rattle.sfc_replay.specs.Reading.{Device}
 use Rattle.sfc_session.specs.declared.session.Session.{Session}
 use Rattle.sfc_session.specs.Sessions.{HasSaid, script_in, steered_in}
+use Rattle.sfc_prompt.specs.declared.prompt.Prompt.{Prompt}
 use Rattle.sfc_prompt.specs.Transcripts.{HasGoneOn}
+use Rattle.sfc_prompt.specs.Walks.{Walks, WalksInto}
 
 -- From one session to a later one its transcript was written.
 abbrev pub Told : Session → Session → Option (List ℕ) → Option (List ℕ) → Type 0
@@ -21,3 +25,35 @@ BreaksOff old before behind = (h : CommandHistory) (lines : List ℕ) → HasSai
 abbrev pub Tells : {X E : Type 0} → Session → Session → Option (List ℕ) → Option (List ℕ) → Result X E → Type 0
 Tells old new before behind (Ok x) = Told old new before behind
 Tells old new before behind (Err e) = BreaksOff old before behind
+
+-- ---- line by line
+
+-- All of a text was written of which this holds, with what was answered; or before an error a front of one of which that holds.
+abbrev pub WritesBy : {X E : Type 0} → Option (List ℕ) → Option (List ℕ) → Result X E → (X → List ℕ → Type 0) → (List ℕ → Type 0) → Type 0
+WritesBy before behind (Ok x) Whole Part = (text : List ℕ) × Whole x text × Appends before behind text
+WritesBy before behind (Err e) Whole Part = (text : List ℕ) × Part text × AppendsFront before behind text
+
+-- At a terminal the line of the last invitation may be ended.
+abbrev pub Leaves : Bool → List ℕ → Type 0
+Leaves true text = (text ≡ []) ⊎ (text ≡ codes "\n")
+Leaves false text = text ≡ []
+
+-- The lines were taken, and this was put for them and for the end.
+abbrev pub WalksOut : Bool → List (List ℕ) → Prompt → Prompt → List ℕ → Type 0
+WalksOut terminal lines old new text =
+    (walked : List ℕ) × (end : List ℕ) × Walks terminal lines old new walked × Leaves terminal end × (text ≡ walked ++ end)
+
+-- A front of them was taken before an error.
+abbrev pub WalksOff : Bool → List (List ℕ) → Prompt → List ℕ → Type 0
+WalksOff terminal lines old text =
+    (walked : List ℕ) × (end : List ℕ) × WalksInto terminal lines old walked × Leaves terminal end × (text ≡ walked ++ end)
+
+-- The lines of the bytes that the reader lost were taken, and what was put for them was written. Before an error a front of the lines of
+-- such bytes was taken, with which begins what the reader had, and a front of what was put for them was written.
+abbrev pub Serves : {X E : Type 0} → Bool → Device → Device → Prompt → Prompt → Result X E → Type 0
+Serves terminal reader writer old new (Ok x) =
+    (bytes : List ℕ) × Consumes reader.0 reader.1 bytes
+    × (text : List ℕ) × WalksOut terminal (lines_of bytes) old new text × Appends writer.0 writer.1 text
+Serves terminal reader writer old new (Err e) =
+    (bytes : List ℕ) × (left : List ℕ) × Consumes reader.0 (Some left) bytes
+    × (text : List ℕ) × WalksOff terminal (lines_of bytes) old text × AppendsFront writer.0 writer.1 text

@@ -15,5 +15,9 @@ pub mod Prompts
 -- what a session writes, piece by piece, and what its script says
 pub mod Pieces
 pub mod Transcripts
--- what it writes to a device
+-- what becomes of lines, one after the other
+pub mod Walks
+-- what it reads from a device, and writes to another
 pub mod Desks
+-- ---- what private clauses cite
+pub mod Private

@@ -14,8 +14,8 @@ use Rattle.sfc_session.specs.declared.session.Session.{Session}
 use Rattle.sfc_session.specs.declared.step.Step.{Step}
 use Rattle.sfc_session.specs.declared.step.Step.TheVariants as steps
 use Rattle.sfc_prompt.specs.Lines.{Said, Nothing, Remark, Says, Asks}
-use Rattle.sfc_session.specs.Scanning.{first_scan_after, scan_after, step_after, step_of}
-use Rattle.sfc_session.specs.Sessions.{IsGiven, IsTaken, IsWaiting, Stays, last_instant, steered_in, words_of}
+use Rattle.sfc_session.specs.Scanning.{first_scan_after, scan_after, step_of}
+use Rattle.sfc_session.specs.Sessions.{IsGiven, IsWaiting, Stays, last_instant, steered_in, words_of}
 use Rattle.sfc_prompt.specs.Words.{is_word}
 
 -- ---- orders
@@ -102,13 +102,3 @@ Obeys old new before behind h lines (Waits conditional raw words) =
     × ConditionReads (steered_in old).plant 0 conditional.place.program conditional.text read
     × BreaksBy old new before behind h lines conditional raw words read
 Obeys old new before behind h lines Shows = IsShown old new before behind h lines
-
--- The step was taken, in the words of a replay, and nothing else was put.
-abbrev pub Takes : Session → Session → List ℕ → List ℕ → CommandHistory → List ℕ → Step → Type 0
-Takes old new before behind h lines step =
-    (told : Verdict) × IsTaken old new before behind told h lines (step_after (steered_in old) h step)
-
--- The step was taken, and a text was put behind its answer.
-abbrev pub TakesFirst : Session → Session → List ℕ → List ℕ → CommandHistory → List ℕ → Step → Type 0
-TakesFirst old new before behind h lines step =
-    (middle : List ℕ) × Takes old new before middle h lines step × (text : List ℕ) × (behind ≡ middle ++ text)

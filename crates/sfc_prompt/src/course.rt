@@ -6,7 +6,7 @@ ghost use Rattle.sfc_asking.specs.sfc_debug.Hits.{is_met};
 ghost use Rattle.sfc_asking.specs.sfc_instance.Views.{environment_in};
 ghost use Rattle.sfc_prompt.specs.declared.course.Course.{Course};
 ghost use Rattle.sfc_prompt.specs.Courses as courses;
-ghost use Rattle.sfc_prompt.specs.Courses.{BeginsUntil, asked, begun, holds_after, is_met_after, most, wanted_course};
+ghost use Rattle.sfc_prompt.specs.Courses.{BeginsUntil, asked, begun, holds_after, is_met_after, is_over_after, most, wanted_course};
 ghost use Rattle.sfc_prompt.specs.Notes.{Adds};
 ghost use Rattle.sfc_session.specs.declared.step.Step.TheVariants.{First};
 ghost use Rattle.sfc_session.specs.Sessions.{HasSaid, steered_in};
@@ -30,7 +30,7 @@ use sfc_session::step::Step;
 use std::alloc::{AllocError, Global};
 
 /// The most steps that one line takes.
-pub const MOST: u64 = 100_000;
+const MOST: u64 = 100_000;
 
 /// Steps that are under way.
 pub struct Course {
@@ -99,8 +99,8 @@ impl Course {
         ensures empty { self.now.left ≡ 0 → IsTrue result }
         ensures left { 0 < self.now.left → (h : CommandHistory) (lines : List ℕ) → HasSaid session.now h lines →
             result ≡ is_met_after (steered_in session.now) h self.now.condition }
-        ensures met { (h : CommandHistory) (lines : List ℕ) → HasSaid session.now h lines →
-            is_met_after (steered_in session.now) h self.now.condition ≡ true → IsTrue result }
+        ensures value { (h : CommandHistory) (lines : List ℕ) → HasSaid session.now h lines →
+            result ≡ is_over_after (steered_in session.now) h self.now }
     {
         if self.left == 0 {
             return true;

@@ -1,26 +1,30 @@
 //! Lines as they come from a reader.
 
-ghost use Rattle.std.specs.Prelude.{◌≡◌, [], OnOk};
+ghost use Rattle.std.specs.Prelude.{◌≡◌, [], ℕ, List, Bool, true, false, Some, None, OnOk, is_some};
+ghost use Rattle.sfc_asking.specs.sfc_script.Arriving.{ended_line};
+ghost use Rattle.sfc_asking.specs.sfc_script.Lines.{lines_of};
 ghost use Rattle.sfc_base.specs.Writing.{Writes};
-ghost use Rattle.sfc_prompt.specs.Desks.{Tells};
-ghost use Rattle.sfc_prompt.specs.Prompts.{session_in};
+ghost use Rattle.sfc_prompt.specs.declared.course.Course.{Course};
+ghost use Rattle.sfc_prompt.specs.Courses.{IsBehindStep};
+ghost use Rattle.sfc_prompt.specs.Desks.{Leaves, Serves, Tells, WalksOff, WalksOut, WritesBy};
+ghost use Rattle.sfc_prompt.specs.Lines.{line_said};
+ghost use Rattle.sfc_prompt.specs.Private.Waiting.{TakesEnded, Waits};
+ghost use Rattle.sfc_prompt.specs.Prompts.{course_in, flow_of, session_in};
+ghost use Rattle.sfc_prompt.specs.Walks.{AnswersInto, BreaksLine, Invites, IsAnswered, IsNext, StepsInto, TakesAll, TakesLine, TakesSome, Walks};
+ghost use Rattle.sfc_prompt.specs.Walks.{WalksInto, flow_line};
 
 use crate::archive::Archive;
-use crate::course::MOST;
+use crate::arrived::Arrived;
 use crate::prompt::{Flow, Prompt};
 use crate::sfc_debug::trace_mask::TraceMask;
 use sfc_base::write_fault::put_all;
 use sfc_page::append::append;
-use sfc_replay::arriving::ArrivingLines;
 use sfc_replay::input::read_to_end;
 use sfc_replay::opening::debugger_of_text;
 use sfc_replay::replay_error::ReplayError;
 use sfc_session::session::Session;
 use std::alloc::Global;
 use std::io::{Read, Write};
-
-/// The most bytes of a line.
-const LONGEST: usize = 1_048_576;
 
 /// Where answers go, and where scripts are kept.
 #[derive(Drop)]
@@ -41,14 +45,12 @@ struct Held<W: Write, A: Archive> {
     // What waits to be written.
     text: Vec<u8>,
     archive: A,
-    is_terminal: bool,
-    // Whether the front of a line was passed over, since it is too long.
-    is_cut: bool,
 }
 
 impl<W: Write, A: Archive> Held<W, A> {
     // Writes what waits, and flushes the writer.
     fn pass(&mut self) -> Result<(), ReplayError>
+        ensures prompt { self.new.prompt ≡ self.old.prompt }
         ensures session { session_in self.new.prompt ≡ session_in self.old.prompt }
         ensures empty { OnOk result (self.new.text.items ≡ []) }
         ensures written { Writes (W.contents self.old.w) (W.contents self.new.w) result self.old.text.items }
@@ -61,27 +63,33 @@ impl<W: Write, A: Archive> Held<W, A> {
         }
     }
 
-    // Takes the next of the steps that are under way, and writes its answer; whether more are under way.
-    fn step(&mut self) -> Result<bool, ReplayError>
-        requires { self.old.text.items ≡ [] }
+    // Takes the next of the steps that are under way, and writes its answer.
+    fn step(&mut self) -> Result<(), ReplayError>
+        requires empty { self.old.text.items ≡ [] }
+        requires under_way { is_some (course_in self.old.prompt) ≡ true }
         ensures empty { OnOk result (self.new.text.items ≡ []) }
+        ensures left { (course : Course) → course_in self.old.prompt ≡ Some course →
+            OnOk result (IsBehindStep course (course_in self.new.prompt)) }
         ensures tells { Tells (session_in self.old.prompt) (session_in self.new.prompt) (W.contents self.old.w) (W.contents self.new.w) result }
+        ensures walks { WritesBy (W.contents self.old.w) (W.contents self.new.w) result
+            (λ _ text. IsNext self.old.prompt self.new.prompt text) (StepsInto self.old.prompt) }
     {
-        let goes_on = self.prompt.go_on(&mut self.text)?;
+        self.prompt.go_on(&mut self.text)?;
         self.pass()?;
-        Ok(goes_on)
+        Ok(())
     }
 
-    // Takes the steps that are under way, each answer written at once.
+    // Takes the steps that are under way until none is, each answer written at once.
     fn go_on(&mut self) -> Result<(), ReplayError>
         requires { self.old.text.items ≡ [] }
         ensures empty { OnOk result (self.new.text.items ≡ []) }
+        ensures idle { OnOk result (course_in self.new.prompt ≡ None) }
         ensures tells { Tells (session_in self.old.prompt) (session_in self.new.prompt) (W.contents self.old.w) (W.contents self.new.w) result }
+        ensures walks { WritesBy (W.contents self.old.w) (W.contents self.new.w) result
+            (λ _ text. TakesSome self.old.prompt self.new.prompt text) (StepsInto self.old.prompt) }
     {
-        'steps: for _ in 0..=MOST {
-            if !self.step()? {
-                return Ok(());
-            }
+        'steps: while self.prompt.is_under_way() {
+            self.step()?;
         }
         Ok(())
     }
@@ -91,17 +99,24 @@ impl<W: Write, A: Archive> Held<W, A> {
         requires { self.old.text.items ≡ [] }
         ensures empty { OnOk result (self.new.text.items ≡ []) }
         ensures tells { Tells (session_in self.old.prompt) (session_in self.new.prompt) (W.contents self.old.w) (W.contents self.new.w) result }
+        ensures walks { WritesBy (W.contents self.old.w) (W.contents self.new.w) result
+            (λ flow text. IsAnswered self.old.prompt self.new.prompt line.now text × (flow ≡ flow_of (line_said line.now)))
+            (AnswersInto self.old.prompt line.now) }
     {
         let flow = self.prompt.obey(line, &mut self.archive, &mut self.text)?;
         self.pass()?;
         Ok(flow)
     }
 
-    // Obeys a line.
+    // Obeys a line, and takes the steps that it begins.
     fn obey(&mut self, line: &[u8]) -> Result<Flow, ReplayError>
         requires { self.old.text.items ≡ [] }
         ensures empty { OnOk result (self.new.text.items ≡ []) }
+        ensures idle { OnOk result (course_in self.new.prompt ≡ None) }
         ensures tells { Tells (session_in self.old.prompt) (session_in self.new.prompt) (W.contents self.old.w) (W.contents self.new.w) result }
+        ensures walks { WritesBy (W.contents self.old.w) (W.contents self.new.w) result
+            (λ flow text. TakesAll self.old.prompt self.new.prompt line.now text × (flow ≡ flow_line false line.now))
+            (BreaksLine false self.old.prompt line.now) }
     {
         let flow = self.answer(line)?;
         self.go_on()?;
@@ -111,21 +126,27 @@ impl<W: Write, A: Archive> Held<W, A> {
     // Writes a text that answers nothing.
     fn tell(&mut self, text: &[u8]) -> Result<(), ReplayError>
         requires { self.old.text.items ≡ [] }
+        ensures prompt { self.new.prompt ≡ self.old.prompt }
         ensures empty { OnOk result (self.new.text.items ≡ []) }
         ensures tells { Tells (session_in self.old.prompt) (session_in self.new.prompt) (W.contents self.old.w) (W.contents self.new.w) result }
+        ensures written { Writes (W.contents self.old.w) (W.contents self.new.w) result text.now }
     {
         append(&mut self.text, text)?;
         self.pass()
     }
 
     // Obeys a line, or tells that it is too long.
-    fn take(&mut self, line: &[u8]) -> Result<Flow, ReplayError>
-        requires { self.old.text.items ≡ [] }
+    fn take(&mut self, line: &[u8], is_long: bool) -> Result<Flow, ReplayError>
+        requires empty { self.old.text.items ≡ [] }
+        requires idle { course_in self.old.prompt ≡ None }
         ensures empty { OnOk result (self.new.text.items ≡ []) }
+        ensures idle { OnOk result (course_in self.new.prompt ≡ None) }
         ensures tells { Tells (session_in self.old.prompt) (session_in self.new.prompt) (W.contents self.old.w) (W.contents self.new.w) result }
+        ensures walks { WritesBy (W.contents self.old.w) (W.contents self.new.w) result
+            (λ flow text. TakesLine is_long self.old.prompt self.new.prompt line.now text × (flow ≡ flow_line is_long line.now))
+            (BreaksLine is_long self.old.prompt line.now) }
     {
-        if self.is_cut || line.len() > LONGEST {
-            self.is_cut = false;
+        if is_long {
             self.tell(b"; the line has more than 1048576 bytes\n")?;
             return Ok(Flow::GoesOn);
         }
@@ -133,78 +154,86 @@ impl<W: Write, A: Archive> Held<W, A> {
     }
 
     // Shows where to write, where somebody sits there.
-    fn invite(&mut self) -> Result<(), ReplayError>
+    fn invite(&mut self, is_terminal: bool) -> Result<(), ReplayError>
         requires { self.old.text.items ≡ [] }
+        ensures prompt { self.new.prompt ≡ self.old.prompt }
         ensures empty { OnOk result (self.new.text.items ≡ []) }
         ensures tells { Tells (session_in self.old.prompt) (session_in self.new.prompt) (W.contents self.old.w) (W.contents self.new.w) result }
+        ensures invites { WritesBy (W.contents self.old.w) (W.contents self.new.w) result
+            (λ _ text. Invites is_terminal text) (Invites is_terminal) }
     {
-        if !self.is_terminal {
+        if !is_terminal {
             return Ok(());
         }
         self.tell(b"sfc> ")
     }
 
     // Obeys each line that has its end, until the session ends; whether it goes on.
-    fn take_lines(&mut self, lines: &mut ArrivingLines) -> Result<Flow, ReplayError>
-        requires { self.old.text.items ≡ [] }
+    fn take_lines(&mut self, arrived: &mut Arrived) -> Result<Flow, ReplayError>
+        requires empty { self.old.text.items ≡ [] }
+        requires idle { course_in self.old.prompt ≡ None }
         ensures empty { OnOk result (self.new.text.items ≡ []) }
+        ensures idle { OnOk result (course_in self.new.prompt ≡ None) }
         ensures tells { Tells (session_in self.old.prompt) (session_in self.new.prompt) (W.contents self.old.w) (W.contents self.new.w) result }
+        ensures walks { (terminal : Bool) (bytes : List ℕ) → Waits arrived.old bytes →
+            WritesBy (W.contents self.old.w) (W.contents self.new.w) result
+            (TakesEnded terminal self.old.prompt self.new.prompt bytes arrived.new) (WalksInto terminal (lines_of bytes) self.old.prompt) }
     {
-        'lines: while let Some((line, behind)) = lines.first() {
-            let flow = self.take(line)?;
-            lines.keep(behind);
-            if flow == Flow::Ends {
-                return Ok(Flow::Ends);
+        'lines: while let Some((line, is_long, left)) = arrived.first() {
+            let flow = self.take(line, is_long)?;
+            arrived.keep(left);
+            match flow {
+                Flow::GoesOn => {}
+                Flow::Ends => return Ok(Flow::Ends),
             }
         }
         Ok(Flow::GoesOn)
     }
 
-    // Passes over the front of a line that is too long.
-    fn pass_over(&mut self, lines: &mut ArrivingLines)
-        ensures session { session_in self.new.prompt ≡ session_in self.old.prompt }
-        ensures text { self.new.text ≡ self.old.text }
-        ensures writer { self.new.w ≡ self.old.w }
-    {
-        if lines.waiting().len() > LONGEST {
-            lines.keep(0);
-            self.is_cut = true;
-        }
-    }
-
     // Obeys the last line, where it has no end.
-    fn take_rest(&mut self, waiting: &[u8]) -> Result<(), ReplayError>
-        requires { self.old.text.items ≡ [] }
+    fn take_rest(&mut self, arrived: &Arrived) -> Result<(), ReplayError>
+        requires empty { self.old.text.items ≡ [] }
+        requires idle { course_in self.old.prompt ≡ None }
         ensures empty { OnOk result (self.new.text.items ≡ []) }
         ensures tells { Tells (session_in self.old.prompt) (session_in self.new.prompt) (W.contents self.old.w) (W.contents self.new.w) result }
+        ensures walks { (terminal : Bool) (bytes : List ℕ) → Waits arrived.now bytes → ended_line bytes ≡ None →
+            WritesBy (W.contents self.old.w) (W.contents self.new.w) result
+            (λ _ text. Walks terminal (lines_of bytes) self.old.prompt self.new.prompt text)
+            (WalksInto terminal (lines_of bytes) self.old.prompt) }
     {
-        if waiting.is_empty() && !self.is_cut {
+        let Some((line, is_long)) = arrived.last() else {
             return Ok(());
-        }
-        let _ = self.take(waiting)?;
+        };
+        let _ = self.take(line, is_long)?;
         Ok(())
     }
 
     // Ends the line on which somebody was shown where to write.
-    fn leave(&mut self) -> Result<(), ReplayError>
+    fn leave(&mut self, is_terminal: bool) -> Result<(), ReplayError>
         requires { self.old.text.items ≡ [] }
-        ensures empty { OnOk result (self.new.text.items ≡ []) }
+        ensures prompt { self.new.prompt ≡ self.old.prompt }
         ensures tells { Tells (session_in self.old.prompt) (session_in self.new.prompt) (W.contents self.old.w) (W.contents self.new.w) result }
+        ensures leaves { WritesBy (W.contents self.old.w) (W.contents self.new.w) result
+            (λ _ text. Leaves is_terminal text) (Leaves is_terminal) }
     {
-        if !self.is_terminal {
+        if !is_terminal {
             return Ok(());
         }
         self.tell(b"\n")
     }
 
     // Obeys the last line, and leaves.
-    fn take_last(&mut self, waiting: &[u8]) -> Result<(), ReplayError>
-        requires { self.old.text.items ≡ [] }
-        ensures empty { OnOk result (self.new.text.items ≡ []) }
+    fn take_last(&mut self, arrived: &Arrived, is_terminal: bool) -> Result<(), ReplayError>
+        requires empty { self.old.text.items ≡ [] }
+        requires idle { course_in self.old.prompt ≡ None }
         ensures tells { Tells (session_in self.old.prompt) (session_in self.new.prompt) (W.contents self.old.w) (W.contents self.new.w) result }
+        ensures walks { (bytes : List ℕ) → Waits arrived.now bytes → ended_line bytes ≡ None →
+            WritesBy (W.contents self.old.w) (W.contents self.new.w) result
+            (λ _ text. WalksOut is_terminal (lines_of bytes) self.old.prompt self.new.prompt text)
+            (WalksOff is_terminal (lines_of bytes) self.old.prompt) }
     {
-        self.take_rest(waiting)?;
-        self.leave()
+        self.take_rest(arrived)?;
+        self.leave(is_terminal)
     }
 }
 
@@ -213,22 +242,27 @@ fn obey_pieces<S: Read, W: Write, A: Archive>(
     alloc: Global,
     held: &mut Held<W, A>,
     reader: &mut S,
+    is_terminal: bool,
 ) -> Result<(), ReplayError>
-    requires { held.old.text.items ≡ [] }
-    ensures { Tells (session_in held.old.prompt) (session_in held.new.prompt) (W.contents held.old.w) (W.contents held.new.w) result }
+    requires empty { held.old.text.items ≡ [] }
+    requires idle { course_in held.old.prompt ≡ None }
+    ensures tells { Tells (session_in held.old.prompt) (session_in held.new.prompt) (W.contents held.old.w) (W.contents held.new.w) result }
+    ensures serves { Serves is_terminal (S.remaining reader.old, S.remaining reader.new) (W.contents held.old.w, W.contents held.new.w)
+        held.old.prompt held.new.prompt result }
 {
-    let mut lines = ArrivingLines::new(alloc);
+    let mut arrived = Arrived::new(alloc);
     'pieces: for _ in 0..u64::MAX {
-        held.invite()?;
-        if lines.take(reader, LONGEST)? == 0 {
+        held.invite(is_terminal)?;
+        if arrived.take(reader)? == 0 {
             break;
         }
-        if held.take_lines(&mut lines)? == Flow::Ends {
-            return Ok(());
+        match held.take_lines(&mut arrived)? {
+            Flow::GoesOn => {}
+            Flow::Ends => return Ok(()),
         }
-        held.pass_over(&mut lines);
+        arrived.pass_over();
     }
-    held.take_last(lines.waiting())
+    held.take_last(&arrived, is_terminal)
 }
 
 /// Holds a session with the plant that the bytes of a chart are: reads lines as they come, and answers each at once, as `Prompt::obey`. It ends
@@ -256,8 +290,6 @@ pub fn hold<C: Read, S: Read, W: Write + Drop, A: Archive + Drop>(
         w: answers,
         text: Vec::new(alloc),
         archive,
-        is_terminal,
-        is_cut: false,
     };
-    obey_pieces(alloc, &mut held, lines)
+    obey_pieces(alloc, &mut held, lines, is_terminal)
 }

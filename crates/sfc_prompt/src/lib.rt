@@ -2,6 +2,7 @@
 //! all stands, each answered at once.
 //!
 //! - `archive`: where scripts are kept.
+//! - `arrived`: lines that have come.
 //! - `desk`: lines as they come from a reader.
 //! - `expression`: conditions by their texts.
 //! - `laws`: what holds of what a session has written.
@@ -14,6 +15,7 @@
 #![tactic(auto)]
 
 pub mod archive;
+mod arrived;
 mod course;
 pub mod desk;
 mod expression;

@@ -1,6 +1,6 @@
 //! Lines that are obeyed one by one.
 
-ghost use Rattle.std.specs.Prelude.{◌≡◌, ◌<◌, true, false, OnOk, IfOk, Some, None, is_some};
+ghost use Rattle.std.specs.Prelude.{◌≡◌, ◌<◌, false, OnOk, IfOk, Some, None, is_some};
 ghost use Rattle.sfc_prompt.specs.Lines.{as_said};
 ghost use Rattle.sfc_prompt.specs.Prompts as prompts;
 
@@ -61,10 +61,10 @@ impl Prompt {
     ghost use Rattle.sfc_asking.specs.sfc_debug.Histories.{CommandHistory};
     ghost use Rattle.sfc_prompt.specs.declared.course.Course.{Course};
     ghost use Rattle.sfc_prompt.specs.Courses as courses;
-    ghost use Rattle.sfc_prompt.specs.Courses.{Begins, BeginsUntil, IsBehindStep, asked, is_met_after, step_behind};
+    ghost use Rattle.sfc_prompt.specs.Courses.{Begins, BeginsUntil, IsBehindStep, StepsOn, asked, is_over_after, step_behind};
     ghost use Rattle.sfc_prompt.specs.Lines.{Asks, as_said, line_said};
     ghost use Rattle.sfc_prompt.specs.Notes.{Adds};
-    ghost use Rattle.sfc_prompt.specs.Orders.{IsShown, Obeys, Takes, TakesFirst, order_of, text_order, text_step};
+    ghost use Rattle.sfc_prompt.specs.Orders.{IsShown, Obeys, order_of, text_order, text_step};
     ghost use Rattle.std.specs.Option.{option_or};
     ghost use Rattle.sfc_prompt.specs.Prompts.{course_in, last_in, session_in};
     ghost use Rattle.sfc_session.specs.Sessions.{HasSaid, steered_in};
@@ -257,10 +257,9 @@ impl Prompt {
     // A step of a course, and the course behind it.
     fn take_step(&mut self, course: Course, out: &mut Vec<u8>) -> Result<(), AllocError>
         ensures puts { OnOk result (Puts (session_in self.old) (session_in self.new) out.old.items out.new.items) }
-        ensures taken { (h : CommandHistory) (lines : List ℕ) → HasSaid (session_in self.old) h lines → course.condition ≡ None → OnOk result
-            (Takes (session_in self.old) (session_in self.new) out.old.items out.new.items h lines course.step) }
-        ensures first { (h : CommandHistory) (lines : List ℕ) → HasSaid (session_in self.old) h lines → OnOk result
-            (TakesFirst (session_in self.old) (session_in self.new) out.old.items out.new.items h lines course.step) }
+        ensures steps { (h : CommandHistory) (lines : List ℕ) → HasSaid (session_in self.old) h lines → course_in self.old ≡ None →
+            0 < course.left → OnOk result (StepsOn (session_in self.old) (session_in self.new) out.old.items out.new.items h lines course
+            (course_in self.new) false) }
         ensures left { course_in self.old ≡ None → 0 < course.left → OnOk result (IsBehindStep course (course_in self.new)) }
         ensures last { last_in self.new ≡ last_in self.old }
     {
@@ -273,35 +272,30 @@ impl Prompt {
         Ok(())
     }
 
+    /// Whether steps are under way.
+    pub fn is_under_way(&self) -> bool
+        ensures { result ≡ is_some (course_in self.now) }
+    {
+        self.course.is_some()
+    }
+
     /// Takes the next of the steps that are under way, and puts its answer at the end of `out`; how it ended, where it ends: a step was
-    /// refused, hit a breakpoint, or ended a program's scan with a fault; the condition is TRUE; or no step is left. Whether more
-    /// are under way. The one error is that memory was refused; then the prompt is of no more use.
-    pub fn go_on(&mut self, out: &mut Vec<u8>) -> Result<bool, AllocError>
+    /// refused, hit a breakpoint, or ended a program's scan with a fault; the condition is TRUE; or no step is left. The one error is that
+    /// memory was refused; then the prompt is of no more use.
+    pub fn go_on(&mut self, out: &mut Vec<u8>) -> Result<(), AllocError>
         ensures puts { OnOk result (Puts (session_in self.old) (session_in self.new) out.old.items out.new.items) }
-        ensures taken { (h : CommandHistory) (lines : List ℕ) (course : Course) → HasSaid (session_in self.old) h lines →
-            course_in self.old ≡ Some course → course.condition ≡ None → 0 < course.left → OnOk result
-            (Takes (session_in self.old) (session_in self.new) out.old.items out.new.items h lines course.step) }
-        ensures first { (h : CommandHistory) (lines : List ℕ) (course : Course) → HasSaid (session_in self.old) h lines →
-            course_in self.old ≡ Some course → 0 < course.left → is_met_after (steered_in (session_in self.old)) h course.condition ≡ false →
-            OnOk result (TakesFirst (session_in self.old) (session_in self.new) out.old.items out.new.items h lines course.step) }
-        ensures met { (h : CommandHistory) (lines : List ℕ) (course : Course) → HasSaid (session_in self.old) h lines →
-            course_in self.old ≡ Some course → is_met_after (steered_in (session_in self.old)) h course.condition ≡ true →
-            OnOk result (IsShown (session_in self.old) (session_in self.new) out.old.items out.new.items h lines) }
-        ensures over { (h : CommandHistory) (lines : List ℕ) (course : Course) → HasSaid (session_in self.old) h lines →
-            course_in self.old ≡ Some course → course.left ≡ 0 →
-            OnOk result (IsShown (session_in self.old) (session_in self.new) out.old.items out.new.items h lines) }
+        ensures steps { (h : CommandHistory) (lines : List ℕ) (course : Course) → HasSaid (session_in self.old) h lines →
+            course_in self.old ≡ Some course → OnOk result (StepsOn (session_in self.old) (session_in self.new) out.old.items out.new.items h
+            lines course (course_in self.new) (is_over_after (steered_in (session_in self.old)) h course)) }
         ensures left { (course : Course) → course_in self.old ≡ Some course → OnOk result (IsBehindStep course (course_in self.new)) }
-        ensures more { IfOk result (λ more. more ≡ is_some (course_in self.new)) }
         ensures last { last_in self.new ≡ last_in self.old }
     {
         let Some(course) = self.course.take() else {
-            return Ok(false);
+            return Ok(());
         };
         if course.is_over(&self.session) {
-            course.append_end(out, &self.session)?;
-            return Ok(false);
+            return course.append_end(out, &self.session);
         }
-        self.take_step(course, out)?;
-        Ok(self.course.is_some())
+        self.take_step(course, out)
     }
 }

@@ -104,6 +104,10 @@ pub each_ok : {A E : Type 0} (result : Result A E) (P Q : A → Type 0) → ((a 
 each_ok (Ok a) P Q every has = every a has
 each_ok (Err error) P Q every has = tt
 
+pub whatever : {A E : Type 0} (result : Result A E) (P : Type 0) → P → OnOk result P
+whatever (Ok a) P has = has
+whatever (Err error) P has = tt
+
 -- a command that was given behind what stayed, in place of a text that was cut off
 pub ok_behind : {E : Type 0} (result : Result Verdict E) (a b d : Session) (x w y : List ℕ) (h : CommandHistory) (lines : List ℕ)
     (timed other : TimedCommand) → Stays a b h lines → w ≡ x → timed ≡ other

@@ -1,5 +1,5 @@
 -- A longer table of conditions changes no line of what was accepted with the shorter one.
-use Rattle.std.proofs.Common.{◌≡◌, ◌∙◌, refl, sym, ap, subst, ℕ, true, ◌<◌, List, [], ◌∷◌, ◌++◌, length, Option, Some, None, Ok, Err, ℤ, codes, rules}
+use Rattle.std.proofs.Common.{◌≡◌, ◌∙◌, refl, sym, ap, subst, ℕ, true, ◌<◌, List, [], ◌∷◌, ◌++◌, length, ◌+◌, Option, Some, None, Ok, Err, ℤ, codes, rules}
 use Rattle.std.specs.Prelude.{IsOk, slice_get}
 use Rattle.std.proofs.lemmas.Option.{slice_get_within}
 use Rattle.circular_buffer.proofs.Places.{slice_get-append_left}
@@ -15,7 +15,9 @@ use Rattle.sfc_output.specs.sfc_debug.Histories.{CommandHistory, TimedCommand}
 use Rattle.sfc_output.specs.sfc_debug.Hits.{shown_condition}
 use Rattle.sfc_output.specs.sfc_debug.Longer.{IsNamedWithin, NamesWithin}
 use Rattle.sfc_output.specs.sfc_debug.Meaning.{IsAccepted}
+use Rattle.sfc_output.specs.sfc_debug.RunClock.{run_instant}
 use Rattle.sfc_output.specs.sfc_debug.States.{DebugState, state_of}
+use Rattle.sfc_output.specs.sfc_debug.Sums.{all_rows, answer_in}
 use Rattle.sfc_output.specs.sfc_debug.Verdict.{verdict, history_by, is_condition_of, own_refusal, point_refusal, condition_refusal, room_refusal}
 use Rattle.sfc_output.specs.sfc_core.Verdict.{or_then}
 use Rattle.sfc_output.proofs.of_sfc_debug.Accepting.{neither, not_refused, own_granted, by_itself}
@@ -131,3 +133,21 @@ module _ (plant : PlantData) (table more : List BreakCondition) where
       let first = history_same h accepted.1 in
       let second = lines_same h timed (named plant table h accepted.1) one in
       (λ i. first i ++ second i)
+
+  -- ---- rows
+
+  pub rows_same : (h : CommandHistory) → IsAccepted plant table h → all_rows plant (table ++ more) h ≡ all_rows plant table h
+  rows_same [] accepted = refl
+  rows_same (timed ∷ h) accepted =
+      let within = named plant table h accepted.1 in
+      let one = named_one plant table h timed.0 timed.1 accepted.0 in
+      let state = state_same plant table more h within in
+      let answer = verdict_same plant table more h timed.0 timed.1 within one in
+      let rest = rows_same h accepted.1 in
+      (λ i. record {
+        number = length h + 1;
+        raw = timed.1;
+        t = run_instant (state i).clock timed.0 timed.1;
+        command = timed.0;
+        answer = answer_in (answer i);
+      } ∷ rest i)

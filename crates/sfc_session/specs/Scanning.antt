@@ -1,8 +1,9 @@
 -- Which scan it is that has no instant, or that names no task.
-use Rattle.std.specs.Prelude.{ℕ, Bool, true, false, not, cond, List, length, ℤ, ◌+ℤ◌, ◌-ℤ◌, int_le, Err, Option, Some, None, unwrap_or}
+use Rattle.std.specs.Prelude.{ℕ, ◌==◌, Bool, true, false, not, ◌||◌, cond, List, length, ℤ, ◌+ℤ◌, ◌-ℤ◌, int_le, Ok, Err, Option, Some, None, unwrap_or}
 use Rattle.std.specs.Int.{saturate_signed, w64}
 use Rattle.std.specs.List.{find, fold, range_with_len}
 use Rattle.sfc_base.specs.declared.ids.TaskId.{TaskId}
+use Rattle.sfc_events.specs.declared.command.Answer.TheVariants.{Scanned}
 use Rattle.sfc_events.specs.declared.command.Command.{Command}
 use Rattle.sfc_events.specs.declared.command.Command.TheVariants as commands
 use Rattle.sfc_events.specs.declared.command.Command.TheVariants.{Scan}
@@ -101,3 +102,9 @@ abbrev pub step_after : Steered → CommandHistory → Step → TimedCommand
 step_after steered h steps.First = first_scan_after steered h
 step_after steered h (steps.Task task) = scan_after steered h task
 step_after steered h (steps.Single task micros) = (commands.Single task micros, last_instant h)
+
+-- No more steps follow one that was answered so: it was refused, hit a breakpoint, or ended the scan of a program with a fault.
+abbrev pub ends_steps : Verdict → Bool
+ends_steps (Err refusal) = true
+ends_steps (Ok (Scanned ran faulted skipped overruns hit)) = hit || not (faulted.bits == 0)
+ends_steps (Ok _) = false

@@ -1,14 +1,17 @@
 -- A session: commands one after the other, each answered with the lines that a replay writes for it.
-use Rattle.std.specs.Prelude.{◌≡◌, ℕ, nat_lt, cond, List, [], ◌∷◌, ◌++◌, length, ℤ, pos, Ok, Err, codes}
+use Rattle.std.specs.Prelude.{◌≡◌, ℕ, nat_lt, cond, List, [], ◌∷◌, ◌++◌, length, reverse, ℤ, pos, Option, Some, None, Ok, Err, codes}
 use Rattle.sfc_base.specs.TimeText.{time_text}
 use Rattle.sfc_events.specs.declared.command.Command.{Command}
 use Rattle.sfc_events.specs.declared.command.Point.{Point}
+use Rattle.sfc_events.specs.declared.command.TraceRow.{TraceRow}
 use Rattle.sfc_output.specs.sfc_debug.declared.break_condition.BreakCondition.{BreakCondition}
 use Rattle.sfc_output.specs.sfc_debug.declared.debugger.Debugger.{Debugger}
 use Rattle.sfc_output.specs.sfc_debug.Agreement.{Agrees}
 use Rattle.sfc_output.specs.sfc_debug.Histories.{CommandHistory, TimedCommand}
 use Rattle.sfc_output.specs.sfc_debug.Longer.{break_when, with_condition}
 use Rattle.sfc_output.specs.sfc_debug.Meaning.{IsAccepted}
+use Rattle.sfc_output.specs.sfc_debug.Sums.{all_rows}
+use Rattle.sfc_output.specs.sfc_debug.Tracing.{row_of}
 use Rattle.sfc_output.specs.sfc_debug.Verdict.{history_by, refused_unnumbered}
 use Rattle.sfc_output.specs.Commands.{command_text}
 use Rattle.sfc_output.specs.sfc_debug.Steered.{Steered, steered_by}
@@ -28,6 +31,10 @@ instant_in session = session.instant
 -- its accepted commands as a script
 unfoldable pub script_in : Session → List ℕ
 script_in session = session.script.items
+
+-- its accepted commands with their answers
+unfoldable pub rows_in : Session → List TraceRow
+rows_in session = session.rows.items
 
 -- how many conditions its table has
 unfoldable pub count_in : Session → ℕ
@@ -49,18 +56,40 @@ abbrev pub history_lines : Steered → CommandHistory → List ℕ
 history_lines steered [] = []
 history_lines steered (timed ∷ h) = history_lines steered h ++ command_lines (debugger_of steered) (text_of steered) h timed
 
--- The session has accepted these commands, the newest first, and its lines of them are those of a replay.
+-- the row of each of these commands, the first first: its number, its raw and its run instant, the command and its answer
+abbrev pub rows_of : Steered → CommandHistory → List TraceRow
+rows_of steered h = reverse (all_rows steered.plant steered.table h)
+
+-- The session has accepted these commands, the newest first; its lines of them are those of a replay, and its rows are theirs.
 pub record HasSaid (session : Session) (h : CommandHistory) (lines : List ℕ) : Type 0 where
   pub agrees : Agrees (debugger_in session) h
   pub accepted : IsAccepted (steered_in session).plant (steered_in session).table h
   pub instant : instant_in session ≡ last_instant h
   pub count : count_in session ≡ length (steered_in session).table
   pub text : lines ≡ history_lines (steered_in session) h
+  pub rows : rows_in session ≡ rows_of (steered_in session) h
 
 -- the lines of what was accepted, with those of one command more
 abbrev pub with_lines : Verdict → List ℕ → List ℕ → List ℕ
 with_lines (Ok answer) lines more = lines ++ more
 with_lines (Err refusal) lines more = lines
+
+-- Where the command was accepted, its row stands behind those of the others.
+abbrev pub rows_after : Verdict → Steered → CommandHistory → TimedCommand → List TraceRow → List TraceRow
+rows_after (Ok answer) steered h timed rows = rows ++ row_of steered.plant steered.table h timed.0 timed.1 answer ∷ []
+rows_after (Err refusal) steered h timed rows = rows
+
+-- ---- what would be answered
+
+-- the commands behind these and another one, where there is one: it was given at this raw instant, and counts where it was accepted
+abbrev pub behind_first : Steered → CommandHistory → Option Command → ℤ → CommandHistory
+behind_first steered h None raw = h
+behind_first steered h (Some first) raw = (debugger_of steered).after h (first, raw)
+
+-- The verdict on a command behind these and the other one, both at the instant of the last of these.
+abbrev pub would_answer : Steered → CommandHistory → Option Command → Command → Verdict
+would_answer steered h first command =
+    (debugger_of steered).verdict (behind_first steered h first (last_instant h)) (command, last_instant h)
 
 -- ---- a breakpoint with a condition
 

@@ -1,6 +1,6 @@
 //! Commands one after the other, and the script that they are.
 
-ghost use Rattle.std.specs.Prelude.{◌≡◌, ◌++◌, ◌<◌, ◌+◌, ◌^◌, [], pos, length, IfOk, OnOk, OnErr};
+ghost use Rattle.std.specs.Prelude.{◌≡◌, ◌++◌, ◌∷◌, ◌<◌, ◌+◌, [], IfOk, OnOk, OnErr};
 ghost use Rattle.sfc_output.specs.sfc_debug.Agreement.{Agrees};
 ghost use Rattle.sfc_output.specs.sfc_debug.Histories.{CommandHistory};
 ghost use Rattle.sfc_output.specs.sfc_debug.Meaning.{IsAccepted};
@@ -8,7 +8,7 @@ ghost use Rattle.sfc_output.specs.sfc_debug.Verdict.{history_by};
 ghost use Rattle.sfc_events.specs.declared.command.Command.TheVariants.{BreakIf};
 ghost use Rattle.sfc_output.specs.Output.{debugger_of};
 ghost use Rattle.sfc_output.specs.sfc_debug.Steered.{steered_by};
-ghost use Rattle.sfc_session.specs.Sessions.{steered_after, waiting, waiting_verdict};
+ghost use Rattle.sfc_session.specs.Sessions.{behind_first, steered_after, waiting, waiting_verdict};
 
 use crate::saved::append_line;
 use crate::sfc_debug::break_condition::BreakCondition;
@@ -67,18 +67,30 @@ fn obey_break(
     debugger.break_when(point, condition, raw, &mut ticks)
 }
 
-#[tactic(auto, unfolding(crate::specs::Sessions::debugger_in, crate::specs::Sessions::instant_in, crate::specs::Sessions::script_in, crate::specs::Sessions::count_in))]
+// A command at a raw instant, if there is one.
+fn obey_first(debugger: &mut Debugger, first: Option<Command>, raw: i64)
+    ensures steered { steered_by debugger.new ≡ steered_by debugger.old }
+    ensures agrees { (h : CommandHistory) → Agrees debugger.old h →
+        Agrees debugger.new (behind_first (steered_by debugger.old) h first raw) }
+{
+    if let Some(command) = first {
+        let _ = debugger.obey(Timed { command, raw });
+    }
+}
+
+#[tactic(auto, unfolding(crate::specs::Sessions::debugger_in, crate::specs::Sessions::instant_in, crate::specs::Sessions::script_in, crate::specs::Sessions::rows_in, crate::specs::Sessions::count_in))]
 impl Session {
     ghost use Rattle.std.specs.Prelude.{List, ℕ};
     ghost use Rattle.sfc_output.specs.sfc_debug.Agreement.{Agrees};
     ghost use Rattle.sfc_output.specs.sfc_debug.Histories.{CommandHistory};
     ghost use Rattle.sfc_output.specs.sfc_debug.Steered.{steered_by};
+    ghost use Rattle.sfc_output.specs.sfc_debug.Tracing.{row_of};
     ghost use Rattle.sfc_output.specs.sfc_debug.Verdict.{history_by};
     ghost use Rattle.sfc_output.specs.Output.{command_lines, debugger_of, text_of};
     ghost use Rattle.sfc_session.specs.Scanning as scanning;
-    ghost use Rattle.sfc_session.specs.Sessions.{HasSaid, debugger_in, instant_in, script_in, steered_in};
-    ghost use Rattle.sfc_session.specs.Sessions.{count_in, last_instant, with_lines, script_after, script_line};
-    ghost use Rattle.sfc_session.specs.Sessions.{lines_by, steered_after, waiting, waiting_verdict, with_one_more};
+    ghost use Rattle.sfc_session.specs.Sessions.{HasSaid, debugger_in, instant_in, script_in, rows_in, steered_in};
+    ghost use Rattle.sfc_session.specs.Sessions.{count_in, last_instant, with_lines, script_after, script_line, rows_after, rows_of};
+    ghost use Rattle.sfc_session.specs.Sessions.{lines_by, steered_after, waiting, waiting_verdict, with_one_more, would_answer};
 
     /// A session with a debugger that has no condition and was told nothing.
     pub fn new(alloc: Global, debugger: Debugger) -> Session
@@ -101,6 +113,8 @@ impl Session {
         ensures count { count_in self.new ≡ count_in self.old }
         ensures instant { instant_in self.new ≡ timed.1 }
         ensures script { OnOk result (script_in self.new ≡ script_in self.old ++ script_line timed.1 words.now) }
+        ensures rows { (h : CommandHistory) → Agrees (debugger_in self.old) (timed ∷ h) → OnOk result (rows_in self.new ≡ rows_in self.old
+            ++ row_of (steered_in self.old).plant (steered_in self.old).table h timed.0 timed.1 answer ∷ []) }
     {
         let Timed { command, raw } = timed;
         self.instant = raw;
@@ -126,6 +140,8 @@ impl Session {
         ensures instant { IfOk answer (λ _. instant_in self.new ≡ timed.1) }
         ensures stays { OnErr answer (instant_in self.new ≡ instant_in self.old) }
         ensures script { OnOk result (script_in self.new ≡ script_after answer (script_in self.old) timed.1 words.now) }
+        ensures rows { (h : CommandHistory) → Agrees (debugger_in self.old) (history_by answer timed h) → OnOk result
+            (rows_in self.new ≡ rows_after answer (steered_in self.old) h timed (rows_in self.old)) }
     {
         match answer {
             Ok(answer) => self.keep(timed, answer, words),
@@ -172,6 +188,7 @@ impl Session {
         ensures debugger { debugger_in self.new ≡ debugger_in self.old }
         ensures instant { instant_in self.new ≡ instant_in self.old }
         ensures script { script_in self.new ≡ script_in self.old }
+        ensures rows { rows_in self.new ≡ rows_in self.old }
         ensures count { count_in self.old < 65535 → OnOk answer (count_in self.new ≡ count_in self.old + 1) }
         ensures stays { OnErr answer (count_in self.new ≡ count_in self.old) }
     {
@@ -254,8 +271,11 @@ impl Session {
         self.script.as_slice()
     }
 
-    /// The accepted commands with their answers, the first first.
-    pub fn rows(&self) -> &[TraceRow] {
+    /// The accepted commands with their answers, the first first: of each also its number, its raw and its run instant.
+    pub fn rows(&self) -> &[TraceRow]
+        ensures value { result.now ≡ rows_in self.now }
+        ensures said { (h : CommandHistory) (lines : List ℕ) → HasSaid self.now h lines → result.now ≡ rows_of (steered_in self.now) h }
+    {
         self.rows.as_slice()
     }
 
@@ -268,17 +288,14 @@ impl Session {
         command: Command,
     ) -> Result<Result<Answer, Refusal>, AllocError>
         ensures steered { steered_in self.new ≡ steered_in self.old }
+        ensures answer { (h : CommandHistory) (lines : List ℕ) → HasSaid self.old h lines →
+            IfOk result (λ answer. answer ≡ would_answer (steered_in self.old) h first command) }
         ensures said { (h : CommandHistory) (lines : List ℕ) → HasSaid self.old h lines → HasSaid self.new h lines }
         ensures script { script_in self.new ≡ script_in self.old }
     {
         let mut opening = DebugOpening::new(alloc, &self.debugger)?;
         self.debugger.save(&mut opening);
-        if let Some(first) = first {
-            let _ = self.debugger.obey(Timed {
-                command: first,
-                raw: self.instant,
-            });
-        }
+        obey_first(&mut self.debugger, first, self.instant);
         let answer = self.debugger.obey(Timed {
             command,
             raw: self.instant,

@@ -40,7 +40,9 @@ pub fn step_of(command: Command) -> Option<Step>
 }
 
 /// Whether no more steps should follow one that was answered so: it was refused, hit a breakpoint, or ended a program's scan with a fault.
-pub fn ends_steps(answer: Result<Answer, Refusal>) -> bool {
+pub fn ends_steps(answer: Result<Answer, Refusal>) -> bool
+    ensures { result ≡ scanning.ends_steps answer }
+{
     match answer {
         Ok(Answer::Scanned { faulted, hit, .. }) => hit || !faulted.is_empty(),
         Ok(_) => false,

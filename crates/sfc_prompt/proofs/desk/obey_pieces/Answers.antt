@@ -1,38 +1,89 @@
+use Rattle.std.proofs.Common.{◌≡◌, ◌∙◌, refl, sym, ap, subst, ◌+◌, arith, ℕ, List, [], ◌++◌, length, None, Ok}
+use Rattle.std.proofs.lemmas.List.{append-nil}
 use Rattle.std.proofs.lemmas.Result.{err_from_is_err_and}
+use Rattle.sfc_asking.specs.sfc_script.Arriving.{ended_line}
+use Rattle.sfc_prompt.specs.declared.prompt.Flow.{Flow}
+use Rattle.sfc_prompt.specs.declared.prompt.Flow.TheVariants.{GoesOn, Ends}
+use Rattle.sfc_prompt.specs.Private.Waiting.{TakesEnded, Waits}
 use Rattle.sfc_prompt.specs.Prompts.{session_in}
+use Rattle.sfc_prompt.proofs.Serving.{HasTaken, no_bytes, part_none, serves_between, serves_into, serves_last, serves_quit, taken_invited, taken_lines, taken_none, taken_piece}
+use Rattle.sfc_prompt.proofs.Walking.{invites_none}
+use Rattle.sfc_prompt.proofs.Waits.{nothing_ended}
 use Rattle.sfc_prompt.proofs.Writing.{breaks_behind, breaks_then, tells_then, told_nothing, told_then}
-use Rattle.sfc_prompt.specs.Desks.{Told}
-use Rattle.sfc_prompt.proofs.desk.obey_pieces.Goals.{else-pieces-test, then-pieces-test+in_ok-invite+in_ok-take+then-branch-eq0}
 use Rattle.sfc_prompt.proofs.desk.obey_pieces.Goals as goal
+use Rattle.sfc_prompt.proofs.desk.obey_pieces.Goals.{else-pieces-test, then-pieces-test+in_ok-invite+in_ok-take+then-branch-eq0}
 
-pub returns-in_err-invite : goal.returns-in_err-invite
-returns-in_err-invite g c =
+pub returns-in_err-invite-clause-tells : goal.returns-in_err-invite-clause-tells
+returns-in_err-invite-clause-tells g c =
     let f = err_from_is_err_and c.from_residual.result c.from_residual.ensures.1 in
     rw f.1 (breaks_then (session_in c.args.held.now.prompt) (session_in c.pieces.held.prompt) (session_in c.invite.new.self.prompt)
     (g.W.Write.contents c.args.held.now.w) (g.W.Write.contents c.pieces.held.w) (g.W.Write.contents c.invite.new.self.w)
     c.pieces.invariant.tells c.in_err-invite.ensures.tells)
 
-pub returns-in_err-take : goal.returns-in_err-take
-returns-in_err-take g c =
+pub returns-in_err-invite-clause-serves : goal.returns-in_err-invite-clause-serves
+returns-in_err-invite-clause-serves g c =
+    let f = err_from_is_err_and c.from_residual.result c.from_residual.ensures.1 in
+    let so_far = c.pieces.invariant.serves in
+    let part = c.in_err-invite.ensures.invites in
+    serves_between c.args.is_terminal (g.S.Read.remaining c.args.reader.now) (g.W.Write.contents c.args.held.now.w)
+    c.args.held.now.prompt (g.S.Read.remaining c.pieces.reader) (g.W.Write.contents c.pieces.held.w) c.pieces.held.prompt so_far.0 so_far.3
+    c.from_residual.result f.0 f.1 (g.W.Write.contents c.invite.new.self.w) (g.S.Read.remaining c.pieces.reader) c.invite.new.self.prompt
+    part.0 part.1 part.2
+
+pub returns-in_err-take-clause-tells : goal.returns-in_err-take-clause-tells
+returns-in_err-take-clause-tells g c =
+    let f = err_from_is_err_and c.from_residual-in_err-take.result c.from_residual-in_err-take.ensures.1 in
     let told = told_then (session_in c.args.held.now.prompt) (session_in c.pieces.held.prompt) (session_in c.invite.new.self.prompt)
     (g.W.Write.contents c.args.held.now.w) (g.W.Write.contents c.pieces.held.w) (g.W.Write.contents c.invite.new.self.w)
     c.pieces.invariant.tells c.in_ok-invite.ensures.tells in
-    let f = err_from_is_err_and c.from_residual-in_err-take.result c.from_residual-in_err-take.ensures.1 in
     rw f.1 (breaks_behind (session_in c.args.held.now.prompt) (session_in c.invite.new.self.prompt) (g.W.Write.contents c.args.held.now.w)
     (g.W.Write.contents c.invite.new.self.w) told)
 
-pub returns-in_err-take_lines : goal.returns-in_err-take_lines
-returns-in_err-take_lines g c =
+pub returns-in_err-take-clause-serves : goal.returns-in_err-take-clause-serves
+returns-in_err-take-clause-serves g c =
+    let f = err_from_is_err_and c.from_residual-in_err-take.result c.from_residual-in_err-take.ensures.1 in
+    let so_far = c.pieces.invariant.serves in
+    let asked = c.in_ok-invite.ensures.invites in
+    let invited = taken_invited c.args.is_terminal (g.S.Read.remaining c.args.reader.now) (g.W.Write.contents c.args.held.now.w)
+    c.args.held.now.prompt (g.S.Read.remaining c.pieces.reader) (g.W.Write.contents c.pieces.held.w) c.pieces.held.prompt so_far.0 so_far.3
+    (g.W.Write.contents c.invite.new.self.w) c.invite.new.self.prompt asked.0 c.in_ok-invite.ensures.prompt asked.1 asked.2 in
+    serves_between c.args.is_terminal (g.S.Read.remaining c.args.reader.now) (g.W.Write.contents c.args.held.now.w)
+    c.args.held.now.prompt (g.S.Read.remaining c.pieces.reader) (g.W.Write.contents c.invite.new.self.w) c.invite.new.self.prompt so_far.0 invited
+    c.from_residual-in_err-take.result f.0 f.1 (g.W.Write.contents c.invite.new.self.w) (g.S.Read.remaining c.take.new.reader)
+    c.invite.new.self.prompt [] (invites_none c.args.is_terminal) (part_none (g.W.Write.contents c.invite.new.self.w))
+
+pub returns-in_err-take_lines-clause-tells : goal.returns-in_err-take_lines-clause-tells
+returns-in_err-take_lines-clause-tells g c =
+    let f = err_from_is_err_and c.from_residual-in_err-take_lines.result c.from_residual-in_err-take_lines.ensures.1 in
     let told = told_then (session_in c.args.held.now.prompt) (session_in c.pieces.held.prompt) (session_in c.invite.new.self.prompt)
     (g.W.Write.contents c.args.held.now.w) (g.W.Write.contents c.pieces.held.w) (g.W.Write.contents c.invite.new.self.w)
     c.pieces.invariant.tells c.in_ok-invite.ensures.tells in
-    let f = err_from_is_err_and c.from_residual-in_err-take_lines.result c.from_residual-in_err-take_lines.ensures.1 in
     rw f.1 (breaks_then (session_in c.args.held.now.prompt) (session_in c.invite.new.self.prompt) (session_in c.take_lines.new.self.prompt)
     (g.W.Write.contents c.args.held.now.w) (g.W.Write.contents c.invite.new.self.w) (g.W.Write.contents c.take_lines.new.self.w)
     told c.in_err-take_lines.ensures.tells)
 
-pub returns-then-eq : goal.returns-then-eq
-returns-then-eq g c =
+pub returns-in_err-take_lines-clause-serves : goal.returns-in_err-take_lines-clause-serves
+returns-in_err-take_lines-clause-serves g c =
+    let f = err_from_is_err_and c.from_residual-in_err-take_lines.result c.from_residual-in_err-take_lines.ensures.1 in
+    let so_far = c.pieces.invariant.serves in
+    let asked = c.in_ok-invite.ensures.invites in
+    let invited = taken_invited c.args.is_terminal (g.S.Read.remaining c.args.reader.now) (g.W.Write.contents c.args.held.now.w)
+    c.args.held.now.prompt (g.S.Read.remaining c.pieces.reader) (g.W.Write.contents c.pieces.held.w) c.pieces.held.prompt so_far.0 so_far.3
+    (g.W.Write.contents c.invite.new.self.w) c.invite.new.self.prompt asked.0 c.in_ok-invite.ensures.prompt asked.1 asked.2 in
+    let piece = c.in_ok-take.ensures in
+    let left : List ℕ = so_far.0 ++ piece.0 in
+    let come = taken_piece c.args.is_terminal (g.S.Read.remaining c.args.reader.now) (g.W.Write.contents c.args.held.now.w)
+    c.args.held.now.prompt (g.S.Read.remaining c.pieces.reader) (g.W.Write.contents c.invite.new.self.w) c.invite.new.self.prompt so_far.0 invited
+    (g.S.Read.remaining c.take.new.reader) piece.0 piece.2 in
+    let waits : Waits c.take.new.self left = piece.3 so_far.0 so_far.1 in
+    let part = c.in_err-take_lines.ensures.walks c.args.is_terminal left waits in
+    serves_into c.args.is_terminal (g.S.Read.remaining c.args.reader.now) (g.W.Write.contents c.args.held.now.w)
+    c.args.held.now.prompt (g.S.Read.remaining c.take.new.reader) (g.W.Write.contents c.invite.new.self.w) c.invite.new.self.prompt left come
+    c.from_residual-in_err-take_lines.result f.0 f.1 (g.W.Write.contents c.take_lines.new.self.w) (g.S.Read.remaining c.take.new.reader)
+    c.take_lines.new.self.prompt part.0 part.1 part.2
+
+pub returns-in-Ends-clause-tells : goal.returns-in-Ends-clause-tells
+returns-in-Ends-clause-tells g c =
     let told = told_then (session_in c.args.held.now.prompt) (session_in c.pieces.held.prompt) (session_in c.invite.new.self.prompt)
     (g.W.Write.contents c.args.held.now.w) (g.W.Write.contents c.pieces.held.w) (g.W.Write.contents c.invite.new.self.w)
     c.pieces.invariant.tells c.in_ok-invite.ensures.tells in
@@ -40,35 +91,114 @@ returns-then-eq g c =
     (g.W.Write.contents c.args.held.now.w) (g.W.Write.contents c.invite.new.self.w) (g.W.Write.contents c.take_lines.new.self.w)
     told c.in_ok-take_lines.ensures.tells
 
+pub returns-in-Ends-clause-serves : goal.returns-in-Ends-clause-serves
+returns-in-Ends-clause-serves g c =
+    let so_far = c.pieces.invariant.serves in
+    let asked = c.in_ok-invite.ensures.invites in
+    let invited = taken_invited c.args.is_terminal (g.S.Read.remaining c.args.reader.now) (g.W.Write.contents c.args.held.now.w)
+    c.args.held.now.prompt (g.S.Read.remaining c.pieces.reader) (g.W.Write.contents c.pieces.held.w) c.pieces.held.prompt so_far.0 so_far.3
+    (g.W.Write.contents c.invite.new.self.w) c.invite.new.self.prompt asked.0 c.in_ok-invite.ensures.prompt asked.1 asked.2 in
+    let piece = c.in_ok-take.ensures in
+    let left : List ℕ = so_far.0 ++ piece.0 in
+    let come = taken_piece c.args.is_terminal (g.S.Read.remaining c.args.reader.now) (g.W.Write.contents c.args.held.now.w)
+    c.args.held.now.prompt (g.S.Read.remaining c.pieces.reader) (g.W.Write.contents c.invite.new.self.w) c.invite.new.self.prompt so_far.0 invited
+    (g.S.Read.remaining c.take.new.reader) piece.0 piece.2 in
+    let waits : Waits c.take.new.self left = piece.3 so_far.0 so_far.1 in
+    let lines = c.in_ok-take_lines.ensures.walks c.args.is_terminal left waits in
+    let ended : TakesEnded c.args.is_terminal c.invite.new.self.prompt c.take_lines.new.self.prompt left c.take_lines.new.arrived Ends lines.0 =
+    subst (λ (flow : Flow). TakesEnded c.args.is_terminal c.invite.new.self.prompt c.take_lines.new.self.prompt left c.take_lines.new.arrived flow
+    lines.0) c.in-Ends.is lines.1 in
+    serves_quit c.args.is_terminal (g.S.Read.remaining c.args.reader.now) (g.W.Write.contents c.args.held.now.w)
+    c.args.held.now.prompt (g.S.Read.remaining c.take.new.reader) (g.W.Write.contents c.invite.new.self.w) c.invite.new.self.prompt left come
+    (g.W.Write.contents c.take_lines.new.self.w) c.take_lines.new.self.prompt c.take_lines.new.arrived lines.0 ended lines.2
+
+pub returns-clause-tells : goal.returns-clause-tells
+returns-clause-tells g c = elim c.pieces-test.branch [
+  | else-pieces-test w ↦
+      tells_then (session_in c.args.held.now.prompt) (session_in c.pieces-test.held.prompt) (session_in c.take_last.new.self.prompt)
+      (g.W.Write.contents c.args.held.now.w) (g.W.Write.contents c.pieces-test.held.w) (g.W.Write.contents c.take_last.new.self.w)
+      (rw w.held-is c.pieces.invariant.tells) c.take_last.result c.take_last.ensures.tells
+  | then-pieces-test+in_ok-invite+in_ok-take+then-branch-eq0 w ↦
+      tells_then (session_in c.args.held.now.prompt) (session_in c.pieces-test.held.prompt) (session_in c.take_last.new.self.prompt)
+      (g.W.Write.contents c.args.held.now.w) (g.W.Write.contents c.pieces-test.held.w) (g.W.Write.contents c.take_last.new.self.w)
+      (rw w.held-is (told_then (session_in c.args.held.now.prompt) (session_in c.pieces.held.prompt) (session_in w.invite.new.self.prompt)
+      (g.W.Write.contents c.args.held.now.w) (g.W.Write.contents c.pieces.held.w) (g.W.Write.contents w.invite.new.self.w)
+      c.pieces.invariant.tells w.in_ok-invite.ensures.tells)) c.take_last.result c.take_last.ensures.tells
+]
+
+pub returns-clause-serves : goal.returns-clause-serves
+returns-clause-serves g c = elim c.pieces-test.branch [
+  | else-pieces-test w ↦
+      let so_far = c.pieces.invariant.serves in
+      let taken : HasTaken c.args.is_terminal (g.S.Read.remaining c.args.reader.now, g.S.Read.remaining c.pieces-test.reader)
+      (g.W.Write.contents c.args.held.now.w, g.W.Write.contents c.pieces-test.held.w) c.args.held.now.prompt c.pieces-test.held.prompt so_far.0 =
+      rw w.held-is (rw w.reader-is so_far.3) in
+      let waits : Waits c.pieces-test.arrived so_far.0 = rw w.arrived-is so_far.1 in
+      serves_last c.args.is_terminal (g.S.Read.remaining c.args.reader.now) (g.W.Write.contents c.args.held.now.w) c.args.held.now.prompt
+      (g.S.Read.remaining c.pieces-test.reader) (g.W.Write.contents c.pieces-test.held.w) c.pieces-test.held.prompt so_far.0 taken c.take_last.result
+      (g.W.Write.contents c.take_last.new.self.w) c.take_last.new.self.prompt (c.take_last.ensures.walks so_far.0 waits so_far.2)
+  | then-pieces-test+in_ok-invite+in_ok-take+then-branch-eq0 w ↦
+      let so_far = c.pieces.invariant.serves in
+      let asked = w.in_ok-invite.ensures.invites in
+      let invited = taken_invited c.args.is_terminal (g.S.Read.remaining c.args.reader.now) (g.W.Write.contents c.args.held.now.w)
+      c.args.held.now.prompt (g.S.Read.remaining c.pieces.reader) (g.W.Write.contents c.pieces.held.w) c.pieces.held.prompt so_far.0 so_far.3
+      (g.W.Write.contents w.invite.new.self.w) w.invite.new.self.prompt asked.0 w.in_ok-invite.ensures.prompt asked.1 asked.2 in
+      let piece = w.in_ok-take.ensures in
+      let left : List ℕ = so_far.0 ++ piece.0 in
+      let come = taken_piece c.args.is_terminal (g.S.Read.remaining c.args.reader.now) (g.W.Write.contents c.args.held.now.w)
+      c.args.held.now.prompt (g.S.Read.remaining c.pieces.reader) (g.W.Write.contents w.invite.new.self.w) w.invite.new.self.prompt so_far.0 invited
+      (g.S.Read.remaining w.take.new.reader) piece.0 piece.2 in
+      let taken : HasTaken c.args.is_terminal (g.S.Read.remaining c.args.reader.now, g.S.Read.remaining c.pieces-test.reader)
+      (g.W.Write.contents c.args.held.now.w, g.W.Write.contents c.pieces-test.held.w) c.args.held.now.prompt c.pieces-test.held.prompt left =
+      rw w.held-is (rw w.reader-is come) in
+      let waits : Waits c.pieces-test.arrived left = rw w.arrived-is (piece.3 so_far.0 so_far.1) in
+      let none : ended_line left ≡ None = no_bytes so_far.0 piece.0 (piece.1 ∙ w.if-branch-eq0.true) so_far.2 in
+      serves_last c.args.is_terminal (g.S.Read.remaining c.args.reader.now) (g.W.Write.contents c.args.held.now.w) c.args.held.now.prompt
+      (g.S.Read.remaining c.pieces-test.reader) (g.W.Write.contents c.pieces-test.held.w) c.pieces-test.held.prompt left taken c.take_last.result
+      (g.W.Write.contents c.take_last.new.self.w) c.take_last.new.self.prompt (c.take_last.ensures.walks left waits none)
+]
+
 pub pieces-preserved : goal.pieces-preserved
 pieces-preserved g c =
     let told = told_then (session_in c.args.held.now.prompt) (session_in c.pieces.held.prompt) (session_in c.invite.new.self.prompt)
     (g.W.Write.contents c.args.held.now.w) (g.W.Write.contents c.pieces.held.w) (g.W.Write.contents c.invite.new.self.w)
     c.pieces.invariant.tells c.in_ok-invite.ensures.tells in
+    let so_far = c.pieces.invariant.serves in
+    let asked = c.in_ok-invite.ensures.invites in
+    let invited = taken_invited c.args.is_terminal (g.S.Read.remaining c.args.reader.now) (g.W.Write.contents c.args.held.now.w)
+    c.args.held.now.prompt (g.S.Read.remaining c.pieces.reader) (g.W.Write.contents c.pieces.held.w) c.pieces.held.prompt so_far.0 so_far.3
+    (g.W.Write.contents c.invite.new.self.w) c.invite.new.self.prompt asked.0 c.in_ok-invite.ensures.prompt asked.1 asked.2 in
+    let piece = c.in_ok-take.ensures in
+    let left : List ℕ = so_far.0 ++ piece.0 in
+    let come = taken_piece c.args.is_terminal (g.S.Read.remaining c.args.reader.now) (g.W.Write.contents c.args.held.now.w)
+    c.args.held.now.prompt (g.S.Read.remaining c.pieces.reader) (g.W.Write.contents c.invite.new.self.w) c.invite.new.self.prompt so_far.0 invited
+    (g.S.Read.remaining c.take.new.reader) piece.0 piece.2 in
+    let waits : Waits c.take.new.self left = piece.3 so_far.0 so_far.1 in
+    let lines = c.in_ok-take_lines.ensures.walks c.args.is_terminal left waits in
+    let ended : TakesEnded c.args.is_terminal c.invite.new.self.prompt c.take_lines.new.self.prompt left c.take_lines.new.arrived GoesOn lines.0 =
+    subst (λ (flow : Flow). TakesEnded c.args.is_terminal c.invite.new.self.prompt c.take_lines.new.self.prompt left c.take_lines.new.arrived flow
+    lines.0) c.in-GoesOn.is lines.1 in
+    let taken = taken_lines c.args.is_terminal (g.S.Read.remaining c.args.reader.now) (g.W.Write.contents c.args.held.now.w)
+    c.args.held.now.prompt (g.S.Read.remaining c.take.new.reader) (g.W.Write.contents c.invite.new.self.w) c.invite.new.self.prompt left come
+    (g.W.Write.contents c.take_lines.new.self.w) c.take_lines.new.self.prompt c.take_lines.new.arrived lines.0 ended lines.2 in
     record {
-      empty = rw c.pass_over.ensures.text c.in_ok-take_lines.ensures.empty;
-      tells = rw c.pass_over.ensures.session (rw c.pass_over.ensures.writer
-          (told_then (session_in c.args.held.now.prompt) (session_in c.invite.new.self.prompt) (session_in c.take_lines.new.self.prompt)
+      empty = c.in_ok-take_lines.ensures.empty;
+      idle = c.in_ok-take_lines.ensures.idle;
+      tells = told_then (session_in c.args.held.now.prompt) (session_in c.invite.new.self.prompt) (session_in c.take_lines.new.self.prompt)
           (g.W.Write.contents c.args.held.now.w) (g.W.Write.contents c.invite.new.self.w) (g.W.Write.contents c.take_lines.new.self.w)
-          told c.in_ok-take_lines.ensures.tells));
+          told c.in_ok-take_lines.ensures.tells;
+      serves = (ended.left, c.pass_over.ensures ended.left ended.waits (ended.no_more refl), ended.no_more refl, taken);
     }
-
-pub returns : goal.returns
-returns g c =
-    let first = session_in c.args.held.now.prompt in
-    let before = g.W.Write.contents c.args.held.now.w in
-    let told : Told first (session_in c.pieces-test.held.prompt) before (g.W.Write.contents c.pieces-test.held.w) =
-    elim c.pieces-test.branch [
-      | else-pieces-test w ↦ rw w.held-is c.pieces.invariant.tells
-      | then-pieces-test+in_ok-invite+in_ok-take+then-branch-eq0 w ↦ rw w.held-is
-        (told_then first (session_in c.pieces.held.prompt) (session_in w.invite.new.self.prompt) before
-        (g.W.Write.contents c.pieces.held.w) (g.W.Write.contents w.invite.new.self.w) c.pieces.invariant.tells w.in_ok-invite.ensures.tells)
-    ] in
-    tells_then first (session_in c.pieces-test.held.prompt) (session_in c.take_last.new.self.prompt) before
-    (g.W.Write.contents c.pieces-test.held.w) (g.W.Write.contents c.take_last.new.self.w) told c.take_last.result c.take_last.ensures.tells
 
 pub pieces-init : goal.pieces-init
 pieces-init g c = record {
-  empty = c.requires;
+  empty = c.requires.empty;
+  idle = c.requires.idle;
   tells = told_nothing (session_in c.args.held.now.prompt) (g.W.Write.contents c.args.held.now.w);
+  serves = (
+    [],
+    c.new-arrived.ensures,
+    nothing_ended,
+    taken_none c.args.is_terminal (g.S.Read.remaining c.args.reader.now) (g.W.Write.contents c.args.held.now.w) c.args.held.now.prompt,
+  );
 }

@@ -1,0 +1,4 @@
+-- What private clauses cite.
+
+-- bytes that have come and wait
+pub mod Waiting
