@@ -1,0 +1,16 @@
+-- The rules, in reading order.
+
+-- parts of a text, and what stands for markup in them
+pub mod Parts
+-- rectangles, texts, lines and arrow heads
+pub mod Shapes
+-- what all elements share
+pub mod Elements
+-- steps with their action blocks
+pub mod Steps
+-- transitions
+pub mod Transitions
+-- links between them
+pub mod Links
+-- bodies of actions, charts, and the whole text
+pub mod Pictures
