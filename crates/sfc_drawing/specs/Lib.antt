@@ -14,3 +14,5 @@ pub mod Transitions
 pub mod Links
 -- bodies of actions, charts, and the whole text
 pub mod Pictures
+-- what a chart says, and what is drawn of it
+pub mod Said

@@ -2,9 +2,15 @@
 #![tactic(auto)]
 
 mod body;
+mod draw_step;
+mod draw_transition;
 pub mod drawn;
 mod element;
+mod graph;
 mod link;
+mod listed;
+pub mod marks;
+mod owned;
 mod part;
 pub mod picture;
 mod row;
@@ -12,3 +18,5 @@ mod shape;
 mod step;
 mod style;
 mod transition;
+mod widths;
+mod wrap;
