@@ -16,3 +16,5 @@ pub mod Links
 pub mod Pictures
 -- what a chart says, and what is drawn of it
 pub mod Said
+-- what a drawing is
+pub mod Drawings

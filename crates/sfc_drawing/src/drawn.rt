@@ -186,6 +186,9 @@ pub struct DrawnChart {
     /// What is told of all of it, behind its name.
     pub note: Items<u8>,
     pub corner: Corner,
+    /// How far all of it goes to the right, and down.
+    pub right: u32,
+    pub bottom: u32,
     pub links: Items<DrawnLink>,
     pub steps: Items<DrawnStep>,
     pub transitions: Items<DrawnTransition>,

@@ -1,8 +1,10 @@
 //! A chart as numbers: how large what is drawn of it is, and the links between its nodes.
 
+ghost use Rattle.std.specs.Prelude.{◌≡◌, IfOk, length, vec_len};
+
 use crate::draw_step::{columns_of, draw_rows};
 use crate::draw_transition::text_height;
-use crate::listed::Listed;
+use crate::listed::text_at;
 use crate::marks::Told;
 use crate::widths::{digits, shown, small, wide};
 use crate::wrap::wrapped;
@@ -114,37 +116,59 @@ fn links_of(
     Ok(links)
 }
 
-/// A chart with all that is drawn of it, where these are its transitions by rank; its first condition has this number in the
-/// listing.
+/// A chart with all that is drawn of it: its transitions by rank, their conditions, and the bodies of its actions, as listed.
+#[derive(Clone, Copy)]
 pub struct Subject<'a> {
     pub names: &'a Names<'a>,
     pub chart: &'a Chart,
     pub ranked: &'a [TransitionId],
-    pub listed: &'a Listed,
-    pub first: usize,
+    pub conditions: &'a [Vec<u8>],
+    pub bodies: &'a [Vec<Vec<u8>>],
+}
+
+// The sizes of the steps.
+fn step_sizes(
+    alloc: Global,
+    subject: Subject<'_>,
+    told: Told<'_>,
+) -> Result<Vec<StepSize>, AllocError>
+    ensures { IfOk result (λ sizes. vec_len sizes ≡ length subject.chart.now.steps) }
+{
+    let mut sizes = Vec::new(alloc);
+    for step in subject.chart.steps.as_slice() {
+        sizes.push(step_size(alloc, subject.names, step, told)?)?;
+    }
+    Ok(sizes)
+}
+
+// The sizes of the transitions.
+fn transition_sizes(
+    alloc: Global,
+    subject: Subject<'_>,
+) -> Result<Vec<TransitionSize>, AllocError>
+    ensures { IfOk result (λ sizes. vec_len sizes ≡ length subject.chart.now.transitions) }
+{
+    let mut sizes = Vec::new(alloc);
+    for (place, transition) in subject.chart.transitions.as_slice().iter().enumerate() {
+        let condition = text_at(subject.conditions, place);
+        let number = (place as u64).saturating_add(1);
+        sizes.push(transition_size(alloc, number, transition, condition)?)?;
+    }
+    Ok(sizes)
 }
 
 /// The chart as numbers. The one error is that memory was refused.
 pub fn numbers_of(
     alloc: Global,
-    subject: &Subject<'_>,
+    subject: Subject<'_>,
     told: Told<'_>,
-) -> Result<Numbers, AllocError> {
-    let mut steps = Vec::new(alloc);
-    for step in subject.chart.steps.as_slice() {
-        steps.push(step_size(alloc, subject.names, step, told)?)?;
-    }
-    let mut transitions = Vec::new(alloc);
-    for (place, transition) in subject.chart.transitions.as_slice().iter().enumerate() {
-        let condition = subject
-            .listed
-            .condition(subject.first.saturating_add(place));
-        let size = transition_size(alloc, place as u64 + 1, transition, condition)?;
-        transitions.push(size)?;
-    }
+) -> Result<Numbers, AllocError>
+    ensures steps { IfOk result (λ numbers. length numbers.steps.items ≡ length subject.chart.now.steps) }
+    ensures transitions { IfOk result (λ numbers. length numbers.transitions.items ≡ length subject.chart.now.transitions) }
+{
     Ok(Numbers {
-        steps,
-        transitions,
+        steps: step_sizes(alloc, subject, told)?,
+        transitions: transition_sizes(alloc, subject)?,
         links: links_of(alloc, subject.chart, subject.ranked)?,
     })
 }

@@ -2,8 +2,13 @@
 #![tactic(auto)]
 
 mod body;
+mod draw_body;
+mod draw_chart;
+mod draw_link;
 mod draw_step;
 mod draw_transition;
+pub mod drawing;
+pub mod drawing_error;
 pub mod drawn;
 mod element;
 mod graph;
@@ -15,6 +20,7 @@ mod part;
 pub mod picture;
 mod row;
 mod shape;
+mod spots;
 mod step;
 mod style;
 mod transition;

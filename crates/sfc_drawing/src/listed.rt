@@ -71,19 +71,29 @@ impl Listed {
         Ok(())
     }
 
-    /// The condition of the transition with this number among all of the plant; nothing where there is none.
-    pub fn condition(&self, number: usize) -> &[u8] {
-        match self.conditions.get(number) {
-            Some(text) => text,
-            None => b"",
-        }
+    /// The conditions from this number on among all of the plant.
+    pub fn conditions(&self, first: usize) -> &[Vec<u8>] {
+        self.conditions.as_slice().get(first..).unwrap_or(&[])
     }
 
-    /// The lines of the body with this number among all of the plant; none where there is none.
-    pub fn body(&self, number: usize) -> &[Vec<u8>] {
-        match self.bodies.get(number) {
-            Some(lines) => lines,
-            None => &[],
-        }
+    /// The bodies from this number on among all of the plant.
+    pub fn bodies(&self, first: usize) -> &[Vec<Vec<u8>>] {
+        self.bodies.as_slice().get(first..).unwrap_or(&[])
+    }
+}
+
+/// The text with this number; nothing where there is none.
+pub fn text_at(texts: &[Vec<u8>], number: usize) -> &[u8] {
+    match texts.get(number) {
+        Some(text) => text,
+        None => b"",
+    }
+}
+
+/// The lines of the body with this number; none where there is none.
+pub fn lines_at(bodies: &[Vec<Vec<u8>>], number: usize) -> &[Vec<u8>] {
+    match bodies.get(number) {
+        Some(lines) => lines,
+        None => &[],
     }
 }
