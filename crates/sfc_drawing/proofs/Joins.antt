@@ -1,6 +1,6 @@
 -- Texts of lists, an element at a time.
-use Rattle.std.proofs.Common.{◌≡◌, ℕ, ◌+◌, ◌<◌, List, [], ◌∷◌, ◌++◌, length, take, get_or, flat_map, map, refl, sym, ap, ◌∙◌, append_assoc, arith}
-use Rattle.std.proofs.lemmas.List.{append-nil, map-append, take_more}
+use Rattle.std.proofs.Common.{◌≡◌, ℕ, ◌+◌, ◌<◌, List, [], ◌∷◌, ◌++◌, length, take, get_or, flat_map, refl, sym, ap, ◌∙◌, append_assoc, arith}
+use Rattle.std.proofs.lemmas.List.{append-nil, take_more}
 use Rattle.std.proofs.lemmas.Grind.{common_steps}
 use Rattle.sfc_drawing.specs.declared.part.Part.{Part}
 use Rattle.sfc_drawing.specs.Parts.{joined, part_text}
@@ -60,11 +60,3 @@ number_more f old before after xs i x lt is p q =
     q ∙ ap (λ text. text ++ f (i + 1) x) p ∙ append_assoc old (numbered f 1 (take i xs)) (f (i + 1) x)
     ∙ ap (λ y. old ++ (numbered f 1 (take i xs) ++ f (i + 1) y)) is
     ∙ ap (λ text. old ++ text) (sym (numbered_grown f xs i x lt))
-
--- ---- one element more in a list of what is drawn
-
-pub map_more : {A B C : Type 0} (f : A → C) (g : B → C) (before after : List A) (xs : List B) (i : ℕ) (a : A) (x : B) → i < length xs
-    → x ≡ get_or xs i x → map f before ≡ map g (take i xs) → f a ≡ g x → after ≡ before ++ a ∷ [] → map f after ≡ map g (take (i + 1) xs)
-map_more f g before after xs i a x lt is p e q =
-    ap (map f) q ∙ map-append f before (a ∷ []) ∙ ap (λ ys. ys ++ f a ∷ []) p ∙ ap (λ y. map g (take i xs) ++ y ∷ []) (e ∙ ap g is)
-    ∙ sym (map-append g (take i xs) (get_or xs i x ∷ [])) ∙ ap (map g) (sym (take_more xs i x lt))

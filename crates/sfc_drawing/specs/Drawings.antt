@@ -1,5 +1,5 @@
 -- What a drawing is: the charts of program types, or that of an instance.
-use Rattle.std.specs.Prelude.{◌≡◌, ◌+◌, ◌<◌, ℕ, List, [], ◌∷◌, Option, Some, None, length, nat_lt, slice_index_or, slice_range, if◌then◌else◌}
+use Rattle.std.specs.Prelude.{◌≡◌, ◌+◌, ℕ, List, [], ◌∷◌, Option, Some, None, length, nat_lt, slice_range, if◌then◌else◌}
 use Rattle.sfc_base.specs.declared.ids.TypeId.{TypeId}
 use Rattle.sfc_plant.specs.declared.program_type.ProgramType.{ProgramType}
 use Rattle.sfc_plant.specs.declared.variable.Variable.{Variable}
@@ -16,10 +16,10 @@ pub record IsOf (globals : List Variable) (name : List ℕ) (p : ProgramType) (c
   pub chart : IsDrawn (space_in globals p) p.chart c
 
 -- each type has its chart, under its own name
-pub record AreOf (globals : List Variable) (types : List ProgramType) (charts : List DrawnChart) : Type 0 where
-  pub count : length charts ≡ length types
-  pub each : (k : ℕ) (p : ProgramType) (c : DrawnChart) → k < length types
-      → IsOf globals (slice_index_or types k p).name (slice_index_or types k p) (slice_index_or charts k c)
+abbrev pub AreOf : List Variable → List ProgramType → List DrawnChart → Type 0
+AreOf globals [] [] = Unit {0}
+AreOf globals (p ∷ types) (c ∷ charts) = IsOf globals p.name p c × AreOf globals types charts
+AreOf globals types charts = ⊥
 
 -- all types, or this one
 abbrev pub wanted_types : List ProgramType → Option TypeId → List ProgramType

@@ -1,6 +1,6 @@
 //! What is drawn of the bodies of actions (2.6.4.1).
 
-ghost use Rattle.std.specs.Prelude.{◌≡◌, IfOk, map};
+ghost use Rattle.std.specs.Prelude.{◌≡◌, ◌≤◌, IfOk, length, map};
 
 use crate::drawn::{ActionMark, Corner, DrawnBody, Line};
 use crate::listed::lines_at;
@@ -71,10 +71,13 @@ impl Flow {
 }
 
 // How many blanks a line begins with.
-fn indent_of(line: &[u8]) -> usize {
-    line.iter()
-        .position(|byte| *byte != b' ')
-        .unwrap_or(line.len())
+fn indent_of(line: &[u8]) -> usize
+    ensures { result ≤ length line.now }
+{
+    match line.iter().position(|byte| *byte != b' ') {
+        Some(place) => place,
+        None => line.len(),
+    }
 }
 
 // The lines of a body, which begin at this corner.

@@ -108,7 +108,7 @@ pub fn draw_chart(
     corner: Corner,
     marks: &Marks,
 ) -> Result<DrawnChart, DrawingError>
-    ensures drawn { IfOk result (λ drawn. said.IsDrawn subject.names.now subject.chart.now drawn) }
+    ensures drawn { IfOk result (λ drawn. said.IsDrawn subject.entry.names.now subject.entry.chart.now drawn) }
     ensures name { IfOk result (λ drawn. drawn.name ≡ title.name) }
 {
     let told = Told {

@@ -86,7 +86,7 @@ fn draw_program(
     marks: &Marks,
 ) -> Result<DrawnChart, DrawingError>
     requires { IsProgram (length source.globals.now) source.program.now }
-    ensures { IfOk result (λ drawn. drawings.IsOf source.globals.now title.name source.program.now drawn) }
+    ensures { IfOk result (λ drawn. drawings.IsOf source.entry.globals.now title.name source.entry.program.now drawn) }
 {
     let names = Names::new(source.globals, source.program);
     let tables = Tables::build(alloc, &source.program.chart)?;
@@ -162,7 +162,8 @@ fn picture_of(charts: Vec<DrawnChart>) -> Picture
 
 // The types that are wanted: all, or this one.
 fn wanted_types(plant: &Plant, wanted: Option<TypeId>) -> &[ProgramType]
-    ensures { result.now ≡ drawings.wanted_types plant.now.types wanted }
+    ensures types { result.now ≡ drawings.wanted_types plant.now.types wanted }
+    ensures sound { All (IsProgram (length plant.now.globals)) result.now }
 {
     let types = plant.types();
     match wanted {

@@ -132,7 +132,7 @@ fn step_sizes(
     subject: Subject<'_>,
     told: Told<'_>,
 ) -> Result<Vec<StepSize>, AllocError>
-    ensures { IfOk result (λ sizes. vec_len sizes ≡ length subject.chart.now.steps) }
+    ensures { IfOk result (λ sizes. vec_len sizes ≡ length subject.entry.chart.now.steps) }
 {
     let mut sizes = Vec::new(alloc);
     for step in subject.chart.steps.as_slice() {
@@ -146,7 +146,7 @@ fn transition_sizes(
     alloc: Global,
     subject: Subject<'_>,
 ) -> Result<Vec<TransitionSize>, AllocError>
-    ensures { IfOk result (λ sizes. vec_len sizes ≡ length subject.chart.now.transitions) }
+    ensures { IfOk result (λ sizes. vec_len sizes ≡ length subject.entry.chart.now.transitions) }
 {
     let mut sizes = Vec::new(alloc);
     for (place, transition) in subject.chart.transitions.as_slice().iter().enumerate() {
@@ -163,8 +163,8 @@ pub fn numbers_of(
     subject: Subject<'_>,
     told: Told<'_>,
 ) -> Result<Numbers, AllocError>
-    ensures steps { IfOk result (λ numbers. length numbers.steps.items ≡ length subject.chart.now.steps) }
-    ensures transitions { IfOk result (λ numbers. length numbers.transitions.items ≡ length subject.chart.now.transitions) }
+    ensures steps { IfOk result (λ numbers. length numbers.steps.items ≡ length subject.entry.chart.now.steps) }
+    ensures transitions { IfOk result (λ numbers. length numbers.transitions.items ≡ length subject.entry.chart.now.transitions) }
 {
     Ok(Numbers {
         steps: step_sizes(alloc, subject, told)?,
