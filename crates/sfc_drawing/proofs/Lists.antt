@@ -30,11 +30,12 @@ pub moved_behind : {B : Type 0} (ys : List B) (n i : ℕ) (a b : B) → a ≡ b 
 moved_behind ys n i a b e is = e ∙ is ∙ ap (get_or ys (n + i)) (sym e) ∙ sym (get_or-drop n ys i a)
 
 -- the first boxes and those behind them are all
-pub both_parts : {B : Type 0} (ys front back : List B) (n m : ℕ) → length ys ≡ n + m → front ≡ take n ys → back ≡ take m (drop n ys)
-    → front ++ back ≡ ys
-both_parts ys front back n m e p q =
-    let enough : length (drop n ys) ≤ m = omega (arith, length-drop n ys, e) in
-    ap (λ zs. zs ++ back) p ∙ ap (λ zs. take n ys ++ zs) (q ∙ take_all m (drop n ys) enough) ∙ take-append-drop n ys
+pub both_parts : {B : Type 0} (ys front back : List B) (n m k : ℕ) → length ys ≡ k + m → k ≡ n → front ≡ take n ys
+    → back ≡ take m (drop k ys) → front ++ back ≡ ys
+both_parts ys front back n m k e f p q =
+    let enough : length (drop k ys) ≤ m = omega (arith, length-drop k ys, e) in
+    ap (λ zs. zs ++ back) (p ∙ ap (λ x. take x ys) (sym f)) ∙ ap (λ zs. take k ys ++ zs) (q ∙ take_all m (drop k ys) enough)
+    ∙ take-append-drop k ys
 
 pub apart_along : (boxes drawn : List NodeBox) → drawn ≡ boxes → AreApart boxes → AreApart drawn
 apart_along boxes drawn e h = subst (λ bs. AreApart bs) (sym e) h

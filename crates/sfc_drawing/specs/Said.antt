@@ -13,7 +13,6 @@ use Rattle.sfc_plant.specs.Letters.{letters}
 use Rattle.sfc_plant.specs.Names.{variable_name, target_name}
 use Rattle.sfc_plant.specs.Spaces.{Space}
 use Rattle.sfc_list.specs.Charts.{association_time}
-use Rattle.sfc_layout.specs.declared.node_box.NodeBox.{NodeBox}
 use Rattle.sfc_layout.specs.Apart.{AreApart}
 use Rattle.sfc_drawing.specs.declared.drawn.DrawnBody.{DrawnBody}
 use Rattle.sfc_drawing.specs.declared.drawn.DrawnChart.{DrawnChart}
@@ -91,14 +90,14 @@ transition_drawn t = record { name = t.name; priority = t.priority }
 
 -- ---- charts
 
--- the boxes of all steps and transitions
-abbrev pub boxes_of : DrawnChart → List NodeBox
-boxes_of c = map (λ s. s.place) c.steps ++ map (λ t. t.place) c.transitions
+-- Each step with each of its associations, and each transition, is drawn once, in the order of the text; and no point lies in the boxes
+-- of two of them.
+pub record ArePartsOf (space : Space) (chart : Chart) (steps : List DrawnStep) (transitions : List DrawnTransition) : Type 0 where
+  pub steps_drawn : map step_drawn steps ≡ map (step_said space) chart.steps
+  pub transitions_drawn : map transition_drawn transitions ≡ map transition_said chart.transitions
+  pub apart : AreApart (map (λ s. s.place) steps ++ map (λ t. t.place) transitions)
 
--- Each step, each association of it, each transition and each action with a body is drawn once, in the order of the text; and no boxes
--- of steps and transitions share a point.
+-- and so is each action with a body
 pub record IsDrawn (space : Space) (chart : Chart) (c : DrawnChart) : Type 0 where
-  pub steps : map step_drawn c.steps ≡ map (step_said space) chart.steps
-  pub transitions : map transition_drawn c.transitions ≡ map transition_said chart.transitions
+  pub parts : ArePartsOf space chart c.steps c.transitions
   pub bodies : map (λ b. b.name) c.bodies ≡ map (λ a. a.name) chart.actions
-  pub apart : AreApart (boxes_of c)

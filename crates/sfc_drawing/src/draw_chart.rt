@@ -1,6 +1,7 @@
 //! What is drawn of a chart.
 
 ghost use Rattle.std.specs.Prelude.{◌≡◌, ◌≤◌, ◌+◌, IfOk, length, map, take, drop};
+ghost use Rattle.sfc_layout.specs.Apart.{AreApart};
 ghost use Rattle.sfc_drawing.specs.Said as said;
 
 use crate::draw_body::{Flow, draw_bodies};
@@ -8,13 +9,14 @@ use crate::draw_link::draw_links;
 use crate::draw_step::draw_step;
 use crate::draw_transition::draw_transition;
 use crate::drawing_error::DrawingError;
-use crate::drawn::{Corner, DrawnChart, DrawnStep, DrawnTransition};
+use crate::drawn::{Corner, DrawnChart, DrawnLink, DrawnStep, DrawnTransition};
 use crate::graph::{Subject, numbers_of};
 use crate::listed::text_at;
-use crate::marks::{Marks, StepState, Told};
+use crate::marks::{Marks, Told};
 use crate::spots::Spots;
 use crate::widths::{shown, wide};
 use sfc_base::items::Items;
+use sfc_layout::chart::Link;
 use sfc_layout::drawing::Sheet;
 use sfc_layout::layout::lay_out;
 use sfc_plant::chart::{Step, Transition};
@@ -48,10 +50,7 @@ fn draw_steps(
 {
     let mut drawn = Vec::new(alloc);
     for (number, step) in steps.iter().enumerate() {
-        let told = Told {
-            marks,
-            state: marks.step(number),
-        };
+        let told = Told::of_step(marks, number);
         let spot = spots.step(alloc, number)?;
         drawn.push(draw_step(alloc, names, step, spot, told)?)?;
     }
@@ -80,6 +79,39 @@ fn draw_transitions(
     Ok(Items::from_vec(drawn))
 }
 
+// What is drawn of the nodes of a chart, and of its links.
+#[derive(Drop)]
+struct Parts {
+    steps: Items<DrawnStep>,
+    transitions: Items<DrawnTransition>,
+    links: Items<DrawnLink>,
+}
+
+fn draw_parts(
+    alloc: Global,
+    subject: Subject<'_>,
+    links: &[Link],
+    spots: &Spots<'_>,
+    marks: &Marks,
+) -> Result<Parts, AllocError>
+    requires steps { spots.now.steps ≡ length subject.chart.now.steps }
+    requires boxes { length spots.now.layout.now.boxes.items ≡ spots.now.steps + length subject.chart.now.transitions }
+    requires apart { AreApart spots.now.layout.now.boxes.items }
+    requires links { length spots.now.layout.now.links.items ≡ length links.now }
+    ensures { IfOk result (λ parts. said.ArePartsOf subject.entry.names.now subject.entry.chart.now parts.steps parts.transitions) }
+{
+    let steps = subject.chart.steps.as_slice();
+    let steps = draw_steps(alloc, subject.names, steps, spots, marks)?;
+    let transitions = subject.chart.transitions.as_slice();
+    let transitions = draw_transitions(alloc, transitions, subject.conditions, spots, marks)?;
+    let links = draw_links(alloc, spots, subject.chart, links, spots.layout.links.as_slice())?;
+    Ok(Parts {
+        steps,
+        transitions,
+        links,
+    })
+}
+
 // How far sheets that begin at this corner go to the right, and down.
 fn ends_of(sheets: &[Sheet], corner: Corner) -> Corner {
     let mut end = corner;
@@ -100,6 +132,40 @@ fn title_end(title: &Title, corner: Corner) -> u32 {
     corner.left.saturating_add(wide(characters))
 }
 
+// Where the bodies of a chart stand whose sheets end there.
+fn flow_below(corner: Corner, end: Corner) -> Flow {
+    let below = Corner {
+        left: corner.left,
+        top: end.top.saturating_add(30),
+    };
+    let limit = end.left.max(corner.left.saturating_add(BODIES));
+    Flow::new(below, limit)
+}
+
+// Where the sheets of a chart begin, below its title.
+fn sheets_of(corner: Corner) -> Corner {
+    Corner {
+        left: corner.left,
+        top: corner.top.saturating_add(TITLE),
+    }
+}
+
+// The parts of a chart whose sheets begin there, and where they end.
+fn lay_out_parts(
+    alloc: Global,
+    subject: Subject<'_>,
+    sheets: Corner,
+    marks: &Marks,
+) -> Result<(Parts, Corner), DrawingError>
+    ensures { IfOk result (λ laid. said.ArePartsOf subject.entry.names.now subject.entry.chart.now laid.0.steps laid.0.transitions) }
+{
+    let numbers = numbers_of(alloc, subject, Told::nothing(marks))?;
+    let layout = lay_out(alloc, &numbers)?;
+    let spots = Spots::new(alloc, subject.names, &numbers, &layout, sheets)?;
+    let parts = draw_parts(alloc, subject, numbers.links.as_slice(), &spots, marks)?;
+    Ok((parts, ends_of(layout.sheets.as_slice(), sheets)))
+}
+
 /// What is drawn of a chart below this corner. The errors are that it would be too large, or that memory was refused.
 pub fn draw_chart(
     alloc: Global,
@@ -111,42 +177,20 @@ pub fn draw_chart(
     ensures drawn { IfOk result (λ drawn. said.IsDrawn subject.entry.names.now subject.entry.chart.now drawn) }
     ensures name { IfOk result (λ drawn. drawn.name ≡ title.name) }
 {
-    let told = Told {
-        marks,
-        state: StepState {
-            active: None,
-            is_never: false,
-        },
-    };
-    let numbers = numbers_of(alloc, subject, told)?;
-    let layout = lay_out(alloc, &numbers)?;
-    let sheets = Corner {
-        left: corner.left,
-        top: corner.top.saturating_add(TITLE),
-    };
-    let spots = Spots::new(alloc, subject.names, &numbers, &layout, sheets)?;
-    let steps = draw_steps(alloc, subject.names, subject.chart.steps.as_slice(), &spots, marks)?;
-    let transitions = subject.chart.transitions.as_slice();
-    let transitions = draw_transitions(alloc, transitions, subject.conditions, &spots, marks)?;
-    let links = draw_links(alloc, &spots, subject.chart, &numbers.links, &layout.links)?;
-    let end = ends_of(&layout.sheets, sheets);
-    let below = Corner {
-        left: corner.left,
-        top: end.top.saturating_add(30),
-    };
-    let limit = end.left.max(corner.left.saturating_add(BODIES));
+    let (parts, end) = lay_out_parts(alloc, subject, sheets_of(corner), marks)?;
     let actions = subject.chart.actions.as_slice();
-    let flow = Flow::new(below, limit);
+    let flow = flow_below(corner, end);
     let (bodies, flow) = draw_bodies(alloc, actions, subject.bodies, marks, flow)?;
+    let right = end.left.max(flow.right()).max(title_end(&title, corner));
     Ok(DrawnChart {
-        right: end.left.max(flow.right()).max(title_end(&title, corner)),
-        bottom: flow.bottom(),
         name: title.name,
         note: title.note,
         corner,
-        links,
-        steps,
-        transitions,
+        right,
+        bottom: flow.bottom(),
+        links: parts.links,
+        steps: parts.steps,
+        transitions: parts.transitions,
         bodies,
     })
 }

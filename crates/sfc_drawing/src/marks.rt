@@ -81,6 +81,25 @@ pub struct Told<'a> {
 }
 
 impl<'a> Told<'a> {
+    /// What is told of the step with this number.
+    pub fn of_step(marks: &'a Marks, number: usize) -> Told<'a> {
+        Told {
+            marks,
+            state: marks.step(number),
+        }
+    }
+
+    /// Nothing is told of a step.
+    pub fn nothing(marks: &'a Marks) -> Told<'a> {
+        Told {
+            marks,
+            state: StepState {
+                active: None,
+                is_never: false,
+            },
+        }
+    }
+
     /// What is told of what an association of the step acts on.
     pub fn action(&self, target: Target) -> ActionMark {
         match target {

@@ -1,6 +1,6 @@
 //! Where all of a chart stands, and what is drawn beside the boxes of its nodes.
 
-ghost use Rattle.std.specs.Prelude.{◌≡◌, ◌<◌, IfOk, length, slice_index_or};
+ghost use Rattle.std.specs.Prelude.{◌≡◌, ◌<◌, IfOk, length, slice_index_or, vec_len};
 
 use crate::draw_step::StepSpot;
 use crate::draw_transition::TransitionSpot;
@@ -160,7 +160,8 @@ impl<'a> Spots<'a> {
         layout: &'a Layout,
         corner: Corner,
     ) -> Result<Spots<'a>, AllocError>
-        ensures { IfOk result (λ spots. spots.layout.now ≡ layout.now) }
+        ensures layout { IfOk result (λ spots. spots.layout.now ≡ layout.now) }
+        ensures steps { IfOk result (λ spots. spots.steps ≡ vec_len numbers.now.steps) }
     {
         let mut nodes = nothing(alloc, layout.boxes.len())?;
         push_owns(&mut nodes, layout)?;

@@ -1,4 +1,4 @@
-use Rattle.std.proofs.Common.{◌≡◌, take}
+use Rattle.std.proofs.Common.{take}
 use Rattle.sfc_drawing.specs.Drawings.{AreOf}
 use Rattle.sfc_drawing.proofs.drawing.draw_types.Given as goal
 
