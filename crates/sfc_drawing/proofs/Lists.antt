@@ -60,3 +60,8 @@ of_more globals types before after i p c lt is a h q =
 pub of_all : (globals : List Variable) (types : List ProgramType) (charts : List DrawnChart) (i : ℕ) → length types ≤ i
     → AreOf globals (take i types) charts → AreOf globals types charts
 of_all globals types charts i le a = subst (λ ts. AreOf globals ts charts) (take_all i types le) a
+
+pub of_along : (c : DrawnChart) (globals globals' : List Variable) (name name' : List ℕ) (p p' : ProgramType) → globals ≡ globals' → name ≡ name'
+    → p ≡ p' → IsOf globals name p c → IsOf globals' name' p' c
+of_along c globals globals' name name' p p' g n e h =
+    subst (λ x. IsOf x name' p' c) g (subst (λ x. IsOf globals x p' c) n (subst (λ x. IsOf globals name x c) e h))
