@@ -1,5 +1,5 @@
 -- Lists of what is drawn, an element at a time.
-use Rattle.std.proofs.Common.{◌≡◌, ℕ, ◌+◌, ◌-◌, ◌<◌, ◌≤◌, List, [], ◌∷◌, ◌++◌, length, take, drop, get_or, map, All, refl, sym, ap, ◌∙◌, arith, length-drop, subst}
+use Rattle.std.proofs.Common.{◌≡◌, ℕ, ◌+◌, ◌<◌, ◌≤◌, List, [], ◌∷◌, ◌++◌, length, take, drop, get_or, map, sym, ap, ◌∙◌, arith, length-drop, subst}
 use Rattle.std.proofs.lemmas.List.{map-append, take_more, take_all, take-append-drop, get_or-drop}
 use Rattle.sfc_layout.specs.declared.node_box.NodeBox.{NodeBox}
 use Rattle.sfc_layout.specs.Apart.{AreApart}

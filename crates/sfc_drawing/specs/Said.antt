@@ -14,7 +14,6 @@ use Rattle.sfc_plant.specs.Names.{variable_name, target_name}
 use Rattle.sfc_plant.specs.Spaces.{Space}
 use Rattle.sfc_list.specs.Charts.{association_time}
 use Rattle.sfc_layout.specs.Apart.{AreApart}
-use Rattle.sfc_drawing.specs.declared.drawn.DrawnBody.{DrawnBody}
 use Rattle.sfc_drawing.specs.declared.drawn.DrawnChart.{DrawnChart}
 use Rattle.sfc_drawing.specs.declared.drawn.DrawnRow.{DrawnRow}
 use Rattle.sfc_drawing.specs.declared.drawn.DrawnStep.{DrawnStep}

@@ -69,7 +69,13 @@ fn append_frames(out: &mut Vec<u8>, body: &DrawnBody) -> Result<(), AllocError>
     let left = u64::from(body.left);
     let y = u64::from(body.top) + 15;
     append_text(out, b"q", Point { x: left + 8, y }, 6, b"ACTION")?;
-    append_text(out, b"n", Point { x: left + 54, y }, 90, body.name.as_slice())?;
+    append_text(
+        out,
+        b"n",
+        Point { x: left + 54, y },
+        90,
+        body.name.as_slice(),
+    )?;
     append_rect(out, b"cell", lines_frame(body))
 }
 

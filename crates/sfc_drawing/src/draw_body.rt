@@ -81,18 +81,16 @@ fn indent_of(line: &[u8]) -> usize
 }
 
 // The lines of a body, which begin at this corner.
-fn draw_lines(
-    alloc: Global,
-    lines: &[Vec<u8>],
-    corner: Corner,
-) -> Result<Items<Line>, AllocError> {
+fn draw_lines(alloc: Global, lines: &[Vec<u8>], corner: Corner) -> Result<Items<Line>, AllocError> {
     let mut drawn = Vec::new(alloc);
     let mut y = corner.top;
     for line in lines {
         let indent = indent_of(line);
         let said = line.as_slice().get(indent..).unwrap_or(b"");
         drawn.push(Line {
-            x: corner.left.saturating_add(wide(shown(&line[..indent], MOST))),
+            x: corner
+                .left
+                .saturating_add(wide(shown(&line[..indent], MOST))),
             y,
             text: owned(alloc, said)?,
         })?;

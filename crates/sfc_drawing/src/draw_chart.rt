@@ -104,7 +104,13 @@ fn draw_parts(
     let steps = draw_steps(alloc, subject.names, steps, spots, marks)?;
     let transitions = subject.chart.transitions.as_slice();
     let transitions = draw_transitions(alloc, transitions, subject.conditions, spots, marks)?;
-    let links = draw_links(alloc, spots, subject.chart, links, spots.layout.links.as_slice())?;
+    let links = draw_links(
+        alloc,
+        spots,
+        subject.chart,
+        links,
+        spots.layout.links.as_slice(),
+    )?;
     Ok(Parts {
         steps,
         transitions,

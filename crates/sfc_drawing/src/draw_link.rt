@@ -44,7 +44,9 @@ fn draw_link(
     drawing: Drawing,
 ) -> Result<DrawnLink, AllocError> {
     let boxes = spots.layout.boxes.as_slice();
-    let sheet = boxes.get(link.source).map_or(0, |place: &NodeBox| place.sheet);
+    let sheet = boxes
+        .get(link.source)
+        .map_or(0, |place: &NodeBox| place.sheet);
     Ok(DrawnLink {
         source: end_of(alloc, spots, link.source)?,
         target: end_of(alloc, spots, link.target)?,

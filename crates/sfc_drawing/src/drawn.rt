@@ -24,23 +24,11 @@ pub struct Line {
 #[derive(Clone, Copy, Debug, PartialEq, Eq)]
 pub enum Own {
     /// From top to bottom.
-    Stem {
-        x: u32,
-        top: u32,
-        bottom: u32,
-    },
+    Stem { x: u32, top: u32, bottom: u32 },
     /// From left to right, where a selection begins or ends.
-    Single {
-        left: u32,
-        right: u32,
-        y: u32,
-    },
+    Single { left: u32, right: u32, y: u32 },
     /// A double line from left to right, where simultaneous sequences begin or end.
-    Double {
-        left: u32,
-        right: u32,
-        y: u32,
-    },
+    Double { left: u32, right: u32, y: u32 },
 }
 
 /// A line of an action block (2.6.4.3): the fields qualifier, time, action and indicators.

@@ -142,10 +142,7 @@ fn step_sizes(
 }
 
 // The sizes of the transitions.
-fn transition_sizes(
-    alloc: Global,
-    subject: Subject<'_>,
-) -> Result<Vec<TransitionSize>, AllocError>
+fn transition_sizes(alloc: Global, subject: Subject<'_>) -> Result<Vec<TransitionSize>, AllocError>
     ensures { IfOk result (λ sizes. vec_len sizes ≡ length subject.entry.chart.now.transitions) }
 {
     let mut sizes = Vec::new(alloc);

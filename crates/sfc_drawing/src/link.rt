@@ -211,9 +211,9 @@ fn begin_of(drawing: Drawing) -> (u32, u32)
     ensures { point result.0 result.1 ≡ text.begin_of drawing }
 {
     match drawing {
-        Drawing::Line { x, top, .. } | Drawing::Jump { x, top, .. } | Drawing::Loop { x, top, .. } => {
-            (x, top)
-        }
+        Drawing::Line { x, top, .. }
+        | Drawing::Jump { x, top, .. }
+        | Drawing::Loop { x, top, .. } => { (x, top) }
     }
 }
 

@@ -42,12 +42,7 @@ impl Listed {
     }
 
     // Takes what a line has, which is one of a body or not. Answers whether the next is one.
-    fn take_line(
-        &mut self,
-        alloc: Global,
-        line: &[u8],
-        is_body: bool,
-    ) -> Result<bool, AllocError> {
+    fn take_line(&mut self, alloc: Global, line: &[u8], is_body: bool) -> Result<bool, AllocError> {
         if line == END {
             return Ok(false);
         }

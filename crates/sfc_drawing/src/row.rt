@@ -123,7 +123,13 @@ fn append_fields(
     append_field(out, b"c", field, 24, row.time.as_slice())?;
     let left = left + u64::from(columns.time);
     let field = field_at(left, top, columns.action);
-    append_field(out, action_class(row.has_body), field, 28, row.action.as_slice())?;
+    append_field(
+        out,
+        action_class(row.has_body),
+        field,
+        28,
+        row.action.as_slice(),
+    )?;
     let left = left + u64::from(columns.action);
     let field = field_at(left, top, columns.indicators);
     append_field(out, b"c", field, 24, row.indicators.as_slice())

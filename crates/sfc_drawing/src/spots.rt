@@ -44,9 +44,7 @@ pub struct Spots<'a> {
 
 // The line of a bar.
 fn own_of_bar(bar: Bar) -> Own {
-    let Bar {
-        left, right, y, ..
-    } = bar;
+    let Bar { left, right, y, .. } = bar;
     if bar.is_double {
         Own::Double { left, right, y }
     } else {

@@ -14,7 +14,11 @@ use sfc_page::append::append;
 use std::alloc::AllocError;
 
 #[tactic(auto, unfolding(crate::specs::Steps::step_head))]
-fn append_step_head<'x>(out: &mut Vec<u8>, chart: &'x [u8], step: &'x DrawnStep) -> Result<(), AllocError>
+fn append_step_head<'x>(
+    out: &mut Vec<u8>,
+    chart: &'x [u8],
+    step: &'x DrawnStep,
+) -> Result<(), AllocError>
     ensures { OnOk result (out.new.items ≡ out.old.items ++ text.step_head chart.now step.now) }
 {
     append_parts(
@@ -36,7 +40,11 @@ fn append_step_head<'x>(out: &mut Vec<u8>, chart: &'x [u8], step: &'x DrawnStep)
 fn step_word(is_initial: bool) -> &'static [u8]
     ensures { result.now ≡ text.step_word is_initial }
 {
-    if is_initial { b"initial step " } else { b"step " }
+    if is_initial {
+        b"initial step "
+    } else {
+        b"step "
+    }
 }
 
 #[tactic(auto, unfolding(crate::specs::Steps::step_title))]
@@ -162,7 +170,13 @@ fn append_label(
     append_token(out, place)?;
     let room = u64::from(place.right).saturating_sub(u64::from(place.left) + 14);
     let at = Point { x, y: top + 28 };
-    append_text(out, b"time mid", at, (room / 6) as usize, mark.time.as_slice())
+    append_text(
+        out,
+        b"time mid",
+        at,
+        (room / 6) as usize,
+        mark.time.as_slice(),
+    )
 }
 
 // An asterisk, where branches of a step with this line begin.

@@ -7,7 +7,9 @@ use crate::drawn::{DrawnTransition, Stubs, TransitionMark};
 use crate::element::{append_lines, append_names, append_owns, append_sheet};
 use crate::part::Part::{Markup, Number, Pixel, Said};
 use crate::part::{append_parts, word_if};
-use crate::shape::{Point, Rect, Way, append_down, append_head, append_number, append_rect, append_text};
+use crate::shape::{
+    Point, Rect, Way, append_down, append_head, append_number, append_rect, append_text,
+};
 use sfc_base::items::Items;
 use sfc_layout::node_box::NodeBox;
 use sfc_page::append::append;
@@ -94,7 +96,11 @@ fn append_transition_title(
     append_number_said(out, number)?;
     append_name_said(out, &transition.name)?;
     append_priority_said(out, transition.priority)?;
-    append_condition_said(out, transition.condition.as_slice(), transition.mark.is_never)
+    append_condition_said(
+        out,
+        transition.condition.as_slice(),
+        transition.mark.is_never,
+    )
 }
 
 fn bar_of(place: NodeBox) -> Rect
