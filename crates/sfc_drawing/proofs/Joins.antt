@@ -21,7 +21,8 @@ pub grown : {A : Type 0} (f : A → List ℕ) (xs : List A) (i : ℕ) (d : A) �
 grown f xs i d lt = grind (arith, common_steps)
 
 pub part_more : (old before after : List ℕ) (parts : List Part) (i : ℕ) (d : Part) → i < length parts
-    → before ≡ old ++ joined [] (take i parts) → after ≡ before ++ part_text (get_or parts i d) → after ≡ old ++ joined [] (take (i + 1) parts)
+    → before ≡ old ++ joined [] (take i parts) → after ≡ before ++ part_text (get_or parts i d)
+    → after ≡ old ++ joined [] (take (i + 1) parts)
 part_more old before after parts i d lt p q =
     q ∙ ap (λ text. text ++ part_text (get_or parts i d)) p
     ∙ append_assoc old (joined [] (take i parts)) (part_text (get_or parts i d))
@@ -54,8 +55,8 @@ numbered_grown f xs i x lt =
     ∙ ap (λ text. numbered f 1 (take i xs) ++ text) (append-nil (f (1 + length (take i xs)) (get_or xs i x)))
     ∙ ap (λ k. numbered f 1 (take i xs) ++ f k (get_or xs i x)) (count_of xs i lt)
 
-pub number_more : {A : Type 0} (f : ℕ → A → List ℕ) (old before after : List ℕ) (xs : List A) (i : ℕ) (x : A) → i < length xs → x ≡ get_or xs i x
-    → before ≡ old ++ numbered f 1 (take i xs) → after ≡ before ++ f (i + 1) x → after ≡ old ++ numbered f 1 (take (i + 1) xs)
+pub number_more : {A : Type 0} (f : ℕ → A → List ℕ) (old before after : List ℕ) (xs : List A) (i : ℕ) (x : A) → i < length xs
+    → x ≡ get_or xs i x → before ≡ old ++ numbered f 1 (take i xs) → after ≡ before ++ f (i + 1) x → after ≡ old ++ numbered f 1 (take (i + 1) xs)
 number_more f old before after xs i x lt is p q =
     q ∙ ap (λ text. text ++ f (i + 1) x) p ∙ append_assoc old (numbered f 1 (take i xs)) (f (i + 1) x)
     ∙ ap (λ y. old ++ (numbered f 1 (take i xs) ++ f (i + 1) y)) is

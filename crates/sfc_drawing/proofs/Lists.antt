@@ -1,5 +1,5 @@
 -- Lists of what is drawn, an element at a time.
-use Rattle.std.proofs.Common.{◌≡◌, ℕ, ◌+◌, ◌<◌, ◌≤◌, List, [], ◌∷◌, ◌++◌, length, take, drop, get_or, map, sym, ap, ◌∙◌, arith, length-drop, subst}
+use Rattle.std.proofs.Common.{◌≡◌, ℕ, ◌+◌, ◌<◌, ◌≤◌, List, [], ◌∷◌, ◌++◌, length, take, drop, get_or, map, sym, ap, ◌∙◌, arith, append_assoc, length-drop, subst}
 use Rattle.std.proofs.lemmas.List.{map-append, take_more, take_all, take-append-drop, get_or-drop}
 use Rattle.sfc_layout.specs.declared.node_box.NodeBox.{NodeBox}
 use Rattle.sfc_layout.specs.Apart.{AreApart}
@@ -49,8 +49,8 @@ of_behind globals [] (d ∷ charts) p c a h = absurd a
 of_behind globals (t ∷ types) [] p c a h = absurd a
 of_behind globals (t ∷ types) (d ∷ charts) p c a h = (a.0, of_behind globals types charts p c a.1 h)
 
-pub of_more : (globals : List Variable) (types : List ProgramType) (before after : List DrawnChart) (i : ℕ) (p : ProgramType) (c : DrawnChart)
-    → i < length types → p ≡ get_or types i p → AreOf globals (take i types) before → IsOf globals p.name p c → after ≡ before ++ c ∷ []
+pub of_more : (globals : List Variable) (types : List ProgramType) (before after : List DrawnChart) (i : ℕ) (p : ProgramType)
+    (c : DrawnChart) → i < length types → p ≡ get_or types i p → AreOf globals (take i types) before → IsOf globals p.name p c → after ≡ before ++ c ∷ []
     → AreOf globals (take (i + 1) types) after
 of_more globals types before after i p c lt is a h q =
     subst (λ cs. AreOf globals (take (i + 1) types) cs) (sym q)
@@ -61,7 +61,18 @@ pub of_all : (globals : List Variable) (types : List ProgramType) (charts : List
     → AreOf globals (take i types) charts → AreOf globals types charts
 of_all globals types charts i le a = subst (λ ts. AreOf globals ts charts) (take_all i types le) a
 
-pub of_along : (c : DrawnChart) (globals globals' : List Variable) (name name' : List ℕ) (p p' : ProgramType) → globals ≡ globals' → name ≡ name'
-    → p ≡ p' → IsOf globals name p c → IsOf globals' name' p' c
+pub of_along : (c : DrawnChart) (globals globals' : List Variable) (name name' : List ℕ) (p p' : ProgramType) → globals ≡ globals'
+    → name ≡ name' → p ≡ p' → IsOf globals name p c → IsOf globals' name' p' c
 of_along c globals globals' name name' p p' g n e h =
     subst (λ x. IsOf x name' p' c) g (subst (λ x. IsOf globals x p' c) n (subst (λ x. IsOf globals name x c) e h))
+
+-- ---- links
+
+-- one more behind those that were there
+pub map_behind : {A B C : Type 0} (f : A → C) (g : B → C) (old before after : List A) (xs : List B) (i : ℕ) (a : A) (d : B) → i < length xs
+    → map f before ≡ map f old ++ map g (take i xs) → f a ≡ g (get_or xs i d) → after ≡ before ++ a ∷ []
+    → map f after ≡ map f old ++ map g (take (i + 1) xs)
+map_behind f g old before after xs i a d lt p e q =
+    ap (map f) q ∙ map-append f before (a ∷ []) ∙ ap (λ ys. ys ++ f a ∷ []) p ∙ append_assoc (map f old) (map g (take i xs)) (f a ∷ [])
+    ∙ ap (λ y. map f old ++ (map g (take i xs) ++ y ∷ [])) e
+    ∙ ap (λ ys. map f old ++ ys) (sym (map-append g (take i xs) (get_or xs i d ∷ [])) ∙ ap (map g) (sym (take_more xs i d lt)))

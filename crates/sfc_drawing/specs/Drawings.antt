@@ -7,13 +7,14 @@ use Rattle.sfc_plant.specs.Plants.{PlantData}
 use Rattle.sfc_plant.specs.Spaces.{space_in}
 use Rattle.sfc_drawing.specs.declared.drawn.DrawnChart.{DrawnChart}
 use Rattle.sfc_drawing.specs.declared.drawn.Picture.{Picture}
+use Rattle.sfc_tables.specs.Ranks.{priorities_of, rank_order}
 use Rattle.sfc_drawing.specs.Said.{IsDrawn}
 use Rattle.sfc_drawing.specs.Pictures.{picture_text}
 
 -- the chart of a program type among these globals, under this name
 pub record IsOf (globals : List Variable) (name : List ℕ) (p : ProgramType) (c : DrawnChart) : Type 0 where
   pub name_of : c.name ≡ name
-  pub chart : IsDrawn (space_in globals p) p.chart c
+  pub chart : IsDrawn (space_in globals p) p.chart (rank_order (priorities_of p.chart.transitions)) c
 
 -- each type has its chart, under its own name
 abbrev pub AreOf : List Variable → List ProgramType → List DrawnChart → Type 0

@@ -53,7 +53,8 @@ unfoldable pub up_text : ℕ → ℕ → List ℕ
 up_text entry line = codes "V" ++ decimal entry ++ codes "H" ++ decimal line ++ codes "\"/>\n"
 
 unfoldable pub return_text : ℕ → ℕ → ℕ → ℕ → List ℕ
-return_text bottom side entry line = up_text entry line ++ head_text Up side (entry + (bottom - entry) / 2 - 4) ++ head_text Right line entry
+return_text bottom side entry line =
+    up_text entry line ++ head_text Up side (entry + (bottom - entry) / 2 - 4) ++ head_text Right line entry
 
 unfoldable pub jump_text : ℕ → ℕ → ℕ → End → List ℕ
 jump_text x top bottom target = down_text x top bottom ++ head_text Down x bottom ++ target_text (point (x + 10) (bottom + 8)) target

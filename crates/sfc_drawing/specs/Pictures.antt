@@ -51,8 +51,9 @@ chart_title corner name note =
 -- each link, each step, each transition and each body once
 unfoldable pub chart_text : DrawnChart → List ℕ
 chart_text c =
-    chart_head c.name c.note ++ chart_title c.corner c.name c.note ++ flat_map (link_text c.name) c.links ++ flat_map (step_text c.name) c.steps
-    ++ numbered (transition_text c.name) 1 c.transitions ++ flat_map (body_text c.name) c.bodies ++ element_end
+    chart_head c.name c.note ++ chart_title c.corner c.name c.note ++ flat_map (link_text c.name) c.links
+    ++ flat_map (step_text c.name) c.steps ++ numbered (transition_text c.name) 1 c.transitions ++ flat_map (body_text c.name) c.bodies
+    ++ element_end
 
 -- ---- the whole
 
@@ -62,7 +63,8 @@ picture_head width height =
     ++ codes "\" width=\"" ++ decimal width ++ codes "\" height=\"" ++ decimal height ++ codes "\">\n"
 
 unfoldable pub paper_text : ℕ → ℕ → List ℕ
-paper_text width height = codes "<rect class=\"paper\" width=\"" ++ decimal width ++ codes "\" height=\"" ++ decimal height ++ codes "\"/>\n"
+paper_text width height =
+    codes "<rect class=\"paper\" width=\"" ++ decimal width ++ codes "\" height=\"" ++ decimal height ++ codes "\"/>\n"
 
 unfoldable pub picture_text : Picture → List ℕ
 picture_text p =

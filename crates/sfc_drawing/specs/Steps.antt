@@ -93,7 +93,8 @@ name_height is_active = if is_active then 16 else 21
 
 -- a token, which shows where the step is active
 unfoldable pub token_text : NodeBox → List ℕ
-token_text p = codes "<circle class=\"token\" cx=\"" ++ decimal (p.left + 15) ++ codes "\" cy=\"" ++ decimal (p.top + 12) ++ codes "\" r=\"4\"/>\n"
+token_text p =
+    codes "<circle class=\"token\" cx=\"" ++ decimal (p.left + 15) ++ codes "\" cy=\"" ++ decimal (p.top + 12) ++ codes "\" r=\"4\"/>\n"
 
 unfoldable pub label_text : NodeBox → List ℕ → StepMark → List ℕ
 label_text p name mark =
@@ -107,6 +108,6 @@ branches_text x (Some y) = text_text (codes "q") (point (x + 4) (y - 2)) 1 (code
 
 unfoldable pub step_text : List ℕ → DrawnStep → List ℕ
 step_text chart s =
-    step_head chart s ++ sheet_text s.sheet ++ step_title s.is_initial s.name s.mark ++ flat_map own_text s.own ++ entry_text s.place.x s.entry
-    ++ box_text s.is_initial s.place ++ label_text s.place s.name s.mark ++ block_line s.place s.rows ++ numbered (row_text chart s) 1 s.rows
-    ++ branches_text s.place.x s.branches ++ element_end
+    step_head chart s ++ sheet_text s.sheet ++ step_title s.is_initial s.name s.mark ++ flat_map own_text s.own
+    ++ entry_text s.place.x s.entry ++ box_text s.is_initial s.place ++ label_text s.place s.name s.mark ++ block_line s.place s.rows
+    ++ numbered (row_text chart s) 1 s.rows ++ branches_text s.place.x s.branches ++ element_end

@@ -1,6 +1,6 @@
 //! What is drawn of a chart.
 
-ghost use Rattle.std.specs.Prelude.{◌≡◌, ◌≤◌, ◌+◌, IfOk, length, map, take, drop};
+ghost use Rattle.std.specs.Prelude.{◌≡◌, ◌≤◌, ◌+◌, IfOk, flat_map, length, map, take, drop};
 ghost use Rattle.sfc_layout.specs.Apart.{AreApart};
 ghost use Rattle.sfc_drawing.specs.Said as said;
 
@@ -16,7 +16,6 @@ use crate::marks::{Marks, Told};
 use crate::spots::Spots;
 use crate::widths::{shown, wide};
 use sfc_base::items::Items;
-use sfc_layout::chart::Link;
 use sfc_layout::drawing::Sheet;
 use sfc_layout::layout::lay_out;
 use sfc_plant::chart::{Step, Transition};
@@ -67,7 +66,8 @@ fn draw_transitions(
 ) -> Result<Items<DrawnTransition>, AllocError>
     requires { spots.now.steps + length transitions.now ≤ length spots.now.layout.now.boxes.items }
     ensures said { IfOk result (λ drawn. map said.transition_drawn drawn ≡ map said.transition_said transitions.now) }
-    ensures places { IfOk result (λ drawn. map (λ t. t.place) drawn ≡ take (length transitions.now) (drop spots.now.steps spots.now.layout.now.boxes.items)) }
+    ensures places { IfOk result (λ drawn. map (λ t. t.place) drawn
+        ≡ take (length transitions.now) (drop spots.now.steps spots.now.layout.now.boxes.items)) }
 {
     let mut drawn = Vec::new(alloc);
     for (number, transition) in transitions.iter().enumerate() {
@@ -90,27 +90,22 @@ struct Parts {
 fn draw_parts(
     alloc: Global,
     subject: Subject<'_>,
-    links: &[Link],
     spots: &Spots<'_>,
     marks: &Marks,
 ) -> Result<Parts, AllocError>
     requires steps { spots.now.steps ≡ length subject.chart.now.steps }
     requires boxes { length spots.now.layout.now.boxes.items ≡ spots.now.steps + length subject.chart.now.transitions }
     requires apart { AreApart spots.now.layout.now.boxes.items }
-    requires links { length spots.now.layout.now.links.items ≡ length links.now }
-    ensures { IfOk result (λ parts. said.ArePartsOf subject.entry.names.now subject.entry.chart.now parts.steps parts.transitions) }
+    requires names { spots.now.names.now ≡ subject.names.now }
+    ensures parts { IfOk result (λ parts. said.ArePartsOf subject.entry.names.now subject.entry.chart.now parts.steps parts.transitions) }
+    ensures links { IfOk result (λ parts. map said.link_drawn parts.links
+        ≡ flat_map (said.links_at subject.entry.names.now subject.entry.chart.now.transitions) subject.entry.ranked.now) }
 {
     let steps = subject.chart.steps.as_slice();
     let steps = draw_steps(alloc, subject.names, steps, spots, marks)?;
-    let transitions = subject.chart.transitions.as_slice();
-    let transitions = draw_transitions(alloc, transitions, subject.conditions, spots, marks)?;
-    let links = draw_links(
-        alloc,
-        spots,
-        subject.chart,
-        links,
-        spots.layout.links.as_slice(),
-    )?;
+    let all = subject.chart.transitions.as_slice();
+    let transitions = draw_transitions(alloc, all, subject.conditions, spots, marks)?;
+    let links = draw_links(alloc, spots, all, subject.ranked)?;
     Ok(Parts {
         steps,
         transitions,
@@ -163,12 +158,14 @@ fn lay_out_parts(
     sheets: Corner,
     marks: &Marks,
 ) -> Result<(Parts, Corner), DrawingError>
-    ensures { IfOk result (λ laid. said.ArePartsOf subject.entry.names.now subject.entry.chart.now laid.0.steps laid.0.transitions) }
+    ensures parts { IfOk result (λ laid. said.ArePartsOf subject.entry.names.now subject.entry.chart.now laid.0.steps laid.0.transitions) }
+    ensures links { IfOk result (λ laid. map said.link_drawn laid.0.links
+        ≡ flat_map (said.links_at subject.entry.names.now subject.entry.chart.now.transitions) subject.entry.ranked.now) }
 {
     let numbers = numbers_of(alloc, subject, Told::nothing(marks))?;
     let layout = lay_out(alloc, &numbers)?;
     let spots = Spots::new(alloc, subject.names, &numbers, &layout, sheets)?;
-    let parts = draw_parts(alloc, subject, numbers.links.as_slice(), &spots, marks)?;
+    let parts = draw_parts(alloc, subject, &spots, marks)?;
     Ok((parts, ends_of(layout.sheets.as_slice(), sheets)))
 }
 
@@ -180,7 +177,7 @@ pub fn draw_chart(
     corner: Corner,
     marks: &Marks,
 ) -> Result<DrawnChart, DrawingError>
-    ensures drawn { IfOk result (λ drawn. said.IsDrawn subject.entry.names.now subject.entry.chart.now drawn) }
+    ensures drawn { IfOk result (λ drawn. said.IsDrawn subject.entry.names.now subject.entry.chart.now subject.entry.ranked.now drawn) }
     ensures name { IfOk result (λ drawn. drawn.name ≡ title.name) }
 {
     let (parts, end) = lay_out_parts(alloc, subject, sheets_of(corner), marks)?;

@@ -230,7 +230,8 @@ pub fn picture_of_instance(
     instance: ProgId,
     marks: &Marks,
 ) -> Result<Picture, DrawingError>
-    ensures { IfOk result (λ picture. drawings.IsOfInstance plant.now (instance_name plant.now instance) (type_of plant.now instance) picture.charts) }
+    ensures { IfOk result (λ picture.
+        drawings.IsOfInstance plant.now (instance_name plant.now instance) (type_of plant.now instance) picture.charts) }
 {
     let mut charts = Vec::new(alloc);
     if let Some(program) = plant.type_of(instance) {

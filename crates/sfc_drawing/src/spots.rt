@@ -158,6 +158,7 @@ impl<'a> Spots<'a> {
         layout: &'a Layout,
         corner: Corner,
     ) -> Result<Spots<'a>, AllocError>
+        ensures names { IfOk result (λ spots. spots.names.now ≡ names.now) }
         ensures layout { IfOk result (λ spots. spots.layout.now ≡ layout.now) }
         ensures steps { IfOk result (λ spots. spots.steps ≡ vec_len numbers.now.steps) }
     {
