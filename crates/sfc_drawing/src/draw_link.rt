@@ -1,6 +1,6 @@
 //! What is drawn of links (2.6.5).
 
-ghost use Rattle.std.specs.Prelude.{◌≡◌, ◌++◌, IfOk, OnOk, flat_map, map};
+ghost use Rattle.std.specs.Prelude.{◌≡◌, ◌++◌, IfOk, OnOk, flat_map, map, option_map, slice_get};
 ghost use Rattle.sfc_drawing.specs.Said as said;
 
 use crate::drawn::{Corner, DrawnLink, End};
@@ -168,7 +168,39 @@ fn push_from(
     Ok(())
 }
 
-// The links of a transition, if there is one of this number.
+// The transition with this number, if there is one.
+fn transition_at(transitions: &[Transition], place: usize) -> Option<&Transition>
+    ensures { option_map (λ transition. transition.now) result ≡ slice_get transitions.now place }
+{
+    transitions.get(place)
+}
+
+// The links of the transition at this place, if there is one.
+fn push_found(
+    alloc: Global,
+    drawn: &mut Vec<DrawnLink>,
+    spots: &Spots<'_>,
+    found: Option<&Transition>,
+    place: u16,
+) -> Result<(), AllocError>
+    ensures { OnOk result (map said.link_drawn drawn.new.items
+        ≡ map said.link_drawn drawn.old.items
+        ++ said.links_of spots.now.names.now place (option_map (λ transition. transition.now) found.entry)) }
+{
+    match found {
+        Some(transition) => {
+            let ranked = Ranked {
+                place,
+                priority: transition.priority,
+            };
+            push_to(alloc, drawn, spots, transition.preceding.as_slice(), ranked)?;
+            push_from(alloc, drawn, spots, transition.following.as_slice(), ranked)
+        }
+        None => Ok(()),
+    }
+}
+
+// The links of a transition.
 fn push_links(
     alloc: Global,
     drawn: &mut Vec<DrawnLink>,
@@ -179,15 +211,8 @@ fn push_links(
     ensures { OnOk result (map said.link_drawn drawn.new.items
         ≡ map said.link_drawn drawn.old.items ++ said.links_at spots.now.names.now transitions.now id) }
 {
-    let Some(transition) = transitions.get(usize::from(id.0)) else {
-        return Ok(());
-    };
-    let ranked = Ranked {
-        place: id.0,
-        priority: transition.priority,
-    };
-    push_to(alloc, drawn, spots, transition.preceding.as_slice(), ranked)?;
-    push_from(alloc, drawn, spots, transition.following.as_slice(), ranked)
+    let found = transition_at(transitions, usize::from(id.0));
+    push_found(alloc, drawn, spots, found, id.0)
 }
 
 /// What is drawn of all links, in the order of the rank of their transitions. The one error is that memory was refused.
