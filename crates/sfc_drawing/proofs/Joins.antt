@@ -56,7 +56,8 @@ numbered_grown f xs i x lt =
     ∙ ap (λ k. numbered f 1 (take i xs) ++ f k (get_or xs i x)) (count_of xs i lt)
 
 pub number_more : {A : Type 0} (f : ℕ → A → List ℕ) (old before after : List ℕ) (xs : List A) (i : ℕ) (x : A) → i < length xs
-    → x ≡ get_or xs i x → before ≡ old ++ numbered f 1 (take i xs) → after ≡ before ++ f (i + 1) x → after ≡ old ++ numbered f 1 (take (i + 1) xs)
+    → x ≡ get_or xs i x → before ≡ old ++ numbered f 1 (take i xs) → after ≡ before ++ f (i + 1) x
+    → after ≡ old ++ numbered f 1 (take (i + 1) xs)
 number_more f old before after xs i x lt is p q =
     q ∙ ap (λ text. text ++ f (i + 1) x) p ∙ append_assoc old (numbered f 1 (take i xs)) (f (i + 1) x)
     ∙ ap (λ y. old ++ (numbered f 1 (take i xs) ++ f (i + 1) y)) is

@@ -50,7 +50,8 @@ of_behind globals (t ∷ types) [] p c a h = absurd a
 of_behind globals (t ∷ types) (d ∷ charts) p c a h = (a.0, of_behind globals types charts p c a.1 h)
 
 pub of_more : (globals : List Variable) (types : List ProgramType) (before after : List DrawnChart) (i : ℕ) (p : ProgramType)
-    (c : DrawnChart) → i < length types → p ≡ get_or types i p → AreOf globals (take i types) before → IsOf globals p.name p c → after ≡ before ++ c ∷ []
+    (c : DrawnChart) → i < length types → p ≡ get_or types i p → AreOf globals (take i types) before → IsOf globals p.name p c
+    → after ≡ before ++ c ∷ []
     → AreOf globals (take (i + 1) types) after
 of_more globals types before after i p c lt is a h q =
     subst (λ cs. AreOf globals (take (i + 1) types) cs) (sym q)

@@ -8,7 +8,7 @@ loop-number-preserved c =
     let boxes = c.args.spots.now.layout.now.boxes.items in
     let steps = c.args.spots.now.steps in
     let within : c.loop-number.number < length (drop steps boxes) =
-        omega (arith, length-drop steps boxes, c.requires, c.loop-number-test.true) in
+    omega (arith, length-drop steps boxes, c.requires, c.loop-number-test.true) in
     record {
       said = map_more transition_drawn transition_said _ _ c.args.transitions.now c.loop-number.number _ _ c.loop-number-test.true
           c.index-transitions-number.is c.loop-number.invariant.said c.in_ok-draw_transition.ensures.said c.in_ok-push.ensures.items;
