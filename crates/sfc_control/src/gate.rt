@@ -11,7 +11,8 @@ pub enum Turn {
     First,
     /// The scan was accepted; its entry has this index.
     Done(u64),
-    /// No release of the task waits. The next one by its interval is at this instant, if there is one.
+    /// No release of the task waits. The next one by its interval is at this instant, by the clock that calls go by, if there is one and as
+    /// long as the debugger doesn't halt the resource.
     Waits(Option<i64>),
     /// This other task goes first.
     Yielded(TaskId),
@@ -19,7 +20,7 @@ pub enum Turn {
     Halted,
 }
 
-/// What a worker asks before each scan. It may wait.
+/// What a worker asks before each scan. It may wait: what wakes it before its time is a bell of the controller.
 pub trait Gate {
     /// Whether the latest turn was refused.
     ghost is_shut: { Self → Bool };

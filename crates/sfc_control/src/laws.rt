@@ -1,17 +1,23 @@
-//! What holds of a book and its tail in one hand, and of what an epoch drops.
+//! What holds of a book and its tail in one hand, of what an epoch drops, and of how long a worker may wait.
 
-ghost use Rattle.std.specs.Prelude.{◌≡◌, ◌++◌, ℤ};
+ghost use Rattle.std.specs.Prelude.{◌≡◌, ◌++◌, ◌+ℤ◌, ℤ};
 ghost use mathlib.Core.List.{IsPrefix};
+ghost use Rattle.sfc_base.specs.declared.ids.TaskId.{TaskId};
 ghost use Rattle.sfc_plant.specs.Sound.{IsPlant};
 ghost use Rattle.sfc_events.specs.declared.command.Command.{Command};
+ghost use Rattle.sfc_events.specs.declared.command.Command.TheVariants.{Scan};
+ghost use Rattle.sfc_debug.specs.declared.mode.Mode.TheVariants.{Running};
+ghost use Rattle.sfc_debug.specs.declared.run_clock.RunClock.{RunClock};
 ghost use Rattle.sfc_debug.specs.Histories.{CommandHistory};
 ghost use Rattle.sfc_debug.specs.Openings.{past_of};
 ghost use Rattle.sfc_debug.specs.Past.{debug_past};
+ghost use Rattle.sfc_debug.specs.RunClock.{run_instant};
 ghost use Rattle.sfc_debug.specs.Verdict.{verdict};
 ghost use Rattle.sfc_control.specs.declared.book.Book.{Book};
 ghost use Rattle.sfc_control.specs.LegalHistory.{IsLegalAfter, commands_of, told};
 ghost use Rattle.sfc_control.specs.Books.{SameBook, IsTailOf, accepted, entries, opening_of, plant, published, table};
 ghost use Rattle.sfc_control.specs.Tails.{taken, coming};
+ghost use Rattle.sfc_control.specs.Waiting.{lag};
 
 use crate::book::Book;
 use crate::tail::Tail;
@@ -45,3 +51,9 @@ pub fn epoch()
     past_answers();
     next_past();
 }
+
+/// A scan that is called later than a run instant by the lag happens at that run instant, as long as the resource runs.
+pub fn waiting()
+    ensures { (clock : RunClock) (task : TaskId) (t : ℤ) → clock.mode ≡ Running →
+        run_instant clock (Scan task) (t +ℤ lag clock) ≡ t }
+{}
