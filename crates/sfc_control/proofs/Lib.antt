@@ -25,6 +25,8 @@ pub mod Manned
 pub mod Overlapping
 -- the run clock after the entries of a book
 pub mod Lags
+-- a refusal by NotDue holds until the instant that it tells
+mod Waits
 -- which values may go to another thread
 pub mod Crosses
 -- What the crates above name through this one.
