@@ -15,7 +15,7 @@ use Rattle.sfc_events.specs.History.{History, last_instant}
 use Rattle.sfc_debug.specs.sfc_core.Due.{singles_of, calls_at}
 use Rattle.sfc_debug.specs.sfc_core.Releases.{IsMultipleUntil, IsUnserved, single_after}
 use Rattle.sfc_debug.specs.sfc_core.Verdict as core
-use Rattle.sfc_debug.specs.sfc_core.Verdict.{or_then, refused_if, is_out_of_range, instant_refusal, task_refusal, turn_refusal}
+use Rattle.sfc_debug.specs.sfc_core.Verdict.{or_then, refused_if, first_refusal, is_out_of_range, instant_refusal, task_refusal, turn_refusal}
 use Rattle.sfc_debug.proofs.of_sfc_core.Releasing.{waits_until_now}
 use Rattle.sfc_debug.proofs.of_sfc_core.Turns.{picked_first, waits_not, idle_refused}
 use Rattle.sfc_debug.proofs.of_sfc_tasks.MultipleLemmas.{next_found}
@@ -80,7 +80,7 @@ shown_next false o next e = e
 
 module _ (plant : PlantData) (h : History) (task : TaskId) (t next : ℤ) (refused : core.verdict plant h (Scan task) t ≡ Err (NotDue (Some next))) where
   instant_granted : instant_refusal (last_instant h) t ≡ None
-  unfolding core.first_refusal
+  unfolding first_refusal
   instant_granted =
       core_passed (instant_refusal (last_instant h) t) _ (core.answer plant h (Scan task) t) (NotDue (Some next))
       (other_then (refused_if (is_out_of_range t) InstantRange) (refused_if (int_lt t (last_instant h)) ClockBack) (NotDue (Some next))
@@ -89,7 +89,7 @@ module _ (plant : PlantData) (h : History) (task : TaskId) (t next : ℤ) (refus
       refused
 
   task_granted : task_refusal plant task ≡ None
-  unfolding core.first_refusal
+  unfolding first_refusal
   task_granted =
       let rest = subst (λ (o : Option Refusal). core.verdict_by (or_then o (or_then (task_refusal plant task) (turn_refusal plant.tasks (singles_of plant h) (calls_at plant h t) (Scan task) t))) (core.answer plant h (Scan task) t) ≡ Err (NotDue (Some next))) instant_granted refused in
       core_passed (task_refusal plant task) _ (core.answer plant h (Scan task) t) (NotDue (Some next))
@@ -172,17 +172,17 @@ runs mode.Stopped n task none scans = absurd cc
 runs mode.Ended n task none scans = absurd cc
 
 module _ (plant : PlantData) (table : List BreakCondition) (h : CommandHistory) (task : TaskId) where
-  clock : RunClock
+  abbrev clock : RunClock
   clock = (state_of plant table h).clock
 
   module _ (raw next : ℤ) (refused : verdict plant table h (commands.Scan task) raw ≡ Err (NotDue (Some next))) where
-    why : Refusal
+    abbrev why : Refusal
     why = NotDue (Some next)
 
     parts : (or_then (end_refusal clock.mode (length h)) (clock_refusal clock (commands.Scan task) raw) ≡ None)
         × (answer_by (hits plant table (commands.Scan task) (run_instant clock (commands.Scan task) raw) (state_of plant table h).points (state_of plant table h).events)
         (core.verdict plant (state_of plant table h).events (Scan task) (run_instant clock (commands.Scan task) raw)) ≡ Err why)
-    unfolding verdict clock why
+    unfolding verdict
     parts =
         passed _ _ why
         (other_then _ _ why
@@ -201,7 +201,7 @@ module _ (plant : PlantData) (table : List BreakCondition) (h : CommandHistory) 
 
     pub refused_until : (later : ℤ) (answer : Answer) → raw ≤ℤ later → later <ℤ next +ℤ lag clock →
         verdict plant table h (commands.Scan task) later ≡ Ok answer → ⊥
-    unfolding verdict clock why
+    unfolding verdict
     refused_until later answer after before ok =
         let t = run_instant clock (commands.Scan task) raw in
         let u = run_instant clock (commands.Scan task) later in
