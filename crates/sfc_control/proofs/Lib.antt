@@ -25,7 +25,7 @@ pub mod Manned
 pub mod Overlapping
 -- the run clock after the entries of a book
 pub mod Lags
--- a refusal by NotDue holds until the instant that it tells
+-- a refusal by NotDue holds until the release that it tells
 mod Waits
 -- which values may go to another thread
 pub mod Crosses

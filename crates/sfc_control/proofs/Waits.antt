@@ -1,5 +1,5 @@
--- A refusal by NotDue holds until the instant that it tells.
-use Rattle.std.proofs.Common.{◌≡◌, ◌⊎◌, inl, inr, ℕ, ◌<◌, Bool, true, false, not, List, [], ◌∷◌, ℤ, ◌≤ℤ◌, ◌<ℤ◌, refl, sym, ◌∙◌, ap, subst, cond, length, arith, Option, Some, None, Result, Ok, Err, Contains, nat_lt, int_lt}
+-- A refusal by NotDue holds until the release that it tells.
+use Rattle.std.proofs.Common.{◌≡◌, ◌⊎◌, inl, inr, ℕ, ◌<◌, ◌^◌, ◌||◌, pos, Bool, true, false, not, List, [], ◌∷◌, ℤ, ◌≤ℤ◌, ◌<ℤ◌, refl, sym, ◌∙◌, ap, subst, cond, length, arith, Option, Some, None, Result, Ok, Err, Contains, nat_lt, int_lt}
 use Rattle.std.proofs.lemmas.Bool.Decides.{nat_tests}
 use Rattle.std.proofs.lemmas.Int.{ints, by_lt_z}
 use Rattle.std.specs.Prelude.{◌+ℤ◌, ◌-ℤ◌}
@@ -18,7 +18,7 @@ use Rattle.sfc_debug.specs.sfc_core.Verdict as core
 use Rattle.sfc_debug.specs.sfc_core.Verdict.{or_then, refused_if, first_refusal, is_out_of_range, instant_refusal, task_refusal, turn_refusal}
 use Rattle.sfc_debug.proofs.of_sfc_core.Releasing.{waits_until_now}
 use Rattle.sfc_debug.proofs.of_sfc_core.Turns.{picked_first, waits_not, idle_refused}
-use Rattle.sfc_debug.proofs.of_sfc_tasks.MultipleLemmas.{next_found}
+use Rattle.sfc_debug.proofs.of_sfc_tasks.MultipleLemmas.{next_found, none_next}
 use Rattle.sfc_debug.proofs.of_sfc_tasks.Waited.{none_contained}
 use Rattle.sfc_debug.specs.sfc_tasks.Meaning.{IsMultipleBetween, IsNext}
 use Rattle.sfc_debug.specs.sfc_tasks.Multiples.{next_multiple, next_release}
@@ -78,22 +78,52 @@ shown_next : (single : Bool) (o : Option ℤ) (next : ℤ) → cond single None 
 shown_next true o next e = absurd cc
 shown_next false o next e = e
 
-module _ (plant : PlantData) (h : History) (task : TaskId) (t next : ℤ) (refused : core.verdict plant h (Scan task) t ≡ Err (NotDue (Some next))) where
+unrefused : (b : Bool) (refusal : Refusal) → refused_if b refusal ≡ None → b ≡ false
+unrefused true refusal e = absurd cc
+unrefused false refusal e = refl
+
+neither : (a b : Bool) → (a || b) ≡ false → b ≡ false
+neither true b e = absurd cc
+neither false b e = e
+
+core_none : (a rest : Option Refusal) (says outcome : Outcome) → core.verdict_by (or_then a rest) says ≡ Ok outcome → a ≡ None
+core_none None rest says outcome e = refl
+core_none (Some r) rest says outcome e = absurd cc
+
+-- a scan that is accepted is at an instant that is in range
+in_range : (plant : PlantData) (h : History) (task : TaskId) (t : ℤ) (outcome : Outcome) → core.verdict plant h (Scan task) t ≡ Ok outcome →
+    t ≤ℤ pos (2 ^ 62)
+unfolding first_refusal
+in_range plant h task t outcome ok =
+    let granted : instant_refusal (last_instant h) t ≡ None = core_none (instant_refusal (last_instant h) t) _ (core.answer plant h (Scan task) t) outcome ok in
+    let inside : is_out_of_range t ≡ false =
+    unrefused (is_out_of_range t) InstantRange (first_none (refused_if (is_out_of_range t) InstantRange) (refused_if (int_lt t (last_instant h)) ClockBack) granted) in
+    let high : int_lt (pos (2 ^ 62)) t ≡ false = neither (int_lt t (pos 0)) (int_lt (pos (2 ^ 62)) t) inside in
+    omega (arith, ints, high)
+
+module _ (plant : PlantData) (h : History) (task : TaskId) (t : ℤ) (next : Option ℤ) (refused : core.verdict plant h (Scan task) t ≡ Err (NotDue next)) where
+  abbrev interval : ℤ
+  interval = interval_of plant.tasks task.0
+
   instant_granted : instant_refusal (last_instant h) t ≡ None
   unfolding first_refusal
   instant_granted =
-      core_passed (instant_refusal (last_instant h) t) _ (core.answer plant h (Scan task) t) (NotDue (Some next))
-      (other_then (refused_if (is_out_of_range t) InstantRange) (refused_if (int_lt t (last_instant h)) ClockBack) (NotDue (Some next))
-      (other_if (is_out_of_range t) InstantRange (NotDue (Some next)) (λ f. cc))
-      (other_if (int_lt t (last_instant h)) ClockBack (NotDue (Some next)) (λ f. cc)))
+      core_passed (instant_refusal (last_instant h) t) _ (core.answer plant h (Scan task) t) (NotDue next)
+      (other_then (refused_if (is_out_of_range t) InstantRange) (refused_if (int_lt t (last_instant h)) ClockBack) (NotDue next)
+      (other_if (is_out_of_range t) InstantRange (NotDue next) (λ f. cc))
+      (other_if (int_lt t (last_instant h)) ClockBack (NotDue next) (λ f. cc)))
       refused
 
   task_granted : task_refusal plant task ≡ None
   unfolding first_refusal
   task_granted =
-      let rest = subst (λ (o : Option Refusal). core.verdict_by (or_then o (or_then (task_refusal plant task) (turn_refusal plant.tasks (singles_of plant h) (calls_at plant h t) (Scan task) t))) (core.answer plant h (Scan task) t) ≡ Err (NotDue (Some next))) instant_granted refused in
-      core_passed (task_refusal plant task) _ (core.answer plant h (Scan task) t) (NotDue (Some next))
-      (other_if (not (nat_lt task.0 (length plant.tasks))) UnknownTask (NotDue (Some next)) (λ f. cc)) rest
+      let rest = subst
+      (λ (o : Option Refusal). core.verdict_by
+      (or_then o (or_then (task_refusal plant task) (turn_refusal plant.tasks (singles_of plant h) (calls_at plant h t) (Scan task) t)))
+      (core.answer plant h (Scan task) t) ≡ Err (NotDue next))
+      instant_granted refused in
+      core_passed (task_refusal plant task) _ (core.answer plant h (Scan task) t) (NotDue next)
+      (other_if (not (nat_lt task.0 (length plant.tasks))) UnknownTask (NotDue next) (λ f. cc)) rest
 
   known : task.0 < length plant.tasks
   known =
@@ -101,43 +131,64 @@ module _ (plant : PlantData) (h : History) (task : TaskId) (t next : ℤ) (refus
       grind (arith, nat_tests, is)
 
   idle : waits_since plant.tasks (calls_at plant h t) task.0 ≡ None
-  idle = waits_not plant h task t (Some next) refused
+  idle = waits_not plant h task t next refused
 
-  next_is : IsNext (interval_of plant.tasks task.0) t next
-  next_is =
-      let interval = interval_of plant.tasks task.0 in
-      let shown = next_release interval (single_after plant h task.0) t in
+  shown : next_release interval (single_after plant h task.0) t ≡ next
+  shown =
       let e = sym refused ∙ idle_refused plant h task t instant_granted known idle in
-      let same : shown ≡ Some next = cc in
-      next_found interval t next (shown_next (single_after plant h task.0) (next_multiple interval t) next same)
+      cc
 
-  none_waits : (u : ℤ) → Contains (waiting (interval_of plant.tasks task.0) task.0 (calls_at plant h t)) u → ⊥
-  none_waits u c = none_contained u (subst (λ (us : List ℤ). Contains us u) (none_is (waiting (interval_of plant.tasks task.0) task.0 (calls_at plant h t)) idle) c)
+  none_waits : (u : ℤ) → Contains (waiting interval task.0 (calls_at plant h t)) u → ⊥
+  none_waits u c = none_contained u (subst (λ (us : List ℤ). Contains us u) (none_is (waiting interval task.0 (calls_at plant h t)) idle) c)
 
-  module _ (later : ℤ) (after : t ≤ℤ later) (before : later <ℤ next) where
-    -- a multiple until later is one until t, since the next one comes behind
-    no_multiple : (u : ℤ) → IsMultipleUntil plant h task.0 later u → ⊥
-    no_multiple u m =
+  -- what waits later is a multiple behind t
+  released_later : (later u : ℤ) → Contains (waiting interval task.0 (calls_at plant h later)) u →
+      ((m : IsMultipleUntil plant h task.0 later u) → t <ℤ u → ⊥) → ⊥
+  released_later later u c no = elim ((waits_until_now plant task.0 h later u).0 c) [
+    | inl old ↦ none_waits u ((waits_until_now plant task.0 h t u).1 (inl old))
+    | inr m ↦
         let b = m.multiple in
-        by_lt_z t u
-        (λ high.
-        let least = next_is.least b.number (subst (λ (x : ℤ). t <ℤ x) b.is_multiple high) in
-        let low : next ≤ℤ u = subst (λ (x : ℤ). next ≤ℤ x) (sym b.is_multiple) least in
-        absurd (omega (arith, ints, low, b.until, before)))
+        by_lt_z t u (λ high. no m high)
         (λ low.
         none_waits u ((waits_until_now plant task.0 h t u).1
         (inr (record { off = m.off; multiple = record { number = b.number; is_multiple = b.is_multiple; positive = b.positive; after = b.after; until = low } }))))
+  ]
 
-    no_release : (u : ℤ) → Contains (waiting (interval_of plant.tasks task.0) task.0 (calls_at plant h later)) u → ⊥
-    no_release u c = elim ((waits_until_now plant task.0 h later u).0 c) [
-      | inl old ↦ none_waits u ((waits_until_now plant task.0 h t u).1 (inl old))
-      | inr new ↦ no_multiple u new
-    ]
+  accepted_later : (later : ℤ) (outcome : Outcome) → core.verdict plant h (Scan task) later ≡ Ok outcome →
+      ((u : ℤ) (m : IsMultipleUntil plant h task.0 later u) → t <ℤ u → ⊥) → ⊥
+  accepted_later later outcome ok no =
+      let picked = picked_first plant h task later outcome ok in
+      released_later later picked.since (first_is (waiting interval task.0 (calls_at plant h later)) picked.since picked.waits) (λ m high. no picked.since m high)
 
-    pub not_before : (outcome : Outcome) → core.verdict plant h (Scan task) later ≡ Ok outcome → ⊥
-    not_before outcome ok =
-        let picked = picked_first plant h task later outcome ok in
-        no_release picked.since (first_is (waiting (interval_of plant.tasks task.0) task.0 (calls_at plant h later)) picked.since picked.waits)
+-- no scan is accepted before the release that is told
+not_before : (plant : PlantData) (h : History) (task : TaskId) (t next later : ℤ) (outcome : Outcome) →
+    core.verdict plant h (Scan task) t ≡ Err (NotDue (Some next)) → later <ℤ next → core.verdict plant h (Scan task) later ≡ Ok outcome → ⊥
+not_before plant h task t next later outcome refused before ok =
+    let interval = interval_of plant.tasks task.0 in
+    let is : IsNext interval t next =
+    next_found interval t next (shown_next (single_after plant h task.0) (next_multiple interval t) next (shown plant h task t (Some next) refused)) in
+    accepted_later plant h task t (Some next) refused later outcome ok
+    (λ u m high.
+    let b = m.multiple in
+    let least = is.least b.number (subst (λ (x : ℤ). t <ℤ x) b.is_multiple high) in
+    let low : next ≤ℤ u = subst (λ (x : ℤ). next ≤ℤ x) (sym b.is_multiple) least in
+    let until : u ≤ℤ later = b.until in
+    omega (arith, ints, low, until, before))
+
+-- none at all where none is told
+never : (plant : PlantData) (h : History) (task : TaskId) (t later : ℤ) (outcome : Outcome) →
+    core.verdict plant h (Scan task) t ≡ Err (NotDue None) → core.verdict plant h (Scan task) later ≡ Ok outcome → ⊥
+never plant h task t later outcome refused ok =
+    let interval = interval_of plant.tasks task.0 in
+    let high : later ≤ℤ pos (2 ^ 62) = in_range plant h task later outcome ok in
+    accepted_later plant h task t None refused later outcome ok
+    (λ u m behind.
+    let b = m.multiple in
+    let none : next_multiple interval t ≡ None = subst (λ (s : Bool). cond s None (next_multiple interval t) ≡ None) m.off (shown plant h task t None refused) in
+    let over = none_next interval t b.number b.positive none (subst (λ (x : ℤ). t <ℤ x) b.is_multiple behind) in
+    let above : pos (2 ^ 62) <ℤ u = subst (λ (x : ℤ). pos (2 ^ 62) <ℤ x) (sym b.is_multiple) over in
+    let until : u ≤ℤ later = b.until in
+    omega (arith, ints, above, until, high))
 
 -- ---- commands
 
@@ -175,13 +226,16 @@ module _ (plant : PlantData) (table : List BreakCondition) (h : CommandHistory) 
   abbrev clock : RunClock
   clock = (state_of plant table h).clock
 
-  module _ (raw next : ℤ) (refused : verdict plant table h (commands.Scan task) raw ≡ Err (NotDue (Some next))) where
+  module _ (raw : ℤ) (next : Option ℤ) (refused : verdict plant table h (commands.Scan task) raw ≡ Err (NotDue next)) where
     abbrev why : Refusal
-    why = NotDue (Some next)
+    why = NotDue next
+
+    abbrev t : ℤ
+    t = run_instant clock (commands.Scan task) raw
 
     parts : (or_then (end_refusal clock.mode (length h)) (clock_refusal clock (commands.Scan task) raw) ≡ None)
-        × (answer_by (hits plant table (commands.Scan task) (run_instant clock (commands.Scan task) raw) (state_of plant table h).points (state_of plant table h).events)
-        (core.verdict plant (state_of plant table h).events (Scan task) (run_instant clock (commands.Scan task) raw)) ≡ Err why)
+        × (answer_by (hits plant table (commands.Scan task) t (state_of plant table h).points (state_of plant table h).events)
+        (core.verdict plant (state_of plant table h).events (Scan task) t) ≡ Err why)
     unfolding verdict
     parts =
         passed _ _ why
@@ -189,7 +243,7 @@ module _ (plant : PlantData) (table : List BreakCondition) (h : CommandHistory) 
         (other_then _ _ why (other_if _ Ended why (λ f. cc)) (other_if _ HistoryFull why (λ f. cc)))
         (other_then _ _ why
         (other_then _ _ why (other_if _ InstantRange why (λ f. cc)) (other_if _ ClockBack why (λ f. cc)))
-        (other_then _ _ why (other_mode clock.mode task (Some next)) (other_if _ InstantRange why (λ f. cc)))))
+        (other_then _ _ why (other_mode clock.mode task next) (other_if _ InstantRange why (λ f. cc)))))
         refused
 
     running : clock.mode ≡ mode.Running
@@ -199,15 +253,27 @@ module _ (plant : PlantData) (table : List BreakCondition) (h : CommandHistory) 
         let modes = first_none (mode_refusal clock.mode (commands.Scan task)) _ (second_none (instant_refusal clock.raw raw) _ clocks) in
         runs clock.mode (length h) task ends modes
 
-    pub refused_until : (later : ℤ) (answer : Answer) → raw ≤ℤ later → later <ℤ next +ℤ lag clock →
-        verdict plant table h (commands.Scan task) later ≡ Ok answer → ⊥
-    unfolding verdict
-    refused_until later answer after before ok =
-        let t = run_instant clock (commands.Scan task) raw in
-        let u = run_instant clock (commands.Scan task) later in
-        let t_is = run_is clock task raw running in
-        let u_is = run_is clock task later running in
-        let hit = hits plant table (commands.Scan task) u (state_of plant table h).points (state_of plant table h).events in
-        let out = event_granted hit (core.verdict plant (state_of plant table h).events (Scan task) u) answer (granted _ _ answer ok) in
-        let undue = event_refused _ (core.verdict plant (state_of plant table h).events (Scan task) t) why parts.1 in
-        not_before plant (state_of plant table h).events task t next undue u (omega (arith, ints, t_is, u_is, after)) (omega (arith, ints, u_is, before)) out.0 out.1
+    undue : core.verdict plant (state_of plant table h).events (Scan task) t ≡ Err why
+    undue = event_refused _ (core.verdict plant (state_of plant table h).events (Scan task) t) why parts.1
+
+  -- an accepted scan is accepted by the resource
+  told : (later : ℤ) (answer : Answer) → verdict plant table h (commands.Scan task) later ≡ Ok answer →
+      (out : Outcome) × (core.verdict plant (state_of plant table h).events (Scan task) (run_instant clock (commands.Scan task) later) ≡ Ok out)
+  unfolding verdict
+  told later answer ok = event_granted _ _ answer (granted _ _ answer ok)
+
+  pub refused_until : (raw next later : ℤ) (answer : Answer) → verdict plant table h (commands.Scan task) raw ≡ Err (NotDue (Some next)) →
+      later <ℤ next +ℤ lag clock → verdict plant table h (commands.Scan task) later ≡ Ok answer → ⊥
+  refused_until raw next later answer refused before ok =
+      let u = run_instant clock (commands.Scan task) later in
+      let u_is = run_is clock task later (running raw (Some next) refused) in
+      let out = told later answer ok in
+      not_before plant (state_of plant table h).events task (run_instant clock (commands.Scan task) raw) next u out.0 (undue raw (Some next) refused)
+      (omega (arith, ints, u_is, before)) out.1
+
+  pub refused_always : (raw later : ℤ) (answer : Answer) → verdict plant table h (commands.Scan task) raw ≡ Err (NotDue None) →
+      verdict plant table h (commands.Scan task) later ≡ Ok answer → ⊥
+  refused_always raw later answer refused ok =
+      let out = told later answer ok in
+      never plant (state_of plant table h).events task (run_instant clock (commands.Scan task) raw) (run_instant clock (commands.Scan task) later) out.0
+      (undue raw None refused) out.1

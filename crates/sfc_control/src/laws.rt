@@ -1,6 +1,6 @@
 //! What holds of a book and its tail in one hand, of what an epoch drops, and of how long a worker may wait.
 
-ghost use Rattle.std.specs.Prelude.{◌≡◌, ◌++◌, ◌+ℤ◌, ◌≤ℤ◌, ◌<ℤ◌, ℤ, List, Some, Ok, Err};
+ghost use Rattle.std.specs.Prelude.{◌≡◌, ◌++◌, ◌+ℤ◌, ◌<ℤ◌, ℤ, List, Some, None, Ok, Err};
 ghost use mathlib.Core.List.{IsPrefix};
 ghost use Rattle.sfc_base.specs.declared.ids.TaskId.{TaskId};
 ghost use Rattle.sfc_plant.specs.Plants.{PlantData};
@@ -57,13 +57,17 @@ pub fn epoch()
     next_past();
 }
 
-/// A scan that is called later than a run instant by the lag happens at that run instant, as long as the resource runs. Before the release
-/// that a refusal by NotDue tells, none of the task is accepted, as long as no other command is: so long a worker may wait.
+/// A scan that is called later than a run instant by the lag happens at that run instant, as long as the resource runs. As long as no other
+/// command is accepted, a refusal of a scan by NotDue holds until the release that it tells, and where it tells none, at all instants. So
+/// long a worker may wait.
 pub fn waiting()
     ensures instant { (clock : RunClock) (task : TaskId) (t : ℤ) → clock.mode ≡ Running →
         run_instant clock (Scan task) (t +ℤ lag clock) ≡ t }
-    ensures refused { (plant : PlantData) (table : List BreakCondition) (es : List Entry) (task : TaskId) (raw next later : ℤ)
-        (answer : Answer) → verdict plant table (commands_of es) (Scan task) raw ≡ Err (NotDue (Some next)) → raw ≤ℤ later →
+    ensures until { (plant : PlantData) (table : List BreakCondition) (es : List Entry) (task : TaskId) (raw next later : ℤ)
+        (answer : Answer) → verdict plant table (commands_of es) (Scan task) raw ≡ Err (NotDue (Some next)) →
         later <ℤ next +ℤ lag (clock_of plant table es) →
+        verdict plant table (commands_of es) (Scan task) later ≡ Ok answer → ⊥ }
+    ensures always { (plant : PlantData) (table : List BreakCondition) (es : List Entry) (task : TaskId) (raw later : ℤ)
+        (answer : Answer) → verdict plant table (commands_of es) (Scan task) raw ≡ Err (NotDue None) →
         verdict plant table (commands_of es) (Scan task) later ≡ Ok answer → ⊥ }
 {}
