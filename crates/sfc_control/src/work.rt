@@ -144,7 +144,7 @@ pub fn worker<L: OpenedWith, R: Wait, G: Gate, C: Clock>(
             Ok(receipt) => {
                 receipts.push_reserved(receipt);
                 let_go(&mut receipts, before, seat.first);
-                last = Turn::Done(receipt.index);
+                last = Turn::Done(receipt);
             }
             Err(error) => match turn_of(error, lag) {
                 Ok(turn) => last = turn,

@@ -33,5 +33,5 @@ turn_of lag AuditMismatch = Err Audit
 -- for how many receipts more there is room before the next turn: 65,536 before the first, and 4,096 where the task waits
 abbrev pub room_before : Turn → ℕ
 room_before First = 65536
-room_before (Done index) = 0
+room_before (Done receipt) = 0
 room_before _ = 4096
