@@ -1,5 +1,5 @@
 -- The run clock after the entries of a book.
-use Rattle.std.proofs.Common.{◌≡◌, ℕ, ◌+◌, ◌-◌, ◌<◌, ◌≤◌, List, [], ◌∷◌, ◌++◌, ℤ, pos, refl, sym, ◌∙◌, ap, subst, drop, take, length, suc, arith, rules, Option, Some, None, Result, Ok, Err}
+use Rattle.std.proofs.Common.{◌≡◌, ℕ, ◌+◌, ◌-◌, ◌<◌, ◌≤◌, List, [], ◌∷◌, ◌++◌, ◌^◌, ℤ, pos, w64, SFits, refl, sym, ◌∙◌, ap, subst, drop, take, length, suc, arith, rules, Option, Some, None, Result, Ok, Err}
 use Rattle.std.proofs.Math.Logic.{∥∥₁_elim}
 use Rattle.std.proofs.Props.{props}
 use Rattle.std.proofs.lemmas.Int.{ints}
@@ -137,6 +137,19 @@ module _ (debugger : Debugger) (es : List Entry) (agrees : ∥ Agrees debugger (
 
   pub instant_is : debugger.clock.instant ≡ (clock_of (plant_of debugger) (table_of debugger) es).instant
   instant_is = instant_of debugger.clock.instant (λ h a. instant_kept debugger h a)
+
+-- a raw instant less a run instant is a number of 64 bits
+fits_between : (x y : ℤ) → pos 0 ≤ℤ x → x ≤ℤ pos (2 ^ 62) → pos 0 ≤ℤ y → y ≤ℤ pos (2 ^ 62) → SFits w64 (x -ℤ y)
+fits_between x y x_low x_high y_low y_high = search rules
+
+module _ (debugger : Debugger) (es : List Entry) (agrees : ∥ Agrees debugger (commands_of es) ∥₁) (raw t : ℤ)
+    (raw_at : raw ≡ (clock_of (plant_of debugger) (table_of debugger) es).raw) (t_at : t ≡ (clock_of (plant_of debugger) (table_of debugger) es).instant) where
+  pub lag_fits : SFits w64 (raw -ℤ t)
+  lag_fits =
+      let same_raw : debugger.clock.raw ≡ raw = raw_is debugger es agrees ∙ sym raw_at in
+      let same_t : debugger.clock.instant ≡ t = instant_is debugger es agrees ∙ sym t_at in
+      fits_between raw t (subst (λ (x : ℤ). pos 0 ≤ℤ x) same_raw debugger.raw_low) (subst (λ (x : ℤ). x ≤ℤ pos (2 ^ 62)) same_raw debugger.raw_high)
+      (subst (λ (x : ℤ). pos 0 ≤ℤ x) same_t debugger.instant_low) (subst (λ (x : ℤ). x ≤ℤ pos (2 ^ 62)) same_t debugger.instant_high)
 
 -- ---- a call
 

@@ -263,7 +263,7 @@ module _ (plant : PlantData) (table : List BreakCondition) (h : CommandHistory) 
   told later answer ok = event_granted _ _ answer (granted _ _ answer ok)
 
   pub refused_until : (raw next later : ℤ) (answer : Answer) → verdict plant table h (commands.Scan task) raw ≡ Err (NotDue (Some next)) →
-      later <ℤ next +ℤ lag clock → verdict plant table h (commands.Scan task) later ≡ Ok answer → ⊥
+      later <ℤ (next +ℤ lag clock) → verdict plant table h (commands.Scan task) later ≡ Ok answer → ⊥
   refused_until raw next later answer refused before ok =
       let u = run_instant clock (commands.Scan task) later in
       let u_is = run_is clock task later (running raw (Some next) refused) in

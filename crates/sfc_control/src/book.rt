@@ -3,7 +3,7 @@
 ghost use Rattle.std.specs.Prelude.{◌≡◌, ◌-◌, All, take};
 ghost use Rattle.std.proofs.Props.{props};
 ghost use Rattle.rtrb.specs.Ring.{sent};
-ghost use Rattle.sfc_debug.specs.sfc_core.Agreement as core;
+ghost use Rattle.sfc_debug.specs.sfc_core.Agreement.{Agrees as ResourceAgrees, plant_of as plant_of_resource};
 ghost use Rattle.sfc_debug.specs.Agreement.{Agrees, plant_of, table_of, mask_of};
 ghost use Rattle.sfc_debug.specs.Openings.{IsOpeningFor, past_of};
 ghost use Rattle.sfc_debug.specs.Past.{debug_past};
@@ -168,8 +168,8 @@ impl Book {
 
     // The resource behind the latest entry.
     pub(crate) fn resource(&self) -> &Resource
-        ensures plant { core.plant_of result.now ≡ plant self.now }
-        ensures agrees { ∥ core.Agrees result.now (erasure (plant self.now) (table self.now) (commands_of (accepted self.now))) ∥₁ }
+        ensures plant { plant_of_resource result.now ≡ plant self.now }
+        ensures agrees { ∥ ResourceAgrees result.now (erasure (plant self.now) (table self.now) (commands_of (accepted self.now))) ∥₁ }
     {
         self.debugger.resource()
     }

@@ -65,7 +65,7 @@ pub fn waiting()
         run_instant clock (Scan task) (t +ℤ lag clock) ≡ t }
     ensures until { (plant : PlantData) (table : List BreakCondition) (es : List Entry) (task : TaskId) (raw next later : ℤ)
         (answer : Answer) → verdict plant table (commands_of es) (Scan task) raw ≡ Err (NotDue (Some next)) →
-        later <ℤ next +ℤ lag (clock_of plant table es) →
+        later <ℤ (next +ℤ lag (clock_of plant table es)) →
         verdict plant table (commands_of es) (Scan task) later ≡ Ok answer → ⊥ }
     ensures always { (plant : PlantData) (table : List BreakCondition) (es : List Entry) (task : TaskId) (raw later : ℤ)
         (answer : Answer) → verdict plant table (commands_of es) (Scan task) raw ≡ Err (NotDue None) →
