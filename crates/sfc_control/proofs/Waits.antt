@@ -68,7 +68,7 @@ core_passed (Some r) rest says why other e = let same : r ≡ why = cc in absurd
 
 first_is : (us : List ℤ) (u : ℤ) → first_of us ≡ Some u → Contains us u
 first_is [] u e = absurd cc
-first_is (x ∷ us) u e = let same : x ≡ u = cc in (0, (omega arith, same))
+first_is (x ∷ us) u e = let same : x ≡ u = cc in (0, omega arith, same)
 
 none_is : (us : List ℤ) → first_of us ≡ None → us ≡ []
 none_is [] e = refl
@@ -144,11 +144,11 @@ module _ (plant : PlantData) (h : History) (task : TaskId) (t : ℤ) (next : Opt
   -- what waits later is a multiple behind t
   released_later : (later u : ℤ) → Contains (waiting interval task.0 (calls_at plant h later)) u →
       ((m : IsMultipleUntil plant h task.0 later u) → t <ℤ u → ⊥) → ⊥
-  released_later later u c no = elim ((waits_until_now plant task.0 h later u).0 c) [
+  released_later later u c behind = elim ((waits_until_now plant task.0 h later u).0 c) [
     | inl old ↦ none_waits u ((waits_until_now plant task.0 h t u).1 (inl old))
     | inr m ↦
         let b = m.multiple in
-        by_lt_z t u (λ high. no m high)
+        by_lt_z t u (λ high. behind m high)
         (λ low.
         none_waits u ((waits_until_now plant task.0 h t u).1
         (inr (record { off = m.off; multiple = record { number = b.number; is_multiple = b.is_multiple; positive = b.positive; after = b.after; until = low } }))))
@@ -156,9 +156,9 @@ module _ (plant : PlantData) (h : History) (task : TaskId) (t : ℤ) (next : Opt
 
   accepted_later : (later : ℤ) (outcome : Outcome) → core.verdict plant h (Scan task) later ≡ Ok outcome →
       ((u : ℤ) (m : IsMultipleUntil plant h task.0 later u) → t <ℤ u → ⊥) → ⊥
-  accepted_later later outcome ok no =
+  accepted_later later outcome ok behind =
       let picked = picked_first plant h task later outcome ok in
-      released_later later picked.since (first_is (waiting interval task.0 (calls_at plant h later)) picked.since picked.waits) (λ m high. no picked.since m high)
+      released_later later picked.since (first_is (waiting interval task.0 (calls_at plant h later)) picked.since picked.waits) (λ m high. behind picked.since m high)
 
 -- no scan is accepted before the release that is told
 not_before : (plant : PlantData) (h : History) (task : TaskId) (t next later : ℤ) (outcome : Outcome) →
@@ -182,10 +182,10 @@ never plant h task t later outcome refused ok =
     let interval = interval_of plant.tasks task.0 in
     let high : later ≤ℤ pos (2 ^ 62) = in_range plant h task later outcome ok in
     accepted_later plant h task t None refused later outcome ok
-    (λ u m behind.
+    (λ u m high_u.
     let b = m.multiple in
     let none : next_multiple interval t ≡ None = subst (λ (s : Bool). cond s None (next_multiple interval t) ≡ None) m.off (shown plant h task t None refused) in
-    let over = none_next interval t b.number b.positive none (subst (λ (x : ℤ). t <ℤ x) b.is_multiple behind) in
+    let over = none_next interval t b.number b.positive none (subst (λ (x : ℤ). t <ℤ x) b.is_multiple high_u) in
     let above : pos (2 ^ 62) <ℤ u = subst (λ (x : ℤ). pos (2 ^ 62) <ℤ x) (sym b.is_multiple) over in
     let until : u ≤ℤ later = b.until in
     omega (arith, ints, above, until, high))
