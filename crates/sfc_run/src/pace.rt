@@ -1,7 +1,5 @@
 //! The gate of a worker that scans as long as it may.
 
-ghost use Rattle.std.specs.Prelude.{◌≡◌};
-
 use crate::real_time::RealTime;
 use sfc_base::ids::TaskId;
 use sfc_control::bells::Bells;
