@@ -2,7 +2,7 @@
 
 ghost use Rattle.std.specs.Prelude.{◌≡◌};
 ghost use Rattle.std.specs.Time.{instant_nanos};
-ghost use Rattle.std.specs.Time.{as_nanos};
+ghost use Rattle.std.specs.Duration.{as_nanos};
 ghost use Rattle.sfc_run.specs.RealTime.{micros_between, nanos_of, nanos_until};
 
 use sfc_control::clock::Clock;
