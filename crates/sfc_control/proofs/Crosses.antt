@@ -8,6 +8,7 @@ use Rattle.rtrb.proofs.producer.Producer.TheSendSync as producer
 use Rattle.sfc_events.proofs.command.TraceRow.TheSendSync as row
 use Rattle.sfc_debug.proofs.Crosses.{debugger_send}
 use Rattle.sfc_debug.proofs.opening.DebugOpening.TheSendSync as opening
+use Rattle.sfc_control.proofs.bells.Bells.TheSendSync as bells
 use Rattle.sfc_control.proofs.history.History.TheSendSync as history
 use Rattle.sfc_control.specs.declared.opened_with.OpenedWith.{Ghosts}
 use Rattle.sfc_control.specs.contracts.book.Book as Book
@@ -21,4 +22,4 @@ pub locked_send : (L : RattleType) (g : Ghosts L.Denot) (l : ledger_words.Ghosts
 locked_send L g l = search (sendable, book_send, ledger.the_send)
 
 pub controller_sync : (L : RattleType) (g : Ghosts L.Denot) (l : ledger_words.Ghosts L.Denot) → IsSync (Controller.the_field L g l).row
-controller_sync L g l = search (sendable, crosses, locked_send) depth 12
+controller_sync L g l = search (sendable, crosses, locked_send, bells.the_field_sync) depth 12

@@ -81,7 +81,7 @@ receives_same number task before after other first later kept now was same at is
 }
 
 -- the first entry that is held after an accepted command is no later than the command's own
-first_within : (command : Command) (first index : ℕ) → first ≤ index → first_after command first index ≤ index
+pub first_within : (command : Command) (first index : ℕ) → first ≤ index → first_after command first index ≤ index
 first_within commands.Epoch first index low = omega arith
 first_within (commands.Scan task) first index low = low
 first_within (commands.Single task delta) first index low = low

@@ -23,6 +23,10 @@ pub mod Kept
 pub mod Manned
 -- the entries that are held, after every list with the opening's past
 pub mod Overlapping
+-- the run clock after the entries of a book
+pub mod Lags
+-- a refusal by NotDue holds until the release that it tells
+mod Waits
 -- which values may go to another thread
 pub mod Crosses
 -- What the crates above name through this one.

@@ -20,7 +20,7 @@ told-append h (e ∷ es) =
     append_cons [] x ys = refl
     append_cons (y ∷ xs) x ys = ap (λ zs. y ∷ zs) (append_cons xs x ys)
 
-told-parts : (h : CommandHistory) (xs ys : List Entry) → told h (xs ++ ys) ≡ told (told h xs) ys
+pub told-parts : (h : CommandHistory) (xs ys : List Entry) → told h (xs ++ ys) ≡ told (told h xs) ys
 told-parts h [] ys = refl
 told-parts h (x ∷ xs) ys = told-parts (timed x ∷ h) xs ys
 

@@ -4,3 +4,5 @@
 pub mod Saving
 -- what is equal in one way at most
 pub mod Sets
+-- what a refusal means to a worker
+pub mod Turns

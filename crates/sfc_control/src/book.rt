@@ -3,6 +3,7 @@
 ghost use Rattle.std.specs.Prelude.{◌≡◌, ◌-◌, All, take};
 ghost use Rattle.std.proofs.Props.{props};
 ghost use Rattle.rtrb.specs.Ring.{sent};
+ghost use Rattle.sfc_debug.specs.sfc_core.Agreement.{Agrees as ResourceAgrees, plant_of as plant_of_resource};
 ghost use Rattle.sfc_debug.specs.Agreement.{Agrees, plant_of, table_of, mask_of};
 ghost use Rattle.sfc_debug.specs.Openings.{IsOpeningFor, past_of};
 ghost use Rattle.sfc_debug.specs.Past.{debug_past};
@@ -16,6 +17,7 @@ use crate::entry::Entry;
 use crate::feed::publish;
 use crate::history::History;
 use crate::receipt::Receipt;
+use crate::sfc_core::resource::Resource;
 use crate::tail::{Rising, Tail};
 use crate::telling::tell;
 use rtrb::{Producer, RingBuffer};
@@ -50,10 +52,11 @@ impl Book {
     ghost use Rattle.std.specs.Prelude.{[], ◌∷◌, ◌++◌, ◌+◌, ◌<◌, ◌≤◌, length, IfOk, OnOk, OnErr, IsTrue, ◌↔◌};
     ghost use Rattle.rtrb.specs.Ring.{SameProducer};
     ghost use Rattle.sfc_base.specs.Ticks.{Within};
-    ghost use Rattle.sfc_debug.specs.States.{state_of};
+    ghost use Rattle.sfc_debug.specs.States.{state_of, erasure};
     ghost use Rattle.sfc_debug.specs.Tracing.{row_of};
     ghost use Rattle.sfc_debug.specs.Work.{command_work};
     ghost use Rattle.sfc_control.specs.Answering.{answered, bar};
+    ghost use Rattle.sfc_control.specs.Waiting.{lag, clock_of};
     ghost use Rattle.sfc_control.specs.Holding.{held_after, first_after, calls_in};
     ghost use Rattle.sfc_control.specs.Receipts.{entry_of, Stands, IsReceiptOf};
     ghost use Rattle.sfc_control.specs.Publishing.{Publishes};
@@ -150,6 +153,25 @@ impl Book {
         ensures { result ≡ calls_in (accepted self.now) seat }
     {
         self.history.calls(seat)
+    }
+
+    /// By how many microseconds run instants are below raw ones, from the latest entry on, as long as the resource runs: what was spent in
+    /// halts, less what single scans let pass. So a release at the run instant t comes at the raw instant t + lag.
+    pub fn lag(&self) -> i64
+        ensures { result ≡ lag (clock_of (plant self.now) (table self.now) (accepted self.now)) }
+    {
+        match self.history.entries().last() {
+            Some(entry) => entry.raw - self.debugger.run_instant(),
+            None => 0,
+        }
+    }
+
+    // The resource behind the latest entry.
+    pub(crate) fn resource(&self) -> &Resource
+        ensures plant { plant_of_resource result.now ≡ plant self.now }
+        ensures agrees { ∥ ResourceAgrees result.now (erasure (plant self.now) (table self.now) (commands_of (accepted self.now))) ∥₁ }
+    {
+        self.debugger.resource()
     }
 
     // Why the command isn't looked at.

@@ -101,7 +101,7 @@ impl<L: OpenedWith> Controller<L> {
         ensures sum_ok { IfOk result (λ book. length (accepted book) ≡ all_calls seats.items) }
         ensures sum_err { IfErr result (λ wrong. length (accepted wrong.book) ≡ all_calls seats.items) }
     {
-        let Controller { locked } = self;
+        let Controller { locked, bells: _ } = self;
         let Locked { book, mut total } = locked.into_inner();
         let fallen = first_fallen(&book, &receipts);
         let miscounted = first_miscounted(&book, &seats);

@@ -6,6 +6,7 @@ ghost use Rattle.sfc_control.specs.Books as books;
 ghost use Rattle.sfc_control.specs.Seats.{AreFresh};
 ghost use Rattle.sfc_control.specs.Tails.{taken, capacity};
 
+use crate::bells::Bells;
 use crate::book::Book;
 use crate::given::Given;
 use crate::locked::Locked;
@@ -21,6 +22,7 @@ use std::sync::{Mutex, ledger};
 #[derive(Drop)]
 pub struct Controller<L: OpenedWith> {
     pub(crate) locked: Mutex<Locked<L>>,
+    pub(crate) bells: Bells,
 }
 
 // The book under a ledger that has counted nothing.
@@ -84,13 +86,20 @@ impl<L: OpenedWith> Controller<L> {
         ensures taken { IfOk result (λ made. taken made.2 ≡ []) }
         ensures capacity { IfOk result (λ made. capacity made.2 ≡ feed_capacity) }
     {
+        let bells = Bells::new(alloc, debugger.resource().plant().tasks(), debugger.mask())?;
         let (mut book, tail) = Book::new(alloc, debugger, feed_capacity)?;
         book.reserve_events(max_events)?;
         let (total, all) = blank.open::<L>();
         let seats = seats_of(alloc, all, seats)?;
         let controller = Controller {
             locked: Mutex::new(locked(book, total)),
+            bells,
         };
         Ok((controller, seats, tail))
+    }
+
+    /// What wakes those who wait for the book: a bell for each task, and one for who takes rows of its feed.
+    pub fn bells(&self) -> &Bells {
+        &self.bells
     }
 }

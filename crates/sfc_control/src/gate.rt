@@ -2,6 +2,7 @@
 
 ghost use Rattle.std.specs.Prelude.{◌≡◌, Bool, not};
 
+use crate::receipt::Receipt;
 use sfc_base::ids::TaskId;
 
 /// What a worker's latest turn came to.
@@ -9,9 +10,10 @@ use sfc_base::ids::TaskId;
 pub enum Turn {
     /// There was none yet.
     First,
-    /// The scan was accepted; its entry has this index.
-    Done(u64),
-    /// No release of the task waits. The next one by its interval is at this instant, if there is one.
+    /// The scan was accepted, with this receipt.
+    Done(Receipt),
+    /// No release of the task waits. The next one by its interval is at this instant, by the clock that calls go by, if there is one and as
+    /// long as the debugger doesn't halt the resource.
     Waits(Option<i64>),
     /// This other task goes first.
     Yielded(TaskId),
@@ -19,7 +21,7 @@ pub enum Turn {
     Halted,
 }
 
-/// What a worker asks before each scan. It may wait.
+/// What a worker asks before each scan. It may wait: what wakes it before its time is a bell of the controller.
 pub trait Gate {
     /// Whether the latest turn was refused.
     ghost is_shut: { Self → Bool };

@@ -1,17 +1,28 @@
-//! What holds of a book and its tail in one hand, and of what an epoch drops.
+//! What holds of a book and its tail in one hand, of what an epoch drops, and of how long a worker may wait.
 
-ghost use Rattle.std.specs.Prelude.{◌≡◌, ◌++◌, ℤ};
+ghost use Rattle.std.specs.Prelude.{◌≡◌, ◌++◌, ◌+ℤ◌, ◌<ℤ◌, ℤ, List, Some, None, Ok, Err};
 ghost use mathlib.Core.List.{IsPrefix};
+ghost use Rattle.sfc_base.specs.declared.ids.TaskId.{TaskId};
+ghost use Rattle.sfc_plant.specs.Plants.{PlantData};
 ghost use Rattle.sfc_plant.specs.Sound.{IsPlant};
+ghost use Rattle.sfc_events.specs.declared.command.Answer.{Answer};
 ghost use Rattle.sfc_events.specs.declared.command.Command.{Command};
+ghost use Rattle.sfc_events.specs.declared.command.Command.TheVariants.{Scan};
+ghost use Rattle.sfc_events.specs.declared.refusal.Refusal.TheVariants.{NotDue};
+ghost use Rattle.sfc_debug.specs.declared.break_condition.BreakCondition.{BreakCondition};
+ghost use Rattle.sfc_debug.specs.declared.mode.Mode.TheVariants.{Running};
+ghost use Rattle.sfc_debug.specs.declared.run_clock.RunClock.{RunClock};
 ghost use Rattle.sfc_debug.specs.Histories.{CommandHistory};
 ghost use Rattle.sfc_debug.specs.Openings.{past_of};
 ghost use Rattle.sfc_debug.specs.Past.{debug_past};
+ghost use Rattle.sfc_debug.specs.RunClock.{run_instant};
 ghost use Rattle.sfc_debug.specs.Verdict.{verdict};
 ghost use Rattle.sfc_control.specs.declared.book.Book.{Book};
+ghost use Rattle.sfc_control.specs.declared.entry.Entry.{Entry};
 ghost use Rattle.sfc_control.specs.LegalHistory.{IsLegalAfter, commands_of, told};
 ghost use Rattle.sfc_control.specs.Books.{SameBook, IsTailOf, accepted, entries, opening_of, plant, published, table};
 ghost use Rattle.sfc_control.specs.Tails.{taken, coming};
+ghost use Rattle.sfc_control.specs.Waiting.{lag, clock_of};
 
 use crate::book::Book;
 use crate::tail::Tail;
@@ -45,3 +56,18 @@ pub fn epoch()
     past_answers();
     next_past();
 }
+
+/// A scan that is called later than a run instant by the lag happens at that run instant, as long as the resource runs. As long as no other
+/// command is accepted, a refusal of a scan by NotDue holds until the release that it tells, and where it tells none, at all instants. So
+/// long a worker may wait.
+pub fn waiting()
+    ensures instant { (clock : RunClock) (task : TaskId) (t : ℤ) → clock.mode ≡ Running →
+        run_instant clock (Scan task) (t +ℤ lag clock) ≡ t }
+    ensures until { (plant : PlantData) (table : List BreakCondition) (es : List Entry) (task : TaskId) (raw next later : ℤ)
+        (answer : Answer) → verdict plant table (commands_of es) (Scan task) raw ≡ Err (NotDue (Some next)) →
+        later <ℤ (next +ℤ lag (clock_of plant table es)) →
+        verdict plant table (commands_of es) (Scan task) later ≡ Ok answer → ⊥ }
+    ensures always { (plant : PlantData) (table : List BreakCondition) (es : List Entry) (task : TaskId) (raw later : ℤ)
+        (answer : Answer) → verdict plant table (commands_of es) (Scan task) raw ≡ Err (NotDue None) →
+        verdict plant table (commands_of es) (Scan task) later ≡ Ok answer → ⊥ }
+{}

@@ -1,6 +1,7 @@
 //! A debugger that threads share: one history of all that was accepted, a receipt for each caller, and an audit at the end.
 //!
 //! - `accepted`, `history`, `seat_counts`: the entries that are held, and what is known of all.
+//! - `bells`: what wakes the threads that share a book.
 //! - `book`: a debugger with its history and its feed.
 //! - `call_error`: why a call is refused.
 //! - `clock`: where the instants of calls come from.
@@ -11,7 +12,7 @@
 //! - `feed`, `tail`: where accepted commands are published, and the end that takes rows.
 //! - `gate`: what lets a worker go on.
 //! - `given`: the accepted calls of a seat, which proofs alone read.
-//! - `laws`: what holds of a book and its tail in one hand, and of what an epoch drops.
+//! - `laws`: what holds of a book and its tail in one hand, of what an epoch drops, and of how long a worker may wait.
 //! - `locked`: what lies under the lock.
 //! - `post`: where a worker sits.
 //! - `seat`: a place at a controller.
@@ -21,6 +22,7 @@
 #![tactic(auto)]
 
 mod accepted;
+pub mod bells;
 pub mod book;
 pub mod call_error;
 pub mod clock;

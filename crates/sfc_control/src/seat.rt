@@ -47,6 +47,7 @@ impl<L: OpenedWith> Seat<L> {
     ghost use Rattle.sfc_control.specs.Lock.{book_of, total_of};
     ghost use Rattle.sfc_control.specs.Seats.{number, calls, given, last_receipt, first_held};
     ghost use Rattle.sfc_control.specs.Seats.{KeptStands, called, Puts, IsCalled, BothStand};
+    ghost use Rattle.sfc_control.specs.Waiting.{lag_after};
 
     // Whether the last receipt, if there is one, stands in the book.
     fn last_stands(&self, book: &Book) -> bool
@@ -125,8 +126,38 @@ impl<L: OpenedWith> Seat<L> {
         ensures legal { IfOk result (λ receipt. BothStand L.plant L.table (last_receipt self.old) receipt) }
         ensures seat { OnErr result (self.new ≡ self.old) }
     {
+        let mut lag = 0;
+        self.call_seen(rt, controller, command, clock, &mut lag)
+    }
+
+    /// The same, and by how many microseconds run instants are below raw ones behind it, as `Book::lag` says, under the same lock: a
+    /// worker that is refused by NotDue may wait until its next release, which is at the raw instant that is so much later. Then the
+    /// bells are rung that the call concerns.
+    pub fn call_seen<R: Wait, C: Clock>(
+        &mut self,
+        rt: &R,
+        controller: &Controller<L>,
+        command: Command,
+        clock: &mut C,
+        lag: &mut i64,
+    ) -> Result<Receipt, CallError>
+        ensures entered { (raw : ℤ) × (es : List Entry) × C.reads clock.old raw clock.new
+            × IsCalled L.plant L.table L.limit es command raw self.old self.new result
+            × (lag.new ≡ lag_after L.plant L.table es result) }
+        ensures receipt { IfOk result (λ receipt. (receipt.seat ≡ number self.old) × (receipt.command ≡ command)) }
+        ensures number { number self.new ≡ number self.old }
+        ensures calls { OnOk result (calls self.new ≡ calls self.old + 1) }
+        ensures last { IfOk result (λ receipt. last_receipt self.new ≡ Some receipt) }
+        ensures legal { IfOk result (λ receipt. BothStand L.plant L.table (last_receipt self.old) receipt) }
+        ensures seat { OnErr result (self.new ≡ self.old) }
+    {
         let mut locked = controller.locked.lock(rt);
         let raw = clock.now();
-        self.enter(&mut locked, command, raw)
+        let answer = self.enter(&mut locked, command, raw);
+        *lag = locked.book.lag();
+        controller.bells.mark(&locked.book, command, &answer);
+        drop(locked);
+        controller.bells.ring();
+        answer
     }
 }

@@ -1,8 +1,9 @@
 //! A worker, which scans one task.
 
-ghost use Rattle.std.specs.Prelude.{◌≡◌, ◌≤◌, ◌↔◌, nat_le, All, Err, true};
+ghost use Rattle.std.specs.Prelude.{◌≡◌, ◌≤◌, ◌+◌, ◌↔◌, nat_le, All, Err, OnOk, true, length, vec_capacity};
 ghost use Rattle.sfc_control.specs.Working.{Receives, held_from};
 ghost use Rattle.sfc_control.specs.Seats.{number, given, first_held};
+ghost use Rattle.sfc_control.specs.Private.Turns as turns;
 
 use crate::call_error::CallError;
 use crate::clock::Clock;
@@ -14,9 +15,15 @@ use crate::seat::Seat;
 use sfc_base::ids::TaskId;
 use sfc_events::command::Command;
 use sfc_events::refusal::Refusal;
-use std::alloc::Global;
+use std::alloc::{AllocError, Global};
 use std::sync::Wait;
 use std::sync::ledger::Ledger;
+
+/// For how many receipts there is room before the first scan.
+const FIRST: usize = 65_536;
+
+/// For how many more there is room where a task waits.
+const SPARE: usize = 4_096;
 
 /// Why a worker ended.
 #[derive(Clone, Copy, Debug, PartialEq, Eq)]
@@ -46,12 +53,16 @@ pub struct WorkerEnd<L: Ledger> {
     pub why: Why,
 }
 
-// What a refusal means to a worker: another turn, or why it ends.
-fn turn_of(error: CallError) -> Result<Turn, Why>
-    ensures { result ≡ Err Why.Closed → ⊥ }
+// What a refusal means to a worker, where run instants are below raw ones by the lag: another turn, or why it ends.
+fn turn_of(error: CallError, lag: i64) -> Result<Turn, Why>
+    ensures turn { result ≡ turns.turn_of lag error }
+    ensures open { result ≡ Err Why.Closed → ⊥ }
 {
     match error {
-        CallError::Refused(Refusal::NotDue(next)) => Ok(Turn::Waits(next)),
+        CallError::Refused(Refusal::NotDue(None)) => Ok(Turn::Waits(None)),
+        CallError::Refused(Refusal::NotDue(Some(next))) => {
+            Ok(Turn::Waits(Some(next.saturating_add(lag))))
+        }
         CallError::Refused(Refusal::Yield(task)) => Ok(Turn::Yielded(task)),
         CallError::Refused(Refusal::Stopped) => Ok(Turn::Halted),
         CallError::Refused(Refusal::Ended) => Err(Why::Ended),
@@ -60,6 +71,19 @@ fn turn_of(error: CallError) -> Result<Turn, Why>
         CallError::Refused(Refusal::InstantRange) => Err(Why::Clock),
         CallError::Refused(_) => Err(Why::Audit),
         CallError::AuditMismatch => Err(Why::Audit),
+    }
+}
+
+// Makes room for receipts before a turn: for many before the first, and for many more where the task waits. Behind a scan, which may be
+// followed at once by the next, it takes none.
+fn make_room(receipts: &mut Vec<Receipt>, last: Turn) -> Result<(), AllocError>
+    ensures items { receipts.new.items ≡ receipts.old.items }
+    ensures room { OnOk result (length receipts.old.items + turns.room_before last ≤ vec_capacity receipts.new) }
+{
+    match last {
+        Turn::First => receipts.reserve(FIRST),
+        Turn::Done(_) => Ok(()),
+        Turn::Waits(_) | Turn::Yielded(_) | Turn::Halted => receipts.reserve(SPARE),
     }
 }
 
@@ -74,9 +98,13 @@ fn let_go(receipts: &mut Vec<Receipt>, before: u64, first: u64)
     }
 }
 
-/// Scans the task each time that the gate answers true, until it answers false or a scan can't be answered. In each round the gate
-/// is asked, then room for the receipt is made, then comes the call. Receipts whose entries an epoch has dropped are let go at the next
+/// Scans the task each time that the gate answers true, until it answers false or a scan can't be answered. In each round room for
+/// receipts is made, then the gate is asked, then comes the call. Receipts whose entries an epoch has dropped are let go at the next
 /// accepted scan, so that the memory is bounded by what is held. The task is one of the plant.
+///
+/// There is room for 65,536 receipts before the first scan, and for 4,096 more whenever the gate is told that the task has to wait: so
+/// between a release and its scan memory is taken only where 4,096 scans followed one another without a wait. Where it is refused and no
+/// receipt more has room, the worker ends.
 pub fn worker<L: OpenedWith, R: Wait, G: Gate, C: Clock>(
     rt: &R,
     alloc: Global,
@@ -93,8 +121,10 @@ pub fn worker<L: OpenedWith, R: Wait, G: Gate, C: Clock>(
     let mut seat = seat;
     let mut receipts = Vec::new(alloc);
     let mut last = Turn::First;
+    let mut lag = 0;
     let command = Command::Scan(task);
     'turns: for _ in rt.forever() {
+        let _ = make_room(&mut receipts, last);
         if !gate.turn(last) {
             return WorkerEnd {
                 seat,
@@ -110,13 +140,13 @@ pub fn worker<L: OpenedWith, R: Wait, G: Gate, C: Clock>(
             };
         }
         let before = seat.first;
-        match seat.call(rt, controller, command, clock) {
+        match seat.call_seen(rt, controller, command, clock, &mut lag) {
             Ok(receipt) => {
                 receipts.push_reserved(receipt);
                 let_go(&mut receipts, before, seat.first);
-                last = Turn::Done(receipt.index);
+                last = Turn::Done(receipt);
             }
-            Err(error) => match turn_of(error) {
+            Err(error) => match turn_of(error, lag) {
                 Ok(turn) => last = turn,
                 Err(why) => {
                     return WorkerEnd {

@@ -3,8 +3,9 @@
 //!
 //! - `audit`: the close of a controller, and its line.
 //! - `console`: a seat whose commands a session says, with the receipts of those that were accepted.
+//! - `pace`: the gate of a worker that scans as long as it may.
 //! - `printing`: the lines of the feed.
-//! - `real_time`: the clock of a run, and the gate of its workers.
+//! - `real_time`: the clock of a run.
 //! - `run`: a chart from its bytes to the audit; `run_opening`: what it is opened with; `run_threads`: its threads.
 //! - `run_faults`: what went wrong in a run, with its exit status.
 //! - `session`: lines that are obeyed as they come.
@@ -12,6 +13,7 @@
 
 pub mod audit;
 pub mod console;
+pub mod pace;
 pub mod printing;
 pub mod real_time;
 pub mod run;

@@ -7,16 +7,16 @@ ghost use Rattle.sfc_control.specs.sfc_debug.Steered.{steered_by};
 ghost use Rattle.sfc_run.specs.Printing.{Gathers, Prints, Reaches};
 ghost use Rattle.sfc_run.specs.declared.printing.PrintFault.TheVariants.{Write as WriteVariant, Memory};
 
+use crate::pace::LONG;
 use crate::sfc_debug::debugger::Debugger;
 use crate::sfc_output::command::append_row;
 use sfc_base::write_fault::{WriteFault, put_all};
+use sfc_control::bells::Bells;
 use sfc_control::tail::Tail;
 use std::alloc::{AllocError, Global};
 use std::io::Write;
 use std::sync::Wait;
-use std::sync::atomic::{AtomicBool, Ordering};
 use std::time::Duration;
-use std::{thread, time};
 
 /// How many rows are written at a time, at most.
 const ROWS: usize = 256;
@@ -88,16 +88,16 @@ fn print_some<W: Write>(
 }
 
 /// Takes rows as they come and writes the line of each: its number, and the line of its command. It ends once it is told that no more rows
-/// come, and none is left. It sleeps a millisecond where none has come.
+/// come, and none is left. Where none has come it waits until its bell is rung.
 ///
 /// `Write` is answered where the writer failed or took no byte, `Memory` where memory was refused; then a front of the lines was
 /// written, and no more rows are taken.
-pub fn print_rows<R: Wait + time::Clock, W: Write>(
+pub fn print_rows<R: Wait, W: Write>(
     rt: &R,
     alloc: Global,
     names: &Debugger,
     printing: &mut Printing<W>,
-    over: &AtomicBool,
+    bells: &Bells,
 ) -> Result<(), PrintFault>
     ensures lines { Prints (steered_by names.now) printing.old.tail printing.new.tail
         (W.contents printing.old.w) (W.contents printing.new.w) result }
@@ -105,13 +105,13 @@ pub fn print_rows<R: Wait + time::Clock, W: Write>(
     ensures rest { OnOk result (coming printing.new.tail ≡ []) }
 {
     'rounds: for _ in rt.forever() {
-        let is_over = over.load(Ordering::SeqCst);
+        let is_over = bells.are_rows_ended();
         let some = print_some(alloc, names, printing)?;
         if !some {
             if is_over {
                 return Ok(());
             }
-            thread::sleep(rt, Duration::from_millis(1));
+            bells.wait_for_rows(rt, Duration::from_millis(LONG));
         }
     }
     unreachable!()

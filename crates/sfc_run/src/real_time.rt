@@ -1,13 +1,13 @@
-//! The clock of a run, and the gate of its workers.
+//! The clock of a run.
 
 ghost use Rattle.std.specs.Prelude.{◌≡◌};
 ghost use Rattle.std.specs.Time.{instant_nanos};
-ghost use Rattle.sfc_run.specs.RealTime.{micros_between};
+ghost use Rattle.std.specs.Duration.{as_nanos};
+ghost use Rattle.sfc_run.specs.RealTime.{micros_between, nanos_of, nanos_until};
 
 use sfc_control::clock::Clock;
-use sfc_control::gate::{Gate, Turn};
+use std::time;
 use std::time::{Duration, Instant};
-use std::{thread, time};
 
 /// A clock that counts microseconds from its start, by the runtime's monotonic clock. Where that can't be read, the reading is 2^63 - 1,
 /// past each instant that a command may have.
@@ -29,12 +29,43 @@ fn micros_from(start: Instant, now: Instant) -> i64
     }
 }
 
+// A time in nanoseconds, at most 2^63 - 1.
+fn nanos_of(time: Duration) -> i64
+    ensures { result ≡ nanos_of (as_nanos time) }
+{
+    let nanos = time.as_nanos();
+    if nanos < i64::MAX as u128 {
+        nanos as i64
+    } else {
+        i64::MAX
+    }
+}
+
+// The nanoseconds from one reading up to another; below 0 where that has passed.
+fn nanos_until(now: Instant, then: Instant) -> i64
+    ensures { result ≡ nanos_until (instant_nanos now) (instant_nanos then) }
+{
+    nanos_of(then.duration_since(now)) - nanos_of(now.duration_since(then))
+}
+
 impl<'a, R: time::Clock> RealTime<'a, R> {
     /// A clock that starts now.
     pub fn start(rt: &'a R) -> RealTime<'a, R> {
         RealTime {
             rt,
             start: Instant::now(rt).ok(),
+        }
+    }
+
+    /// How many nanoseconds it is up to a reading in microseconds; below 0 where that has passed, and 0 where the clock can't be read.
+    pub fn left_until(&self, raw: i64) -> i64 {
+        let micros = Duration::from_micros(raw.max(0).unsigned_abs());
+        match (self.start, Instant::now(self.rt)) {
+            (Some(start), Ok(now)) => match start.checked_add(micros) {
+                Some(then) => nanos_until(now, then),
+                None => i64::MAX,
+            },
+            _ => 0,
         }
     }
 
@@ -57,39 +88,5 @@ impl<'a, R: time::Clock> Clock for RealTime<'a, R> {
             (Some(start), Ok(now)) => micros_from(start, now),
             _ => i64::MAX,
         }
-    }
-}
-
-/// The gate of a worker that scans as long as it may. It sleeps a millisecond where the task isn't due, goes behind another, or the
-/// resource is halted.
-#[derive(Drop)]
-pub struct Pace<'a, R: time::Clock> {
-    rt: &'a R,
-}
-
-impl<'a, R: time::Clock> Pace<'a, R> {
-    /// A gate by the runtime's clock.
-    pub fn new(rt: &'a R) -> Pace<'a, R> {
-        Pace { rt }
-    }
-}
-
-impl<'a, R: time::Clock> Gate for Pace<'a, R> {
-    ghost use Rattle.std.specs.Prelude.{false};
-
-    ghost is_shut = { λ _. false };
-
-    fn turn(&mut self, last: Turn) -> bool {
-        match last {
-            Turn::First | Turn::Done(_) => {}
-            Turn::Waits(_) | Turn::Yielded(_) | Turn::Halted => {
-                thread::sleep(self.rt, Duration::from_millis(1));
-            }
-        }
-        true
-    }
-
-    fn shut(&self) -> bool {
-        false
     }
 }

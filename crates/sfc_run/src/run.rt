@@ -128,7 +128,7 @@ fn run_with<
         unreachable!()
     };
     let clock = RealTime::start(rt);
-    let posts = posts_of(rt, alloc, seats, &clock)?;
+    let posts = posts_of(rt, alloc, seats, &clock, controller.bells())?;
     let mut console = Console::new(alloc, seat, clock);
     let printing = Printing { tail, w };
     let left = {

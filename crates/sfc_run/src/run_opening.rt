@@ -5,10 +5,12 @@ ghost use Rattle.sfc_control.specs.sfc_debug.Agreement.{Agrees, table_of, mask_o
 ghost use Rattle.sfc_run.specs.Posting.{ArePostsOf};
 ghost use Rattle.sfc_run.specs.Running.{Opens, OpensFrom};
 
-use crate::real_time::{Pace, RealTime};
+use crate::pace::Pace;
+use crate::real_time::RealTime;
 use crate::sfc_debug::debugger::Debugger;
 use crate::sfc_debug::trace_mask::TraceMask;
 use sfc_base::ids::TaskId;
+use sfc_control::bells::Bells;
 use sfc_control::post::Post;
 use sfc_control::seat::Seat;
 use sfc_replay::input::read_to_end;
@@ -16,6 +18,7 @@ use sfc_replay::opening::debugger_of_text;
 use sfc_replay::replay_error::ReplayError;
 use std::alloc::{AllocError, Global};
 use std::io::Read;
+use std::sync::Wait;
 use std::sync::ledger::Ledger;
 use std::time;
 
@@ -59,11 +62,12 @@ pub fn open_run<C: Read>(
 
 /// A post for each seat: the task of the same number, which is scanned as often as it may be, by the clock. The one error is that memory
 /// was refused, and then the seats are given up.
-pub fn posts_of<'a, L: Ledger, R: time::Clock>(
+pub fn posts_of<'a, L: Ledger, R: Wait + time::Clock>(
     rt: &'a R,
     alloc: Global,
     seats: Vec<Seat<L>>,
     clock: &RealTime<'a, R>,
+    bells: &'a Bells,
 ) -> Result<Vec<Post<L, Pace<'a, R>, RealTime<'a, R>>>, AllocError>
     requires { length seats.items ≤ 24 }
     ensures { IfOk result (λ posts. ArePostsOf seats.items posts.items) }
@@ -71,11 +75,14 @@ pub fn posts_of<'a, L: Ledger, R: time::Clock>(
     let mut posts = Vec::new(alloc);
     let mut number = 0u8;
     'seats: for seat in seats {
+        let task = TaskId(number);
+        let gate = Pace::new(rt, clock.another(), bells, task);
+        let clock = clock.another();
         posts.push(Post {
-            task: TaskId(number),
+            task,
             seat,
-            gate: Pace::new(rt),
-            clock: clock.another(),
+            gate,
+            clock,
         })?;
         number = number.saturating_add(1);
     }

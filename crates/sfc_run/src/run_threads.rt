@@ -4,11 +4,13 @@ ghost use Rattle.std.specs.Prelude.{◌≡◌, IfOk, IfSome, length};
 ghost use Rattle.std.specs.Thread.{IsSync};
 
 use crate::console::Console;
+use crate::pace::Pace;
 use crate::printing::{PrintFault, Printing, print_rows};
-use crate::real_time::{Pace, RealTime};
+use crate::real_time::RealTime;
 use crate::run_faults::RunFaults;
 use crate::session::{Desk, hold};
 use crate::sfc_debug::debugger::Debugger;
+use sfc_control::bells::Bells;
 use sfc_control::crews::crew;
 use sfc_control::opened_with::OpenedWith;
 use sfc_control::post::Post;
@@ -16,7 +18,6 @@ use sfc_control::work::WorkerEnd;
 use std::alloc::{AllocError, Global};
 use std::io::{Read, Write};
 use std::sync::Wait;
-use std::sync::atomic::{AtomicBool, Ordering};
 use std::sync::ledger::Ledger;
 use std::thread::{Promise, Threads};
 use std::{thread, time};
@@ -52,6 +53,7 @@ impl<L: Ledger> Promise<Result<Vec<WorkerEnd<L>>, AllocError>> for EndsOf {
 // Workers in threads of their own, beside the session.
 fn work<
     'a,
+    'p,
     'd,
     L: OpenedWith + Send + Sync,
     R: Threads + Wait + time::Clock + Sync,
@@ -59,7 +61,7 @@ fn work<
     E: Write,
 >(
     desk: &Desk<'d, L, R>,
-    posts: Vec<Post<L, Pace<'a, R>, RealTime<'a, R>>>,
+    posts: Vec<Post<L, Pace<'p, R>, RealTime<'p, R>>>,
     console: &mut Console<L, RealTime<'a, R>>,
     streams: &mut Streams<'_, S, E>,
 ) -> (Option<Vec<WorkerEnd<L>>>, RunFaults)
@@ -89,22 +91,22 @@ fn work<
     )
 }
 
-// What the thread that prints looks at: by whose names it prints, and what tells it that no more rows come.
+// What the thread that prints looks at: by whose names it prints, and what tells it that rows have come, or that no more come.
 #[derive(Drop)]
 struct Board<'b> {
     names: &'b Debugger,
-    over: &'b AtomicBool,
+    bells: &'b Bells,
 }
 
 // What printing comes to.
-fn printed<'b, R: Wait + time::Clock, W: Write>(
+fn printed<'b, R: Wait, W: Write>(
     rt: &R,
     alloc: Global,
     board: Board<'b>,
     printing: Printing<W>,
 ) -> (Printing<W>, RunFaults) {
     let mut printing = printing;
-    let faults = match print_rows(rt, alloc, board.names, &mut printing, board.over) {
+    let faults = match print_rows(rt, alloc, board.names, &mut printing, board.bells) {
         Ok(()) => RunFaults::none(),
         Err(PrintFault::Write) => RunFaults::of_write(),
         Err(PrintFault::Memory) => RunFaults::of_memory(),
@@ -114,24 +116,17 @@ fn printed<'b, R: Wait + time::Clock, W: Write>(
 
 // Prints what the feed has beside a job, until the job is done and no row is left: what the job gave, and what printing came to. `None`
 // where the thread was refused; then the job was let go.
-fn print_beside<
-    R: Threads + Wait + time::Clock + Sync,
-    W: Write + Send + Drop,
-    T,
-    F: FnOnce() -> T + Drop,
->(
+fn print_beside<'b, R: Threads + Wait + Sync, W: Write + Send + Drop, T, F: FnOnce() -> T + Drop>(
     rt: &R,
     alloc: Global,
-    names: &Debugger,
+    board: Board<'b>,
     printing: Printing<W>,
     job: F,
 ) -> Option<(T, Printing<W>, RunFaults)>
     requires { F.pre job }
     ensures { IfSome result (λ done. F.post job done.0) }
 {
-    let flag = AtomicBool::new(false);
-    let over = &flag;
-    let board = Board { names, over };
+    let bells = board.bells;
     thread::scope(
         thread::scope_env(),
         rt,
@@ -144,7 +139,7 @@ fn print_beside<
                 return None;
             };
             let done = job();
-            over.store(true, Ordering::SeqCst);
+            bells.end_rows();
             let (printing, faults) = child.join(rt);
             Some((done, printing, faults))
         },
@@ -154,6 +149,7 @@ fn print_beside<
 /// Holds the session beside the workers, and prints what the feed has meanwhile. All threads have ended then.
 pub fn run_threads<
     'a,
+    'p,
     'd,
     L: OpenedWith + Send + Sync,
     R: Threads + Wait + time::Clock + Sync,
@@ -162,7 +158,7 @@ pub fn run_threads<
     E: Write,
 >(
     desk: &Desk<'d, L, R>,
-    posts: Vec<Post<L, Pace<'a, R>, RealTime<'a, R>>>,
+    posts: Vec<Post<L, Pace<'p, R>, RealTime<'p, R>>>,
     console: &mut Console<L, RealTime<'a, R>>,
     printing: Printing<W>,
     streams: &mut Streams<'_, S, E>,
@@ -173,7 +169,11 @@ pub fn run_threads<
         requires { IsSync R.row }
         ensures { IfSome result.0 (λ ends. length ends.items ≡ length posts.entry.items) }
     { work(desk, posts, console, streams) };
-    match print_beside(desk.rt, desk.alloc, desk.names, printing, job) {
+    let board = Board {
+        names: desk.names,
+        bells: desk.controller.bells(),
+    };
+    match print_beside(desk.rt, desk.alloc, board, printing, job) {
         Some(((ends, faults), printing, print_faults)) => Left {
             ends,
             printing: Some(printing),

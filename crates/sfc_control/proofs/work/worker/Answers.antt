@@ -21,7 +21,7 @@ pub let_go-requires-clause-kept : goal.let_go-requires-clause-kept
 let_go-requires-clause-kept g c =
     let was = c.turns.invariant.received in
     let r = c.in-Ok.receipt in
-    let items = c.push_reserved.ensures.items ∙ ap (λ l. l ++ r ∷ []) c.reserve.ensures.items in
+    let items = c.push_reserved.ensures.items ∙ ap (λ l. l ++ r ∷ []) (c.reserve.ensures.items ∙ c.make_room.ensures.items) in
     let below : last_index c.turns.seat.last < r.index = rises_from g.L.OpenedWith.plant g.L.OpenedWith.table c.turns.seat.last r c.in-Ok.ensures.legal in
     let low : c.turns.seat.first ≤ r.index = omega (arith, below, c.turns.seat.met) in
     rw items (kept_and_one c.turns.seat.first (receipts_of was.more) c.turns.receipts.items r was.held low)
@@ -35,11 +35,11 @@ pub turns-preserved-in-Ok : goal.turns-preserved-in-Ok
 turns-preserved-in-Ok g c =
     let was = c.turns.invariant in
     let old = c.turns.seat in
-    let new = c.call.new.self in
+    let new = c.call_seen.new.self in
     let r = c.in-Ok.receipt in
     let called = c.in-Ok.ensures.entered in
     let call : AcceptedCall = record { receipt = r; cut = first_after (Scan c.args.task) (first_in called.1) r.index } in
-    let items = c.push_reserved.ensures.items ∙ ap (λ l. l ++ r ∷ []) c.reserve.ensures.items in
+    let items = c.push_reserved.ensures.items ∙ ap (λ l. l ++ r ∷ []) (c.reserve.ensures.items ∙ c.make_room.ensures.items) in
     let below : last_index (last_of old.given.calls) < r.index =
     subst (λ (last : Option Receipt). last_index last < r.index) old.latest (rises_from g.L.OpenedWith.plant g.L.OpenedWith.table old.last r c.in-Ok.ensures.legal) in
     let rises : old.first ≤ new.first = rw called.3.held (le-max_left old.first call.cut) in
@@ -58,7 +58,7 @@ turns-preserved g c =
     record {
       number = ap (λ s. s.number) same ∙ was.number;
       command = was.command;
-      received = receives_same c.args.seat.number c.args.task c.args.seat.given.calls c.turns.seat.given.calls c.call.new.self.given.calls
-          c.turns.seat.first c.call.new.self.first c.turns.receipts.items c.reserve.new.self.items was.received
-          (ap (λ s. s.given.calls) same) (ap (λ s. s.first) same) c.reserve.ensures.items;
+      received = receives_same c.args.seat.number c.args.task c.args.seat.given.calls c.turns.seat.given.calls c.call_seen.new.self.given.calls
+          c.turns.seat.first c.call_seen.new.self.first c.turns.receipts.items c.reserve.new.self.items was.received
+          (ap (λ s. s.given.calls) same) (ap (λ s. s.first) same) (c.reserve.ensures.items ∙ c.make_room.ensures.items);
     }

@@ -6,7 +6,7 @@ use Rattle.std.specs.Prelude.{min}
 use Rattle.sfc_base.specs.declared.ids.TaskId.{TaskId}
 use Rattle.sfc_control.specs.declared.post.Post.{Post}
 use Rattle.sfc_control.specs.declared.seat.Seat.{Seat}
-use Rattle.sfc_run.specs.declared.real_time.Pace.{Pace}
+use Rattle.sfc_run.specs.declared.pace.Pace.{Pace}
 use Rattle.sfc_run.specs.declared.real_time.RealTime.{RealTime}
 use Rattle.sfc_run.specs.Posting.{ArePostsOf}
 use Rattle.sfc_run.proofs.Posting.{Posts, posts_push, posts_all}
@@ -16,7 +16,7 @@ pub seats-preserved : goal.seats-preserved
 seats-preserved g c =
     let seat = c.in-Some.seat in
     let post : Post g.row.L.Denot (Pace g.row.R.Denot) (RealTime g.row.R.Denot) =
-    record { task = record { 0 = c.seats.number }; seat = seat; gate = c.new.result; clock = c.another.result } in
+    record { task = record { 0 = c.seats.number }; seat = seat; gate = c.new-gate.result; clock = c.another-clock.result } in
     let task : ℕ → TaskId = λ n. record { 0 = n } in
     let own : post.task ≡ task (min (length c.seats.yielded) 255) = ap task c.seats.invariant.number in
     record {

@@ -1,27 +1,6 @@
-use Rattle.std.proofs.Common.{rules, ℕ, List, subst, SFits, w64, to_z-of_z}
-use Rattle.std.specs.Prelude.{IfOk, max}
-use Rattle.sfc_plant.specs.Plants.{PlantData}
-use Rattle.sfc_debug.specs.declared.break_condition.BreakCondition.{BreakCondition}
-use Rattle.sfc_control.specs.Books.{accepted, first, plant}
-use Rattle.sfc_control.specs.LegalHistory.{IsLegal}
-use Rattle.sfc_control.proofs.Kept.{met_by}
 use Rattle.sfc_control.proofs.seat.Seat.call.Goals as goal
 
 pub returns-clause-entered : goal.returns-clause-entered
 returns-clause-entered g c =
-    let fits : SFits w64 c.now-raw.result = search rules in
-    let locked = c.deref_mut.result.now in
-    let book = locked.book in
-    let legal = subst (λ (p : PlantData). IsLegal p g.L.OpenedWith.table (accepted book)) locked.plant
-    (subst (λ (t : List BreakCondition). IsLegal (plant book) t (accepted book)) locked.table book.legal) in (
-      c.now-raw.result,
-      accepted book,
-      c.now-raw.ensures,
-      record {
-        legal = legal;
-        answered = (c.enter.ensures.audit, simp (to_z-of_z, fits) at c.enter.ensures.answer);
-        put = c.enter.ensures.put;
-        held = met_by c.enter.result c.args.command c.args.self.now.first c.enter.new.self.first (first book) (first (c.enter.new.locked.book)) book.cut
-            c.enter.ensures.held c.enter.ensures.first;
-      },
-    )
+    let seen = c.call_seen.ensures.entered in
+    (seen.0, seen.1, seen.2, seen.3)

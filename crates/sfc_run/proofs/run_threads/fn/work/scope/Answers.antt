@@ -2,7 +2,7 @@ use Rattle.std.proofs.Crossing.{crosses, Vec-send}
 use denote.Param.Send.{sendable}
 use Rattle.sfc_control.proofs.Crosses.{controller_sync}
 use Rattle.sfc_control.proofs.post.Post.TheSendSync as post
-use Rattle.sfc_run.proofs.real_time.Pace.TheSendSync as pace
+use Rattle.sfc_run.proofs.pace.Pace.TheSendSync as pace
 use Rattle.sfc_run.proofs.real_time.RealTime.TheSendSync as clock
 use Rattle.sfc_run.proofs.run_threads.fn.work.scope.Goals as goal
 
