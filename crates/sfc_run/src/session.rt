@@ -98,8 +98,8 @@ fn tell_refusal<E: Write>(
     Ok(tell(errors, &text))
 }
 
-// Tells why a call is refused; whether a fault of the writer was passed over. A seat whose last receipt does not stand is found again at the
-// close, and told there.
+// Tells why a call is refused; whether a fault of the writer was passed over. A seat whose last receipt does not stand is found again at
+// the close, and told there.
 fn tell_call<E: Write>(
     alloc: Global,
     names: &Debugger,
@@ -196,8 +196,8 @@ fn obey_lines<'a, L: OpenedWith, R: Wait, C: Clock, E: Write>(
     Ok(())
 }
 
-// Obeys lines as they come, until the reader has no more, has given 1,048,576 bytes, or fails. The error is that it failed, or that memory was
-// refused.
+// Obeys lines as they come, until the reader has no more, has given 1,048,576 bytes, or fails. The error is that it failed, or that memory
+// was refused.
 fn obey_pieces<'a, L: OpenedWith, R: Wait, C: Clock, S: Read, E: Write>(
     desk: &Desk<'a, L, R>,
     console: &mut Console<L, C>,
@@ -306,8 +306,8 @@ fn end<'a, L: OpenedWith, R: Wait, C: Clock, E: Write>(
 }
 
 /// Holds a session: reads lines as they come and obeys each, once and in order, and sends End when they end. What it finds wrong is told on
-/// `errors`: a line that is no command by its number, counted from 1, and a refused command as its refusal; faults of `errors` are passed over,
-/// and answered as `untold`.
+/// `errors`: a line that is no command by its number, counted from 1, and a refused command as its refusal; faults of `errors` are passed
+/// over, and answered as `untold`.
 ///
 /// At most 1,048,576 bytes are taken from the reader, and then the session acts as at the end; so it does where the reader fails, which is
 /// told as `read`, and where memory is refused, which is told as `memory`. A last line without its end is obeyed too.

@@ -9,9 +9,10 @@ abbrev pub invariant-pieces : goal.invariant-pieces
 invariant-pieces g l = record {
   seat : l.console.seat.number ≡ l.initial.console.seat.number;
   few : l.taken ≤ 1048576;
-  walked : (bytes : List ℕ) × (length bytes ≡ l.taken) × Consumes (g.S.Read.remaining l.initial.commands) (g.S.Read.remaining l.commands) bytes
-      × WalksOn (plant_of l.desk.names.now) g.L.OpenedWith.plant g.L.OpenedWith.table g.L.OpenedWith.limit g.C.Clock.reads bytes nothing l.waiting
-      (scene l.initial.console (g.E.Write.contents l.initial.errors)) (scene l.console (g.E.Write.contents l.errors));
+  walked : (bytes : List ℕ) × (length bytes ≡ l.taken)
+      × Consumes (g.S.Read.remaining l.initial.commands) (g.S.Read.remaining l.commands) bytes
+      × WalksOn (plant_of l.desk.names.now) g.L.OpenedWith.plant g.L.OpenedWith.table g.L.OpenedWith.limit g.C.Clock.reads bytes nothing
+      l.waiting (scene l.initial.console (g.E.Write.contents l.initial.errors)) (scene l.console (g.E.Write.contents l.errors));
 }
 
 abbrev pub decreases-pieces : goal.decreases-pieces
