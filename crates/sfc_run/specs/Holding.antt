@@ -66,8 +66,8 @@ scene console errors = record { console = console; errors = errors }
 abbrev pub Stays : {X C : Type 0} → Scene X C → Scene X C → Type 0
 Stays old new = IsKept old.console new.console × (new.errors ≡ old.errors)
 
--- A session reads lines, and tells refusals, by the names of a plant. The book under the lock was opened with a plant, a table of conditions
--- and a limit. The clock goes on as it may.
+-- A session reads lines, and tells refusals, by the names of a plant. The book under the lock was opened with a plant, a table of
+-- conditions and a limit. The clock goes on as it may.
 module _ {X C : Type 0} (names plant : PlantData) (table : List BreakCondition) (limit : ℕ) (reads : C → ℤ → C → Type 0) where
   -- The seat called a command once, after some legal entries, at the instant that the clock read, and keeps its receipt.
   pub record Calls (command : Command) (old new : Console X C) (answer : Result Receipt CallError) : Type 0 where
@@ -77,8 +77,8 @@ module _ {X C : Type 0} (names plant : PlantData) (table : List BreakCondition) 
     pub called : IsCalled plant table limit entries command raw old.seat new.seat answer
     pub kept : Keeps command old new answer
 
-  -- The line of this number was obeyed: where it is skipped nothing happens, where it is no command its number is told, and else its command
-  -- is called, and told why where it is refused. And whether the writer failed at that.
+  -- The line of this number was obeyed: where it is skipped nothing happens, where it is no command its number is told, and else its
+  -- command is called, and told why where it is refused. And whether the writer failed at that.
   abbrev pub Obeys : ℕ → SessionLine → Scene X C → Scene X C → Bool → Type 0
   Obeys number Skipped old new untold = (new ≡ old) × (untold ≡ false)
   Obeys number Faulty old new untold = (new.console ≡ old.console) × Tells untold old.errors new.errors (faulty_text number)
