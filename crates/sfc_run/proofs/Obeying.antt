@@ -1,5 +1,5 @@
 -- Lines that were obeyed one after the other.
-use Rattle.std.proofs.Common.{◌≡◌, ℕ, ◌+◌, Bool, true, false, ◌||◌, List, [], ◌∷◌, ◌++◌, length, ℤ, Option, Result, Ok, Err, refl, sym, ap, subst, ◌∙◌, arith, append_assoc, inl, inr}
+use Rattle.std.proofs.Common.{◌≡◌, ℕ, ◌+◌, Bool, true, false, ◌||◌, List, [], ◌∷◌, ◌++◌, length, ℤ, Option, Result, Ok, Err, refl, sym, ap, subst, ◌∙◌, arith, append_assoc, inr}
 use Rattle.std.specs.declared.alloc.AllocError.{AllocError}
 use Rattle.sfc_plant.specs.Plants.{PlantData}
 use Rattle.sfc_events.specs.declared.command.Command.{Command}
@@ -9,7 +9,7 @@ use Rattle.sfc_control.specs.declared.receipt.Receipt.{Receipt}
 use Rattle.sfc_replay.specs.sfc_script.SessionLines.{session_line}
 use Rattle.sfc_replay.specs.sfc_script.declared.session_line.SessionLine.TheVariants.{Says}
 use Rattle.sfc_run.specs.declared.console.Console.{Console}
-use Rattle.sfc_run.specs.Holding.{Calls, Obeys, ObeysAll, ObeysFor, ObeysFront, Scene, Stays, Stops, StopsAt, error_told, scene}
+use Rattle.sfc_run.specs.Holding.{Calls, Obeys, ObeysAll, ObeysFor, ObeysFront, Scene, Stops, error_told, scene}
 use Rattle.sfc_run.specs.Working.Walking.{ObeysAllOr, ObeysOr, TellsOr}
 
 pub or_false : (b : Bool) → (b || false) ≡ b

@@ -1,9 +1,8 @@
-use Rattle.std.proofs.Common.{◌≡◌, true, false, sym, ap, subst, ◌∙◌}
+use Rattle.std.proofs.Common.{true, false, sym, ap, subst, ◌∙◌}
 use Rattle.sfc_control.specs.sfc_debug.Agreement.{plant_of}
 use Rattle.sfc_run.specs.declared.run_faults.RunFaults.{RunFaults}
 use Rattle.sfc_run.specs.Faults.{both}
 use Rattle.sfc_run.specs.Holding.{ObeysLines, scene}
-use Rattle.sfc_run.specs.Working.Walking.{faults_by}
 use Rattle.sfc_run.proofs.Walking.{last_room, lines_all, pieces_read}
 use Rattle.sfc_run.proofs.session.obey_all.Goals as goal
 

@@ -1,4 +1,4 @@
-use Rattle.std.proofs.Common.{◌≡◌, ◌==◌, ◌+◌, ℕ, false, true, List, length, refl, ap, subst, ◌∙◌, arith}
+use Rattle.std.proofs.Common.{◌≡◌, ◌==◌, ◌+◌, ℕ, false, true, List, length, ap, subst, ◌∙◌, arith}
 use Rattle.sfc_control.specs.sfc_debug.Agreement.{plant_of}
 use Rattle.sfc_replay.specs.sfc_script.Lines.{lines_of}
 use Rattle.sfc_replay.specs.sfc_script.SessionLines.{session_line}

@@ -1,7 +1,6 @@
-use Rattle.std.proofs.Common.{◌≡◌, ◌+◌, ◌-◌, ◌<◌, ◌∷◌, [], ℕ, List, Some, drop, length, length-drop, refl, sym, ap, ◌∙◌, arith}
+use Rattle.std.proofs.Common.{◌≡◌, ◌+◌, ◌-◌, ◌<◌, ℕ, List, drop, length, length-drop, refl, ◌∙◌, arith}
 use Rattle.std.proofs.lemmas.Result.{err_from_is_err_and}
 use Rattle.sfc_control.specs.sfc_debug.Agreement.{plant_of}
-use Rattle.sfc_replay.specs.sfc_script.Arriving.{ended_line}
 use Rattle.sfc_run.specs.Holding.{scene}
 use Rattle.sfc_run.proofs.Walking.{walks_none, walks_one, walks_then}
 use Rattle.sfc_run.proofs.session.obey_lines.Goals as goal
