@@ -1,8 +1,9 @@
 //! Lines as they come from a reader.
 
-ghost use Rattle.std.specs.Prelude.{◌≡◌, ◌++◌, ◌-◌, ◌<◌, ◌≤◌, [], ℕ, List, None, Some, MatchOption, IfOk, IfErr, IfSome, drop, length};
-ghost use Rattle.std.specs.Io.KnownBytes.{Consumes};
+ghost use Rattle.std.specs.Prelude.{◌≡◌, ◌++◌, ◌-◌, ◌<◌, ◌≤◌, [], ℕ, List, None, Some, MatchOption, IfOk, IfErr, IfSome, OnErr, drop, length};
+ghost use Rattle.std.specs.Io.KnownBytes.{Consumes, IsAtEnd};
 ghost use Rattle.sfc_script.specs.Arriving as arriving;
+ghost use Rattle.sfc_replay.specs.Reading.{LosesFor};
 ghost use Rattle.sfc_replay.specs.Working.Faults.{IsInputFault};
 
 use crate::replay_error::ReplayError;
@@ -80,14 +81,17 @@ impl ArrivingLines {
     }
 
     /// Takes a piece from the reader, of at most so many bytes, and 4,096: these wait behind the others. It answers how many they are; none
-    /// at the end of the reader.
+    /// at the end of the reader alone, or where none are wanted.
     ///
-    /// `Read` is answered where the reader failed, `Memory` where memory was refused.
+    /// `Read` is answered where the reader failed, and nothing was taken, `Memory` where memory was refused. What waits is the same then.
     pub fn take<R: Read>(&mut self, reader: &mut R, most: usize) -> Result<usize, ReplayError>
         ensures faults { IfErr result IsInputFault }
         ensures few { IfOk result (λ count. count ≤ most) }
         ensures taken { IfOk result (λ count. (piece : List ℕ) × (length piece ≡ count) × (self.new ≡ self.old ++ piece)
             × Consumes (R.remaining reader.old) (R.remaining reader.new) piece) }
+        ensures ended { IfOk result (λ count. count ≡ 0 → 0 < most → IsAtEnd (R.remaining reader.new)) }
+        ensures kept { OnErr result (self.new ≡ self.old) }
+        ensures lost { IfErr result (λ error. LosesFor error most (R.remaining reader.old, R.remaining reader.new)) }
     {
         self.settle();
         let mut piece = [0u8; PIECE];

@@ -10,3 +10,7 @@ pub mod RowLines
 pub mod Posting
 -- what one worker more leaves
 pub mod Gathering
+-- lines that were obeyed one after the other
+pub mod Obeying
+-- lines that came in pieces
+pub mod Walking

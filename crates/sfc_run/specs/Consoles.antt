@@ -15,14 +15,23 @@ module _ {X C : Type 0} where
       × (new.receipts.items ≡ old.receipts.items ++ receipt ∷ []) × (calls new.seat ≡ calls old.seat + 1)
   Keeps command old new (Err error) = (new.receipts.items ≡ old.receipts.items) × (new.seat ≡ old.seat)
 
-  -- of the call that ends a session the answer is told, and the receipt is kept where there is memory for it
-  abbrev pub Ends : {A : Type 0} → Console X C → Console X C → Result Receipt CallError → Result A CallError → Type 0
-  Ends old new (Ok receipt) (Ok done) =
+  -- the receipt of the call that ends a session is kept where there is memory for it
+  abbrev pub KeepsLast : Console X C → Console X C → Result Receipt CallError → Type 0
+  KeepsLast old new (Ok receipt) =
       (new.receipts.items ≡ old.receipts.items ++ receipt ∷ []) ⊎ (new.receipts.items ≡ old.receipts.items)
-  Ends old new (Err error) (Err told) = (told ≡ error) × (new.receipts.items ≡ old.receipts.items)
+  KeepsLast old new (Err error) = new.receipts.items ≡ old.receipts.items
+
+  -- and its answer is told
+  abbrev pub Ends : {A : Type 0} → Console X C → Console X C → Result Receipt CallError → Result A CallError → Type 0
+  Ends old new (Ok receipt) (Ok done) = KeepsLast old new (Ok receipt)
+  Ends old new (Err error) (Err told) = (told ≡ error) × KeepsLast old new (Err error)
   Ends old new answer result = ⊥
+
+  -- nothing was called
+  abbrev pub IsKept : Console X C → Console X C → Type 0
+  IsKept old new = (new.receipts.items ≡ old.receipts.items) × (new.seat ≡ old.seat) × (new.clock ≡ old.clock)
 
   -- without memory nothing was called
   abbrev pub KeepsOr : {A : Type 0} → Console X C → Console X C → Result A AllocError → Type 0
   KeepsOr old new (Ok answer) = ⊤
-  KeepsOr old new (Err error) = (new.receipts.items ≡ old.receipts.items) × (new.seat ≡ old.seat) × (new.clock ≡ old.clock)
+  KeepsOr old new (Err error) = IsKept old new

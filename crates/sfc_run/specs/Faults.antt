@@ -2,6 +2,16 @@
 use Rattle.std.specs.Prelude.{ℕ, Bool, true, false, ◌||◌, List, [], ◌++◌, codes, if◌then◌else◌}
 use Rattle.sfc_run.specs.declared.run_faults.RunFaults.{RunFaults}
 
+-- what is so of either
+abbrev pub both : RunFaults → RunFaults → RunFaults
+both a b = record {
+  memory = a.memory || b.memory;
+  read = a.read || b.read;
+  write = a.write || b.write;
+  mismatch = a.mismatch || b.mismatch;
+  untold = a.untold || b.untold;
+}
+
 -- of several statuses the first of 4, 3, 1
 abbrev pub status_of : RunFaults → ℕ
 status_of faults =

@@ -10,9 +10,13 @@ pub mod Posting
 pub mod Consoles
 -- what a session tells
 pub mod SessionText
+-- what a session does with the lines that it reads
+pub mod Holding
 -- what is printed of the feed
 pub mod Printing
 -- what the audit at the end finds
 pub mod Auditing
 -- what went wrong in a run
 pub mod Faults
+-- What private clauses cite.
+pub mod Working

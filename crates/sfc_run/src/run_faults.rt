@@ -17,6 +17,8 @@ pub struct RunFaults {
     pub write: bool,
     /// History, receipts and seats don't agree.
     pub mismatch: bool,
+    /// What is wrong with a line of the session couldn't be told. This is passed over: it has no line, and no exit status.
+    pub untold: bool,
 }
 
 // The text where it is so.
@@ -29,78 +31,92 @@ fn append_if(out: &mut Vec<u8>, is_so: bool, text: &[u8]) -> Result<(), AllocErr
 impl RunFaults {
     /// Nothing went wrong.
     pub fn none() -> RunFaults
-        ensures { result ≡ record { memory = false; read = false; write = false; mismatch = false } }
+        ensures { result ≡ record { memory = false; read = false; write = false; mismatch = false; untold = false } }
     {
         RunFaults {
             memory: false,
             read: false,
             write: false,
             mismatch: false,
+            untold: false,
         }
     }
 
     /// Memory was refused.
     pub fn of_memory() -> RunFaults
-        ensures { result ≡ record { memory = true; read = false; write = false; mismatch = false } }
+        ensures { result ≡ record { memory = true; read = false; write = false; mismatch = false; untold = false } }
     {
         RunFaults {
             memory: true,
             read: false,
             write: false,
             mismatch: false,
+            untold: false,
         }
     }
 
     /// A reader failed.
     pub fn of_read() -> RunFaults
-        ensures { result ≡ record { memory = false; read = true; write = false; mismatch = false } }
+        ensures { result ≡ record { memory = false; read = true; write = false; mismatch = false; untold = false } }
     {
         RunFaults {
             memory: false,
             read: true,
             write: false,
             mismatch: false,
+            untold: false,
         }
     }
 
     /// A writer failed.
     pub fn of_write() -> RunFaults
-        ensures { result ≡ record { memory = false; read = false; write = true; mismatch = false } }
+        ensures { result ≡ record { memory = false; read = false; write = true; mismatch = false; untold = false } }
     {
         RunFaults {
             memory: false,
             read: false,
             write: true,
             mismatch: false,
+            untold: false,
         }
     }
 
     /// The audit found a mismatch.
     pub fn of_mismatch() -> RunFaults
-        ensures { result ≡ record { memory = false; read = false; write = false; mismatch = true } }
+        ensures { result ≡ record { memory = false; read = false; write = false; mismatch = true; untold = false } }
     {
         RunFaults {
             memory: false,
             read: false,
             write: false,
             mismatch: true,
+            untold: false,
+        }
+    }
+
+    /// What is wrong with a line couldn't be told, where that is so.
+    pub fn of_untold(untold: bool) -> RunFaults
+        ensures { result ≡ record { memory = false; read = false; write = false; mismatch = false; untold = untold } }
+    {
+        RunFaults {
+            memory: false,
+            read: false,
+            write: false,
+            mismatch: false,
+            untold,
         }
     }
 
     /// What is so of either.
     pub fn with(self, other: RunFaults) -> RunFaults
-        ensures { result ≡ record {
-          memory = self.memory || other.memory;
-          read = self.read || other.read;
-          write = self.write || other.write;
-          mismatch = self.mismatch || other.mismatch;
-        } }
+        ensures { result ≡ faults.both self other }
     {
         RunFaults {
             memory: self.memory || other.memory,
             read: self.read || other.read,
             write: self.write || other.write,
             mismatch: self.mismatch || other.mismatch,
+            untold: self.untold || other.untold,
         }
     }
 

@@ -1,19 +1,30 @@
 //! Lines that are obeyed as they come.
 
-ghost use Rattle.std.specs.Prelude.{◌≡◌, ◌++◌, OnOk};
+ghost use Rattle.std.specs.Prelude.{◌≡◌, ◌<◌, ◌≤◌, ◌+◌, ◌-◌, ◌^◌, ◌||◌, ◌++◌, ℕ, None, OnOk, drop, length};
 ghost use Rattle.sfc_control.specs.Seats.{number};
+ghost use Rattle.sfc_control.specs.sfc_debug.Agreement.{plant_of};
+ghost use Rattle.sfc_replay.specs.sfc_output.Commands.{refusal_line};
+ghost use Rattle.sfc_replay.specs.sfc_script.Arriving.{ended_line};
+ghost use Rattle.sfc_replay.specs.sfc_script.Lines.{lines_of};
+ghost use Rattle.sfc_replay.specs.sfc_script.SessionLines.{session_line};
+ghost use Rattle.sfc_replay.specs.sfc_script.declared.session_line.SessionLine.TheVariants.{Says};
+ghost use Rattle.sfc_run.specs.Holding.{EndsBy, Holds, ObeysLines, Tells, error_told, scene};
 ghost use Rattle.sfc_run.specs.SessionText as text;
+ghost use Rattle.sfc_run.specs.Working.Walking as walking;
+ghost use Rattle.sfc_run.specs.Working.Walking.{ObeysOr, ObeysAllOr, PiecesOr, TellsOr, WalksOr};
 
 use crate::console::Console;
 use crate::run_faults::RunFaults;
 use crate::sfc_debug::debugger::Debugger;
 use crate::sfc_output::command::append_refusal;
+use crate::sfc_script::laws::first_line_stays;
 use crate::sfc_script::session_line::{SessionLine, read_session_line};
 use sfc_base::write_fault::put_all;
 use sfc_control::call_error::CallError;
 use sfc_control::clock::Clock;
 use sfc_control::controller::Controller;
 use sfc_control::opened_with::OpenedWith;
+use sfc_events::command::Command;
 use sfc_events::refusal::Refusal;
 use sfc_page::append::{append, append_number};
 use sfc_replay::arriving::ArrivingLines;
@@ -54,57 +65,89 @@ fn append_faulty(out: &mut Vec<u8>, number: u64) -> Result<(), AllocError>
     append_last(out, number)
 }
 
-// Tells of a line that is no command. A fault of the writer is passed over.
-fn tell_faulty<E: Write>(alloc: Global, number: u64, errors: &mut E) -> Result<(), AllocError> {
-    let mut text = Vec::new(alloc);
-    append_faulty(&mut text, number)?;
-    let _ = put_all(errors, &text);
-    Ok(())
+// Tells a text. A fault of the writer is passed over; whether there was one.
+fn tell<E: Write>(errors: &mut E, text: &[u8]) -> bool
+    ensures { Tells result (E.contents errors.old) (E.contents errors.new) text.now }
+{
+    match put_all(errors, text) {
+        Ok(()) => false,
+        Err(_) => true,
+    }
 }
 
-// Tells of a refusal. A fault of the writer is passed over.
+// Tells of a line that is no command; whether a fault of the writer was passed over.
+fn tell_faulty<E: Write>(alloc: Global, number: u64, errors: &mut E) -> Result<bool, AllocError>
+    ensures { TellsOr (E.contents errors.old) (E.contents errors.new) (text.faulty_text number) result }
+{
+    let mut text = Vec::new(alloc);
+    append_faulty(&mut text, number)?;
+    Ok(tell(errors, &text))
+}
+
+// Tells of a refusal; whether a fault of the writer was passed over.
 fn tell_refusal<E: Write>(
     alloc: Global,
     names: &Debugger,
     refusal: Refusal,
     errors: &mut E,
-) -> Result<(), AllocError> {
+) -> Result<bool, AllocError>
+    ensures { TellsOr (E.contents errors.old) (E.contents errors.new) (refusal_line (plant_of names.now) refusal) result }
+{
     let mut text = Vec::new(alloc);
     append_refusal(alloc, &mut text, names.resource().plant(), refusal)?;
-    let _ = put_all(errors, &text);
-    Ok(())
+    Ok(tell(errors, &text))
 }
 
-// Tells why a call is refused. A seat whose last receipt does not stand is found again at the close, and told there.
+// Tells why a call is refused; whether a fault of the writer was passed over. A seat whose last receipt does not stand is found again at
+// the close, and told there.
 fn tell_call<E: Write>(
     alloc: Global,
     names: &Debugger,
     error: CallError,
     errors: &mut E,
-) -> Result<(), AllocError> {
+) -> Result<bool, AllocError>
+    ensures { TellsOr (E.contents errors.old) (E.contents errors.new) (error_told (plant_of names.now) error) result }
+{
     match error {
         CallError::Refused(refusal) => tell_refusal(alloc, names, refusal, errors),
-        CallError::AuditMismatch => Ok(()),
+        CallError::AuditMismatch => Ok(false),
     }
 }
 
-// Obeys a line without its end. The error is that memory was refused.
+// Calls a command, and tells why it is refused; whether a fault of the writer was passed over. The error is that memory was refused.
+fn obey_command<'a, L: OpenedWith, R: Wait, C: Clock, E: Write>(
+    desk: &Desk<'a, L, R>,
+    console: &mut Console<L, C>,
+    command: Command,
+    errors: &mut E,
+) -> Result<bool, AllocError>
+    ensures number { number console.new.seat ≡ number console.old.seat }
+    ensures obeyed { (n : ℕ) → ObeysOr (plant_of desk.now.names.now) L.plant L.table L.limit C.reads n (Says command)
+        (scene console.old (E.contents errors.old)) (scene console.new (E.contents errors.new)) result }
+{
+    match console.call(desk.rt, desk.controller, command)? {
+        Ok(_) => Ok(false),
+        Err(error) => tell_call(desk.alloc, desk.names, error, errors),
+    }
+}
+
+// Obeys a line without its end; whether a fault of the writer was passed over. The error is that memory was refused.
 fn obey_line<'a, L: OpenedWith, R: Wait, C: Clock, E: Write>(
     desk: &Desk<'a, L, R>,
     console: &mut Console<L, C>,
     line: &[u8],
     line_number: u64,
     errors: &mut E,
-) -> Result<(), AllocError>
-    ensures { number console.new.seat ≡ number console.old.seat }
+) -> Result<bool, AllocError>
+    ensures number { number console.new.seat ≡ number console.old.seat }
+    ensures obeyed { ObeysOr (plant_of desk.now.names.now) L.plant L.table L.limit C.reads line_number
+        (session_line (plant_of desk.now.names.now) line.now)
+        (scene console.old (E.contents errors.old)) (scene console.new (E.contents errors.new)) result }
 {
     match read_session_line(desk.names.resource(), line) {
-        SessionLine::Skipped => Ok(()),
+        SessionLine::Skipped => Ok(false),
         SessionLine::Faulty => tell_faulty(desk.alloc, line_number, errors),
-        SessionLine::Says(command) => match console.call(desk.rt, desk.controller, command)? {
-            Ok(_) => Ok(()),
-            Err(error) => tell_call(desk.alloc, desk.names, error, errors),
-        },
+        SessionLine::Says(command) => obey_command(desk, console, command, errors),
     }
 }
 
@@ -114,6 +157,22 @@ struct Waiting {
     lines: ArrivingLines,
     // How many lines were obeyed.
     obeyed: u64,
+    // Whether a fault of the writer was passed over.
+    untold: bool,
+}
+
+impl Waiting {
+    // The first line was obeyed, and so many bytes are behind it.
+    fn pass(&mut self, left: usize, untold: bool)
+        requires { left ≤ length self.old.lines }
+        ensures lines { self.new.lines ≡ drop (length self.old.lines - left) self.old.lines }
+        ensures obeyed { self.old.obeyed + 1 < 2 ^ 64 → self.new.obeyed ≡ self.old.obeyed + 1 }
+        ensures untold { self.new.untold ≡ (self.old.untold || untold) }
+    {
+        self.lines.keep(left);
+        self.obeyed = self.obeyed.saturating_add(1);
+        self.untold = self.untold || untold;
+    }
 }
 
 // Obeys each line that has its end. The error is that memory was refused.
@@ -123,65 +182,107 @@ fn obey_lines<'a, L: OpenedWith, R: Wait, C: Clock, E: Write>(
     waiting: &mut Waiting,
     errors: &mut E,
 ) -> Result<(), AllocError>
-    ensures { number console.new.seat ≡ number console.old.seat }
+    requires { waiting.old.obeyed + length waiting.old.lines < 2 ^ 64 }
+    ensures number { number console.new.seat ≡ number console.old.seat }
+    ensures obeyed { WalksOr (plant_of desk.now.names.now) L.plant L.table L.limit C.reads waiting.old waiting.new
+        (scene console.old (E.contents errors.old)) (scene console.new (E.contents errors.new)) result }
 {
+    first_line_stays();
     'lines: while let Some((line, behind)) = waiting.lines.first() {
-        waiting.obeyed = waiting.obeyed.saturating_add(1);
-        obey_line(desk, console, line, waiting.obeyed, errors)?;
-        waiting.lines.keep(behind);
+        let line_number = waiting.obeyed.saturating_add(1);
+        let untold = obey_line(desk, console, line, line_number, errors)?;
+        waiting.pass(behind, untold);
     }
     Ok(())
 }
 
-// What it is that reading lines ends with.
-fn fault_by(error: ReplayError) -> RunFaults {
-    match error {
-        ReplayError::Memory => RunFaults::of_memory(),
-        _ => RunFaults::of_read(),
-    }
-}
-
-// Obeys lines as they come, until the reader has no more, has given 1,048,576 bytes, or fails.
+// Obeys lines as they come, until the reader has no more, has given 1,048,576 bytes, or fails. The error is that it failed, or that memory
+// was refused.
 fn obey_pieces<'a, L: OpenedWith, R: Wait, C: Clock, S: Read, E: Write>(
     desk: &Desk<'a, L, R>,
     console: &mut Console<L, C>,
     waiting: &mut Waiting,
     commands: &mut S,
     errors: &mut E,
-) -> RunFaults
-    ensures { number console.new.seat ≡ number console.old.seat }
+) -> Result<(), ReplayError>
+    requires { waiting.old ≡ walking.nothing }
+    ensures number { number console.new.seat ≡ number console.old.seat }
+    ensures obeyed { PiecesOr (plant_of desk.now.names.now) L.plant L.table L.limit C.reads
+        (S.remaining commands.old, S.remaining commands.new) waiting.new
+        (scene console.old (E.contents errors.old)) (scene console.new (E.contents errors.new)) result }
 {
     let mut taken = 0;
     'pieces: while taken < MOST {
-        match waiting.lines.take(commands, MOST - taken) {
-            Ok(0) => break,
-            Ok(count) => taken += count,
-            Err(error) => return fault_by(error),
+        let count = waiting.lines.take(commands, MOST - taken)?;
+        if count == 0 {
+            return Ok(());
         }
-        if obey_lines(desk, console, waiting, errors).is_err() {
-            return RunFaults::of_memory();
-        }
+        taken += count;
+        obey_lines(desk, console, waiting, errors)?;
     }
-    RunFaults::none()
+    Ok(())
 }
 
-// Obeys the last line, where it has no end.
+// Obeys the last line, where it has no end; whether a fault of the writer was passed over. The error is that memory was refused.
 fn obey_last<'a, L: OpenedWith, R: Wait, C: Clock, E: Write>(
     desk: &Desk<'a, L, R>,
     console: &mut Console<L, C>,
     waiting: &Waiting,
     errors: &mut E,
-) -> RunFaults
-    ensures { number console.new.seat ≡ number console.old.seat }
+) -> Result<bool, AllocError>
+    requires left { ended_line waiting.now.lines ≡ None }
+    requires room { waiting.now.obeyed + length waiting.now.lines < 2 ^ 64 }
+    ensures number { number console.new.seat ≡ number console.old.seat }
+    ensures obeyed { ObeysAllOr (plant_of desk.now.names.now) L.plant L.table L.limit C.reads (waiting.now.obeyed + 1)
+        (lines_of waiting.now.lines)
+        (scene console.old (E.contents errors.old)) (scene console.new (E.contents errors.new)) result }
 {
     let line = waiting.lines.waiting();
     if line.is_empty() {
-        return RunFaults::none();
+        return Ok(false);
     }
     let last = waiting.obeyed.saturating_add(1);
-    match obey_line(desk, console, line, last, errors) {
-        Ok(()) => RunFaults::none(),
-        Err(_) => RunFaults::of_memory(),
+    obey_line(desk, console, line, last, errors)
+}
+
+// What came of telling: whether a fault of the writer was passed over before, and what came of it now.
+fn faults_by(before: bool, now: Result<bool, AllocError>) -> RunFaults
+    ensures { result ≡ walking.faults_by before now }
+{
+    match now {
+        Ok(untold) => RunFaults::of_untold(before || untold),
+        Err(_) => RunFaults::of_memory().with(RunFaults::of_untold(before)),
+    }
+}
+
+// Obeys lines as they come, until the reader ends; a last line without its end too.
+fn obey_all<'a, L: OpenedWith, R: Wait, C: Clock, S: Read, E: Write>(
+    desk: &Desk<'a, L, R>,
+    console: &mut Console<L, C>,
+    commands: &mut S,
+    errors: &mut E,
+) -> RunFaults
+    ensures number { number console.new.seat ≡ number console.old.seat }
+    ensures obeyed { ObeysLines (plant_of desk.now.names.now) L.plant L.table L.limit C.reads
+        (S.remaining commands.old, S.remaining commands.new)
+        (scene console.old (E.contents errors.old)) (scene console.new (E.contents errors.new)) result }
+{
+    let mut waiting = Waiting {
+        lines: ArrivingLines::new(desk.alloc),
+        obeyed: 0,
+        untold: false,
+    };
+    match obey_pieces(desk, console, &mut waiting, commands, errors) {
+        Ok(()) => faults_by(waiting.untold, obey_last(desk, console, &waiting, errors)),
+        Err(error) => match error {
+            ReplayError::Memory => RunFaults::of_memory().with(RunFaults::of_untold(
+                waiting.untold,
+            )),
+            _ => {
+                let last = obey_last(desk, console, &waiting, errors);
+                RunFaults::of_read().with(faults_by(waiting.untold, last))
+            }
+        },
     }
 }
 
@@ -191,19 +292,22 @@ fn end<'a, L: OpenedWith, R: Wait, C: Clock, E: Write>(
     console: &mut Console<L, C>,
     errors: &mut E,
 ) -> RunFaults
-    ensures { number console.new.seat ≡ number console.old.seat }
+    ensures number { number console.new.seat ≡ number console.old.seat }
+    ensures ended { EndsBy (plant_of desk.now.names.now) L.plant L.table L.limit C.reads
+        (scene console.old (E.contents errors.old)) (scene console.new (E.contents errors.new)) result }
 {
-    let Err(error) = console.end(desk.rt, desk.controller) else {
-        return RunFaults::none();
-    };
-    match tell_call(desk.alloc, desk.names, error, errors) {
+    match console.end(desk.rt, desk.controller) {
         Ok(()) => RunFaults::none(),
-        Err(_) => RunFaults::of_memory(),
+        Err(error) => {
+            let told = tell_call(desk.alloc, desk.names, error, errors);
+            faults_by(false, told)
+        }
     }
 }
 
-/// Holds a session: reads lines as they come and obeys each, and sends End when they end. What it finds wrong is told on `errors`: a line
-/// that is no command by its number, counted from 1, and a refused command as its refusal; faults of `errors` are passed over.
+/// Holds a session: reads lines as they come and obeys each, once and in order, and sends End when they end. What it finds wrong is told on
+/// `errors`: a line that is no command by its number, counted from 1, and a refused command as its refusal; faults of `errors` are passed
+/// over, and answered as `untold`.
 ///
 /// At most 1,048,576 bytes are taken from the reader, and then the session acts as at the end; so it does where the reader fails, which is
 /// told as `read`, and where memory is refused, which is told as `memory`. A last line without its end is obeyed too.
@@ -213,15 +317,11 @@ pub fn hold<'a, L: OpenedWith, R: Wait, C: Clock, S: Read, E: Write>(
     commands: &mut S,
     errors: &mut E,
 ) -> RunFaults
-    ensures { number console.new.seat ≡ number console.old.seat }
+    ensures number { number console.new.seat ≡ number console.old.seat }
+    ensures holds { Holds (plant_of desk.now.names.now) L.plant L.table L.limit C.reads
+        (S.remaining commands.old, S.remaining commands.new)
+        (scene console.old (E.contents errors.old)) (scene console.new (E.contents errors.new)) result }
 {
-    let mut waiting = Waiting {
-        lines: ArrivingLines::new(desk.alloc),
-        obeyed: 0,
-    };
-    let mut faults = obey_pieces(desk, console, &mut waiting, commands, errors);
-    if !faults.memory {
-        faults = faults.with(obey_last(desk, console, &waiting, errors));
-    }
-    faults.with(end(desk, console, errors))
+    let obeyed = obey_all(desk, console, commands, errors);
+    obeyed.with(end(desk, console, errors))
 }

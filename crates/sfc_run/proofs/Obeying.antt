@@ -1,0 +1,85 @@
+-- Lines that were obeyed one after the other.
+use Rattle.std.proofs.Common.{◌≡◌, ℕ, ◌+◌, Bool, true, false, ◌||◌, List, [], ◌∷◌, ◌++◌, length, ℤ, Option, Result, Ok, Err, refl, sym, ap, subst, ◌∙◌, arith, append_assoc, inr}
+use Rattle.std.specs.declared.alloc.AllocError.{AllocError}
+use Rattle.sfc_plant.specs.Plants.{PlantData}
+use Rattle.sfc_events.specs.declared.command.Command.{Command}
+use Rattle.sfc_control.specs.sfc_debug.declared.break_condition.BreakCondition.{BreakCondition}
+use Rattle.sfc_control.specs.declared.call_error.CallError.{CallError}
+use Rattle.sfc_control.specs.declared.receipt.Receipt.{Receipt}
+use Rattle.sfc_replay.specs.sfc_script.SessionLines.{session_line}
+use Rattle.sfc_replay.specs.sfc_script.declared.session_line.SessionLine.TheVariants.{Says}
+use Rattle.sfc_run.specs.declared.console.Console.{Console}
+use Rattle.sfc_run.specs.Holding.{Calls, Obeys, ObeysAll, ObeysFor, ObeysFront, Scene, Stops, error_told, scene}
+use Rattle.sfc_run.specs.Working.Walking.{ObeysAllOr, ObeysOr, TellsOr}
+
+pub or_false : (b : Bool) → (b || false) ≡ b
+or_false true = refl
+or_false false = refl
+
+pub or_assoc : (a b c : Bool) → (a || (b || c)) ≡ ((a || b) || c)
+or_assoc true b c = refl
+or_assoc false b c = refl
+
+module _ {X C : Type 0} (names plant : PlantData) (table : List BreakCondition) (limit : ℕ) (reads : C → ℤ → C → Type 0) where
+  abbrev All : ℕ → List (List ℕ) → Scene X C → Scene X C → Bool → Type 0
+  All number lines old new untold = ObeysAll names plant table limit reads number lines old new untold
+
+  -- an answer that is a refusal, and was told or not
+  pub refused_or : (number : ℕ) (command : Command) (old new : Console X C) (before after : Option (List ℕ)) (answer : Result Receipt CallError)
+      (error : CallError) → answer ≡ Err error → Calls names plant table limit reads command old new answer → (r : Result Bool AllocError)
+      → TellsOr before after (error_told names error) r
+      → ObeysOr names plant table limit reads number (Says command) (scene old before) (scene new after) r
+  refused_or number command old new before after answer error is calls (Ok untold) told =
+      (Err error, subst (λ (a : Result Receipt CallError). Calls names plant table limit reads command old new a) is calls, told)
+  refused_or number command old new before after answer error is calls (Err e) told =
+      inr (error, subst (λ (a : Result Receipt CallError). Calls names plant table limit reads command old new a) is calls, told)
+
+  -- one line
+  pub obeys_one : (number : ℕ) (line : List ℕ) (old new : Scene X C) (untold : Bool)
+      → Obeys names plant table limit reads number (session_line names line) old new untold → All number (line ∷ []) old new untold
+  obeys_one number line old new untold obeyed = (new, untold, false, obeyed, (refl, refl), sym (or_false untold))
+
+  -- the only line, or none where memory was refused
+  pub obeys_only : (number n : ℕ) (line : List ℕ) (lines : List (List ℕ)) (old new : Scene X C) → lines ≡ line ∷ [] → n ≡ number
+      → (r : Result Bool AllocError) → ObeysOr names plant table limit reads n (session_line names line) old new r
+      → ObeysAllOr names plant table limit reads number lines old new r
+  obeys_only number n line lines old new only same (Ok untold) obeyed =
+      subst (λ (ls : List (List ℕ)). All number ls old new untold) (sym only)
+      (subst (λ (k : ℕ). All k (line ∷ []) old new untold) same (obeys_one n line old new untold obeyed))
+  obeys_only number n line lines old new only same (Err e) stopped =
+      subst (λ (ls : List (List ℕ)). Stops names plant table limit reads ls old new) (sym only) (inr stopped)
+
+  -- lines, and behind them others
+  pub obeys_then : (a b : List (List ℕ)) (number : ℕ) (old mid new : Scene X C) (u v : Bool) → All number a old mid u
+      → All (number + length a) b mid new v → All number (a ++ b) old new (u || v)
+  obeys_then [] b number old mid new u v one two =
+      let at : All number b mid new v = subst (λ (k : ℕ). All k b mid new v) (omega arith) two in
+      subst (λ (w : Bool). All number b old new (w || v)) (sym one.1) (subst (λ (s : Scene X C). All number b s new v) one.0 at)
+  obeys_then (line ∷ a) b number old mid new u v one two = (
+    one.0,
+    one.1,
+    one.2 || v,
+    one.3,
+    obeys_then a b (number + 1) one.0 mid new one.2 v one.4 (subst (λ (k : ℕ). All k b mid new v) (omega arith) two),
+    ap (λ (w : Bool). w || v) one.5 ∙ sym (or_assoc one.1 one.2 v),
+  )
+
+  -- all lines, or a front of them where memory was refused
+  pub obeys_for : (a b : List (List ℕ)) (number : ℕ) (old mid new : Scene X C) (u v : Bool) → All number a old mid u → (memory : Bool)
+      → ObeysFor names plant table limit reads memory (number + length a) b mid new v
+      → ObeysFor names plant table limit reads memory number (a ++ b) old new (u || v)
+  obeys_for a b number old mid new u v one false two = obeys_then a b number old mid new u v one two
+  obeys_for a b number old mid new u v one true two = record {
+    front = a ++ two.front;
+    rest = two.rest;
+    whole = ap (λ (ls : List (List ℕ)). a ++ ls) two.whole ∙ sym (append_assoc a two.front two.rest);
+    mid = two.mid;
+    obeyed = obeys_then a two.front number old mid two.mid u v one two.obeyed;
+    stopped = two.stopped;
+  }
+
+  -- a front of them, and then memory was refused
+  pub obeys_front : (a b lines : List (List ℕ)) (number : ℕ) (old mid new : Scene X C) (u : Bool) → lines ≡ a ++ b → All number a old mid u
+      → Stops names plant table limit reads b mid new → ObeysFront names plant table limit reads number lines old new u
+  obeys_front a b lines number old mid new u whole one stopped =
+      record { front = a; rest = b; whole = whole; mid = mid; obeyed = one; stopped = stopped }
