@@ -57,7 +57,7 @@ impl Book {
     ghost use Rattle.sfc_debug.specs.Work.{command_work};
     ghost use Rattle.sfc_control.specs.Answering.{answered, bar};
     ghost use Rattle.sfc_control.specs.Waiting.{lag, clock_of};
-    ghost use Rattle.sfc_control.specs.Holding.{held_after, first_after, calls_in};
+    ghost use Rattle.sfc_control.specs.Holding.{held_after, held_number, first_after, calls_in};
     ghost use Rattle.sfc_control.specs.Receipts.{entry_of, Stands, IsReceiptOf};
     ghost use Rattle.sfc_control.specs.Publishing.{Publishes};
     ghost use Rattle.sfc_control.specs.Tails.{taken, capacity};
@@ -118,7 +118,8 @@ impl Book {
 
     /// The entries that are held, the oldest first: those since the latest epoch, which is the first of them.
     pub fn entries(&self) -> &[Entry]
-        ensures { result.now ≡ entries self.now }
+        ensures entries { result.now ≡ entries self.now }
+        ensures count { length result.now ≡ held_number (first self.now) (length (accepted self.now)) }
     {
         self.history.entries()
     }
@@ -166,8 +167,8 @@ impl Book {
         }
     }
 
-    // The resource behind the latest entry.
-    pub(crate) fn resource(&self) -> &Resource
+    /// The resource, as it stands behind the latest entry.
+    pub fn resource(&self) -> &Resource
         ensures plant { plant_of_resource result.now ≡ plant self.now }
         ensures agrees { ∥ ResourceAgrees result.now (erasure (plant self.now) (table self.now) (commands_of (accepted self.now))) ∥₁ }
     {

@@ -1,8 +1,11 @@
 //! A book that threads share.
 
-ghost use Rattle.std.specs.Prelude.{◌≡◌, ◌<◌, ◌≤◌, [], IfOk};
+ghost use Rattle.std.specs.Prelude.{◌≡◌, ◌<◌, ◌≤◌, [], List, length, IfOk};
 ghost use Rattle.sfc_debug.specs.Agreement.{Agrees, plant_of, table_of, mask_of};
+ghost use Rattle.sfc_control.specs.declared.entry.Entry.{Entry};
 ghost use Rattle.sfc_control.specs.Books as books;
+ghost use Rattle.sfc_control.specs.Holding.{first_in, held_number};
+ghost use Rattle.sfc_control.specs.LegalHistory.{IsLegal};
 ghost use Rattle.sfc_control.specs.Seats.{AreFresh};
 ghost use Rattle.sfc_control.specs.Tails.{taken, capacity};
 
@@ -16,7 +19,7 @@ use crate::tail::Tail;
 use sfc_debug::debugger::Debugger;
 use std::alloc::{AllocError, Global};
 use std::sync::ledger::{Blank, Ledger, Share};
-use std::sync::{Mutex, ledger};
+use std::sync::{Mutex, Wait, ledger};
 
 /// A book under a lock, which the seats that it handed out share.
 #[derive(Drop)]
@@ -101,5 +104,13 @@ impl<L: OpenedWith> Controller<L> {
     /// What wakes those who wait for the book: a bell for each task, and one for who takes rows of its feed.
     pub fn bells(&self) -> &Bells {
         &self.bells
+    }
+
+    /// How many entries are held: those since the latest epoch. It waits for the lock.
+    pub fn held<R: Wait>(&self, rt: &R) -> usize
+        ensures { (es : List Entry) × IsLegal L.plant L.table es × (result ≡ held_number (first_in es) (length es)) }
+    {
+        let locked = self.locked.lock(rt);
+        locked.book.entries().len()
     }
 }

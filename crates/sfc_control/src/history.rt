@@ -155,7 +155,8 @@ impl History {
 
     /// The entries that are held, the oldest first.
     pub fn entries(&self) -> &[Entry]
-        ensures { result.now ≡ held self.now }
+        ensures entries { result.now ≡ held self.now }
+        ensures count { length result.now ≡ held_number (first_of self.now) (length (whole self.now)) }
     {
         self.entries.as_slice()
     }

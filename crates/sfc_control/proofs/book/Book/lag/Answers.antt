@@ -14,7 +14,7 @@ overflow_sub-result c =
     let e = c.in-Some.entry.now in
     let fits_raw : SFits w64 e.raw = search rules in
     let fits_t : SFits w64 c.run_instant.result = search rules in
-    let last = subst (λ (es : List Entry). slice_get es (length es - 1) ≡ Some e) (c.entries.ensures ∙ b.history.held) (sym c.in-Some.ensures.value) in
+    let last = subst (λ (es : List Entry). slice_get es (length es - 1) ≡ Some e) (c.entries.ensures.entries ∙ b.history.held) (sym c.in-Some.ensures.value) in
     let raw_at = sym (raw_held (plant_of d) (table_of d) (b.history.first - 1) (whole b.history) e last) in
     let t_at = instant_of d (whole b.history) b.agrees c.run_instant.result (λ h a. c.run_instant.ensures h a) in
     simp (to_z-of_z, fits_raw, fits_t) (lag_fits d (whole b.history) b.agrees e.raw c.run_instant.result raw_at t_at)
@@ -26,7 +26,7 @@ returns-in-Some c =
     let e = c.in-Some.entry.now in
     let fits_raw : SFits w64 e.raw = search rules in
     let fits_t : SFits w64 c.run_instant.result = search rules in
-    let last = subst (λ (es : List Entry). slice_get es (length es - 1) ≡ Some e) (c.entries.ensures ∙ b.history.held) (sym c.in-Some.ensures.value) in
+    let last = subst (λ (es : List Entry). slice_get es (length es - 1) ≡ Some e) (c.entries.ensures.entries ∙ b.history.held) (sym c.in-Some.ensures.value) in
     let raw_at = sym (raw_held (plant_of d) (table_of d) (b.history.first - 1) (whole b.history) e last) in
     let t_at = instant_of d (whole b.history) b.agrees c.run_instant.result (λ h a. c.run_instant.ensures h a) in
     let fits_lag : SFits w64 (e.raw -ℤ c.run_instant.result) = lag_fits d (whole b.history) b.agrees e.raw c.run_instant.result raw_at t_at in
@@ -36,6 +36,6 @@ pub returns-in-None : goal.returns-in-None
 returns-in-None c =
     let b = c.args.self.now in
     let d = b.debugger in
-    let none : b.history.entries.items ≡ [] = sym c.entries.ensures ∙ none_held c.entries.result.now c.in-None.ensures.value in
+    let none : b.history.entries.items ≡ [] = sym c.entries.ensures.entries ∙ none_held c.entries.result.now c.in-None.ensures.value in
     let at : b.history.first ≡ length (whole b.history) + 1 = omega (arith, b.history.placed, ap length none) in
     sym (lag_none (plant_of d) (table_of d) (whole b.history) b.history.first at b.history.cut)
