@@ -1,5 +1,6 @@
 // Stands between sfcmon and the C library, and makes one thing fail. The environment says which:
 //   SFC_REFUSE=alloc:N    the Nth allocation is refused, counted from 1
+//   SFC_REFUSE=pair:N     the Nth allocation and the one behind it are refused
 //   SFC_REFUSE=read:N     the Nth read fails
 //   SFC_REFUSE=take:K     reads give K bytes in all, and then fail
 //   SFC_REFUSE=write:K    standard output takes K bytes in all, and then fails
@@ -20,11 +21,12 @@ enum kind { NOTHING, ALLOCATION, READ, TAKE, WRITE, FULL };
 
 static enum kind wanted = NOTHING;
 static long limit, allocations, reads, taken, written;
-static int is_ready, is_short;
+static int is_ready, is_short, is_pair;
 
 __attribute__((constructor)) static void set_up(void) {
   const char *word = getenv("SFC_REFUSE");
   if (word && !strncmp(word, "alloc:", 6)) { wanted = ALLOCATION; limit = atol(word + 6); }
+  if (word && !strncmp(word, "pair:", 5)) { wanted = ALLOCATION; is_pair = 1; limit = atol(word + 5); }
   if (word && !strncmp(word, "read:", 5)) { wanted = READ; limit = atol(word + 5); }
   if (word && !strncmp(word, "take:", 5)) { wanted = TAKE; limit = atol(word + 5); }
   if (word && !strncmp(word, "full:", 5)) { wanted = FULL; limit = atol(word + 5); }
@@ -59,7 +61,7 @@ void _exit(int status) {
 static int is_refused(void) {
   if (!is_ready) return 0;
   long number = __atomic_add_fetch(&allocations, 1, __ATOMIC_SEQ_CST);
-  return wanted == ALLOCATION && number == limit;
+  return wanted == ALLOCATION && (number == limit || (is_pair && number == limit + 1));
 }
 
 void *malloc(size_t size) {

@@ -300,12 +300,12 @@ def tells_of_memory(ended: Ended) -> bool:
     return ended.status == 0 or bool(WANT.search(ended.out + ended.err))
 
 
-def try_test(runs: Runs, name: str, program: str):
-    """Each allocation of a test in code is refused: it ends for want of memory, or well. A hundred that end well in turn are behind the
-    last one. A worker that ends for want of memory says so itself (`Memory`), once the test has seen a receipt of each accepted call."""
+def sweep(runs: Runs, name: str, program: str, how: str) -> int:
+    """Each allocation of a test in code is refused, or each with the one behind it (`pair`): it ends for want of memory, or well. A hundred
+    that end well in turn are behind the last one. It gives how often it ended with `Memory`."""
     def refused(n):
         def trial():
-            ended = runs.run([name], f"SFC_REFUSE=alloc:{n}", program=program)
+            ended = runs.run([name], f"SFC_REFUSE={how}:{n}", program=program)
             return ended, n
         return trial
     calm = ends = first = 0
@@ -314,12 +314,20 @@ def try_test(runs: Runs, name: str, program: str):
         first += CALM
         for ended, n in runs.pool.map(lambda trial: trial(), batch):
             if calm < CALM:
-                runs.note(tells_of_memory(ended), f"{name}, allocation {n} refused", ended)
+                runs.note(tells_of_memory(ended), f"{name}, allocation {n} refused ({how})", ended)
                 calm = calm + 1 if ended.status == 0 else 0
                 ends += b"error: Memory" in (ended.out + ended.err).splitlines()
-    runs.note(calm == CALM, f"{name}, the undisturbed run")
+    runs.note(calm == CALM, f"{name}, the undisturbed run ({how})")
+    return ends
+
+
+def try_test(runs: Runs, name: str, program: str):
+    """Each allocation of a test in code is refused. A worker asks for room for many receipts, and where that is refused for room for one: it
+    ends for want of memory where both are, and says so itself (`Memory`), once the test has seen a receipt of each accepted call."""
+    ends = sweep(runs, name, program, "alloc")
     if name.startswith("crews::"):
-        runs.note(ends > 1, f"{name}, a worker's want of memory ({ends} times)")
+        both = sweep(runs, name, program, "pair")
+        runs.note(both > ends, f"{name}, a worker's want of memory ({both - ends} times)")
 
 
 def try_retries(runs: Runs, program: str):
