@@ -2,7 +2,7 @@
 
 use sfc_check::type_error::TypeError;
 use sfc_expr::fault::Fault;
-use sfc_tokens::read_error::{ReadError, ReadErrorKind};
+use sfc_events::read_error::{ReadError, ReadErrorKind};
 use std::alloc::AllocError;
 use std::fmt;
 

@@ -5,7 +5,7 @@ use sfc_text::expression::Expression;
 use sfc_text::read::read;
 use sfc_text::statement::Statement;
 use sfc_text::tree::{Element, Source};
-use sfc_tokens::read_error::ReadErrorKind;
+use sfc_events::read_error::ReadErrorKind;
 use std::alloc::{AllocError, Global};
 
 // What stands behind the one element of the chart.

@@ -1,7 +1,7 @@
 //! Readers and writers that fail, or that take and give little at a time.
 
 use crate::broken::{BrokenReader, BrokenWriter, Recorder};
-use crate::sfc_variables::load_error::LoadError;
+use sfc_events::load_error::LoadError;
 use samples::charts::one_step;
 use sfc_base::write_fault::{WriteFault, put_all};
 use sfc_page::time_text::put_time;

@@ -2,7 +2,7 @@
 
 use crate::sfc_list::list::list;
 use crate::sfc_load::load::load;
-use crate::sfc_variables::load_error::LoadError;
+use sfc_events::load_error::LoadError;
 use samples::charts::{mixture, mixture_listed};
 use sfc_plant::plant::Plant;
 use sfc_text::read::read;

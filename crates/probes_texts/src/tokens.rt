@@ -3,7 +3,7 @@
 use samples::charts::mixture;
 use sfc_text::read::read;
 use sfc_tokens::lex::tokens;
-use sfc_tokens::read_error::ReadErrorKind;
+use sfc_events::read_error::ReadErrorKind;
 use sfc_tokens::token::{Token, TokenKind};
 use std::alloc::{AllocError, Global};
 use std::process::Abort;

@@ -24,6 +24,6 @@ pub mod trace;
 pub mod why;
 
 // What the crates above name through this one.
-pub use sfc_explain::sfc_check;
 pub use sfc_output::{sfc_core, sfc_debug, sfc_instance, sfc_list};
 pub use sfc_script;
+pub use sfc_script::sfc_check;

@@ -3,12 +3,12 @@ use Rattle.std.specs.Prelude.{◌≡◌, ℕ, List, ℤ, pos, Option, Some, None
 use Rattle.sfc_plant.specs.Plants.{PlantData}
 use Rattle.sfc_text.specs.Reads.{TextReads}
 use Rattle.sfc_text.specs.Trees.{SourceTree}
-use Rattle.sfc_tokens.specs.ReadErrors as reading
-use Rattle.sfc_explain.specs.sfc_variables.LoadErrors as loading
-use Rattle.sfc_explain.specs.sfc_variables.declared.load_error.LoadError.{LoadError}
-use Rattle.sfc_explain.specs.sfc_variables.declared.load_error.LoadError.TheVariants.{Limit}
-use Rattle.sfc_explain.specs.sfc_variables.declared.load_error.Limit.{Limit as LimitKind}
-use Rattle.sfc_explain.specs.sfc_variables.declared.load_error.Limit.TheVariants.{Steps, Transitions, Associations, Variables, Instances, Tasks}
+use Rattle.sfc_events.specs.ReadErrors as reading
+use Rattle.sfc_events.specs.LoadErrors as loading
+use Rattle.sfc_events.specs.declared.load_error.LoadError.{LoadError}
+use Rattle.sfc_events.specs.declared.load_error.LoadError.TheVariants.{Limit}
+use Rattle.sfc_events.specs.declared.load_error.Limit.{Limit as LimitKind}
+use Rattle.sfc_events.specs.declared.load_error.Limit.TheVariants.{Steps, Transitions, Associations, Variables, Instances, Tasks}
 use Rattle.sfc_replay.specs.sfc_load.Accepted.{IsAccepted}
 use Rattle.sfc_replay.specs.sfc_load.Built.{source_check}
 use Rattle.sfc_replay.specs.sfc_debug.declared.break_condition.BreakCondition.{BreakCondition}

@@ -17,7 +17,7 @@ use Rattle.sfc_plant.specs.Names.{step_name}
 use Rattle.sfc_plant.specs.Plants.{PlantData}
 use Rattle.sfc_replay.specs.sfc_tables.Tables.{Tabled, tables_of}
 use Rattle.sfc_replay.specs.sfc_image.Values.{variable_count}
-use Rattle.sfc_explain.specs.sfc_variables.Locations.{same_location}
+use Rattle.sfc_replay.specs.sfc_script.sfc_variables.Locations.{same_location}
 use Rattle.sfc_replay.specs.sfc_script.Points.{find_action}
 use Rattle.sfc_plant.specs.PlantNames.{task_name, instance_name, image_name}
 use Rattle.sfc_replay.specs.sfc_tables.ActionNames.{numbered_action}

@@ -3,9 +3,9 @@
 ghost use Rattle.std.specs.Prelude.{◌≡◌, pos, Option, None, Some};
 ghost use Rattle.sfc_c.specs.Faults as faults;
 
-use crate::sfc_variables::load_error::{Limit, LoadError};
 use crate::status::{NO_LINE, NO_MEMORY};
-use sfc_tokens::read_error::ReadError;
+use sfc_events::load_error::{Limit, LoadError};
+use sfc_events::read_error::ReadError;
 
 /// Why a chart, or a script beside it, is refused.
 #[derive(Clone, Copy, Debug, PartialEq, Eq)]

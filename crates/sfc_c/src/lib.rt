@@ -37,5 +37,4 @@ mod status;
 pub mod tasks;
 
 // What the crates above name through this one.
-pub use sfc_explain::sfc_variables;
-pub use sfc_replay::{sfc_core, sfc_debug, sfc_instance, sfc_output, sfc_script};
+pub use sfc_replay::{sfc_core, sfc_debug, sfc_instance, sfc_output, sfc_script, sfc_variables};

@@ -12,10 +12,10 @@ use crate::sfc_variables::located::same_location;
 use crate::status::{NO_MEMORY, UNKNOWN};
 use sfc_base::ids::VarId;
 use sfc_base::location::Location;
+use sfc_events::read_error::ReadErrorKind;
 use sfc_plant::plant::Plant;
 use sfc_plant::variable::Variable;
 use sfc_tokens::lex::tokens;
-use sfc_tokens::read_error::ReadErrorKind;
 use sfc_tokens::token::{Token, TokenKind};
 use std::alloc::Global;
 

@@ -2,6 +2,8 @@
 use Rattle.std.specs.Prelude.{◌≡◌, Result, Ok, Err, ⊤}
 use Rattle.sfc_check.specs.declared.type_error.TypeError.{TypeError}
 use Rattle.sfc_check.specs.declared.type_error.TypeError.TheVariants as error
+use Rattle.sfc_events.specs.declared.load_error.LoadError.{LoadError}
+use Rattle.sfc_events.specs.declared.load_error.LoadError.TheVariants as refused
 
 -- a name that is not found; a type that is not the wanted one, or for which an operator is not; an integer outside the
 -- range of the wanted type; a target that no statement can assign to
@@ -44,3 +46,11 @@ IsFault e outcome = Fails e outcome
 abbrev pub GivesExactly : {X Y : Type 0} → (X → Y) → Result X TypeError → Checked Y → Type 0
 GivesExactly view (Ok x) outcome = outcome ≡ Ok (view x)
 GivesExactly view (Err e) outcome = IsFault e outcome
+
+-- the refusal that a type fault is
+abbrev pub of_type_error : TypeError → LoadError
+of_type_error error.Unknown = refused.Unknown
+of_type_error error.WrongType = refused.WrongType
+of_type_error error.LiteralRange = refused.LiteralRange
+of_type_error error.NotAssignable = refused.NotAssignable
+of_type_error error.Memory = refused.Memory

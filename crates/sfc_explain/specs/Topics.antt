@@ -1,7 +1,7 @@
 -- The numbers and names of what is refused or fails: those by which it is told.
 use Rattle.std.specs.Prelude.{ℕ, List, Option, Some, None, codes}
-use Rattle.sfc_tokens.specs.ReadErrors as reading
-use Rattle.sfc_variables.specs.LoadErrors as loading
+use Rattle.sfc_events.specs.ReadErrors as reading
+use Rattle.sfc_events.specs.LoadErrors as loading
 use Rattle.sfc_events.specs.Refusals as command
 use Rattle.sfc_explain.specs.declared.topic.Topic.{Topic}
 use Rattle.sfc_explain.specs.declared.topic.Topic.TheVariants.{Reading, Loading, Command, Audit, Named}

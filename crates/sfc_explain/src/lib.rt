@@ -12,7 +12,3 @@ pub mod finding;
 pub mod page;
 pub mod table;
 pub mod topic;
-
-// What the crates above name through this one.
-pub use sfc_variables;
-pub use sfc_variables::sfc_check;

@@ -5,9 +5,9 @@ ghost use Rattle.std.specs.Prelude.{◌≡◌, length};
 use crate::explanation::{ExampleKind, Explanation, LineMark};
 use crate::topic::Topic;
 use sfc_base::ids::TaskId;
+use sfc_events::load_error::{Limit, LoadError};
+use sfc_events::read_error::ReadErrorKind;
 use sfc_events::refusal::Refusal;
-use sfc_tokens::read_error::ReadErrorKind;
-use sfc_variables::load_error::{Limit, LoadError};
 
 /// What a chart is refused for, in the order of its numbers: by the reader, and then by the loader.
 static OF_CHARTS: [Explanation; 23] = [

@@ -3,9 +3,9 @@
 ghost use Rattle.std.specs.Prelude.{◌≡◌};
 ghost use Rattle.sfc_explain.specs.Topics.{number_of, name_of};
 
+use sfc_events::load_error::LoadError;
+use sfc_events::read_error::ReadErrorKind;
 use sfc_events::refusal::Refusal;
-use sfc_tokens::read_error::ReadErrorKind;
-use sfc_variables::load_error::LoadError;
 
 /// What is refused or fails.
 #[derive(Clone, Copy)]

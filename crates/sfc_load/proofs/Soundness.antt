@@ -14,8 +14,8 @@ use Rattle.sfc_text.specs.Trees.{source_of, program_of as program_tree}
 use Rattle.sfc_base.specs.declared.references.Variable.TheVariants.{Global}
 use Rattle.sfc_program.specs.sfc_check.Checking.{checked_literal}
 use Rattle.sfc_base.specs.NameLists.{has, place_of}
-use Rattle.sfc_program.specs.sfc_variables.declared.load_error.LoadError.TheVariants as fault
-use Rattle.sfc_program.specs.sfc_variables.declared.load_error.Limit.TheVariants as limit
+use Rattle.sfc_events.specs.declared.load_error.LoadError.TheVariants as fault
+use Rattle.sfc_events.specs.declared.load_error.Limit.TheVariants as limit
 use Rattle.sfc_plant.specs.declared.variable.Variable.{Variable}
 use Rattle.sfc_program.specs.sfc_variables.Checks.{when, in_turn, typed}
 use Rattle.sfc_program.specs.sfc_variables.Declarations.{globals_check, globals_of}

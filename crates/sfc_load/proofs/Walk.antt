@@ -2,7 +2,7 @@
 use Rattle.std.proofs.Common.{◌≡◌, List, map, None, sym, ap, ◌∙◌, subst}
 use Rattle.sfc_text.specs.declared.tree.Instance as text_instance
 use Rattle.sfc_text.specs.Trees.{SourceTree}
-use Rattle.sfc_program.specs.sfc_variables.declared.load_error.LoadError.{LoadError}
+use Rattle.sfc_events.specs.declared.load_error.LoadError.{LoadError}
 use Rattle.sfc_plant.specs.declared.variable.Variable.{Variable}
 use Rattle.sfc_program.specs.sfc_variables.Checks.{Fails}
 use Rattle.sfc_program.specs.sfc_variables.Declarations.{globals_check, globals_of}

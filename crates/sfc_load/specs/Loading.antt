@@ -9,8 +9,8 @@ use Rattle.sfc_text.specs.declared.tree.Task.{Task}
 use Rattle.sfc_text.specs.Trees.{ProgramTree}
 use Rattle.sfc_program.specs.sfc_check.Checking.{checked_literal}
 use Rattle.sfc_base.specs.NameLists.{has, place_of}
-use Rattle.sfc_program.specs.sfc_variables.declared.load_error.LoadError.TheVariants as fault
-use Rattle.sfc_program.specs.sfc_variables.declared.load_error.Limit.TheVariants as limit
+use Rattle.sfc_events.specs.declared.load_error.LoadError.TheVariants as fault
+use Rattle.sfc_events.specs.declared.load_error.Limit.TheVariants as limit
 use Rattle.sfc_plant.specs.declared.variable.Variable.{Variable}
 use Rattle.sfc_program.specs.sfc_variables.Checks.{Check, ◌then◌, when, in_turn, typed}
 use Rattle.sfc_plant.specs.VariableNames.{global_named}

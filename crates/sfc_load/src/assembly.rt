@@ -11,7 +11,7 @@ ghost use Rattle.sfc_load.specs.Assembly.Declared.{titles_of, plant_from};
 use crate::declaring::load_declarations;
 use crate::image_check::check_image;
 use crate::instances::load_instances;
-use crate::sfc_variables::load_error::LoadError;
+use sfc_events::load_error::LoadError;
 use sfc_base::items::Items;
 use sfc_plant::parts::Parts;
 use sfc_plant::plant::Plant;

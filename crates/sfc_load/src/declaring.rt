@@ -8,7 +8,7 @@ ghost use Rattle.sfc_load.specs.Assembly.Declared.{AreDeclared};
 
 use crate::programs::load_programs;
 use crate::sfc_variables::globals::load_globals;
-use crate::sfc_variables::load_error::LoadError;
+use sfc_events::load_error::LoadError;
 use crate::tasks::load_tasks;
 use sfc_base::items::Items;
 use sfc_plant::declarations::Declarations;

@@ -2,14 +2,14 @@
 
 ghost use Rattle.std.specs.Prelude.{◌≡◌, ◌++◌, length, flat_map, nat_lt, OnOk, IfOk};
 ghost use Rattle.sfc_program.specs.sfc_variables.Checks.{Loads, when};
-ghost use Rattle.sfc_program.specs.sfc_variables.declared.load_error.LoadError.TheVariants as fault;
-ghost use Rattle.sfc_program.specs.sfc_variables.declared.load_error.Limit.TheVariants as limit;
+ghost use Rattle.sfc_events.specs.declared.load_error.LoadError.TheVariants as fault;
+ghost use Rattle.sfc_events.specs.declared.load_error.Limit.TheVariants as limit;
 ghost use Rattle.sfc_program.specs.sfc_variables.Locations as located;
 ghost use Rattle.sfc_plant.specs.Image as image;
 ghost use Rattle.sfc_plant.specs.Image.{image_of, locations_of, starts_from};
 ghost use Rattle.sfc_load.specs.Loading.{image_check};
 
-use crate::sfc_variables::load_error::{Limit, LoadError};
+use sfc_events::load_error::{Limit, LoadError};
 use crate::sfc_variables::located::repeats;
 use sfc_base::limits::VARIABLES;
 use sfc_base::location::Location;

@@ -6,7 +6,7 @@ ghost use Rattle.sfc_load.specs.Loading as loading;
 ghost use Rattle.sfc_load.specs.Loading.{instance_name, instance_check, instances_check};
 ghost use Rattle.sfc_load.specs.Built.{instance_of};
 
-use crate::sfc_variables::load_error::{Limit, LoadError};
+use sfc_events::load_error::{Limit, LoadError};
 use sfc_base::ids::{TaskId, TypeId};
 use sfc_base::limits::{INSTANCES, TASKS};
 use sfc_base::name::Name;

@@ -4,7 +4,7 @@ ghost use Rattle.sfc_program.specs.sfc_variables.Checks.{Loads};
 ghost use Rattle.sfc_load.specs.Built.{source_check, plant_of};
 
 use crate::assembly::{assemble, load_parts};
-use crate::sfc_variables::load_error::LoadError;
+use sfc_events::load_error::LoadError;
 use sfc_plant::plant::Plant;
 use sfc_text::tree::Source;
 use std::alloc::Global;

@@ -6,7 +6,7 @@ ghost use Rattle.sfc_program.specs.sfc_variables.Checks.{Loads};
 ghost use Rattle.sfc_program.specs.Built.{program_of};
 ghost use Rattle.sfc_load.specs.Loading.{program_names, named_program_check, programs_check};
 
-use crate::sfc_variables::load_error::LoadError;
+use sfc_events::load_error::LoadError;
 use sfc_plant::name_table::NameTable;
 use sfc_plant::program_type::ProgramType;
 use sfc_plant::variable_table::VariableTable;

@@ -9,7 +9,7 @@ ghost use Rattle.sfc_load.specs.Loading.{task_name, task_check, task_names, task
 ghost use Rattle.sfc_load.specs.Built.{task_of};
 
 use crate::sfc_check::literal::check_literal;
-use crate::sfc_variables::load_error::{Limit, LoadError};
+use sfc_events::load_error::{Limit, LoadError};
 use sfc_base::limits::TASKS;
 use sfc_base::name::Name;
 use sfc_base::references::GlobalId;

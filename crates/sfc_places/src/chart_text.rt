@@ -1,9 +1,9 @@
 //! A text with its tokens.
 
 use crate::span::Span;
+use sfc_events::read_error::ReadErrorKind;
 use sfc_text::expression::Expression;
 use sfc_text::read_expr::read_expr;
-use sfc_tokens::read_error::ReadErrorKind;
 use sfc_tokens::token::Token;
 use std::alloc::{AllocError, Global};
 

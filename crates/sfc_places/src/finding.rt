@@ -3,7 +3,7 @@
 use crate::declared::Declared;
 use sfc_base::location::Size;
 use sfc_base::var_type::VarType;
-use sfc_variables::load_error::LoadError;
+use sfc_events::load_error::LoadError;
 use std::alloc::{AllocError, AllocFailed};
 
 /// What of a text a fault is in. Each number is the place of a name among the tokens.

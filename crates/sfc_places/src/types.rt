@@ -9,10 +9,10 @@ use crate::sfc_check::literal::check_literal;
 use sfc_base::case::is_same_word;
 use sfc_base::delimiter::Delimiter;
 use sfc_base::var_type::VarType;
+use sfc_events::load_error::LoadError;
 use sfc_text::expression::{Expression, Operator, Variable};
 use sfc_text::tree::Literal;
 use sfc_tokens::token::Token;
-use sfc_variables::load_error::LoadError;
 
 /// What names stand for where an expression stands: in a program type, whose name has this place, and in an action with this
 /// name or in none.

@@ -8,8 +8,8 @@ use crate::regions::{ElementKind, ElementRegion};
 use crate::types::Names;
 use crate::walk_variables::declare;
 use sfc_base::var_type::VarType;
+use sfc_events::load_error::LoadError;
 use sfc_tokens::token::Token;
-use sfc_variables::load_error::LoadError;
 use std::alloc::Global;
 
 /// The place of the name of a transition that begins at the place, if it has one.

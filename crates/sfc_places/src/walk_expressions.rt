@@ -10,7 +10,7 @@ use crate::walk_elements::element_of;
 use sfc_base::delimiter::Delimiter;
 use sfc_base::keyword::Keyword;
 use sfc_base::var_type::VarType;
-use sfc_variables::load_error::LoadError;
+use sfc_events::load_error::LoadError;
 use std::alloc::Global;
 
 // Refuses the expression of a region that isn't of the wanted type.

@@ -8,8 +8,8 @@ use crate::walk_tasks::type_name;
 use sfc_base::case::is_same_word;
 use sfc_base::limits::VARIABLES;
 use sfc_base::location::Location;
+use sfc_events::load_error::{Limit, LoadError};
 use sfc_tokens::token::{Token, TokenKind};
-use sfc_variables::load_error::{Limit, LoadError};
 use sfc_variables::located::same_location;
 use std::alloc::{AllocError, Global};
 

@@ -13,8 +13,8 @@ use crate::walk_expressions::{walk_bodies, walk_transitions};
 use crate::walk_tasks::check_count;
 use crate::walk_variables::{declare, walk_variables};
 use sfc_base::limits::{ASSOCIATIONS, STEPS, TRANSITIONS};
+use sfc_events::load_error::{Limit, LoadError};
 use sfc_tokens::token::Token;
-use sfc_variables::load_error::{Limit, LoadError};
 use std::alloc::{AllocError, Global};
 
 // The places at which steps begin, or at which transitions do.

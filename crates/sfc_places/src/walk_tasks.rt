@@ -10,8 +10,8 @@ use sfc_base::delimiter::Delimiter;
 use sfc_base::keyword::Keyword;
 use sfc_base::limits::{INSTANCES, TASKS};
 use sfc_base::var_type::VarType;
+use sfc_events::load_error::{Limit, LoadError};
 use sfc_tokens::token::{Token, TokenKind};
-use sfc_variables::load_error::{Limit, LoadError};
 use std::alloc::{AllocError, Global};
 
 /// The places at which such tokens stand in a region. The one error is that memory was refused.

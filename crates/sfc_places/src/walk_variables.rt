@@ -10,9 +10,9 @@ use sfc_base::delimiter::Delimiter;
 use sfc_base::keyword::Keyword;
 use sfc_base::location::Size;
 use sfc_base::var_type::VarType;
+use sfc_events::load_error::LoadError;
 use sfc_text::tree::Literal;
 use sfc_tokens::token::{Token, TokenKind};
-use sfc_variables::load_error::LoadError;
 use std::alloc::Global;
 
 /// Refuses a name that is in the name space, and tells which one it is; else puts it there.

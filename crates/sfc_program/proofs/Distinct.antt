@@ -4,7 +4,7 @@ use Rattle.std.proofs.lemmas.List.{append-nil}
 use Rattle.std.proofs.lemmas.List.Folds.{list_any-append}
 use Rattle.sfc_base.specs.Case.{same_word}
 use Rattle.sfc_base.specs.NameLists.{has}
-use Rattle.sfc_variables.specs.declared.load_error.LoadError.{LoadError}
+use Rattle.sfc_events.specs.declared.load_error.LoadError.{LoadError}
 use Rattle.sfc_variables.specs.Checks.{Check, ◌then◌, Fails}
 use Rattle.sfc_variables.proofs.Checks.{passes, fails_first}
 use Rattle.sfc_text.specs.Trees.{ElementTree}

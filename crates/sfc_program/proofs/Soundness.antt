@@ -33,9 +33,9 @@ use Rattle.sfc_base.specs.Values.{is_in_range}
 use Rattle.sfc_check.specs.Checking.{checked_literal, or_range}
 use Rattle.sfc_base.proofs.NamePlaces.{place_below}
 use Rattle.sfc_base.specs.NameLists.{place_of}
-use Rattle.sfc_variables.specs.declared.load_error.LoadError.{LoadError}
-use Rattle.sfc_variables.specs.declared.load_error.LoadError.TheVariants as fault
-use Rattle.sfc_variables.specs.declared.load_error.Limit.TheVariants as limit
+use Rattle.sfc_events.specs.declared.load_error.LoadError.{LoadError}
+use Rattle.sfc_events.specs.declared.load_error.LoadError.TheVariants as fault
+use Rattle.sfc_events.specs.declared.load_error.Limit.TheVariants as limit
 use Rattle.sfc_plant.specs.declared.variable.Variable.{Variable}
 use Rattle.sfc_variables.specs.Checks.{Check, ◌then◌, when, each, in_turn, typed}
 use Rattle.sfc_plant.specs.VariableNames.{variable_place, with_type, typed_at, or_else, global_named, local_named, variable_named}

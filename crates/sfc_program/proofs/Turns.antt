@@ -1,7 +1,7 @@
 -- Elements in turn: what is left, once one more passed and was put last.
 use Rattle.std.proofs.Common.{◌≡◌, ℕ, List, [], ◌∷◌, ◌++◌, map, length, refl, None, sym, ap, subst, ◌∙◌, append_assoc}
 use Rattle.std.proofs.lemmas.List.{append-nil}
-use Rattle.sfc_variables.specs.declared.load_error.LoadError.{LoadError}
+use Rattle.sfc_events.specs.declared.load_error.LoadError.{LoadError}
 use Rattle.sfc_variables.specs.Checks.{Check, Fails, each, in_turn}
 use Rattle.sfc_variables.proofs.Checks.{passes, fails_first}
 

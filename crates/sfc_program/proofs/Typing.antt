@@ -5,7 +5,7 @@ use Rattle.sfc_check.specs.declared.type_error.TypeError.TheVariants as error
 use Rattle.sfc_check.specs.TypeFaults as types
 use Rattle.sfc_check.specs.TypeFaults.{Checked, IsFault}
 use Rattle.sfc_variables.specs.Checks.{Fails, typed, checked_or}
-use Rattle.sfc_variables.specs.LoadErrors.{of_type_error}
+use Rattle.sfc_check.specs.TypeFaults.{of_type_error}
 
 pub typed_ok : {Y : Type 0} (outcome : Checked Y) (x : Y) → outcome ≡ Ok x → typed outcome ≡ None
 typed_ok outcome x e = ap typed e

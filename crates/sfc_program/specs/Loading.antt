@@ -17,9 +17,9 @@ use Rattle.sfc_base.specs.declared.references.Variable as expr
 use Rattle.sfc_base.specs.Values.{is_same_type}
 use Rattle.sfc_check.specs.Checking.{checked, checked_body, checked_literal}
 use Rattle.sfc_base.specs.NameLists.{has, place_of}
-use Rattle.sfc_variables.specs.declared.load_error.LoadError.{LoadError}
-use Rattle.sfc_variables.specs.declared.load_error.LoadError.TheVariants as fault
-use Rattle.sfc_variables.specs.declared.load_error.Limit.TheVariants as limit
+use Rattle.sfc_events.specs.declared.load_error.LoadError.{LoadError}
+use Rattle.sfc_events.specs.declared.load_error.LoadError.TheVariants as fault
+use Rattle.sfc_events.specs.declared.load_error.Limit.TheVariants as limit
 use Rattle.sfc_plant.specs.declared.variable.Variable.{Variable}
 use Rattle.sfc_variables.specs.Checks.{Check, ◌then◌, when, each, in_turn, typed}
 use Rattle.sfc_plant.specs.VariableNames.{variable_named}

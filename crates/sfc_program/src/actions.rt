@@ -13,10 +13,10 @@ ghost use Rattle.sfc_program.specs.Built.{action_of};
 
 use crate::scope::{ActionScope, ProgramScope};
 use sfc_check::check_body::check_body;
+use sfc_events::load_error::LoadError;
 use sfc_plant::action::Action;
 use sfc_plant::typed::Statements;
 use sfc_text::tree::{self, Element};
-use sfc_variables::load_error::LoadError;
 use std::alloc::Global;
 
 // The body of an action.

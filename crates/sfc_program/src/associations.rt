@@ -16,10 +16,10 @@ use sfc_base::references::Variable;
 use sfc_base::var_type::VarType;
 use sfc_check::literal::check_literal;
 use sfc_check::scope::Scope;
+use sfc_events::load_error::LoadError;
 use sfc_plant::association::{Association, Qualifier, Target, Time};
 use sfc_plant::chart::Step;
 use sfc_text::tree::{self, AssociationTime, Element, Literal};
-use sfc_variables::load_error::LoadError;
 use std::alloc::Global;
 
 // The variable of this name, which has to be of a type: else the first fault where there is none, and the second where

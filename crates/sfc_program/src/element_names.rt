@@ -9,9 +9,9 @@ ghost use Rattle.sfc_program.specs.Elements.{steps_of, step_names, action_names,
 ghost use Rattle.sfc_program.specs.Loading.{name_check, distinct_check, element_names, initial_check};
 
 use sfc_base::name::Name;
+use sfc_events::load_error::LoadError;
 use sfc_plant::name_table::NameTable;
 use sfc_text::tree::Element;
-use sfc_variables::load_error::LoadError;
 use std::alloc::Global;
 
 /// The names of the steps and of the declared actions of a program type, each in text order.

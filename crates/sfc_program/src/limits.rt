@@ -7,8 +7,8 @@ ghost use Rattle.sfc_program.specs.Elements.{steps_of, transitions_of, associati
 ghost use Rattle.sfc_program.specs.Loading.{limits_check};
 
 use sfc_base::limits::{ASSOCIATIONS, STEPS, TRANSITIONS};
+use sfc_events::load_error::{Limit, LoadError};
 use sfc_text::tree::Element;
-use sfc_variables::load_error::{Limit, LoadError};
 
 // Whether there are more steps than this.
 fn exceeds_steps(elements: &[Element], most: usize) -> bool

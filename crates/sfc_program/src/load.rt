@@ -16,12 +16,12 @@ use crate::scope::ProgramScope;
 use crate::transitions::load_transitions;
 use sfc_base::items::Items;
 use sfc_base::limits::STEPS;
+use sfc_events::load_error::LoadError;
 use sfc_plant::chart::Chart;
 use sfc_plant::name_table::NameTable;
 use sfc_plant::program_type::ProgramType;
 use sfc_plant::variable_table::VariableTable;
 use sfc_text::tree::{Element, Program};
-use sfc_variables::load_error::LoadError;
 use sfc_variables::own::{OwnVariables, load_own};
 use std::alloc::Global;
 

@@ -20,12 +20,12 @@ use sfc_base::references::StepId;
 use sfc_base::var_type::VarType;
 use sfc_check::check::check;
 use sfc_check::scope::Scope;
+use sfc_events::load_error::LoadError;
 use sfc_plant::chart::Transition;
 use sfc_plant::name_table::NameTable;
 use sfc_plant::typed::Condition;
 use sfc_text::expression::Expression;
 use sfc_text::tree::{self, Element};
-use sfc_variables::load_error::LoadError;
 use std::alloc::{AllocError, Global};
 
 // Puts a step that a transition names, and hasn't named on the same side before, last among those of the side.

@@ -22,7 +22,7 @@ use Rattle.sfc_text.specs.Reads.{TextReads}
 use Rattle.sfc_text.specs.Trees.{SourceTree}
 use Rattle.sfc_text.specs.Declares.{OfTask}
 use Rattle.sfc_text.proofs.Declaring.{declares}
-use Rattle.sfc_asking.specs.sfc_variables.declared.load_error.LoadError.TheVariants as fault
+use Rattle.sfc_events.specs.declared.load_error.LoadError.TheVariants as fault
 use Rattle.sfc_asking.specs.sfc_variables.Checks.{Check, in_turn, when}
 use Rattle.sfc_asking.specs.sfc_variables.Declarations.{globals_check, globals_of}
 use Rattle.sfc_asking.proofs.of_sfc_program.Soundness.{then_first, then_second, when_none}

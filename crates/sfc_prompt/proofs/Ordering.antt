@@ -14,7 +14,7 @@ use Rattle.sfc_base.specs.declared.var_type.VarType.TheVariants as types
 use Rattle.sfc_plant.specs.Plants.{PlantData}
 use Rattle.sfc_plant.specs.declared.instance.Instance.{Instance}
 use Rattle.sfc_tokens.specs.Lexing.DurationWords.{duration_value}
-use Rattle.sfc_tokens.specs.ReadErrors.{Read}
+use Rattle.sfc_events.specs.ReadErrors.{Read}
 use Rattle.sfc_tokens.proofs.DurationWords.{word_again}
 use Rattle.sfc_tokens.proofs.TimeLaw.{time_is}
 use Rattle.sfc_text.specs.Trees.{Tree}

@@ -4,7 +4,7 @@ ghost use Rattle.std.specs.Prelude.{◌≢◌, OnOk, IfOk};
 ghost use Rattle.sfc_prompt.specs.Conditions.{IsFound, added_by};
 ghost use Rattle.sfc_prompt.specs.Notes.{Adds};
 ghost use Rattle.sfc_asking.specs.sfc_script.Scripts.{ConditionReads};
-ghost use Rattle.sfc_tokens.specs.declared.read_error.ReadErrorKind.TheVariants.{Memory};
+ghost use Rattle.sfc_events.specs.declared.read_error.ReadErrorKind.TheVariants.{Memory};
 
 use crate::sfc_check::type_error::TypeError;
 use crate::sfc_debug::break_condition::BreakCondition;
@@ -14,7 +14,7 @@ use sfc_base::ids::ProgId;
 use sfc_page::append::{append, append_number};
 use sfc_plant::plant::Plant;
 use sfc_text::read_expr::read_expr;
-use sfc_tokens::read_error::ReadErrorKind;
+use sfc_events::read_error::ReadErrorKind;
 use std::alloc::{AllocError, Global};
 
 /// Why a text is no condition: the number and the name of what a chart with such a condition is refused for; or that of a command of

@@ -29,8 +29,8 @@ use Rattle.sfc_load.specs.sfc_check.Checking.{checked_literal}
 use Rattle.sfc_expr.specs.Types.{IsOf}
 use Rattle.sfc_base.specs.Values.{default_value}
 use Rattle.sfc_load.proofs.of_sfc_check.CheckedTypes.{literal_of}
-use Rattle.sfc_load.specs.sfc_variables.declared.load_error.LoadError.TheVariants as fault
-use Rattle.sfc_load.specs.sfc_variables.declared.load_error.Limit.TheVariants as limit
+use Rattle.sfc_events.specs.declared.load_error.LoadError.TheVariants as fault
+use Rattle.sfc_events.specs.declared.load_error.Limit.TheVariants as limit
 use Rattle.sfc_plant.specs.declared.variable.Variable.{Variable}
 use Rattle.sfc_load.specs.sfc_variables.Checks.{when}
 use Rattle.sfc_load.specs.sfc_variables.Declarations.{Declared, declared_as, declared_by, declared_in, declared_name, declared_check, initial_check, initial_value, variable_of, globals_check, globals_of}

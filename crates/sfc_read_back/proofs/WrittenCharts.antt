@@ -17,8 +17,8 @@ use Rattle.sfc_base.specs.declared.references.StepId.{StepId}
 use Rattle.sfc_expr.specs.Trees.{Expression, Literal, Nothing}
 use Rattle.sfc_load.specs.sfc_check.Checking.{checked, checked_body}
 use Rattle.sfc_base.specs.NameLists.{place_of}
-use Rattle.sfc_load.specs.sfc_variables.declared.load_error.LoadError.{LoadError}
-use Rattle.sfc_load.specs.sfc_variables.declared.load_error.LoadError.TheVariants as fault
+use Rattle.sfc_events.specs.declared.load_error.LoadError.{LoadError}
+use Rattle.sfc_events.specs.declared.load_error.LoadError.TheVariants as fault
 use Rattle.sfc_load.specs.sfc_variables.Checks.{when, each, in_turn, typed, checked_or}
 use Rattle.sfc_plant.specs.VariableNames.{variable_named}
 use Rattle.sfc_plant.specs.declared.association.Association.{Association}

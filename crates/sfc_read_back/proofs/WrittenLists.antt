@@ -6,7 +6,7 @@ use Rattle.std.proofs.lemmas.List.Folds.{list_any-append}
 use Rattle.sfc_base.specs.Case.{same_word}
 use Rattle.sfc_base.proofs.SameWords.{same_word_equiv}
 use Rattle.sfc_base.specs.NameLists.{has}
-use Rattle.sfc_load.specs.sfc_variables.declared.load_error.LoadError.TheVariants as fault
+use Rattle.sfc_events.specs.declared.load_error.LoadError.TheVariants as fault
 use Rattle.sfc_load.specs.sfc_variables.Checks.{Check, ◌then◌, when, each, in_turn}
 use Rattle.sfc_load.proofs.of_sfc_variables.Checks.{passes}
 use Rattle.sfc_load.specs.sfc_program.Loading.{name_check, distinct_check}

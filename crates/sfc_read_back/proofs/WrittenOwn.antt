@@ -13,7 +13,7 @@ use Rattle.sfc_base.specs.declared.references.GlobalId.{GlobalId}
 use Rattle.sfc_base.specs.declared.references.Variable.TheVariants.{Global}
 use Rattle.sfc_base.specs.Values.{is_same_type}
 use Rattle.sfc_base.specs.NameLists.{has}
-use Rattle.sfc_load.specs.sfc_variables.declared.load_error.LoadError.TheVariants as fault
+use Rattle.sfc_events.specs.declared.load_error.LoadError.TheVariants as fault
 use Rattle.sfc_plant.specs.declared.variable.Variable.{Variable}
 use Rattle.sfc_load.specs.sfc_variables.Checks.{Check, ◌then◌, when, in_turn}
 use Rattle.sfc_load.specs.sfc_variables.Declarations.{Declared, declared_check, declared_name, variable_of}

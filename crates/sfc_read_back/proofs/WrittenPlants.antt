@@ -12,8 +12,8 @@ use Rattle.sfc_text.specs.Trees.{ProgramTree, SourceTree}
 use Rattle.sfc_base.specs.declared.references.GlobalId.{GlobalId}
 use Rattle.sfc_base.specs.declared.references.Variable.TheVariants.{Global}
 use Rattle.sfc_base.specs.NameLists.{place_of}
-use Rattle.sfc_load.specs.sfc_variables.declared.load_error.LoadError.TheVariants as fault
-use Rattle.sfc_load.specs.sfc_variables.declared.load_error.Limit.TheVariants as limit
+use Rattle.sfc_events.specs.declared.load_error.LoadError.TheVariants as fault
+use Rattle.sfc_events.specs.declared.load_error.Limit.TheVariants as limit
 use Rattle.sfc_plant.specs.declared.variable.Variable.{Variable}
 use Rattle.sfc_load.specs.sfc_variables.Checks.{Check, ◌then◌, when}
 use Rattle.sfc_load.specs.sfc_variables.Declarations.{globals_check, globals_of}

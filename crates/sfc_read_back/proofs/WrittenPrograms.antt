@@ -7,8 +7,8 @@ use Rattle.std.proofs.lemmas.Simd.{map-map}
 use Rattle.sfc_base.specs.declared.limits.TheConstants.{ASSOCIATIONS, STEPS, TRANSITIONS}
 use Rattle.sfc_text.specs.declared.tree.Step as text_step
 use Rattle.sfc_text.specs.Trees.{ElementTree, AStep, ATransition, AnAction, ProgramTree}
-use Rattle.sfc_load.specs.sfc_variables.declared.load_error.LoadError.TheVariants as fault
-use Rattle.sfc_load.specs.sfc_variables.declared.load_error.Limit.TheVariants as limit
+use Rattle.sfc_events.specs.declared.load_error.LoadError.TheVariants as fault
+use Rattle.sfc_events.specs.declared.load_error.Limit.TheVariants as limit
 use Rattle.sfc_plant.specs.declared.variable.Variable.{Variable}
 use Rattle.sfc_load.specs.sfc_variables.Checks.{◌then◌, when, each}
 use Rattle.sfc_load.specs.sfc_variables.Own.{variables_check, own_names}

@@ -10,7 +10,7 @@ use Rattle.sfc_base.specs.Values.{default_value}
 use Rattle.sfc_load.specs.sfc_check.TypeFaults.{Checked}
 use Rattle.sfc_load.specs.sfc_check.Checking.{checked_literal}
 use Rattle.sfc_base.specs.NameLists.{has}
-use Rattle.sfc_load.specs.sfc_variables.declared.load_error.LoadError.TheVariants as fault
+use Rattle.sfc_events.specs.declared.load_error.LoadError.TheVariants as fault
 use Rattle.sfc_plant.specs.declared.variable.Variable.{Variable}
 use Rattle.sfc_load.specs.sfc_variables.Checks.{◌then◌, when, in_turn, typed, checked_or}
 use Rattle.sfc_load.specs.sfc_variables.Locations.{fits_location}

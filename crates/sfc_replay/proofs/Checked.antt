@@ -1,13 +1,13 @@
 -- Where the checking of a chart ends.
 use Rattle.std.proofs.Common.{◌≡◌, ℕ, List, Result, Ok, Err, refl, sym, subst}
-use Rattle.sfc_tokens.specs.declared.read_error.ReadError.{ReadError}
-use Rattle.sfc_tokens.specs.declared.read_error.ReadErrorKind.{ReadErrorKind}
-use Rattle.sfc_tokens.specs.declared.read_error.ReadErrorKind.TheVariants as kind
+use Rattle.sfc_events.specs.declared.read_error.ReadError.{ReadError}
+use Rattle.sfc_events.specs.declared.read_error.ReadErrorKind.{ReadErrorKind}
+use Rattle.sfc_events.specs.declared.read_error.ReadErrorKind.TheVariants as kind
 use Rattle.sfc_tokens.specs.Texts.{FindsError}
 use Rattle.sfc_text.specs.Reads.{TextReads}
 use Rattle.sfc_text.specs.Trees.{SourceTree}
-use Rattle.sfc_script.specs.sfc_variables.declared.load_error.LoadError.{LoadError}
-use Rattle.sfc_script.specs.sfc_variables.declared.load_error.LoadError.TheVariants as load
+use Rattle.sfc_events.specs.declared.load_error.LoadError.{LoadError}
+use Rattle.sfc_events.specs.declared.load_error.LoadError.TheVariants as load
 use Rattle.sfc_script.specs.sfc_variables.Checks.{Fails}
 use Rattle.sfc_script.specs.sfc_load.Built.{source_check}
 use Rattle.sfc_replay.specs.declared.replay_error.ReplayError.{ReplayError}

@@ -26,8 +26,8 @@ use Rattle.sfc_plant.specs.declared.variable.Variable.{Variable}
 use Rattle.sfc_plant.specs.Finding.{chart_in}
 use Rattle.sfc_plant.specs.Spaces.{Space}
 use Rattle.sfc_plant.specs.VariableNames.{variable_named}
-use Rattle.sfc_script.specs.sfc_variables.declared.load_error.LoadError.{LoadError}
-use Rattle.sfc_script.specs.sfc_variables.declared.load_error.LoadError.TheVariants as fault
+use Rattle.sfc_events.specs.declared.load_error.LoadError.{LoadError}
+use Rattle.sfc_events.specs.declared.load_error.LoadError.TheVariants as fault
 use Rattle.sfc_script.specs.sfc_variables.Checks.{Check, each, checked_or}
 use Rattle.sfc_script.specs.sfc_variables.Own.{variables_check, own_names}
 use Rattle.sfc_script.specs.sfc_program.Elements.{steps_of, actions_of}

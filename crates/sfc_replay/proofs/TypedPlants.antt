@@ -13,7 +13,7 @@ use Rattle.sfc_plant.specs.Image.{locals_in}
 use Rattle.sfc_plant.specs.Finding.{chart_in, chart_among, chart_of, locals_at, instance_locals}
 use Rattle.sfc_plant.specs.VariableNames.{variable_named}
 use Rattle.sfc_script.specs.sfc_check.Scopes.{Declares}
-use Rattle.sfc_script.specs.sfc_variables.declared.load_error.LoadError.TheVariants as fault
+use Rattle.sfc_events.specs.declared.load_error.LoadError.TheVariants as fault
 use Rattle.sfc_script.specs.sfc_variables.Checks.{when}
 use Rattle.sfc_script.specs.sfc_variables.Declarations.{declared_in, globals_check, globals_of}
 use Rattle.sfc_script.specs.sfc_program.Built.{program_of}

@@ -1,13 +1,13 @@
 -- What each fault becomes, and the exit status and the text of each (our choice).
 use Rattle.std.specs.Prelude.{ℕ, List, ◌++◌, codes}
 use Rattle.std.specs.Fmt.{decimal}
-use Rattle.sfc_tokens.specs.declared.read_error.ReadError.{ReadError}
-use Rattle.sfc_tokens.specs.declared.read_error.ReadErrorKind.{ReadErrorKind}
-use Rattle.sfc_tokens.specs.declared.read_error.ReadErrorKind.TheVariants as kind
-use Rattle.sfc_tokens.specs.ReadErrors as reading
-use Rattle.sfc_script.specs.sfc_variables.LoadErrors as loading
-use Rattle.sfc_script.specs.sfc_variables.declared.load_error.LoadError.{LoadError}
-use Rattle.sfc_script.specs.sfc_variables.declared.load_error.LoadError.TheVariants as load
+use Rattle.sfc_events.specs.declared.read_error.ReadError.{ReadError}
+use Rattle.sfc_events.specs.declared.read_error.ReadErrorKind.{ReadErrorKind}
+use Rattle.sfc_events.specs.declared.read_error.ReadErrorKind.TheVariants as kind
+use Rattle.sfc_events.specs.ReadErrors as reading
+use Rattle.sfc_events.specs.LoadErrors as loading
+use Rattle.sfc_events.specs.declared.load_error.LoadError.{LoadError}
+use Rattle.sfc_events.specs.declared.load_error.LoadError.TheVariants as load
 use Rattle.sfc_script.specs.declared.script.ScriptError.{ScriptError}
 use Rattle.sfc_script.specs.declared.script.ScriptError.TheVariants as script
 use Rattle.sfc_replay.specs.declared.replay_error.ChartError.{ChartError}

@@ -4,10 +4,10 @@ ghost use Rattle.std.specs.Prelude.{◌≡◌};
 ghost use Rattle.sfc_replay.specs.declared.replay_error.ReplayError.TheVariants.{Memory, Write as WriteVariant};
 ghost use Rattle.sfc_replay.specs.ReplayErrors.{of_script, of_read, of_load, status_of};
 
-use crate::sfc_variables::load_error::LoadError;
 use sfc_base::write_fault::WriteFault;
+use sfc_events::load_error::LoadError;
+use sfc_events::read_error::{ReadError, ReadErrorKind};
 use sfc_script::script::ScriptError;
-use sfc_tokens::read_error::{ReadError, ReadErrorKind};
 use std::alloc::AllocError;
 use std::error::Error;
 use std::fmt;

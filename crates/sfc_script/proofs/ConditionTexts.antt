@@ -1,8 +1,8 @@
 -- The conditions of breakpoints.
 use Rattle.std.proofs.Common.{◌≡◌, ℕ, List, [], ◌∷◌, Option, Some, None, Result, Ok, Err, refl, sym, ap}
 use Rattle.sfc_plant.specs.Plants.{PlantData}
-use Rattle.sfc_tokens.specs.declared.read_error.ReadErrorKind.{ReadErrorKind}
-use Rattle.sfc_tokens.specs.declared.read_error.ReadErrorKind.TheVariants as kind
+use Rattle.sfc_events.specs.declared.read_error.ReadErrorKind.{ReadErrorKind}
+use Rattle.sfc_events.specs.declared.read_error.ReadErrorKind.TheVariants as kind
 use Rattle.sfc_tokens.specs.Texts.{FindsError}
 use Rattle.sfc_text.specs.Reads.{ExpressionReads}
 use Rattle.sfc_text.specs.Trees.{Tree}

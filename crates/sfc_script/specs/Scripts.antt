@@ -3,7 +3,7 @@ use Rattle.std.specs.Prelude.{◌≡◌, ℕ, suc, ◌+◌, nat_lt, if◌then◌
 use Rattle.std.specs.Prelude.{ℤ, Option, Some, None, Result, Ok, Err}
 use Rattle.sfc_base.specs.declared.ids.ProgId.{ProgId}
 use Rattle.sfc_plant.specs.Plants.{PlantData}
-use Rattle.sfc_tokens.specs.ReadErrors.{Read}
+use Rattle.sfc_events.specs.ReadErrors.{Read}
 use Rattle.sfc_text.specs.Reads.{ExpressionReads}
 use Rattle.sfc_text.specs.Trees.{Tree}
 use Rattle.sfc_events.specs.declared.command.Command.TheVariants.{BreakIf}

@@ -11,7 +11,7 @@ use crate::script::ScriptError;
 use sfc_debug::break_condition::BreakCondition;
 use sfc_plant::plant::Plant;
 use sfc_text::read_expr::read_expr;
-use sfc_tokens::read_error::ReadErrorKind;
+use sfc_events::read_error::ReadErrorKind;
 use std::alloc::Global;
 
 // The refusal of a text that is no expression, which stands at this line.

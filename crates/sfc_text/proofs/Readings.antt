@@ -1,14 +1,14 @@
 -- The outcome of a text that is read.
 use Rattle.std.proofs.Common.{◌≡◌, ◌⊎◌, inl, inr, true, ℕ, ◌≤◌, length, List, [], ◌∷◌, Ok, Err, refl, sym, ap, subst, ◌∙◌, arith}
-use Rattle.sfc_tokens.specs.declared.read_error.ReadErrorKind.{ReadErrorKind}
-use Rattle.sfc_tokens.specs.declared.read_error.ReadErrorKind.TheVariants as kind
+use Rattle.sfc_events.specs.declared.read_error.ReadErrorKind.{ReadErrorKind}
+use Rattle.sfc_events.specs.declared.read_error.ReadErrorKind.TheVariants as kind
 use Rattle.sfc_tokens.specs.Texts.{TextLexes, FindsError}
 use Rattle.sfc_tokens.specs.declared.token.Token.{Token}
 use Rattle.sfc_tokens.specs.Tokens.{Kinds, kinds}
 use Rattle.sfc_text.specs.declared.parse.fault.ParseFault.{ParseFault}
 use Rattle.sfc_text.specs.declared.parse.fault.ParseFault.TheVariants as fault
 use Rattle.sfc_tokens.specs.Lexemes.{Tokens}
-use Rattle.sfc_tokens.specs.ReadErrors as errors
+use Rattle.sfc_events.specs.ReadErrors as errors
 use Rattle.sfc_tokens.proofs.Outcomes.{one_outcome, some_outcome}
 use Rattle.sfc_text.specs.Rules.{Rule}
 use Rattle.sfc_text.specs.Limits.{Limits, ours}

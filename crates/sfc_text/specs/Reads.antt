@@ -1,8 +1,8 @@
 -- What a text is read as: a whole one, and one that is an expression.
 use Rattle.std.specs.Prelude.{◌≡◌, ◌⊎◌, List, [], ℕ, Bool, true, false, Ok, Err}
-use Rattle.sfc_tokens.specs.declared.read_error.ReadErrorKind.{ReadErrorKind}
-use Rattle.sfc_tokens.specs.declared.read_error.ReadErrorKind.TheVariants.{Syntax, TooDeep}
-use Rattle.sfc_tokens.specs.ReadErrors.{Read}
+use Rattle.sfc_events.specs.declared.read_error.ReadErrorKind.{ReadErrorKind}
+use Rattle.sfc_events.specs.declared.read_error.ReadErrorKind.TheVariants.{Syntax, TooDeep}
+use Rattle.sfc_events.specs.ReadErrors.{Read}
 use Rattle.sfc_tokens.specs.Tokens.{Kinds}
 use Rattle.sfc_tokens.specs.Texts.{TextLexes}
 use Rattle.sfc_text.specs.Trees.{Tree, SourceTree}

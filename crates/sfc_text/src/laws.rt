@@ -1,7 +1,7 @@
 //! What holds of the grammar itself. Each law is a function with an empty body, whose contract is the law.
 
 ghost use Rattle.std.specs.Prelude.{◌++◌, ◌≡◌, ◌≤◌, true, Contains, List, ℕ};
-ghost use Rattle.sfc_tokens.specs.ReadErrors.{Read};
+ghost use Rattle.sfc_events.specs.ReadErrors.{Read};
 ghost use Rattle.sfc_tokens.specs.Tokens.{Kinds};
 ghost use Rattle.sfc_text.specs.declared.tree.Configuration.{Configuration};
 ghost use Rattle.sfc_text.specs.declared.tree.Step.{Step};

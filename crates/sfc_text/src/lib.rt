@@ -17,4 +17,4 @@ pub mod statement;
 pub mod tree;
 
 pub use sfc_tokens::lex::tokens;
-pub use sfc_tokens::read_error::{ReadError, ReadErrorKind};
+pub use sfc_events::read_error::{ReadError, ReadErrorKind};

@@ -4,8 +4,8 @@ use Rattle.sfc_base.specs.declared.class.Class.{Class}
 use Rattle.sfc_base.specs.declared.class.Class.TheVariants as class
 use Rattle.sfc_base.specs.declared.run.Alphabet.TheVariants as alphabet
 use Rattle.sfc_tokens.specs.declared.literal.LiteralKind.{LiteralKind}
-use Rattle.sfc_tokens.specs.declared.read_error.ReadErrorKind.{ReadErrorKind}
-use Rattle.sfc_tokens.specs.declared.read_error.ReadErrorKind.TheVariants.{BadToken}
+use Rattle.sfc_events.specs.declared.read_error.ReadErrorKind.{ReadErrorKind}
+use Rattle.sfc_events.specs.declared.read_error.ReadErrorKind.TheVariants.{BadToken}
 use Rattle.sfc_tokens.specs.declared.token.TokenKind.{TokenKind}
 use Rattle.sfc_base.specs.Classes.{class_of}
 use Rattle.sfc_tokens.specs.Lexing.Results.{◌>>=◌}

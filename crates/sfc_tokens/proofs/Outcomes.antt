@@ -1,12 +1,12 @@
 -- The outcome of a text.
 use Rattle.std.proofs.Common.{◌≡◌, ℕ, ◌≤◌, Bool, true, false, nat_le, List, length, Result, Ok, Err, refl, subst, arith}
 use Rattle.std.proofs.lemmas.Bool.{leb-true, leb-false}
-use Rattle.sfc_tokens.specs.declared.read_error.ReadError.{ReadError}
-use Rattle.sfc_tokens.specs.declared.read_error.ReadErrorKind.{ReadErrorKind}
-use Rattle.sfc_tokens.specs.declared.read_error.ReadErrorKind.TheVariants as kind
+use Rattle.sfc_events.specs.declared.read_error.ReadError.{ReadError}
+use Rattle.sfc_events.specs.declared.read_error.ReadErrorKind.{ReadErrorKind}
+use Rattle.sfc_events.specs.declared.read_error.ReadErrorKind.TheVariants as kind
 use Rattle.sfc_tokens.specs.declared.token.TokenKind.{TokenKind}
 use Rattle.sfc_tokens.specs.Lexing.Results.{FailsAs, Answers}
-use Rattle.sfc_tokens.specs.ReadErrors.{Read}
+use Rattle.sfc_events.specs.ReadErrors.{Read}
 use Rattle.sfc_tokens.specs.Lexemes.{Tokens, Lexes}
 use Rattle.sfc_tokens.specs.Lexing.Tokens.{lex}
 use Rattle.sfc_tokens.specs.Texts as texts

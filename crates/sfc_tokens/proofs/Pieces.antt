@@ -8,7 +8,7 @@ use Rattle.sfc_base.specs.declared.class.Class.TheVariants as class
 use Rattle.sfc_base.specs.declared.run.Alphabet.TheVariants as alphabet
 use Rattle.sfc_tokens.specs.declared.literal.LiteralKind.{LiteralKind}
 use Rattle.sfc_tokens.specs.declared.literal.LiteralKind.TheVariants as kind
-use Rattle.sfc_tokens.specs.declared.read_error.ReadErrorKind.TheVariants.{BadToken}
+use Rattle.sfc_events.specs.declared.read_error.ReadErrorKind.TheVariants.{BadToken}
 use Rattle.sfc_tokens.specs.declared.lex.Ahead.{Ahead}
 use Rattle.sfc_tokens.specs.declared.lex.Ahead.TheVariants.{Alone, Longer, Comment}
 use Rattle.sfc_tokens.specs.declared.token.TokenKind.{TokenKind}

@@ -2,7 +2,7 @@
 use Rattle.std.proofs.Common.{◌≡◌, ℕ, ◌≤◌, Bool, true, false, ◌==◌, List, [], ◌∷◌, ◌++◌, length, Some, Ok, Err, refl, sym, ap, subst, ◌∙◌, append_assoc}
 use Rattle.std.proofs.lemmas.Bool.{eqb-true}
 use Rattle.std.proofs.lemmas.List.{append-nil}
-use Rattle.sfc_tokens.specs.declared.read_error.ReadErrorKind.TheVariants.{NotAscii}
+use Rattle.sfc_events.specs.declared.read_error.ReadErrorKind.TheVariants.{NotAscii}
 use Rattle.sfc_tokens.specs.declared.token.TokenKind.{TokenKind}
 use Rattle.sfc_base.specs.Classes.{class_of}
 use Rattle.sfc_tokens.specs.Lexemes as lexemes

@@ -10,7 +10,5 @@ pub mod Spelling
 pub mod Texts
 -- tokens without their lines
 pub mod Tokens
--- the numbers, names and texts of refusals
-pub mod ReadErrors
 -- What private clauses cite.
 pub mod Lexing

@@ -2,8 +2,8 @@
 use Rattle.std.specs.Prelude.{◌≡◌, ℕ, ℤ, pos, neg_ℤ, ◌<◌, ◌^◌, List, Bool, true, false, ◌||◌, if◌then◌else◌, Option, Some, None, codes}
 use Rattle.sfc_tokens.specs.declared.literal.LiteralKind.{LiteralKind}
 use Rattle.sfc_tokens.specs.declared.literal.LiteralKind.TheVariants.{Number, Int, Dint, Truth, Duration, Location}
-use Rattle.sfc_tokens.specs.declared.read_error.ReadErrorKind.{ReadErrorKind}
-use Rattle.sfc_tokens.specs.declared.read_error.ReadErrorKind.TheVariants as fault
+use Rattle.sfc_events.specs.declared.read_error.ReadErrorKind.{ReadErrorKind}
+use Rattle.sfc_events.specs.declared.read_error.ReadErrorKind.TheVariants as fault
 use Rattle.sfc_base.specs.declared.run.Alphabet.{Alphabet}
 use Rattle.sfc_base.specs.declared.run.Alphabet.TheVariants as alphabet
 use Rattle.sfc_tokens.specs.declared.token.TokenKind.{TokenKind}

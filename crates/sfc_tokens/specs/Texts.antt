@@ -1,9 +1,9 @@
 -- Whole texts and their tokens.
 use Rattle.std.specs.Prelude.{ℕ, ◌<◌, ◌≤◌, List, ◌∷◌, length, ◌==◌, ◌&&◌, if◌then◌else◌, Result, Ok, Err}
-use Rattle.sfc_tokens.specs.declared.read_error.ReadError.{ReadError}
-use Rattle.sfc_tokens.specs.declared.read_error.ReadErrorKind.{ReadErrorKind}
-use Rattle.sfc_tokens.specs.declared.read_error.ReadErrorKind.TheVariants as kind
-use Rattle.sfc_tokens.specs.ReadErrors.{Read}
+use Rattle.sfc_events.specs.declared.read_error.ReadError.{ReadError}
+use Rattle.sfc_events.specs.declared.read_error.ReadErrorKind.{ReadErrorKind}
+use Rattle.sfc_events.specs.declared.read_error.ReadErrorKind.TheVariants as kind
+use Rattle.sfc_events.specs.ReadErrors.{Read}
 use Rattle.sfc_tokens.specs.Lexemes.{Tokens, Lexes}
 
 -- the greatest length of a text, in bytes (our choice)

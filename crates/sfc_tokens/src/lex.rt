@@ -15,13 +15,13 @@ ghost use Rattle.sfc_tokens.specs.Tokens.{kinds};
 
 use crate::lex_fault::LexFault;
 use crate::literal::{LiteralKind, literal};
-use crate::read_error::{OUT_OF_MEMORY, ReadError, ReadErrorKind};
 use crate::token::{Token, TokenKind};
 use sfc_base::class::{Class, class_of, first_class};
 use sfc_base::delimiter::Delimiter;
 use sfc_base::keyword::keyword_of;
 use sfc_base::name::{Name, is_spaced};
 use sfc_base::run::{Alphabet, run};
+use sfc_events::read_error::{OUT_OF_MEMORY, ReadError, ReadErrorKind};
 use std::alloc::{AllocError, AllocFailed, Global};
 
 /// The greatest length of a text, in bytes (our choice).

@@ -3,7 +3,7 @@
 ghost use Rattle.std.specs.Prelude.{◌≡◌};
 ghost use Rattle.sfc_tokens.specs.declared.lex_fault.LexFault.TheVariants.{Memory};
 
-use crate::read_error::ReadErrorKind;
+use sfc_events::read_error::ReadErrorKind;
 use std::alloc::{AllocError, AllocFailed};
 
 /// What is wrong with the text at one place, or want of memory.

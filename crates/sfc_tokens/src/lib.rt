@@ -4,7 +4,6 @@
 //! - `laws`: what holds of the definitions themselves.
 //! - `literal`: what stands behind the prefix of a literal; `number`: its integers; `lex_location`: how a location is
 //!   written.
-//! - `read_error`: why a text was refused.
 //! - `lex`: a whole text to its tokens; `lex_fault`: what keeps the lexer from going on.
 //! - `token`: tokens, each with its line.
 #![tactic(auto)]
@@ -17,5 +16,4 @@ mod lex_fault;
 mod lex_location;
 mod literal;
 mod number;
-pub mod read_error;
 pub mod token;

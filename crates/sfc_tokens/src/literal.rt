@@ -8,11 +8,11 @@ ghost use Rattle.sfc_tokens.specs.Lexing.Literals as lex;
 use crate::lex_duration::interval;
 use crate::lex_location::location;
 use crate::number::{base_at, integer};
-use crate::read_error::ReadErrorKind;
 use crate::token::TokenKind;
 use sfc_base::case::is_same_word;
 use sfc_base::run::Alphabet;
 use sfc_base::time_value::TimeValue;
+use sfc_events::read_error::ReadErrorKind;
 use std::alloc::{AllocError, Global};
 
 /// What a literal is, by what stands in front of it.

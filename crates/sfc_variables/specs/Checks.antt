@@ -1,8 +1,8 @@
 -- What loading refuses: checks, one after the other, of which the first fault is told (our choice of order).
 use Rattle.std.specs.Prelude.{◌≡◌, ℕ, Bool, true, false, List, [], ◌∷◌, ◌++◌, Option, Some, None, Result, Ok, Err, ⊤}
 use Rattle.sfc_check.specs.TypeFaults.{TypeFault, Checked, Unknown, WrongType, LiteralRange, NotAssignable}
-use Rattle.sfc_variables.specs.declared.load_error.LoadError.{LoadError}
-use Rattle.sfc_variables.specs.declared.load_error.LoadError.TheVariants as fault
+use Rattle.sfc_events.specs.declared.load_error.LoadError.{LoadError}
+use Rattle.sfc_events.specs.declared.load_error.LoadError.TheVariants as fault
 
 abbrev pub Check : Type 0
 Check = Option LoadError

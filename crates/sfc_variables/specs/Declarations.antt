@@ -8,7 +8,7 @@ use Rattle.sfc_base.specs.declared.value.Value.{Value}
 use Rattle.sfc_base.specs.Values.{default_value}
 use Rattle.sfc_check.specs.Checking.{checked_literal}
 use Rattle.sfc_base.specs.NameLists.{has}
-use Rattle.sfc_variables.specs.declared.load_error.LoadError.TheVariants as fault
+use Rattle.sfc_events.specs.declared.load_error.LoadError.TheVariants as fault
 use Rattle.sfc_plant.specs.declared.variable.Variable.{Variable}
 use Rattle.sfc_variables.specs.Checks.{Check, ◌then◌, when, typed, checked_or, in_turn}
 use Rattle.sfc_variables.specs.Locations.{fits_location}

@@ -1,7 +1,5 @@
 -- The rules, in reading order.
 
--- the numbers, names and texts of what loading refuses
-pub mod LoadErrors
 -- checks, one after the other, and what a function that makes them gives
 pub mod Checks
 -- where variables lie

@@ -9,7 +9,7 @@ use Rattle.sfc_base.specs.declared.references.GlobalId.{GlobalId}
 use Rattle.sfc_base.specs.declared.references.Variable.{Variable}
 use Rattle.sfc_base.specs.Values.{is_same_type}
 use Rattle.sfc_base.specs.NameLists.{has}
-use Rattle.sfc_variables.specs.declared.load_error.LoadError.TheVariants as fault
+use Rattle.sfc_events.specs.declared.load_error.LoadError.TheVariants as fault
 use Rattle.sfc_variables.specs.declared.own.OwnVariables.{OwnVariables}
 use Rattle.sfc_plant.specs.declared.variable.Variable.{Variable as PlantVariable}
 use Rattle.sfc_variables.specs.Checks.{Check, ◌then◌, when, in_turn}

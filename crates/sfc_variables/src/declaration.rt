@@ -5,13 +5,13 @@ ghost use Rattle.sfc_variables.specs.Checks.{Loads};
 ghost use Rattle.sfc_variables.specs.Declarations as declarations;
 ghost use Rattle.sfc_variables.specs.Declarations.{declared_as, declared_check, global_check, initial_check};
 
-use crate::load_error::LoadError;
 use crate::located::fits_location;
 use sfc_base::location::Location;
 use sfc_base::name::Name;
 use sfc_base::value::{Value, default_value};
 use sfc_base::var_type::VarType;
 use sfc_check::literal::check_literal;
+use sfc_events::load_error::LoadError;
 use sfc_plant::name_table::NameTable;
 use sfc_plant::variable::Variable;
 use sfc_text::tree::{Declaration, Literal};

@@ -5,8 +5,8 @@ ghost use Rattle.sfc_variables.specs.Checks.{Loads, in_turn};
 ghost use Rattle.sfc_variables.specs.Declarations.{declared_name, declared_as, declared_by, declared_in, variable_of, global_check, globals_check, globals_of};
 
 use crate::declaration::new_variable;
-use crate::load_error::LoadError;
 use sfc_base::name::Name;
+use sfc_events::load_error::LoadError;
 use sfc_plant::name_table::NameTable;
 use sfc_plant::variable::Variable;
 use sfc_plant::variable_table::VariableTable;

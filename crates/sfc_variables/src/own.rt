@@ -1,11 +1,11 @@
 //! The variables of a program type: its own, and the globals that it names (2.4.3, 2.5.3).
 
 use crate::declaration::new_variable;
-use crate::load_error::LoadError;
 use sfc_base::items::Items;
 use sfc_base::name::Name;
 use sfc_base::references::GlobalId;
 use sfc_base::var_type::VarType;
+use sfc_events::load_error::LoadError;
 use sfc_plant::name_table::NameTable;
 use sfc_plant::variable::Variable;
 use sfc_plant::variable_table::VariableTable;

@@ -3,11 +3,11 @@ use Rattle.std.specs.Prelude.{◌≡◌, ℕ, List, [], ◌++◌, Option, Some, 
 use Rattle.std.specs.Fmt.{decimal}
 use Rattle.sfc_explain.specs.declared.explanation.Explanation.{Explanation}
 use Rattle.sfc_explain.specs.Finding.{is_numbered, is_named}
-use Rattle.sfc_tokens.specs.ReadErrors as reading
-use Rattle.sfc_explain.specs.sfc_variables.declared.load_error.Limit.{Limit as LimitKind}
-use Rattle.sfc_explain.specs.sfc_variables.declared.load_error.LoadError.{LoadError}
-use Rattle.sfc_explain.specs.sfc_variables.declared.load_error.LoadError.TheVariants.{Limit}
-use Rattle.sfc_explain.specs.sfc_variables.LoadErrors as loading
+use Rattle.sfc_events.specs.ReadErrors as reading
+use Rattle.sfc_events.specs.declared.load_error.Limit.{Limit as LimitKind}
+use Rattle.sfc_events.specs.declared.load_error.LoadError.{LoadError}
+use Rattle.sfc_events.specs.declared.load_error.LoadError.TheVariants.{Limit}
+use Rattle.sfc_events.specs.LoadErrors as loading
 use Rattle.sfc_why.specs.declared.page.Piece.{Piece}
 use Rattle.sfc_why.specs.declared.page.Piece.TheVariants.{Blank, Colon, Behind, LineEnd, ScriptLine, Meaning, Cause}
 use Rattle.sfc_why.specs.declared.position.Position.{Position}

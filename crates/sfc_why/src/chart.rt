@@ -6,8 +6,8 @@ ghost use Rattle.sfc_tokens.specs.Texts.{TextLexes};
 ghost use Rattle.sfc_tokens.specs.Tokens.{kinds};
 ghost use Rattle.sfc_why.specs.Places.{IsPlaceOf};
 ghost use Rattle.sfc_why.specs.Telling.{Explains, IsReportFor};
-ghost use Rattle.sfc_tokens.specs.declared.read_error.ReadErrorKind.TheVariants.{TooLong, Memory};
-ghost use Rattle.sfc_explain.specs.sfc_variables.declared.load_error.LoadError.TheVariants as load;
+ghost use Rattle.sfc_events.specs.declared.read_error.ReadErrorKind.TheVariants.{TooLong, Memory};
+ghost use Rattle.sfc_events.specs.declared.load_error.LoadError.TheVariants as load;
 ghost use Rattle.sfc_why.specs.declared.report.Fault.TheVariants.{Reading, Loading};
 
 use crate::place::{Place, token_place};
@@ -18,13 +18,13 @@ use crate::sfc_places::chart_text::ChartText;
 use crate::sfc_places::finding::Finding;
 use crate::sfc_places::span::find_spans;
 use crate::sfc_places::walk::first_fault;
-use crate::sfc_variables::load_error::LoadError;
+use sfc_events::load_error::LoadError;
+use sfc_events::read_error::{ReadError, ReadErrorKind};
 use sfc_hints::notes::add_finding;
 use sfc_hints::trial::Goal;
 use sfc_plant::plant::Plant;
 use sfc_text::read::read;
 use sfc_tokens::lex::tokens;
-use sfc_tokens::read_error::{ReadError, ReadErrorKind};
 use std::alloc::{AllocError, Global};
 
 /// What is told of a chart.

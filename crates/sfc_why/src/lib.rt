@@ -20,6 +20,5 @@ mod words;
 
 // What the crates above name through this one.
 pub use sfc_explain;
-pub use sfc_explain::sfc_variables;
 pub use sfc_hints::sfc_places;
 pub use sfc_script::{sfc_core, sfc_debug, sfc_load};

@@ -7,8 +7,8 @@ ghost use Rattle.sfc_why.specs.Pages as text;
 
 use crate::position::Position;
 use crate::report::{Fault, Report};
-use crate::sfc_variables::load_error::{Limit, LoadError};
 use sfc_base::write_fault::{WriteFault, put_all};
+use sfc_events::load_error::{Limit, LoadError};
 use sfc_explain::explanation::Explanation;
 use sfc_explain::finding::find;
 use sfc_explain::table::{faults, of_charts};

@@ -7,8 +7,8 @@ ghost use Rattle.sfc_why.specs.Places.{AreTokens, IsPlaceOf, IsPlaceOfScript, fr
 
 use crate::sfc_places::span::Span;
 use sfc_base::location::Location;
+use sfc_events::read_error::ReadErrorKind;
 use sfc_tokens::lex::tokens;
-use sfc_tokens::read_error::ReadErrorKind;
 use sfc_tokens::token::{Token, TokenKind};
 use std::alloc::{AllocError, Global};
 

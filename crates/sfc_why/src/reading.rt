@@ -10,13 +10,13 @@ use crate::place::{Place, byte_place, token_place};
 use crate::sfc_places::chart_text::ChartText;
 use crate::sfc_places::finding::Part;
 use crate::sfc_places::span::{Span, Spans};
+use sfc_events::read_error::{ReadError, ReadErrorKind};
 use sfc_hints::expected::{Front, find_expected};
 use sfc_hints::notes::add_in;
 use sfc_hints::short_front::{LONGEST, short_front};
 use sfc_hints::surroundings::element_before;
 use sfc_hints::trial::{Goal, Outcome, try_front};
 use sfc_tokens::lex::tokens;
-use sfc_tokens::read_error::{ReadError, ReadErrorKind};
 use sfc_tokens::token::Token;
 use std::alloc::{AllocError, Global};
 

@@ -5,9 +5,9 @@ ghost use Rattle.sfc_why.specs.Telling.{IsReportAt};
 
 use crate::place::{Place, front_of};
 use crate::position::{Position, position_behind};
-use crate::sfc_variables::load_error::LoadError;
 use crate::source_line::{add_source_line, told_word};
-use sfc_tokens::read_error::ReadErrorKind;
+use sfc_events::load_error::LoadError;
+use sfc_events::read_error::ReadErrorKind;
 use std::alloc::{AllocError, Global};
 
 /// Why a chart or a script is refused.

@@ -22,6 +22,7 @@ use crate::sfc_places::walk_variables::walk_globals;
 use crate::words::{Words, words_of};
 use sfc_base::case::is_same_word;
 use sfc_base::var_type::VarType;
+use sfc_events::read_error::{ReadError, ReadErrorKind};
 use sfc_hints::notes::add_detail;
 use sfc_hints::trial::Goal;
 use sfc_hints::writing::{add_joint, add_line};
@@ -30,7 +31,6 @@ use sfc_plant::plant::Plant;
 use sfc_script::script::{ScriptError, read_script};
 use sfc_text::read_expr::read_expr;
 use sfc_tokens::lex::tokens;
-use sfc_tokens::read_error::{ReadError, ReadErrorKind};
 use std::alloc::{AllocError, Global};
 
 // What is at fault in a script: bytes of it, and what is told of them.

@@ -1,6 +1,6 @@
 -- How a refusal of tokens is told.
-use Rattle.sfc_tokens.specs.declared.read_error.ReadErrorKind.{ReadErrorKind}
-use Rattle.sfc_tokens.specs.declared.read_error.ReadErrorKind.TheVariants as kind
+use Rattle.sfc_events.specs.declared.read_error.ReadErrorKind.{ReadErrorKind}
+use Rattle.sfc_events.specs.declared.read_error.ReadErrorKind.TheVariants as kind
 use Rattle.sfc_text.specs.declared.parse.fault.ParseFault.{ParseFault}
 use Rattle.sfc_text.specs.declared.parse.fault.ParseFault.TheVariants as fault
 

@@ -1,11 +1,11 @@
 -- What a function of a reader returned, beside what reading gives.
 use Rattle.std.specs.Prelude.{◌≡◌, Result, Ok, Err}
-use Rattle.sfc_tokens.specs.ReadErrors.{Read}
+use Rattle.sfc_events.specs.ReadErrors.{Read}
 use Rattle.sfc_tokens.specs.declared.lex_fault.LexFault.{LexFault}
 use Rattle.sfc_tokens.specs.declared.lex_fault.LexFault.TheVariants.{Memory, Wrong}
-use Rattle.sfc_tokens.specs.declared.read_error.ReadError.{ReadError}
-use Rattle.sfc_tokens.specs.declared.read_error.ReadErrorKind.{ReadErrorKind}
-use Rattle.sfc_tokens.specs.declared.read_error.ReadErrorKind.TheVariants as kind
+use Rattle.sfc_events.specs.declared.read_error.ReadError.{ReadError}
+use Rattle.sfc_events.specs.declared.read_error.ReadErrorKind.{ReadErrorKind}
+use Rattle.sfc_events.specs.declared.read_error.ReadErrorKind.TheVariants as kind
 
 infixl 10 ◌>>=◌
 abbrev pub ◌>>=◌ : {A B : Type 0} → Result A ReadErrorKind → (A → Result B ReadErrorKind) → Result B ReadErrorKind

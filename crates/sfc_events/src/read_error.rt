@@ -1,7 +1,7 @@
 //! Why a text was refused.
 
 ghost use Rattle.std.specs.Prelude.{◌≡◌};
-ghost use Rattle.sfc_tokens.specs.ReadErrors.{number_of, name_of};
+ghost use Rattle.sfc_events.specs.ReadErrors.{number_of, name_of};
 
 use std::alloc::{AllocError, AllocFailed};
 use std::error::Error;
@@ -78,7 +78,7 @@ pub const OUT_OF_MEMORY: ReadError = ReadError {
 
 impl fmt::Display for ReadError {
     ghost use Rattle.std.specs.Prelude.{Some};
-    ghost use Rattle.sfc_tokens.specs.ReadErrors.{error_text};
+    ghost use Rattle.sfc_events.specs.ReadErrors.{error_text};
 
     ghost output = { λ error. Some (error_text error) };
 
@@ -97,7 +97,7 @@ impl Error for ReadError {}
 
 impl From<AllocError> for ReadError {
     ghost use Rattle.std.specs.Prelude.{◌≡◌};
-    ghost use Rattle.sfc_tokens.specs.ReadErrors.{out_of_memory};
+    ghost use Rattle.sfc_events.specs.ReadErrors.{out_of_memory};
 
     ghost from_gives = { λ _ error. error ≡ out_of_memory };
 
@@ -108,7 +108,7 @@ impl From<AllocError> for ReadError {
 
 impl<T: Drop> From<AllocFailed<T>> for ReadError {
     ghost use Rattle.std.specs.Prelude.{◌≡◌};
-    ghost use Rattle.sfc_tokens.specs.ReadErrors.{out_of_memory};
+    ghost use Rattle.sfc_events.specs.ReadErrors.{out_of_memory};
 
     ghost from_gives = { λ _ error. error ≡ out_of_memory };
 

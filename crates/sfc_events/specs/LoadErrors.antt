@@ -1,12 +1,10 @@
 -- The numbers and names of what loading refuses, and how a refusal is told (our choice).
 use Rattle.std.specs.Prelude.{ℕ, List, ◌++◌, codes}
 use Rattle.std.specs.Fmt.{decimal}
-use Rattle.sfc_check.specs.declared.type_error.TypeError.{TypeError}
-use Rattle.sfc_check.specs.declared.type_error.TypeError.TheVariants as type_error
-use Rattle.sfc_variables.specs.declared.load_error.Limit.{Limit as LimitKind}
-use Rattle.sfc_variables.specs.declared.load_error.Limit.TheVariants.{Steps, Transitions, Associations, Variables, Instances, Tasks}
-use Rattle.sfc_variables.specs.declared.load_error.LoadError.{LoadError}
-use Rattle.sfc_variables.specs.declared.load_error.LoadError.TheVariants.{Unknown, WrongType, LiteralRange, NotAssignable, Duplicate, NoInitial, UnknownStep, UnknownAction, NotBool, NotTime, NoTask, UnknownType, SameLocation, Limit, Memory}
+use Rattle.sfc_events.specs.declared.load_error.Limit.{Limit as LimitKind}
+use Rattle.sfc_events.specs.declared.load_error.Limit.TheVariants.{Steps, Transitions, Associations, Variables, Instances, Tasks}
+use Rattle.sfc_events.specs.declared.load_error.LoadError.{LoadError}
+use Rattle.sfc_events.specs.declared.load_error.LoadError.TheVariants.{Unknown, WrongType, LiteralRange, NotAssignable, Duplicate, NoInitial, UnknownStep, UnknownAction, NotBool, NotTime, NoTask, UnknownType, SameLocation, Limit, Memory}
 
 abbrev pub name_of_limit : LimitKind → List ℕ
 name_of_limit Steps = codes "Steps"
@@ -56,11 +54,3 @@ error_text Memory = codes "out of memory"
 error_text (Limit what) =
     codes "refused " ++ decimal (number_of (Limit what)) ++ codes " " ++ name_of (Limit what) ++ codes " " ++ name_of_limit what
 error_text error = codes "refused " ++ decimal (number_of error) ++ codes " " ++ name_of error
-
--- the refusal that a type fault is
-abbrev pub of_type_error : TypeError → LoadError
-of_type_error type_error.Unknown = Unknown
-of_type_error type_error.WrongType = WrongType
-of_type_error type_error.LiteralRange = LiteralRange
-of_type_error type_error.NotAssignable = NotAssignable
-of_type_error type_error.Memory = Memory

@@ -1,9 +1,9 @@
 -- The numbers and names of what may be wrong with a text, and how a refusal is told (our choice).
 use Rattle.std.specs.Prelude.{ℕ, List, ◌++◌, Result, codes}
 use Rattle.std.specs.Fmt.{decimal}
-use Rattle.sfc_tokens.specs.declared.read_error.ReadError.{ReadError}
-use Rattle.sfc_tokens.specs.declared.read_error.ReadErrorKind.{ReadErrorKind}
-use Rattle.sfc_tokens.specs.declared.read_error.ReadErrorKind.TheVariants.{TooLong, NotAscii, BadToken, Syntax, TooDeep, BadDuration, BadNumber, Memory}
+use Rattle.sfc_events.specs.declared.read_error.ReadError.{ReadError}
+use Rattle.sfc_events.specs.declared.read_error.ReadErrorKind.{ReadErrorKind}
+use Rattle.sfc_events.specs.declared.read_error.ReadErrorKind.TheVariants.{TooLong, NotAscii, BadToken, Syntax, TooDeep, BadDuration, BadNumber, Memory}
 
 -- what reading gives: a value, or what is wrong
 abbrev pub Read : Type 0 → Type 0

@@ -1,10 +1,9 @@
 //! Why a chart was refused.
 
 ghost use Rattle.std.specs.Prelude.{◌≡◌};
-ghost use Rattle.sfc_variables.specs.LoadErrors.{number_of, name_of, name_of_limit};
-ghost use Rattle.sfc_variables.specs.declared.load_error.LoadError.TheVariants.{Memory};
+ghost use Rattle.sfc_events.specs.LoadErrors.{number_of, name_of, name_of_limit};
+ghost use Rattle.sfc_events.specs.declared.load_error.LoadError.TheVariants.{Memory};
 
-use sfc_check::type_error::TypeError;
 use std::alloc::{AllocError, AllocFailed};
 use std::error::Error;
 use std::fmt;
@@ -127,7 +126,7 @@ impl LoadError {
 
 impl fmt::Display for LoadError {
     ghost use Rattle.std.specs.Prelude.{Some};
-    ghost use Rattle.sfc_variables.specs.LoadErrors.{error_text};
+    ghost use Rattle.sfc_events.specs.LoadErrors.{error_text};
 
     ghost output = { λ error. Some (error_text error) };
 
@@ -152,22 +151,6 @@ impl From<AllocError> for LoadError {
 
     fn from(_error: AllocError) -> LoadError {
         LoadError::Memory
-    }
-}
-
-impl From<TypeError> for LoadError {
-    ghost use Rattle.sfc_variables.specs.LoadErrors.{of_type_error};
-
-    ghost from_gives = { λ fault error. error ≡ of_type_error fault };
-
-    fn from(fault: TypeError) -> LoadError {
-        match fault {
-            TypeError::Unknown => LoadError::Unknown,
-            TypeError::WrongType => LoadError::WrongType,
-            TypeError::LiteralRange => LoadError::LiteralRange,
-            TypeError::NotAssignable => LoadError::NotAssignable,
-            TypeError::Memory => LoadError::Memory,
-        }
     }
 }
 
