@@ -1,7 +1,7 @@
 -- Lines that are taken as a reader gives them, and what is written for them.
-use Rattle.std.proofs.Common.{◌≡◌, ◌∙◌, refl, sym, ap, subst, arith, ℕ, length, Bool, true, false, List, [], ◌∷◌, ◌++◌, append_assoc, inl, inr, Option, Some, None, Result, Ok, Err}
+use Rattle.std.proofs.Common.{◌≡◌, ◌∙◌, ◌<◌, ◌^◌, refl, sym, ap, subst, arith, ℕ, length, Bool, true, false, List, [], ◌∷◌, ◌++◌, append_assoc, inl, inr, Option, Some, None, Result, Ok, Err}
 use Rattle.std.proofs.lemmas.List.{append-nil}
-use Rattle.std.specs.Io.KnownBytes.{Appends, Consumes}
+use Rattle.std.specs.Io.KnownBytes.{Appends, Consumes, IsAtEnd}
 use Rattle.sfc_asking.specs.sfc_script.Arriving.{ended_line}
 use Rattle.sfc_asking.specs.sfc_script.Lines.{lines_of}
 use Rattle.sfc_base.specs.Writing.{AppendsFront, Writes}
@@ -9,12 +9,13 @@ use Rattle.sfc_base.proofs.Written.{Appends-more, Appends-none, front_second}
 use Rattle.sfc_replay.specs.Reading.{Device}
 use Rattle.sfc_replay.proofs.Taken.{consumes_more}
 use Rattle.sfc_prompt.specs.declared.arrived.Arrived.{Arrived}
+use Rattle.sfc_prompt.specs.declared.prompt.Flow.{Flow}
 use Rattle.sfc_prompt.specs.declared.prompt.Flow.TheVariants.{GoesOn, Ends}
 use Rattle.sfc_prompt.specs.declared.prompt.Prompt.{Prompt}
-use Rattle.sfc_prompt.specs.Desks.{Leaves, Serves, WalksOff, WalksOut, WritesBy}
+use Rattle.sfc_prompt.specs.Desks.{Leaves, ReadsOut, Serves, WalksOff, WalksOut, WritesBy}
 use Rattle.sfc_prompt.specs.Private.Waiting.{TakesEnded, Waits}
 use Rattle.sfc_prompt.specs.Walks.{Invites, Walks, WalksInto, flow_after}
-use Rattle.sfc_prompt.proofs.Walking.{flow_more, into_all, into_then, invites_none, walk_ended, walk_invited, walk_then}
+use Rattle.sfc_prompt.proofs.Walking.{flow_ended, flow_more, into_all, into_then, invites_none, walk_ended, walk_invited, walk_then}
 
 -- ---- what is written
 
@@ -78,6 +79,16 @@ left_of (Some xs) (Some ys) bytes consumes = (ys, consumes)
 pub no_bytes : (bytes piece : List ℕ) → length piece ≡ 0 → ended_line bytes ≡ None → ended_line (bytes ++ piece) ≡ None
 no_bytes bytes [] e none = ap ended_line (append-nil bytes) ∙ none
 no_bytes bytes (b ∷ piece) e none = absurd (omega arith)
+
+-- whatever the lines say, the reader had no more
+pub reads_out : (flow : Flow) (bytes : List ℕ) (left : Option (List ℕ)) → (length bytes < 2 ^ 63 → IsAtEnd left) → ReadsOut flow bytes left
+reads_out GoesOn bytes left ended = ended
+reads_out Ends bytes left ended = tt
+
+-- they say QUIT
+reads_quit : (flow : Flow) (bytes : List ℕ) (left : Option (List ℕ)) → flow ≡ Ends → ReadsOut flow bytes left
+reads_quit GoesOn bytes left e = absurd (cc)
+reads_quit Ends bytes left e = tt
 
 -- The lines of bytes that a reader lost were taken but for these, and what was put for them was written.
 pub record HasTaken (terminal : Bool) (reader writer : Device) (old new : Prompt) (left : List ℕ) : Type 0 where
@@ -159,7 +170,7 @@ module _ (terminal : Bool) (r w : Option (List ℕ)) (old : Prompt) where
 
     pub serves_quit : (x : Option (List ℕ)) (new : Prompt) (arrived : Arrived) (text : List ℕ)
         → TakesEnded terminal mid new left arrived Ends text → Appends v x text
-        → (bytes : List ℕ) × Consumes r s bytes × (whole : List ℕ) × WalksOut terminal (lines_of bytes) old new whole × Appends w x whole
+        → (bytes : List ℕ) × Consumes r s bytes × ReadsOut (flow_after (lines_of bytes)) bytes s × (whole : List ℕ) × WalksOut terminal (lines_of bytes) old new whole × Appends w x whole
     serves_quit x new arrived text ended appends =
         let done : List (List ℕ) = taken.done ++ ended.done in
         let parts : lines_of taken.bytes ≡ done ++ lines_of (ended.left ++ []) =
@@ -171,9 +182,12 @@ module _ (terminal : Bool) (r w : Option (List ℕ)) (old : Prompt) where
         let over : flow_after done ≡ Ends = flow_more taken.done ended.done taken.flows ∙ sym ended.flows in
         let whole : Walks terminal (lines_of taken.bytes) old new (taken.text ++ text) =
         subst (λ (ls : List (List ℕ)). Walks terminal ls old new (taken.text ++ text)) (sym parts)
-        (walk_ended terminal done (lines_of (ended.left ++ [])) old new (taken.text ++ text) walks over) in (
+        (walk_ended terminal done (lines_of (ended.left ++ [])) old new (taken.text ++ text) walks over) in
+        let quits : flow_after (lines_of taken.bytes) ≡ Ends =
+        ap flow_after parts ∙ flow_ended done (lines_of (ended.left ++ [])) over in (
           taken.bytes,
           taken.consumes,
+          reads_quit (flow_after (lines_of taken.bytes)) taken.bytes s quits,
           taken.text ++ text,
           (taken.text ++ text, [], whole, leaves_none terminal, sym (append-nil (taken.text ++ text))),
           Appends-more w v x taken.text text taken.appends appends,
@@ -185,15 +199,16 @@ module _ (terminal : Bool) (r w : Option (List ℕ)) (old : Prompt) where
         (into_then terminal taken.done (lines_of left) old mid taken.text u taken.walks taken.flows into)
 
     pub serves_last : {X E : Type 0} (result : Result X E) (x : Option (List ℕ)) (new : Prompt)
-        → WritesBy v x result (λ _ text. WalksOut terminal (lines_of left) mid new text) (WalksOff terminal (lines_of left) mid)
+        → (length taken.bytes < 2 ^ 63 → IsAtEnd s) → WritesBy v x result (λ _ text. WalksOut terminal (lines_of left) mid new text) (WalksOff terminal (lines_of left) mid)
         → Serves terminal (r, s) (w, x) old new result
-    serves_last (Ok value) x new writes =
+    serves_last (Ok value) x new at_end writes =
         let out = writes.1 in
         let walks : Walks terminal (lines_of taken.bytes) old new (taken.text ++ out.0) =
         subst (λ (ls : List (List ℕ)). Walks terminal ls old new (taken.text ++ out.0)) (sym lines_all)
         (walk_then terminal taken.done (lines_of left) old mid new taken.text out.0 taken.walks taken.flows out.2) in (
           taken.bytes,
           taken.consumes,
+          reads_out (flow_after (lines_of taken.bytes)) taken.bytes s at_end,
           taken.text ++ writes.0,
           (
             taken.text ++ out.0,
@@ -204,7 +219,7 @@ module _ (terminal : Bool) (r w : Option (List ℕ)) (old : Prompt) where
           ),
           Appends-more w v x taken.text writes.0 taken.appends writes.2,
         )
-    serves_last (Err error) x new writes =
+    serves_last (Err error) x new at_end writes =
         let off = writes.1 in
         let front = left_of r s taken.bytes taken.consumes in (
           taken.bytes,

@@ -112,6 +112,16 @@ flow_more (line ∷ xs) ys e =
     let both = on_first (flow_line (is_long line) line) (flow_after xs) e in
     ap (λ (f : Flow). flow_behind f (flow_after (xs ++ ys))) both.0 ∙ flow_more xs ys both.1
 
+-- once they end, they end
+ends_more : (flow a b : Flow) → flow_behind flow a ≡ Ends → (a ≡ Ends → b ≡ Ends) → flow_behind flow b ≡ Ends
+ends_more GoesOn a b e more = more e
+ends_more Ends a b e more = refl
+
+pub flow_ended : (xs ys : List (List ℕ)) → flow_after xs ≡ Ends → flow_after (xs ++ ys) ≡ Ends
+flow_ended [] ys e = absurd (cc)
+flow_ended (line ∷ xs) ys e =
+    ends_more (flow_line (is_long line) line) (flow_after xs) (flow_after (xs ++ ys)) e (flow_ended xs ys)
+
 module _ (terminal : Bool) where
   ends_or : (flow : Flow) (a : Prompt) → IfOn flow ((a ≡ a) × Invites terminal []) ((a ≡ a) × (◌≡◌ {A = List ℕ} [] []))
   ends_or GoesOn a = (refl, invites_none terminal)

@@ -1,7 +1,7 @@
 //! Lines that have come.
 
 ghost use Rattle.std.specs.Prelude.{◌≡◌, ◌-◌, ◌<◌, ◌≤◌, ◌++◌, ◌||◌, [], ℕ, List, None, IfOk, IfSome, IsFalse, MatchOption, drop, length, nat_lt};
-ghost use Rattle.std.specs.Io.KnownBytes.{Consumes};
+ghost use Rattle.std.specs.Io.KnownBytes.{Consumes, IsAtEnd};
 ghost use Rattle.sfc_asking.specs.sfc_script.Arriving.{ended_line};
 ghost use Rattle.sfc_asking.specs.sfc_script.Lines.{lines_of};
 ghost use Rattle.sfc_prompt.specs.Private.Waiting.{IsFirst, IsOnly, Waits};
@@ -64,7 +64,9 @@ impl Arrived {
 
     /// Takes a piece from the reader: its bytes wait behind the others. It answers how many they are; none at the end of the reader.
     pub fn take<R: Read>(&mut self, reader: &mut R) -> Result<usize, ReplayError>
-        ensures { IfOk result (λ count. (piece : List ℕ) × (length piece ≡ count)
+        ensures few { IfOk result (λ count. count ≤ 1048576) }
+        ensures ended { IfOk result (λ count. count ≡ 0 → IsAtEnd (R.remaining reader.new)) }
+        ensures taken { IfOk result (λ count. (piece : List ℕ) × (length piece ≡ count)
             × Consumes (R.remaining reader.old) (R.remaining reader.new) piece × ((bytes : List ℕ) → Waits self.old bytes → Waits self.new (bytes ++ piece))) }
     {
         self.lines.take(reader, LONGEST)

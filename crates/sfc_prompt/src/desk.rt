@@ -6,7 +6,7 @@ ghost use Rattle.sfc_asking.specs.sfc_script.Lines.{lines_of};
 ghost use Rattle.sfc_base.specs.Writing.{Writes};
 ghost use Rattle.sfc_prompt.specs.declared.course.Course.{Course};
 ghost use Rattle.sfc_prompt.specs.Courses.{IsBehindStep};
-ghost use Rattle.sfc_prompt.specs.Desks.{Leaves, Serves, Tells, WalksOff, WalksOut, WritesBy};
+ghost use Rattle.sfc_prompt.specs.Desks.{Holds, Leaves, OpensPrompt, Serves, Tells, WalksOff, WalksOut, WritesBy};
 ghost use Rattle.sfc_prompt.specs.Lines.{line_said};
 ghost use Rattle.sfc_prompt.specs.Private.Waiting.{TakesEnded, Waits};
 ghost use Rattle.sfc_prompt.specs.Prompts.{course_in, flow_of, session_in};
@@ -237,6 +237,9 @@ impl<W: Write, A: Archive> Held<W, A> {
     }
 }
 
+// The most bytes that a session takes. None has given so many.
+const MOST: u64 = 9_223_372_036_854_775_808;
+
 // Obeys lines as they come, until the session or the reader ends.
 fn obey_pieces<S: Read, W: Write, A: Archive>(
     alloc: Global,
@@ -251,11 +254,14 @@ fn obey_pieces<S: Read, W: Write, A: Archive>(
         held.old.prompt held.new.prompt result }
 {
     let mut arrived = Arrived::new(alloc);
-    'pieces: for _ in 0..u64::MAX {
+    let mut taken: u64 = 0;
+    'pieces: while taken < MOST {
         held.invite(is_terminal)?;
-        if arrived.take(reader)? == 0 {
+        let count = arrived.take(reader)?;
+        if count == 0 {
             break;
         }
+        taken += count as u64;
         match held.take_lines(&mut arrived)? {
             Flow::GoesOn => {}
             Flow::Ends => return Ok(()),
@@ -265,31 +271,65 @@ fn obey_pieces<S: Read, W: Write, A: Archive>(
     held.take_last(&arrived, is_terminal)
 }
 
-/// Holds a session with the plant that the bytes of a chart are: reads lines as they come, and answers each at once, as `Prompt::obey`. It ends
-/// at QUIT, and at the end of the lines; a last line without its end is obeyed too. A line of more than 1,048,576 bytes is told, and passed
-/// over.
-///
-/// `Chart` is answered where the chart is refused, and then nothing was written; `Read` where a reader failed, `Write` where the writer failed
-/// or took no byte, `Memory` where memory was refused.
-pub fn hold<C: Read, S: Read, W: Write + Drop, A: Archive + Drop>(
-    alloc: Global,
-    chart: &mut C,
-    lines: &mut S,
-    desk: Desk<W, A>,
-) -> Result<(), ReplayError> {
+// A prompt with a session on the plant that the bytes of a chart are.
+fn open_prompt<C: Read>(alloc: Global, chart: &mut C) -> Result<Prompt, ReplayError>
+    ensures { OpensPrompt (C.remaining chart.old, C.remaining chart.new) result }
+{
     let text = read_to_end(alloc, chart)?;
     let debugger = debugger_of_text(alloc, &text, 1, TraceMask(0))?;
-    let session = Session::new(alloc, debugger);
+    Ok(Prompt::new(alloc, Session::new(alloc, debugger)))
+}
+
+// Serves lines at a prompt.
+fn serve<S: Read, W: Write + Drop, A: Archive + Drop>(
+    alloc: Global,
+    prompt: Prompt,
+    lines: &mut S,
+    desk: Desk<W, A>,
+) -> (Desk<W, A>, Result<(), ReplayError>)
+    requires { course_in prompt ≡ None }
+    ensures { (later : Prompt)
+        × Tells (session_in prompt) (session_in later) (W.contents desk.answers) (W.contents result.0.answers) result.1
+        × Serves desk.is_terminal (S.remaining lines.old, S.remaining lines.new)
+        (W.contents desk.answers, W.contents result.0.answers) prompt later result.1 }
+{
     let Desk {
         answers,
         archive,
         is_terminal,
     } = desk;
     let mut held = Held {
-        prompt: Prompt::new(alloc, session),
+        prompt,
         w: answers,
         text: Vec::new(alloc),
         archive,
     };
-    obey_pieces(alloc, &mut held, lines, is_terminal)
+    let served = obey_pieces(alloc, &mut held, lines, is_terminal);
+    let desk = Desk {
+        answers: held.w,
+        archive: held.archive,
+        is_terminal,
+    };
+    (desk, served)
+}
+
+/// Holds a session with the plant that the bytes of a chart are: reads lines as they come, and answers each at once, as `Prompt::obey`. It ends
+/// at QUIT, and at the end of the lines; a last line without its end is obeyed too. A line of more than 1,048,576 bytes is told, and passed
+/// over. The desk is given back with what came of it.
+///
+/// `Chart` is answered where the chart is refused; then no line was taken, and nothing was written. `Read` is answered where a reader failed,
+/// `Write` where the writer failed or took no byte, `Memory` where memory was refused.
+pub fn hold<C: Read, S: Read, W: Write + Drop, A: Archive + Drop>(
+    alloc: Global,
+    chart: &mut C,
+    lines: &mut S,
+    desk: Desk<W, A>,
+) -> (Desk<W, A>, Result<(), ReplayError>)
+    ensures { Holds desk.is_terminal (C.remaining chart.old, C.remaining chart.new) (S.remaining lines.old, S.remaining lines.new)
+        (W.contents desk.answers, W.contents result.0.answers) result.1 }
+{
+    match open_prompt(alloc, chart) {
+        Ok(prompt) => serve(alloc, prompt, lines, desk),
+        Err(error) => (desk, Err(error)),
+    }
 }

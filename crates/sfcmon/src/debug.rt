@@ -56,7 +56,8 @@ pub fn debug_file<R: Eprint + Files + AllocGlobal>(rt: &R, streams: Streams, cha
             alloc: rt.alloc(),
         },
     };
-    match hold(rt.alloc(), &mut chart, &mut input, desk) {
+    let (_, held) = hold(rt.alloc(), &mut chart, &mut input, desk);
+    match held {
         Ok(()) => 0,
         Err(error) => end_with(rt, error),
     }

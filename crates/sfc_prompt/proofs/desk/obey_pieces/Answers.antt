@@ -1,4 +1,5 @@
-use Rattle.std.proofs.Common.{◌≡◌, ◌∙◌, refl, sym, ap, subst, ◌+◌, arith, ℕ, List, [], ◌++◌, length, None, Ok}
+use Rattle.std.proofs.Common.{◌≡◌, ◌∙◌, ◌<◌, refl, sym, ap, subst, ◌+◌, arith, ℕ, List, [], ◌++◌, length, length-append, None, Ok}
+use Rattle.std.specs.Io.KnownBytes.{IsAtEnd}
 use Rattle.std.proofs.lemmas.List.{append-nil}
 use Rattle.std.proofs.lemmas.Result.{err_from_is_err_and}
 use Rattle.sfc_asking.specs.sfc_script.Arriving.{ended_line}
@@ -11,7 +12,7 @@ use Rattle.sfc_prompt.proofs.Walking.{invites_none}
 use Rattle.sfc_prompt.proofs.Waits.{nothing_ended}
 use Rattle.sfc_prompt.proofs.Writing.{breaks_behind, breaks_then, tells_then, told_nothing, told_then}
 use Rattle.sfc_prompt.proofs.desk.obey_pieces.Goals as goal
-use Rattle.sfc_prompt.proofs.desk.obey_pieces.Goals.{else-pieces-test, then-pieces-test+in_ok-invite+in_ok-take+then-branch-eq0}
+use Rattle.sfc_prompt.proofs.desk.obey_pieces.Goals.{else-pieces-test, then-pieces-test+in_ok-invite+in_ok-count+then-count-eq0}
 
 pub returns-in_err-invite-clause-tells : goal.returns-in_err-invite-clause-tells
 returns-in_err-invite-clause-tells g c =
@@ -26,30 +27,30 @@ returns-in_err-invite-clause-serves g c =
     let so_far = c.pieces.invariant.serves in
     let part = c.in_err-invite.ensures.invites in
     serves_between c.args.is_terminal (g.S.Read.remaining c.args.reader.now) (g.W.Write.contents c.args.held.now.w)
-    c.args.held.now.prompt (g.S.Read.remaining c.pieces.reader) (g.W.Write.contents c.pieces.held.w) c.pieces.held.prompt so_far.0 so_far.3
+    c.args.held.now.prompt (g.S.Read.remaining c.pieces.reader) (g.W.Write.contents c.pieces.held.w) c.pieces.held.prompt so_far.0 so_far.3.0
     c.from_residual.result f.0 f.1 (g.W.Write.contents c.invite.new.self.w) (g.S.Read.remaining c.pieces.reader) c.invite.new.self.prompt
     part.0 part.1 part.2
 
-pub returns-in_err-take-clause-tells : goal.returns-in_err-take-clause-tells
-returns-in_err-take-clause-tells g c =
-    let f = err_from_is_err_and c.from_residual-in_err-take.result c.from_residual-in_err-take.ensures.1 in
+pub returns-in_err-count-clause-tells : goal.returns-in_err-count-clause-tells
+returns-in_err-count-clause-tells g c =
+    let f = err_from_is_err_and c.from_residual-in_err-count.result c.from_residual-in_err-count.ensures.1 in
     let told = told_then (session_in c.args.held.now.prompt) (session_in c.pieces.held.prompt) (session_in c.invite.new.self.prompt)
     (g.W.Write.contents c.args.held.now.w) (g.W.Write.contents c.pieces.held.w) (g.W.Write.contents c.invite.new.self.w)
     c.pieces.invariant.tells c.in_ok-invite.ensures.tells in
     rw f.1 (breaks_behind (session_in c.args.held.now.prompt) (session_in c.invite.new.self.prompt) (g.W.Write.contents c.args.held.now.w)
     (g.W.Write.contents c.invite.new.self.w) told)
 
-pub returns-in_err-take-clause-serves : goal.returns-in_err-take-clause-serves
-returns-in_err-take-clause-serves g c =
-    let f = err_from_is_err_and c.from_residual-in_err-take.result c.from_residual-in_err-take.ensures.1 in
+pub returns-in_err-count-clause-serves : goal.returns-in_err-count-clause-serves
+returns-in_err-count-clause-serves g c =
+    let f = err_from_is_err_and c.from_residual-in_err-count.result c.from_residual-in_err-count.ensures.1 in
     let so_far = c.pieces.invariant.serves in
     let asked = c.in_ok-invite.ensures.invites in
     let invited = taken_invited c.args.is_terminal (g.S.Read.remaining c.args.reader.now) (g.W.Write.contents c.args.held.now.w)
-    c.args.held.now.prompt (g.S.Read.remaining c.pieces.reader) (g.W.Write.contents c.pieces.held.w) c.pieces.held.prompt so_far.0 so_far.3
+    c.args.held.now.prompt (g.S.Read.remaining c.pieces.reader) (g.W.Write.contents c.pieces.held.w) c.pieces.held.prompt so_far.0 so_far.3.0
     (g.W.Write.contents c.invite.new.self.w) c.invite.new.self.prompt asked.0 c.in_ok-invite.ensures.prompt asked.1 asked.2 in
     serves_between c.args.is_terminal (g.S.Read.remaining c.args.reader.now) (g.W.Write.contents c.args.held.now.w)
     c.args.held.now.prompt (g.S.Read.remaining c.pieces.reader) (g.W.Write.contents c.invite.new.self.w) c.invite.new.self.prompt so_far.0 invited
-    c.from_residual-in_err-take.result f.0 f.1 (g.W.Write.contents c.invite.new.self.w) (g.S.Read.remaining c.take.new.reader)
+    c.from_residual-in_err-count.result f.0 f.1 (g.W.Write.contents c.invite.new.self.w) (g.S.Read.remaining c.take.new.reader)
     c.invite.new.self.prompt [] (invites_none c.args.is_terminal) (part_none (g.W.Write.contents c.invite.new.self.w))
 
 pub returns-in_err-take_lines-clause-tells : goal.returns-in_err-take_lines-clause-tells
@@ -68,9 +69,9 @@ returns-in_err-take_lines-clause-serves g c =
     let so_far = c.pieces.invariant.serves in
     let asked = c.in_ok-invite.ensures.invites in
     let invited = taken_invited c.args.is_terminal (g.S.Read.remaining c.args.reader.now) (g.W.Write.contents c.args.held.now.w)
-    c.args.held.now.prompt (g.S.Read.remaining c.pieces.reader) (g.W.Write.contents c.pieces.held.w) c.pieces.held.prompt so_far.0 so_far.3
+    c.args.held.now.prompt (g.S.Read.remaining c.pieces.reader) (g.W.Write.contents c.pieces.held.w) c.pieces.held.prompt so_far.0 so_far.3.0
     (g.W.Write.contents c.invite.new.self.w) c.invite.new.self.prompt asked.0 c.in_ok-invite.ensures.prompt asked.1 asked.2 in
-    let piece = c.in_ok-take.ensures in
+    let piece = c.in_ok-count.ensures.taken in
     let left : List ℕ = so_far.0 ++ piece.0 in
     let come = taken_piece c.args.is_terminal (g.S.Read.remaining c.args.reader.now) (g.W.Write.contents c.args.held.now.w)
     c.args.held.now.prompt (g.S.Read.remaining c.pieces.reader) (g.W.Write.contents c.invite.new.self.w) c.invite.new.self.prompt so_far.0 invited
@@ -96,9 +97,9 @@ returns-in-Ends-clause-serves g c =
     let so_far = c.pieces.invariant.serves in
     let asked = c.in_ok-invite.ensures.invites in
     let invited = taken_invited c.args.is_terminal (g.S.Read.remaining c.args.reader.now) (g.W.Write.contents c.args.held.now.w)
-    c.args.held.now.prompt (g.S.Read.remaining c.pieces.reader) (g.W.Write.contents c.pieces.held.w) c.pieces.held.prompt so_far.0 so_far.3
+    c.args.held.now.prompt (g.S.Read.remaining c.pieces.reader) (g.W.Write.contents c.pieces.held.w) c.pieces.held.prompt so_far.0 so_far.3.0
     (g.W.Write.contents c.invite.new.self.w) c.invite.new.self.prompt asked.0 c.in_ok-invite.ensures.prompt asked.1 asked.2 in
-    let piece = c.in_ok-take.ensures in
+    let piece = c.in_ok-count.ensures.taken in
     let left : List ℕ = so_far.0 ++ piece.0 in
     let come = taken_piece c.args.is_terminal (g.S.Read.remaining c.args.reader.now) (g.W.Write.contents c.args.held.now.w)
     c.args.held.now.prompt (g.S.Read.remaining c.pieces.reader) (g.W.Write.contents c.invite.new.self.w) c.invite.new.self.prompt so_far.0 invited
@@ -118,7 +119,7 @@ returns-clause-tells g c = elim c.pieces-test.branch [
       tells_then (session_in c.args.held.now.prompt) (session_in c.pieces-test.held.prompt) (session_in c.take_last.new.self.prompt)
       (g.W.Write.contents c.args.held.now.w) (g.W.Write.contents c.pieces-test.held.w) (g.W.Write.contents c.take_last.new.self.w)
       (rw w.held-is c.pieces.invariant.tells) c.take_last.result c.take_last.ensures.tells
-  | then-pieces-test+in_ok-invite+in_ok-take+then-branch-eq0 w ↦
+  | then-pieces-test+in_ok-invite+in_ok-count+then-count-eq0 w ↦
       tells_then (session_in c.args.held.now.prompt) (session_in c.pieces-test.held.prompt) (session_in c.take_last.new.self.prompt)
       (g.W.Write.contents c.args.held.now.w) (g.W.Write.contents c.pieces-test.held.w) (g.W.Write.contents c.take_last.new.self.w)
       (rw w.held-is (told_then (session_in c.args.held.now.prompt) (session_in c.pieces.held.prompt) (session_in w.invite.new.self.prompt)
@@ -130,20 +131,21 @@ pub returns-clause-serves : goal.returns-clause-serves
 returns-clause-serves g c = elim c.pieces-test.branch [
   | else-pieces-test w ↦
       let so_far = c.pieces.invariant.serves in
-      let taken : HasTaken c.args.is_terminal (g.S.Read.remaining c.args.reader.now, g.S.Read.remaining c.pieces-test.reader)
-      (g.W.Write.contents c.args.held.now.w, g.W.Write.contents c.pieces-test.held.w) c.args.held.now.prompt c.pieces-test.held.prompt so_far.0 =
-      rw w.held-is (rw w.reader-is so_far.3) in
+      let both : (t : HasTaken c.args.is_terminal (g.S.Read.remaining c.args.reader.now, g.S.Read.remaining c.pieces-test.reader)
+      (g.W.Write.contents c.args.held.now.w, g.W.Write.contents c.pieces-test.held.w) c.args.held.now.prompt c.pieces-test.held.prompt so_far.0)
+      × (c.pieces.taken ≡ length t.bytes) = rw w.held-is (rw w.reader-is so_far.3) in
       let waits : Waits c.pieces-test.arrived so_far.0 = rw w.arrived-is so_far.1 in
       serves_last c.args.is_terminal (g.S.Read.remaining c.args.reader.now) (g.W.Write.contents c.args.held.now.w) c.args.held.now.prompt
-      (g.S.Read.remaining c.pieces-test.reader) (g.W.Write.contents c.pieces-test.held.w) c.pieces-test.held.prompt so_far.0 taken c.take_last.result
-      (g.W.Write.contents c.take_last.new.self.w) c.take_last.new.self.prompt (c.take_last.ensures.walks so_far.0 waits so_far.2)
-  | then-pieces-test+in_ok-invite+in_ok-take+then-branch-eq0 w ↦
+      (g.S.Read.remaining c.pieces-test.reader) (g.W.Write.contents c.pieces-test.held.w) c.pieces-test.held.prompt so_far.0 both.0 c.take_last.result
+      (g.W.Write.contents c.take_last.new.self.w) c.take_last.new.self.prompt (λ few. absurd (omega (arith, few, both.1, w.pieces-test.false)))
+      (c.take_last.ensures.walks so_far.0 waits so_far.2)
+  | then-pieces-test+in_ok-invite+in_ok-count+then-count-eq0 w ↦
       let so_far = c.pieces.invariant.serves in
       let asked = w.in_ok-invite.ensures.invites in
       let invited = taken_invited c.args.is_terminal (g.S.Read.remaining c.args.reader.now) (g.W.Write.contents c.args.held.now.w)
-      c.args.held.now.prompt (g.S.Read.remaining c.pieces.reader) (g.W.Write.contents c.pieces.held.w) c.pieces.held.prompt so_far.0 so_far.3
+      c.args.held.now.prompt (g.S.Read.remaining c.pieces.reader) (g.W.Write.contents c.pieces.held.w) c.pieces.held.prompt so_far.0 so_far.3.0
       (g.W.Write.contents w.invite.new.self.w) w.invite.new.self.prompt asked.0 w.in_ok-invite.ensures.prompt asked.1 asked.2 in
-      let piece = w.in_ok-take.ensures in
+      let piece = w.in_ok-count.ensures.taken in
       let left : List ℕ = so_far.0 ++ piece.0 in
       let come = taken_piece c.args.is_terminal (g.S.Read.remaining c.args.reader.now) (g.W.Write.contents c.args.held.now.w)
       c.args.held.now.prompt (g.S.Read.remaining c.pieces.reader) (g.W.Write.contents w.invite.new.self.w) w.invite.new.self.prompt so_far.0 invited
@@ -152,10 +154,11 @@ returns-clause-serves g c = elim c.pieces-test.branch [
       (g.W.Write.contents c.args.held.now.w, g.W.Write.contents c.pieces-test.held.w) c.args.held.now.prompt c.pieces-test.held.prompt left =
       rw w.held-is (rw w.reader-is come) in
       let waits : Waits c.pieces-test.arrived left = rw w.arrived-is (piece.3 so_far.0 so_far.1) in
-      let none : ended_line left ≡ None = no_bytes so_far.0 piece.0 (piece.1 ∙ w.if-branch-eq0.true) so_far.2 in
+      let none : ended_line left ≡ None = no_bytes so_far.0 piece.0 (piece.1 ∙ w.if-count-eq0.true) so_far.2 in
+      let at_end : IsAtEnd (g.S.Read.remaining c.pieces-test.reader) = rw w.reader-is (w.in_ok-count.ensures.ended w.if-count-eq0.true) in
       serves_last c.args.is_terminal (g.S.Read.remaining c.args.reader.now) (g.W.Write.contents c.args.held.now.w) c.args.held.now.prompt
       (g.S.Read.remaining c.pieces-test.reader) (g.W.Write.contents c.pieces-test.held.w) c.pieces-test.held.prompt left taken c.take_last.result
-      (g.W.Write.contents c.take_last.new.self.w) c.take_last.new.self.prompt (c.take_last.ensures.walks left waits none)
+      (g.W.Write.contents c.take_last.new.self.w) c.take_last.new.self.prompt (λ few. at_end) (c.take_last.ensures.walks left waits none)
 ]
 
 pub pieces-preserved : goal.pieces-preserved
@@ -166,9 +169,9 @@ pieces-preserved g c =
     let so_far = c.pieces.invariant.serves in
     let asked = c.in_ok-invite.ensures.invites in
     let invited = taken_invited c.args.is_terminal (g.S.Read.remaining c.args.reader.now) (g.W.Write.contents c.args.held.now.w)
-    c.args.held.now.prompt (g.S.Read.remaining c.pieces.reader) (g.W.Write.contents c.pieces.held.w) c.pieces.held.prompt so_far.0 so_far.3
+    c.args.held.now.prompt (g.S.Read.remaining c.pieces.reader) (g.W.Write.contents c.pieces.held.w) c.pieces.held.prompt so_far.0 so_far.3.0
     (g.W.Write.contents c.invite.new.self.w) c.invite.new.self.prompt asked.0 c.in_ok-invite.ensures.prompt asked.1 asked.2 in
-    let piece = c.in_ok-take.ensures in
+    let piece = c.in_ok-count.ensures.taken in
     let left : List ℕ = so_far.0 ++ piece.0 in
     let come = taken_piece c.args.is_terminal (g.S.Read.remaining c.args.reader.now) (g.W.Write.contents c.args.held.now.w)
     c.args.held.now.prompt (g.S.Read.remaining c.pieces.reader) (g.W.Write.contents c.invite.new.self.w) c.invite.new.self.prompt so_far.0 invited
@@ -187,7 +190,14 @@ pieces-preserved g c =
       tells = told_then (session_in c.args.held.now.prompt) (session_in c.invite.new.self.prompt) (session_in c.take_lines.new.self.prompt)
           (g.W.Write.contents c.args.held.now.w) (g.W.Write.contents c.invite.new.self.w) (g.W.Write.contents c.take_lines.new.self.w)
           told c.in_ok-take_lines.ensures.tells;
-      serves = (ended.left, c.pass_over.ensures ended.left ended.waits (ended.no_more refl), ended.no_more refl, taken);
+      serves = (
+        ended.left,
+        c.pass_over.ensures ended.left ended.waits (ended.no_more refl),
+        ended.no_more refl,
+        taken,
+        omega (arith, so_far.3.1, piece.1, length-append so_far.3.0.bytes piece.0),
+      );
+      few = omega (arith, c.pieces-test.true, c.in_ok-count.ensures.few);
     }
 
 pub pieces-init : goal.pieces-init
@@ -200,5 +210,7 @@ pieces-init g c = record {
     c.new-arrived.ensures,
     nothing_ended,
     taken_none c.args.is_terminal (g.S.Read.remaining c.args.reader.now) (g.W.Write.contents c.args.held.now.w) c.args.held.now.prompt,
+    refl,
   );
+  few = omega arith;
 }
