@@ -1,5 +1,5 @@
 -- Lines that are taken as a reader gives them, and what is written for them.
-use Rattle.std.proofs.Common.{◌≡◌, ◌∙◌, ◌<◌, ◌^◌, refl, sym, ap, subst, arith, ℕ, length, Bool, true, false, List, [], ◌∷◌, ◌++◌, append_assoc, inl, inr, Option, Some, None, Result, Ok, Err}
+use Rattle.std.proofs.Common.{◌≡◌, ◌∙◌, ◌<◌, ◌^◌, refl, sym, ap, subst, arith, ◌+◌, ℕ, length, length-append, Bool, true, false, List, [], ◌∷◌, ◌++◌, append_assoc, inl, inr, Option, Some, None, Result, Ok, Err}
 use Rattle.std.proofs.lemmas.List.{append-nil}
 use Rattle.std.specs.Io.KnownBytes.{Appends, Consumes, IsAtEnd}
 use Rattle.sfc_asking.specs.sfc_script.Arriving.{ended_line}
@@ -90,9 +90,10 @@ reads_quit : (flow : Flow) (bytes : List ℕ) (left : Option (List ℕ)) → flo
 reads_quit GoesOn bytes left e = absurd (cc)
 reads_quit Ends bytes left e = tt
 
--- The lines of bytes that a reader lost were taken but for these, and what was put for them was written.
-pub record HasTaken (terminal : Bool) (reader writer : Device) (old new : Prompt) (left : List ℕ) : Type 0 where
+-- The lines of so many bytes that a reader lost were taken but for these, and what was put for them was written.
+pub record HasTaken (terminal : Bool) (reader writer : Device) (old new : Prompt) (left : List ℕ) (count : ℕ) : Type 0 where
   pub bytes : List ℕ
+  pub counted : count ≡ length bytes
   pub consumes : Consumes reader.0 reader.1 bytes
   pub done : List (List ℕ)
   pub parts : (more : List ℕ) → lines_of (bytes ++ more) ≡ done ++ lines_of (left ++ more)
@@ -102,9 +103,10 @@ pub record HasTaken (terminal : Bool) (reader writer : Device) (old new : Prompt
   pub appends : Appends writer.0 writer.1 text
 
 module _ (terminal : Bool) (r w : Option (List ℕ)) (old : Prompt) where
-  pub taken_none : HasTaken terminal (r, r) (w, w) old old []
+  pub taken_none : HasTaken terminal (r, r) (w, w) old old [] 0
   taken_none = record {
     bytes = [];
+    counted = refl;
     consumes = consumes_none r;
     done = [];
     parts = λ more. refl;
@@ -114,7 +116,7 @@ module _ (terminal : Bool) (r w : Option (List ℕ)) (old : Prompt) where
     appends = Appends-none w;
   }
 
-  module _ (s v : Option (List ℕ)) (mid : Prompt) (left : List ℕ) (taken : HasTaken terminal (r, s) (w, v) old mid left) where
+  module _ (s v : Option (List ℕ)) (mid : Prompt) (left : List ℕ) (count : ℕ) (taken : HasTaken terminal (r, s) (w, v) old mid left count) where
     abbrev all : List (List ℕ)
     all = taken.done ++ lines_of left
 
@@ -124,9 +126,10 @@ module _ (terminal : Bool) (r w : Option (List ℕ)) (old : Prompt) where
         ∙ ap (λ (l : List ℕ). taken.done ++ lines_of l) (append-nil left)
 
     pub taken_invited : (x : Option (List ℕ)) (new : Prompt) (asked : List ℕ) → new ≡ mid → Invites terminal asked → Appends v x asked
-        → HasTaken terminal (r, s) (w, x) old new left
+        → HasTaken terminal (r, s) (w, x) old new left count
     taken_invited x new asked same invites appends = record {
       bytes = taken.bytes;
+      counted = taken.counted;
       consumes = taken.consumes;
       done = taken.done;
       parts = taken.parts;
@@ -137,9 +140,11 @@ module _ (terminal : Bool) (r w : Option (List ℕ)) (old : Prompt) where
       appends = Appends-more w v x taken.text asked taken.appends appends;
     }
 
-    pub taken_piece : (t : Option (List ℕ)) (piece : List ℕ) → Consumes s t piece → HasTaken terminal (r, t) (w, v) old mid (left ++ piece)
-    taken_piece t piece consumes = record {
+    pub taken_piece : (t : Option (List ℕ)) (piece : List ℕ) (more : ℕ) → length piece ≡ more → Consumes s t piece
+        → HasTaken terminal (r, t) (w, v) old mid (left ++ piece) (count + more)
+    taken_piece t piece more is consumes = record {
       bytes = taken.bytes ++ piece;
+      counted = omega (arith, taken.counted, is, length-append taken.bytes piece);
       consumes = consumes_more r s t taken.bytes piece taken.consumes consumes;
       done = taken.done;
       parts = λ more.
@@ -152,9 +157,11 @@ module _ (terminal : Bool) (r w : Option (List ℕ)) (old : Prompt) where
     }
 
     pub taken_lines : (x : Option (List ℕ)) (new : Prompt) (arrived : Arrived) (text : List ℕ)
-        (ended : TakesEnded terminal mid new left arrived GoesOn text) → Appends v x text → HasTaken terminal (r, s) (w, x) old new ended.left
+        (ended : TakesEnded terminal mid new left arrived GoesOn text) → Appends v x text
+        → HasTaken terminal (r, s) (w, x) old new ended.left count
     taken_lines x new arrived text ended appends = record {
       bytes = taken.bytes;
+      counted = taken.counted;
       consumes = taken.consumes;
       done = taken.done ++ ended.done;
       parts = λ more.
@@ -199,7 +206,7 @@ module _ (terminal : Bool) (r w : Option (List ℕ)) (old : Prompt) where
         (into_then terminal taken.done (lines_of left) old mid taken.text u taken.walks taken.flows into)
 
     pub serves_last : {X E : Type 0} (result : Result X E) (x : Option (List ℕ)) (new : Prompt)
-        → (length taken.bytes < 2 ^ 63 → IsAtEnd s) → WritesBy v x result (λ _ text. WalksOut terminal (lines_of left) mid new text) (WalksOff terminal (lines_of left) mid)
+        → (count < 2 ^ 63 → IsAtEnd s) → WritesBy v x result (λ _ text. WalksOut terminal (lines_of left) mid new text) (WalksOff terminal (lines_of left) mid)
         → Serves terminal (r, s) (w, x) old new result
     serves_last (Ok value) x new at_end writes =
         let out = writes.1 in
@@ -208,7 +215,7 @@ module _ (terminal : Bool) (r w : Option (List ℕ)) (old : Prompt) where
         (walk_then terminal taken.done (lines_of left) old mid new taken.text out.0 taken.walks taken.flows out.2) in (
           taken.bytes,
           taken.consumes,
-          reads_out (flow_after (lines_of taken.bytes)) taken.bytes s at_end,
+          reads_out (flow_after (lines_of taken.bytes)) taken.bytes s (λ few. at_end (subst (λ (n : ℕ). n < 2 ^ 63) (sym taken.counted) few)),
           taken.text ++ writes.0,
           (
             taken.text ++ out.0,

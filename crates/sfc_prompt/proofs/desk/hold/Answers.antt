@@ -9,7 +9,7 @@ returns-in-Ok g c =
       opened.0,
       opened.1,
       record {
-        old = c.in-Ok.field-0.0;
+        old = c.in-Ok.prompt;
         new = c.serve.ensures.0;
         opened = opened.2;
         tells = c.serve.ensures.1;

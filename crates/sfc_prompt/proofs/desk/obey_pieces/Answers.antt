@@ -27,7 +27,7 @@ returns-in_err-invite-clause-serves g c =
     let so_far = c.pieces.invariant.serves in
     let part = c.in_err-invite.ensures.invites in
     serves_between c.args.is_terminal (g.S.Read.remaining c.args.reader.now) (g.W.Write.contents c.args.held.now.w)
-    c.args.held.now.prompt (g.S.Read.remaining c.pieces.reader) (g.W.Write.contents c.pieces.held.w) c.pieces.held.prompt so_far.0 so_far.3.0
+    c.args.held.now.prompt (g.S.Read.remaining c.pieces.reader) (g.W.Write.contents c.pieces.held.w) c.pieces.held.prompt so_far.0 c.pieces.taken so_far.3
     c.from_residual.result f.0 f.1 (g.W.Write.contents c.invite.new.self.w) (g.S.Read.remaining c.pieces.reader) c.invite.new.self.prompt
     part.0 part.1 part.2
 
@@ -46,10 +46,10 @@ returns-in_err-count-clause-serves g c =
     let so_far = c.pieces.invariant.serves in
     let asked = c.in_ok-invite.ensures.invites in
     let invited = taken_invited c.args.is_terminal (g.S.Read.remaining c.args.reader.now) (g.W.Write.contents c.args.held.now.w)
-    c.args.held.now.prompt (g.S.Read.remaining c.pieces.reader) (g.W.Write.contents c.pieces.held.w) c.pieces.held.prompt so_far.0 so_far.3.0
+    c.args.held.now.prompt (g.S.Read.remaining c.pieces.reader) (g.W.Write.contents c.pieces.held.w) c.pieces.held.prompt so_far.0 c.pieces.taken so_far.3
     (g.W.Write.contents c.invite.new.self.w) c.invite.new.self.prompt asked.0 c.in_ok-invite.ensures.prompt asked.1 asked.2 in
     serves_between c.args.is_terminal (g.S.Read.remaining c.args.reader.now) (g.W.Write.contents c.args.held.now.w)
-    c.args.held.now.prompt (g.S.Read.remaining c.pieces.reader) (g.W.Write.contents c.invite.new.self.w) c.invite.new.self.prompt so_far.0 invited
+    c.args.held.now.prompt (g.S.Read.remaining c.pieces.reader) (g.W.Write.contents c.invite.new.self.w) c.invite.new.self.prompt so_far.0 c.pieces.taken invited
     c.from_residual-in_err-count.result f.0 f.1 (g.W.Write.contents c.invite.new.self.w) (g.S.Read.remaining c.take.new.reader)
     c.invite.new.self.prompt [] (invites_none c.args.is_terminal) (part_none (g.W.Write.contents c.invite.new.self.w))
 
@@ -69,17 +69,17 @@ returns-in_err-take_lines-clause-serves g c =
     let so_far = c.pieces.invariant.serves in
     let asked = c.in_ok-invite.ensures.invites in
     let invited = taken_invited c.args.is_terminal (g.S.Read.remaining c.args.reader.now) (g.W.Write.contents c.args.held.now.w)
-    c.args.held.now.prompt (g.S.Read.remaining c.pieces.reader) (g.W.Write.contents c.pieces.held.w) c.pieces.held.prompt so_far.0 so_far.3.0
+    c.args.held.now.prompt (g.S.Read.remaining c.pieces.reader) (g.W.Write.contents c.pieces.held.w) c.pieces.held.prompt so_far.0 c.pieces.taken so_far.3
     (g.W.Write.contents c.invite.new.self.w) c.invite.new.self.prompt asked.0 c.in_ok-invite.ensures.prompt asked.1 asked.2 in
     let piece = c.in_ok-count.ensures.taken in
     let left : List ℕ = so_far.0 ++ piece.0 in
     let come = taken_piece c.args.is_terminal (g.S.Read.remaining c.args.reader.now) (g.W.Write.contents c.args.held.now.w)
-    c.args.held.now.prompt (g.S.Read.remaining c.pieces.reader) (g.W.Write.contents c.invite.new.self.w) c.invite.new.self.prompt so_far.0 invited
-    (g.S.Read.remaining c.take.new.reader) piece.0 piece.2 in
+    c.args.held.now.prompt (g.S.Read.remaining c.pieces.reader) (g.W.Write.contents c.invite.new.self.w) c.invite.new.self.prompt so_far.0 c.pieces.taken invited
+    (g.S.Read.remaining c.take.new.reader) piece.0 c.in_ok-count.count piece.1 piece.2 in
     let waits : Waits c.take.new.self left = piece.3 so_far.0 so_far.1 in
     let part = c.in_err-take_lines.ensures.walks c.args.is_terminal left waits in
     serves_into c.args.is_terminal (g.S.Read.remaining c.args.reader.now) (g.W.Write.contents c.args.held.now.w)
-    c.args.held.now.prompt (g.S.Read.remaining c.take.new.reader) (g.W.Write.contents c.invite.new.self.w) c.invite.new.self.prompt left come
+    c.args.held.now.prompt (g.S.Read.remaining c.take.new.reader) (g.W.Write.contents c.invite.new.self.w) c.invite.new.self.prompt left (c.pieces.taken + c.in_ok-count.count) come
     c.from_residual-in_err-take_lines.result f.0 f.1 (g.W.Write.contents c.take_lines.new.self.w) (g.S.Read.remaining c.take.new.reader)
     c.take_lines.new.self.prompt part.0 part.1 part.2
 
@@ -97,20 +97,20 @@ returns-in-Ends-clause-serves g c =
     let so_far = c.pieces.invariant.serves in
     let asked = c.in_ok-invite.ensures.invites in
     let invited = taken_invited c.args.is_terminal (g.S.Read.remaining c.args.reader.now) (g.W.Write.contents c.args.held.now.w)
-    c.args.held.now.prompt (g.S.Read.remaining c.pieces.reader) (g.W.Write.contents c.pieces.held.w) c.pieces.held.prompt so_far.0 so_far.3.0
+    c.args.held.now.prompt (g.S.Read.remaining c.pieces.reader) (g.W.Write.contents c.pieces.held.w) c.pieces.held.prompt so_far.0 c.pieces.taken so_far.3
     (g.W.Write.contents c.invite.new.self.w) c.invite.new.self.prompt asked.0 c.in_ok-invite.ensures.prompt asked.1 asked.2 in
     let piece = c.in_ok-count.ensures.taken in
     let left : List ℕ = so_far.0 ++ piece.0 in
     let come = taken_piece c.args.is_terminal (g.S.Read.remaining c.args.reader.now) (g.W.Write.contents c.args.held.now.w)
-    c.args.held.now.prompt (g.S.Read.remaining c.pieces.reader) (g.W.Write.contents c.invite.new.self.w) c.invite.new.self.prompt so_far.0 invited
-    (g.S.Read.remaining c.take.new.reader) piece.0 piece.2 in
+    c.args.held.now.prompt (g.S.Read.remaining c.pieces.reader) (g.W.Write.contents c.invite.new.self.w) c.invite.new.self.prompt so_far.0 c.pieces.taken invited
+    (g.S.Read.remaining c.take.new.reader) piece.0 c.in_ok-count.count piece.1 piece.2 in
     let waits : Waits c.take.new.self left = piece.3 so_far.0 so_far.1 in
     let lines = c.in_ok-take_lines.ensures.walks c.args.is_terminal left waits in
     let ended : TakesEnded c.args.is_terminal c.invite.new.self.prompt c.take_lines.new.self.prompt left c.take_lines.new.arrived Ends lines.0 =
     subst (λ (flow : Flow). TakesEnded c.args.is_terminal c.invite.new.self.prompt c.take_lines.new.self.prompt left c.take_lines.new.arrived flow
     lines.0) c.in-Ends.is lines.1 in
     serves_quit c.args.is_terminal (g.S.Read.remaining c.args.reader.now) (g.W.Write.contents c.args.held.now.w)
-    c.args.held.now.prompt (g.S.Read.remaining c.take.new.reader) (g.W.Write.contents c.invite.new.self.w) c.invite.new.self.prompt left come
+    c.args.held.now.prompt (g.S.Read.remaining c.take.new.reader) (g.W.Write.contents c.invite.new.self.w) c.invite.new.self.prompt left (c.pieces.taken + c.in_ok-count.count) come
     (g.W.Write.contents c.take_lines.new.self.w) c.take_lines.new.self.prompt c.take_lines.new.arrived lines.0 ended lines.2
 
 pub returns-clause-tells : goal.returns-clause-tells
@@ -131,33 +131,33 @@ pub returns-clause-serves : goal.returns-clause-serves
 returns-clause-serves g c = elim c.pieces-test.branch [
   | else-pieces-test w ↦
       let so_far = c.pieces.invariant.serves in
-      let both : (t : HasTaken c.args.is_terminal (g.S.Read.remaining c.args.reader.now, g.S.Read.remaining c.pieces-test.reader)
-      (g.W.Write.contents c.args.held.now.w, g.W.Write.contents c.pieces-test.held.w) c.args.held.now.prompt c.pieces-test.held.prompt so_far.0)
-      × (c.pieces.taken ≡ length t.bytes) = rw w.held-is (rw w.reader-is so_far.3) in
+      let taken : HasTaken c.args.is_terminal (g.S.Read.remaining c.args.reader.now, g.S.Read.remaining c.pieces-test.reader)
+      (g.W.Write.contents c.args.held.now.w, g.W.Write.contents c.pieces-test.held.w) c.args.held.now.prompt c.pieces-test.held.prompt so_far.0
+      c.pieces.taken = rw w.held-is (rw w.reader-is so_far.3) in
       let waits : Waits c.pieces-test.arrived so_far.0 = rw w.arrived-is so_far.1 in
       serves_last c.args.is_terminal (g.S.Read.remaining c.args.reader.now) (g.W.Write.contents c.args.held.now.w) c.args.held.now.prompt
-      (g.S.Read.remaining c.pieces-test.reader) (g.W.Write.contents c.pieces-test.held.w) c.pieces-test.held.prompt so_far.0 both.0 c.take_last.result
-      (g.W.Write.contents c.take_last.new.self.w) c.take_last.new.self.prompt (λ few. absurd (omega (arith, few, both.1, w.pieces-test.false)))
+      (g.S.Read.remaining c.pieces-test.reader) (g.W.Write.contents c.pieces-test.held.w) c.pieces-test.held.prompt so_far.0 c.pieces.taken taken c.take_last.result
+      (g.W.Write.contents c.take_last.new.self.w) c.take_last.new.self.prompt (λ few. absurd (omega (arith, few, w.pieces-test.false)))
       (c.take_last.ensures.walks so_far.0 waits so_far.2)
   | then-pieces-test+in_ok-invite+in_ok-count+then-count-eq0 w ↦
       let so_far = c.pieces.invariant.serves in
       let asked = w.in_ok-invite.ensures.invites in
       let invited = taken_invited c.args.is_terminal (g.S.Read.remaining c.args.reader.now) (g.W.Write.contents c.args.held.now.w)
-      c.args.held.now.prompt (g.S.Read.remaining c.pieces.reader) (g.W.Write.contents c.pieces.held.w) c.pieces.held.prompt so_far.0 so_far.3.0
+      c.args.held.now.prompt (g.S.Read.remaining c.pieces.reader) (g.W.Write.contents c.pieces.held.w) c.pieces.held.prompt so_far.0 c.pieces.taken so_far.3
       (g.W.Write.contents w.invite.new.self.w) w.invite.new.self.prompt asked.0 w.in_ok-invite.ensures.prompt asked.1 asked.2 in
       let piece = w.in_ok-count.ensures.taken in
       let left : List ℕ = so_far.0 ++ piece.0 in
       let come = taken_piece c.args.is_terminal (g.S.Read.remaining c.args.reader.now) (g.W.Write.contents c.args.held.now.w)
-      c.args.held.now.prompt (g.S.Read.remaining c.pieces.reader) (g.W.Write.contents w.invite.new.self.w) w.invite.new.self.prompt so_far.0 invited
-      (g.S.Read.remaining w.take.new.reader) piece.0 piece.2 in
+      c.args.held.now.prompt (g.S.Read.remaining c.pieces.reader) (g.W.Write.contents w.invite.new.self.w) w.invite.new.self.prompt so_far.0 c.pieces.taken invited
+      (g.S.Read.remaining w.take.new.reader) piece.0 w.in_ok-count.count piece.1 piece.2 in
       let taken : HasTaken c.args.is_terminal (g.S.Read.remaining c.args.reader.now, g.S.Read.remaining c.pieces-test.reader)
-      (g.W.Write.contents c.args.held.now.w, g.W.Write.contents c.pieces-test.held.w) c.args.held.now.prompt c.pieces-test.held.prompt left =
-      rw w.held-is (rw w.reader-is come) in
+      (g.W.Write.contents c.args.held.now.w, g.W.Write.contents c.pieces-test.held.w) c.args.held.now.prompt c.pieces-test.held.prompt left
+      (c.pieces.taken + w.in_ok-count.count) = rw w.held-is (rw w.reader-is come) in
       let waits : Waits c.pieces-test.arrived left = rw w.arrived-is (piece.3 so_far.0 so_far.1) in
       let none : ended_line left ≡ None = no_bytes so_far.0 piece.0 (piece.1 ∙ w.if-count-eq0.true) so_far.2 in
       let at_end : IsAtEnd (g.S.Read.remaining c.pieces-test.reader) = rw w.reader-is (w.in_ok-count.ensures.ended w.if-count-eq0.true) in
       serves_last c.args.is_terminal (g.S.Read.remaining c.args.reader.now) (g.W.Write.contents c.args.held.now.w) c.args.held.now.prompt
-      (g.S.Read.remaining c.pieces-test.reader) (g.W.Write.contents c.pieces-test.held.w) c.pieces-test.held.prompt left taken c.take_last.result
+      (g.S.Read.remaining c.pieces-test.reader) (g.W.Write.contents c.pieces-test.held.w) c.pieces-test.held.prompt left (c.pieces.taken + w.in_ok-count.count) taken c.take_last.result
       (g.W.Write.contents c.take_last.new.self.w) c.take_last.new.self.prompt (λ few. at_end) (c.take_last.ensures.walks left waits none)
 ]
 
@@ -169,20 +169,20 @@ pieces-preserved g c =
     let so_far = c.pieces.invariant.serves in
     let asked = c.in_ok-invite.ensures.invites in
     let invited = taken_invited c.args.is_terminal (g.S.Read.remaining c.args.reader.now) (g.W.Write.contents c.args.held.now.w)
-    c.args.held.now.prompt (g.S.Read.remaining c.pieces.reader) (g.W.Write.contents c.pieces.held.w) c.pieces.held.prompt so_far.0 so_far.3.0
+    c.args.held.now.prompt (g.S.Read.remaining c.pieces.reader) (g.W.Write.contents c.pieces.held.w) c.pieces.held.prompt so_far.0 c.pieces.taken so_far.3
     (g.W.Write.contents c.invite.new.self.w) c.invite.new.self.prompt asked.0 c.in_ok-invite.ensures.prompt asked.1 asked.2 in
     let piece = c.in_ok-count.ensures.taken in
     let left : List ℕ = so_far.0 ++ piece.0 in
     let come = taken_piece c.args.is_terminal (g.S.Read.remaining c.args.reader.now) (g.W.Write.contents c.args.held.now.w)
-    c.args.held.now.prompt (g.S.Read.remaining c.pieces.reader) (g.W.Write.contents c.invite.new.self.w) c.invite.new.self.prompt so_far.0 invited
-    (g.S.Read.remaining c.take.new.reader) piece.0 piece.2 in
+    c.args.held.now.prompt (g.S.Read.remaining c.pieces.reader) (g.W.Write.contents c.invite.new.self.w) c.invite.new.self.prompt so_far.0 c.pieces.taken invited
+    (g.S.Read.remaining c.take.new.reader) piece.0 c.in_ok-count.count piece.1 piece.2 in
     let waits : Waits c.take.new.self left = piece.3 so_far.0 so_far.1 in
     let lines = c.in_ok-take_lines.ensures.walks c.args.is_terminal left waits in
     let ended : TakesEnded c.args.is_terminal c.invite.new.self.prompt c.take_lines.new.self.prompt left c.take_lines.new.arrived GoesOn lines.0 =
     subst (λ (flow : Flow). TakesEnded c.args.is_terminal c.invite.new.self.prompt c.take_lines.new.self.prompt left c.take_lines.new.arrived flow
     lines.0) c.in-GoesOn.is lines.1 in
     let taken = taken_lines c.args.is_terminal (g.S.Read.remaining c.args.reader.now) (g.W.Write.contents c.args.held.now.w)
-    c.args.held.now.prompt (g.S.Read.remaining c.take.new.reader) (g.W.Write.contents c.invite.new.self.w) c.invite.new.self.prompt left come
+    c.args.held.now.prompt (g.S.Read.remaining c.take.new.reader) (g.W.Write.contents c.invite.new.self.w) c.invite.new.self.prompt left (c.pieces.taken + c.in_ok-count.count) come
     (g.W.Write.contents c.take_lines.new.self.w) c.take_lines.new.self.prompt c.take_lines.new.arrived lines.0 ended lines.2 in
     record {
       empty = c.in_ok-take_lines.ensures.empty;
@@ -195,7 +195,6 @@ pieces-preserved g c =
         c.pass_over.ensures ended.left ended.waits (ended.no_more refl),
         ended.no_more refl,
         taken,
-        omega (arith, so_far.3.1, piece.1, length-append so_far.3.0.bytes piece.0),
       );
       few = omega (arith, c.pieces-test.true, c.in_ok-count.ensures.few);
     }
@@ -210,7 +209,6 @@ pieces-init g c = record {
     c.new-arrived.ensures,
     nothing_ended,
     taken_none c.args.is_terminal (g.S.Read.remaining c.args.reader.now) (g.W.Write.contents c.args.held.now.w) c.args.held.now.prompt,
-    refl,
   );
   few = omega arith;
 }

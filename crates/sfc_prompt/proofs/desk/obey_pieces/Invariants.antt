@@ -1,4 +1,4 @@
-use Rattle.std.proofs.Common.{◌≡◌, ◌<◌, ◌+◌, ◌-◌, [], ℕ, List, None, length}
+use Rattle.std.proofs.Common.{◌≡◌, ◌<◌, ◌+◌, ◌-◌, [], ℕ, List, None}
 use Rattle.sfc_asking.specs.sfc_script.Arriving.{ended_line}
 use Rattle.sfc_prompt.specs.Desks.{Told}
 use Rattle.sfc_prompt.specs.Private.Waiting.{Waits}
@@ -13,9 +13,8 @@ invariant-pieces g l = record {
   tells : Told (session_in l.initial.held.prompt) (session_in l.held.prompt) (g.W.Write.contents l.initial.held.w)
       (g.W.Write.contents l.held.w);
   serves : (left : List ℕ) × Waits l.arrived left × (ended_line left ≡ None)
-      × (so_far : HasTaken l.is_terminal (g.S.Read.remaining l.initial.reader, g.S.Read.remaining l.reader)
-      (g.W.Write.contents l.initial.held.w, g.W.Write.contents l.held.w) l.initial.held.prompt l.held.prompt left)
-      × (l.taken ≡ length so_far.bytes);
+      × HasTaken l.is_terminal (g.S.Read.remaining l.initial.reader, g.S.Read.remaining l.reader)
+      (g.W.Write.contents l.initial.held.w, g.W.Write.contents l.held.w) l.initial.held.prompt l.held.prompt left l.taken;
   few : l.taken < 9223372036854775808 + 1048576;
 }
 

@@ -1,7 +1,10 @@
-use Rattle.std.proofs.Common.{List, ℕ, Err, subst, inl, inr}
+use Rattle.std.proofs.Common.{◌≡◌, List, [], ℕ, Err, subst, sym, inl, inr}
 use Rattle.std.proofs.lemmas.Result.{err_from_is_err_and}
-use Rattle.sfc_replay.specs.Acceptance.{Accepts}
+use Rattle.sfc_asking.specs.sfc_debug.Steered.{Steered}
 use Rattle.sfc_asking.specs.sfc_script.sfc_load.Accepted.{IsAccepted}
+use Rattle.sfc_replay.specs.Acceptance.{Accepts}
+use Rattle.sfc_session.specs.declared.session.Session.{Session}
+use Rattle.sfc_session.specs.Sessions.{HasSaid, script_in, steered_in}
 use Rattle.sfc_prompt.proofs.desk.open_prompt.Goals as goal
 
 pub returns-in_err-text : goal.returns-in_err-text
@@ -19,14 +22,20 @@ returns-in_err-debugger g c =
     ))
 
 pub returns : goal.returns
-returns g c = (
-  c.in_ok-text.text.items,
-  c.in_ok-text.ensures.taken,
-  rw c.new-2.ensures.session (record {
-    loaded = rw c.new.ensures.steered (rw c.deref.ensures.value at c.in_ok-debugger.ensures.loaded);
-    said = c.new.ensures.said c.in_ok-debugger.ensures.untold c.in_ok-debugger.ensures.table;
-    script = c.new.ensures.script;
-    course = c.new-2.ensures.course;
-    last = c.new-2.ensures.last;
-  }),
-)
+returns g c =
+    let text : List ℕ = c.in_ok-text.text.items in
+    let same = sym c.new-2.ensures.session in
+    let loaded : IsAccepted text (steered_in c.new.result).plant =
+    subst (λ (steered : Steered). IsAccepted text steered.plant) (sym c.new.ensures.steered)
+    (rw c.deref.ensures.value at c.in_ok-debugger.ensures.loaded) in (
+      text,
+      c.in_ok-text.ensures.taken,
+      record {
+        loaded = subst (λ (s : Session). IsAccepted text (steered_in s).plant) same loaded;
+        said = subst (λ (s : Session). HasSaid s [] []) same
+            (c.new.ensures.said c.in_ok-debugger.ensures.untold c.in_ok-debugger.ensures.table);
+        script = subst (λ (s : Session). script_in s ≡ []) same c.new.ensures.script;
+        course = c.new-2.ensures.course;
+        last = c.new-2.ensures.last;
+      },
+    )
