@@ -3,6 +3,8 @@
 //!
 //! - `surroundings`: which element a place lies in; `describe`: elements in words.
 //! - `notes`: lines with what is told of a fault that loading finds.
+//! - `mending`: what mends a typical fault of a text that can't be read; `foreign`: words that mean something elsewhere, and what
+//!   serves in their place.
 //! - `candidates`, `near`: declared names that may be meant.
 //! - `short_front`, `trial`, `expected`: what could stand at a place.
 //! - `writing`: text that is put together.
@@ -11,6 +13,8 @@
 pub mod candidates;
 pub mod describe;
 pub mod expected;
+pub mod foreign;
+pub mod mending;
 pub mod near;
 pub mod notes;
 pub mod short_front;

@@ -4,13 +4,15 @@ use crate::candidates::candidates;
 use crate::describe::{add_declared, add_element, add_part};
 use crate::near::nearest;
 use crate::writing::{add_joint, add_line};
+use sfc_base::case::is_same_word;
 use sfc_base::location::Size;
 use sfc_base::var_type::VarType;
 use sfc_page::append::{append_number, append_signed};
 use sfc_places::chart_text::ChartText;
 use sfc_places::declared::Declared;
 use sfc_places::finding::{Detail, Element, Finding, Part, Sort, Types};
-use sfc_places::marks::{line_at, spelling_at};
+use sfc_places::marks::{behind, line_at, spelling_at};
+use sfc_places::regions::program_types;
 use sfc_tokens::token::Token;
 use std::alloc::{AllocError, Global};
 
@@ -55,6 +57,53 @@ fn add_near(
     told.extend_from_slice(b"\n")
 }
 
+// The one of these that has this name.
+fn find_named(tokens: &[Token], names: &[Declared], wanted: &[u8]) -> Option<Declared> {
+    for declared in names {
+        if is_same_word(spelling_at(tokens, declared.token), wanted) {
+            return Some(*declared);
+        }
+    }
+    None
+}
+
+// The step of this name in any program type, and the name of that type.
+fn step_anywhere(
+    alloc: Global,
+    tokens: &[Token],
+    wanted: &[u8],
+) -> Result<Option<(Declared, usize)>, AllocError> {
+    for region in program_types(alloc, tokens)?.as_slice() {
+        let program = behind(region.from, 1);
+        let steps = candidates(alloc, tokens, Sort::Steps { program })?;
+        if let Some(step) = find_named(tokens, &steps, wanted) {
+            return Ok(Some((step, program)));
+        }
+    }
+    Ok(None)
+}
+
+// Adds a line with the program type that has a step which is none here, if there is one.
+fn add_elsewhere(
+    alloc: Global,
+    told: &mut Vec<u8>,
+    tokens: &[Token],
+    wanted: &[u8],
+    sort: Sort,
+) -> Result<(), AllocError> {
+    let Sort::Steps { .. } = sort else {
+        return Ok(());
+    };
+    let Some((step, program)) = step_anywhere(alloc, tokens, wanted)? else {
+        return Ok(());
+    };
+    told.extend_from_slice(b"  mend: this is a step of PROGRAM ")?;
+    told.extend_from_slice(spelling_at(tokens, program))?;
+    told.extend_from_slice(b" (line ")?;
+    append_number(told, u64::from(line_at(tokens, step.token)))?;
+    add_line(told, b"), and a transition joins steps of one program type")
+}
+
 // Adds a line with the first one of a name.
 fn add_first(told: &mut Vec<u8>, tokens: &[Token], first: Declared) -> Result<(), AllocError> {
     told.extend_from_slice(b"  first: ")?;
@@ -97,6 +146,16 @@ fn add_wanted(told: &mut Vec<u8>, wanted: &[u8], found: &[u8]) -> Result<(), All
     add_line(told, wanted)?;
     told.extend_from_slice(b"  found: ")?;
     add_line(told, found)
+}
+
+// Adds a line of how a time is written, where a number stands for one.
+fn add_time(told: &mut Vec<u8>, wanted: Types, found: Types) -> Result<(), AllocError> {
+    match (wanted, found) {
+        (Types::One(VarType::Time), Types::Untyped | Types::Integers) => {
+            add_line(told, b"  mend: T#2s is a time of two seconds")
+        }
+        _ => Ok(()),
+    }
 }
 
 // The letter of a size.
@@ -158,14 +217,18 @@ pub fn add_detail(
 ) -> Result<(), AllocError> {
     match detail {
         Detail::Nothing => Ok(()),
-        Detail::Missing(sort) => add_near(alloc, told, tokens, word, sort),
+        Detail::Missing(sort) => {
+            add_near(alloc, told, tokens, word, sort)?;
+            add_elsewhere(alloc, told, tokens, word, sort)
+        }
         Detail::MissingPart => add_line(told, b"  expected: X, T or Q"),
         Detail::OutsideAction => add_line(told, b"  wanted: the action in whose body it stands"),
         Detail::NoWith => add_line(told, b"  expected: WITH and the name of a task"),
         Detail::First(first) => add_first(told, tokens, first),
         Detail::FirstInList(first) => add_first_in_list(told, tokens, first),
         Detail::Types { wanted, found } => {
-            add_wanted(told, types_text(wanted), types_text(found))
+            add_wanted(told, types_text(wanted), types_text(found))?;
+            add_time(told, wanted, found)
         }
         Detail::Sizes { var_type, found } => {
             add_wanted(told, location_text(var_type), size_text(found))

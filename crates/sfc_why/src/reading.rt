@@ -12,6 +12,7 @@ use crate::sfc_places::finding::Part;
 use crate::sfc_places::span::{Span, Spans};
 use sfc_events::read_error::{ReadError, ReadErrorKind};
 use sfc_hints::expected::{Front, find_expected};
+use sfc_hints::mending::{Misplaced, add_byte_mending};
 use sfc_hints::notes::add_in;
 use sfc_hints::short_front::{LONGEST, short_front};
 use sfc_hints::surroundings::element_before;
@@ -79,16 +80,23 @@ fn byte_fault(
     alloc: Global,
     goal: Goal,
     text: &[u8],
-    index: usize,
-    span: Span,
+    piece: (usize, Span),
+    kind: ReadErrorKind,
 ) -> Result<ReadingFault, AllocError>
     ensures { IfOk result (λ fault. IsPlaceOf text.now fault.place) }
 {
+    let (index, span) = piece;
     let place = byte_place(alloc, text, index, span)?;
     let mut lines = Vec::new(alloc);
     if let Goal::Chart = goal {
         add_element_behind(alloc, text.get(..span.from).unwrap_or(b""), &mut lines)?;
     }
+    add_byte_mending(
+        &mut lines,
+        kind,
+        text.get(span.from..span.to).unwrap_or(b""),
+        text.get(span.from..).unwrap_or(b""),
+    )?;
     Ok(ReadingFault { place, lines })
 }
 
@@ -108,13 +116,14 @@ fn lexical_fault(
     goal: Goal,
     text: &[u8],
     spans: &Spans,
+    kind: ReadErrorKind,
 ) -> Result<ReadingFault, AllocError>
     ensures { IfOk result (λ fault. IsPlaceOf text.now fault.place) }
 {
     let index = first_not_lexed(alloc, text, &spans.tokens)?;
     match (spans.tokens.get(index), spans.wrong) {
-        (Some(span), _) => byte_fault(alloc, goal, text, index, *span),
-        (None, Some(span)) => byte_fault(alloc, goal, text, index, span),
+        (Some(span), _) => byte_fault(alloc, goal, text, (index, *span), kind),
+        (None, Some(span)) => byte_fault(alloc, goal, text, (index, span), kind),
         (None, None) => Ok(whole_fault(alloc)),
     }
 }
@@ -200,30 +209,45 @@ fn place_at(alloc: Global, chart: &ChartText<'_>, index: usize) -> Result<Place,
     token_place(alloc, chart.text, chart.tokens, index, *span)
 }
 
-// Adds a line of what could stand before the token of a chart, in place of it and what follows.
-fn add_expected_in_chart(
+// The front of a text before a token: of a chart without the elements that have ended there.
+fn front_of(
     alloc: Global,
+    goal: Goal,
+    text: &ChartText<'_>,
+    index: usize,
+) -> Result<Vec<u8>, AllocError> {
+    match goal {
+        Goal::Chart => short_front(alloc, text, index),
+        Goal::Expression => {
+            let end = match text.spans.get(index) {
+                Some(span) => span.from,
+                None => text.text.len(),
+            };
+            Vec::from_slice(alloc, text.text.get(..end).unwrap_or(b""))
+        }
+    }
+}
+
+// Adds a line of what could stand in place of a token, and one of what mends it, if that is known.
+fn add_expected_at(
+    alloc: Global,
+    goal: Goal,
     chart: &ChartText<'_>,
     index: usize,
     lines: &mut Vec<u8>,
 ) -> Result<(), AllocError> {
-    let front = short_front(alloc, chart, index)?;
-    add_expected(alloc, Goal::Chart, &front, lines)
-}
-
-// Adds a line of what could stand in place of a token of an expression.
-fn add_expected_in_expression(
-    alloc: Global,
-    text: &ChartText<'_>,
-    index: usize,
-    lines: &mut Vec<u8>,
-) -> Result<(), AllocError> {
-    let end = match text.spans.get(index) {
-        Some(span) => span.from,
-        None => text.text.len(),
+    let front = front_of(alloc, goal, chart, index)?;
+    add_expected(alloc, goal, &front, lines)?;
+    if front.len() > LONGEST {
+        return Ok(());
+    }
+    let misplaced = Misplaced {
+        chart: *chart,
+        index,
+        goal,
+        front: &front,
     };
-    let front = text.text.get(..end).unwrap_or(b"");
-    add_expected(alloc, Goal::Expression, front, lines)
+    misplaced.add_mending(alloc, lines)
 }
 
 // Lines of what is told of a token that can't stand there: the element, and what could.
@@ -239,14 +263,8 @@ fn syntax_lines(
         let element = element_before(chart.tokens, index);
         add_in(&mut lines, chart.tokens, element, Part::Whole)?;
     }
-    match (kind, goal) {
-        (ReadErrorKind::Syntax, Goal::Chart) => {
-            add_expected_in_chart(alloc, chart, index, &mut lines)?;
-        }
-        (ReadErrorKind::Syntax, Goal::Expression) => {
-            add_expected_in_expression(alloc, chart, index, &mut lines)?;
-        }
-        _ => {}
+    if let ReadErrorKind::Syntax = kind {
+        add_expected_at(alloc, goal, chart, index, &mut lines)?;
     }
     Ok(lines)
 }
@@ -287,6 +305,6 @@ pub fn reading_fault(
             syntax_fault(alloc, goal, &chart, error)
         }
         Err(error) if error.kind == ReadErrorKind::Memory => Err(AllocError),
-        Err(_) => lexical_fault(alloc, goal, text, spans),
+        Err(error) => lexical_fault(alloc, goal, text, spans, error.kind),
     }
 }
