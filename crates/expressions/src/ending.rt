@@ -1,8 +1,8 @@
 //! Why a text has no value or effect.
 
 use sfc_check::type_error::TypeError;
-use sfc_expr::fault::Fault;
 use sfc_events::read_error::{ReadError, ReadErrorKind};
+use sfc_expr::fault::Fault;
 use std::alloc::AllocError;
 use std::fmt;
 

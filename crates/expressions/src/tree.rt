@@ -1,11 +1,11 @@
 //! Texts to trees: a text stands alone in a small chart, which is read.
 
 use crate::ending::Ending;
+use sfc_events::read_error::ReadErrorKind;
 use sfc_text::expression::Expression;
 use sfc_text::read::read;
 use sfc_text::statement::Statement;
 use sfc_text::tree::{Element, Source};
-use sfc_events::read_error::ReadErrorKind;
 use std::alloc::{AllocError, Global};
 
 // What stands behind the one element of the chart.

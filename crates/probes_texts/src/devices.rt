@@ -1,9 +1,9 @@
 //! Readers and writers that fail, or that take and give little at a time.
 
 use crate::broken::{BrokenReader, BrokenWriter, Recorder};
-use sfc_events::load_error::LoadError;
 use samples::charts::one_step;
 use sfc_base::write_fault::{WriteFault, put_all};
+use sfc_events::load_error::LoadError;
 use sfc_page::time_text::put_time;
 use sfc_replay::replay::replay;
 use sfc_replay::replay_error::{ChartError, ReplayError};

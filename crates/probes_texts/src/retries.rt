@@ -2,8 +2,8 @@
 
 use crate::sfc_list::list::list;
 use crate::sfc_load::load::load;
-use sfc_events::load_error::LoadError;
 use samples::charts::{mixture, mixture_listed};
+use sfc_events::load_error::LoadError;
 use sfc_plant::plant::Plant;
 use sfc_text::read::read;
 use sfc_text::tree::Source;

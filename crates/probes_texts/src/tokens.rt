@@ -1,9 +1,9 @@
 //! The tokens of a text, names, and charts with a fault at any place.
 
 use samples::charts::mixture;
+use sfc_events::read_error::ReadErrorKind;
 use sfc_text::read::read;
 use sfc_tokens::lex::tokens;
-use sfc_events::read_error::ReadErrorKind;
 use sfc_tokens::token::{Token, TokenKind};
 use std::alloc::{AllocError, Global};
 use std::process::Abort;

@@ -1,10 +1,10 @@
 //! What the reader says of the front of a text, and of that front with another token behind it. So what may stand at a place is
 //! what the grammar itself accepts there.
 
+use sfc_events::read_error::{ReadError, ReadErrorKind};
 use sfc_text::read::read;
 use sfc_text::read_expr::read_expr;
 use sfc_tokens::lex::last_line;
-use sfc_events::read_error::{ReadError, ReadErrorKind};
 use std::alloc::{AllocError, Global};
 
 /// What a text is to be read as.

@@ -8,9 +8,9 @@ ghost use Rattle.sfc_load.specs.Assembly.Declared.{AreDeclared};
 
 use crate::programs::load_programs;
 use crate::sfc_variables::globals::load_globals;
-use sfc_events::load_error::LoadError;
 use crate::tasks::load_tasks;
 use sfc_base::items::Items;
+use sfc_events::load_error::LoadError;
 use sfc_plant::declarations::Declarations;
 use sfc_text::tree::Source;
 use std::alloc::Global;

@@ -9,10 +9,10 @@ ghost use Rattle.sfc_plant.specs.Image as image;
 ghost use Rattle.sfc_plant.specs.Image.{image_of, locations_of, starts_from};
 ghost use Rattle.sfc_load.specs.Loading.{image_check};
 
-use sfc_events::load_error::{Limit, LoadError};
 use crate::sfc_variables::located::repeats;
 use sfc_base::limits::VARIABLES;
 use sfc_base::location::Location;
+use sfc_events::load_error::{Limit, LoadError};
 use sfc_plant::image::locals_of;
 use sfc_plant::instance::Instance;
 use sfc_plant::program_type::ProgramType;

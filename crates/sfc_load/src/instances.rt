@@ -6,10 +6,10 @@ ghost use Rattle.sfc_load.specs.Loading as loading;
 ghost use Rattle.sfc_load.specs.Loading.{instance_name, instance_check, instances_check};
 ghost use Rattle.sfc_load.specs.Built.{instance_of};
 
-use sfc_events::load_error::{Limit, LoadError};
 use sfc_base::ids::{TaskId, TypeId};
 use sfc_base::limits::{INSTANCES, TASKS};
 use sfc_base::name::Name;
+use sfc_events::load_error::{Limit, LoadError};
 use sfc_plant::instance::Instance;
 use sfc_plant::name_table::NameTable;
 use sfc_text::tree;

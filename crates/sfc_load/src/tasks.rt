@@ -9,13 +9,13 @@ ghost use Rattle.sfc_load.specs.Loading.{task_name, task_check, task_names, task
 ghost use Rattle.sfc_load.specs.Built.{task_of};
 
 use crate::sfc_check::literal::check_literal;
-use sfc_events::load_error::{Limit, LoadError};
 use sfc_base::limits::TASKS;
 use sfc_base::name::Name;
 use sfc_base::references::GlobalId;
 use sfc_base::time_value::TimeValue;
 use sfc_base::value::Value;
 use sfc_base::var_type::VarType;
+use sfc_events::load_error::{Limit, LoadError};
 use sfc_plant::name_table::NameTable;
 use sfc_plant::task::Task;
 use sfc_plant::variable_table::VariableTable;

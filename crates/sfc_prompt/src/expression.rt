@@ -11,10 +11,10 @@ use crate::sfc_debug::break_condition::BreakCondition;
 use crate::sfc_script::condition_error::ConditionError;
 use crate::sfc_script::conditions::condition_of;
 use sfc_base::ids::ProgId;
+use sfc_events::read_error::ReadErrorKind;
 use sfc_page::append::{append, append_number};
 use sfc_plant::plant::Plant;
 use sfc_text::read_expr::read_expr;
-use sfc_events::read_error::ReadErrorKind;
 use std::alloc::{AllocError, Global};
 
 /// Why a text is no condition: the number and the name of what a chart with such a condition is refused for; or that of a command of

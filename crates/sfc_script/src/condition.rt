@@ -9,9 +9,9 @@ use crate::condition_error::ConditionError;
 use crate::conditions::condition_of;
 use crate::script::ScriptError;
 use sfc_debug::break_condition::BreakCondition;
+use sfc_events::read_error::ReadErrorKind;
 use sfc_plant::plant::Plant;
 use sfc_text::read_expr::read_expr;
-use sfc_events::read_error::ReadErrorKind;
 use std::alloc::Global;
 
 // The refusal of a text that is no expression, which stands at this line.

@@ -16,5 +16,5 @@ pub mod read_expr;
 pub mod statement;
 pub mod tree;
 
-pub use sfc_tokens::lex::tokens;
 pub use sfc_events::read_error::{ReadError, ReadErrorKind};
+pub use sfc_tokens::lex::tokens;

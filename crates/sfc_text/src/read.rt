@@ -9,8 +9,8 @@ ghost use Rattle.sfc_text.specs.Trees.{source_of};
 use crate::parse::fault::ParseFault;
 use crate::parse::source::whole_source;
 use crate::tree::Source;
-use sfc_tokens::lex::{last_line, tokens};
 use sfc_events::read_error::{OUT_OF_MEMORY, ReadError, ReadErrorKind};
+use sfc_tokens::lex::{last_line, tokens};
 use sfc_tokens::token::Token;
 use std::alloc::Global;
 

@@ -7,8 +7,8 @@ ghost use Rattle.sfc_text.specs.Trees.{tree_of};
 use crate::expression::Expression;
 use crate::parse::expression::whole_expression;
 use crate::read::refusal;
-use sfc_tokens::lex::tokens;
 use sfc_events::read_error::ReadError;
+use sfc_tokens::lex::tokens;
 use std::alloc::Global;
 
 /// The tree of a text that is one expression, with nothing behind it (B.3.1).
