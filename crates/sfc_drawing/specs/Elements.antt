@@ -22,13 +22,9 @@ unfoldable pub word_before : List ℕ → List ℕ → List ℕ
 word_before word [] = []
 word_before word (c ∷ text) = word
 
--- a line of text; at most 90 characters are shown
-unfoldable pub line_text : Line → List ℕ
-line_text l = text_text (codes "c") (point l.x l.y) 90 l.text
-
--- the name of a step beside a double line
-unfoldable pub name_line : Line → List ℕ
-name_line l = text_text (codes "n") (point l.x l.y) 32 l.text
+-- a line of text of this class, of which at most so many characters are shown
+unfoldable pub line_text : List ℕ → ℕ → Line → List ℕ
+line_text class most l = text_text class (point l.x l.y) most l.text
 
 -- a line that belongs to a node: a double one goes 10 pixels beyond its branches
 unfoldable pub own_text : Own → List ℕ

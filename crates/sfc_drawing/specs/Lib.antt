@@ -14,6 +14,8 @@ pub mod Transitions
 pub mod Links
 -- bodies of actions, charts, and the whole text
 pub mod Pictures
+-- what is told of an instance
+pub mod Told
 -- what a chart says, and what is drawn of it
 pub mod Said
 -- what a drawing is

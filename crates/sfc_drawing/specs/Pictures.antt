@@ -35,7 +35,7 @@ frames_text b =
     ++ text_text (codes "n") (point (b.left + 54) (b.top + 15)) 90 b.name ++ rect_text (codes "cell") (lines_frame b)
 
 unfoldable pub body_text : List ℕ → DrawnBody → List ℕ
-body_text chart b = body_head chart b ++ frames_text b ++ flat_map line_text b.lines ++ element_end
+body_text chart b = body_head chart b ++ frames_text b ++ flat_map (line_text (codes "c") 90) b.lines ++ element_end
 
 -- ---- charts
 

@@ -15,11 +15,19 @@ rect_text class r =
     codes "<rect class=\"" ++ class ++ codes "\" x=\"" ++ decimal r.x ++ codes "\" y=\"" ++ decimal r.y
     ++ codes "\" width=\"" ++ decimal r.width ++ codes "\" height=\"" ++ decimal r.height ++ codes "\"/>\n"
 
--- of which at most so many characters are shown
-unfoldable pub text_text : List ℕ → Point → ℕ → List ℕ → List ℕ
-text_text class at most said =
+-- a text of this class
+unfoldable pub text_around : List ℕ → Point → List ℕ → List ℕ
+text_around class at inner =
     codes "<text class=\"" ++ class ++ codes "\" x=\"" ++ decimal at.x ++ codes "\" y=\"" ++ decimal at.y
-    ++ codes "\">" ++ cut most said ++ codes "</text>\n"
+    ++ codes "\">" ++ inner ++ codes "</text>\n"
+
+-- of which at most so many characters are shown
+abbrev pub text_text : List ℕ → Point → ℕ → List ℕ → List ℕ
+text_text class at most said = text_around class at (cut most said)
+
+-- a number as a text of this class
+abbrev pub number_text : List ℕ → Point → ℕ → List ℕ
+number_text class at n = text_around class at (decimal n)
 
 unfoldable pub triangle_text : Point → Point → Point → List ℕ
 triangle_text a b tip =
@@ -60,9 +68,3 @@ down_text x top bottom =
 unfoldable pub along_text : ℕ → ℕ → ℕ → List ℕ
 along_text from y to =
     codes "<path class=\"l\" d=\"M" ++ decimal from ++ codes " " ++ decimal y ++ codes "H" ++ decimal to ++ codes "\"/>\n"
-
--- a number as a text of this class
-unfoldable pub number_text : List ℕ → Point → ℕ → List ℕ
-number_text class at n =
-    codes "<text class=\"" ++ class ++ codes "\" x=\"" ++ decimal at.x ++ codes "\" y=\"" ++ decimal at.y
-    ++ codes "\">" ++ decimal n ++ codes "</text>\n"

@@ -19,13 +19,14 @@ use Rattle.sfc_drawing.specs.Elements.{sheet_text, title_end, element_end, word_
 unfoldable pub row_head : List ℕ → List ℕ → ℕ → DrawnRow → List ℕ
 row_head chart step number row =
     codes "<g id=\"" ++ escaped chart ++ codes "-step-" ++ escaped step ++ codes "-" ++ decimal number ++ codes "\" class=\"act"
-    ++ word_if row.mark.is_executed (codes " ran") ++ word_if row.mark.is_never (codes " never") ++ codes "\"><title>"
+    ++ word_if row.mark.is_executed (codes " ran") ++ word_if row.mark.is_forced (codes " forced")
+    ++ word_if row.mark.is_never (codes " never") ++ codes "\"><title>"
 
 unfoldable pub row_title : DrawnRow → List ℕ
 row_title row =
     escaped row.qualifier ++ word_before (codes " ") row.time ++ escaped row.time ++ codes " " ++ escaped row.action
     ++ word_before (codes " with ") row.indicators ++ escaped row.indicators
-    ++ word_if row.mark.is_never (codes ", never executed") ++ title_end
+    ++ word_if row.mark.is_forced (codes ", forced") ++ word_if row.mark.is_never (codes ", never executed") ++ title_end
 
 -- a field with its text, where the block has that column; at most so many characters are shown
 unfoldable pub field_text : List ℕ → Rect → ℕ → List ℕ → List ℕ

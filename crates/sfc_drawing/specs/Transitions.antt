@@ -9,7 +9,7 @@ use Rattle.sfc_drawing.specs.declared.shape.Rect.{Rect}
 use Rattle.sfc_drawing.specs.declared.shape.Way.TheVariants.{Down}
 use Rattle.sfc_drawing.specs.Parts.{escaped, word_if}
 use Rattle.sfc_drawing.specs.Shapes.{point, rect_text, text_text, number_text, down_text, head_text}
-use Rattle.sfc_drawing.specs.Elements.{sheet_text, title_end, element_end, own_text, line_text, name_line}
+use Rattle.sfc_drawing.specs.Elements.{sheet_text, title_end, element_end, own_text, line_text}
 
 -- by its number among those of the chart, counted from 1
 unfoldable pub transition_head : List ℕ → ℕ → TransitionMark → List ℕ
@@ -50,9 +50,9 @@ name_text p (Some name) = text_text (codes "n") (point (p.x + 21) (p.top + 10)) 
 -- where links without a line come to its double line: an arrow, and the names of their steps
 unfoldable pub stubs_text : Option Stubs → List ℕ
 stubs_text None = []
-stubs_text (Some s) = down_text s.x s.top s.bottom ++ head_text Down s.x s.bottom ++ flat_map name_line s.names
+stubs_text (Some s) = down_text s.x s.top s.bottom ++ head_text Down s.x s.bottom ++ flat_map (line_text (codes "n") 32) s.names
 
 unfoldable pub transition_text : List ℕ → ℕ → DrawnTransition → List ℕ
 transition_text chart number t =
     transition_head chart number t.mark ++ sheet_text t.sheet ++ transition_title number t ++ flat_map own_text t.own
-    ++ bar_text number t.place ++ name_text t.place t.name ++ flat_map line_text t.lines ++ stubs_text t.stubs ++ element_end
+    ++ bar_text number t.place ++ name_text t.place t.name ++ flat_map (line_text (codes "c") 90) t.lines ++ stubs_text t.stubs ++ element_end

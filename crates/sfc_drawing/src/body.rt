@@ -86,6 +86,6 @@ pub fn append_body(out: &mut Vec<u8>, chart: &[u8], body: &DrawnBody) -> Result<
 {
     append_body_head(out, chart, body)?;
     append_frames(out, body)?;
-    append_lines(out, body.lines.as_slice())?;
+    append_lines(out, b"c", 90, body.lines.as_slice())?;
     append(out, b"</g>\n")
 }

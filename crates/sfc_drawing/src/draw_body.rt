@@ -1,6 +1,7 @@
 //! What is drawn of the bodies of actions (2.6.4.1).
 
 ghost use Rattle.std.specs.Prelude.{◌≡◌, ◌≤◌, IfOk, length, map};
+ghost use Rattle.sfc_drawing.specs.Said as said;
 
 use crate::drawn::{ActionMark, Corner, DrawnBody, Line};
 use crate::listed::lines_at;
@@ -117,7 +118,7 @@ fn draw_body(
     mark: ActionMark,
     flow: Flow,
 ) -> Result<(DrawnBody, Flow), AllocError>
-    ensures { IfOk result (λ drawn. drawn.0.name ≡ action.now.name) }
+    ensures { IfOk result (λ drawn. said.body_drawn drawn.0 ≡ said.body_said mark action.now) }
 {
     let name = action.name.spelling();
     let width = width_of(name, lines);
@@ -148,13 +149,13 @@ pub fn draw_bodies(
     marks: &Marks,
     flow: Flow,
 ) -> Result<(Items<DrawnBody>, Flow), AllocError>
-    ensures { IfOk result (λ drawn. map (λ b. b.name) drawn.0 ≡ map (λ a. a.name) actions.now) }
+    ensures { IfOk result (λ drawn. map said.body_drawn drawn.0 ≡ said.bodies_said marks.now actions.now) }
 {
     let mut drawn = Vec::new(alloc);
     let mut flow = flow;
     for (number, action) in actions.iter().enumerate() {
         let lines = lines_at(bodies, number);
-        let (body, next) = draw_body(alloc, action, lines, marks.action(number), flow)?;
+        let (body, next) = draw_body(alloc, action, lines, marks.body(number), flow)?;
         drawn.push(body)?;
         flow = next;
     }

@@ -12,7 +12,7 @@ use crate::drawing_error::DrawingError;
 use crate::drawn::{Corner, DrawnChart, DrawnLink, DrawnStep, DrawnTransition};
 use crate::graph::{Subject, numbers_of};
 use crate::listed::text_at;
-use crate::marks::{Marks, Told};
+use crate::marks::Marks;
 use crate::spots::Spots;
 use crate::widths::{shown, wide};
 use sfc_base::items::Items;
@@ -44,14 +44,13 @@ fn draw_steps(
     marks: &Marks,
 ) -> Result<Items<DrawnStep>, AllocError>
     requires { length steps.now ≤ length spots.now.layout.now.boxes.items }
-    ensures said { IfOk result (λ drawn. map said.step_drawn drawn ≡ map (said.step_said names.now) steps.now) }
+    ensures said { IfOk result (λ drawn. map said.step_drawn drawn ≡ said.steps_said names.now marks.now steps.now) }
     ensures places { IfOk result (λ drawn. map (λ s. s.place) drawn ≡ take (length steps.now) spots.now.layout.now.boxes.items) }
 {
     let mut drawn = Vec::new(alloc);
     for (number, step) in steps.iter().enumerate() {
-        let told = Told::of_step(marks, number);
         let spot = spots.step(alloc, number)?;
-        drawn.push(draw_step(alloc, names, step, spot, told)?)?;
+        drawn.push(draw_step(alloc, names, step, spot, marks.step(number))?)?;
     }
     Ok(Items::from_vec(drawn))
 }
@@ -65,7 +64,7 @@ fn draw_transitions(
     marks: &Marks,
 ) -> Result<Items<DrawnTransition>, AllocError>
     requires { spots.now.steps + length transitions.now ≤ length spots.now.layout.now.boxes.items }
-    ensures said { IfOk result (λ drawn. map said.transition_drawn drawn ≡ map said.transition_said transitions.now) }
+    ensures said { IfOk result (λ drawn. map said.transition_drawn drawn ≡ said.transitions_said marks.now transitions.now) }
     ensures places { IfOk result (λ drawn. map (λ t. t.place) drawn
         ≡ take (length transitions.now) (drop spots.now.steps spots.now.layout.now.boxes.items)) }
 {
@@ -97,7 +96,8 @@ fn draw_parts(
     requires boxes { length spots.now.layout.now.boxes.items ≡ spots.now.steps + length subject.chart.now.transitions }
     requires apart { AreApart spots.now.layout.now.boxes.items }
     requires names { spots.now.names.now ≡ subject.names.now }
-    ensures parts { IfOk result (λ parts. said.ArePartsOf subject.entry.names.now subject.entry.chart.now parts.steps parts.transitions) }
+    ensures parts { IfOk result (λ parts.
+        said.ArePartsOf subject.entry.names.now subject.entry.chart.now marks.now parts.steps parts.transitions) }
     ensures links { IfOk result (λ parts. map said.link_drawn parts.links
         ≡ flat_map (said.links_at subject.entry.names.now subject.entry.chart.now.transitions) subject.entry.ranked.now) }
 {
@@ -158,11 +158,12 @@ fn lay_out_parts(
     sheets: Corner,
     marks: &Marks,
 ) -> Result<(Parts, Corner), DrawingError>
-    ensures parts { IfOk result (λ laid. said.ArePartsOf subject.entry.names.now subject.entry.chart.now laid.0.steps laid.0.transitions) }
+    ensures parts { IfOk result (λ laid.
+        said.ArePartsOf subject.entry.names.now subject.entry.chart.now marks.now laid.0.steps laid.0.transitions) }
     ensures links { IfOk result (λ laid. map said.link_drawn laid.0.links
         ≡ flat_map (said.links_at subject.entry.names.now subject.entry.chart.now.transitions) subject.entry.ranked.now) }
 {
-    let numbers = numbers_of(alloc, subject, Told::nothing(marks))?;
+    let numbers = numbers_of(alloc, subject)?;
     let layout = lay_out(alloc, &numbers)?;
     let spots = Spots::new(alloc, subject.names, &numbers, &layout, sheets)?;
     let parts = draw_parts(alloc, subject, &spots, marks)?;
@@ -177,8 +178,10 @@ pub fn draw_chart(
     corner: Corner,
     marks: &Marks,
 ) -> Result<DrawnChart, DrawingError>
-    ensures drawn { IfOk result (λ drawn. said.IsDrawn subject.entry.names.now subject.entry.chart.now subject.entry.ranked.now drawn) }
+    ensures drawn { IfOk result (λ drawn.
+        said.IsDrawn subject.entry.names.now subject.entry.chart.now subject.entry.ranked.now marks.now drawn) }
     ensures name { IfOk result (λ drawn. drawn.name ≡ title.name) }
+    ensures note { IfOk result (λ drawn. drawn.note ≡ title.note) }
 {
     let (parts, end) = lay_out_parts(alloc, subject, sheets_of(corner), marks)?;
     let actions = subject.chart.actions.as_slice();

@@ -25,11 +25,21 @@ struct LinkSpot {
     priority: Option<u32>,
 }
 
-// The place of a transition among those of its chart, and the priority that was given.
+/// On which side of a transition its links are.
+#[derive(Clone, Copy, Debug, PartialEq, Eq)]
+pub enum Side {
+    /// Those that lead to it.
+    To,
+    /// Those that lead from it.
+    From,
+}
+
+// The place of a transition among those of its chart, the priority that was given, and a side of it.
 #[derive(Clone, Copy)]
 struct Ranked {
     place: u16,
     priority: Option<u32>,
+    side: Side,
 }
 
 // Where the link with this number stands, by its rank.
@@ -92,65 +102,42 @@ fn draw_link(source: End, target: End, spot: LinkSpot) -> DrawnLink
     }
 }
 
-// The link from a step to a transition.
-fn draw_to(
+// The link between a step and a transition.
+fn draw_between(
     alloc: Global,
     spots: &Spots<'_>,
     number: usize,
     step: StepId,
     ranked: Ranked,
 ) -> Result<DrawnLink, AllocError>
-    ensures { IfOk result (λ drawn. said.link_drawn drawn ≡ said.link_to spots.now.names.now ranked.place step) }
+    ensures { IfOk result (λ drawn. said.link_drawn drawn ≡ said.link_on ranked.side spots.now.names.now ranked.place step) }
 {
-    let link = Link {
-        source: usize::from(step.0),
-        target: spots.steps.saturating_add(usize::from(ranked.place)),
-    };
-    let spot = spot_of(spots, number, link, priority_at(spots, step, ranked));
-    let source = step_end(alloc, spots, step)?;
-    Ok(draw_link(source, transition_end(ranked.place), spot))
-}
-
-// The link from a transition to a step.
-fn draw_from(
-    alloc: Global,
-    spots: &Spots<'_>,
-    number: usize,
-    step: StepId,
-    ranked: Ranked,
-) -> Result<DrawnLink, AllocError>
-    ensures { IfOk result (λ drawn. said.link_drawn drawn ≡ said.link_from spots.now.names.now ranked.place step) }
-{
-    let link = Link {
-        source: spots.steps.saturating_add(usize::from(ranked.place)),
-        target: usize::from(step.0),
-    };
-    let spot = spot_of(spots, number, link, None);
-    let target = step_end(alloc, spots, step)?;
-    Ok(draw_link(transition_end(ranked.place), target, spot))
-}
-
-// The links to a transition.
-fn push_to(
-    alloc: Global,
-    drawn: &mut Vec<DrawnLink>,
-    spots: &Spots<'_>,
-    steps: &[StepId],
-    ranked: Ranked,
-) -> Result<(), AllocError>
-    ensures { OnOk result (map said.link_drawn drawn.new.items
-        ≡ map said.link_drawn drawn.old.items ++ map (said.link_to spots.now.names.now ranked.place) steps.now) }
-{
-    for step in steps {
-        let number = drawn.len();
-        let link = draw_to(alloc, spots, number, *step, ranked)?;
-        drawn.push(link)?;
+    let above = usize::from(step.0);
+    let below = spots.steps.saturating_add(usize::from(ranked.place));
+    let this = step_end(alloc, spots, step)?;
+    let other = transition_end(ranked.place);
+    match ranked.side {
+        Side::To => {
+            let link = Link {
+                source: above,
+                target: below,
+            };
+            let spot = spot_of(spots, number, link, priority_at(spots, step, ranked));
+            Ok(draw_link(this, other, spot))
+        }
+        Side::From => {
+            let link = Link {
+                source: below,
+                target: above,
+            };
+            let spot = spot_of(spots, number, link, None);
+            Ok(draw_link(other, this, spot))
+        }
     }
-    Ok(())
 }
 
-// The links from a transition.
-fn push_from(
+// The links on a side of a transition.
+fn push_side(
     alloc: Global,
     drawn: &mut Vec<DrawnLink>,
     spots: &Spots<'_>,
@@ -158,11 +145,11 @@ fn push_from(
     ranked: Ranked,
 ) -> Result<(), AllocError>
     ensures { OnOk result (map said.link_drawn drawn.new.items
-        ≡ map said.link_drawn drawn.old.items ++ map (said.link_from spots.now.names.now ranked.place) steps.now) }
+        ≡ map said.link_drawn drawn.old.items ++ map (said.link_on ranked.side spots.now.names.now ranked.place) steps.now) }
 {
     for step in steps {
         let number = drawn.len();
-        let link = draw_from(alloc, spots, number, *step, ranked)?;
+        let link = draw_between(alloc, spots, number, *step, ranked)?;
         drawn.push(link)?;
     }
     Ok(())
@@ -189,12 +176,17 @@ fn push_found(
 {
     match found {
         Some(transition) => {
-            let ranked = Ranked {
+            let to = Ranked {
                 place,
                 priority: transition.priority,
+                side: Side::To,
             };
-            push_to(alloc, drawn, spots, transition.preceding.as_slice(), ranked)?;
-            push_from(alloc, drawn, spots, transition.following.as_slice(), ranked)
+            let from = Ranked {
+                side: Side::From,
+                ..to
+            };
+            push_side(alloc, drawn, spots, transition.preceding.as_slice(), to)?;
+            push_side(alloc, drawn, spots, transition.following.as_slice(), from)
         }
         None => Ok(()),
     }

@@ -1,10 +1,11 @@
 //! What is drawn of steps and their action blocks (2.6.2, 2.6.4).
 
-ghost use Rattle.std.specs.Prelude.{◌≡◌, ◌++◌, IfOk, OnOk, flat_map, map};
+ghost use Rattle.std.specs.Prelude.{◌≡◌, ◌++◌, IfOk, OnOk, flat_map, map, option_map};
 ghost use Rattle.sfc_drawing.specs.Said as said;
+ghost use Rattle.sfc_drawing.specs.Told as told;
 
 use crate::drawn::{ActionMark, Columns, Corner, DrawnRow, DrawnStep, Entry, Own, StepMark};
-use crate::marks::{StepState, Told};
+use crate::marks::{StepState, action_mark};
 use crate::owned::owned;
 use crate::widths::{shown, wide};
 use sfc_base::items::Items;
@@ -110,7 +111,7 @@ fn draw_row(
     top: u32,
     mark: ActionMark,
 ) -> Result<DrawnRow, AllocError>
-    ensures { IfOk result (λ row. said.row_drawn row ≡ said.row_said names.now association.now) }
+    ensures { IfOk result (λ row. said.row_drawn row ≡ said.row_said names.now mark association.now) }
 {
     Ok(DrawnRow {
         qualifier: owned(alloc, association.qualifier.letters())?,
@@ -123,21 +124,21 @@ fn draw_row(
     })
 }
 
-/// The lines of the action block of a step, the first of them so far down. The one error is that memory was
+/// The lines of the action block of a step, the first of them so far down, with what is told of them. The one error is that memory was
 /// refused.
 pub fn draw_rows(
     alloc: Global,
     names: &Names<'_>,
     associations: &[Association],
     top: u32,
-    told: Told<'_>,
+    marks: &[ActionMark],
 ) -> Result<Items<DrawnRow>, AllocError>
-    ensures { IfOk result (λ rows. map said.row_drawn rows ≡ map (said.row_said names.now) associations.now) }
+    ensures { IfOk result (λ rows. map said.row_drawn rows ≡ said.rows_said names.now marks.now associations.now) }
 {
     let mut rows = Vec::new(alloc);
     let mut top = top;
-    for association in associations {
-        let mark = told.action(association.target);
+    for (number, association) in associations.iter().enumerate() {
+        let mark = action_mark(marks, number);
         let row = draw_row(alloc, names, association, top, mark)?;
         rows.push(row)?;
         top = top.saturating_add(20);
@@ -175,32 +176,60 @@ pub fn columns_of(rows: &[DrawnRow]) -> Columns {
     }
 }
 
-// What is told of a step.
-fn step_mark(alloc: Global, state: StepState) -> Result<StepMark, AllocError> {
+// For how long a step is active, if it is.
+fn time_told(alloc: Global, active: Option<i64>) -> Result<Items<u8>, AllocError>
+    ensures { IfOk result (λ time. time ≡ told.time_told active) }
+{
     let mut time = Vec::new(alloc);
-    if let Some(micros) = state.active {
+    if let Some(micros) = active {
         append_time(&mut time, micros)?;
     }
-    Ok(StepMark {
-        is_active: state.active.is_some(),
-        time: Items::from_vec(time),
-        is_never: state.is_never,
-    })
+    Ok(Items::from_vec(time))
 }
 
-/// What is drawn of a step. The one error is that memory was refused.
+// What is told of a step, if something is.
+fn step_mark(alloc: Global, state: Option<&StepState>) -> Result<StepMark, AllocError>
+    ensures { IfOk result (λ mark. mark ≡ told.step_mark (option_map (λ state. state.now) state.entry)) }
+{
+    match state {
+        Some(state) => Ok(StepMark {
+            is_active: state.active.is_some(),
+            time: time_told(alloc, state.active)?,
+            is_never: state.is_never,
+        }),
+        None => Ok(StepMark {
+            is_active: false,
+            time: Items::from_vec(Vec::new(alloc)),
+            is_never: false,
+        }),
+    }
+}
+
+// What is told of the associations of a step.
+fn rows_told(state: Option<&StepState>) -> &[ActionMark]
+    ensures { result.now ≡ told.rows_told (option_map (λ state. state.now) state.entry) }
+{
+    match state {
+        Some(state) => state.rows.as_slice(),
+        None => &[],
+    }
+}
+
+/// What is drawn of a step, with what is told of it. The one error is that memory was refused.
 pub fn draw_step(
     alloc: Global,
     names: &Names<'_>,
     step: &Step,
     spot: StepSpot,
-    told: Told<'_>,
+    state: Option<&StepState>,
 ) -> Result<DrawnStep, AllocError>
-    ensures said { IfOk result (λ drawn. said.step_drawn drawn ≡ said.step_said names.now step.now) }
+    ensures said { IfOk result (λ drawn.
+        said.step_drawn drawn ≡ said.step_said names.now (option_map (λ state. state.now) state.entry) step.now) }
     ensures place { IfOk result (λ drawn. drawn.place ≡ spot.place) }
 {
     let top = spot.place.top.saturating_add(7);
-    let rows = draw_rows(alloc, names, step.associations.as_slice(), top, told)?;
+    let associations = step.associations.as_slice();
+    let rows = draw_rows(alloc, names, associations, top, rows_told(state))?;
     let columns = columns_of(rows.as_slice());
     Ok(DrawnStep {
         name: owned(alloc, step.name.spelling())?,
@@ -212,6 +241,6 @@ pub fn draw_step(
         branches: spot.branches,
         columns,
         rows,
-        mark: step_mark(alloc, told.state)?,
+        mark: step_mark(alloc, state)?,
     })
 }

@@ -66,7 +66,7 @@ pub fn draw_transition(
     spot: TransitionSpot,
     mark: TransitionMark,
 ) -> Result<DrawnTransition, AllocError>
-    ensures said { IfOk result (λ drawn. said.transition_drawn drawn ≡ said.transition_said transition.now) }
+    ensures said { IfOk result (λ drawn. said.transition_drawn drawn ≡ said.transition_said mark transition.now) }
     ensures place { IfOk result (λ drawn. drawn.place ≡ spot.place) }
 {
     let lines = wrapped(alloc, condition)?;

@@ -1,7 +1,6 @@
 //! Plants as drawings.
 
 ghost use Rattle.std.specs.Prelude.{◌≡◌, ◌++◌, ◌∷◌, [], All, IfOk, OnOk, length};
-ghost use Rattle.sfc_plant.specs.PlantNames.{instance_name};
 ghost use Rattle.sfc_plant.specs.ProgramTypes.{type_of};
 ghost use Rattle.sfc_plant.specs.Sound.{IsProgram};
 ghost use Rattle.sfc_drawing.specs.Drawings as drawings;
@@ -11,7 +10,7 @@ use crate::drawing_error::DrawingError;
 use crate::drawn::{Corner, DrawnChart, Picture};
 use crate::graph::Subject;
 use crate::listed::Listed;
-use crate::marks::Marks;
+use crate::marks::{Marked, Marks};
 use crate::owned::owned;
 use crate::picture::svg_of;
 use sfc_base::ids::{ProgId, TypeId};
@@ -86,7 +85,8 @@ fn draw_program(
     marks: &Marks,
 ) -> Result<DrawnChart, DrawingError>
     requires { IsProgram (length source.globals.now) source.program.now }
-    ensures { IfOk result (λ drawn. drawings.IsOf source.entry.globals.now title.name source.entry.program.now drawn) }
+    ensures { IfOk result (λ drawn.
+        drawings.IsOf source.entry.globals.now title.name title.note marks.now source.entry.program.now drawn) }
 {
     let names = Names::new(source.globals, source.program);
     let tables = Tables::build(alloc, &source.program.chart)?;
@@ -204,46 +204,108 @@ pub fn svg_of_types(
     Ok(text)
 }
 
-// What stands above the chart of an instance: its name, its program type, and what is told of it.
-fn title_of(
-    alloc: Global,
-    name: &[u8],
-    program: &ProgramType,
-    marks: &Marks,
-) -> Result<Title, AllocError>
-    ensures { IfOk result (λ title. title.name ≡ name.now) }
+// What stands behind the name of an instance: its program type, and what is told of it.
+fn note_of(alloc: Global, program: &ProgramType, marks: &Marks) -> Result<Items<u8>, AllocError>
+    ensures { IfOk result (λ note. note ≡ drawings.note_of program.now marks.now) }
 {
     let mut note = Vec::from_slice(alloc, b" : ")?;
     append(&mut note, program.name.spelling())?;
     append(&mut note, marks.note.as_slice())?;
-    Ok(Title {
-        name: owned(alloc, name)?,
-        note: Items::from_vec(note),
-    })
+    Ok(Items::from_vec(note))
 }
 
-/// The chart of a program instance of a plant, with what is told of it. The errors are that it would be too large, or that memory was
-/// refused.
-pub fn picture_of_instance(
+// The number of the program type of an instance.
+fn type_number(plant: &Plant, instance: ProgId) -> usize {
+    match plant.instances().get(usize::from(instance.0)) {
+        Some(instance) => instance.program.0,
+        None => 0,
+    }
+}
+
+// The chart of an instance, below this corner, if the plant has such an instance.
+fn draw_instance(
     alloc: Global,
     plant: &Plant,
-    instance: ProgId,
-    marks: &Marks,
-) -> Result<Picture, DrawingError>
-    ensures { IfOk result (λ picture.
-        drawings.IsOfInstance plant.now (instance_name plant.now instance) (type_of plant.now instance) picture.charts) }
+    listed: &Listed,
+    marked: &Marked,
+    corner: Corner,
+) -> Result<Option<DrawnChart>, DrawingError>
+    ensures { IfOk result (λ drawn. drawings.IsOfInstance plant.now marked.now (type_of plant.now marked.now.instance) drawn) }
 {
-    let mut charts = Vec::new(alloc);
-    if let Some(program) = plant.type_of(instance) {
-        let listed = Listed::of_plant(alloc, plant)?;
-        let number = match plant.instances().get(usize::from(instance.0)) {
-            Some(instance) => instance.program.0,
-            None => 0,
-        };
-        let source = source_of(plant, &listed, program, number);
-        let title = title_of(alloc, plant.instance_name(instance), program, marks)?;
-        let chart = draw_program(alloc, source, title, corner_below(0), marks)?;
-        push_chart(&mut charts, chart)?;
+    match plant.type_of(marked.instance) {
+        None => Ok(None),
+        Some(program) => {
+            let number = type_number(plant, marked.instance);
+            let source = source_of(plant, listed, program, number);
+            let title = Title {
+                name: owned(alloc, plant.instance_name(marked.instance))?,
+                note: note_of(alloc, program, &marked.marks)?,
+            };
+            let chart = draw_program(alloc, source, title, corner, &marked.marks)?;
+            Ok(Some(chart))
+        }
     }
+}
+
+// Where the next chart stands behind this one, if there is one.
+fn corner_behind(corner: Corner, drawn: &Option<DrawnChart>) -> Corner {
+    match drawn {
+        None => corner,
+        Some(chart) => corner_below(chart.bottom.saturating_add(MARGIN)),
+    }
+}
+
+// One chart more, if there is one.
+fn push_drawn(charts: &mut Vec<DrawnChart>, drawn: Option<DrawnChart>) -> Result<(), AllocError>
+    ensures { OnOk result (charts.new.items ≡ charts.old.items ++ drawings.if_some drawn) }
+{
+    match drawn {
+        None => Ok(()),
+        Some(chart) => push_chart(charts, chart),
+    }
+}
+
+// The charts of these instances.
+fn draw_instances(
+    alloc: Global,
+    plant: &Plant,
+    instances: &[Marked],
+) -> Result<Vec<DrawnChart>, DrawingError>
+    ensures { IfOk result (λ charts. drawings.AreOfInstances plant.now instances.now charts.items) }
+{
+    let listed = Listed::of_plant(alloc, plant)?;
+    let mut charts = Vec::new(alloc);
+    let mut corner = corner_below(0);
+    for marked in instances {
+        let drawn = draw_instance(alloc, plant, &listed, marked, corner)?;
+        corner = corner_behind(corner, &drawn);
+        push_drawn(&mut charts, drawn)?;
+    }
+    Ok(charts)
+}
+
+/// The charts of these program instances of a plant, one below the other, each with what is told of it. One that the plant doesn't have
+/// is passed over. The errors are that one would be too large, or that memory was refused.
+pub fn picture_of_instances(
+    alloc: Global,
+    plant: &Plant,
+    instances: &[Marked],
+) -> Result<Picture, DrawingError>
+    ensures { IfOk result (λ picture. drawings.AreOfInstances plant.now instances.now picture.charts) }
+{
+    let charts = draw_instances(alloc, plant, instances)?;
     Ok(picture_of(charts))
+}
+
+/// The same as SVG.
+pub fn svg_of_instances(
+    alloc: Global,
+    plant: &Plant,
+    instances: &[Marked],
+) -> Result<Vec<u8>, DrawingError>
+    ensures { IfOk result (λ text. drawings.IsMarkedDrawing plant.now instances.now text.items) }
+{
+    let picture = picture_of_instances(alloc, plant, instances)?;
+    let text = svg_of(alloc, &picture)?;
+    Ok(text)
 }

@@ -58,6 +58,8 @@ pub struct Columns {
 pub struct ActionMark {
     /// The latest scan executed it.
     pub is_executed: bool,
+    /// It is a variable that is forced.
+    pub is_forced: bool,
     /// No scan that was looked at executed it.
     pub is_never: bool,
 }

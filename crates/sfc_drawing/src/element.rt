@@ -35,43 +35,33 @@ pub fn append_sheet(out: &mut Vec<u8>, sheet: Corner) -> Result<(), AllocError>
 }
 
 #[tactic(auto, unfolding(crate::specs::Elements::line_text))]
-fn append_line(out: &mut Vec<u8>, line: &Line) -> Result<(), AllocError>
-    ensures { OnOk result (out.new.items ≡ out.old.items ++ text.line_text line.now) }
+fn append_line<'x>(
+    out: &mut Vec<u8>,
+    class: &'x [u8],
+    most: usize,
+    line: &'x Line,
+) -> Result<(), AllocError>
+    ensures { OnOk result (out.new.items ≡ out.old.items ++ text.line_text class.now most line.now) }
 {
     let at = Point {
         x: u64::from(line.x),
         y: u64::from(line.y),
     };
-    append_text(out, b"c", at, 90, line.text.as_slice())
+    append_text(out, class, at, most, line.text.as_slice())
 }
 
-/// Puts lines of text at the end. The one error is that memory was refused.
-pub fn append_lines(out: &mut Vec<u8>, lines: &[Line]) -> Result<(), AllocError>
-    ensures { OnOk result (out.new.items ≡ out.old.items ++ flat_map text.line_text lines.now) }
+/// Puts lines of text of this class at the end, of each of which at most so many characters are shown. The one error is that memory was
+/// refused.
+pub fn append_lines<'x>(
+    out: &mut Vec<u8>,
+    class: &'x [u8],
+    most: usize,
+    lines: &'x [Line],
+) -> Result<(), AllocError>
+    ensures { OnOk result (out.new.items ≡ out.old.items ++ flat_map (text.line_text class.now most) lines.now) }
 {
     for line in lines {
-        append_line(out, line)?;
-    }
-    Ok(())
-}
-
-#[tactic(auto, unfolding(crate::specs::Elements::name_line))]
-fn append_name(out: &mut Vec<u8>, line: &Line) -> Result<(), AllocError>
-    ensures { OnOk result (out.new.items ≡ out.old.items ++ text.name_line line.now) }
-{
-    let at = Point {
-        x: u64::from(line.x),
-        y: u64::from(line.y),
-    };
-    append_text(out, b"n", at, 32, line.text.as_slice())
-}
-
-/// Puts names of steps at the end. The one error is that memory was refused.
-pub fn append_names(out: &mut Vec<u8>, names: &[Line]) -> Result<(), AllocError>
-    ensures { OnOk result (out.new.items ≡ out.old.items ++ flat_map text.name_line names.now) }
-{
-    for name in names {
-        append_name(out, name)?;
+        append_line(out, class, most, line)?;
     }
     Ok(())
 }

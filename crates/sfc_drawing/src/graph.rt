@@ -5,7 +5,6 @@ ghost use Rattle.std.specs.Prelude.{◌≡◌, IfOk, length, vec_len};
 use crate::draw_step::{columns_of, draw_rows};
 use crate::draw_transition::text_height;
 use crate::listed::text_at;
-use crate::marks::Told;
 use crate::widths::{digits, shown, small, wide};
 use crate::wrap::wrapped;
 use sfc_base::ids::TransitionId;
@@ -21,13 +20,8 @@ pub const NAME: u32 = 32;
 const HALF: u32 = 40;
 
 // The sizes of a step.
-fn step_size(
-    alloc: Global,
-    names: &Names<'_>,
-    step: &Step,
-    told: Told<'_>,
-) -> Result<StepSize, AllocError> {
-    let rows = draw_rows(alloc, names, step.associations.as_slice(), 0, told)?;
+fn step_size(alloc: Global, names: &Names<'_>, step: &Step) -> Result<StepSize, AllocError> {
+    let rows = draw_rows(alloc, names, step.associations.as_slice(), 0, &[])?;
     let columns = columns_of(rows.as_slice());
     let name = wide(shown(step.name.spelling(), NAME));
     let half = HALF.max(name.saturating_add(36) / 2);
@@ -127,16 +121,12 @@ pub struct Subject<'a> {
 }
 
 // The sizes of the steps.
-fn step_sizes(
-    alloc: Global,
-    subject: Subject<'_>,
-    told: Told<'_>,
-) -> Result<Vec<StepSize>, AllocError>
+fn step_sizes(alloc: Global, subject: Subject<'_>) -> Result<Vec<StepSize>, AllocError>
     ensures { IfOk result (λ sizes. vec_len sizes ≡ length subject.entry.chart.now.steps) }
 {
     let mut sizes = Vec::new(alloc);
     for step in subject.chart.steps.as_slice() {
-        sizes.push(step_size(alloc, subject.names, step, told)?)?;
+        sizes.push(step_size(alloc, subject.names, step)?)?;
     }
     Ok(sizes)
 }
@@ -155,16 +145,12 @@ fn transition_sizes(alloc: Global, subject: Subject<'_>) -> Result<Vec<Transitio
 }
 
 /// The chart as numbers. The one error is that memory was refused.
-pub fn numbers_of(
-    alloc: Global,
-    subject: Subject<'_>,
-    told: Told<'_>,
-) -> Result<Numbers, AllocError>
+pub fn numbers_of(alloc: Global, subject: Subject<'_>) -> Result<Numbers, AllocError>
     ensures steps { IfOk result (λ numbers. length numbers.steps.items ≡ length subject.entry.chart.now.steps) }
     ensures transitions { IfOk result (λ numbers. length numbers.transitions.items ≡ length subject.entry.chart.now.transitions) }
 {
     Ok(Numbers {
-        steps: step_sizes(alloc, subject, told)?,
+        steps: step_sizes(alloc, subject)?,
         transitions: transition_sizes(alloc, subject)?,
         links: links_of(alloc, subject.chart, subject.ranked)?,
     })

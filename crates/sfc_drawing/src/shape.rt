@@ -1,10 +1,11 @@
 //! Of what all is made: rectangles, texts and arrow heads.
 
 ghost use Rattle.std.specs.Prelude.{◌≡◌, ◌++◌, OnOk};
+ghost use Rattle.sfc_drawing.specs.Parts.{part_text};
 ghost use Rattle.sfc_drawing.specs.Shapes as text;
 
 use crate::part::Part::{Cut, Markup, Number, Pixel};
-use crate::part::append_parts;
+use crate::part::{Part, append_parts};
 use std::alloc::AllocError;
 
 /// A point, in pixels.
@@ -55,16 +56,15 @@ pub fn append_rect(out: &mut Vec<u8>, class: &[u8], rect: Rect) -> Result<(), Al
     )
 }
 
-/// Puts a text of this class at the end, of which at most so many characters are shown. The one error is that memory was refused.
-#[tactic(auto, unfolding(crate::specs::Shapes::text_text))]
-pub fn append_text<'x>(
+// Puts a text of this class at the end.
+#[tactic(auto, unfolding(crate::specs::Shapes::text_around))]
+fn append_around<'x>(
     out: &mut Vec<u8>,
     class: &'x [u8],
     at: Point,
-    most: usize,
-    said: &'x [u8],
+    inner: Part<'x>,
 ) -> Result<(), AllocError>
-    ensures { OnOk result (out.new.items ≡ out.old.items ++ text.text_text class.now at most said.now) }
+    ensures { OnOk result (out.new.items ≡ out.old.items ++ text.text_around class.now at (part_text inner.entry)) }
 {
     append_parts(
         out,
@@ -76,10 +76,35 @@ pub fn append_text<'x>(
             Markup(b"\" y=\""),
             Number(at.y),
             Markup(b"\">"),
-            Cut(most, said),
+            inner,
             Markup(b"</text>\n"),
         ],
     )
+}
+
+/// Puts a text of this class at the end, of which at most so many characters are shown. The one error is that memory was refused.
+pub fn append_text<'x>(
+    out: &mut Vec<u8>,
+    class: &'x [u8],
+    at: Point,
+    most: usize,
+    said: &'x [u8],
+) -> Result<(), AllocError>
+    ensures { OnOk result (out.new.items ≡ out.old.items ++ text.text_text class.now at most said.now) }
+{
+    append_around(out, class, at, Cut(most, said))
+}
+
+/// Puts a number at the end, as a text of this class. The one error is that memory was refused.
+pub fn append_number(
+    out: &mut Vec<u8>,
+    class: &[u8],
+    at: Point,
+    number: u64,
+) -> Result<(), AllocError>
+    ensures { OnOk result (out.new.items ≡ out.old.items ++ text.number_text class.now at number) }
+{
+    append_around(out, class, at, Number(number))
 }
 
 // Puts a triangle at the end.
@@ -198,32 +223,6 @@ pub fn append_along(out: &mut Vec<u8>, from: u64, y: u64, to: u64) -> Result<(),
             Markup(b"H"),
             Number(to),
             Markup(b"\"/>\n"),
-        ],
-    )
-}
-
-/// Puts a number at the end, as a text of this class. The one error is that memory was refused.
-#[tactic(auto, unfolding(crate::specs::Shapes::number_text))]
-pub fn append_number(
-    out: &mut Vec<u8>,
-    class: &[u8],
-    at: Point,
-    number: u64,
-) -> Result<(), AllocError>
-    ensures { OnOk result (out.new.items ≡ out.old.items ++ text.number_text class.now at number) }
-{
-    append_parts(
-        out,
-        &[
-            Markup(b"<text class=\""),
-            Markup(class),
-            Markup(b"\" x=\""),
-            Number(at.x),
-            Markup(b"\" y=\""),
-            Number(at.y),
-            Markup(b"\">"),
-            Number(number),
-            Markup(b"</text>\n"),
         ],
     )
 }

@@ -4,7 +4,7 @@ ghost use Rattle.std.specs.Prelude.{◌≡◌, ◌++◌, OnOk};
 ghost use Rattle.sfc_drawing.specs.Transitions as text;
 
 use crate::drawn::{DrawnTransition, Stubs, TransitionMark};
-use crate::element::{append_lines, append_names, append_owns, append_sheet};
+use crate::element::{append_lines, append_owns, append_sheet};
 use crate::part::Part::{Markup, Number, Pixel, Said};
 use crate::part::{append_parts, word_if};
 use crate::shape::{
@@ -155,7 +155,7 @@ fn append_stubs(out: &mut Vec<u8>, stubs: &Option<Stubs>) -> Result<(), AllocErr
     };
     append_down(out, stubs.x, stubs.top, stubs.bottom)?;
     append_head(out, Way::Down, stubs.x, stubs.bottom)?;
-    append_names(out, stubs.names.as_slice())
+    append_lines(out, b"n", 32, stubs.names.as_slice())
 }
 
 /// Puts the transition of this chart with this number, counted from 1, at the end. The one error is that memory was refused.
@@ -174,7 +174,7 @@ pub fn append_transition(
     append_owns(out, transition.own.as_slice())?;
     append_bar(out, number, transition.place)?;
     append_name_text(out, transition.place, &transition.name)?;
-    append_lines(out, transition.lines.as_slice())?;
+    append_lines(out, b"c", 90, transition.lines.as_slice())?;
     append_stubs(out, &transition.stubs)?;
     append(out, b"</g>\n")
 }

@@ -1,6 +1,6 @@
-use Rattle.std.proofs.Common.{◌≡◌, map, take}
-use Rattle.sfc_drawing.specs.Said.{row_drawn, row_said}
+use Rattle.std.proofs.Common.{◌≡◌, map, take, slice_get}
+use Rattle.sfc_drawing.specs.Said.{row_drawn, rows_said}
 use Rattle.sfc_drawing.proofs.draw_step.draw_rows.Given as goal
 
-abbrev pub invariant-loop-association : goal.invariant-loop-association
-invariant-loop-association l = map row_drawn l.rows.items ≡ map (row_said l.names) (take l.association-index l.associations)
+abbrev pub invariant-loop-number : goal.invariant-loop-number
+invariant-loop-number l = map row_drawn l.rows.items ≡ rows_said l.names l.marks (take l.number l.associations)

@@ -1,8 +1,0 @@
-use Rattle.std.proofs.Common.{◌≡◌, ◌++◌, map, take}
-use Rattle.sfc_drawing.specs.Said.{link_drawn, link_to}
-use Rattle.sfc_drawing.proofs.draw_link.push_to.Given as goal
-
-abbrev pub invariant-loop-step : goal.invariant-loop-step
-invariant-loop-step l =
-    map link_drawn l.drawn.items ≡ map link_drawn l.initial.drawn.items
-    ++ map (link_to l.spots.names.now l.ranked.place) (take l.step-index l.steps)
