@@ -36,7 +36,8 @@ pub fn debugged(alloc: Global, chart: &[u8], lines: &[u8]) -> Result<Ending, All
         archive: Kept { text: &mut kept },
         is_terminal: false,
     };
-    if let Err(error) = hold(alloc, &mut chart, &mut lines, desk) {
+    let (_, held) = hold(alloc, &mut chart, &mut lines, desk);
+    if let Err(error) = held {
         ending.fault = format!(in alloc; "{error}")?;
         ending.status = error.status();
     }
