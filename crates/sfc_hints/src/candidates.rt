@@ -60,6 +60,17 @@ fn add_elements(
     Ok(())
 }
 
+/// The steps of a program type, in the order of the text. The one error is that memory was refused.
+pub fn steps_of(
+    alloc: Global,
+    tokens: &[Token],
+    program: Region,
+) -> Result<Vec<Declared>, AllocError> {
+    let mut names = Vec::new(alloc);
+    add_elements(alloc, tokens, program, false, &mut names)?;
+    Ok(names)
+}
+
 // Adds the tasks.
 fn add_tasks(alloc: Global, tokens: &[Token], names: &mut Vec<Declared>) -> Result<(), AllocError> {
     let task = Mark::Keyword(Keyword::Task);

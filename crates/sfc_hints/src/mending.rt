@@ -11,7 +11,7 @@ use sfc_page::append::append_number;
 use sfc_places::chart_text::ChartText;
 use sfc_places::finding::Element;
 use sfc_places::marks::{Mark, behind, is_at, keyword_at, line_at, spelling_at};
-use sfc_places::regions::configuration;
+use sfc_places::regions::{Region, configuration};
 use sfc_tokens::token::{Token, TokenKind};
 use std::alloc::{AllocError, Global};
 
@@ -72,9 +72,9 @@ fn is_before_name(word: Keyword) -> bool {
 }
 
 // Whether a block begins at the place. A program instance, which is declared in the configuration, is none.
-fn begins_block(tokens: &[Token], at: usize) -> bool {
+fn begins_block(tokens: &[Token], configured: Region, at: usize) -> bool {
     match keyword_at(tokens, at) {
-        Some(Keyword::Program) => !configuration(tokens).has(at),
+        Some(Keyword::Program) => !configured.has(at),
         Some(word) => last_word(word).is_some(),
         None => false,
     }
@@ -82,12 +82,13 @@ fn begins_block(tokens: &[Token], at: usize) -> bool {
 
 // The place of the first word of the innermost block that is open before a place.
 fn open_block(tokens: &[Token], before: usize) -> Option<usize> {
+    let configured = configuration(tokens);
     let mut closed = 0usize;
     for at in (0..before).rev() {
         let ends = matches!(keyword_at(tokens, at), Some(word) if is_last_word(word));
         if ends {
             closed = closed.saturating_add(1);
-        } else if begins_block(tokens, at) {
+        } else if begins_block(tokens, configured, at) {
             if closed == 0 {
                 return Some(at);
             }

@@ -1,6 +1,6 @@
 //! What is told of a fault beside its place: near names, the first one of a name, types, numbers.
 
-use crate::candidates::candidates;
+use crate::candidates::{candidates, steps_of};
 use crate::describe::{add_declared, add_element, add_part};
 use crate::near::nearest;
 use crate::writing::{add_joint, add_line};
@@ -74,10 +74,9 @@ fn step_anywhere(
     wanted: &[u8],
 ) -> Result<Option<(Declared, usize)>, AllocError> {
     for region in program_types(alloc, tokens)?.as_slice() {
-        let program = behind(region.from, 1);
-        let steps = candidates(alloc, tokens, Sort::Steps { program })?;
+        let steps = steps_of(alloc, tokens, *region)?;
         if let Some(step) = find_named(tokens, &steps, wanted) {
-            return Ok(Some((step, program)));
+            return Ok(Some((step, behind(region.from, 1))));
         }
     }
     Ok(None)
