@@ -3,6 +3,7 @@
 ghost use Rattle.std.specs.Prelude.{◌≡◌, ◌<◌, ◌++◌, codes, length, OnOk};
 ghost use Rattle.std.specs.Fmt.{decimal};
 ghost use Rattle.sfc_events.specs.declared.command.Command.TheVariants.{BreakIf};
+ghost use Rattle.sfc_events.specs.InstanceSets.{has};
 ghost use Rattle.sfc_output.specs.Commands as output;
 ghost use Rattle.sfc_plant.specs.PlantNames.{image_name};
 ghost use Rattle.sfc_output.specs.Private.Pieces.{scanned_line};
@@ -18,6 +19,7 @@ use sfc_base::ids::{ProgId, TaskId, VarId};
 use sfc_base::value::Value;
 use sfc_debug::debugger::Debugger;
 use sfc_events::command::{Answer, Command, CondId, Point, TraceRow};
+use sfc_events::instance_set::InstanceSet;
 use sfc_events::refusal::Refusal;
 use sfc_page::append::{append, append_number, append_time, append_value};
 use sfc_page::digits::NUMBER;
@@ -327,6 +329,17 @@ pub fn append_refusal(
     append(out, b"\n")
 }
 
+// Whether an instance is among these; told at once where there are none, as of faults in most scans.
+#[inline(always)]
+fn is_among(instances: InstanceSet, instance: ProgId) -> bool
+    ensures { result ≡ has instances instance.0 }
+{
+    match instances.split_first() {
+        None => false,
+        Some(_) => instances.contains(instance),
+    }
+}
+
 // How the answer to a scan tells that the scan of an instance ended; `None` where it doesn't tell of it.
 #[inline(always)]
 pub(crate) fn scan_end_in(answer: &Answer, instance: ProgId) -> Option<ScanEnd>
@@ -343,9 +356,9 @@ pub(crate) fn scan_end_in(answer: &Answer, instance: ProgId) -> Option<ScanEnd>
     };
     if ran.contains(instance) {
         Some(ScanEnd::Ran)
-    } else if faulted.contains(instance) {
+    } else if is_among(*faulted, instance) {
         Some(ScanEnd::Faulted)
-    } else if skipped.contains(instance) {
+    } else if is_among(*skipped, instance) {
         Some(ScanEnd::Skipped)
     } else {
         None
