@@ -17,18 +17,22 @@ or-false true = refl
 or-false false = refl
 
 module _ {X C : Type 0} where
-  pub gathers_more : (console : Console X C) (ends : List (WorkerEnd X)) (end : WorkerEnd X) (old new : Returned X) →
-      Gathers console ends old → Adds end old new → Gathers console (ends ++ end ∷ []) new
-  gathers_more console ends end old new was adds =
+  pub gathers_more : (console own : Console X C) (ends : List (WorkerEnd X)) (end : WorkerEnd X) (old new : Returned X) →
+      Gathers console own ends old → Adds end old new → Gathers console own (ends ++ end ∷ []) new
+  gathers_more console own ends end old new was adds =
       let seat : WorkerEnd X → Seat X = λ e. e.seat in
       let receipts : WorkerEnd X → List Receipt = λ e. e.receipts.items in
       let ended : WorkerEnd X → Bool = λ e. is_memory e.why in
+      let front = console.receipts.items in
+      let theirs = own.receipts.items in
+      let last : List Receipt = end.receipts.items in
       record {
-        seats = adds.seats ∙ ap (λ (l : List (Seat X)). l ++ end.seat ∷ []) was.seats ∙ ap (λ (l : List (Seat X)). console.seat ∷ l) (sym (map_push seat ends end));
-        receipts = adds.receipts ∙ ap (λ (l : List Receipt). l ++ end.receipts.items) was.receipts
-            ∙ append_assoc console.receipts.items (flat_map receipts ends) end.receipts.items
-            ∙ ap (λ (l : List Receipt). console.receipts.items ++ (flat_map receipts ends ++ l)) (sym (append-nil end.receipts.items))
-            ∙ ap (λ (l : List Receipt). console.receipts.items ++ l) (sym (flat_map-append receipts ends (end ∷ [])));
+        seats = adds.seats ∙ ap (λ (l : List (Seat X)). l ++ end.seat ∷ []) was.seats
+            ∙ ap (λ (l : List (Seat X)). console.seat ∷ own.seat ∷ l) (sym (map_push seat ends end));
+        receipts = adds.receipts ∙ ap (λ (l : List Receipt). l ++ last) was.receipts
+            ∙ append_assoc (front ++ theirs) (flat_map receipts ends) last
+            ∙ ap (λ (l : List Receipt). (front ++ theirs) ++ (flat_map receipts ends ++ l)) (sym (append-nil last))
+            ∙ ap (λ (l : List Receipt). (front ++ theirs) ++ l) (sym (flat_map-append receipts ends (end ∷ [])));
         memory = adds.memory ∙ ap (λ (b : Bool). b || is_memory end.why) was.memory
             ∙ ap (λ (b : Bool). list_any ended ends || b) (sym (or-false (is_memory end.why))) ∙ sym (list_any-append ended ends (end ∷ []));
       }

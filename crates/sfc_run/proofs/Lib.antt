@@ -1,7 +1,5 @@
 -- which values may go to another thread
 pub mod Crosses
--- the same of what the thread that prints looks at
-pub mod Boards
 -- what holds of a value, where there is one
 pub mod Ends
 -- lines of rows
@@ -14,3 +12,5 @@ pub mod Gathering
 pub mod Obeying
 -- lines that came in pieces
 pub mod Walking
+-- epochs of a seat, and then more
+pub mod Epochs

@@ -4,13 +4,18 @@ ghost use Rattle.std.specs.Prelude.{◌≡◌, IfOk, IfSome, length};
 ghost use Rattle.std.specs.Thread.{IsSync};
 
 use crate::console::Console;
+use crate::keeper::{Keeper, Over};
 use crate::pace::Pace;
 use crate::printing::{PrintFault, Printing, print_rows};
 use crate::real_time::RealTime;
 use crate::run_faults::RunFaults;
 use crate::session::{Desk, hold};
-use crate::sfc_debug::debugger::Debugger;
+use crate::streams::Streams;
+use crate::teller::Teller;
+use crate::watch::Watch;
 use sfc_control::bells::Bells;
+use sfc_control::clock::Clock;
+use sfc_control::controller::Controller;
 use sfc_control::crews::crew;
 use sfc_control::opened_with::OpenedWith;
 use sfc_control::post::Post;
@@ -22,20 +27,24 @@ use std::sync::ledger::Ledger;
 use std::thread::{Promise, Threads};
 use std::{thread, time};
 
-/// Where the lines of a session come from, and where its faults are told.
+/// The seats of a run that no worker has.
 #[derive(Drop)]
-pub struct Streams<'s, S: Read, E: Write> {
-    pub commands: &'s mut S,
-    pub errors: &'s mut E,
+pub struct Seated<'s, L: Ledger, C: Clock> {
+    /// The session's.
+    pub console: &'s mut Console<L, C>,
+    /// That of the run itself.
+    pub keeper: Keeper<L, C>,
 }
 
 /// What the threads of a run leave.
 #[derive(Drop)]
-pub struct Left<L: Ledger, W: Write> {
+pub struct Left<L: Ledger, C: Clock, W: Write> {
+    /// What kept the history short; `None` where its thread was refused.
+    pub keeper: Option<Keeper<L, C>>,
     /// The workers' ends; `None` where memory or a thread was refused to the crew.
     pub ends: Option<Vec<WorkerEnd<L>>>,
-    /// Where lines were printed, and what is left of the feed; `None` where the thread that prints was refused.
-    pub printing: Option<Printing<W>>,
+    /// Where lines were printed; `None` where the thread that prints was refused.
+    pub w: Option<W>,
     /// What went wrong.
     pub faults: RunFaults,
 }
@@ -57,12 +66,13 @@ fn work<
     'd,
     L: OpenedWith + Send + Sync,
     R: Threads + Wait + time::Clock + Sync,
+    C: Clock,
     S: Read,
     E: Write,
 >(
     desk: &Desk<'d, L, R>,
     posts: Vec<Post<L, Pace<'p, R>, RealTime<'p, R>>>,
-    console: &mut Console<L, RealTime<'a, R>>,
+    console: &mut Console<L, C>,
     streams: &mut Streams<'_, S, E>,
 ) -> (Option<Vec<WorkerEnd<L>>>, RunFaults)
     ensures { IfSome result.0 (λ ends. length ends.items ≡ length posts.entry.items) }
@@ -91,97 +101,163 @@ fn work<
     )
 }
 
-// What the thread that prints looks at: by whose names it prints, and what tells it that rows have come, or that no more come.
-#[derive(Drop)]
-struct Board<'b> {
-    names: &'b Debugger,
-    bells: &'b Bells,
+// What keeping the history short comes to.
+fn kept<L: OpenedWith, R: Wait + time::Clock, C: Clock>(
+    rt: &R,
+    controller: &Controller<L>,
+    keeper: Keeper<L, C>,
+    over: &Over,
+) -> (Keeper<L, C>, RunFaults) {
+    let mut keeper = keeper;
+    let faults = keeper.keep(rt, controller, over);
+    (keeper, faults)
 }
 
-// What printing comes to.
-fn printed<'b, R: Wait, W: Write>(
+// Where lines and alarms go.
+#[derive(Drop)]
+struct Writers<W: Write, T: Write> {
+    w: W,
+    teller: Teller<T>,
+}
+
+// What printing comes to: the writer of lines is handed back.
+fn printed<R: Wait, W: Write, T: Write + Drop>(
     rt: &R,
     alloc: Global,
-    board: Board<'b>,
-    printing: Printing<W>,
-) -> (Printing<W>, RunFaults) {
-    let mut printing = printing;
-    let faults = match print_rows(rt, alloc, board.names, &mut printing, board.bells) {
+    bells: &Bells,
+    held: Option<Watch>,
+    writers: Writers<W, T>,
+) -> (W, RunFaults) {
+    let Writers { w, teller } = writers;
+    let Some(watch) = held else {
+        return (w, RunFaults::none());
+    };
+    let mut printing = Printing { watch, w, teller };
+    let faults = match print_rows(rt, alloc, &mut printing, bells) {
         Ok(()) => RunFaults::none(),
         Err(PrintFault::Write) => RunFaults::of_write(),
         Err(PrintFault::Memory) => RunFaults::of_memory(),
     };
-    (printing, faults)
+    let Printing {
+        watch: _,
+        w,
+        teller: _,
+    } = printing;
+    (w, faults)
 }
 
-// Prints what the feed has beside a job, until the job is done and no row is left: what the job gave, and what printing came to. `None`
-// where the thread was refused; then the job was let go.
-fn print_beside<'b, R: Threads + Wait + Sync, W: Write + Send + Drop, T, F: FnOnce() -> T + Drop>(
-    rt: &R,
-    alloc: Global,
-    board: Board<'b>,
-    printing: Printing<W>,
+// What a job gave, and what was done beside it.
+#[derive(Drop)]
+struct Beside<L: Ledger, C: Clock, W: Write, D> {
+    done: D,
+    keeper: Keeper<L, C>,
+    w: W,
+    faults: RunFaults,
+}
+
+// Prints what the feed has and keeps the history short beside a job, until the job is done and no row is left. `None` where a thread was
+// refused; then the job was let go.
+fn work_beside<
+    'd,
+    L: OpenedWith + Send + Sync,
+    R: Threads + Wait + time::Clock + Sync,
+    C: Clock + Send + Drop,
+    W: Write + Send + Drop,
+    T: Write + Send + Drop,
+    D,
+    F: FnOnce() -> D + Drop,
+>(
+    desk: &Desk<'d, L, R>,
+    keeper: Keeper<L, C>,
+    held: Option<Watch>,
+    writers: Writers<W, T>,
     job: F,
-) -> Option<(T, Printing<W>, RunFaults)>
+) -> Option<Beside<L, C, W, D>>
     requires { F.pre job }
-    ensures { IfSome result (λ done. F.post job done.0) }
+    ensures { IfSome result (λ beside. F.post job beside.done) }
 {
-    let bells = board.bells;
+    let (rt, alloc, controller) = (desk.rt, desk.alloc, desk.controller);
+    let bells = controller.bells();
+    let flag = Over::new();
+    let over = &flag;
     thread::scope(
         thread::scope_env(),
         rt,
-        |scope| -> Option<(T, Printing<W>, RunFaults)>
+        |scope| -> Option<Beside<L, C, W, D>>
             requires sync { IsSync R.row }
             requires job { F.pre job }
-            ensures { IfSome result (λ done. F.post job done.0) }
+            ensures { IfSome result (λ beside. F.post job beside.done) }
         {
-            let Ok(child) = scope.spawn(move || printed(rt, alloc, board, printing)) else {
+            let Ok(printer) = scope.spawn(move || printed(rt, alloc, bells, held, writers)) else {
+                return None;
+            };
+            let Ok(child) = scope.spawn(move || kept(rt, controller, keeper, over)) else {
+                bells.end_rows();
+                let _ = printer.join(rt);
                 return None;
             };
             let done = job();
+            over.tell();
+            let (keeper, keep_faults) = child.join(rt);
             bells.end_rows();
-            let (printing, faults) = child.join(rt);
-            Some((done, printing, faults))
+            let (w, print_faults) = printer.join(rt);
+            Some(Beside {
+                done,
+                keeper,
+                w,
+                faults: keep_faults.with(print_faults),
+            })
         },
     )
 }
 
-/// Holds the session beside the workers, and prints what the feed has meanwhile. All threads have ended then.
+/// Holds the session beside the workers, keeps the history short, and prints what the feed has meanwhile. All threads have ended then.
 pub fn run_threads<
     'a,
     'p,
     'd,
     L: OpenedWith + Send + Sync,
     R: Threads + Wait + time::Clock + Sync,
+    C: Clock + Send + Drop,
     S: Read,
     W: Write + Send + Drop,
+    T: Write + Send + Drop,
     E: Write,
 >(
     desk: &Desk<'d, L, R>,
     posts: Vec<Post<L, Pace<'p, R>, RealTime<'p, R>>>,
-    console: &mut Console<L, RealTime<'a, R>>,
-    printing: Printing<W>,
+    seated: Seated<'_, L, C>,
+    printing: Printing<W, T>,
     streams: &mut Streams<'_, S, E>,
-) -> Left<L, W>
+) -> Left<L, C, W>
     ensures { IfSome result.ends (λ ends. length ends.items ≡ length posts.entry.items) }
 {
+    let Seated { console, keeper } = seated;
     let job = || -> (Option<Vec<WorkerEnd<L>>>, RunFaults)
         requires { IsSync R.row }
         ensures { IfSome result.0 (λ ends. length ends.items ≡ length posts.entry.items) }
     { work(desk, posts, console, streams) };
-    let board = Board {
-        names: desk.names,
-        bells: desk.controller.bells(),
-    };
-    match print_beside(desk.rt, desk.alloc, board, printing, job) {
-        Some(((ends, faults), printing, print_faults)) => Left {
-            ends,
-            printing: Some(printing),
-            faults: faults.with(print_faults),
-        },
+    let Printing { watch, w, teller } = printing;
+    let writers = Writers { w, teller };
+    match work_beside(desk, keeper, Some(watch), writers, job) {
+        Some(all) => {
+            let Beside {
+                done: (ends, faults),
+                keeper,
+                w,
+                faults: more,
+            } = all;
+            Left {
+                keeper: Some(keeper),
+                ends,
+                w: Some(w),
+                faults: faults.with(more),
+            }
+        }
         None => Left {
+            keeper: None,
             ends: None,
-            printing: None,
+            w: None,
             faults: RunFaults::of_memory(),
         },
     }
