@@ -105,8 +105,8 @@ def main() -> int:
         run.err.seek(0)
         said = run.err.read().decode("latin-1")
     sizes = [size for _, size in run.memory if size]
-    print(f"{run.last} in {time.monotonic() - begin:.0f} s, {run.epochs} epochs, {min(sizes)} to {max(sizes)} kB, of which {run.growth()} came "
-          f"after {HELD} commands")
+    print(f"{run.last} in {time.monotonic() - begin:.0f} s, {run.epochs} epochs, {min(sizes)} to {max(sizes)} kB, "
+          f"of which {run.growth()} came after {HELD} commands")
     passed = failed = 0
     for title, holds in checks_of(run, status, said):
         passed, failed = passed + holds, failed + (not holds)

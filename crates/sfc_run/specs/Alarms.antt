@@ -57,8 +57,8 @@ abbrev pub faulted_text : PlantData → Answer → List ℕ
 faulted_text plant (Scanned ran faulted skipped overruns hit) = fault_lines plant faulted (length plant.instances)
 faulted_text plant _ = []
 
--- What is told of an alarm: all that a replay writes. Behind lost rows it isn't known how programs stand: then the line of the scan alone, and
--- which programs ended with a fault.
+-- What is told of an alarm: all that a replay writes. Behind lost rows it isn't known how programs stand: then the line of the scan alone,
+-- and which programs ended with a fault.
 abbrev pub scan_text : Bool → Steered → DebugState → TraceRow → List ℕ
 scan_text true steered state row = whole_text steered state row
 scan_text false steered state row = row_line steered row ++ faulted_text steered.plant row.answer

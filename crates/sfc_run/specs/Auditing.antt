@@ -39,15 +39,15 @@ module _ {X : Type 0} where
     pub receipts : new.receipts.items ≡ old.receipts.items ++ end.receipts.items
     pub memory : new.memory ≡ (old.memory || is_memory end.why)
 
-  -- the seats and all receipts of the session, of the run itself and of its workers, in this order, and whether one of these ended for want of
-  -- memory
+  -- the seats and all receipts of the session, of the run itself and of its workers, in this order, and whether one of these ended for want
+  -- of memory
   pub record Gathers {C : Type 0} (console own : Console X C) (ends : List (WorkerEnd X)) (returned : Returned X) : Type 0 where
     pub seats : returned.seats.items ≡ console.seat ∷ own.seat ∷ map (λ end. end.seat) ends
     pub receipts : returned.receipts.items ≡ console.receipts.items ++ own.receipts.items ++ flat_map (λ end. end.receipts.items) ends
     pub memory : returned.memory ≡ list_any (λ end. is_memory end.why) ends
 
-  -- There are entries, as many as the seats have counted. All receipts and all seats' counts are right for them, and it tells how many they are,
-  -- and whether a program stands faulted behind their commands; or something is wrong for them.
+  -- There are entries, as many as the seats have counted. All receipts and all seats' counts are right for them, and it tells how many they
+  -- are, and whether a program stands faulted behind their commands; or something is wrong for them.
   abbrev pub Audits : PlantData → List BreakCondition → List (Seat X) → List Receipt → Option Audited → Type 0
   Audits plant table seats receipts (Some audited) =
       (es : List Entry) × AllRight es seats receipts × (audited.accepted ≡ length es) × (audited.accepted ≡ all_calls seats)

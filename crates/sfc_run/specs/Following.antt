@@ -31,8 +31,8 @@ command_of row = (row.command, row.raw)
 abbrev pub AnswersSo : Steered → CommandHistory → TraceRow → Type 0
 AnswersSo steered h row = (output.debugger_of steered).verdict h (command_of row) ≡ Ok row.answer
 
--- A row was taken, and the debugger stands behind those commands then: where it is level, behind the row's command too, which was answered as
--- the run answered it; and it is level where it was, no row was lost, and the command is answered so.
+-- A row was taken, and the debugger stands behind those commands then: where it is level, behind the row's command too, which was answered
+-- as the run answered it; and it is level where it was, no row was lost, and the command is answered so.
 pub record Follows (old new : Follower) (row : TraceRow) (h behind : CommandHistory) : Type 0 where
   pub newest : newest_in new ≡ row.number
   pub steered : steered_in new ≡ steered_in old

@@ -67,8 +67,8 @@ TellsFor true untold old new text = new ≡ old
 abbrev pub EndsLong : List ℕ → Type 0
 EndsLong bytes = (lines : List (List ℕ)) × (last : List ℕ) × (lines_of bytes ≡ lines ++ last ∷ []) × (1048576 < length last)
 
--- These bytes were taken from the front of a reader: all up to its end (2^62 at most), or up to a line that is too long; or, where taking ended
--- early, some.
+-- These bytes were taken from the front of a reader: all up to its end (2^62 at most), or up to a line that is too long; or, where taking
+-- ended early, some.
 abbrev pub TakesFor : Bool → Device → List ℕ → Type 0
 TakesFor false reader bytes = (IsFront 4611686018427387904 reader.0 bytes ⊎ EndsLong bytes) × Consumes reader.0 reader.1 bytes
 TakesFor true reader bytes = Consumes reader.0 reader.1 bytes
@@ -164,7 +164,8 @@ module _ {X C : Type 0} (names plant : PlantData) (table : List BreakCondition) 
     pub called : IsCalled plant table limit entries End raw old.console.seat new.console.seat answer
     pub kept : KeepsLast old.console new.console answer
     pub told : TellsFor faults.memory faults.untold old.errors new.errors (end_told names answer)
-    pub none_else : (faults.read ≡ false) × (faults.write ≡ false) × (faults.mismatch ≡ false) × (faults.faulted ≡ false) × (faults.ended ≡ false)
+    pub none_else : (faults.read ≡ false) × (faults.write ≡ false) × (faults.mismatch ≡ false) × (faults.faulted ≡ false)
+        × (faults.ended ≡ false)
 
   -- A session was held: the lines that came were obeyed, and then End was called. What went wrong is what went wrong in either.
   pub record Holds (reader : Device) (old new : Scene X C) (faults : RunFaults) : Type 0 where

@@ -157,12 +157,28 @@ fn append_scan(
     }
 }
 
+// The line of a scan, where its overruns are due.
+fn append_overruns(
+    out: &mut Vec<u8>,
+    follower: &Follower,
+    row: TraceRow,
+    is_due: bool,
+) -> Result<(), AllocError>
+    ensures { OnOk result (out.new.items ≡ out.old.items ++ rules.overruns_text is_due (steered_in follower.now) row) }
+{
+    if is_due {
+        append_row(out, follower.debugger(), row)
+    } else {
+        Ok(())
+    }
+}
+
 impl Alarms {
     /// Takes the next row of the feed, and puts at the end what is told of it. A scan of a program that a fault ended, and one that hit a
     /// breakpoint, is told with all its lines, as a replay writes them: which program it is, the kind of the fault, and where the others
     /// stand. Overruns are told by the line of the scan, at most once a second for each task. Before all of this it is told how many rows
-    /// were lost, if some were, at most once a second but for such a scan and END; from then on, how programs stand isn't known, and the line
-    /// of the scan is told, with the names of the programs that ended with a fault.
+    /// were lost, if some were, at most once a second but for such a scan and END; from then on, how programs stand isn't known, and the
+    /// line of the scan is told, with the names of the programs that ended with a fault.
     ///
     /// The one error is that memory was refused.
     pub fn take(
@@ -172,8 +188,9 @@ impl Alarms {
         row: TraceRow,
     ) -> Result<(), AllocError>
         ensures steered { steered_in self.new.follower ≡ steered_in self.old.follower }
-        ensures told { (h : CommandHistory) → Agrees (debugger_in self.old.follower) h → OnOk result ((behind : CommandHistory) × (text : List ℕ)
-            × (out.new.items ≡ out.old.items ++ text) × IsTold self.old self.new row h behind text) }
+        ensures told { (h : CommandHistory) → Agrees (debugger_in self.old.follower) h →
+            OnOk result ((behind : CommandHistory) × (text : List ℕ) × (out.new.items ≡ out.old.items ++ text)
+            × IsTold self.old self.new row h behind text) }
     {
         let lost = self.follower.follow(row);
         let is_due = self.overruns.is_due(row);
@@ -181,9 +198,6 @@ impl Alarms {
         if is_alarm(row.answer) {
             return append_scan(alloc, out, &self.follower, row);
         }
-        if is_due {
-            return append_row(out, self.follower.debugger(), row);
-        }
-        Ok(())
+        append_overruns(out, &self.follower, row, is_due)
     }
 }

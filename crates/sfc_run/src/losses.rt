@@ -26,8 +26,8 @@ impl Losses {
         }
     }
 
-    /// So many more were lost before a row of this run instant: how many are told with it. They are told where some wait, and either the last
-    /// were told a second ago at least, or the row is urgent; and else none are, and they wait.
+    /// So many more were lost before a row of this run instant: how many are told with it. They are told where some wait, and either the
+    /// last were told a second ago at least, or the row is urgent; and else none are, and they wait.
     pub fn told_with(&mut self, lost: u64, t: i64, is_urgent: bool) -> u64
         ensures told { result ≡ rules.told_with self.old lost t is_urgent }
         ensures losses { self.new ≡ rules.losses_after self.old lost t is_urgent }

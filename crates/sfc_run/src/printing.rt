@@ -83,7 +83,8 @@ pub fn print_rows<R: Wait, W: Write, T: Write>(
     bells: &Bells,
 ) -> Result<(), PrintFault>
     ensures lines { Prints W.contents T.contents printing.old printing.new result }
-    ensures known { OnOk result (IsPrefix (taken printing.old.watch.tail ++ coming printing.old.watch.tail) (taken printing.new.watch.tail)) }
+    ensures known { OnOk result (IsPrefix (taken printing.old.watch.tail ++ coming printing.old.watch.tail)
+        (taken printing.new.watch.tail)) }
     ensures rest { OnOk result (coming printing.new.watch.tail ≡ []) }
 {
     'rounds: for _ in rt.forever() {

@@ -113,11 +113,102 @@ fn kept<L: OpenedWith, R: Wait + time::Clock, C: Clock>(
     (keeper, faults)
 }
 
+// Keeps the history short beside a job, until the job is done: what the job gave, what kept it short, and what that came to. `None` where
+// the thread was refused; then the job was let go.
+fn keep_beside<
+    L: OpenedWith + Send + Sync,
+    R: Threads + Wait + time::Clock + Sync,
+    C: Clock + Send + Drop,
+    D,
+    F: FnOnce() -> D + Drop,
+>(
+    rt: &R,
+    controller: &Controller<L>,
+    keeper: Keeper<L, C>,
+    job: F,
+) -> Option<(D, Keeper<L, C>, RunFaults)>
+    requires { F.pre job }
+    ensures { IfSome result (λ done. F.post job done.0) }
+{
+    let flag = Over::new();
+    let over = &flag;
+    thread::scope(
+        thread::scope_env(),
+        rt,
+        |scope| -> Option<(D, Keeper<L, C>, RunFaults)>
+            requires sync { IsSync R.row }
+            requires job { F.pre job }
+            ensures { IfSome result (λ done. F.post job done.0) }
+        {
+            let Ok(child) = scope.spawn(move || kept(rt, controller, keeper, over)) else {
+                return None;
+            };
+            let done = job();
+            over.tell();
+            let (keeper, faults) = child.join(rt);
+            Some((done, keeper, faults))
+        },
+    )
+}
+
+// What the session and the workers leave, and what kept the history short beside them.
+#[derive(Drop)]
+struct Worked<L: Ledger, C: Clock> {
+    keeper: Option<Keeper<L, C>>,
+    ends: Option<Vec<WorkerEnd<L>>>,
+    faults: RunFaults,
+}
+
+// Holds the session beside the workers, and keeps the history short meanwhile.
+fn keep_and_work<
+    'a,
+    'p,
+    'd,
+    L: OpenedWith + Send + Sync,
+    R: Threads + Wait + time::Clock + Sync,
+    C: Clock + Send + Drop,
+    S: Read,
+    E: Write,
+>(
+    desk: &Desk<'d, L, R>,
+    posts: Vec<Post<L, Pace<'p, R>, RealTime<'p, R>>>,
+    seated: Seated<'_, L, C>,
+    streams: &mut Streams<'_, S, E>,
+) -> Worked<L, C>
+    ensures { IfSome result.ends (λ ends. length ends.items ≡ length posts.entry.items) }
+{
+    let Seated { console, keeper } = seated;
+    let job = || -> (Option<Vec<WorkerEnd<L>>>, RunFaults)
+        requires { IsSync R.row }
+        ensures { IfSome result.0 (λ ends. length ends.items ≡ length posts.entry.items) }
+    { work(desk, posts, console, streams) };
+    match keep_beside(desk.rt, desk.controller, keeper, job) {
+        Some(((ends, faults), keeper, keep_faults)) => Worked {
+            keeper: Some(keeper),
+            ends,
+            faults: faults.with(keep_faults),
+        },
+        None => Worked {
+            keeper: None,
+            ends: None,
+            faults: RunFaults::of_memory(),
+        },
+    }
+}
+
 // Where lines and alarms go.
 #[derive(Drop)]
 struct Writers<W: Write, T: Write> {
     w: W,
     teller: Teller<T>,
+}
+
+// What the thread that prints stands on.
+#[derive(Drop)]
+struct Board<'b, R: Wait> {
+    rt: &'b R,
+    alloc: Global,
+    bells: &'b Bells,
 }
 
 // What printing comes to: the writer of lines is handed back.
@@ -146,67 +237,43 @@ fn printed<R: Wait, W: Write, T: Write + Drop>(
     (w, faults)
 }
 
-// What a job gave, and what was done beside it.
-#[derive(Drop)]
-struct Beside<L: Ledger, C: Clock, W: Write, D> {
-    done: D,
-    keeper: Keeper<L, C>,
-    w: W,
-    faults: RunFaults,
-}
-
-// Prints what the feed has and keeps the history short beside a job, until the job is done and no row is left. `None` where a thread was
-// refused; then the job was let go.
-fn work_beside<
-    'd,
-    L: OpenedWith + Send + Sync,
-    R: Threads + Wait + time::Clock + Sync,
-    C: Clock + Send + Drop,
+// Prints what the feed has beside a job, until the job is done and no row is left: what the job gave, the writer of lines, and what
+// printing came to. `None` where the thread was refused; then the job was let go.
+//
+// `held` is an `Option` for the prover's sake: where it is asked whether all of this may go to another thread, it then doesn't look into
+// the debugger that follows, of which that is a lemma.
+fn print_beside<
+    'b,
+    R: Threads + Wait + Sync,
     W: Write + Send + Drop,
     T: Write + Send + Drop,
     D,
     F: FnOnce() -> D + Drop,
 >(
-    desk: &Desk<'d, L, R>,
-    keeper: Keeper<L, C>,
+    board: Board<'b, R>,
     held: Option<Watch>,
     writers: Writers<W, T>,
     job: F,
-) -> Option<Beside<L, C, W, D>>
+) -> Option<(D, W, RunFaults)>
     requires { F.pre job }
-    ensures { IfSome result (λ beside. F.post job beside.done) }
+    ensures { IfSome result (λ done. F.post job done.0) }
 {
-    let (rt, alloc, controller) = (desk.rt, desk.alloc, desk.controller);
-    let bells = controller.bells();
-    let flag = Over::new();
-    let over = &flag;
+    let Board { rt, alloc, bells } = board;
     thread::scope(
         thread::scope_env(),
         rt,
-        |scope| -> Option<Beside<L, C, W, D>>
+        |scope| -> Option<(D, W, RunFaults)>
             requires sync { IsSync R.row }
             requires job { F.pre job }
-            ensures { IfSome result (λ beside. F.post job beside.done) }
+            ensures { IfSome result (λ done. F.post job done.0) }
         {
-            let Ok(printer) = scope.spawn(move || printed(rt, alloc, bells, held, writers)) else {
-                return None;
-            };
-            let Ok(child) = scope.spawn(move || kept(rt, controller, keeper, over)) else {
-                bells.end_rows();
-                let _ = printer.join(rt);
+            let Ok(child) = scope.spawn(move || printed(rt, alloc, bells, held, writers)) else {
                 return None;
             };
             let done = job();
-            over.tell();
-            let (keeper, keep_faults) = child.join(rt);
             bells.end_rows();
-            let (w, print_faults) = printer.join(rt);
-            Some(Beside {
-                done,
-                keeper,
-                w,
-                faults: keep_faults.with(print_faults),
-            })
+            let (w, faults) = child.join(rt);
+            Some((done, w, faults))
         },
     )
 }
@@ -232,26 +299,28 @@ pub fn run_threads<
 ) -> Left<L, C, W>
     ensures { IfSome result.ends (λ ends. length ends.items ≡ length posts.entry.items) }
 {
-    let Seated { console, keeper } = seated;
-    let job = || -> (Option<Vec<WorkerEnd<L>>>, RunFaults)
+    let job = || -> Worked<L, C>
         requires { IsSync R.row }
-        ensures { IfSome result.0 (λ ends. length ends.items ≡ length posts.entry.items) }
-    { work(desk, posts, console, streams) };
+        ensures { IfSome result.ends (λ ends. length ends.items ≡ length posts.entry.items) }
+    { keep_and_work(desk, posts, seated, streams) };
     let Printing { watch, w, teller } = printing;
-    let writers = Writers { w, teller };
-    match work_beside(desk, keeper, Some(watch), writers, job) {
-        Some(all) => {
-            let Beside {
-                done: (ends, faults),
+    let board = Board {
+        rt: desk.rt,
+        alloc: desk.alloc,
+        bells: desk.controller.bells(),
+    };
+    match print_beside(board, Some(watch), Writers { w, teller }, job) {
+        Some((worked, w, print_faults)) => {
+            let Worked {
                 keeper,
-                w,
-                faults: more,
-            } = all;
+                ends,
+                faults,
+            } = worked;
             Left {
-                keeper: Some(keeper),
+                keeper,
                 ends,
                 w: Some(w),
-                faults: faults.with(more),
+                faults: faults.with(print_faults),
             }
         }
         None => Left {

@@ -52,7 +52,8 @@ faults_by before (Err error) = record {
 -- what came of telling why the End at the end of a session is refused
 pub record TellsEnd (names : PlantData) (error : CallError) (before after : Option (List ℕ)) (faults : RunFaults) : Type 0 where
   pub told : TellsFor faults.memory faults.untold before after (end_told names (Err error))
-  pub none_else : (faults.read ≡ false) × (faults.write ≡ false) × (faults.mismatch ≡ false) × (faults.faulted ≡ false) × (faults.ended ≡ false)
+  pub none_else : (faults.read ≡ false) × (faults.write ≡ false) × (faults.mismatch ≡ false) × (faults.faulted ≡ false)
+      × (faults.ended ≡ false)
 
 module _ {X C : Type 0} (names plant : PlantData) (table : List BreakCondition) (limit : ℕ) (reads : C → ℤ → C → Type 0) where
   -- a line was obeyed, or memory was refused at it
