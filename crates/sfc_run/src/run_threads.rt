@@ -172,12 +172,12 @@ fn keep_and_work<
 >(
     desk: &Desk<'d, L, R>,
     posts: Vec<Post<L, Pace<'p, R>, RealTime<'p, R>>>,
-    seated: Seated<'_, L, C>,
+    console: &mut Console<L, C>,
+    keeper: Keeper<L, C>,
     streams: &mut Streams<'_, S, E>,
 ) -> Worked<L, C>
     ensures { IfSome result.ends (λ ends. length ends.items ≡ length posts.entry.items) }
 {
-    let Seated { console, keeper } = seated;
     let job = || -> (Option<Vec<WorkerEnd<L>>>, RunFaults)
         requires { IsSync R.row }
         ensures { IfSome result.0 (λ ends. length ends.items ≡ length posts.entry.items) }
@@ -299,10 +299,11 @@ pub fn run_threads<
 ) -> Left<L, C, W>
     ensures { IfSome result.ends (λ ends. length ends.items ≡ length posts.entry.items) }
 {
+    let Seated { console, keeper } = seated;
     let job = || -> Worked<L, C>
         requires { IsSync R.row }
         ensures { IfSome result.ends (λ ends. length ends.items ≡ length posts.entry.items) }
-    { keep_and_work(desk, posts, seated, streams) };
+    { keep_and_work(desk, posts, console, keeper, streams) };
     let Printing { watch, w, teller } = printing;
     let board = Board {
         rt: desk.rt,
