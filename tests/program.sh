@@ -655,6 +655,11 @@ ends 0 && [ "$(cat "$work/told")" = "SCAN Main overruns hit
   Divide1 .. steps
   Blink1 .. steps" ]
 note $? "a breakpoint that is hit is told, whatever is picked"
+{ sleep 0.4; echo 'INPUT Start TRUE'; sleep 0.4; } | "$program" run "$work/dying.chart" 2>"$work/err" | head -n 1 >"$work/out"
+status=${PIPESTATUS[1]}
+ends 3 && [ "$(grep -c '^  Divide1 fault DivZero$' "$work/err")" = 1 ] && [ "$(tail -n 2 "$work/err")" = "write fault
+a program stood faulted at the end" ]
+note $? "a program that dies is told behind a closed standard output"
 
 # at_terminal TITLE FILE WORD..: what a script of Python counts that runs the program at a terminal of its own
 at_terminal() {

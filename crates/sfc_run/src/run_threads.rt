@@ -10,6 +10,7 @@ use crate::printing::{PrintFault, Printing, print_rows};
 use crate::real_time::RealTime;
 use crate::run_faults::RunFaults;
 use crate::session::{Desk, hold};
+use crate::sfc_debug::trace_mask::TraceMask;
 use crate::streams::Streams;
 use crate::teller::Teller;
 use crate::watch::Watch;
@@ -211,6 +212,25 @@ struct Board<'b, R: Wait> {
     bells: &'b Bells,
 }
 
+// What printing comes to. Behind a fault of the writer of lines alarms are told all the same: no command has a line then.
+fn print_all<R: Wait, W: Write, T: Write>(
+    rt: &R,
+    alloc: Global,
+    printing: &mut Printing<W, T>,
+    bells: &Bells,
+) -> RunFaults {
+    let faults = match print_rows(rt, alloc, printing, bells) {
+        Ok(()) => return RunFaults::none(),
+        Err(PrintFault::Memory) => return RunFaults::of_memory(),
+        Err(PrintFault::Write) => RunFaults::of_write(),
+    };
+    printing.watch.wanted = TraceMask(0);
+    match print_rows(rt, alloc, printing, bells) {
+        Err(PrintFault::Memory) => faults.with(RunFaults::of_memory()),
+        Ok(()) | Err(PrintFault::Write) => faults,
+    }
+}
+
 // What printing comes to: the writer of lines is handed back.
 fn printed<R: Wait, W: Write, T: Write + Drop>(
     rt: &R,
@@ -224,11 +244,7 @@ fn printed<R: Wait, W: Write, T: Write + Drop>(
         return (w, RunFaults::none());
     };
     let mut printing = Printing { watch, w, teller };
-    let faults = match print_rows(rt, alloc, &mut printing, bells) {
-        Ok(()) => RunFaults::none(),
-        Err(PrintFault::Write) => RunFaults::of_write(),
-        Err(PrintFault::Memory) => RunFaults::of_memory(),
-    };
+    let faults = print_all(rt, alloc, &mut printing, bells);
     let Printing {
         watch: _,
         w,
