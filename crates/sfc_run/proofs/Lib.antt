@@ -6,8 +6,6 @@ pub mod Ends
 pub mod RowLines
 -- one post more
 pub mod Posting
--- what one worker more leaves
-pub mod Gathering
 -- lines that were obeyed one after the other
 pub mod Obeying
 -- lines that came in pieces
