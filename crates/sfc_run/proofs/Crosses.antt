@@ -1,5 +1,14 @@
--- Which values may go to another thread: the end of a feed, a debugger that follows, and what is read of a run.
-use denote.Param.Send.{IsSend, sendable}
+-- Which values may go to another thread: the end of a feed, a debugger that follows, what is read of a run, and what a thread's job captures.
+use mir.Syntax.{Sym, Ty}
+use denote.Exit.{no}
+use denote.Param.{arg, param}
+use denote.Param.Send.{AllSend, IsSend, arg_send, param_send, recorded_send, sendable, struct_send}
+use denote.RattleType.{RattleType}
+use denote.Struct.Declared.{shape}
+use denote.Struct.Field.{rows}
+use denote.Struct.Struct.{Struct}
+use denote.Struct.Tuple.{TupleAt, parts, type_at}
+use Rattle.std.proofs.Common.{List}
 use Rattle.std.proofs.Crossing.{crosses}
 use Rattle.rtrb.proofs.consumer.Consumer.TheSendSync as consumer
 use Rattle.sfc_events.proofs.command.TraceRow.TheSendSync as row
@@ -16,3 +25,10 @@ follower_send = search (sendable, debugger_send)
 
 pub watch_send : IsSend (Watch.the_field).row
 watch_send = search (sendable, crosses, follower_send, tail_send) depth 20
+
+-- A job that captures values of these types. Written out, since the prover's own search goes through all that a debugger is made of.
+pub job_send : (ν : Sym) (δ : Ty) (Ts : List RattleType) → AllSend (rows (parts Ts)) → IsSend (param 1 (arg δ no (TupleAt ν Ts)))
+job_send ν δ Ts all =
+    let T = type_at ν Ts in
+    let captures = recorded_send (Struct (shape T)) T.D T.to T.to_one (struct_send (shape T) all) in
+    param_send 1 (arg δ no (TupleAt ν Ts)) (arg_send δ no (TupleAt ν Ts) captures)
