@@ -148,6 +148,7 @@ quick() {
   [ ! -x "$tests/launcher.sh" ] || beside "$limit" "launcher.sh quick" "$tests/launcher.sh" quick
   beside "$limit" program.sh "$tests/program.sh"
   alone "$limit" "pressure.sh 10000" "$tests/pressure.sh" 10000
+  alone "$limit" "epochs.sh 1200000" "$tests/epochs.sh" 1200000
   in_both
   plants whole 2000 4
   plants steps 40 4
@@ -162,6 +163,7 @@ full() {
   limit=7200
   alone "$limit" program.sh "$tests/program.sh"
   alone "$limit" pressure.sh "$tests/pressure.sh"
+  alone "$limit" epochs.sh "$tests/epochs.sh"
   [ ! -x "$tests/launcher.sh" ] || alone "$limit" "launcher.sh full" "$tests/launcher.sh" full
   plants steps 400 8
   for kind in whole control tasks image debug; do plants "$kind" 2000 4; done

@@ -15,6 +15,7 @@ SEEN = 10
 MOST_GROWTH = 1_024
 MOST_MEMORY = 16_384
 LINE = re.compile(r"([0-9]+) T#\S+ ([A-Z]+)")
+BUSY = re.compile(r"([0-9]+ T#\S+ SCAN \S+ overruns [0-9]+|lost [0-9]+ commands)")
 INSTANCE = "PROGRAM P{0} WITH Task{0} : Mix;"
 CHART = """PROGRAM Mix
   VAR Count : INT; END_VAR
@@ -123,7 +124,8 @@ def checks_of(run: Pressure, status: int, said: str) -> list:
     """What is to hold of a run, each with its title."""
     audit = re.fullmatch(r"audit ok ([0-9]+)", run.last)
     checks = [
-        ("the status is 0", status == 0), ("nothing stands on standard error", said == ""),
+        ("the status is 0", status == 0),
+        ("nothing but overruns and lost lines stands on standard error", all(map(BUSY.fullmatch, said.splitlines()))),
         ("the audit is right", audit is not None), ("the audit counts all commands", bool(audit) and int(audit[1]) >= run.number),
         ("as many commands as are wanted", run.number >= run.wanted), ("numbers rise", run.falling == 0),
         ("halts, each with its GO", run.halts > 0 and run.stopped_at is None), ("no scan in a halt", run.scans_in_halts == 0),

@@ -464,6 +464,8 @@ read_by "mandoc has nothing to say of the man page" mandoc -Tlint "$manual"
 # live SESSION WORD..: run with these words and this session, from a pipe; leaves out, err and status
 live() { local session=$1; shift; printf '%s' "$session" | "$program" run "$@" >"$work/out" 2>"$work/err"; status=${PIPESTATUS[1]}; }
 last() { [ "$(tail -n 1 "$work/out")" = "$1" ]; }
+# calm: standard error has nothing but overruns, which a busy machine brings
+calm() { ! grep -qvE '^[0-9]+ T#[^ ]+ SCAN [^ ]+ overruns [0-9]+$' "$work/err"; }
 # counted: the lines before the last are numbered from 1 without a gap, and the last tells how many they are
 counted() {
   local lines=$(($(wc -l <"$work/out") - 1))
@@ -482,7 +484,7 @@ note $? "a run without commands"
 first=0
 for ((n = 0; n < 20; n++)); do
   run run --trace 0 "$chart"
-  ends 0 && says "" && grep -qxE 'audit ok [1-9][0-9]*' "$work/out" && [ "$(wc -l <"$work/out")" = 1 ]
+  ends 0 && calm && grep -qxE 'audit ok [1-9][0-9]*' "$work/out" && [ "$(wc -l <"$work/out")" = 1 ]
   note $? "the lamp in real time, without commands"
   if last "audit ok 1"; then first=$((first + 1)); fi
 done
@@ -501,11 +503,10 @@ live $'JUMP\nGO\nT#0s STOP\nEPOCH\nREAD Lamp\nEND\nREAD Lamp\n' --trace 32 "$wor
 ends 0 && [ "$(cat "$work/err")" = "script line 1
 refused 36 NotStopped
 script line 3
-refused 40 Ended
 refused 40 Ended" ] && [ "$(sed 's/T#[^ ]* //' "$work/out")" = "1 EPOCH
 3 END
 audit ok 3" ]
-note $? "lines that are no commands, refusals, and an epoch"
+note $? "lines that are no commands, refusals, an epoch, and no second END"
 live $'BREAK Lamp1 STEP On WHEN TRUE\r\nread lamp\r\n' --trace 64 "$work/edge.chart"
 ends 0 && says "script line 1" && [ "$(sed 's/T#[^ ]* //' "$work/out")" = "1 READ Lamp FALSE
 audit ok 2" ]
@@ -514,14 +515,27 @@ note $? "a condition is no command of a session, and CR LF ends a line"
 status=$?
 ends 3 && says "read fault" && [ "$(cat "$work/out")" = "audit ok 1" ]
 note $? "a session that can't be read"
-yes '; no command' | head -c 2000000 | "$program" run --trace 0 "$work/edge.chart" >"$work/out" 2>"$work/err"
-status=${PIPESTATUS[2]}
-ends 0 && says "" && [ "$(cat "$work/out")" = "audit ok 1" ]
-note $? "a session that is longer than is read"
+{ yes '; no command' | head -c 2000000; printf '\nREAD Lamp\n'; } | "$program" run --trace 0 "$work/edge.chart" >"$work/out" 2>"$work/err"
+status=${PIPESTATUS[1]}
+ends 0 && says "" && [ "$(cat "$work/out")" = "audit ok 2" ]
+note $? "a session of more bytes than a script may have"
+{ printf 'READ Lamp\n'; head -c 1048576 /dev/zero | tr '\0' x; printf '\nREAD Lamp\n'; } \
+  | "$program" run --trace 0 "$work/edge.chart" >"$work/out" 2>"$work/err"
+status=${PIPESTATUS[1]}
+ends 0 && says "script line 2" && [ "$(cat "$work/out")" = "audit ok 3" ]
+note $? "a line of 1,048,576 bytes, and one behind it"
+{ printf 'READ Lamp\n'; head -c 1100000 /dev/zero | tr '\0' x; printf '\nREAD Lamp\n'; } \
+  | "$program" run --trace 0 "$work/edge.chart" >"$work/out" 2>"$work/err"
+status=${PIPESTATUS[1]}
+ends 0 && says "script line 2" && [ "$(cat "$work/out")" = "audit ok 2" ]
+note $? "a line that is too long ends a session"
 fails "a chart that is refused, run" 1 "refused 14 NoInitial" run "$work/dark.chart"
 fails "no such chart, run" 3 "read fault" run "$work/no.chart"
 for mask in 128 -1 x ''; do usage "--trace '$mask'" "error:" run --trace "$mask" "$chart"; done
 usage "no file to run" "<FILE>" run
+for time in 0 T#0s T#-1s 8h T#1s_ ''; do usage "--for '$time'" "error:" run --for "$time" "$chart"; done
+usage "--for and --forever" "error:" run --for T#1s --forever "$chart"
+for count in 0 65535 1048577 x; do usage "--history $count" "error:" run --history "$count" "$chart"; done
 run help run
 ends 0 && mentions "Exit status:" out && mentions "docs/FORMATS.md" out && mentions "GO" out && says ""
 note $? "the help on run"
@@ -547,14 +561,105 @@ for n in 0 1 2 3 4 5 6 7 8 9; do
   cp "$work/out$n" "$work/out"
   cp "$work/err$n" "$work/err"
   status=$(cat "$work/status$n")
-  ends 0 && says "" && counted && [ "$(grep -c ' SCAN Main overruns ' "$work/out")" -ge 7 ] && mentions " READ Pump TRUE" out \
+  ends 0 && calm && counted && [ "$(grep -c ' SCAN Main overruns ' "$work/out")" -ge 7 ] && mentions " READ Pump TRUE" out \
     && ! sed -n '/ STOP$/,/ GO$/p' "$work/out" | grep -q SCAN
   note $? "the pump in real time, one of ten side by side"
 done
 { sleep 0.2; echo STOP; sleep 0.2; echo GO; } | "$program" run "$examples/pump.chart" 2>"$work/err" | head -n 1 >"$work/out"
 status=${PIPESTATUS[1]}
-ends 3 && says "write fault"
+ends 3 && [ "$(tail -n 1 "$work/err")" = "write fault" ]
 note $? "a pipe that is closed ends a run with its session"
+# ---- runs that last
+
+# since: milliseconds
+since() { echo $((($(date +%s%N) - $1) / 1000000)); }
+begin=$(date +%s%N)
+run run --for T#1s --trace 0 "$examples/pump.chart"
+took=$(since "$begin")
+ends 0 && calm && grep -qxE 'audit ok [1-9][0-9]*' "$work/out" && [ "$(cut -d' ' -f3 "$work/out")" -ge 5 ] && [ "$took" -ge 1000 ]
+note $? "a second without a session"
+mkfifo "$work/input"
+exec 7<>"$work/input"
+printf 'READ Pump\n' >&7
+begin=$(date +%s%N)
+"$program" run --for T#1s --history 65536 "$examples/pump.chart" <"$work/input" >"$work/out" 2>"$work/err"
+status=$?
+took=$(since "$begin")
+exec 7<&-
+ends 0 && calm && counted && mentions " READ Pump FALSE" out && [ "$took" -ge 1000 ] &&
+  tail -n 2 "$work/out" | head -n 1 | grep -qE ' T#1s[^ ]* END$'
+note $? "a second with a session that doesn't end"
+begin=$(date +%s%N)
+printf 'READ Pump' | "$program" run --for T#1s --trace 64 "$examples/pump.chart" >"$work/out" 2>"$work/err"
+status=${PIPESTATUS[1]}
+took=$(since "$begin")
+ends 0 && calm && mentions " READ Pump FALSE" out && [ "$took" -ge 1000 ]
+note $? "a second with a session that ends before, without the end of its last line"
+begin=$(date +%s%N)
+{ printf 'READ Pump\n end \nREAD Pump\n'; sleep 3; } | "$program" run --forever --trace 96 "$examples/pump.chart" >"$work/out" 2>"$work/err"
+status=${PIPESTATUS[1]}
+ends 0 && calm && [ "$(grep -c ' READ Pump ' "$work/out")" = 1 ] && [ "$(grep -c ' END$' "$work/out")" = 1 ]
+note $? "a line END ends what lasts"
+"$program" run --forever --trace 0 "$examples/pump.chart" </dev/null >"$work/out" 2>"$work/err" &
+number=$!
+sleep 1.5
+kill -0 "$number" && kill -TERM "$number"
+wait "$number"
+status=$?
+[ "$status" = 143 ] && calm && [ ! -s "$work/out" ]
+note $? "without a session until a signal"
+# a program divides by an input once it is started; another one goes on
+cat >"$work/dying.chart" <<'CHART'
+PROGRAM Divide
+  VAR n : INT := 7; END_VAR
+  INITIAL_STEP Rest: END_STEP
+  STEP Share: Work(N); END_STEP
+  TRANSITION FROM Rest TO Share := Start; END_TRANSITION
+  TRANSITION FROM Share TO Rest := NOT Start; END_TRANSITION
+  ACTION Work: n := n / Parts; END_ACTION
+END_PROGRAM
+PROGRAM Blink
+  INITIAL_STEP Dark: END_STEP
+  STEP Lit: Lamp(N); END_STEP
+  TRANSITION FROM Dark TO Lit := TRUE; END_TRANSITION
+  TRANSITION FROM Lit TO Dark := TRUE; END_TRANSITION
+END_PROGRAM
+CONFIGURATION C RESOURCE R ON Plc
+VAR_GLOBAL Start AT %IX0.0 : BOOL; Parts AT %IW1 : INT; Lamp AT %QX0.0 : BOOL; END_VAR
+TASK Main(INTERVAL := T#20ms, PRIORITY := 1);
+PROGRAM Divide1 WITH Main : Divide;
+PROGRAM Blink1 WITH Main : Blink;
+END_RESOURCE END_CONFIGURATION
+CHART
+run check "$work/dying.chart"
+ends 0
+note $? "the chart that divides"
+# dying LINE ..: a run of it with these lines, a fifth of a second after one another; no line is asked for
+dying() {
+  for line in "$@"; do sleep 0.2; echo "$line"; done | "$program" run --trace 0 "$work/dying.chart" >"$work/out" 2>"$work/err"
+  status=${PIPESTATUS[1]}
+  # without instants and numbers, and without overruns alone
+  grep -vE '^[0-9]+ T#[^ ]+ SCAN Main overruns [0-9]+$' "$work/err" >"$work/rest"
+  grep -B1 -E '^  ' "$work/err" | sed -E 's/^[0-9]+ T#[^ ]+ //; s/overruns [0-9]+/overruns/; s/ [0-9]+ steps .*/ .. steps/' >"$work/told"
+}
+dying 'INPUT Start TRUE' '; it stands' '; and stands'
+ends 1 && grep -qxE 'audit ok [1-9][0-9]*' "$work/out" && [ "$(wc -l <"$work/out")" = 1 ] && [ "$(cat "$work/told")" = "SCAN Main overruns
+  Divide1 fault DivZero
+  Blink1 .. steps" ] && [ "$(tail -n 1 "$work/err")" = "a program stood faulted at the end" ]
+note $? "a program that dies is told once, with the others of its scan, and the status is 1"
+dying 'INPUT Start TRUE' 'INPUT Parts 2' 'RESET Divide1' '; it lives'
+ends 0 && [ "$(grep -c 'fault DivZero' "$work/err")" = 1 ] && ! grep -q 'stood faulted' "$work/err"
+note $? "a program that is reset behind its fault, and goes on"
+dying 'INPUT Parts 2' 'BREAK Blink1 STEP Lit' '; it stands still'
+ends 0 && [ "$(cat "$work/told")" = "SCAN Main overruns hit
+  Divide1 .. steps
+  Blink1 .. steps" ]
+note $? "a breakpoint that is hit is told, whatever is picked"
+{ sleep 0.4; echo 'INPUT Start TRUE'; sleep 0.4; } | "$program" run "$work/dying.chart" 2>"$work/err" | head -n 1 >"$work/out"
+status=${PIPESTATUS[1]}
+ends 3 && [ "$(grep -c '^  Divide1 fault DivZero$' "$work/err")" = 1 ] && [ "$(tail -n 2 "$work/err")" = "write fault
+a program stood faulted at the end" ]
+note $? "a program that dies is told behind a closed standard output"
 
 # at_terminal TITLE FILE WORD..: what a script of Python counts that runs the program at a terminal of its own
 at_terminal() {

@@ -22,7 +22,7 @@ _sfcmon() {
     :*) mapfile -t COMPREPLY < <(compgen -W "$commands" -- "$word") ;;
     help:*) mapfile -t COMPREPLY < <(compgen -W "$commands" -- "$word") ;;
     replay:-*) mapfile -t COMPREPLY < <(compgen -W '-h --help --strict' -- "$word") ;;
-    run:-*) mapfile -t COMPREPLY < <(compgen -W '-h --help --trace' -- "$word") ;;
+    run:-*) mapfile -t COMPREPLY < <(compgen -W '-h --help --trace --history --for --forever' -- "$word") ;;
     draw:-*) mapfile -t COMPREPLY < <(compgen -W '-h --help --program --after' -- "$word") ;;
     wave:-*) mapfile -t COMPREPLY < <(compgen -W '-h --help --raw' -- "$word") ;;
     cover:-*) mapfile -t COMPREPLY < <(compgen -W '-h --help --min' -- "$word") ;;

@@ -29,7 +29,8 @@ cc -o "$work/plain" "$work/plain.o" "${libraries[@]}"
 export AFL_I_DONT_CARE_ABOUT_MISSING_CRASHES=1 AFL_SKIP_CPUFREQ=1 AFL_NO_AFFINITY=1 AFL_NO_UI=1 AFL_AUTORESUME=1
 if [ ! -e "$work/small" ]; then
   PYTHONDONTWRITEBYTECODE=1 python3 "$here/seeds.py" "$work/seeds"
-  TMPDIR=$work afl-cmin -i "$work/seeds" -o "$work/small" -- "$work/seen" replay @@ @@
+  # It refuses a folder below /tmp, which all.sh has, unless it is told that nobody else writes there.
+  AFL_ALLOW_TMP=1 TMPDIR=$work afl-cmin -i "$work/seeds" -o "$work/small" -- "$work/seen" replay @@ @@
 fi
 # fuzz NAME SECONDS WORD..: the program with these words
 fuzz() {

@@ -5,6 +5,7 @@
 use crate::sfc_debug::trace_mask::TraceMask;
 use sfc_run::run::run_chart;
 use sfc_run::sfc_debug;
+use sfc_run::streams::{Asked, Streams};
 use std::process::ExitCode;
 
 const CHART: &[u8] = b"PROGRAM P INITIAL_STEP S: END_STEP END_PROGRAM \
@@ -15,13 +16,15 @@ fn main(rt: HostRuntime) -> ExitCode {
     let mut chart = CHART;
     let mut commands = rt.stdin();
     let mut errors = rt.stderr();
-    ExitCode::from(run_chart(
-        &rt,
-        rt.alloc(),
-        &mut chart,
-        &mut commands,
-        rt.stdout(),
-        &mut errors,
-        TraceMask(0),
-    ))
+    let asked = Asked {
+        w: rt.stdout(),
+        tells: rt.stderr(),
+        wanted: TraceMask(0),
+        history: 1_048_576,
+    };
+    let mut streams = Streams {
+        commands: &mut commands,
+        errors: &mut errors,
+    };
+    ExitCode::from(run_chart(&rt, rt.alloc(), &mut chart, asked, &mut streams))
 }

@@ -1,16 +1,14 @@
 -- which values may go to another thread
 pub mod Crosses
--- the same of what the thread that prints looks at
-pub mod Boards
 -- what holds of a value, where there is one
 pub mod Ends
 -- lines of rows
 pub mod RowLines
 -- one post more
 pub mod Posting
--- what one worker more leaves
-pub mod Gathering
 -- lines that were obeyed one after the other
 pub mod Obeying
 -- lines that came in pieces
 pub mod Walking
+-- epochs of a seat, and then more
+pub mod Epochs

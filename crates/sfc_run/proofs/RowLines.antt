@@ -1,5 +1,5 @@
--- Rows that were taken one after the other, and their lines.
-use Rattle.std.proofs.Common.{◌≡◌, ℕ, ◌<◌, List, [], ◌∷◌, ◌++◌, Option, refl, sym, ap, subst, ◌∙◌, append_assoc, append-nil, length, arith}
+-- Rows that were taken one after the other, their lines, and what was told of them.
+use Rattle.std.proofs.Common.{◌≡◌, ℕ, ◌<◌, List, [], ◌∷◌, ◌++◌, Bool, true, false, Option, refl, sym, ap, subst, ◌∙◌, append_assoc, append-nil, length, arith}
 use mathlib.Core.List.{IsPrefix}
 use Rattle.std.specs.Io.KnownBytes.{Appends}
 use Rattle.std.proofs.KnownBytes.{Appends-nil, Appends-trans}
@@ -7,66 +7,208 @@ use Rattle.sfc_base.specs.Writing.{AppendsFront}
 use Rattle.sfc_events.specs.declared.command.TraceRow.{TraceRow}
 use Rattle.sfc_control.specs.declared.tail.Tail.{Tail}
 use Rattle.sfc_control.specs.Tails.{taken, coming}
-use Rattle.sfc_replay.specs.sfc_output.Commands.{row_line}
+use Rattle.sfc_control.specs.sfc_debug.Agreement.{Agrees}
+use Rattle.sfc_control.specs.sfc_debug.Histories.{CommandHistory}
 use Rattle.sfc_control.specs.sfc_debug.Steered.{Steered}
-use Rattle.sfc_run.specs.Printing.{rows_text, Takes, Reaches}
+use Rattle.sfc_control.specs.sfc_debug.declared.trace_mask.TraceMask.{TraceMask}
+use Rattle.sfc_run.specs.Alarms.{AreTold, IsTold}
+use Rattle.sfc_run.specs.Following.{debugger_in}
+use Rattle.sfc_run.specs.Printing.{line_if, rows_text, Takes, Reaches, ReadsAlike, Passes, Puts, Tells, steered_of}
+use Rattle.sfc_run.specs.Printing as printing
+use Rattle.sfc_run.specs.declared.alarms.Alarms.{Alarms}
+use Rattle.sfc_run.specs.declared.printing.Printing.{Printing}
+use Rattle.sfc_run.specs.declared.watch.Texts.{Texts}
+use Rattle.sfc_run.specs.declared.watch.Watch.{Watch}
 
--- some rows were taken, and their lines stand behind the text
-abbrev pub Along : Steered → Tail → Tail → List ℕ → List ℕ → Type 0
-Along steered old new before after = (rows : List TraceRow) × Takes old new rows × (after ≡ before ++ rows_text steered rows)
+-- ---- what is told of rows, and then of more
 
-pub rows_more : (steered : Steered) (a b : List TraceRow) → rows_text steered (a ++ b) ≡ rows_text steered a ++ rows_text steered b
-rows_more steered [] b = refl
-rows_more steered (row ∷ a) b =
-    ap (λ t. row_line steered row ++ t) (rows_more steered a b) ∙ sym (append_assoc (row_line steered row) (rows_text steered a) (rows_text steered b))
+-- the debugger that follows stands behind those commands then
+told_agrees : (old new : Alarms) (rows : List TraceRow) (h behind : CommandHistory) (text : List ℕ)
+    → AreTold old new rows h behind text → Agrees (debugger_in old.follower) h → Agrees (debugger_in new.follower) behind
+told_agrees old new [] h behind text (same, now, none) agrees =
+    subst (λ (a : Alarms). Agrees (debugger_in a.follower) behind) (sym same)
+    (subst (λ (x : CommandHistory). Agrees (debugger_in old.follower) x) (sym now) agrees)
+told_agrees old new (row ∷ rows) h behind text (mid, between, some, rest, same, one, more) agrees =
+    told_agrees mid new rows between behind rest more one.follows.agrees
 
-pub none_yet : (steered : Steered) (tail : Tail) (text : List ℕ) → Along steered tail tail text text
-none_yet steered tail text = ([], sym (append-nil (taken tail)), sym (append-nil text))
+told_then : (old mid new : Alarms) (a b : List TraceRow) (h between behind : CommandHistory) (some rest : List ℕ)
+    → AreTold old mid a h between some → AreTold mid new b between behind rest → AreTold old new (a ++ b) h behind (some ++ rest)
+told_then old mid new [] b h between behind some rest (same, now, none) more =
+    subst (λ (t : List ℕ). AreTold old new b h behind (t ++ rest)) (sym none)
+    (subst (λ (x : CommandHistory). AreTold old new b x behind rest) now
+    (subst (λ (m : Alarms). AreTold m new b between behind rest) same more))
+told_then old mid new (row ∷ a) b h between behind some rest (first, after, one, others, same, is_told, told) more = (
+  first,
+  after,
+  one,
+  others ++ rest,
+  ap (λ (t : List ℕ). t ++ rest) same ∙ append_assoc one others rest,
+  is_told,
+  told_then first mid new a b after between behind others rest told more,
+)
+
+-- a row by itself
+told_one : (old new : Alarms) (row : TraceRow) (h behind : CommandHistory) (text : List ℕ)
+    → IsTold old new row h behind text → AreTold old new (row ∷ []) h behind text
+told_one old new row h behind text told = (new, behind, text, [], sym (append-nil text), told, (refl, refl, refl))
+
+-- ---- rows and their lines
+
+pub rows_more : (wanted : TraceMask) (steered : Steered) (a b : List TraceRow)
+    → rows_text wanted steered (a ++ b) ≡ rows_text wanted steered a ++ rows_text wanted steered b
+rows_more wanted steered [] b = refl
+rows_more wanted steered (row ∷ a) b =
+    ap (λ t. line_if wanted steered row ++ t) (rows_more wanted steered a b)
+    ∙ sym (append_assoc (line_if wanted steered row) (rows_text wanted steered a) (rows_text wanted steered b))
 
 -- behind some rows others were taken
 pub takes_more : (old mid new : Tail) (a b : List TraceRow) → Takes old mid a → Takes mid new b → Takes old new (a ++ b)
 takes_more old mid new a b first then = then ∙ ap (λ t. t ++ b) first ∙ append_assoc (taken old) a b
 
-pub one_more : (steered : Steered) (old mid new : Tail) (before text after : List ℕ) (row : TraceRow) → Along steered old mid before text
-    → Takes mid new (row ∷ []) → after ≡ text ++ row_line steered row → Along steered old new before after
-one_more steered old mid new before text after row was takes line =
-    let rows = was.0 in
-    let one : rows_text steered (row ∷ []) ≡ row_line steered row = append-nil (row_line steered row) in (
-      rows ++ row ∷ [],
-      takes_more old mid new rows (row ∷ []) was.1 takes,
-      line ∙ ap (λ t. t ++ row_line steered row) was.2 ∙ append_assoc before (rows_text steered rows) (row_line steered row)
-          ∙ ap (λ t. before ++ t) (sym (rows_more steered rows (row ∷ []) ∙ ap (λ t. rows_text steered rows ++ t) one)),
+-- their lines, by the names of the one that was read first
+rows_then : (old mid : Watch) (a b : List TraceRow) → ReadsAlike old mid
+    → rows_text old.wanted (steered_of old) a ++ rows_text mid.wanted (steered_of mid) b ≡ rows_text old.wanted (steered_of old) (a ++ b)
+rows_then old mid a b alike =
+    ap (λ (w : TraceMask). rows_text old.wanted (steered_of old) a ++ rows_text w (steered_of mid) b) alike.0
+    ∙ ap (λ (s : Steered). rows_text old.wanted (steered_of old) a ++ rows_text old.wanted s b) alike.1
+    ∙ sym (rows_more old.wanted (steered_of old) a b)
+
+alike_then : (old mid new : Watch) → ReadsAlike old mid → ReadsAlike mid new → ReadsAlike old new
+alike_then old mid new one two = (two.0 ∙ one.0, two.1 ∙ one.1)
+
+alarms_then : (old mid new : Watch) (a b : List TraceRow) (before text after : List ℕ)
+    → printing.Alarms old mid a before text → printing.Alarms mid new b text after → printing.Alarms old new (a ++ b) before after
+alarms_then old mid new a b before text after one two h agrees =
+    let first = one h agrees in
+    let then = two first.0 (told_agrees old.alarms mid.alarms a h first.0 first.1 first.3 agrees) in (
+      then.0,
+      first.1 ++ then.1,
+      then.2 ∙ ap (λ (t : List ℕ). t ++ then.1) first.2 ∙ append_assoc before first.1 then.1,
+      told_then old.alarms mid.alarms new.alarms a b h first.0 then.0 first.1 then.1 first.3 then.3,
     )
 
--- some rows were taken, and their lines written
-abbrev pub Told : Steered → Tail → Tail → Option (List ℕ) → Option (List ℕ) → Type 0
-Told steered old new before after = (rows : List TraceRow) × Takes old new rows × Appends before after (rows_text steered rows)
+pub puts_then : (old mid new : Watch) (a b : List TraceRow) (before text after : Texts)
+    → Puts old mid a before text → Puts mid new b text after → Puts old new (a ++ b) before after
+puts_then old mid new a b before text after one two = record {
+  alike = alike_then old mid new one.alike two.alike;
+  lines = two.lines ∙ ap (λ (t : List ℕ). t ++ rows_text mid.wanted (steered_of mid) b) one.lines
+      ∙ append_assoc before.lines.items (rows_text old.wanted (steered_of old) a) (rows_text mid.wanted (steered_of mid) b)
+      ∙ ap (λ (t : List ℕ). before.lines.items ++ t) (rows_then old mid a b one.alike);
+  alarms = alarms_then old mid new a b before.alarms.items text.alarms.items after.alarms.items one.alarms two.alarms;
+}
 
-pub told_none : (steered : Steered) (tail : Tail) (written : Option (List ℕ)) → Told steered tail tail written written
-told_none steered tail written = ([], sym (append-nil (taken tail)), Appends-nil written)
+-- some rows were taken, and their lines and alarms stand behind the texts
+abbrev pub Along : Watch → Watch → Texts → Texts → Type 0
+Along old new before after = (rows : List TraceRow) × Takes old.tail new.tail rows × Puts old new rows before after
 
-pub told_more : (steered : Steered) (old mid new : Tail) (a b c : Option (List ℕ)) → Told steered old mid a b → Told steered mid new b c → Told steered old new a c
-told_more steered old mid new a b c was more = (
-  was.0 ++ more.0,
-  takes_more old mid new was.0 more.0 was.1 more.1,
-  subst (λ t. Appends a c t) (sym (rows_more steered was.0 more.0)) (Appends-trans a b c (rows_text steered was.0) (rows_text steered more.0) was.2 more.2),
+pub none_yet : (watch : Watch) (texts : Texts) → Along watch watch texts texts
+none_yet watch texts = (
+  [],
+  sym (append-nil (taken watch.tail)),
+  record {
+    alike = (refl, refl);
+    lines = sym (append-nil texts.lines.items);
+    alarms = λ h agrees. (h, [], sym (append-nil texts.alarms.items), (refl, refl, refl));
+  },
 )
 
--- behind lines that were written, a front of others before a fault
-pub told_front : (steered : Steered) (old mid new : Tail) (a b c : Option (List ℕ)) → Told steered old mid a b
-    → (rows : List TraceRow) → Takes mid new rows → AppendsFront b c (rows_text steered rows)
-    → (all : List TraceRow) × Takes old new all × AppendsFront a c (rows_text steered all)
-told_front steered old mid new a b c was rows takes front =
-    let first = rows_text steered was.0 in (
-      was.0 ++ rows,
-      takes_more old mid new was.0 rows was.1 takes,
-      (
-        first ++ front.0,
-        front.1,
-        rows_more steered was.0 rows ∙ ap (λ t. first ++ t) front.2 ∙ sym (append_assoc first front.0 front.1),
-        Appends-trans a b c first front.0 was.2 front.3,
-      ),
-    )
+-- one row more: it was taken, its line was put, and it was told of
+pub one_more : (old mid new : Watch) (before text after : Texts) (row : TraceRow) → Along old mid before text
+    → Takes mid.tail new.tail (row ∷ []) → ReadsAlike mid new
+    → after.lines.items ≡ text.lines.items ++ line_if mid.wanted (steered_of mid) row
+    → ((h : CommandHistory) → Agrees (debugger_in mid.alarms.follower) h → (behind : CommandHistory) × (some : List ℕ)
+    × (after.alarms.items ≡ text.alarms.items ++ some) × IsTold mid.alarms new.alarms row h behind some)
+    → Along old new before after
+one_more old mid new before text after row was takes alike line told = (
+  was.0 ++ row ∷ [],
+  takes_more old.tail mid.tail new.tail was.0 (row ∷ []) was.1 takes,
+  puts_then old mid new was.0 (row ∷ []) before text after was.2 (record {
+    alike = alike;
+    lines = line ∙ ap (λ (t : List ℕ). text.lines.items ++ t) (sym (append-nil (line_if mid.wanted (steered_of mid) row)));
+    alarms = λ h agrees.
+        let t = told h agrees in
+        (t.0, t.1, t.2, told_one mid.alarms new.alarms row h t.0 t.1 t.3);
+  }),
+)
+
+-- ---- what was written
+
+passes_then : (had mid has : Bool) (a b c : Option (List ℕ)) (some rest : List ℕ)
+    → Passes mid had a b some → Passes has mid b c rest → Passes has had a c (some ++ rest)
+passes_then had false false a b c some rest one two = (one.0, Appends-trans a b c some rest one.1 two.1)
+passes_then had true false a b c some rest one two = absurd (let bad : true ≡ false = two.0 in cc)
+passes_then false false true a b c some rest one two = (
+  some ++ two.0,
+  two.1,
+  ap (λ (t : List ℕ). some ++ t) two.2 ∙ sym (append_assoc some two.0 two.1),
+  Appends-trans a b c some two.0 one.1 two.3,
+)
+passes_then true false true a b c some rest one two = absurd (let bad : true ≡ false = one.0 in cc)
+passes_then false true true a b c some rest one two = (
+  one.0,
+  one.1 ++ rest,
+  ap (λ (t : List ℕ). t ++ rest) one.2 ∙ append_assoc one.0 one.1 rest,
+  subst (λ (t : List ℕ). Appends a c t) (append-nil one.0) (Appends-trans a b c one.0 [] one.3 two),
+)
+passes_then true true true a b c some rest one two = Appends-trans a b c [] [] one two
+
+nothing_passed : (had : Bool) (written : Option (List ℕ)) → Passes had had written written []
+nothing_passed false written = (refl, Appends-nil written)
+nothing_passed true written = Appends-nil written
+
+module _ {W T : Type 0} (wc : W → Option (List ℕ)) (tc : T → Option (List ℕ)) where
+  tells_then : (old mid new : Printing W T) (a b : List TraceRow) → Tells wc tc old mid a → Tells wc tc mid new b → Tells wc tc old new (a ++ b)
+  tells_then old mid new a b one two h agrees =
+      let first = one h agrees in
+      let then = two first.0 (told_agrees old.watch.alarms mid.watch.alarms a h first.0 first.1 first.2 agrees) in (
+        then.0,
+        first.1 ++ then.1,
+        told_then old.watch.alarms mid.watch.alarms new.watch.alarms a b h first.0 then.0 first.1 then.1 first.2 then.2,
+        passes_then old.teller.has_failed mid.teller.has_failed new.teller.has_failed (tc old.teller.w) (tc mid.teller.w) (tc new.teller.w)
+            first.1 then.1 first.3 then.3,
+      )
+
+  -- some rows were taken, their lines written, and their alarms told
+  abbrev pub Told : Printing W T → Printing W T → Type 0
+  Told old new =
+      (rows : List TraceRow) × Takes old.watch.tail new.watch.tail rows
+      × Appends (wc old.w) (wc new.w) (rows_text old.watch.wanted (steered_of old.watch) rows)
+      × (ReadsAlike old.watch new.watch × Tells wc tc old new rows)
+
+  pub told_none : (printing : Printing W T) → Told printing printing
+  told_none printing = (
+    [],
+    sym (append-nil (taken printing.watch.tail)),
+    Appends-nil (wc printing.w),
+    ((refl, refl), λ h agrees. (h, [], (refl, refl, refl), nothing_passed printing.teller.has_failed (tc printing.teller.w))),
+  )
+
+  pub told_more : (old mid new : Printing W T) → Told old mid → Told mid new → Told old new
+  told_more old mid new was more = (
+    was.0 ++ more.0,
+    takes_more old.watch.tail mid.watch.tail new.watch.tail was.0 more.0 was.1 more.1,
+    subst (λ (t : List ℕ). Appends (wc old.w) (wc new.w) t) (rows_then old.watch mid.watch was.0 more.0 was.3.0)
+        (Appends-trans (wc old.w) (wc mid.w) (wc new.w) (rows_text old.watch.wanted (steered_of old.watch) was.0)
+        (rows_text mid.watch.wanted (steered_of mid.watch) more.0) was.2 more.2),
+    (alike_then old.watch mid.watch new.watch was.3.0 more.3.0, tells_then old mid new was.0 more.0 was.3.1 more.3.1),
+  )
+
+  -- behind lines that were written, a front of others before a fault
+  pub told_front : (old mid new : Printing W T) → Told old mid → (rows : List TraceRow) → Takes mid.watch.tail new.watch.tail rows
+      → AppendsFront (wc mid.w) (wc new.w) (rows_text mid.watch.wanted (steered_of mid.watch) rows)
+      → (all : List TraceRow) × Takes old.watch.tail new.watch.tail all
+      × AppendsFront (wc old.w) (wc new.w) (rows_text old.watch.wanted (steered_of old.watch) all)
+  told_front old mid new was rows takes front =
+      let first = rows_text old.watch.wanted (steered_of old.watch) was.0 in (
+        was.0 ++ rows,
+        takes_more old.watch.tail mid.watch.tail new.watch.tail was.0 rows was.1 takes,
+        (
+          first ++ front.0,
+          front.1,
+          sym (rows_then old.watch mid.watch was.0 rows was.3.0) ∙ ap (λ (t : List ℕ). first ++ t) front.2 ∙ sym (append_assoc first front.0 front.1),
+          Appends-trans (wc old.w) (wc mid.w) (wc new.w) first front.0 was.2 front.3,
+        ),
+      )
 
 -- ---- rows that were known to come
 

@@ -186,7 +186,7 @@ module _ {X C : Type 0} (names plant : PlantData) (table : List BreakCondition) 
 
   -- the reader failed, or memory was refused and bytes were lost
   pub pieces_failed : (first mid last : Option (List ℕ)) (bytes : List ℕ) (most : ℕ) (after : Waiting) (old new : Scene X C)
-      → length bytes + most ≤ 1048576 → Consumes first mid bytes → WalksOn names plant table limit reads bytes nothing after old new
+      → length bytes + most ≤ 4611686018427387904 → Consumes first mid bytes → WalksOn names plant table limit reads bytes nothing after old new
       → (error : ReplayError) → IsInputFault error → LosesFor error most (mid, last)
       → PiecesOr names plant table limit reads {A = Unit {0}} (first, last) after old new (Err error)
   pieces_failed first mid last bytes most after old new few taken w (Chart error) fault lost = absurd fault
@@ -208,23 +208,37 @@ module _ {X C : Type 0} (names plant : PlantData) (table : List BreakCondition) 
 
   -- no byte came
   pub pieces_ended : (first mid last : Option (List ℕ)) (bytes piece : List ℕ) (before after : Waiting) (old new : Scene X C)
-      → length bytes ≤ 1048576 → Consumes first mid bytes → WalksOn names plant table limit reads bytes nothing before old new
+      → length bytes ≤ 4611686018427387904 → Consumes first mid bytes → WalksOn names plant table limit reads bytes nothing before old new
       → length piece ≡ 0 → Consumes mid last piece → IsAtEnd last
       → after.lines ≡ before.lines ++ piece → after.obeyed ≡ before.obeyed → after.untold ≡ before.untold
-      → (all : List ℕ) × (length all ≤ 1048576) × TakesFor false (first, last) all × WalksOn names plant table limit reads all nothing after old new
+      → (all : List ℕ) × (length all ≤ 4611686018427387904) × TakesFor false (first, last) all × WalksOn names plant table limit reads all nothing after old new
   pieces_ended first mid last bytes piece before after old new few taken w count more end lines obeyed untold =
       let none : piece ≡ [] = none_left piece count in
       let same : bytes ++ piece ≡ bytes = ap (λ (p : List ℕ). bytes ++ p) none ∙ append-nil bytes in
-      let left : after.lines ≡ before.lines = lines ∙ ap (λ (p : List ℕ). before.lines ++ p) none ∙ append-nil before.lines in (
+      let left : after.lines ≡ before.lines = lines ∙ ap (λ (p : List ℕ). before.lines ++ p) none ∙ append-nil before.lines in
+      let all = all_taken 4611686018427387904 first mid last bytes few taken (subst (λ (p : List ℕ). Consumes mid last p) none more) end in (
         bytes,
         few,
-        all_taken 1048576 first mid last bytes few taken (subst (λ (p : List ℕ). Consumes mid last p) none more) end,
+        (inl all.0, all.1),
         record {
           walked = subst (λ (b : List ℕ). Walks names plant table limit reads b nothing after old new) same
               (walks_piece bytes piece nothing before after old new w.walked lines obeyed untold);
           left = ap ended_line left ∙ w.left;
         },
       )
+
+  -- the line that waits is too long
+  pub pieces_long : (first last : Option (List ℕ)) (bytes : List ℕ) (after : Waiting) (old new : Scene X C)
+      → length bytes ≤ 4611686018427387904 → Consumes first last bytes → WalksOn names plant table limit reads bytes nothing after old new
+      → 1048576 < length after.lines
+      → (all : List ℕ) × (length all ≤ 4611686018427387904) × TakesFor false (first, last) all
+      × WalksOn names plant table limit reads all nothing after old new
+  pieces_long first last bytes after old new few taken on long =
+      let w = on.walked in
+      let alone : lines_of after.lines ≡ after.lines ∷ [] = last_alone after.lines (λ none. absurd (omega (arith, none, long))) on.left in
+      let last_one : lines_of bytes ≡ w.lines ++ after.lines ∷ [] =
+      begins_whole bytes after.lines w.lines w.begins ∙ ap (λ (ls : List (List ℕ)). w.lines ++ ls) alone in
+      (bytes, few, (inr (w.lines, after.lines, last_one, long), taken), on)
 
   -- the lines of a piece were obeyed
   pub pieces_more : (bytes piece : List ℕ) (before came after : Waiting) (old mid new : Scene X C)
@@ -252,7 +266,7 @@ module _ {X C : Type 0} (names plant : PlantData) (table : List BreakCondition) 
   -- the reader failed
   pub pieces_read : (first last : Option (List ℕ)) (after : Waiting) (old new : Scene X C) (error : ReplayError) → (error ≡ Memory → ⊥)
       → PiecesOr names plant table limit reads {A = Unit {0}} (first, last) after old new (Err error)
-      → (bytes : List ℕ) × (length bytes ≤ 1048576) × TakesFor true (first, last) bytes
+      → (bytes : List ℕ) × (length bytes ≤ 4611686018427387904) × TakesFor true (first, last) bytes
       × WalksOn names plant table limit reads bytes nothing after old new
   pieces_read first last after old new (Chart e) other pieces = pieces
   pieces_read first last after old new (Script line) other pieces = pieces
@@ -263,17 +277,25 @@ module _ {X C : Type 0} (names plant : PlantData) (table : List BreakCondition) 
   -- ---- the last line
 
   -- there is room for the number of the last line
-  pub last_room : (bytes : List ℕ) (after : Waiting) (old new : Scene X C) → length bytes ≤ 1048576
+  pub last_room : (bytes : List ℕ) (after : Waiting) (old new : Scene X C) → length bytes ≤ 4611686018427387904
       → WalksOn names plant table limit reads bytes nothing after old new → after.obeyed + length after.lines < 18446744073709551616
   last_room bytes after old new few w = omega (arith, w.walked.room, few)
 
   -- what came of all lines
   pub lines_all : (early : Bool) (first last : Option (List ℕ)) (bytes : List ℕ) (after : Waiting) (old mid new : Scene X C)
-      → length bytes ≤ 1048576 → TakesFor early (first, last) bytes → WalksOn names plant table limit reads bytes nothing after old mid
+      → length bytes ≤ 4611686018427387904 → TakesFor early (first, last) bytes → WalksOn names plant table limit reads bytes nothing after old mid
       → (r : Result Bool AllocError)
       → ObeysAllOr names plant table limit reads (after.obeyed + 1) (lines_of after.lines) mid new r
       → ObeysLines names plant table limit reads (first, last) old new
-      (both (record { memory = false; read = early; write = false; mismatch = false; untold = false }) (faults_by after.untold r))
+      (both (record {
+        memory = false;
+        read = early;
+        write = false;
+        mismatch = false;
+        untold = false;
+        faulted = false;
+        ended = false;
+      }) (faults_by after.untold r))
   lines_all early first last bytes after old mid new few taken on (Ok untold) obeyed =
       let w = on.walked in
       let next : after.obeyed + 1 ≡ 1 + length w.lines = omega (arith, w.count) in
@@ -288,6 +310,8 @@ module _ {X C : Type 0} (names plant : PlantData) (table : List BreakCondition) 
             (subst (λ (k : ℕ). ObeysAll names plant table limit reads k (lines_of after.lines) mid new untold) next obeyed)));
         write = refl;
         mismatch = refl;
+        faulted = refl;
+        ended = refl;
       }
   lines_all early first last bytes after old mid new few taken on (Err e) stopped =
       let w = on.walked in
@@ -300,12 +324,14 @@ module _ {X C : Type 0} (names plant : PlantData) (table : List BreakCondition) 
             (subst (λ (u : Bool). ObeysAll names plant table limit reads 1 w.lines old mid u) (sym w.told) w.obeyed) stopped;
         write = refl;
         mismatch = refl;
+        faulted = refl;
+        ended = refl;
       }
 
   -- where memory was refused
-  pub lines_front : (first last : Option (List ℕ)) (bytes : List ℕ) (untold : Bool) (old new : Scene X C) → length bytes ≤ 1048576
+  pub lines_front : (first last : Option (List ℕ)) (bytes : List ℕ) (untold : Bool) (old new : Scene X C) → length bytes ≤ 4611686018427387904
       → TakesFor true (first, last) bytes → ObeysFront names plant table limit reads 1 (lines_of bytes) old new untold
       → ObeysLines names plant table limit reads (first, last) old new
-      (record { memory = true; read = false; write = false; mismatch = false; untold = untold })
+      (record { memory = true; read = false; write = false; mismatch = false; untold = untold; faulted = false; ended = false })
   lines_front first last bytes untold old new few taken front =
-      record { bytes = bytes; few = few; taken = taken; obeyed = front; write = refl; mismatch = refl }
+      record { bytes = bytes; few = few; taken = taken; obeyed = front; write = refl; mismatch = refl; faulted = refl; ended = refl }

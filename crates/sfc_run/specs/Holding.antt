@@ -1,17 +1,19 @@
 -- What a session does with the lines that it reads: each is obeyed, in order, once, and what is wrong with it is told.
-use Rattle.std.specs.Prelude.{ℕ, ◌≡◌, ◌≤◌, ◌+◌, ◌⊎◌, Bool, true, false, ◌||◌, List, [], ◌∷◌, ◌++◌, length, ℤ, Option, Result, Ok, Err}
+use Rattle.std.specs.Prelude.{ℕ, ◌≡◌, ◌≤◌, ◌<◌, ◌+◌, ◌⊎◌, Bool, true, false, ◌||◌, List, [], ◌∷◌, ◌++◌, length, ℤ, Option, Result, Ok, Err, if◌then◌else◌}
 use Rattle.std.specs.Io.KnownBytes.{Appends, Consumes}
 use Rattle.sfc_base.specs.Writing.{AppendsFront}
 use Rattle.sfc_plant.specs.Plants.{PlantData}
 use Rattle.sfc_events.specs.declared.command.Command.{Command}
 use Rattle.sfc_events.specs.declared.command.Command.TheVariants.{End}
+use Rattle.sfc_events.specs.declared.refusal.Refusal.{Refusal}
+use Rattle.sfc_events.specs.declared.refusal.Refusal.TheVariants.{Ended}
 use Rattle.sfc_control.specs.sfc_debug.declared.break_condition.BreakCondition.{BreakCondition}
 use Rattle.sfc_control.specs.declared.call_error.CallError.{CallError}
 use Rattle.sfc_control.specs.declared.call_error.CallError.TheVariants.{Refused, AuditMismatch}
 use Rattle.sfc_control.specs.declared.entry.Entry.{Entry}
 use Rattle.sfc_control.specs.declared.receipt.Receipt.{Receipt}
 use Rattle.sfc_control.specs.Seats.{IsCalled}
-use Rattle.sfc_replay.specs.Reading.{Device, TakesAtMost}
+use Rattle.sfc_replay.specs.Reading.{Device, IsFront}
 use Rattle.sfc_replay.specs.sfc_output.Commands.{refusal_line}
 use Rattle.sfc_replay.specs.sfc_script.Lines.{lines_of}
 use Rattle.sfc_replay.specs.sfc_script.SessionLines.{session_line}
@@ -35,6 +37,20 @@ abbrev pub answer_told : PlantData → Result Receipt CallError → List ℕ
 answer_told names (Ok receipt) = []
 answer_told names (Err error) = error_told names error
 
+abbrev pub is_end : Refusal → Bool
+is_end Ended = true
+is_end _ = false
+
+-- a call is refused since an End was accepted before
+abbrev pub is_ended : CallError → Bool
+is_ended (Refused refusal) = is_end refusal
+is_ended AuditMismatch = false
+
+-- what is told of the End at the end of a session: why it is refused, unless one was accepted before
+abbrev pub end_told : PlantData → Result Receipt CallError → List ℕ
+end_told names (Ok receipt) = []
+end_told names (Err error) = if is_ended error then [] else error_told names error
+
 -- A text was told: all of it; or, where the writer failed, which is passed over, a front of it.
 abbrev pub Tells : Bool → Option (List ℕ) → Option (List ℕ) → List ℕ → Type 0
 Tells false old new text = Appends old new text
@@ -47,9 +63,14 @@ TellsFor true untold old new text = new ≡ old
 
 -- ---- what is taken
 
--- all bytes up to the end were taken from a reader, 1,048,576 at most; or these from its front, where taking ended early
+-- the last line of the bytes is longer than a line may be
+abbrev pub EndsLong : List ℕ → Type 0
+EndsLong bytes = (lines : List (List ℕ)) × (last : List ℕ) × (lines_of bytes ≡ lines ++ last ∷ []) × (1048576 < length last)
+
+-- These bytes were taken from the front of a reader: all up to its end (2^62 at most), or up to a line that is too long; or, where taking
+-- ended early, some.
 abbrev pub TakesFor : Bool → Device → List ℕ → Type 0
-TakesFor false reader bytes = TakesAtMost 1048576 reader bytes
+TakesFor false reader bytes = (IsFront 4611686018427387904 reader.0 bytes ⊎ EndsLong bytes) × Consumes reader.0 reader.1 bytes
 TakesFor true reader bytes = Consumes reader.0 reader.1 bytes
 
 -- ---- lines
@@ -123,16 +144,18 @@ module _ {X C : Type 0} (names plant : PlantData) (table : List BreakCondition) 
   -- ---- whole sessions
 
   -- The lines of the bytes that were taken were obeyed, numbered from 1. `memory` is answered where memory was refused, and then a front of
-  -- them was obeyed; `read` where the reader failed. Where neither is, all bytes were taken.
+  -- them was obeyed; `read` where the reader failed. Where neither is, all bytes were taken, or those up to a line that is too long.
   pub record ObeysLines (reader : Device) (old new : Scene X C) (faults : RunFaults) : Type 0 where
     pub bytes : List ℕ
-    pub few : length bytes ≤ 1048576
+    pub few : length bytes ≤ 4611686018427387904
     pub taken : TakesFor (faults.memory || faults.read) reader bytes
     pub obeyed : ObeysFor faults.memory 1 (lines_of bytes) old new faults.untold
     pub write : faults.write ≡ false
     pub mismatch : faults.mismatch ≡ false
+    pub faulted : faults.faulted ≡ false
+    pub ended : faults.ended ≡ false
 
-  -- End was called once, and told why where it is refused, unless memory was refused for that.
+  -- End was called once, and told why where it is refused, unless one was accepted before, or memory was refused for that.
   pub record EndsBy (old new : Scene X C) (faults : RunFaults) : Type 0 where
     pub raw : ℤ
     pub entries : List Entry
@@ -140,8 +163,9 @@ module _ {X C : Type 0} (names plant : PlantData) (table : List BreakCondition) 
     pub read : reads old.console.clock raw new.console.clock
     pub called : IsCalled plant table limit entries End raw old.console.seat new.console.seat answer
     pub kept : KeepsLast old.console new.console answer
-    pub told : TellsFor faults.memory faults.untold old.errors new.errors (answer_told names answer)
-    pub none_else : (faults.read ≡ false) × (faults.write ≡ false) × (faults.mismatch ≡ false)
+    pub told : TellsFor faults.memory faults.untold old.errors new.errors (end_told names answer)
+    pub none_else : (faults.read ≡ false) × (faults.write ≡ false) × (faults.mismatch ≡ false) × (faults.faulted ≡ false)
+        × (faults.ended ≡ false)
 
   -- A session was held: the lines that came were obeyed, and then End was called. What went wrong is what went wrong in either.
   pub record Holds (reader : Device) (old new : Scene X C) (faults : RunFaults) : Type 0 where

@@ -8,12 +8,24 @@ pub mod RealTime
 pub mod Posting
 -- what a console keeps of a call
 pub mod Consoles
+-- the epochs of a run itself
+pub mod Keeping
 -- what a session tells
 pub mod SessionText
 -- what a session does with the lines that it reads
 pub mod Holding
+-- a debugger that follows a run
+pub mod Following
+-- when overruns are told
+pub mod Overruns
+-- when lost rows are told
+pub mod Losses
+-- what is told beside the lines
+pub mod Alarms
 -- what is printed of the feed
 pub mod Printing
+-- why workers ended
+pub mod WorkerEnds
 -- what the audit at the end finds
 pub mod Auditing
 -- what went wrong in a run

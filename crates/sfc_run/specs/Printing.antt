@@ -1,17 +1,31 @@
--- What is printed of the feed.
-use Rattle.std.specs.Prelude.{ℕ, ◌≡◌, List, [], ◌∷◌, ◌++◌, Option, Result, OnOk}
+-- What is printed of the feed, and what is told beside it.
+use Rattle.std.specs.Prelude.{ℕ, ◌≡◌, Bool, true, false, List, [], ◌∷◌, ◌++◌, Option, Result, Ok, Err, OnOk, if◌then◌else◌}
 use mathlib.Core.List.{IsPrefix}
-use Rattle.sfc_base.specs.Writing.{Writes}
+use Rattle.std.specs.Io.KnownBytes.{Appends}
+use Rattle.sfc_base.specs.Writing.{AppendsFront, Writes}
 use Rattle.sfc_events.specs.declared.command.TraceRow.{TraceRow}
 use Rattle.sfc_control.specs.declared.tail.Tail.{Tail}
 use Rattle.sfc_control.specs.Tails.{taken, coming}
-use Rattle.sfc_replay.specs.sfc_output.Commands.{row_line}
+use Rattle.sfc_control.specs.sfc_debug.Agreement.{Agrees}
+use Rattle.sfc_control.specs.sfc_debug.Histories.{CommandHistory}
 use Rattle.sfc_control.specs.sfc_debug.Steered.{Steered}
+use Rattle.sfc_control.specs.sfc_debug.Tracing.{is_wanted}
+use Rattle.sfc_control.specs.sfc_debug.declared.trace_mask.TraceMask.{TraceMask}
+use Rattle.sfc_replay.specs.sfc_output.Commands.{row_line}
+use Rattle.sfc_run.specs.Alarms.{AreTold}
+use Rattle.sfc_run.specs.Following.{debugger_in, steered_in}
+use Rattle.sfc_run.specs.declared.printing.Printing.{Printing}
+use Rattle.sfc_run.specs.declared.watch.Texts.{Texts}
+use Rattle.sfc_run.specs.declared.watch.Watch.{Watch}
 
--- a line for each row
-abbrev pub rows_text : Steered → List TraceRow → List ℕ
-rows_text steered [] = []
-rows_text steered (row ∷ rows) = row_line steered row ++ rows_text steered rows
+-- the line of a row, where its command is wanted
+abbrev pub line_if : TraceMask → Steered → TraceRow → List ℕ
+line_if wanted steered row = if is_wanted wanted row.command then row_line steered row else []
+
+-- a line for each row whose command is wanted
+abbrev pub rows_text : TraceMask → Steered → List TraceRow → List ℕ
+rows_text wanted steered [] = []
+rows_text wanted steered (row ∷ rows) = line_if wanted steered row ++ rows_text wanted steered rows
 
 -- these rows were taken, in order
 abbrev pub Takes : Tail → Tail → List TraceRow → Type 0
@@ -21,12 +35,50 @@ Takes old new rows = taken new ≡ taken old ++ rows
 abbrev pub Reaches : Tail → Tail → Type 0
 Reaches old new = IsPrefix (taken old ++ coming old) (taken new ++ coming new)
 
--- some rows were taken, and where it succeeded their lines stand behind the text
-abbrev pub Gathers : Steered → Tail → Tail → List ℕ → List ℕ → {X E : Type 0} → Result X E → Type 0
-Gathers steered old new before after result =
-    (rows : List TraceRow) × Takes old new rows × OnOk result (after ≡ before ++ rows_text steered rows)
+-- the plant of the debugger that follows, and its conditions
+abbrev pub steered_of : Watch → Steered
+steered_of watch = steered_in watch.alarms.follower
 
--- some rows were taken, and their lines written: all, or a front of them before a fault
-abbrev pub Prints : Steered → Tail → Tail → Option (List ℕ) → Option (List ℕ) → {X E : Type 0} → Result X E → Type 0
-Prints steered old new before after result =
-    (rows : List TraceRow) × Takes old new rows × Writes before after result (rows_text steered rows)
+-- it is read by the same names, and for the same commands
+abbrev pub ReadsAlike : Watch → Watch → Type 0
+ReadsAlike old new = (new.wanted ≡ old.wanted) × (steered_of new ≡ steered_of old)
+
+-- The alarms of rows stand behind the text.
+abbrev pub Alarms : Watch → Watch → List TraceRow → List ℕ → List ℕ → Type 0
+Alarms old new rows before after =
+    (h : CommandHistory) → Agrees (debugger_in old.alarms.follower) h → (behind : CommandHistory) × (text : List ℕ)
+    × (after ≡ before ++ text) × AreTold old.alarms new.alarms rows h behind text
+
+-- The lines of rows and their alarms stand behind the two texts.
+pub record Puts (old new : Watch) (rows : List TraceRow) (before after : Texts) : Type 0 where
+  pub alike : ReadsAlike old new
+  pub lines : after.lines.items ≡ before.lines.items ++ rows_text old.wanted (steered_of old) rows
+  pub alarms : Alarms old new rows before.alarms.items after.alarms.items
+
+-- some rows were taken, and where it succeeded their lines and alarms stand behind the texts
+abbrev pub Gathers : Watch → Watch → Texts → Texts → {X E : Type 0} → Result X E → Type 0
+Gathers old new before after result =
+    (rows : List TraceRow) × Takes old.tail new.tail rows × OnOk result (Puts old new rows before after)
+
+-- ---- what is written
+
+-- Telling goes on until its writer fails, and then ends: by whether it has failed then, and had before, what was written of a text.
+abbrev pub Passes : Bool → Bool → Option (List ℕ) → Option (List ℕ) → List ℕ → Type 0
+Passes false had before after text = (had ≡ false) × Appends before after text
+Passes true false before after text = AppendsFront before after text
+Passes true true before after text = Appends before after []
+
+module _ {W T : Type 0} (contents_of_lines : W → Option (List ℕ)) (contents_of_alarms : T → Option (List ℕ)) where
+  -- the alarms of rows were passed on, as far as they could be
+  abbrev pub Tells : Printing W T → Printing W T → List TraceRow → Type 0
+  Tells old new rows =
+      (h : CommandHistory) → Agrees (debugger_in old.watch.alarms.follower) h → (behind : CommandHistory) × (text : List ℕ)
+      × AreTold old.watch.alarms new.watch.alarms rows h behind text
+      × Passes new.teller.has_failed old.teller.has_failed (contents_of_alarms old.teller.w) (contents_of_alarms new.teller.w) text
+
+  -- Some rows were taken and their lines written: all, or a front of them before a fault. Where there was none, their alarms were told.
+  abbrev pub Prints : Printing W T → Printing W T → {X E : Type 0} → Result X E → Type 0
+  Prints old new result =
+      (rows : List TraceRow) × Takes old.watch.tail new.watch.tail rows
+      × Writes (contents_of_lines old.w) (contents_of_lines new.w) result (rows_text old.watch.wanted (steered_of old.watch) rows)
+      × OnOk result (ReadsAlike old.watch new.watch × Tells old new rows)

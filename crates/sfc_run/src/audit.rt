@@ -1,11 +1,18 @@
 //! The close of a controller, and its line.
 
-ghost use Rattle.std.specs.Prelude.{◌≡◌, ◌<◌, ◌++◌, [], length, IfOk, OnOk};
+ghost use Rattle.std.specs.Prelude.{◌≡◌, ◌<◌, ◌++◌, [], length, IfOk, OnOk, is_some};
 ghost use Rattle.sfc_base.specs.Writing.{Writes};
+ghost use Rattle.sfc_control.specs.sfc_core.Agreement as core;
+ghost use Rattle.sfc_control.specs.sfc_core.PlantState.{state_of};
+ghost use Rattle.sfc_events.specs.History.{History};
+ghost use Rattle.sfc_run.specs.Auditing as rules;
 ghost use Rattle.sfc_run.specs.Auditing.{Adds, Audits, Gathers, audit_line, is_memory};
 
 use crate::console::Console;
+use crate::keeper::Keeper;
 use crate::printing::PrintFault;
+use crate::sfc_core::resource::Resource;
+use sfc_base::ids::ProgId;
 use sfc_base::write_fault::put_all;
 use sfc_control::clock::Clock;
 use sfc_control::controller::Controller;
@@ -21,7 +28,7 @@ use std::sync::ledger::Ledger;
 /// What all seats of a run leave.
 #[derive(Drop)]
 pub struct Returned<L: Ledger> {
-    /// The seats, the session's first.
+    /// The seats, the session's first, and then that of the run itself.
     pub seats: Vec<Seat<L>>,
     /// The receipts of each, in the same order.
     pub receipts: Vec<Receipt>,
@@ -53,20 +60,32 @@ impl<L: Ledger> Returned<L> {
     }
 }
 
-// What the session leaves.
+// What the session and the run itself leave.
 fn of_session<L: Ledger, C: Clock + Drop>(
     alloc: Global,
     console: Console<L, C>,
+    keeper: Keeper<L, C>,
 ) -> Result<Returned<L>, AllocError>
-    ensures { IfOk result (Gathers console []) }
+    ensures { IfOk result (Gathers console keeper.console []) }
 {
     let Console {
         seat,
         clock: _,
-        receipts,
+        mut receipts,
     } = console;
+    let Keeper {
+        console: own,
+        most: _,
+    } = keeper;
+    let Console {
+        seat: own_seat,
+        clock: _,
+        receipts: own_receipts,
+    } = own;
     let mut seats = Vec::new(alloc);
     seats.push(seat)?;
+    seats.push(own_seat)?;
+    receipts.extend_from_slice(&own_receipts)?;
     Ok(Returned {
         seats,
         receipts,
@@ -74,34 +93,71 @@ fn of_session<L: Ledger, C: Clock + Drop>(
     })
 }
 
-/// What the session and its workers leave: all seats and all receipts, the session's first and each worker's in order. The one error is that memory was refused, and then it is all given up.
+/// What the session, the run itself and its workers leave: all seats and all receipts, in this order and each worker's in theirs. The one
+/// error is that memory was refused, and then it is all given up.
 pub fn gather<L: Ledger, C: Clock + Drop>(
     alloc: Global,
     console: Console<L, C>,
+    keeper: Keeper<L, C>,
     ends: Vec<WorkerEnd<L>>,
 ) -> Result<Returned<L>, AllocError>
-    ensures { IfOk result (Gathers console ends.items) }
+    ensures { IfOk result (Gathers console keeper.console ends.items) }
 {
-    let mut returned = of_session(alloc, console)?;
+    let mut returned = of_session(alloc, console, keeper)?;
     'ends: for end in ends {
         returned.add(end)?;
     }
     Ok(returned)
 }
 
-/// Closes the controller: how many commands were accepted, which all seats have counted together, where history, receipts and seats agree; `None` where they don't. All seats are
-/// handed back. Controller and seats are given up.
+// Whether a scan of the program ended with a fault since its latest reset.
+fn is_faulted(resource: &Resource, program: ProgId) -> bool
+    requires { program.0 < length (core.plant_of resource.now).instances }
+    ensures { (h : History) → core.Agrees resource.now h →
+        result ≡ is_some ((state_of (core.plant_of resource.now) h).instance_state program.0).fault }
+{
+    resource.program(program).fault().is_some()
+}
+
+// Whether a program stands faulted: a scan of it ended with a fault since its latest reset, and each later one is passed over.
+fn has_fault(resource: &Resource) -> bool
+    ensures { (h : History) → core.Agrees resource.now h →
+        result ≡ rules.any_faulted (core.plant_of resource.now) h (length (core.plant_of resource.now).instances) }
+{
+    let mut found = false;
+    for k in 0..resource.plant().instances().len() {
+        let here = is_faulted(resource, ProgId(k as u8));
+        found = found || here;
+    }
+    found
+}
+
+/// What is right at the close of a run.
+#[derive(Clone, Copy, Debug, PartialEq, Eq)]
+pub struct Audited {
+    /// How many commands were accepted.
+    pub accepted: u64,
+    /// Whether a program stood faulted then.
+    pub has_fault: bool,
+}
+
+/// Closes the controller: how many commands were accepted, which all seats have counted together, and whether a program stands faulted
+/// behind them, where history, receipts and seats agree; `None` where they don't. All seats are handed back. Controller and seats are given
+/// up.
 pub fn audit<L: OpenedWith>(
     controller: Controller<L>,
     seats: Vec<Seat<L>>,
     receipts: Vec<Receipt>,
-) -> Option<u64>
+) -> Option<Audited>
     requires some { 0 < length seats.items }
     requires all { length seats.items ≡ L.parts }
-    ensures { Audits seats.items receipts.items result }
+    ensures { Audits L.plant L.table seats.items receipts.items result }
 {
     match controller.close(seats, receipts) {
-        Ok(book) => Some(book.accepted()),
+        Ok(book) => Some(Audited {
+            accepted: book.accepted(),
+            has_fault: has_fault(book.resource()),
+        }),
         Err(_) => None,
     }
 }

@@ -1,18 +1,27 @@
 //! A chart in real time: a thread for each task, the clock and the gate of these workers, a session that obeys lines as they come, the
 //! lines of the feed, and the audit at the end.
 //!
+//! - `alarms`: faults, hits, overruns and lost rows, which are told as they happen, over a debugger that follows the run (`follower`) and
+//!   by what was told of overruns (`overruns`) and of lost rows (`losses`).
 //! - `audit`: the close of a controller, and its line.
 //! - `console`: a seat whose commands a session says, with the receipts of those that were accepted.
+//! - `keeper`: the epochs of a run itself, which keep its history short.
 //! - `pace`: the gate of a worker that scans as long as it may.
-//! - `printing`: the lines of the feed.
+//! - `printing`: the lines of the feed; `watch`: what is read of it; `teller`: where alarms go.
 //! - `real_time`: the clock of a run.
 //! - `run`: a chart from its bytes to the audit; `run_opening`: what it is opened with; `run_threads`: its threads.
 //! - `run_faults`: what went wrong in a run, with its exit status.
-//! - `session`: lines that are obeyed as they come.
+//! - `session`: lines that are obeyed as they come; `streams`: where a run reads and writes.
+//! - `worker_ends`: why workers ended.
 #![tactic(auto)]
 
+pub mod alarms;
 pub mod audit;
 pub mod console;
+pub mod follower;
+mod keeper;
+pub mod losses;
+pub mod overruns;
 pub mod pace;
 pub mod printing;
 pub mod real_time;
@@ -21,7 +30,11 @@ pub mod run_faults;
 mod run_opening;
 mod run_threads;
 pub mod session;
+pub mod streams;
+pub mod teller;
+pub mod watch;
+mod worker_ends;
 
 // What the crates above name through this one.
-pub use sfc_control::sfc_debug;
+pub use sfc_control::{sfc_core, sfc_debug};
 pub use sfc_replay::{sfc_output, sfc_script};

@@ -3,21 +3,32 @@
 ghost use Rattle.std.specs.Prelude.{◌≡◌, ◌<◌, ◌≤◌, ◌+◌, [], IfSome, length};
 ghost use Rattle.sfc_plant.specs.Plants.{PlantData};
 ghost use Rattle.sfc_control.specs.sfc_debug.Agreement.{Agrees, plant_of, table_of, mask_of};
+ghost use Rattle.sfc_run.specs.Following.{debugger_in};
 ghost use Rattle.sfc_run.specs.Running.{IsRunStatus};
 
+use crate::alarms::Alarms;
 use crate::audit::{Returned, audit, gather, put_audit};
 use crate::console::Console;
+use crate::follower::Follower;
+use crate::keeper::Keeper;
+use crate::losses::Losses;
+use crate::overruns::OverrunsTold;
 use crate::printing::{PrintFault, Printing};
 use crate::real_time::RealTime;
 use crate::run_faults::RunFaults;
 use crate::run_opening::{RunDebuggers, open_run, posts_of};
-use crate::run_threads::{Left, Streams, run_threads};
+use crate::run_threads::{Left, Seated, run_threads};
 use crate::session::Desk;
-use crate::sfc_debug::trace_mask::TraceMask;
+use crate::sfc_debug::debugger::Debugger;
+use crate::streams::{Asked, Streams};
+use crate::teller::Teller;
+use crate::watch::Watch;
+use crate::worker_ends::tell_ends;
 use sfc_base::write_fault::put_all;
 use sfc_control::clock::Clock;
 use sfc_control::controller::Controller;
 use sfc_control::opened_with::OpenedWith;
+use sfc_control::tail::Tail;
 use sfc_replay::replay_error::ReplayError;
 use std::alloc::{AllocError, Global};
 use std::io::{Read, Write};
@@ -26,9 +37,6 @@ use std::sync::Wait;
 use std::sync::ledger::Blank;
 use std::thread::Threads;
 use std::time;
-
-/// How many commands may be held.
-const LIMIT: usize = 1_048_576;
 
 /// How many rows the feed has room for.
 const FEED: usize = 65_536;
@@ -65,8 +73,13 @@ fn close<L: OpenedWith, W: Write>(
     };
     match audit(controller, seats, receipts) {
         None => faults.with(RunFaults::of_mismatch()),
-        Some(_) if faults.write => faults,
-        Some(accepted) => faults.with(put_last(alloc, accepted, w)),
+        Some(audited) => {
+            let faults = faults.with(RunFaults::of_faulted(audited.has_fault));
+            if faults.write {
+                return faults;
+            }
+            faults.with(put_last(alloc, audited.accepted, w))
+        }
     }
 }
 
@@ -75,62 +88,109 @@ fn finish<L: OpenedWith, C: Clock + Drop, W: Write + Drop>(
     alloc: Global,
     controller: Controller<L>,
     console: Console<L, C>,
-    left: Left<L, W>,
+    left: Left<L, C, W>,
 ) -> RunFaults
-    requires { IfSome left.ends (λ ends. length ends.items + 1 ≡ L.parts) }
+    requires { IfSome left.ends (λ ends. length ends.items + 2 ≡ L.parts) }
 {
     let Left {
+        keeper,
         ends,
-        printing,
+        w,
         faults,
     } = left;
-    let (Some(ends), Some(printing)) = (ends, printing) else {
+    let (Some(keeper), Some(ends), Some(mut w)) = (keeper, ends, w) else {
         return faults;
     };
-    let Printing { tail: _, mut w } = printing;
-    match gather(alloc, console, ends) {
+    match gather(alloc, console, keeper, ends) {
         Ok(returned) => close(alloc, controller, returned, &mut w, faults),
         Err(_) => faults.with(RunFaults::of_memory()),
     }
 }
 
-// Runs a debugger with a seat for each task and one for the session. The one error is that memory was refused before the threads began.
+// What the thread that prints begins with.
+fn printing_of<W: Write, T: Write>(
+    tail: Tail,
+    follower: Debugger,
+    asked: Asked<W, T>,
+) -> Printing<W, T>
+    ensures tail { result.watch.tail ≡ tail }
+    ensures follower { debugger_in result.watch.alarms.follower ≡ follower }
+    ensures wanted { result.watch.wanted ≡ asked.wanted }
+    ensures writers { (result.w ≡ asked.w) × (result.teller.w ≡ asked.tells) }
+{
+    let Asked {
+        w,
+        tells,
+        wanted,
+        history: _,
+    } = asked;
+    let alarms = Alarms {
+        follower: Follower::new(follower),
+        overruns: OverrunsTold::new(),
+        losses: Losses::none(),
+    };
+    Printing {
+        watch: Watch {
+            tail,
+            wanted,
+            alarms,
+        },
+        w,
+        teller: Teller::new(tells),
+    }
+}
+
+// Runs a debugger with a seat for each task, one for the session, and one for the run itself. The one error is that memory was refused
+// before the threads began.
 fn run_with<
     L: OpenedWith + Send + Sync,
     R: Threads + Wait + time::Clock + Sync,
     S: Read,
     W: Write + Send + Drop,
+    T: Write + Send + Drop,
     E: Write,
 >(
     rt: &R,
     alloc: Global,
     blank: Blank,
     opened: RunDebuggers,
-    w: W,
+    asked: Asked<W, T>,
     streams: &mut Streams<'_, S, E>,
 ) -> Result<RunFaults, AllocError>
     requires name { blank.name ≡ L.name }
     requires parts { blank.parts ≡ L.parts }
-    requires one_each { blank.parts ≡ length (plant_of opened.debugger).tasks + 1 }
+    requires one_each { blank.parts ≡ length (plant_of opened.debugger).tasks + 2 }
     requires plant { plant_of opened.debugger ≡ L.plant }
     requires table { table_of opened.debugger ≡ L.table }
     requires mask { mask_of opened.debugger ≡ L.mask }
-    requires limit { 1048576 ≡ L.limit }
+    requires limit { asked.history ≡ L.limit }
     requires untold { Agrees opened.debugger [] }
 {
-    let RunDebuggers { debugger, names } = opened;
-    let count = debugger.resource().plant().tasks().len() as u8 + 1;
+    let RunDebuggers {
+        debugger,
+        names,
+        follower,
+    } = opened;
+    let count = debugger.resource().plant().tasks().len() as u8 + 2;
+    let limit = asked.history;
     let (controller, seats, tail) = Controller::<L>::open(
-        alloc, blank, debugger, count, LIMIT, FEED,
+        alloc, blank, debugger, count, limit, FEED,
     )?;
     let mut seats = seats;
     let Some(seat) = seats.pop() else {
         unreachable!()
     };
+    let Some(own) = seats.pop() else {
+        unreachable!()
+    };
     let clock = RealTime::start(rt);
+    let keeper = Keeper {
+        console: Console::new(alloc, own, clock.another()),
+        most: limit / 2,
+    };
     let posts = posts_of(rt, alloc, seats, &clock, controller.bells())?;
     let mut console = Console::new(alloc, seat, clock);
-    let printing = Printing { tail, w };
+    let printing = printing_of(tail, follower, asked);
     let left = {
         let desk = Desk {
             rt,
@@ -138,9 +198,22 @@ fn run_with<
             controller: &controller,
             names: &names,
         };
-        run_threads(&desk, posts, &mut console, printing, streams)
+        let seated = Seated {
+            console: &mut console,
+            keeper,
+        };
+        run_threads(&desk, posts, seated, printing, streams)
     };
-    Ok(finish(alloc, controller, console, left))
+    let ended = match &left.ends {
+        Some(ends) => tell_ends(
+            alloc,
+            names.resource().plant(),
+            ends.as_slice(),
+            streams.errors,
+        ),
+        None => RunFaults::none(),
+    };
+    Ok(finish(alloc, controller, console, left).with(ended))
 }
 
 // Tells an error, where a fault of the writer is passed over: the exit status.
@@ -166,43 +239,45 @@ fn tell_faults<E: Write>(alloc: Global, faults: RunFaults, errors: &mut E) -> u8
     faults.status()
 }
 
-/// Runs a chart in real time, its clock from 0: a worker for each task in a thread of its own, a session that obeys the lines of
-/// `commands` as they come, and a thread that writes a line to `w` for each accepted command that the mask wants: its number, and its
-/// line as `replay` writes it, without lines of instances. At the end of `commands` the session sends End. Then history, receipts and
-/// seats are audited, and the last line is `audit ok` and the number of accepted commands; it isn't written after a fault of the
-/// writer, where they don't agree, or where memory was refused before.
+/// Runs a chart in real time, its clock from 0: a worker for each task in a thread of its own, a session that obeys the lines of `commands`
+/// as they come, and a thread that writes a line for each accepted command that is wanted: its number, and its line as `replay` writes it,
+/// without lines of instances. At the end of `commands` the session sends End. Then history, receipts and seats are audited, and the last
+/// line is `audit ok` and the number of accepted commands; it isn't written after a fault of the writer, where they don't agree, or where
+/// memory was refused before.
 ///
-/// What is wrong is told on `errors`, whose faults are passed over: why the chart is refused; a line that is no command, by its
-/// number; why a command is refused; and at the end a line for each fault. At most 1,048,577 bytes are taken from the chart, and
-/// 1,048,576 from `commands`. At most 1,048,576 commands are held, and the feed has room for 65,536 rows; a row that finds it full
-/// isn't written.
+/// Whatever is wanted, alarms are told as they happen: a scan of a program that a fault ended, and one that hit a breakpoint, by all of the
+/// lines that `replay` writes; overruns by the line of their scan, at most once a second for each task; how many commands were lost in the
+/// feed. What else is wrong is told on `errors`: why the chart is refused; a line that is no command, by its number; why a command is
+/// refused; at the end a task whose scans ended before the session did, and why, and a line for each fault of the run. Faults of these
+/// writers are passed over. At most 1,048,577 bytes are taken from the chart. As many commands are held as is asked, at most: where half of
+/// them are, the run itself sends Epoch. The feed has room for 65,536 rows; a row that finds it full isn't written.
 ///
-/// The answer is the exit status: 0; 1 where the chart is refused or the audit fails; 3 where a reader or `w` failed; 4 where memory
-/// or a thread was refused. Of several the first of 4, 3, 1. It waits for the end of `commands`, and for locks and threads.
+/// The answer is the exit status: 0; 1 where the chart is refused, a program stood faulted at the end, scans of a task ended early, or the
+/// audit fails; 3 where a reader or the writer of lines failed; 4 where memory or a thread was refused. Of several the first of 4, 3, 1. It
+/// waits for the end of `commands`, and for locks and threads.
 pub fn run_chart<
     R: Threads + Wait + time::Clock + Sync,
     C: Read,
     S: Read,
     W: Write + Send + Drop,
+    T: Write + Send + Drop,
     E: Write,
->(
-    rt: &R,
-    alloc: Global,
-    chart: &mut C,
-    commands: &mut S,
-    w: W,
-    errors: &mut E,
-    mask: TraceMask,
-) -> u8
+>(rt: &R, alloc: Global, chart: &mut C, asked: Asked<W, T>, streams: &mut Streams<'_, S, E>) -> u8
     ensures { IsRunStatus result }
 {
-    let opened = match open_run(alloc, chart, mask) {
+    let opened = match open_run(alloc, chart) {
         Ok(opened) => opened,
-        Err(error) => return end_with(alloc, error, errors),
+        Err(error) => return end_with(alloc, error, streams.errors),
     };
-    let seats = opened.debugger.resource().plant().tasks().len() as u64 + 1;
-    let mut streams = Streams { commands, errors };
-    let ran = run_with::<Brand, R, S, W, E>(rt, alloc, Blank::new(seats), opened, w, &mut streams);
+    let seats = opened.debugger.resource().plant().tasks().len() as u64 + 2;
+    let ran = run_with::<Brand, R, S, W, T, E>(
+        rt,
+        alloc,
+        Blank::new(seats),
+        opened,
+        asked,
+        streams,
+    );
     let faults = match ran {
         Ok(faults) => faults,
         Err(_) => RunFaults::of_memory(),

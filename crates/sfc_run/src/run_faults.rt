@@ -19,6 +19,10 @@ pub struct RunFaults {
     pub mismatch: bool,
     /// What is wrong with a line of the session couldn't be told. This is passed over: it has no line, and no exit status.
     pub untold: bool,
+    /// A program stood faulted at the end.
+    pub faulted: bool,
+    /// Scans of a task ended before the session did.
+    pub ended: bool,
 }
 
 // The text where it is so.
@@ -31,7 +35,15 @@ fn append_if(out: &mut Vec<u8>, is_so: bool, text: &[u8]) -> Result<(), AllocErr
 impl RunFaults {
     /// Nothing went wrong.
     pub fn none() -> RunFaults
-        ensures { result ≡ record { memory = false; read = false; write = false; mismatch = false; untold = false } }
+        ensures { result ≡ record {
+          memory = false;
+          read = false;
+          write = false;
+          mismatch = false;
+          untold = false;
+          faulted = false;
+          ended = false;
+        } }
     {
         RunFaults {
             memory: false,
@@ -39,12 +51,22 @@ impl RunFaults {
             write: false,
             mismatch: false,
             untold: false,
+            faulted: false,
+            ended: false,
         }
     }
 
     /// Memory was refused.
     pub fn of_memory() -> RunFaults
-        ensures { result ≡ record { memory = true; read = false; write = false; mismatch = false; untold = false } }
+        ensures { result ≡ record {
+          memory = true;
+          read = false;
+          write = false;
+          mismatch = false;
+          untold = false;
+          faulted = false;
+          ended = false;
+        } }
     {
         RunFaults {
             memory: true,
@@ -52,12 +74,22 @@ impl RunFaults {
             write: false,
             mismatch: false,
             untold: false,
+            faulted: false,
+            ended: false,
         }
     }
 
     /// A reader failed.
     pub fn of_read() -> RunFaults
-        ensures { result ≡ record { memory = false; read = true; write = false; mismatch = false; untold = false } }
+        ensures { result ≡ record {
+          memory = false;
+          read = true;
+          write = false;
+          mismatch = false;
+          untold = false;
+          faulted = false;
+          ended = false;
+        } }
     {
         RunFaults {
             memory: false,
@@ -65,12 +97,22 @@ impl RunFaults {
             write: false,
             mismatch: false,
             untold: false,
+            faulted: false,
+            ended: false,
         }
     }
 
     /// A writer failed.
     pub fn of_write() -> RunFaults
-        ensures { result ≡ record { memory = false; read = false; write = true; mismatch = false; untold = false } }
+        ensures { result ≡ record {
+          memory = false;
+          read = false;
+          write = true;
+          mismatch = false;
+          untold = false;
+          faulted = false;
+          ended = false;
+        } }
     {
         RunFaults {
             memory: false,
@@ -78,12 +120,22 @@ impl RunFaults {
             write: true,
             mismatch: false,
             untold: false,
+            faulted: false,
+            ended: false,
         }
     }
 
     /// The audit found a mismatch.
     pub fn of_mismatch() -> RunFaults
-        ensures { result ≡ record { memory = false; read = false; write = false; mismatch = true; untold = false } }
+        ensures { result ≡ record {
+          memory = false;
+          read = false;
+          write = false;
+          mismatch = true;
+          untold = false;
+          faulted = false;
+          ended = false;
+        } }
     {
         RunFaults {
             memory: false,
@@ -91,19 +143,77 @@ impl RunFaults {
             write: false,
             mismatch: true,
             untold: false,
+            faulted: false,
+            ended: false,
         }
     }
 
     /// What is wrong with a line couldn't be told, where that is so.
-    pub fn of_untold(untold: bool) -> RunFaults
-        ensures { result ≡ record { memory = false; read = false; write = false; mismatch = false; untold = untold } }
+    pub fn of_untold(is_so: bool) -> RunFaults
+        ensures { result ≡ record {
+          memory = false;
+          read = false;
+          write = false;
+          mismatch = false;
+          untold = is_so;
+          faulted = false;
+          ended = false;
+        } }
     {
         RunFaults {
             memory: false,
             read: false,
             write: false,
             mismatch: false,
-            untold,
+            untold: is_so,
+            faulted: false,
+            ended: false,
+        }
+    }
+
+    /// A program stood faulted at the end, where that is so.
+    pub fn of_faulted(is_so: bool) -> RunFaults
+        ensures { result ≡ record {
+          memory = false;
+          read = false;
+          write = false;
+          mismatch = false;
+          untold = false;
+          faulted = is_so;
+          ended = false;
+        } }
+    {
+        RunFaults {
+            memory: false,
+            read: false,
+            write: false,
+            mismatch: false,
+            untold: false,
+            faulted: is_so,
+            ended: false,
+        }
+    }
+
+    /// Scans of a task ended early, where that is so.
+    pub fn of_ended(is_so: bool) -> RunFaults
+        ensures { result ≡ record {
+          memory = false;
+          read = false;
+          write = false;
+          mismatch = false;
+          untold = false;
+          faulted = false;
+          ended = is_so;
+        } }
+    {
+        RunFaults {
+            memory: false,
+            read: false,
+            write: false,
+            mismatch: false,
+            untold: false,
+            faulted: false,
+            ended: is_so,
         }
     }
 
@@ -117,10 +227,13 @@ impl RunFaults {
             write: self.write || other.write,
             mismatch: self.mismatch || other.mismatch,
             untold: self.untold || other.untold,
+            faulted: self.faulted || other.faulted,
+            ended: self.ended || other.ended,
         }
     }
 
-    /// The exit status: 4 where memory was refused, or else 3 where a device failed, or else 1 where the audit found a mismatch, or else 0.
+    /// The exit status: 4 where memory was refused, or else 3 where a device failed, or else 1 where the audit found a mismatch, a program
+    /// stood faulted at the end, or scans of a task ended early; or else 0.
     pub fn status(self) -> u8
         ensures { result ≡ faults.status_of self }
     {
@@ -128,7 +241,7 @@ impl RunFaults {
             4
         } else if self.read || self.write {
             3
-        } else if self.mismatch {
+        } else if self.mismatch || self.faulted || self.ended {
             1
         } else {
             0
@@ -143,16 +256,18 @@ impl RunFaults {
         append_if(out, self.read, b"read fault\n")
     }
 
-    // The last two.
+    // The others.
     fn append_back(self, out: &mut Vec<u8>) -> Result<(), AllocError>
         ensures { OnOk result (out.new.items ≡ out.old.items ++ faults.back_text self) }
     {
         append_if(out, self.write, b"write fault\n")?;
-        append_if(out, self.mismatch, b"refused 41 AuditMismatch\n")
+        append_if(out, self.mismatch, b"refused 41 AuditMismatch\n")?;
+        append_if(out, self.faulted, b"a program stood faulted at the end\n")
     }
 
-    /// Puts a line for each at the end: `out of memory`, `read fault`, `write fault`, `refused 41 AuditMismatch`, in this order. The
-    /// one error is that memory was refused; then a front of them may stand there.
+    /// Puts a line for each at the end: `out of memory`, `read fault`, `write fault`, `refused 41 AuditMismatch`, `a program stood faulted
+    /// at the end`, in this order; of scans that ended early each task's end is told elsewhere. The one error is that memory was refused;
+    /// then a front of them may stand there.
     pub fn append_text(self, out: &mut Vec<u8>) -> Result<(), AllocError>
         ensures { OnOk result (out.new.items ≡ out.old.items ++ faults.faults_text self) }
     {

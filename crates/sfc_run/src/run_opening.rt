@@ -3,7 +3,7 @@
 ghost use Rattle.std.specs.Prelude.{◌≡◌, ◌≤◌, [], IfOk, length};
 ghost use Rattle.sfc_control.specs.sfc_debug.Agreement.{Agrees, table_of, mask_of};
 ghost use Rattle.sfc_run.specs.Posting.{ArePostsOf};
-ghost use Rattle.sfc_run.specs.Running.{Opens, OpensFrom};
+ghost use Rattle.sfc_run.specs.Running.{Opens, OpensFrom, every_kind};
 
 use crate::pace::Pace;
 use crate::real_time::RealTime;
@@ -25,39 +25,46 @@ use std::time;
 /// How many rows the debugger of a run keeps.
 const KEPT: usize = 1024;
 
-/// The debugger of a run, and one of the same chart for the names that lines are read and written by, which is told nothing.
+/// The debugger of a run, and two of the same chart beside it.
 #[derive(Drop)]
 pub struct RunDebuggers {
+    /// That of the run. The feed tells all of its commands.
     pub debugger: Debugger,
+    /// One for the names that lines of a session are read by, which is told nothing.
     pub names: Debugger,
+    /// One that follows the run.
+    pub follower: Debugger,
 }
 
-// Both debuggers, each from the same bytes.
-fn both_of_text(alloc: Global, text: &[u8], mask: TraceMask) -> Result<RunDebuggers, ReplayError>
+// All three debuggers, each from the same bytes.
+fn all_of_text(alloc: Global, text: &[u8]) -> Result<RunDebuggers, ReplayError>
     ensures loads { Opens text.now result }
     ensures agrees { IfOk result (λ opened. Agrees opened.debugger []) }
+    ensures follows { IfOk result (λ opened. Agrees opened.follower []) }
     ensures table { IfOk result (λ opened. table_of opened.debugger ≡ []) }
-    ensures mask { IfOk result (λ opened. mask_of opened.debugger ≡ mask) }
+    ensures mask { IfOk result (λ opened. mask_of opened.debugger ≡ every_kind) }
 {
-    let debugger = debugger_of_text(alloc, text, KEPT, mask)?;
+    let debugger = debugger_of_text(alloc, text, KEPT, TraceMask(127))?;
     let names = debugger_of_text(alloc, text, 1, TraceMask(0))?;
-    Ok(RunDebuggers { debugger, names })
+    let follower = debugger_of_text(alloc, text, 1, TraceMask(0))?;
+    Ok(RunDebuggers {
+        debugger,
+        names,
+        follower,
+    })
 }
 
-/// Reads a chart once and loads it twice. At most 1,048,577 bytes are taken from the reader. `Chart` is answered where the chart is
+/// Reads a chart once and loads it three times. At most 1,048,577 bytes are taken from the reader. `Chart` is answered where the chart is
 /// refused, `Read` where the reader failed, `Memory` where memory was refused.
-pub fn open_run<C: Read>(
-    alloc: Global,
-    chart: &mut C,
-    mask: TraceMask,
-) -> Result<RunDebuggers, ReplayError>
+pub fn open_run<C: Read>(alloc: Global, chart: &mut C) -> Result<RunDebuggers, ReplayError>
     ensures agrees { IfOk result (λ opened. Agrees opened.debugger []) }
+    ensures follows { IfOk result (λ opened. Agrees opened.follower []) }
     ensures table { IfOk result (λ opened. table_of opened.debugger ≡ []) }
-    ensures mask { IfOk result (λ opened. mask_of opened.debugger ≡ mask) }
+    ensures mask { IfOk result (λ opened. mask_of opened.debugger ≡ every_kind) }
     ensures loads { IfOk result (λ opened. OpensFrom (C.remaining chart.old, C.remaining chart.new) opened) }
 {
     let text = read_to_end(alloc, chart)?;
-    both_of_text(alloc, &text, mask)
+    all_of_text(alloc, &text)
 }
 
 /// A post for each seat: the task of the same number, which is scanned as often as it may be, by the clock. The one error is that memory

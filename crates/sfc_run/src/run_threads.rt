@@ -4,13 +4,19 @@ ghost use Rattle.std.specs.Prelude.{◌≡◌, IfOk, IfSome, length};
 ghost use Rattle.std.specs.Thread.{IsSync};
 
 use crate::console::Console;
+use crate::keeper::{Keeper, Over};
 use crate::pace::Pace;
 use crate::printing::{PrintFault, Printing, print_rows};
 use crate::real_time::RealTime;
 use crate::run_faults::RunFaults;
 use crate::session::{Desk, hold};
-use crate::sfc_debug::debugger::Debugger;
+use crate::sfc_debug::trace_mask::TraceMask;
+use crate::streams::Streams;
+use crate::teller::Teller;
+use crate::watch::Watch;
 use sfc_control::bells::Bells;
+use sfc_control::clock::Clock;
+use sfc_control::controller::Controller;
 use sfc_control::crews::crew;
 use sfc_control::opened_with::OpenedWith;
 use sfc_control::post::Post;
@@ -22,20 +28,24 @@ use std::sync::ledger::Ledger;
 use std::thread::{Promise, Threads};
 use std::{thread, time};
 
-/// Where the lines of a session come from, and where its faults are told.
+/// The seats of a run that no worker has.
 #[derive(Drop)]
-pub struct Streams<'s, S: Read, E: Write> {
-    pub commands: &'s mut S,
-    pub errors: &'s mut E,
+pub struct Seated<'s, L: Ledger, C: Clock> {
+    /// The session's.
+    pub console: &'s mut Console<L, C>,
+    /// That of the run itself.
+    pub keeper: Keeper<L, C>,
 }
 
 /// What the threads of a run leave.
 #[derive(Drop)]
-pub struct Left<L: Ledger, W: Write> {
+pub struct Left<L: Ledger, C: Clock, W: Write> {
+    /// What kept the history short; `None` where its thread was refused.
+    pub keeper: Option<Keeper<L, C>>,
     /// The workers' ends; `None` where memory or a thread was refused to the crew.
     pub ends: Option<Vec<WorkerEnd<L>>>,
-    /// Where lines were printed, and what is left of the feed; `None` where the thread that prints was refused.
-    pub printing: Option<Printing<W>>,
+    /// Where lines were printed; `None` where the thread that prints was refused.
+    pub w: Option<W>,
     /// What went wrong.
     pub faults: RunFaults,
 }
@@ -57,12 +67,13 @@ fn work<
     'd,
     L: OpenedWith + Send + Sync,
     R: Threads + Wait + time::Clock + Sync,
+    C: Clock,
     S: Read,
     E: Write,
 >(
     desk: &Desk<'d, L, R>,
     posts: Vec<Post<L, Pace<'p, R>, RealTime<'p, R>>>,
-    console: &mut Console<L, RealTime<'a, R>>,
+    console: &mut Console<L, C>,
     streams: &mut Streams<'_, S, E>,
 ) -> (Option<Vec<WorkerEnd<L>>>, RunFaults)
     ensures { IfSome result.0 (λ ends. length ends.items ≡ length posts.entry.items) }
@@ -91,97 +102,248 @@ fn work<
     )
 }
 
-// What the thread that prints looks at: by whose names it prints, and what tells it that rows have come, or that no more come.
-#[derive(Drop)]
-struct Board<'b> {
-    names: &'b Debugger,
-    bells: &'b Bells,
+// What keeping the history short comes to.
+fn kept<L: OpenedWith, R: Wait + time::Clock, C: Clock>(
+    rt: &R,
+    controller: &Controller<L>,
+    keeper: Keeper<L, C>,
+    over: &Over,
+) -> (Keeper<L, C>, RunFaults) {
+    let mut keeper = keeper;
+    let faults = keeper.keep(rt, controller, over);
+    (keeper, faults)
 }
 
-// What printing comes to.
-fn printed<'b, R: Wait, W: Write>(
+// Keeps the history short beside a job, until the job is done: what the job gave, what kept it short, and what that came to. `None` where
+// the thread was refused; then the job was let go.
+fn keep_beside<
+    L: OpenedWith + Send + Sync,
+    R: Threads + Wait + time::Clock + Sync,
+    C: Clock + Send + Drop,
+    D,
+    F: FnOnce() -> D + Drop,
+>(
     rt: &R,
-    alloc: Global,
-    board: Board<'b>,
-    printing: Printing<W>,
-) -> (Printing<W>, RunFaults) {
-    let mut printing = printing;
-    let faults = match print_rows(rt, alloc, board.names, &mut printing, board.bells) {
-        Ok(()) => RunFaults::none(),
-        Err(PrintFault::Write) => RunFaults::of_write(),
-        Err(PrintFault::Memory) => RunFaults::of_memory(),
-    };
-    (printing, faults)
-}
-
-// Prints what the feed has beside a job, until the job is done and no row is left: what the job gave, and what printing came to. `None`
-// where the thread was refused; then the job was let go.
-fn print_beside<'b, R: Threads + Wait + Sync, W: Write + Send + Drop, T, F: FnOnce() -> T + Drop>(
-    rt: &R,
-    alloc: Global,
-    board: Board<'b>,
-    printing: Printing<W>,
+    controller: &Controller<L>,
+    keeper: Keeper<L, C>,
     job: F,
-) -> Option<(T, Printing<W>, RunFaults)>
+) -> Option<(D, Keeper<L, C>, RunFaults)>
     requires { F.pre job }
     ensures { IfSome result (λ done. F.post job done.0) }
 {
-    let bells = board.bells;
+    let flag = Over::new();
+    let over = &flag;
     thread::scope(
         thread::scope_env(),
         rt,
-        |scope| -> Option<(T, Printing<W>, RunFaults)>
+        |scope| -> Option<(D, Keeper<L, C>, RunFaults)>
             requires sync { IsSync R.row }
             requires job { F.pre job }
             ensures { IfSome result (λ done. F.post job done.0) }
         {
-            let Ok(child) = scope.spawn(move || printed(rt, alloc, board, printing)) else {
+            let Ok(child) = scope.spawn(move || kept(rt, controller, keeper, over)) else {
                 return None;
             };
             let done = job();
-            bells.end_rows();
-            let (printing, faults) = child.join(rt);
-            Some((done, printing, faults))
+            over.tell();
+            let (keeper, faults) = child.join(rt);
+            Some((done, keeper, faults))
         },
     )
 }
 
-/// Holds the session beside the workers, and prints what the feed has meanwhile. All threads have ended then.
-pub fn run_threads<
+// What the session and the workers leave, and what kept the history short beside them.
+#[derive(Drop)]
+struct Worked<L: Ledger, C: Clock> {
+    keeper: Option<Keeper<L, C>>,
+    ends: Option<Vec<WorkerEnd<L>>>,
+    faults: RunFaults,
+}
+
+// Holds the session beside the workers, and keeps the history short meanwhile.
+fn keep_and_work<
     'a,
     'p,
     'd,
     L: OpenedWith + Send + Sync,
     R: Threads + Wait + time::Clock + Sync,
+    C: Clock + Send + Drop,
     S: Read,
-    W: Write + Send + Drop,
     E: Write,
 >(
     desk: &Desk<'d, L, R>,
     posts: Vec<Post<L, Pace<'p, R>, RealTime<'p, R>>>,
-    console: &mut Console<L, RealTime<'a, R>>,
-    printing: Printing<W>,
+    console: &mut Console<L, C>,
+    keeper: Keeper<L, C>,
     streams: &mut Streams<'_, S, E>,
-) -> Left<L, W>
+) -> Worked<L, C>
     ensures { IfSome result.ends (λ ends. length ends.items ≡ length posts.entry.items) }
 {
     let job = || -> (Option<Vec<WorkerEnd<L>>>, RunFaults)
         requires { IsSync R.row }
         ensures { IfSome result.0 (λ ends. length ends.items ≡ length posts.entry.items) }
     { work(desk, posts, console, streams) };
+    match keep_beside(desk.rt, desk.controller, keeper, job) {
+        Some(((ends, faults), keeper, keep_faults)) => Worked {
+            keeper: Some(keeper),
+            ends,
+            faults: faults.with(keep_faults),
+        },
+        None => Worked {
+            keeper: None,
+            ends: None,
+            faults: RunFaults::of_memory(),
+        },
+    }
+}
+
+// Where lines and alarms go.
+#[derive(Drop)]
+struct Writers<W: Write, T: Write> {
+    w: W,
+    teller: Teller<T>,
+}
+
+// What the thread that prints stands on.
+#[derive(Drop)]
+struct Board<'b, R: Wait> {
+    rt: &'b R,
+    alloc: Global,
+    bells: &'b Bells,
+}
+
+// What printing comes to. Behind a fault of the writer of lines alarms are told all the same: no command has a line then.
+fn print_all<R: Wait, W: Write, T: Write>(
+    rt: &R,
+    alloc: Global,
+    printing: &mut Printing<W, T>,
+    bells: &Bells,
+) -> RunFaults {
+    let faults = match print_rows(rt, alloc, printing, bells) {
+        Ok(()) => return RunFaults::none(),
+        Err(PrintFault::Memory) => return RunFaults::of_memory(),
+        Err(PrintFault::Write) => RunFaults::of_write(),
+    };
+    printing.watch.wanted = TraceMask(0);
+    match print_rows(rt, alloc, printing, bells) {
+        Err(PrintFault::Memory) => faults.with(RunFaults::of_memory()),
+        Ok(()) | Err(PrintFault::Write) => faults,
+    }
+}
+
+// What printing comes to: the writer of lines is handed back.
+fn printed<R: Wait, W: Write, T: Write + Drop>(
+    rt: &R,
+    alloc: Global,
+    bells: &Bells,
+    held: Option<Watch>,
+    writers: Writers<W, T>,
+) -> (W, RunFaults) {
+    let Writers { w, teller } = writers;
+    let Some(watch) = held else {
+        return (w, RunFaults::none());
+    };
+    let mut printing = Printing { watch, w, teller };
+    let faults = print_all(rt, alloc, &mut printing, bells);
+    let Printing {
+        watch: _,
+        w,
+        teller: _,
+    } = printing;
+    (w, faults)
+}
+
+// Prints what the feed has beside a job, until the job is done and no row is left: what the job gave, the writer of lines, and what
+// printing came to. `None` where the thread was refused; then the job was let go.
+//
+// `held` is an `Option` for the prover's sake: where it is asked whether all of this may go to another thread, it then doesn't look into
+// the debugger that follows, of which that is a lemma.
+fn print_beside<
+    'b,
+    R: Threads + Wait + Sync,
+    W: Write + Send + Drop,
+    T: Write + Send + Drop,
+    D,
+    F: FnOnce() -> D + Drop,
+>(
+    board: Board<'b, R>,
+    held: Option<Watch>,
+    writers: Writers<W, T>,
+    job: F,
+) -> Option<(D, W, RunFaults)>
+    requires { F.pre job }
+    ensures { IfSome result (λ done. F.post job done.0) }
+{
+    let Board { rt, alloc, bells } = board;
+    thread::scope(
+        thread::scope_env(),
+        rt,
+        |scope| -> Option<(D, W, RunFaults)>
+            requires sync { IsSync R.row }
+            requires job { F.pre job }
+            ensures { IfSome result (λ done. F.post job done.0) }
+        {
+            let Ok(child) = scope.spawn(move || printed(rt, alloc, bells, held, writers)) else {
+                return None;
+            };
+            let done = job();
+            bells.end_rows();
+            let (w, faults) = child.join(rt);
+            Some((done, w, faults))
+        },
+    )
+}
+
+/// Holds the session beside the workers, keeps the history short, and prints what the feed has meanwhile. All threads have ended then.
+pub fn run_threads<
+    'a,
+    'p,
+    'd,
+    L: OpenedWith + Send + Sync,
+    R: Threads + Wait + time::Clock + Sync,
+    C: Clock + Send + Drop,
+    S: Read,
+    W: Write + Send + Drop,
+    T: Write + Send + Drop,
+    E: Write,
+>(
+    desk: &Desk<'d, L, R>,
+    posts: Vec<Post<L, Pace<'p, R>, RealTime<'p, R>>>,
+    seated: Seated<'_, L, C>,
+    printing: Printing<W, T>,
+    streams: &mut Streams<'_, S, E>,
+) -> Left<L, C, W>
+    ensures { IfSome result.ends (λ ends. length ends.items ≡ length posts.entry.items) }
+{
+    let Seated { console, keeper } = seated;
+    let job = || -> Worked<L, C>
+        requires { IsSync R.row }
+        ensures { IfSome result.ends (λ ends. length ends.items ≡ length posts.entry.items) }
+    { keep_and_work(desk, posts, console, keeper, streams) };
+    let Printing { watch, w, teller } = printing;
     let board = Board {
-        names: desk.names,
+        rt: desk.rt,
+        alloc: desk.alloc,
         bells: desk.controller.bells(),
     };
-    match print_beside(desk.rt, desk.alloc, board, printing, job) {
-        Some(((ends, faults), printing, print_faults)) => Left {
-            ends,
-            printing: Some(printing),
-            faults: faults.with(print_faults),
-        },
+    match print_beside(board, Some(watch), Writers { w, teller }, job) {
+        Some((worked, w, print_faults)) => {
+            let Worked {
+                keeper,
+                ends,
+                faults,
+            } = worked;
+            Left {
+                keeper,
+                ends,
+                w: Some(w),
+                faults: faults.with(print_faults),
+            }
+        }
         None => Left {
+            keeper: None,
             ends: None,
-            printing: None,
+            w: None,
             faults: RunFaults::of_memory(),
         },
     }

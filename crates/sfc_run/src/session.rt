@@ -1,5 +1,6 @@
 //! Lines that are obeyed as they come.
 
+ghost use Rattle.std.specs.Bool.{OnTrue};
 ghost use Rattle.std.specs.Prelude.{◌≡◌, ◌<◌, ◌≤◌, ◌+◌, ◌-◌, ◌^◌, ◌||◌, ◌++◌, ℕ, None, OnOk, drop, length};
 ghost use Rattle.sfc_control.specs.Seats.{number};
 ghost use Rattle.sfc_control.specs.sfc_debug.Agreement.{plant_of};
@@ -8,10 +9,11 @@ ghost use Rattle.sfc_replay.specs.sfc_script.Arriving.{ended_line};
 ghost use Rattle.sfc_replay.specs.sfc_script.Lines.{lines_of};
 ghost use Rattle.sfc_replay.specs.sfc_script.SessionLines.{session_line};
 ghost use Rattle.sfc_replay.specs.sfc_script.declared.session_line.SessionLine.TheVariants.{Says};
+ghost use Rattle.sfc_run.specs.Holding as holding;
 ghost use Rattle.sfc_run.specs.Holding.{EndsBy, Holds, ObeysLines, Tells, error_told, scene};
 ghost use Rattle.sfc_run.specs.SessionText as text;
 ghost use Rattle.sfc_run.specs.Working.Walking as walking;
-ghost use Rattle.sfc_run.specs.Working.Walking.{ObeysOr, ObeysAllOr, PiecesOr, TellsOr, WalksOr};
+ghost use Rattle.sfc_run.specs.Working.Walking.{ObeysOr, ObeysAllOr, PiecesOr, TellsEnd, TellsOr, WalksOr};
 
 use crate::console::Console;
 use crate::run_faults::RunFaults;
@@ -34,7 +36,10 @@ use std::io::{Read, Write};
 use std::sync::Wait;
 
 /// The most bytes that a session takes.
-pub const MOST: usize = 1_048_576;
+pub const MOST: usize = 4_611_686_018_427_387_904;
+
+/// How many bytes a line may have.
+pub const LINE: usize = 1_048_576;
 
 /// What a session stands on: the controller, and a debugger of the same plant, by whose names lines are read and refusals are told.
 #[derive(Drop)]
@@ -173,6 +178,13 @@ impl Waiting {
         self.obeyed = self.obeyed.saturating_add(1);
         self.untold = self.untold || untold;
     }
+
+    // Whether what waits is longer than a line may be.
+    fn is_long(&self) -> bool
+        ensures { OnTrue result (1048576 < length self.now.lines) }
+    {
+        LINE < self.lines.waiting().len()
+    }
 }
 
 // Obeys each line that has its end. The error is that memory was refused.
@@ -196,8 +208,8 @@ fn obey_lines<'a, L: OpenedWith, R: Wait, C: Clock, E: Write>(
     Ok(())
 }
 
-// Obeys lines as they come, until the reader has no more, has given 1,048,576 bytes, or fails. The error is that it failed, or that memory
-// was refused.
+// Obeys lines as they come, until the reader has no more or fails, or a line is too long. The error is that it failed, or that memory was
+// refused.
 fn obey_pieces<'a, L: OpenedWith, R: Wait, C: Clock, S: Read, E: Write>(
     desk: &Desk<'a, L, R>,
     console: &mut Console<L, C>,
@@ -219,6 +231,9 @@ fn obey_pieces<'a, L: OpenedWith, R: Wait, C: Clock, S: Read, E: Write>(
         }
         taken += count;
         obey_lines(desk, console, waiting, errors)?;
+        if waiting.is_long() {
+            return Ok(());
+        }
     }
     Ok(())
 }
@@ -286,6 +301,28 @@ fn obey_all<'a, L: OpenedWith, R: Wait, C: Clock, S: Read, E: Write>(
     }
 }
 
+// Whether a call is refused since End was accepted before.
+fn is_ended(error: CallError) -> bool
+    ensures { result ≡ holding.is_ended error }
+{
+    matches!(error, CallError::Refused(Refusal::Ended))
+}
+
+// Tells why End is refused; what came of it.
+fn tell_end<E: Write>(
+    alloc: Global,
+    names: &Debugger,
+    error: CallError,
+    errors: &mut E,
+) -> RunFaults
+    ensures { TellsEnd (plant_of names.now) error (E.contents errors.old) (E.contents errors.new) result }
+{
+    if is_ended(error) {
+        return RunFaults::none();
+    }
+    faults_by(false, tell_call(alloc, names, error, errors))
+}
+
 // Sends End.
 fn end<'a, L: OpenedWith, R: Wait, C: Clock, E: Write>(
     desk: &Desk<'a, L, R>,
@@ -298,19 +335,16 @@ fn end<'a, L: OpenedWith, R: Wait, C: Clock, E: Write>(
 {
     match console.end(desk.rt, desk.controller) {
         Ok(()) => RunFaults::none(),
-        Err(error) => {
-            let told = tell_call(desk.alloc, desk.names, error, errors);
-            faults_by(false, told)
-        }
+        Err(error) => tell_end(desk.alloc, desk.names, error, errors),
     }
 }
 
 /// Holds a session: reads lines as they come and obeys each, once and in order, and sends End when they end. What it finds wrong is told on
-/// `errors`: a line that is no command by its number, counted from 1, and a refused command as its refusal; faults of `errors` are passed
-/// over, and answered as `untold`.
+/// `errors`: a line that is no command by its number, counted from 1, and a refused command as its refusal, but for that End where one was
+/// accepted before; faults of `errors` are passed over, and answered as `untold`.
 ///
-/// At most 1,048,576 bytes are taken from the reader, and then the session acts as at the end; so it does where the reader fails, which is
-/// told as `read`, and where memory is refused, which is told as `memory`. A last line without its end is obeyed too.
+/// Where a line has more than 1,048,576 bytes the session acts as at the end; so it does where the reader fails, which is told as `read`,
+/// and where memory is refused, which is told as `memory`. A last line without its end is obeyed too.
 pub fn hold<'a, L: OpenedWith, R: Wait, C: Clock, S: Read, E: Write>(
     desk: &Desk<'a, L, R>,
     console: &mut Console<L, C>,

@@ -1,12 +1,14 @@
 //! The command line.
 
 use crate::files::end_with;
+use crate::lasting::Lasting;
 use crate::sfc_debug::trace_mask::TraceMask;
 use crate::sfc_replay::replay_error::ReplayError;
 use clap::builder::ValueParser;
 use clap::error::ErrorKind;
 use clap::{Arg, ArgAction, ArgMatches, Command, Error};
 use sfc_pictures::wave::Instants;
+use sfc_tokens::duration::duration;
 use std::alloc::{AllocError, Global};
 
 /// A script to be played on a chart.
@@ -36,6 +38,10 @@ pub struct Running {
     pub chart: String,
     /// Which commands have lines.
     pub mask: TraceMask,
+    /// How many commands may be held.
+    pub history: usize,
+    /// How long it lasts.
+    pub lasting: Lasting,
 }
 
 /// A chart to be drawn.
@@ -119,9 +125,11 @@ docs/LANGUAGE.md describes the text of charts, docs/FORMATS.md scripts and outpu
 // What stands at the end of the help on `run`.
 const RUN_NOTES: &str = "\
 A session comes from standard input, a command a line as in a script, but without instants: SCAN, INPUT, FORCE, RELEASE, RESET, READ, BREAK,
-UNBREAK, STOP, GO, SINGLE, END, EPOCH. At the end of input, at a terminal Ctrl-D, it sends END. Each accepted command has a line on standard
-output: its number, and its line as 'replay' prints it. The last line is 'audit ok' and how many commands were accepted. Why a command is
-refused, and 'script line N' for a line that is no command, stands on standard error.
+UNBREAK, STOP, GO, SINGLE, END, EPOCH. At the end of input, at a terminal Ctrl-D, it sends END; with --for it does so when that time has
+passed, with --forever not until a line END comes, or a signal ends the process. Each accepted command has a line on standard
+output: its number, and its line as 'replay' prints it. The last line is 'audit ok' and how many commands were accepted. On standard error
+stands why a command is refused, 'script line N' for a line that is no command, and, whatever --trace picks, each scan of a program that
+ended with a fault or hit a breakpoint, as 'replay' prints it, and overruns.
 
 A session that starts a pump, halts it, reads, forces, lets go and ends, and what is printed of it, beside the lines of scans:
   ; start it                   7 T#1s_100ms INPUT Start TRUE
@@ -144,7 +152,7 @@ Which commands have lines, for --trace:
 
 Exit status:
   0  the run has ended, and its audit is right
-  1  the chart is refused, or the audit found a mismatch
+  1  the chart is refused, a program stood faulted at the end, scans of a task ended early, or the audit found a mismatch
   2  the words of the command line are wrong
   3  the file or standard input can't be read, or standard output can't be written
   4  memory or a thread was refused
@@ -152,8 +160,9 @@ Exit status:
 Examples:
   sfcmon run examples/pump.chart
   sfcmon run --trace 126 examples/pump.chart
+  sfcmon run --for T#8h --trace 0 examples/pump.chart </dev/null
 
-docs/FORMATS.md says what each line is.";
+docs/FORMATS.md says what each line is, docs/RUNNING.md how a machine is run.";
 
 // What stands at the end of the help on `debug`.
 const DEBUG_NOTES: &str = "\
@@ -364,6 +373,34 @@ fn trace_argument<'a>(alloc: Global) -> Arg<'a> {
         .help("Which commands have lines: a sum of the numbers below, 0 to 127")
 }
 
+// The argument that says how many commands may be held.
+fn history_argument<'a>(alloc: Global) -> Arg<'a> {
+    Arg::new(alloc, "history")
+        .long("history")
+        .value_name("N")
+        .value_parser(ValueParser::Unsigned(65_536, 1_048_576))
+        .default_value("1048576")
+        .help(
+            "How many commands may be held, 65536 to 1048576; at half of them the run sends EPOCH",
+        )
+}
+
+// The argument that says how long a run lasts.
+fn for_argument<'a>(alloc: Global) -> Arg<'a> {
+    Arg::new(alloc, "for").long("for").value_name("TIME").help(
+        "Ends so long after the start, such as T#8h, by END; the end of input ends nothing",
+    )
+}
+
+// The argument by which a run lasts until a signal ends it.
+fn forever_argument<'a>(alloc: Global) -> Result<Arg<'a>, AllocError> {
+    Arg::new(alloc, "forever")
+        .long("forever")
+        .action(ArgAction::SetTrue)
+        .help("Goes on until a signal ends the process; the end of input ends nothing")
+        .conflicts_with("for")
+}
+
 fn run_command<'a>(alloc: Global) -> Result<Command<'a>, AllocError> {
     Command::new(alloc, "run")
         .about(
@@ -371,6 +408,9 @@ fn run_command<'a>(alloc: Global) -> Result<Command<'a>, AllocError> {
         )
         .after_help(RUN_NOTES)
         .arg(trace_argument(alloc))?
+        .arg(history_argument(alloc))?
+        .arg(for_argument(alloc))?
+        .arg(forever_argument(alloc)?)?
         .arg(chart_argument(alloc))
 }
 
@@ -593,16 +633,42 @@ fn why_request(alloc: Global, matches: &ArgMatches) -> Result<Request, AllocErro
     Ok(Request::Why(Asking { chart, script }))
 }
 
+// That the words are wrong, in clap's form.
+fn invalid(alloc: Global, text: &str) -> Result<Error, AllocError> {
+    let mut command = sfcmon_command(alloc)?;
+    command.error(ErrorKind::InvalidValue, text)
+}
+
+// How long a run lasts; `None` where its time is none.
+fn lasting_of(matches: &ArgMatches) -> Option<Lasting> {
+    if matches.get_flag("forever") {
+        return Some(Lasting::Forever);
+    }
+    let Some(time) = matches.get_str("for") else {
+        return Some(Lasting::Input);
+    };
+    match duration(time.as_bytes()) {
+        Some(micros) if 0 < micros => Some(Lasting::For(micros.unsigned_abs())),
+        _ => None,
+    }
+}
+
 // A chart to be run, where one is named.
-fn run_request(alloc: Global, matches: &ArgMatches) -> Result<Request, AllocError> {
-    match (matches.get_str("FILE"), matches.get_one::<u8>("trace")) {
-        (Some(chart), Some(mask)) => {
-            let chart = String::from_str(alloc, chart)?;
-            Ok(Request::Run(Running {
-                chart,
-                mask: TraceMask(mask),
-            }))
-        }
+fn run_request(alloc: Global, matches: &ArgMatches) -> Result<Request, Error> {
+    let Some(lasting) = lasting_of(matches) else {
+        return Err(invalid(alloc, "--for wants a time above zero, such as T#8h")?);
+    };
+    match (
+        matches.get_str("FILE"),
+        matches.get_one::<u8>("trace"),
+        matches.get_one::<usize>("history"),
+    ) {
+        (Some(chart), Some(mask), Some(history)) => Ok(Request::Run(Running {
+            chart: String::from_str(alloc, chart)?,
+            mask: TraceMask(mask),
+            history,
+            lasting,
+        })),
         _ => Ok(Request::Answered(2)),
     }
 }
@@ -694,36 +760,36 @@ fn cover_request(alloc: Global, matches: &ArgMatches) -> Result<Request, AllocEr
 }
 
 // What the words that matched ask for.
-fn request_of(alloc: Global, matches: &ArgMatches) -> Result<Request, AllocError> {
+fn request_of(alloc: Global, matches: &ArgMatches) -> Result<Request, Error> {
     if let Some(check) = matches.subcommand_matches("check") {
-        return check_request(alloc, check);
+        return Ok(check_request(alloc, check)?);
     }
     if let Some(list) = matches.subcommand_matches("list") {
-        return list_request(alloc, list);
+        return Ok(list_request(alloc, list)?);
     }
     if let Some(why) = matches.subcommand_matches("why") {
-        return why_request(alloc, why);
+        return Ok(why_request(alloc, why)?);
     }
     if let Some(replay) = matches.subcommand_matches("replay") {
-        return replay_request(alloc, replay);
+        return Ok(replay_request(alloc, replay)?);
     }
     if let Some(run) = matches.subcommand_matches("run") {
         return run_request(alloc, run);
     }
     if let Some(debug) = matches.subcommand_matches("debug") {
-        return debug_request(alloc, debug);
+        return Ok(debug_request(alloc, debug)?);
     }
     if let Some(draw) = matches.subcommand_matches("draw") {
-        return draw_request(alloc, draw);
+        return Ok(draw_request(alloc, draw)?);
     }
     if let Some(wave) = matches.subcommand_matches("wave") {
-        return wave_request(alloc, wave);
+        return Ok(wave_request(alloc, wave)?);
     }
     if let Some(cover) = matches.subcommand_matches("cover") {
-        return cover_request(alloc, cover);
+        return Ok(cover_request(alloc, cover)?);
     }
     if let Some(explain) = matches.subcommand_matches("explain") {
-        return explain_request(alloc, explain.get_strs("NAME"));
+        return Ok(explain_request(alloc, explain.get_strs("NAME"))?);
     }
     Ok(Request::Answered(2))
 }
@@ -731,7 +797,7 @@ fn request_of(alloc: Global, matches: &ArgMatches) -> Result<Request, AllocError
 fn parsed(alloc: Global, words: &[String]) -> Result<Request, Error> {
     let command = sfcmon_command(alloc)?;
     let matches = command.try_get_matches_from(words)?;
-    Ok(request_of(alloc, &matches)?)
+    request_of(alloc, &matches)
 }
 
 // Prints what clap has to say; the exit status.
@@ -746,17 +812,12 @@ fn answer<R: Print + Eprint>(rt: &R, error: &Error) -> u8 {
     }
 }
 
-fn invalid_words(alloc: Global) -> Result<Error, AllocError> {
-    let mut command = sfcmon_command(alloc)?;
-    command.error(
-        ErrorKind::InvalidValue,
-        "invalid UTF-8 was detected in one or more arguments",
-    )
-}
-
 /// Tells that a word of the command line isn't UTF-8, in clap's form: the exit status.
 pub fn refuse_words<R: Print + Eprint + AllocGlobal>(rt: &R) -> u8 {
-    match invalid_words(rt.alloc()) {
+    match invalid(
+        rt.alloc(),
+        "invalid UTF-8 was detected in one or more arguments",
+    ) {
         Ok(error) => answer(rt, &error),
         Err(_) => end_with(rt, ReplayError::Memory),
     }

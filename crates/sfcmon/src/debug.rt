@@ -46,6 +46,7 @@ pub fn debug_file<R: Eprint + Files + AllocGlobal>(rt: &R, streams: Streams, cha
     let Streams {
         mut input,
         output,
+        alarms: _,
         errors: _,
     } = streams;
     let desk = Desk {

@@ -1,10 +1,12 @@
 //! Files, standard output and exit status.
 
-use crate::sfc_debug::trace_mask::TraceMask;
+use crate::arguments::Running;
+use crate::lasting::{Lasting, LastingInput};
 use crate::sfc_replay::check::{check_chart, list_chart};
 use crate::sfc_replay::replay::{replay, replay_strict};
 use crate::sfc_replay::replay_error::ReplayError;
 use sfc_run::run::run_chart;
+use sfc_run::streams::{Asked, Streams as RunStreams};
 use std::alloc::Global;
 use std::io::{Read, Stderr, Stdin, Stdout, Write};
 use std::rt::Files;
@@ -87,29 +89,67 @@ pub fn replay_files<R: Print + Eprint + Files + AllocGlobal>(
 pub struct Streams {
     pub input: Stdin,
     pub output: Stdout,
+    /// Standard error, for what is told as it happens.
+    pub alarms: Stderr,
+    /// Standard error, for all else.
     pub errors: Stderr,
 }
 
-/// Runs the chart of a file in real time, with a session on standard input: the exit status. A file that can't be opened is a read fault.
-pub fn run_file<R>(rt: &R, streams: Streams, chart: &str, mask: TraceMask) -> u8
+// Runs a chart whose session comes from this input: the exit status.
+fn run_beside<R, C, S>(
+    rt: &R,
+    chart: &mut C,
+    input: &mut S,
+    asked: Asked<Stdout, Stderr>,
+    errors: &mut Stderr,
+) -> u8
 where
-    R: Threads + Wait + time::Clock + Sync + Eprint + Files + AllocGlobal,
+    R: Threads + Wait + time::Clock + Sync + AllocGlobal,
+    C: Read,
+    S: Read,
 {
-    let Ok(mut chart) = fs::open(rt, chart) else {
+    let mut session = RunStreams {
+        commands: input,
+        errors,
+    };
+    run_chart(rt, rt.alloc(), chart, asked, &mut session)
+}
+
+/// Runs the chart of a file in real time, with a session on standard input: the exit status. A file that can't be opened is a read fault.
+pub fn run_file<R>(rt: &R, streams: Streams, running: &Running) -> u8
+where
+    R: Threads
+        + Wait
+        + time::Clock
+        + Sync
+        + Eprint
+        + Files
+        + AllocGlobal
+        + Copy
+        + Drop
+        + Send
+        + 'static,
+{
+    let Ok(mut chart) = fs::open(rt, running.chart.as_str()) else {
         return end_with(rt, ReplayError::Read);
     };
     let Streams {
         mut input,
         output,
+        alarms,
         mut errors,
     } = streams;
-    run_chart(
-        rt,
-        rt.alloc(),
-        &mut chart,
-        &mut input,
-        output,
-        &mut errors,
-        mask,
-    )
+    let asked = Asked {
+        w: output,
+        tells: alarms,
+        wanted: running.mask,
+        history: running.history,
+    };
+    if running.lasting == Lasting::Input {
+        return run_beside(rt, &mut chart, &mut input, asked, &mut errors);
+    }
+    match LastingInput::open(rt, rt.alloc(), input, running.lasting) {
+        Ok(mut input) => run_beside(rt, &mut chart, &mut input, asked, &mut errors),
+        Err(error) => end_with(rt, error),
+    }
 }

@@ -6,6 +6,7 @@
 //! - `debug`: a chart that is stepped by hand.
 //! - `explain`: what refusals and faults mean.
 //! - `files`: charts and scripts in files, standard output and exit status.
+//! - `lasting`: input of a run that lasts longer, or shorter, than its input.
 //! - `pictures`: charts and runs as pictures.
 //! - `why`: where the first fault of a chart or a script is.
 #![tactic(auto)]
@@ -15,6 +16,7 @@ mod cover;
 mod debug;
 mod explain;
 mod files;
+mod lasting;
 mod pictures;
 mod why;
 
@@ -58,14 +60,25 @@ fn explain_fault<R: Print + Eprint + Files + AllocGlobal>(rt: &R, asking: &Askin
 // Does what is asked for: the exit status.
 fn serve<R>(rt: &R, streams: Streams, request: &Request) -> u8
 where
-    R: Threads + Wait + time::Clock + Sync + Print + Eprint + Files + AllocGlobal,
+    R: Threads
+        + Wait
+        + time::Clock
+        + Sync
+        + Print
+        + Eprint
+        + Files
+        + AllocGlobal
+        + Copy
+        + Drop
+        + Send
+        + 'static,
 {
     match request {
         Request::Check { chart } => files::check_file(rt, chart.as_str()),
         Request::List { chart } => files::list_file(rt, chart.as_str()),
         Request::Why(asking) => explain_fault(rt, asking),
         Request::Replay(playing) => replay(rt, playing),
-        Request::Run(running) => files::run_file(rt, streams, running.chart.as_str(), running.mask),
+        Request::Run(running) => files::run_file(rt, streams, running),
         Request::Debug { chart } => debug::debug_file(rt, streams, chart.as_str()),
         Request::Draw(drawing) => pictures::draw_file(rt, drawing),
         Request::Wave(waving) => pictures::wave_files(rt, waving),
@@ -92,6 +105,7 @@ fn main(rt: HostRuntime) -> ExitCode {
     let streams = Streams {
         input: rt.stdin(),
         output: rt.stdout(),
+        alarms: rt.stderr(),
         errors: rt.stderr(),
     };
     ExitCode::from(serve(&rt, streams, &request))

@@ -12,7 +12,8 @@ use Rattle.sfc_replay.specs.sfc_script.SessionLines.{session_line}
 use Rattle.sfc_replay.specs.sfc_script.declared.session_line.SessionLine.{SessionLine}
 use Rattle.sfc_run.specs.declared.run_faults.RunFaults.{RunFaults}
 use Rattle.sfc_run.specs.declared.session.Waiting.{Waiting}
-use Rattle.sfc_run.specs.Holding.{Scene, Tells, Obeys, ObeysAll, ObeysFront, Stops, StopsAt, TakesFor}
+use Rattle.sfc_control.specs.declared.call_error.CallError.{CallError}
+use Rattle.sfc_run.specs.Holding.{Scene, Tells, TellsFor, Obeys, ObeysAll, ObeysFront, Stops, StopsAt, TakesFor, end_told}
 
 -- Bytes begin with these lines, each with its end. The other lines are those of the rest, whatever comes behind them.
 abbrev pub Begins : List ℕ → List (List ℕ) → List ℕ → Type 0
@@ -29,8 +30,30 @@ TellsOr old new text (Err error) = new ≡ old
 
 -- what came of telling: whether the writer failed before, or now
 abbrev pub faults_by : Bool → Result Bool AllocError → RunFaults
-faults_by before (Ok untold) = record { memory = false; read = false; write = false; mismatch = false; untold = before || untold }
-faults_by before (Err error) = record { memory = true; read = false; write = false; mismatch = false; untold = before }
+faults_by before (Ok untold) = record {
+  memory = false;
+  read = false;
+  write = false;
+  mismatch = false;
+  untold = before || untold;
+  faulted = false;
+  ended = false;
+}
+faults_by before (Err error) = record {
+  memory = true;
+  read = false;
+  write = false;
+  mismatch = false;
+  untold = before;
+  faulted = false;
+  ended = false;
+}
+
+-- what came of telling why the End at the end of a session is refused
+pub record TellsEnd (names : PlantData) (error : CallError) (before after : Option (List ℕ)) (faults : RunFaults) : Type 0 where
+  pub told : TellsFor faults.memory faults.untold before after (end_told names (Err error))
+  pub none_else : (faults.read ≡ false) × (faults.write ≡ false) × (faults.mismatch ≡ false) × (faults.faulted ≡ false)
+      × (faults.ended ≡ false)
 
 module _ {X C : Type 0} (names plant : PlantData) (table : List BreakCondition) (limit : ℕ) (reads : C → ℤ → C → Type 0) where
   -- a line was obeyed, or memory was refused at it
@@ -74,9 +97,9 @@ module _ {X C : Type 0} (names plant : PlantData) (table : List BreakCondition) 
   -- what came of the bytes of a reader: all lines that have their ends were obeyed, where memory was not refused
   abbrev pub PiecesOr : {A : Type 0} → Device → Waiting → Scene X C → Scene X C → Result A ReplayError → Type 0
   PiecesOr reader after old new (Ok done) =
-      (bytes : List ℕ) × (length bytes ≤ 1048576) × TakesFor false reader bytes × WalksOn bytes nothing after old new
+      (bytes : List ℕ) × (length bytes ≤ 4611686018427387904) × TakesFor false reader bytes × WalksOn bytes nothing after old new
   PiecesOr reader after old new (Err Memory) =
-      (bytes : List ℕ) × (length bytes ≤ 1048576) × TakesFor true reader bytes
+      (bytes : List ℕ) × (length bytes ≤ 4611686018427387904) × TakesFor true reader bytes
       × ObeysFront names plant table limit reads 1 (lines_of bytes) old new after.untold
   PiecesOr reader after old new (Err error) =
-      (bytes : List ℕ) × (length bytes ≤ 1048576) × TakesFor true reader bytes × WalksOn bytes nothing after old new
+      (bytes : List ℕ) × (length bytes ≤ 4611686018427387904) × TakesFor true reader bytes × WalksOn bytes nothing after old new

@@ -55,7 +55,15 @@ returns g c =
     let new = scene c.obey_last-last.new.console (g.E.Write.contents c.obey_last-last.new.errors) in
     let came = pieces_read names g.L.OpenedWith.plant g.L.OpenedWith.table g.L.OpenedWith.limit g.C.Clock.reads first last
     c.obey_pieces.new.waiting old mid c.in-Err.error c.in_default.not-Memory c.in-Err.ensures.obeyed in
-    let read : RunFaults = record { memory = false; read = true; write = false; mismatch = false; untold = false } in
+    let read : RunFaults = record {
+      memory = false;
+      read = true;
+      write = false;
+      mismatch = false;
+      untold = false;
+      faulted = false;
+      ended = false;
+    } in
     record {
       number = c.obey_last-last.ensures.number ∙ c.obey_pieces.ensures.number;
       obeyed = subst (λ (f : RunFaults). ObeysLines names g.L.OpenedWith.plant g.L.OpenedWith.table g.L.OpenedWith.limit g.C.Clock.reads

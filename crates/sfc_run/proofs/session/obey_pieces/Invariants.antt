@@ -8,7 +8,7 @@ use Rattle.sfc_run.proofs.session.obey_pieces.Given as goal
 abbrev pub invariant-pieces : goal.invariant-pieces
 invariant-pieces g l = record {
   seat : l.console.seat.number ≡ l.initial.console.seat.number;
-  few : l.taken ≤ 1048576;
+  few : l.taken ≤ 4611686018427387904;
   walked : (bytes : List ℕ) × (length bytes ≡ l.taken)
       × Consumes (g.S.Read.remaining l.initial.commands) (g.S.Read.remaining l.commands) bytes
       × WalksOn (plant_of l.desk.names.now) g.L.OpenedWith.plant g.L.OpenedWith.table g.L.OpenedWith.limit g.C.Clock.reads bytes nothing
@@ -16,4 +16,4 @@ invariant-pieces g l = record {
 }
 
 abbrev pub decreases-pieces : goal.decreases-pieces
-decreases-pieces g l = 1048576 - l.taken
+decreases-pieces g l = 4611686018427387904 - l.taken

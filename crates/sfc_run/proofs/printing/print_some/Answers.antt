@@ -1,0 +1,43 @@
+use Rattle.std.proofs.Common.{◌≡◌, ◌∙◌, [], ◌++◌, List, ℕ, refl, sym, ap, subst}
+use Rattle.std.proofs.lemmas.Result.{err_from_is_err_and}
+use Rattle.std.specs.Io.KnownBytes.{Appends}
+use Rattle.std.proofs.KnownBytes.{Appends-nil}
+use Rattle.sfc_run.specs.Printing.{Passes, rows_text, steered_of}
+use Rattle.sfc_run.proofs.printing.print_some.Goals as goal
+
+pub returns-in_err-some-clause-lines : goal.returns-in_err-some-clause-lines
+returns-in_err-some-clause-lines g c =
+    let was = c.in_err-some.ensures.rows in
+    let p = err_from_is_err_and c.from_residual.result c.from_residual.ensures.1 in
+    let watch = c.args.printing.now.watch in (
+      was.0,
+      was.1,
+      rw p.1 ([], rows_text watch.wanted (steered_of watch) was.0, refl, Appends-nil (g.W.Write.contents c.args.printing.now.w)),
+      rw p.1 tt,
+    )
+
+pub returns-clause-lines : goal.returns-clause-lines
+returns-clause-lines g c =
+    let was = c.in_ok-some.ensures.rows in
+    let watch = c.args.printing.now.watch in
+    let text = rows_text watch.wanted (steered_of watch) was.0 in
+    let lines : c.deref-2.result.now ≡ text =
+    c.deref-2.ensures.value ∙ was.2.lines ∙ ap (λ (t : List ℕ). t ++ text) c.new.ensures.items in (
+      was.0,
+      was.1,
+      subst (λ (t : List ℕ). Appends (g.W.Write.contents c.args.printing.now.w) (g.W.Write.contents c.put_all.new.writer) t) lines
+          c.in_ok-put_all.ensures,
+      (
+        was.2.alike,
+        λ h agrees.
+            let a = was.2.alarms h agrees in
+            let told : c.deref.result.now ≡ a.1 =
+            c.deref.ensures.value ∙ a.2 ∙ ap (λ (t : List ℕ). t ++ a.1) c.new-2.ensures.items in (
+              a.0,
+              a.1,
+              a.3,
+              subst (λ (t : List ℕ). Passes c.tell.new.self.has_failed c.args.printing.now.teller.has_failed
+                  (g.T.Write.contents c.args.printing.now.teller.w) (g.T.Write.contents c.tell.new.self.w) t) told c.tell.ensures,
+            ),
+      ),
+    )

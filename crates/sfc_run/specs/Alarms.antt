@@ -1,0 +1,94 @@
+-- What a run tells beside its lines (our choice of format).
+use Rattle.std.specs.Prelude.{ℕ, zero, suc, length, ◌≡◌, ◌-◌, ◌+◌, ◌==◌, Bool, true, false, not, ◌||◌, if◌then◌else◌, List, [], ◌∷◌, ◌++◌, Ok, codes}
+use Rattle.std.specs.Fmt.{decimal}
+use Rattle.sfc_events.specs.declared.command.Answer.{Answer}
+use Rattle.sfc_events.specs.declared.command.Answer.TheVariants.{Scanned}
+use Rattle.sfc_events.specs.declared.command.Command.{Command}
+use Rattle.sfc_events.specs.declared.command.Command.TheVariants.{End}
+use Rattle.sfc_events.specs.declared.command.TraceRow.{TraceRow}
+use Rattle.sfc_events.specs.InstanceSets.{has}
+use Rattle.sfc_events.specs.declared.instance_set.InstanceSet.{InstanceSet}
+use Rattle.sfc_plant.specs.Names.{instance_name}
+use Rattle.sfc_plant.specs.Plants.{PlantData}
+use Rattle.sfc_control.specs.sfc_debug.Histories.{CommandHistory}
+use Rattle.sfc_control.specs.sfc_debug.States.{DebugState}
+use Rattle.sfc_control.specs.sfc_debug.Steered.{Steered}
+use Rattle.sfc_replay.specs.sfc_output.Commands.{lines_at, row_line}
+use Rattle.sfc_replay.specs.sfc_output.Output as output
+use Rattle.sfc_run.specs.declared.alarms.Alarms.{Alarms}
+use Rattle.sfc_run.specs.declared.follower.Follower.{Follower}
+use Rattle.sfc_run.specs.Following.{Follows, is_level, newest_in, steered_in}
+use Rattle.sfc_run.specs.Losses.{losses_after, told_with}
+use Rattle.sfc_run.specs.Overruns.{is_due, told_after, told_in}
+
+-- a program's scan ended with a fault, or a breakpoint was hit
+abbrev pub is_alarm : Answer → Bool
+is_alarm (Scanned ran faulted skipped overruns hit) = not (faulted.bits == 0) || hit
+is_alarm _ = false
+
+abbrev pub is_end : Command → Bool
+is_end End = true
+is_end _ = false
+
+-- what tells of it doesn't wait
+abbrev pub is_urgent : TraceRow → Bool
+is_urgent row = is_alarm row.answer || is_end row.command
+
+-- so many rows of the feed were lost
+abbrev pub lost_text : ℕ → List ℕ
+lost_text lost = if lost == 0 then [] else codes "lost " ++ decimal lost ++ codes " commands\n"
+
+-- its number, and its lines as a replay writes them, where the debugger stands so behind it
+abbrev pub whole_text : Steered → DebugState → TraceRow → List ℕ
+whole_text steered state row = decimal row.number ++ codes " " ++ lines_at steered state row.command (Ok row.answer)
+
+-- the line of program k, where its scan ended with a fault
+abbrev pub fault_line : Bool → PlantData → ℕ → List ℕ
+fault_line true plant k = codes "  " ++ instance_name plant.instances k ++ codes " fault\n"
+fault_line false plant k = []
+
+-- the same for each of the first n
+abbrev pub fault_lines : PlantData → InstanceSet → ℕ → List ℕ
+fault_lines plant faulted zero = []
+fault_lines plant faulted (suc n) = fault_lines plant faulted n ++ fault_line (has faulted n) plant n
+
+-- the same for each of which an answer tells that
+abbrev pub faulted_text : PlantData → Answer → List ℕ
+faulted_text plant (Scanned ran faulted skipped overruns hit) = fault_lines plant faulted (length plant.instances)
+faulted_text plant _ = []
+
+-- What is told of an alarm: all that a replay writes. Behind lost rows it isn't known how programs stand: then the line of the scan alone,
+-- and which programs ended with a fault.
+abbrev pub scan_text : Bool → Steered → DebugState → TraceRow → List ℕ
+scan_text true steered state row = whole_text steered state row
+scan_text false steered state row = row_line steered row ++ faulted_text steered.plant row.answer
+
+-- of a scan that is no alarm its overruns, where they are due
+abbrev pub overruns_text : Bool → Steered → TraceRow → List ℕ
+overruns_text true steered row = row_line steered row
+overruns_text false steered row = []
+
+-- so many rows were lost before a row, behind the newest
+abbrev pub lost_before : Follower → TraceRow → ℕ
+lost_before follower row = row.number - (newest_in follower + 1)
+
+-- what is told of a row, and of so many lost ones
+abbrev pub alarm_text : ℕ → Bool → Bool → Steered → DebugState → TraceRow → List ℕ
+alarm_text lost is_level is_due steered state row =
+    lost_text lost
+    ++ (if is_alarm row.answer then scan_text is_level steered state row else overruns_text is_due steered row)
+
+-- A row was taken behind these commands, and this was told of it; the debugger that follows stands behind those commands then.
+pub record IsTold (old new : Alarms) (row : TraceRow) (h behind : CommandHistory) (text : List ℕ) : Type 0 where
+  pub follows : Follows old.follower new.follower row h behind
+  pub overruns : told_in new.overruns ≡ told_after (told_in old.overruns) row
+  pub losses : new.losses ≡ losses_after old.losses (lost_before old.follower row) row.t (is_urgent row)
+  pub told : text ≡ alarm_text (told_with old.losses (lost_before old.follower row) row.t (is_urgent row)) (is_level new.follower)
+      (is_due (told_in old.overruns) row) (steered_in new.follower) ((output.debugger_of (steered_in new.follower)).state behind) row
+
+-- Rows were taken one after the other, and this was told of them.
+abbrev pub AreTold : Alarms → Alarms → List TraceRow → CommandHistory → CommandHistory → List ℕ → Type 0
+AreTold old new [] h behind text = (new ≡ old) × (behind ≡ h) × (text ≡ [])
+AreTold old new (row ∷ rows) h behind text =
+    (mid : Alarms) × (between : CommandHistory) × (some : List ℕ) × (rest : List ℕ) × (text ≡ some ++ rest)
+    × IsTold old mid row h between some × AreTold mid new rows between behind rest

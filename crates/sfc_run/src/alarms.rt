@@ -1,0 +1,203 @@
+//! What a run tells beside its lines: scans that a fault ended, breakpoints that were hit, overruns, rows of the feed that were lost.
+
+ghost use Rattle.std.specs.Prelude.{◌≡◌, ◌<◌, ◌++◌, List, ℕ, OnOk, length};
+ghost use Rattle.sfc_events.specs.InstanceSets.{has};
+ghost use Rattle.sfc_control.specs.sfc_debug.Agreement.{Agrees};
+ghost use Rattle.sfc_control.specs.sfc_debug.Histories.{CommandHistory};
+ghost use Rattle.sfc_control.specs.sfc_debug.Steered.{steered_by};
+ghost use Rattle.sfc_replay.specs.sfc_output.Output as output;
+ghost use Rattle.sfc_run.specs.Alarms as rules;
+ghost use Rattle.sfc_run.specs.Alarms.{IsTold};
+ghost use Rattle.sfc_run.specs.Following.{debugger_in, is_level, steered_in};
+ghost use Rattle.sfc_run.specs.Losses.{losses_after, told_with};
+
+use crate::follower::Follower;
+use crate::losses::Losses;
+use crate::overruns::OverrunsTold;
+use crate::sfc_debug::debugger::Debugger;
+use crate::sfc_output::answer::append_answer;
+use crate::sfc_output::command::append_row;
+use sfc_base::ids::ProgId;
+use sfc_events::command::{Answer, Command, TraceRow};
+use sfc_events::instance_set::InstanceSet;
+use sfc_page::append::{append, append_number};
+use sfc_plant::plant::Plant;
+use std::alloc::{AllocError, Global};
+
+/// What stands behind the alarms of a run: a debugger that follows it, and what was told of overruns.
+#[derive(Drop)]
+pub struct Alarms {
+    /// The debugger that follows.
+    pub follower: Follower,
+    /// What was told of overruns.
+    pub overruns: OverrunsTold,
+    /// What is still to be told of lost rows.
+    pub losses: Losses,
+}
+
+// Whether a program's scan ended with a fault, or a breakpoint was hit.
+fn is_alarm(answer: Answer) -> bool
+    ensures { result ≡ rules.is_alarm answer }
+{
+    match answer {
+        Answer::Scanned { faulted, hit, .. } => !faulted.is_empty() || hit,
+        _ => false,
+    }
+}
+
+// Whether it is the end of a run.
+fn is_end(command: Command) -> bool
+    ensures { result ≡ rules.is_end command }
+{
+    matches!(command, Command::End)
+}
+
+// Whether what is told of a row doesn't wait.
+fn is_urgent(row: TraceRow) -> bool
+    ensures { result ≡ rules.is_urgent row }
+{
+    is_alarm(row.answer) || is_end(row.command)
+}
+
+// How many rows were lost, where some were.
+fn append_lost(out: &mut Vec<u8>, lost: u64) -> Result<(), AllocError>
+    ensures { OnOk result (out.new.items ≡ out.old.items ++ rules.lost_text lost) }
+{
+    if lost == 0 {
+        return Ok(());
+    }
+    append(out, b"lost ")?;
+    append_number(out, lost)?;
+    append(out, b" commands\n")
+}
+
+// The same, where it is due with a row, before which so many more were lost.
+fn append_losses(
+    out: &mut Vec<u8>,
+    losses: &mut Losses,
+    lost: u64,
+    row: TraceRow,
+) -> Result<(), AllocError>
+    ensures losses { losses.new ≡ losses_after losses.old lost row.t (rules.is_urgent row) }
+    ensures text { OnOk result (out.new.items ≡ out.old.items ++ rules.lost_text (told_with losses.old lost row.t (rules.is_urgent row))) }
+{
+    let told = losses.told_with(lost, row.t, is_urgent(row));
+    append_lost(out, told)
+}
+
+// The number of a row, and the lines that a replay writes for its command.
+fn append_whole(
+    alloc: Global,
+    out: &mut Vec<u8>,
+    debugger: &Debugger,
+    row: TraceRow,
+) -> Result<(), AllocError>
+    ensures { (h : CommandHistory) → Agrees debugger.now h → OnOk result (out.new.items ≡ out.old.items
+        ++ rules.whole_text (steered_by debugger.now) ((output.debugger_of (steered_by debugger.now)).state h) row) }
+{
+    append_number(out, row.number)?;
+    append(out, b" ")?;
+    append_answer(alloc, out, debugger, row.command, Ok(row.answer))
+}
+
+// The line of a program, where its scan ended with a fault.
+fn append_fault(
+    out: &mut Vec<u8>,
+    plant: &Plant,
+    program: ProgId,
+    faulted: InstanceSet,
+) -> Result<(), AllocError>
+    requires { program.0 < length plant.now.instances }
+    ensures { OnOk result (out.new.items ≡ out.old.items ++ rules.fault_line (has faulted program.0) plant.now program.0) }
+{
+    if !faulted.contains(program) {
+        return Ok(());
+    }
+    append(out, b"  ")?;
+    append(out, plant.instance_name(program))?;
+    append(out, b" fault\n")
+}
+
+// A line for each program whose scan ended with a fault.
+fn append_faults(out: &mut Vec<u8>, plant: &Plant, faulted: InstanceSet) -> Result<(), AllocError>
+    ensures { OnOk result (out.new.items ≡ out.old.items ++ rules.fault_lines plant.now faulted (length plant.now.instances)) }
+{
+    for k in 0..plant.instances().len() {
+        append_fault(out, plant, ProgId(k as u8), faulted)?;
+    }
+    Ok(())
+}
+
+// The same by an answer.
+fn append_faulted(out: &mut Vec<u8>, plant: &Plant, answer: Answer) -> Result<(), AllocError>
+    ensures { OnOk result (out.new.items ≡ out.old.items ++ rules.faulted_text plant.now answer) }
+{
+    match answer {
+        Answer::Scanned { faulted, .. } => append_faults(out, plant, faulted),
+        _ => Ok(()),
+    }
+}
+
+// A scan that is an alarm.
+fn append_scan(
+    alloc: Global,
+    out: &mut Vec<u8>,
+    follower: &Follower,
+    row: TraceRow,
+) -> Result<(), AllocError>
+    ensures { (h : CommandHistory) → Agrees (debugger_in follower.now) h → OnOk result (out.new.items ≡ out.old.items
+        ++ rules.scan_text (is_level follower.now) (steered_by (debugger_in follower.now))
+        ((output.debugger_of (steered_by (debugger_in follower.now))).state h) row) }
+{
+    if follower.is_level() {
+        append_whole(alloc, out, follower.debugger(), row)
+    } else {
+        append_row(out, follower.debugger(), row)?;
+        append_faulted(out, follower.debugger().resource().plant(), row.answer)
+    }
+}
+
+// The line of a scan, where its overruns are due.
+fn append_overruns(
+    out: &mut Vec<u8>,
+    follower: &Follower,
+    row: TraceRow,
+    is_due: bool,
+) -> Result<(), AllocError>
+    ensures { OnOk result (out.new.items ≡ out.old.items ++ rules.overruns_text is_due (steered_in follower.now) row) }
+{
+    if is_due {
+        append_row(out, follower.debugger(), row)
+    } else {
+        Ok(())
+    }
+}
+
+impl Alarms {
+    /// Takes the next row of the feed, and puts at the end what is told of it. A scan of a program that a fault ended, and one that hit a
+    /// breakpoint, is told with all its lines, as a replay writes them: which program it is, the kind of the fault, and where the others
+    /// stand. Overruns are told by the line of the scan, at most once a second for each task. Before all of this it is told how many rows
+    /// were lost, if some were, at most once a second but for such a scan and END; from then on, how programs stand isn't known, and the
+    /// line of the scan is told, with the names of the programs that ended with a fault.
+    ///
+    /// The one error is that memory was refused.
+    pub fn take(
+        &mut self,
+        alloc: Global,
+        out: &mut Vec<u8>,
+        row: TraceRow,
+    ) -> Result<(), AllocError>
+        ensures steered { steered_in self.new.follower ≡ steered_in self.old.follower }
+        ensures told { (h : CommandHistory) → Agrees (debugger_in self.old.follower) h →
+            OnOk result ((behind : CommandHistory) × (text : List ℕ) × (out.new.items ≡ out.old.items ++ text)
+            × IsTold self.old self.new row h behind text) }
+    {
+        let lost = self.follower.follow(row);
+        let is_due = self.overruns.is_due(row);
+        append_losses(out, &mut self.losses, lost, row)?;
+        if is_alarm(row.answer) {
+            return append_scan(alloc, out, &self.follower, row);
+        }
+        append_overruns(out, &self.follower, row, is_due)
+    }
+}

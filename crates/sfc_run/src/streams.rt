@@ -1,0 +1,26 @@
+//! Where a run reads and writes.
+
+use crate::sfc_debug::trace_mask::TraceMask;
+use std::io::{Read, Write};
+
+/// Where the lines of a session come from, and where its faults and those of the run are told.
+#[derive(Drop)]
+pub struct Streams<'s, S: Read, E: Write> {
+    /// The lines.
+    pub commands: &'s mut S,
+    /// Where faults are told.
+    pub errors: &'s mut E,
+}
+
+/// What is asked of a run.
+#[derive(Drop)]
+pub struct Asked<W: Write, T: Write> {
+    /// Where lines go.
+    pub w: W,
+    /// Where alarms go.
+    pub tells: T,
+    /// Which commands have lines.
+    pub wanted: TraceMask,
+    /// How many commands may be held, from 1 to 1,048,576.
+    pub history: usize,
+}

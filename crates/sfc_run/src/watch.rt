@@ -1,0 +1,87 @@
+//! What is read of a run.
+
+ghost use Rattle.std.specs.Prelude.{◌≡◌, ◌++◌, [], false, List, ℕ, IfOk, OnOk};
+ghost use Rattle.sfc_control.specs.Tails.{coming};
+ghost use Rattle.sfc_control.specs.sfc_debug.Agreement.{Agrees};
+ghost use Rattle.sfc_control.specs.sfc_debug.Histories.{CommandHistory};
+ghost use Rattle.sfc_run.specs.Alarms.{IsTold};
+ghost use Rattle.sfc_run.specs.Following.{debugger_in};
+ghost use Rattle.sfc_run.specs.Printing.{Gathers, Reaches, line_if, steered_of};
+
+use crate::alarms::Alarms;
+use crate::sfc_debug::trace_mask::TraceMask;
+use crate::sfc_output::command::append_row;
+use sfc_control::tail::Tail;
+use sfc_events::command::TraceRow;
+use std::alloc::{AllocError, Global};
+
+/// How many rows are taken at a time, at most.
+const ROWS: usize = 256;
+
+/// What is read of a run: its feed, and what stands behind the lines and the alarms of its rows.
+#[derive(Drop)]
+pub struct Watch {
+    /// What rows are taken from.
+    pub tail: Tail,
+    /// Which commands have lines.
+    pub wanted: TraceMask,
+    /// What stands behind the alarms.
+    pub alarms: Alarms,
+}
+
+/// What rows come to.
+#[derive(Drop)]
+pub struct Texts {
+    /// Their lines.
+    pub lines: Vec<u8>,
+    /// What is told of them.
+    pub alarms: Vec<u8>,
+}
+
+impl Watch {
+    // Puts the line of a row at the end, where its command is wanted.
+    fn append_line(&self, out: &mut Vec<u8>, row: TraceRow) -> Result<(), AllocError>
+        ensures { OnOk result (out.new.items ≡ out.old.items ++ line_if self.now.wanted (steered_of self.now) row) }
+    {
+        if self.wanted.wants(row.command) {
+            append_row(out, self.alarms.follower.debugger(), row)
+        } else {
+            Ok(())
+        }
+    }
+
+    // Puts the line of a row, and what is told of it, at the end of each text.
+    fn append_both(
+        &mut self,
+        alloc: Global,
+        texts: &mut Texts,
+        row: TraceRow,
+    ) -> Result<(), AllocError>
+        ensures tail { self.new.tail ≡ self.old.tail }
+        ensures wanted { self.new.wanted ≡ self.old.wanted }
+        ensures line { OnOk result (texts.new.lines.items ≡ texts.old.lines.items ++ line_if self.old.wanted (steered_of self.old) row) }
+        ensures steered { steered_of self.new ≡ steered_of self.old }
+        ensures told { (h : CommandHistory) → Agrees (debugger_in self.old.alarms.follower) h →
+            OnOk result ((behind : CommandHistory) × (text : List ℕ) × (texts.new.alarms.items ≡ texts.old.alarms.items ++ text)
+            × IsTold self.old.alarms self.new.alarms row h behind text) }
+    {
+        self.append_line(&mut texts.lines, row)?;
+        self.alarms.take(alloc, &mut texts.alarms, row)
+    }
+
+    /// Takes rows that have come, 256 at most, and puts their lines and what is told of them at the end of the texts; whether there were
+    /// any. The error is that memory was refused.
+    pub fn append_rows(&mut self, alloc: Global, texts: &mut Texts) -> Result<bool, AllocError>
+        ensures rows { Gathers self.old self.new texts.old texts.new result }
+        ensures known { OnOk result (Reaches self.old.tail self.new.tail) }
+        ensures rest { IfOk result (λ some. some ≡ false → coming self.new.tail ≡ []) }
+    {
+        'rows: for count in 0..ROWS {
+            let Some(row) = self.tail.take() else {
+                return Ok(0 < count);
+            };
+            self.append_both(alloc, texts, row)?;
+        }
+        Ok(true)
+    }
+}
