@@ -1,7 +1,7 @@
 #!/usr/bin/env bash
 # all.sh [quick|full] [--program FILE]: runs every script over the built program, one line for each: what passed, what failed, how long it
-# took. `quick`, where nothing is said, takes some three minutes on four processors; `full` has the sizes that README.md names, and should take
-# about an hour. What measures time or holds back a run is alone; the others stand side by side, as many as there are processors. What a
+# took. `quick`, where nothing is said, takes some three minutes on four processors; `full` has the sizes that README.md names, and takes
+# some 35. What measures time or holds back a run is alone; the others stand side by side, as many as there are processors. What a
 # script prints about faults is shown below its line, and what it didn't ask since a tool is missing. A script that doesn't end in its time
 # counts as one that failed. The program is FILE, else the one that SFCMON names, else the proved one that `rt ci` or `./sfcmon --prove`
 # left in this clone; nothing is proved for it. The last line is 'N passed, M failed'.
