@@ -587,7 +587,7 @@ status=$?
 took=$(since "$begin")
 exec 7<&-
 ends 0 && calm && counted && mentions " READ Pump FALSE" out && [ "$took" -ge 1000 ] &&
-  tail -n 2 "$work/out" | head -n 1 | grep -qE ' T#1s[^ ]* END$'
+  tail -n 2 "$work/out" | head -n 1 | grep -qE ' T#(1s|9[0-9][0-9])[^ ]* END$'
 note $? "a second with a session that doesn't end"
 begin=$(date +%s%N)
 printf 'READ Pump' | "$program" run --for T#1s --trace 64 "$examples/pump.chart" >"$work/out" 2>"$work/err"
