@@ -22,6 +22,8 @@ pub mod Overruns
 pub mod Losses
 -- what is told beside the lines
 pub mod Alarms
+-- what a look into the feed finds
+pub mod Draining
 -- what is printed of the feed
 pub mod Printing
 -- why workers ended

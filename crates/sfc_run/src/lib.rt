@@ -5,6 +5,7 @@
 //!   by what was told of overruns (`overruns`) and of lost rows (`losses`).
 //! - `audit`: the close of a controller, and its line.
 //! - `console`: a seat whose commands a session says, with the receipts of those that were accepted.
+//! - `draining`: the end of the feed.
 //! - `keeper`: the epochs of a run itself, which keep its history short.
 //! - `pace`: the gate of a worker that scans as long as it may.
 //! - `printing`: the lines of the feed; `watch`: what is read of it; `teller`: where alarms go.
@@ -18,6 +19,7 @@
 pub mod alarms;
 pub mod audit;
 pub mod console;
+pub mod draining;
 pub mod follower;
 mod keeper;
 pub mod losses;

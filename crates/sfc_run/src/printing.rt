@@ -1,14 +1,15 @@
 //! The lines of the feed, and its alarms.
 
-ghost use Rattle.std.specs.Prelude.{◌≡◌, ◌++◌, [], false, IfOk, OnOk};
+ghost use Rattle.std.specs.Prelude.{◌≡◌, ◌++◌, [], false, IfOk, IsSome, OnOk};
 ghost use mathlib.Core.List.{IsPrefix};
 ghost use Rattle.sfc_control.specs.Tails.{taken, coming};
 ghost use Rattle.sfc_run.specs.Printing.{Prints, Reaches};
 ghost use Rattle.sfc_run.specs.declared.printing.PrintFault.TheVariants.{Write as WriteVariant, Memory};
 
+use crate::draining::{Drained, RowsEnded};
 use crate::pace::LONG;
 use crate::teller::Teller;
-use crate::watch::{Texts, Watch};
+use crate::watch::{Look, Texts, Watch};
 use sfc_base::write_fault::{WriteFault, put_all};
 use sfc_control::bells::Bells;
 use std::alloc::{AllocError, Global};
@@ -52,27 +53,30 @@ pub struct Printing<W: Write, T: Write> {
     pub teller: Teller<T>,
 }
 
-// Prints rows that have come, 256 at most, and tells their alarms; whether there were any.
+// Prints rows that have come, 256 at most, and tells their alarms; what the look for them came to.
 fn print_some<W: Write, T: Write>(
     alloc: Global,
     printing: &mut Printing<W, T>,
-) -> Result<bool, PrintFault>
+    ended: Option<RowsEnded>,
+) -> Result<Look, PrintFault>
     ensures lines { Prints W.contents T.contents printing.old printing.new result }
     ensures known { OnOk result (Reaches printing.old.watch.tail printing.new.watch.tail) }
-    ensures rest { IfOk result (λ some. some ≡ false → coming printing.new.watch.tail ≡ []) }
+    ensures rest { IfOk result (λ found. found.some ≡ false → coming printing.new.watch.tail ≡ []) }
+    ensures drained { IfOk result (λ found. IsSome found.drained → coming printing.new.watch.tail ≡ []) }
 {
     let mut texts = Texts {
         lines: Vec::new(alloc),
         alarms: Vec::new(alloc),
     };
-    let some = printing.watch.append_rows(alloc, &mut texts)?;
+    let some = printing.watch.append_rows(alloc, &mut texts, ended)?;
     printing.teller.tell(&texts.alarms);
     put_all(&mut printing.w, &texts.lines)?;
     Ok(some)
 }
 
 /// Takes rows as they come and writes the line of each whose command is wanted: its number, and the line of its command. Beside it alarms
-/// are told. It ends once it is told that no more rows come, and none is left. Where none has come it waits until its bell is rung.
+/// are told. It ends once it is told that no more rows come, and none is left; a look that was begun behind that word is what it answers.
+/// Where none has come it waits until its bell is rung.
 ///
 /// `Write` is answered where the writer failed or took no byte, `Memory` where memory was refused; then a front of the lines was
 /// written, and no more rows are taken. Faults of the writer of alarms are passed over.
@@ -81,19 +85,19 @@ pub fn print_rows<R: Wait, W: Write, T: Write>(
     alloc: Global,
     printing: &mut Printing<W, T>,
     bells: &Bells,
-) -> Result<(), PrintFault>
+) -> Result<Drained, PrintFault>
     ensures lines { Prints W.contents T.contents printing.old printing.new result }
     ensures known { OnOk result (IsPrefix (taken printing.old.watch.tail ++ coming printing.old.watch.tail)
         (taken printing.new.watch.tail)) }
     ensures rest { OnOk result (coming printing.new.watch.tail ≡ []) }
 {
     'rounds: for _ in rt.forever() {
-        let is_over = bells.are_rows_ended();
-        let some = print_some(alloc, printing)?;
-        if !some {
-            if is_over {
-                return Ok(());
-            }
+        let ended = RowsEnded::of(bells);
+        let some = print_some(alloc, printing, ended)?;
+        if let Some(drained) = some.drained {
+            return Ok(drained);
+        }
+        if !some.some {
             bells.wait_for_rows(rt, Duration::from_millis(LONG));
         }
     }

@@ -220,14 +220,14 @@ fn print_all<R: Wait, W: Write, T: Write>(
     bells: &Bells,
 ) -> RunFaults {
     let faults = match print_rows(rt, alloc, printing, bells) {
-        Ok(()) => return RunFaults::none(),
+        Ok(_) => return RunFaults::none(),
         Err(PrintFault::Memory) => return RunFaults::of_memory(),
         Err(PrintFault::Write) => RunFaults::of_write(),
     };
     printing.watch.wanted = TraceMask(0);
     match print_rows(rt, alloc, printing, bells) {
         Err(PrintFault::Memory) => faults.with(RunFaults::of_memory()),
-        Ok(()) | Err(PrintFault::Write) => faults,
+        Ok(_) | Err(PrintFault::Write) => faults,
     }
 }
 

@@ -1,6 +1,6 @@
 //! What is read of a run.
 
-ghost use Rattle.std.specs.Prelude.{◌≡◌, ◌++◌, [], false, List, ℕ, IfOk, OnOk};
+ghost use Rattle.std.specs.Prelude.{◌≡◌, ◌++◌, [], false, List, ℕ, IfOk, IsSome, OnOk};
 ghost use Rattle.sfc_control.specs.Tails.{coming};
 ghost use Rattle.sfc_control.specs.sfc_debug.Agreement.{Agrees};
 ghost use Rattle.sfc_control.specs.sfc_debug.Histories.{CommandHistory};
@@ -9,6 +9,7 @@ ghost use Rattle.sfc_run.specs.Following.{debugger_in};
 ghost use Rattle.sfc_run.specs.Printing.{Gathers, Reaches, line_if, steered_of};
 
 use crate::alarms::Alarms;
+use crate::draining::{Drained, Found, RowsEnded, look};
 use crate::sfc_debug::trace_mask::TraceMask;
 use crate::sfc_output::command::append_row;
 use sfc_control::tail::Tail;
@@ -36,6 +37,15 @@ pub struct Texts {
     pub lines: Vec<u8>,
     /// What is told of them.
     pub alarms: Vec<u8>,
+}
+
+/// What a look for rows comes to.
+#[derive(Clone, Copy)]
+pub struct Look {
+    /// Whether there were any.
+    pub some: bool,
+    /// Where none is left and no more come.
+    pub drained: Option<Drained>,
 }
 
 impl Watch {
@@ -70,18 +80,32 @@ impl Watch {
     }
 
     /// Takes rows that have come, 256 at most, and puts their lines and what is told of them at the end of the texts; whether there were
-    /// any. The error is that memory was refused.
-    pub fn append_rows(&mut self, alloc: Global, texts: &mut Texts) -> Result<bool, AllocError>
+    /// any, and whether all were taken that will ever come, where the word of that was known before. The error is that memory was refused.
+    pub fn append_rows(
+        &mut self,
+        alloc: Global,
+        texts: &mut Texts,
+        ended: Option<RowsEnded>,
+    ) -> Result<Look, AllocError>
         ensures rows { Gathers self.old self.new texts.old texts.new result }
         ensures known { OnOk result (Reaches self.old.tail self.new.tail) }
-        ensures rest { IfOk result (λ some. some ≡ false → coming self.new.tail ≡ []) }
+        ensures rest { IfOk result (λ found. found.some ≡ false → coming self.new.tail ≡ []) }
+        ensures drained { IfOk result (λ found. IsSome found.drained → coming self.new.tail ≡ []) }
     {
         'rows: for count in 0..ROWS {
-            let Some(row) = self.tail.take() else {
-                return Ok(0 < count);
-            };
-            self.append_both(alloc, texts, row)?;
+            match look(&mut self.tail, ended) {
+                Found::Row(row) => self.append_both(alloc, texts, row)?,
+                Found::Nothing(drained) => {
+                    return Ok(Look {
+                        some: 0 < count,
+                        drained,
+                    });
+                }
+            }
         }
-        Ok(true)
+        Ok(Look {
+            some: true,
+            drained: None,
+        })
     }
 }

@@ -1,4 +1,7 @@
+use Rattle.std.proofs.Common.{refl, sym, subst}
 use Rattle.std.proofs.lemmas.Result.{err_from_is_err_and}
+use Rattle.std.specs.Prelude.{Option, IsSome}
+use Rattle.sfc_run.specs.declared.draining.Drained.{Drained}
 use Rattle.sfc_run.proofs.RowLines.{told_none, told_more, told_front, reaches_same, reaches_on, reached}
 use Rattle.sfc_run.proofs.printing.print_rows.Goals as goal
 
@@ -26,17 +29,17 @@ returns-in_err-some-clause-rest g c =
     let p = err_from_is_err_and c.from_residual.result c.from_residual.ensures.1 in
     rw p.1 tt
 
-pub returns-then-is_over-clause-lines : goal.returns-then-is_over-clause-lines
-returns-then-is_over-clause-lines g c =
+pub returns-in-Some-drained-clause-lines : goal.returns-in-Some-drained-clause-lines
+returns-in-Some-drained-clause-lines g c =
     told_more g.W.Write.contents g.T.Write.contents c.args.printing.now c.rounds.printing c.print_some.new.printing
     c.rounds.invariant.lines c.in_ok-some.ensures.lines
 
-pub returns-then-is_over-clause-known : goal.returns-then-is_over-clause-known
-returns-then-is_over-clause-known g c =
+pub returns-in-Some-drained-clause-known : goal.returns-in-Some-drained-clause-known
+returns-in-Some-drained-clause-known g c =
     let old = c.args.printing.now.watch.tail in
     let new = c.print_some.new.printing.watch.tail in
     reached old new (reaches_on old c.rounds.printing.watch.tail new c.rounds.invariant.known c.in_ok-some.ensures.known)
-    (c.in_ok-some.ensures.rest c.if-not-some.true)
+    (c.in_ok-some.ensures.drained (subst (λ (o : Option Drained). IsSome o) (sym c.in-Some-drained.is) refl))
 
 pub rounds-preserved-then-not-some : goal.rounds-preserved-then-not-some
 rounds-preserved-then-not-some g c = record {
