@@ -1,0 +1,20 @@
+//! Charts and runs in the graphic form of charts (IEC 61131-3:2003, 2.6.2 to 2.6.5), as SVG, from bytes to bytes.
+//!
+//! - `draw`: from bytes to bytes.
+//! - `force`: what is forced of a program instance.
+//! - `marking`: what the window on a program instance shows, as marks.
+//! - `playing`: a script that is played on a chart.
+//! - `svg`: plants and resources as SVG.
+//! - `svg_error`: why there is no drawing.
+#![tactic(auto)]
+
+pub mod draw;
+mod force;
+mod marking;
+pub mod playing;
+pub mod svg;
+pub mod svg_error;
+
+// What the crates above name through this one.
+pub use sfc_replay;
+pub use sfc_replay::{sfc_core, sfc_debug, sfc_instance, sfc_output, sfc_tables};
