@@ -3,10 +3,9 @@
 ghost use Rattle.std.specs.Prelude.{◌≡◌, ◌<◌, ◌++◌, codes, length, OnOk};
 ghost use Rattle.std.specs.Fmt.{decimal};
 ghost use Rattle.sfc_events.specs.declared.command.Command.TheVariants.{BreakIf};
-ghost use Rattle.sfc_events.specs.InstanceSets.{has};
 ghost use Rattle.sfc_output.specs.Commands as output;
 ghost use Rattle.sfc_plant.specs.PlantNames.{image_name};
-ghost use Rattle.sfc_output.specs.Private.Pieces.{scanned_line};
+ghost use Rattle.sfc_output.specs.Private.Pieces.{other_end, scanned_line};
 ghost use Rattle.sfc_page.specs.Lines.{written};
 ghost use Rattle.sfc_debug.specs.Steered.{steered_by};
 ghost use Rattle.sfc_page.specs.Values.{value_text};
@@ -329,14 +328,18 @@ pub fn append_refusal(
     append(out, b"\n")
 }
 
-// Whether an instance is among these; told at once where there are none, as of faults in most scans.
-#[inline(always)]
-fn is_among(instances: InstanceSet, instance: ProgId) -> bool
-    ensures { result ≡ has instances instance.0 }
+// How the scan of an instance ended that didn't run; `None` where it is in neither set.
+#[cold]
+#[inline(never)]
+fn other_end(faulted: InstanceSet, skipped: InstanceSet, instance: ProgId) -> Option<ScanEnd>
+    ensures { result ≡ other_end faulted skipped instance.0 }
 {
-    match instances.split_first() {
-        None => false,
-        Some(_) => instances.contains(instance),
+    if faulted.contains(instance) {
+        Some(ScanEnd::Faulted)
+    } else if skipped.contains(instance) {
+        Some(ScanEnd::Skipped)
+    } else {
+        None
     }
 }
 
@@ -355,12 +358,11 @@ pub(crate) fn scan_end_in(answer: &Answer, instance: ProgId) -> Option<ScanEnd>
         return None;
     };
     if ran.contains(instance) {
-        Some(ScanEnd::Ran)
-    } else if is_among(*faulted, instance) {
-        Some(ScanEnd::Faulted)
-    } else if is_among(*skipped, instance) {
-        Some(ScanEnd::Skipped)
-    } else {
-        None
+        return Some(ScanEnd::Ran);
+    }
+    // In most scans there is neither a fault nor an instance that is passed over for one.
+    match (faulted.split_first(), skipped.split_first()) {
+        (None, None) => None,
+        _ => other_end(*faulted, *skipped, instance),
     }
 }

@@ -1,8 +1,12 @@
 -- The lines of scans and of program instances, piece by piece.
-use Rattle.std.specs.Prelude.{ℕ, ℤ, List, [], ◌++◌, codes, Option, None, Some}
+use Rattle.std.specs.Prelude.{ℕ, ℤ, List, [], ◌++◌, codes, Option, None, Some, if◌then◌else◌}
 use Rattle.std.specs.Fmt.{decimal}
 use Rattle.sfc_base.specs.declared.ids.ProgId.{ProgId}
 use Rattle.sfc_base.specs.TimeText.{time_text}
+use Rattle.sfc_events.specs.InstanceSets.{has}
+use Rattle.sfc_events.specs.declared.instance_set.InstanceSet.{InstanceSet}
+use Rattle.sfc_debug.specs.sfc_instance.declared.scan_end.ScanEnd.{ScanEnd}
+use Rattle.sfc_debug.specs.sfc_instance.declared.scan_end.ScanEnd.TheVariants.{Faulted, Skipped}
 use Rattle.sfc_debug.specs.sfc_tables.Tables.{Tabled}
 use Rattle.sfc_plant.specs.Plants.{PlantData}
 use Rattle.sfc_plant.specs.Spaces.{Space}
@@ -13,6 +17,10 @@ use Rattle.sfc_debug.specs.sfc_instance.declared.scan_fault.ScanFault.{ScanFault
 use Rattle.sfc_plant.specs.PlantNames.{instance_name}
 use Rattle.sfc_output.specs.Programs.{cleared_texts, executed_texts, step_texts, fault_text, scans_text}
 use Rattle.sfc_page.specs.Values.{line_end}
+
+-- how the scan of instance k ended that didn't run
+abbrev pub other_end : InstanceSet → InstanceSet → ℕ → Option ScanEnd
+other_end faulted skipped k = if has faulted k then Some Faulted else if has skipped k then Some Skipped else None
 
 -- the head of the line of a program instance that stands so
 abbrev pub head_text : PlantData → ProgId → InstanceState → List ℕ
