@@ -1,5 +1,6 @@
 //! Why a text has no value or effect.
 
+use sfc_check::placed_error::PlacedTypeError;
 use sfc_check::type_error::TypeError;
 use sfc_events::read_error::{ReadError, ReadErrorKind};
 use sfc_expr::fault::Fault;
@@ -31,9 +32,9 @@ impl From<ReadError> for Ending {
     }
 }
 
-impl From<TypeError> for Ending {
-    fn from(error: TypeError) -> Ending {
-        match error {
+impl From<PlacedTypeError> for Ending {
+    fn from(error: PlacedTypeError) -> Ending {
+        match error.error() {
             TypeError::Unknown => Ending::Unknown,
             TypeError::WrongType => Ending::WrongType,
             TypeError::LiteralRange => Ending::LiteralRange,

@@ -54,7 +54,7 @@ fn element(source: &Source) -> Result<&Element, Ending> {
 /// The condition of the one transition.
 pub fn condition(source: &Source) -> Result<&Expression, Ending> {
     match element(source)? {
-        Element::Transition(transition) => Ok(&transition.condition),
+        Element::Transition(transition, _) => Ok(&transition.condition),
         _ => Err(Ending::NotRead(ReadErrorKind::Syntax)),
     }
 }
@@ -62,7 +62,7 @@ pub fn condition(source: &Source) -> Result<&Expression, Ending> {
 /// The body of the one action.
 pub fn body(source: &Source) -> Result<&[Statement], Ending> {
     match element(source)? {
-        Element::Action(action) => Ok(action.body.as_slice()),
+        Element::Action(action, _) => Ok(action.body.as_slice()),
         _ => Err(Ending::NotRead(ReadErrorKind::Syntax)),
     }
 }

@@ -2,8 +2,10 @@
 
 use samples::charts::mixture;
 use sfc_events::read_error::ReadErrorKind;
-use sfc_text::read::read;
+use sfc_text::read::{read, read_with_place};
 use sfc_tokens::lex::tokens;
+use sfc_tokens::lines::line_at;
+use sfc_tokens::span::Span;
 use sfc_tokens::token::{Token, TokenKind};
 use std::alloc::{AllocError, Global};
 use std::process::Abort;
@@ -109,13 +111,58 @@ fn a_text_has_these_tokens(rt: HostRuntime) -> Result<(), Fail> {
 
 #[test]
 fn tokens_have_the_lines_on_which_they_begin(rt: HostRuntime) -> Result<(), Fail> {
-    let found = tokens(rt.alloc(), b"a (*\n*) b\r\n{\n\n}c\n\n:=\n")?;
+    let text = b"a (*\n*) b\r\n{\n\n}c\n\n:=\n";
+    let found = tokens(rt.alloc(), text)?;
     let mut lines = Vec::new(rt.alloc());
     for token in &found {
-        lines.push(token.line)?;
+        lines.push(line_at(text, token.span.from))?;
     }
     assert_eq!(rt; lines.as_slice(), [1, 2, 5, 7].as_slice());
     Ok(())
+}
+
+// The bytes of a text that a token or a refusal has.
+fn bytes_of(text: &[u8], span: Span) -> &[u8] {
+    text.get(span.from as usize..span.to as usize)
+        .unwrap_or(b"none")
+}
+
+// A text with what is skipped among its tokens, and the bytes of these.
+const PIECES: [&[u8]; 8] = [
+    b"ab", b":=", b"<=", b"%IX1.2", b"T#1.5s", b"16#FF_F", b"-", b"INT#-7",
+];
+
+#[test]
+fn tokens_have_their_bytes(rt: HostRuntime) -> Result<(), Fail> {
+    let text = b"\xef\xbb\xbfab (* c *) {d} := <=%IX1.2 T#1.5s 16#FF_F\n-INT#-7";
+    let found = tokens(rt.alloc(), text)?;
+    assert_eq!(rt; found.len(), PIECES.len());
+    for (token, wanted) in found.iter().zip(PIECES) {
+        assert_eq!(rt; bytes_of(text, token.span), wanted);
+    }
+    Ok(())
+}
+
+// Texts with a fault, and the bytes that are refused.
+const REFUSED: [(&[u8], &[u8]); 8] = [
+    (b"a ~ b", b"~"),
+    (b"a\nx__y z", b"x__y"),
+    (b"FOO#12 z", b"FOO#12"),
+    (b"a (* b", b"(*"),
+    (b"a {b", b"{"),
+    (b"T#1x a", b"T#1x"),
+    (b"PROGRAM P PROGRAM", b"PROGRAM"),
+    (b"PROGRAM P", b""),
+];
+
+#[test]
+fn refusals_have_their_bytes(rt: HostRuntime) {
+    for (text, wanted) in REFUSED {
+        match read_with_place(rt.alloc(), text) {
+            Ok(_source) => assert!(rt; false, "a text is read that is to be refused"),
+            Err(error) => assert_eq!(rt; bytes_of(text, error.span()), wanted),
+        }
+    }
 }
 
 // Whether the text is refused, and not for want of memory.

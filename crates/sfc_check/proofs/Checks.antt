@@ -104,8 +104,8 @@ conditional (Ok bs) rest = refl
 conditional (Err fault) rest = refl
 
 checked-before : (names : Names) (s : written.Statement) (rest : text.Block) → checked_body names (text.before s rest) ≡ checked_body names (text.before s text.Nothing) >>= λ b. behind_body b (checked_body names rest)
-checked-before names (written_statement.Assign v e) rest = assignment (checked_target names v) (checked names (text.tree_of e)) (checked_body names rest)
-checked-before names (written_statement.If' shape bs) rest = conditional (checked_branches names (text.row_branches bs)) (checked_body names rest)
+checked-before names (written_statement.Assign v e span) rest = assignment (checked_target names v) (checked names (text.tree_of e)) (checked_body names rest)
+checked-before names (written_statement.If' shape bs span) rest = conditional (checked_branches names (text.row_branches bs)) (checked_body names rest)
 
 -- ---- one branch and those behind it
 
@@ -182,9 +182,9 @@ pub ruleset branches = (branch_more, branch_fails, no_branch_left, join_nothing)
 
 -- ---- the vectors in a statement and in a branch
 
-pub as_if : (s : written.Statement) (v : Vec written_branch.Branch Global) (rs : List written_branch.Branch) → s ≡ written_statement.If v → rs ≡ v.items → text.before s text.Nothing ≡ text.If (text.branches_of rs) text.Nothing
-as_if s v rs is at =
-    ap (λ (x : written.Statement). text.before x text.Nothing) is ∙ before_if v text.Nothing
+pub as_if : (s : written.Statement) (v : Vec written_branch.Branch Global) (span : _) (rs : List written_branch.Branch) → s ≡ written_statement.If v span → rs ≡ v.items → text.before s text.Nothing ≡ text.If (text.branches_of rs) text.Nothing
+as_if s v span rs is at =
+    ap (λ (x : written.Statement). text.before x text.Nothing) is ∙ before_if v span text.Nothing
     ∙ ap (λ (l : List written_branch.Branch). text.If (text.branches_of l) text.Nothing) (sym at)
 
 pub as_when : (r : written_branch.Branch) (e : written_expression.Expression) (v : Vec written.Statement Global) (ss : List written.Statement) → r ≡ written_branches.When e v → ss ≡ v.items → text.beside r text.Nothing ≡ text.When (text.tree_of e) (text.block_of ss) text.Nothing

@@ -1,7 +1,6 @@
 //! The types of expressions (3.3.1).
 
 ghost use Rattle.std.specs.Prelude.{◌≡◌};
-ghost use Rattle.sfc_text.specs.Trees as written;
 ghost use Rattle.sfc_text.specs.Trees.{tree_of};
 ghost use Rattle.sfc_check.specs.Checking as checking;
 ghost use Rattle.sfc_check.specs.Naturals as naturals;
@@ -13,6 +12,7 @@ ghost use Rattle.sfc_expr.specs.Types as types;
 use crate::family::{Family, family_of, operator_of};
 use crate::literal::{check_literal, want};
 use crate::natural::natural;
+use crate::placed_error::{PlacedTypeError, typed_at};
 use crate::referent::Referent;
 use crate::scope::Scope;
 use crate::type_error::TypeError;
@@ -22,61 +22,44 @@ use sfc_text::expression::{Expression, Variable as Name};
 use std::alloc::Global;
 
 /// The typed tree of an expression that is wanted of a type, or its first type fault: an operator's own before those
-/// of its operands, the left operand's before the right one's.
+/// of its operands, the left operand's before the right one's. The fault of an operator is at the operator, that of a name at
+/// the name, or behind its dot where nothing has such a part.
 #[cycle(check)]
 pub fn check<S: Scope>(
     alloc: Global,
     expression: &Expression,
     scope: &S,
     wanted: VarType,
-) -> Result<Expr, TypeError>
+) -> Result<Expr, PlacedTypeError>
     ensures { Gives expression_of result (checking.checked (S.names scope.now) (tree_of expression.now) wanted) }
 {
     match expression {
-        Expression::Literal(literal) => Ok(Expr::Literal(check_literal(*literal, wanted)?)),
-        Expression::Variable(name) => check_name(name, scope, wanted),
-        Expression::Not(operand) => check_not(alloc, operand, scope, wanted),
-        Expression::Minus(operand) => check_minus(alloc, operand, scope, wanted),
-        Expression::Binary(written, left, right) => {
+        Expression::Literal(literal, _) => {
+            let value = typed_at(check_literal(*literal, wanted), expression, scope, wanted)?;
+            Ok(Expr::Literal(value))
+        }
+        Expression::Variable(name) => {
+            typed_at(check_name(name, scope, wanted), expression, scope, wanted)
+        }
+        Expression::Not(_, operand) => {
+            typed_at(want(VarType::Bool, wanted), expression, scope, wanted)?;
+            let operand = check_operand(alloc, operand, scope, VarType::Bool)?;
+            Ok(Expr::Not(operand))
+        }
+        Expression::Minus(_, operand) => {
+            let var_type = typed_at(integer(wanted), expression, scope, wanted)?;
+            let operand = check_operand(alloc, operand, scope, var_type)?;
+            Ok(Expr::Minus(var_type, operand))
+        }
+        Expression::Binary(written, _, left, right) => {
             let operator = operator_of(*written);
-            let var_type = operand_type(family_of(operator), wanted, left, right, scope)?;
+            let operands = operand_type(family_of(operator), wanted, left, right, scope);
+            let var_type = typed_at(operands, expression, scope, wanted)?;
             let left = check_operand(alloc, left, scope, var_type)?;
             let right = check_operand(alloc, right, scope, var_type)?;
             Ok(Expr::Binary(operator, var_type, left, right))
         }
     }
-}
-
-// The typed tree of a NOT of an operand.
-#[cycle(check)]
-fn check_not<S: Scope>(
-    alloc: Global,
-    operand: &Expression,
-    scope: &S,
-    wanted: VarType,
-) -> Result<Expr, TypeError>
-    ensures { Gives expression_of result
-        (checking.checked (S.names scope.now) (written.Not (tree_of operand.now)) wanted) }
-{
-    want(VarType::Bool, wanted)?;
-    let operand = check_operand(alloc, operand, scope, VarType::Bool)?;
-    Ok(Expr::Not(operand))
-}
-
-// The typed tree of a minus before an operand.
-#[cycle(check)]
-fn check_minus<S: Scope>(
-    alloc: Global,
-    operand: &Expression,
-    scope: &S,
-    wanted: VarType,
-) -> Result<Expr, TypeError>
-    ensures { Gives expression_of result
-        (checking.checked (S.names scope.now) (written.Minus (tree_of operand.now)) wanted) }
-{
-    let var_type = integer(wanted)?;
-    let operand = check_operand(alloc, operand, scope, var_type)?;
-    Ok(Expr::Minus(var_type, operand))
 }
 
 // The typed tree of an operand, in memory of its own.
@@ -86,7 +69,7 @@ fn check_operand<S: Scope>(
     operand: &Expression,
     scope: &S,
     wanted: VarType,
-) -> Result<Box<Expr>, TypeError>
+) -> Result<Box<Expr>, PlacedTypeError>
     ensures { Gives (λ b. expression_of b.value) result
         (checking.checked (S.names scope.now) (tree_of operand.now) wanted) }
 {

@@ -8,6 +8,7 @@ ghost use Rattle.sfc_expr.specs.Trees.{Nothing, If, NoBranch, When, Otherwise};
 ghost use Rattle.sfc_expr.specs.Trees.{before, tried_before, body_of, branches_of, expression_of};
 
 use crate::check::check;
+use crate::placed_error::{PlacedTypeError, checked_at};
 use crate::scope::Scope;
 use crate::type_error::TypeError;
 use sfc_base::references::Variable;
@@ -18,14 +19,14 @@ use sfc_text::expression::{Expression, Variable as Name};
 use sfc_text::statement::{Branch as WrittenBranch, Statement as WrittenStatement};
 use std::alloc::Global;
 
-/// The typed trees of statements, or their first type fault in text order.
+/// The typed trees of statements, or their first type fault in text order; a target is at fault at its name.
 #[cycle(check_body)]
 #[tactic(auto, using(crate::proofs::Checks::statements))]
 pub fn check_body<S: Scope>(
     alloc: Global,
     statements: &[WrittenStatement],
     scope: &S,
-) -> Result<Vec<Statement>, TypeError>
+) -> Result<Vec<Statement>, PlacedTypeError>
     ensures { Gives (λ v. body_of v.items) result
         (checking.checked_body (S.names scope.now) (text.block_of statements.now)) }
 {
@@ -43,13 +44,13 @@ fn check_statement<S: Scope>(
     alloc: Global,
     statement: &WrittenStatement,
     scope: &S,
-) -> Result<Statement, TypeError>
+) -> Result<Statement, PlacedTypeError>
     ensures { Gives (λ s. before s Nothing) result
         (checking.checked_body (S.names scope.now) (text.before statement.now text.Nothing)) }
 {
     match statement {
-        WrittenStatement::Assign(target, value) => check_assignment(alloc, target, value, scope),
-        WrittenStatement::If(branches) => check_if(alloc, branches, scope),
+        WrittenStatement::Assign(target, value, _) => check_assignment(alloc, target, value, scope),
+        WrittenStatement::If(branches, _) => check_if(alloc, branches, scope),
     }
 }
 
@@ -59,11 +60,12 @@ fn check_assignment<S: Scope>(
     target: &Name,
     value: &Expression,
     scope: &S,
-) -> Result<Statement, TypeError>
+) -> Result<Statement, PlacedTypeError>
     ensures { Gives (λ s. before s Nothing) result
         (checking.checked_body (S.names scope.now) (text.Assign target.now (text.tree_of value.now) text.Nothing)) }
 {
-    let (target, var_type) = check_target(target, scope)?;
+    let span = target.name.span();
+    let (target, var_type) = checked_at(check_target(target, scope), span)?;
     let value = check(alloc, value, scope, var_type)?;
     Ok(Statement::Assign { target, value })
 }
@@ -87,7 +89,7 @@ fn check_if<S: Scope>(
     alloc: Global,
     branches: &[WrittenBranch],
     scope: &S,
-) -> Result<Statement, TypeError>
+) -> Result<Statement, PlacedTypeError>
     ensures { Gives (λ s. before s Nothing) result
         (checking.checked_body (S.names scope.now) (text.If (text.branches_of branches.now) text.Nothing)) }
 {
@@ -101,7 +103,7 @@ fn check_branches<S: Scope>(
     alloc: Global,
     branches: &[WrittenBranch],
     scope: &S,
-) -> Result<Vec<Branch>, TypeError>
+) -> Result<Vec<Branch>, PlacedTypeError>
     ensures { Gives (λ v. branches_of v.items) result
         (checking.checked_branches (S.names scope.now) (text.branches_of branches.now)) }
 {
@@ -119,7 +121,7 @@ fn check_branch<S: Scope>(
     alloc: Global,
     branch: &WrittenBranch,
     scope: &S,
-) -> Result<Branch, TypeError>
+) -> Result<Branch, PlacedTypeError>
     ensures { Gives (λ b. tried_before b NoBranch) result
         (checking.checked_branches (S.names scope.now) (text.beside branch.now text.Nothing)) }
 {
@@ -136,7 +138,7 @@ fn check_when<S: Scope>(
     body: &[WrittenStatement],
     condition: &Expression,
     scope: &S,
-) -> Result<Branch, TypeError>
+) -> Result<Branch, PlacedTypeError>
     ensures { let written : _ = text.When (text.tree_of condition.now) (text.block_of body.now) text.Nothing in
         Gives (λ b. tried_before b NoBranch) result (checking.checked_branches (S.names scope.now) written) }
 {
@@ -150,7 +152,7 @@ fn check_otherwise<S: Scope>(
     alloc: Global,
     body: &[WrittenStatement],
     scope: &S,
-) -> Result<Branch, TypeError>
+) -> Result<Branch, PlacedTypeError>
     ensures { let written : _ = text.Otherwise (text.block_of body.now) text.Nothing in
         Gives (λ b. tried_before b NoBranch) result (checking.checked_branches (S.names scope.now) written) }
 {

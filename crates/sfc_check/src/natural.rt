@@ -16,11 +16,11 @@ pub fn natural<S: Scope>(expression: &Expression, scope: &S) -> Option<VarType>
     ensures { result ≡ naturals.natural (S.names scope.now) (tree_of expression.now) }
 {
     match expression {
-        Expression::Literal(literal) => literal_type(*literal),
+        Expression::Literal(literal, _) => literal_type(*literal),
         Expression::Variable(name) => Some(Referent::of_name(name, scope)?.var_type()),
-        Expression::Not(_) => Some(VarType::Bool),
-        Expression::Minus(operand) => natural(operand, scope),
-        Expression::Binary(operator, left, right) => match family_of(operator_of(*operator)) {
+        Expression::Not(_, _) => Some(VarType::Bool),
+        Expression::Minus(_, operand) => natural(operand, scope),
+        Expression::Binary(operator, _, left, right) => match family_of(operator_of(*operator)) {
             Family::Sum | Family::Product => match natural(left, scope) {
                 Some(var_type) => Some(var_type),
                 None => natural(right, scope),
@@ -30,8 +30,8 @@ pub fn natural<S: Scope>(expression: &Expression, scope: &S) -> Option<VarType>
     }
 }
 
-// The type that a literal was written with.
-fn literal_type(literal: Literal) -> Option<VarType>
+/// The type that a literal was written with.
+pub fn literal_type(literal: Literal) -> Option<VarType>
     ensures { result ≡ naturals.literal_type literal }
 {
     match literal {

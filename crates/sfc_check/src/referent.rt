@@ -62,6 +62,11 @@ impl Referent {
     }
 }
 
+/// Whether steps or actions have a part of this name (2.6.2, 2.6.4.5): X, T or Q.
+pub(crate) fn is_part(part: &[u8]) -> bool {
+    is_same_word(part, b"X") || is_same_word(part, b"T") || is_same_word(part, b"Q")
+}
+
 // What a name with a dot stands for.
 fn part_of<S: Scope>(name: &[u8], part: &[u8], scope: &S) -> Option<Referent>
     ensures { result ≡ scopes.part_of (S.names scope.now) name.now part.now }

@@ -9,10 +9,10 @@ ghost use Rattle.sfc_plant.specs.PlantParts.{AreNamed};
 ghost use Rattle.sfc_load.specs.Assembly.Declared.{titles_of, plant_from};
 
 use crate::declaring::load_declarations;
-use crate::image_check::check_image;
+use crate::image_place::check_image_of;
 use crate::instances::load_instances;
+use crate::sfc_check::placed_error::PlacedLoadError;
 use sfc_base::items::Items;
-use sfc_events::load_error::LoadError;
 use sfc_plant::parts::Parts;
 use sfc_plant::plant::Plant;
 use sfc_plant::titles::Titles;
@@ -20,7 +20,7 @@ use sfc_text::tree::Source;
 use std::alloc::{AllocError, Global};
 
 /// The parts of the plant that a text is, or the first fault.
-pub(crate) fn load_parts(alloc: Global, source: &Source) -> Result<Parts, LoadError>
+pub(crate) fn load_parts(alloc: Global, source: &Source) -> Result<Parts, PlacedLoadError>
     ensures loads { Loads (plant_from source.now) result (source_check (source_of source.now)) (plant_of (source_of source.now)) }
     ensures named { IfOk result AreNamed }
 {
@@ -31,8 +31,9 @@ pub(crate) fn load_parts(alloc: Global, source: &Source) -> Result<Parts, LoadEr
         &declared.task_names,
         &declared.type_names,
     )?;
-    let starts = check_image(
+    let starts = check_image_of(
         alloc,
+        source,
         declared.globals.as_slice(),
         declared.types.as_slice(),
         &instances,

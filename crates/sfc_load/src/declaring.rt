@@ -7,16 +7,19 @@ ghost use Rattle.sfc_load.specs.Built.{source_check};
 ghost use Rattle.sfc_load.specs.Assembly.Declared.{AreDeclared};
 
 use crate::programs::load_programs;
+use crate::sfc_check::placed_error::PlacedLoadError;
 use crate::sfc_variables::globals::load_globals;
 use crate::tasks::load_tasks;
 use sfc_base::items::Items;
-use sfc_events::load_error::LoadError;
 use sfc_plant::declarations::Declarations;
 use sfc_text::tree::Source;
 use std::alloc::Global;
 
 /// The declarations of a text, or its first fault, where that is in one of them.
-pub(crate) fn load_declarations(alloc: Global, source: &Source) -> Result<Declarations, LoadError>
+pub(crate) fn load_declarations(
+    alloc: Global,
+    source: &Source,
+) -> Result<Declarations, PlacedLoadError>
     ensures loads { IfOk result (AreDeclared (source_of source.now)) }
     ensures refused { IfErr result (λ fault. Fails fault (source_check (source_of source.now))) }
 {

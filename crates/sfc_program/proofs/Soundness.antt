@@ -349,9 +349,9 @@ module _ (globals : List Variable) (p : ProgramTree) where
 -- no transition of a text has an empty side
 sides_of : (elements : List Element) → All HasSides (transitions_of (map element_of elements))
 sides_of [] = All-nil HasSides
-sides_of (element.Step s ∷ rest) = sides_of rest
-sides_of (element.Action a ∷ rest) = sides_of rest
-sides_of (element.Transition t ∷ rest) =
+sides_of (element.Step s span ∷ rest) = sides_of rest
+sides_of (element.Action a span ∷ rest) = sides_of rest
+sides_of (element.Transition t span ∷ rest) =
     All-cons HasSides (trees.transition_of t) (transitions_of (map element_of rest))
     (record { preceding = t.some_preceding; following = t.some_following })
     (sides_of rest)

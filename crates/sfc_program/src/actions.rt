@@ -13,7 +13,7 @@ ghost use Rattle.sfc_program.specs.Built.{action_of};
 
 use crate::scope::{ActionScope, ProgramScope};
 use sfc_check::check_body::check_body;
-use sfc_events::load_error::LoadError;
+use sfc_check::placed_error::PlacedLoadError;
 use sfc_plant::action::Action;
 use sfc_plant::typed::Statements;
 use sfc_text::tree::{self, Element};
@@ -25,7 +25,7 @@ fn load_body(
     alloc: Global,
     action: &tree::Action,
     scope: &ProgramScope,
-) -> Result<Statements, LoadError>
+) -> Result<Statements, PlacedLoadError>
     ensures { let outcome : _ =
         checked_body (names_in scope.now (Some action.now.name)) (block_of action.now.body.items) in
         Loads (λ loaded. loaded) result (typed outcome) (checked_or Nothing outcome) }
@@ -44,7 +44,7 @@ fn add_action(
     action: &tree::Action,
     scope: &ProgramScope,
     loaded: &mut Vec<Action>,
-) -> Result<(), LoadError>
+) -> Result<(), PlacedLoadError>
     ensures loads { Loads (λ u. u) result (action_check scope.now (trees.action_of action.now)) tt }
     ensures added { OnOk result
         (loaded.new.items ≡ loaded.old.items ++ action_of scope.now (trees.action_of action.now) ∷ []) }
@@ -60,7 +60,7 @@ pub fn load_actions(
     alloc: Global,
     elements: &[Element],
     scope: &ProgramScope,
-) -> Result<Vec<Action>, LoadError>
+) -> Result<Vec<Action>, PlacedLoadError>
     ensures { let actions : _ = actions_of (map element_of elements.now) in
         Loads (λ loaded. loaded.items) result
         (each (action_check scope.now) actions) (map (action_of scope.now) actions) }
@@ -68,7 +68,7 @@ pub fn load_actions(
     let mut loaded = Vec::new(alloc);
     let mut rest = elements;
     'elements: while let Some((element, after)) = rest.split_first() {
-        if let Element::Action(action) = element {
+        if let Element::Action(action, _) = element {
             add_action(alloc, action, scope, &mut loaded)?;
         }
         rest = after;

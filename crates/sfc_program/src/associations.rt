@@ -14,31 +14,36 @@ use sfc_base::items::Items;
 use sfc_base::name::Name;
 use sfc_base::references::Variable;
 use sfc_base::var_type::VarType;
+use sfc_check::detail::Detail;
 use sfc_check::literal::check_literal;
+use sfc_check::placed_error::{PlacedLoadError, checked_at};
 use sfc_check::scope::Scope;
 use sfc_events::load_error::LoadError;
 use sfc_plant::association::{Association, Qualifier, Target, Time};
 use sfc_plant::chart::Step;
 use sfc_text::tree::{self, AssociationTime, Element, Literal};
+use sfc_tokens::placed::Placed;
+use sfc_tokens::span::NOWHERE;
 use std::alloc::Global;
 
 // The variable of this name, which has to be of a type: else the first fault where there is none, and the second where
 // it has another type.
 fn variable_of_type(
-    name: &Name,
+    name: &Placed<Name>,
     scope: &ProgramScope,
     wanted: VarType,
     missing: LoadError,
     wrong: LoadError,
-) -> Result<Variable, LoadError>
+) -> Result<Variable, PlacedLoadError>
     ensures { let found : _ = variable_named scope.now.locals scope.now.globals name.now in
         Loads (λ variable. variable) result (variable_check wanted missing wrong found) (variable_in scope.now name.now) }
 {
     match scope.variable(name.spelling()) {
-        None => Err(missing),
+        None => Err(PlacedLoadError::new(missing, name.span())),
         Some((variable, var_type)) => {
             if var_type != wanted {
-                return Err(wrong);
+                let detail = Detail::mismatch(wanted, var_type);
+                return Err(PlacedLoadError::told(wrong, name.span(), detail));
             }
             Ok(variable)
         }
@@ -46,7 +51,7 @@ fn variable_of_type(
 }
 
 // The action of an association: a declared one, else a BOOL variable (2.6.4.1).
-fn load_target(name: &Name, scope: &ProgramScope) -> Result<Target, LoadError>
+fn load_target(name: &Placed<Name>, scope: &ProgramScope) -> Result<Target, PlacedLoadError>
     ensures { Loads (λ target. target) result (target_check scope.now name.now) (target_of scope.now name.now) }
 {
     if let Some(place) = scope.action(name.spelling()) {
@@ -64,12 +69,12 @@ fn load_target(name: &Name, scope: &ProgramScope) -> Result<Target, LoadError>
 
 // The time of an association: a TIME, or a variable of that type (2.6.4.4).
 #[tactic(auto, using(crate::proofs::Typing::typing))]
-fn load_time(written: &AssociationTime, scope: &ProgramScope) -> Result<Time, LoadError>
+fn load_time(written: &AssociationTime, scope: &ProgramScope) -> Result<Time, PlacedLoadError>
     ensures { Loads (λ time. time) result (time_check scope.now written.now) (time_of scope.now written.now) }
 {
     match written {
         AssociationTime::Literal(time) => {
-            check_literal(Literal::Time(*time), VarType::Time)?;
+            checked_at(check_literal(Literal::Time(*time), VarType::Time), NOWHERE)?;
             Ok(Time::Literal(time.micros()))
         }
         AssociationTime::Variable(name) => {
@@ -86,7 +91,10 @@ fn load_time(written: &AssociationTime, scope: &ProgramScope) -> Result<Time, Lo
 }
 
 // The qualifier of an association (2.6.4.4).
-fn load_qualifier(written: &tree::Qualifier, scope: &ProgramScope) -> Result<Qualifier, LoadError>
+fn load_qualifier(
+    written: &tree::Qualifier,
+    scope: &ProgramScope,
+) -> Result<Qualifier, PlacedLoadError>
     ensures { Loads (λ qualifier. qualifier) result
         (qualifier_check scope.now written.now) (qualifier_of scope.now written.now) }
 {
@@ -106,15 +114,15 @@ fn load_qualifier(written: &tree::Qualifier, scope: &ProgramScope) -> Result<Qua
 
 // Puts an indicator variable, which is of any type (2.6.4.3), last among those that are loaded.
 fn add_indicator(
-    name: &Name,
+    name: &Placed<Name>,
     scope: &ProgramScope,
     loaded: &mut Vec<Variable>,
-) -> Result<(), LoadError>
+) -> Result<(), PlacedLoadError>
     ensures loads { Loads (λ u. u) result (indicator_check scope.now name.now) tt }
     ensures added { OnOk result (loaded.new.items ≡ loaded.old.items ++ variable_in scope.now name.now ∷ []) }
 {
     let Some((variable, _)) = scope.variable(name.spelling()) else {
-        return Err(LoadError::Unknown);
+        return Err(PlacedLoadError::new(LoadError::Unknown, name.span()));
     };
     loaded.push(variable)?;
     Ok(())
@@ -123,9 +131,9 @@ fn add_indicator(
 // Indicator variables, in text order.
 fn load_indicators(
     alloc: Global,
-    names: &[Name],
+    names: &[Placed<Name>],
     scope: &ProgramScope,
-) -> Result<Vec<Variable>, LoadError>
+) -> Result<Vec<Variable>, PlacedLoadError>
     ensures { Loads (λ loaded. loaded.items) result
         (each (indicator_check scope.now) names.now) (map (variable_in scope.now) names.now) }
 {
@@ -141,17 +149,18 @@ fn load_indicators(
 // Puts one line of an action block (2.6.4.3) last among those that are loaded.
 fn add_association(
     alloc: Global,
-    association: &tree::Association,
+    association: &Placed<tree::Association>,
     scope: &ProgramScope,
     loaded: &mut Vec<Association>,
-) -> Result<(), LoadError>
+) -> Result<(), PlacedLoadError>
     ensures loads { Loads (λ u. u) result (association_check scope.now association.now) tt }
     ensures added { OnOk result
         (loaded.new.items ≡ loaded.old.items ++ association_of scope.now association.now ∷ []) }
 {
-    let target = load_target(&association.action, scope)?;
-    let qualifier = load_qualifier(&association.qualifier, scope)?;
-    let indicators = load_indicators(alloc, association.indicators.as_slice(), scope)?;
+    let written = association.value();
+    let target = load_target(&written.action, scope)?;
+    let qualifier = load_qualifier(&written.qualifier, scope)?;
+    let indicators = load_indicators(alloc, written.indicators.as_slice(), scope)?;
     loaded.push(Association {
         target,
         qualifier,
@@ -163,9 +172,9 @@ fn add_association(
 // The associations of a step, in text order.
 fn load_associations(
     alloc: Global,
-    associations: &[tree::Association],
+    associations: &[Placed<tree::Association>],
     scope: &ProgramScope,
-) -> Result<Vec<Association>, LoadError>
+) -> Result<Vec<Association>, PlacedLoadError>
     ensures { Loads (λ loaded. loaded.items) result
         (each (association_check scope.now) associations.now) (map (association_of scope.now) associations.now) }
 {
@@ -184,7 +193,7 @@ fn add_step(
     step: &tree::Step,
     scope: &ProgramScope,
     loaded: &mut Vec<Step>,
-) -> Result<(), LoadError>
+) -> Result<(), PlacedLoadError>
     ensures loads { Loads (λ u. u) result (step_check scope.now step.now) tt }
     ensures added { OnOk result (loaded.new.items ≡ loaded.old.items ++ step_of scope.now step.now ∷ []) }
 {
@@ -203,14 +212,14 @@ pub fn load_steps(
     alloc: Global,
     elements: &[Element],
     scope: &ProgramScope,
-) -> Result<Vec<Step>, LoadError>
+) -> Result<Vec<Step>, PlacedLoadError>
     ensures { let steps : _ = steps_of (map element_of elements.now) in
         Loads (λ loaded. loaded.items) result (each (step_check scope.now) steps) (map (step_of scope.now) steps) }
 {
     let mut loaded = Vec::new(alloc);
     let mut rest = elements;
     'elements: while let Some((element, after)) = rest.split_first() {
-        if let Element::Step(step) = element {
+        if let Element::Step(step, _) = element {
             add_step(alloc, step, scope, &mut loaded)?;
         }
         rest = after;

@@ -9,9 +9,11 @@ ghost use Rattle.sfc_program.specs.Elements.{steps_of, step_names, action_names,
 ghost use Rattle.sfc_program.specs.Loading.{name_check, distinct_check, element_names, initial_check};
 
 use sfc_base::name::Name;
+use sfc_check::placed_error::PlacedLoadError;
 use sfc_events::load_error::LoadError;
 use sfc_plant::name_table::NameTable;
 use sfc_text::tree::Element;
+use sfc_tokens::placed::Placed;
 use std::alloc::Global;
 
 /// The names of the steps and of the declared actions of a program type, each in text order.
@@ -31,12 +33,16 @@ impl Drop for ElementNames {
 }
 
 // Puts a name last in the name space, if it isn't there.
-fn add_name(alloc: Global, name: &Name, space: &mut NameTable) -> Result<(), LoadError>
+fn add_name(
+    alloc: Global,
+    name: &Placed<Name>,
+    space: &mut NameTable,
+) -> Result<(), PlacedLoadError>
     ensures loads { Loads (λ u. u) result (name_check space.old name.now) tt }
     ensures named { OnOk result (space.new ≡ space.old ++ name.now ∷ []) }
 {
     if !space.add(alloc, name.spelling())? {
-        return Err(LoadError::Duplicate);
+        return Err(PlacedLoadError::new(LoadError::Duplicate, name.span()));
     }
     Ok(())
 }
@@ -44,10 +50,10 @@ fn add_name(alloc: Global, name: &Name, space: &mut NameTable) -> Result<(), Loa
 // Puts a name last in the name space and among the names of its kind, if it isn't in the name space.
 fn add_to_kind(
     alloc: Global,
-    name: &Name,
+    name: &Placed<Name>,
     space: &mut NameTable,
     kind: &mut NameTable,
-) -> Result<(), LoadError>
+) -> Result<(), PlacedLoadError>
     requires { has space.old name.now ≡ false → has kind.old name.now ≡ false }
     ensures loads { Loads (λ u. u) result (name_check space.old name.now) tt }
     ensures named { OnOk result (space.new ≡ space.old ++ name.now ∷ []) }
@@ -63,7 +69,7 @@ fn add_steps(
     alloc: Global,
     elements: &[Element],
     space: &mut NameTable,
-) -> Result<NameTable, LoadError>
+) -> Result<NameTable, PlacedLoadError>
     ensures loads { let steps : _ = step_names (map element_of elements.now) in
         Loads (λ table. table) result (distinct_check space.old steps) steps }
     ensures named { OnOk result (space.new ≡ space.old ++ step_names (map element_of elements.now)) }
@@ -71,7 +77,7 @@ fn add_steps(
     let mut steps = NameTable::new(alloc);
     let mut rest = elements;
     'elements: while let Some((element, after)) = rest.split_first() {
-        if let Element::Step(step) = element {
+        if let Element::Step(step, _) = element {
             add_to_kind(alloc, &step.name, space, &mut steps)?;
         }
         rest = after;
@@ -84,7 +90,7 @@ fn add_actions(
     alloc: Global,
     elements: &[Element],
     space: &mut NameTable,
-) -> Result<NameTable, LoadError>
+) -> Result<NameTable, PlacedLoadError>
     ensures loads { let actions : _ = action_names (map element_of elements.now) in
         Loads (λ table. table) result (distinct_check space.old actions) actions }
     ensures named { OnOk result (space.new ≡ space.old ++ action_names (map element_of elements.now)) }
@@ -92,7 +98,7 @@ fn add_actions(
     let mut actions = NameTable::new(alloc);
     let mut rest = elements;
     'elements: while let Some((element, after)) = rest.split_first() {
-        if let Element::Action(action) = element {
+        if let Element::Action(action, _) = element {
             add_to_kind(alloc, &action.name, space, &mut actions)?;
         }
         rest = after;
@@ -105,12 +111,12 @@ fn add_transitions(
     alloc: Global,
     elements: &[Element],
     space: &mut NameTable,
-) -> Result<(), LoadError>
+) -> Result<(), PlacedLoadError>
     ensures { Loads (λ u. u) result (distinct_check space.old (transition_names (map element_of elements.now))) tt }
 {
     let mut rest = elements;
     'elements: while let Some((element, after)) = rest.split_first() {
-        if let Element::Transition(transition) = element {
+        if let Element::Transition(transition, _) = element {
             if let Some(name) = &transition.name {
                 add_name(alloc, name, space)?;
             }
@@ -125,7 +131,7 @@ fn add_others(
     alloc: Global,
     elements: &[Element],
     space: &mut NameTable,
-) -> Result<NameTable, LoadError>
+) -> Result<NameTable, PlacedLoadError>
     ensures { let trees : _ = map element_of elements.now in
         Loads (λ table. table) result
         (distinct_check space.old (action_names trees ++ transition_names trees)) (action_names trees) }
@@ -142,7 +148,7 @@ pub fn load_element_names(
     alloc: Global,
     elements: &[Element],
     space: &mut NameTable,
-) -> Result<ElementNames, LoadError>
+) -> Result<ElementNames, PlacedLoadError>
     ensures loads { let trees : _ = map element_of elements.now in
         Loads (λ names. names.steps) result (distinct_check space.old (element_names trees)) (step_names trees) }
     ensures actions { IfOk result (λ names. names.actions ≡ action_names (map element_of elements.now)) }
@@ -158,7 +164,7 @@ fn has_initial(elements: &[Element]) -> bool
 {
     let mut rest = elements;
     'elements: while let Some((element, after)) = rest.split_first() {
-        if let Element::Step(step) = element {
+        if let Element::Step(step, _) = element {
             if step.is_initial {
                 return true;
             }

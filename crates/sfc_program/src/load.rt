@@ -16,17 +16,22 @@ use crate::scope::ProgramScope;
 use crate::transitions::load_transitions;
 use sfc_base::items::Items;
 use sfc_base::limits::STEPS;
-use sfc_events::load_error::LoadError;
+use sfc_check::placed_error::{PlacedLoadError, loaded_at, loaded_within};
 use sfc_plant::chart::Chart;
 use sfc_plant::name_table::NameTable;
 use sfc_plant::program_type::ProgramType;
 use sfc_plant::variable_table::VariableTable;
 use sfc_text::tree::{Element, Program};
+use sfc_tokens::span::NOWHERE;
 use sfc_variables::own::{OwnVariables, load_own};
 use std::alloc::Global;
 
 // The chart of the elements, whose names are known: associations, then transitions, then bodies.
-fn load_chart(alloc: Global, elements: &[Element], scope: &ProgramScope) -> Result<Chart, LoadError>
+fn load_chart(
+    alloc: Global,
+    elements: &[Element],
+    scope: &ProgramScope,
+) -> Result<Chart, PlacedLoadError>
     ensures { let trees : _ = map element_of elements.now in
         Loads (λ chart. chart) result (chart_check scope.now trees) (chart_of scope.now trees) }
 {
@@ -47,7 +52,7 @@ fn load_named(
     globals: &VariableTable,
     locals: &VariableTable,
     names: &ElementNames,
-) -> Result<Chart, LoadError>
+) -> Result<Chart, PlacedLoadError>
     requires { length names.now.steps ≤ STEPS }
     ensures { let trees : _ = map element_of elements.now in
         let space : _ = record {
@@ -58,7 +63,7 @@ fn load_named(
         } in
         Loads (λ chart. chart) result (initial_check trees then chart_check space trees) (chart_of space trees) }
 {
-    check_initial(elements)?;
+    loaded_at(check_initial(elements), NOWHERE)?;
     let scope = ProgramScope::new(globals, locals, &names.steps, &names.actions);
     load_chart(alloc, elements, &scope)
 }
@@ -71,7 +76,7 @@ fn load_elements(
     globals: &VariableTable,
     locals: &VariableTable,
     space: &mut NameTable,
-) -> Result<Chart, LoadError>
+) -> Result<Chart, PlacedLoadError>
     requires { length (steps_of (map element_of elements.now)) ≤ STEPS }
     ensures { let trees : _ = map element_of elements.now in
         let names : _ = record {
@@ -92,13 +97,14 @@ fn load_elements(
 ///
 /// It answers the first fault in this order: the limits on steps, transitions and associations; locals and externals;
 /// names that stand twice, of steps, then actions, then transitions; no initial step; associations; transitions;
-/// bodies. `Memory` is answered where memory was refused.
+/// bodies. A fault is at the name, the literal or the operator that is refused, or at the first of what is too much; that there
+/// is no initial step at the name of the program type. `Memory` is answered where memory was refused.
 #[tactic(auto, unfolding(crate::specs::Loading::program_check))]
 pub fn load_program(
     alloc: Global,
     program: &Program,
     globals: &VariableTable,
-) -> Result<ProgramType, LoadError>
+) -> Result<ProgramType, PlacedLoadError>
     ensures { Loads (λ loaded. loaded) result
         (program_check globals.now (trees.program_of program.now))
         (program_of globals.now (trees.program_of program.now)) }
@@ -111,7 +117,8 @@ pub fn load_program(
         externals,
         mut names,
     } = own;
-    let chart = load_elements(alloc, elements, globals, &locals, &mut names)?;
+    let chart = load_elements(alloc, elements, globals, &locals, &mut names);
+    let chart = loaded_within(chart, program.name.span())?;
     Ok(ProgramType {
         name: program.name.copy(alloc)?,
         locals,

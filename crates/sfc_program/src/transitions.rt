@@ -19,6 +19,7 @@ use sfc_base::name::Name;
 use sfc_base::references::StepId;
 use sfc_base::var_type::VarType;
 use sfc_check::check::check;
+use sfc_check::placed_error::PlacedLoadError;
 use sfc_check::scope::Scope;
 use sfc_events::load_error::LoadError;
 use sfc_plant::chart::Transition;
@@ -26,32 +27,37 @@ use sfc_plant::name_table::NameTable;
 use sfc_plant::typed::Condition;
 use sfc_text::expression::Expression;
 use sfc_text::tree::{self, Element};
+use sfc_tokens::placed::Placed;
 use std::alloc::{AllocError, Global};
 
 // Puts a step that a transition names, and hasn't named on the same side before, last among those of the side.
 fn add_side_step(
     alloc: Global,
-    name: &Name,
+    name: &Placed<Name>,
     scope: &ProgramScope,
     seen: &mut NameTable,
     loaded: &mut Vec<StepId>,
-) -> Result<(), LoadError>
+) -> Result<(), PlacedLoadError>
     ensures loads { Loads (λ u. u) result (side_step_check scope.now.steps seen.old name.now) tt }
     ensures named { OnOk result (seen.new ≡ seen.old ++ name.now ∷ []) }
     ensures added { OnOk result (loaded.new.items ≡ loaded.old.items ++ step_id scope.now.steps name.now ∷ []) }
 {
     let Some(step) = scope.step(name.spelling()) else {
-        return Err(LoadError::UnknownStep);
+        return Err(PlacedLoadError::new(LoadError::UnknownStep, name.span()));
     };
     if !seen.add(alloc, name.spelling())? {
-        return Err(LoadError::Duplicate);
+        return Err(PlacedLoadError::new(LoadError::Duplicate, name.span()));
     }
     loaded.push(step)?;
     Ok(())
 }
 
 // The steps that a transition names on one side, in text order.
-fn load_side(alloc: Global, names: &[Name], scope: &ProgramScope) -> Result<Vec<StepId>, LoadError>
+fn load_side(
+    alloc: Global,
+    names: &[Placed<Name>],
+    scope: &ProgramScope,
+) -> Result<Vec<StepId>, PlacedLoadError>
     ensures { Loads (λ loaded. loaded.items) result
         (side_check scope.now.steps names.now) (step_ids scope.now.steps names.now) }
 {
@@ -71,7 +77,7 @@ fn load_condition(
     alloc: Global,
     condition: &Expression,
     scope: &ProgramScope,
-) -> Result<Condition, LoadError>
+) -> Result<Condition, PlacedLoadError>
     ensures { let outcome : _ = checked (names_in scope.now None) (tree_of condition.now) types.Bool in
         Loads (λ loaded. loaded) result (typed outcome) (checked_or (Literal (value.Bool false)) outcome) }
 {
@@ -79,8 +85,8 @@ fn load_condition(
     Ok(Condition::new(expr))
 }
 
-// The same name once more, if there is one.
-fn copy_some_name(alloc: Global, name: &Option<Name>) -> Result<Option<Name>, AllocError>
+// The same name once more, without its place, if there is one.
+fn copy_some_name(alloc: Global, name: &Option<Placed<Name>>) -> Result<Option<Name>, AllocError>
     ensures { IfOk result (λ copy. copy ≡ name.now) }
 {
     match name {
@@ -98,7 +104,7 @@ fn add_transition(
     transition: &tree::Transition,
     scope: &ProgramScope,
     loaded: &mut Vec<Transition>,
-) -> Result<(), LoadError>
+) -> Result<(), PlacedLoadError>
     ensures loads { Loads (λ u. u) result (transition_check scope.now (trees.transition_of transition.now)) tt }
     ensures added { OnOk result
         (loaded.new.items ≡ loaded.old.items ++ transition_of scope.now (trees.transition_of transition.now) ∷ []) }
@@ -122,7 +128,7 @@ pub fn load_transitions(
     alloc: Global,
     elements: &[Element],
     scope: &ProgramScope,
-) -> Result<Vec<Transition>, LoadError>
+) -> Result<Vec<Transition>, PlacedLoadError>
     ensures { let transitions : _ = transitions_of (map element_of elements.now) in
         Loads (λ loaded. loaded.items) result
         (each (transition_check scope.now) transitions) (map (transition_of scope.now) transitions) }
@@ -130,7 +136,7 @@ pub fn load_transitions(
     let mut loaded = Vec::new(alloc);
     let mut rest = elements;
     'elements: while let Some((element, after)) = rest.split_first() {
-        if let Element::Transition(transition) = element {
+        if let Element::Transition(transition, _) = element {
             add_transition(alloc, transition, scope, &mut loaded)?;
         }
         rest = after;

@@ -50,7 +50,7 @@ pub fn condition_of(
             program,
             condition: Condition::new(expr),
         }),
-        Err(error) => Err(wrong(place, error)),
+        Err(fault) => Err(wrong(place, fault.error())),
     }
 }
 

@@ -1,6 +1,7 @@
 -- Blocks of statements, and branches.
 use Rattle.std.proofs.Common.{◌≡◌, List, [], ◌∷◌, ◌++◌, Vec, Global, refl, sym, ap, ◌∙◌}
 use mathlib.Core.Former.{Count}
+use Rattle.sfc_tokens.specs.declared.span.Span.{Span}
 use Rattle.sfc_text.specs.declared.expression.Expression.{Expression}
 use Rattle.sfc_text.specs.declared.statement.Statement.{Statement, Row_of-Branch, end_of-Branch, more_of-Branch, items-the_row-Branch, items_hidden-the_row-Branch-1}
 use Rattle.sfc_text.specs.declared.statement.Statement.TheVariants as statement
@@ -31,8 +32,8 @@ append_append (When e body a) b c = ap (When e body) (append_append a b c)
 append_append (Otherwise body a) b c = ap (Otherwise body) (append_append a b c)
 
 append_before : (s : Statement) (b c : Block) → append (before s b) c ≡ before s (append b c)
-append_before (statement.Assign v e) b c = refl
-append_before (statement.If' shape branches) b c = refl
+append_before (statement.Assign v e span) b c = refl
+append_before (statement.If' shape branches span) b c = refl
 
 append_beside : (r : Branch) (b c : Block) → append (beside r b) c ≡ beside r (append b c)
 append_beside (branch.When' e shape body) b c = refl
@@ -48,15 +49,15 @@ branches_push (x ∷ rs) r = ap (beside x) (branches_push rs r) ∙ sym (append_
 
 -- the views of the vectors in a statement and in a branch
 abbrev row_of_if : Statement → (n : Count) × Row_of-Branch n
-row_of_if (statement.If' shape row) = (_, row)
+row_of_if (statement.If' shape row span) = (_, row)
 row_of_if _ = (_, end_of-Branch)
 
 abbrev row_of_branch : Branch → (n : Count) × Row_of-Statement n
 row_of_branch (branch.When' e shape row) = (_, row)
 row_of_branch (branch.Otherwise' shape row) = (_, row)
 
-pub before_if : (v : Vec Branch Global) (b : Block) → before (statement.If v) b ≡ If (branches_of v.items) b
-before_if v b = ap (λ (x : Block). If x b) (let row = row_of_if (statement.If v) in branches_items row.0 row.1 ∙ ap branches_of (items_hidden-the_row-Branch-1 v))
+pub before_if : (v : Vec Branch Global) (span : Span) (b : Block) → before (statement.If v span) b ≡ If (branches_of v.items) b
+before_if v span b = ap (λ (x : Block). If x b) (let row = row_of_if (statement.If v span) in branches_items row.0 row.1 ∙ ap branches_of (items_hidden-the_row-Branch-1 v))
 
 pub beside_when : (e : Expression) (v : Vec Statement Global) (b : Block) → beside (branch.When e v) b ≡ When (tree_of e) (block_of v.items) b
 beside_when e v b = ap (λ (x : Block). When (tree_of e) x b) (let row = row_of_branch (branch.When e v) in statements_items row.0 row.1 ∙ ap block_of (items_hidden-the_row-Statement-0 v))

@@ -1,4 +1,4 @@
--- What a tree says, apart from where its parts lie in memory.
+-- What a tree says, apart from where its parts lie in memory, and where in the text.
 use Rattle.std.specs.Prelude.{ℕ, ◌+◌, List, [], ◌∷◌, Option, map}
 use Rattle.sfc_text.specs.declared.expression.Operator.{Operator}
 use Rattle.sfc_text.specs.declared.expression.Variable.{Variable}
@@ -30,11 +30,11 @@ pub data Tree : Type 0 where
   Binary : Operator → Tree → Tree → Tree
 
 abbrev pub tree_of : Expression → Tree
-tree_of (expression.Literal l) = Constant l
+tree_of (expression.Literal l span) = Constant l
 tree_of (expression.Variable v) = Named v
-tree_of (expression.Not' p e) = Not (tree_of e)
-tree_of (expression.Minus' p e) = Minus (tree_of e)
-tree_of (expression.Binary' o p a q b) = Binary o (tree_of a) (tree_of b)
+tree_of (expression.Not' span p e) = Not (tree_of e)
+tree_of (expression.Minus' span p e) = Minus (tree_of e)
+tree_of (expression.Binary' o span p a q b) = Binary o (tree_of a) (tree_of b)
 
 -- how many operators there are
 abbrev pub operators : Tree → ℕ
@@ -68,8 +68,8 @@ append (Otherwise body b) c = Otherwise body (append b c)
 abbrev mutual
   -- a statement before others
   pub before : Statement → Block → Block
-  before (statement.Assign v e) b = Assign v (tree_of e) b
-  before (statement.If' shape branches) b = If (row_branches branches) b
+  before (statement.Assign v e span) b = Assign v (tree_of e) b
+  before (statement.If' shape branches span) b = If (row_branches branches) b
 
   pub row_branches : {n : _} → Row_of-Branch n → Block
   row_branches end_of-Branch = Nothing
@@ -125,9 +125,9 @@ pub data ElementTree : Type 0 where
   AnAction : ActionTree → ElementTree
 
 abbrev pub element_of : Element → ElementTree
-element_of (element.Step s) = AStep s
-element_of (element.Transition t) = ATransition (transition_of t)
-element_of (element.Action a) = AnAction (action_of a)
+element_of (element.Step s span) = AStep s
+element_of (element.Transition t span) = ATransition (transition_of t)
+element_of (element.Action a span) = AnAction (action_of a)
 
 -- a program type (2.5.3)
 pub record ProgramTree : Type 0 where

@@ -2,12 +2,14 @@
 
 use crate::tree::Literal;
 use sfc_base::name::Name;
+use sfc_tokens::placed::Placed;
+use sfc_tokens::span::Span;
 
 /// A name, with what stands behind its dot: a variable, or what a step or an action has (2.6.2, 2.6.4.5).
 #[derive(Debug)]
 pub struct Variable {
-    pub name: Name,
-    pub part: Option<Name>,
+    pub name: Placed<Name>,
+    pub part: Option<Placed<Name>>,
 }
 
 // By hand, so that a caller that drops one proves one call.
@@ -36,25 +38,26 @@ pub enum Operator {
     Modulo,
 }
 
-/// An expression. The sign of an integer without a type belongs to its literal; each other minus is an operator.
+/// An expression. The sign of an integer without a type belongs to its literal; each other minus is an operator. Literals and
+/// operators have their bytes.
 #[derive(Debug)]
 pub enum Expression {
-    Literal(Literal),
+    Literal(Literal, Span),
     Variable(Variable),
-    Not(Box<Expression>),
-    Minus(Box<Expression>),
-    Binary(Operator, Box<Expression>, Box<Expression>),
+    Not(Span, Box<Expression>),
+    Minus(Span, Box<Expression>),
+    Binary(Operator, Span, Box<Expression>, Box<Expression>),
 }
 
 // By hand, so that a caller that drops one proves one call.
 impl Drop for Expression {
     fn drop(self) {
         match self {
-            Expression::Literal(_) => {}
+            Expression::Literal(_, _) => {}
             Expression::Variable(_) => {}
-            Expression::Not(_) => {}
-            Expression::Minus(_) => {}
-            Expression::Binary(_, _, _) => {}
+            Expression::Not(_, _) => {}
+            Expression::Minus(_, _) => {}
+            Expression::Binary(_, _, _, _) => {}
         }
     }
 }

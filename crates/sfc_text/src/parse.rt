@@ -5,6 +5,7 @@
 //! - `expression`: expressions; `operator`: their operators by levels.
 //! - `fault`: what keeps a parser from going on.
 //! - `list`: lists of items, all alike.
+//! - `place`: where what is read stands in the text.
 //! - `source`: program types, and whole texts.
 //! - `statement`: the bodies of actions.
 //! - `step`: steps and their associations.
@@ -17,6 +18,7 @@ pub mod expression;
 pub mod fault;
 pub mod list;
 pub mod operator;
+pub mod place;
 pub mod source;
 pub mod statement;
 pub mod step;

@@ -8,8 +8,21 @@ use crate::expression::Expression;
 use crate::parse::expression::whole_expression;
 use crate::read::refusal;
 use sfc_events::read_error::ReadError;
-use sfc_tokens::lex::tokens;
+use sfc_tokens::lex::tokens_with_place;
+use sfc_tokens::placed::Placed;
 use std::alloc::Global;
+
+/// The tree of a text that is one expression as `read_expr` answers it, where an error has its place too, as that of
+/// `read_with_place`.
+pub fn read_expr_with_place(alloc: Global, text: &[u8]) -> Result<Expression, Placed<ReadError>>
+    ensures { Finds tree_of result (λ outcome. ExpressionReads text.now outcome) }
+{
+    let tokens = tokens_with_place(alloc, text)?;
+    match whole_expression(alloc, tokens.as_slice()) {
+        Ok(tree) => Ok(tree),
+        Err(fault) => Err(refusal(text, tokens.as_slice(), fault)),
+    }
+}
 
 /// The tree of a text that is one expression, with nothing behind it (B.3.1).
 ///
@@ -21,9 +34,8 @@ use std::alloc::Global;
 pub fn read_expr(alloc: Global, text: &[u8]) -> Result<Expression, ReadError>
     ensures { Finds tree_of result (λ outcome. ExpressionReads text.now outcome) }
 {
-    let tokens = tokens(alloc, text)?;
-    match whole_expression(alloc, tokens.as_slice()) {
+    match read_expr_with_place(alloc, text) {
         Ok(tree) => Ok(tree),
-        Err(fault) => Err(refusal(text, tokens.as_slice(), fault)),
+        Err(error) => Err(error.into_value()),
     }
 }

@@ -1,15 +1,16 @@
 //! Statements (3.3.2).
 
 use crate::expression::{Expression, Variable};
+use sfc_tokens::span::Span;
 
-/// A statement.
+/// A statement, with its bytes before the semicolon.
 #[cycle(statement)]
 #[derive(Debug)]
 pub enum Statement {
     /// The variable takes the value of the expression.
-    Assign(Variable, Expression),
+    Assign(Variable, Expression, Span),
     /// The branches of an IF statement, in text order: of IF, of each ELSIF, and of ELSE where it was written.
-    If(Vec<Branch>),
+    If(Vec<Branch>, Span),
 }
 
 // By hand, so that a caller that drops one proves one call.
@@ -17,8 +18,8 @@ impl Drop for Statement {
     #[cycle(statement)]
     fn drop(self) {
         match self {
-            Statement::Assign(_, _) => {}
-            Statement::If(_) => {}
+            Statement::Assign(_, _, _) => {}
+            Statement::If(_, _) => {}
         }
     }
 }

@@ -58,7 +58,7 @@ fails_as _ read e = e
 
 pub fails : (fault : LexFault) (front : List TokenKind) (bytes : List ℕ) (b : ℕ) (bs : List ℕ) (total : Tokens) → bytes ≡ b ∷ bs → Fails fault (next_by (class_of b) b bs) → with_front front (lex (length bytes) bytes) ≡ total → FailsAs (kind_of fault) total
 fails Memory front bytes b bs total is h so_far = tt
-fails (Wrong f) front bytes b bs total is h so_far =
+fails (Wrong f left) front bytes b bs total is h so_far =
     let one : lex (length bytes) bytes ≡ Err f = ap (λ (x : List ℕ). lex (length x) x) is ∙ turn b bs ∙ rw h refl in
     fails_as f total (sym so_far ∙ rw one refl)
 

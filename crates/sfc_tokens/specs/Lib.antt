@@ -8,7 +8,7 @@ pub mod Lexemes
 pub mod Spelling
 -- whole texts and their tokens
 pub mod Texts
--- tokens without their lines
+-- tokens without their places
 pub mod Tokens
 -- What private clauses cite.
 pub mod Lexing

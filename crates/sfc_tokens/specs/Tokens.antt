@@ -1,4 +1,4 @@
--- Tokens without their lines.
+-- Tokens without their places.
 use Rattle.std.specs.Prelude.{List, map}
 use Rattle.sfc_tokens.specs.declared.token.Token.{Token}
 use Rattle.sfc_tokens.specs.declared.token.TokenKind.{TokenKind}

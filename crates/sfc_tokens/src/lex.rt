@@ -12,17 +12,21 @@ ghost use Rattle.sfc_tokens.specs.Lexing.Tokens.{view_next};
 ghost use Rattle.sfc_tokens.specs.Texts as texts;
 ghost use Rattle.sfc_tokens.specs.Texts.{Finds, TextLexes};
 ghost use Rattle.sfc_tokens.specs.Tokens.{kinds};
+ghost use Rattle.sfc_events.specs.declared.read_error.ReadErrorKind.TheVariants.{TooLong};
 
 use crate::lex_fault::LexFault;
 use crate::literal::{LiteralKind, literal};
+use crate::placed::Placed;
+use crate::refusal::{out_of_memory, refused};
+use crate::span::{NOWHERE, span_of};
 use crate::token::{Token, TokenKind};
 use sfc_base::class::{Class, class_of, first_class};
 use sfc_base::delimiter::Delimiter;
 use sfc_base::keyword::keyword_of;
 use sfc_base::name::{Name, is_spaced};
 use sfc_base::run::{Alphabet, run};
-use sfc_events::read_error::{OUT_OF_MEMORY, ReadError, ReadErrorKind};
-use std::alloc::{AllocError, AllocFailed, Global};
+use sfc_events::read_error::{ReadError, ReadErrorKind};
+use std::alloc::{AllocError, Global};
 
 /// The greatest length of a text, in bytes (our choice).
 pub const LONGEST: usize = 1_048_576;
@@ -100,7 +104,7 @@ fn literal_at(
     let (word, rest) = run(kind.alphabet(), unsigned);
     match literal(alloc, kind, is_negative, word)? {
         Some(token) => Ok((Some(token), rest)),
-        None => Err(LexFault::Wrong(kind.fault())),
+        None => Err(LexFault::Wrong(kind.fault(), rest.len())),
     }
 }
 
@@ -116,6 +120,16 @@ fn word_token(alloc: Global, word: &[u8]) -> Result<TokenKind, AllocError>
     Ok(TokenKind::Name(name))
 }
 
+// How many bytes are left behind a minus or none and the longest run of what a number may consist of.
+fn left_behind_number(bytes: &[u8]) -> usize {
+    let unsigned = match bytes {
+        [b'-', inner @ ..] => inner,
+        _ => bytes,
+    };
+    let (_, rest) = run(Alphabet::Number, unsigned);
+    rest.len()
+}
+
 // The word at the front, or the literal of which it is the prefix.
 fn word_at(alloc: Global, bytes: &[u8]) -> Result<(Option<TokenKind>, &[u8]), LexFault>
     requires { IsTrue (names.starts_word (classes.first_class bytes.now)) }
@@ -125,11 +139,11 @@ fn word_at(alloc: Global, bytes: &[u8]) -> Result<(Option<TokenKind>, &[u8]), Le
     if let [b'#', behind @ ..] = rest {
         return match LiteralKind::of_prefix(word) {
             Some(kind) => literal_at(alloc, kind, behind),
-            None => Err(LexFault::Wrong(ReadErrorKind::BadToken)),
+            None => Err(LexFault::Wrong(ReadErrorKind::BadToken, left_behind_number(behind))),
         };
     }
     if !is_spaced(word) {
-        return Err(LexFault::Wrong(ReadErrorKind::BadToken));
+        return Err(LexFault::Wrong(ReadErrorKind::BadToken, rest.len()));
     }
     let token = word_token(alloc, word)?;
     Ok((Some(token), rest))
@@ -148,7 +162,7 @@ fn sign_at(first: Delimiter, after: &[u8]) -> Result<(Option<TokenKind>, &[u8]),
         Ahead::Longer(delimiter) => Ok((Some(TokenKind::Delimiter(delimiter)), behind)),
         Ahead::Comment => match after_comment(behind) {
             Some(rest) => Ok((None, rest)),
-            None => Err(LexFault::Wrong(ReadErrorKind::BadToken)),
+            None => Err(LexFault::Wrong(ReadErrorKind::BadToken, behind.len())),
         },
     }
 }
@@ -171,28 +185,12 @@ fn next<'a>(
         Class::Percent => literal_at(alloc, LiteralKind::Location, after),
         Class::Brace => match after_pragma(after) {
             Some(rest) => Ok((None, rest)),
-            None => Err(LexFault::Wrong(ReadErrorKind::BadToken)),
+            None => Err(LexFault::Wrong(ReadErrorKind::BadToken, after.len())),
         },
         Class::Sign(delimiter) => sign_at(delimiter, after),
-        Class::High => Err(LexFault::Wrong(ReadErrorKind::NotAscii)),
-        Class::Sharp | Class::Other => Err(LexFault::Wrong(ReadErrorKind::BadToken)),
+        Class::High => Err(LexFault::Wrong(ReadErrorKind::NotAscii, after.len())),
+        Class::Sharp | Class::Other => Err(LexFault::Wrong(ReadErrorKind::BadToken, after.len())),
     }
-}
-
-// How many LF bytes there are.
-fn line_feeds(bytes: &[u8]) -> u32 {
-    let mut count = 0u32;
-    for byte in bytes {
-        if *byte == b'\n' {
-            count = count.saturating_add(1);
-        }
-    }
-    count
-}
-
-/// The line after all LF bytes of the text.
-pub fn last_line(text: &[u8]) -> u32 {
-    line_feeds(text).saturating_add(1)
 }
 
 // The text without the bytes EF BB BF at its start.
@@ -205,48 +203,58 @@ fn without_mark(text: &[u8]) -> &[u8]
     }
 }
 
-// The line that is reached where these bytes were passed.
-fn line_after(line: u32, before: &[u8], after: &[u8]) -> u32 {
-    let passed = before.len().saturating_sub(after.len());
-    match before.get(..passed) {
-        Some(bytes) => line.saturating_add(line_feeds(bytes)),
-        None => line,
-    }
-}
-
-// The fault at a line; want of memory has line 1.
-fn error_at(line: u32, fault: LexFault) -> ReadError
+// The refusal of a text at the bytes that begin where so many are left.
+fn refusal_at(text: &[u8], left: usize, fault: LexFault) -> Placed<ReadError>
     ensures { result.kind ≡ kind_of fault }
 {
     match fault {
-        LexFault::Memory => OUT_OF_MEMORY,
-        LexFault::Wrong(kind) => ReadError { kind, line },
+        LexFault::Memory => out_of_memory(),
+        LexFault::Wrong(kind, behind) => refused(text, kind, span_of(text, left, behind)),
     }
 }
 
-// The tokens of the bytes.
-fn lex(alloc: Global, bytes: &[u8]) -> Result<Vec<Token>, ReadError>
+// The tokens of the last bytes of a text.
+fn lex(alloc: Global, text: &[u8], bytes: &[u8]) -> Result<Vec<Token>, Placed<ReadError>>
     ensures { Answers (λ v. kinds v.items) result (lexing.lex (length bytes.now) bytes.now) }
 {
     let mut tokens = Vec::new(alloc);
-    let mut line = 1;
     let mut rest = bytes;
     'all: while let Some((first, after)) = rest.split_first() {
         let (kind, behind) = match next(alloc, *first, after, rest) {
             Ok(found) => found,
-            Err(fault) => return Err(error_at(line, fault)),
+            Err(fault) => return Err(refusal_at(text, rest.len(), fault)),
         };
         if let Some(kind) = kind {
-            tokens.push(Token { kind, line })?;
+            let span = span_of(text, rest.len(), behind.len());
+            tokens.push(Token { kind, span })?;
         }
-        line = line_after(line, rest, behind);
         rest = behind;
     }
     Ok(tokens)
 }
 
-/// The tokens of a text, each with the line on which it begins; white space, comments and pragmas are skipped, and the
-/// bytes EF BB BF at the very start too.
+// The refusal of a text that is too long, whatever its bytes.
+fn too_long() -> Placed<ReadError>
+    ensures { result.kind ≡ TooLong }
+{
+    let kind = ReadErrorKind::TooLong;
+    Placed::new(ReadError { kind, line: 1 }, NOWHERE)
+}
+
+/// The tokens of a text as `tokens` answers them, where an error has its place too: the bytes of what is no token, such as a
+/// word, or the first byte of what is none; of a comment and a pragma that aren't closed what opens them. `TooLong` and
+/// `Memory` have no bytes.
+pub fn tokens_with_place(alloc: Global, text: &[u8]) -> Result<Vec<Token>, Placed<ReadError>>
+    ensures { Finds (λ v. kinds v.items) result (λ outcome. TextLexes text.now outcome) }
+{
+    if text.len() > LONGEST {
+        return Err(too_long());
+    }
+    lex(alloc, text, without_mark(text))
+}
+
+/// The tokens of a text, each with its bytes; white space, comments and pragmas are skipped, and the bytes EF BB BF at the
+/// very start too.
 ///
 /// The first of these is the answer where there are none: `TooLong` where the text is over 1,048,576 bytes; `NotAscii`,
 /// `BadToken`, `BadDuration` or `BadNumber` for the first fault in the text, at the line of its first byte; `Memory`
@@ -254,11 +262,8 @@ fn lex(alloc: Global, bytes: &[u8]) -> Result<Vec<Token>, ReadError>
 pub fn tokens(alloc: Global, text: &[u8]) -> Result<Vec<Token>, ReadError>
     ensures { Finds (λ v. kinds v.items) result (λ outcome. TextLexes text.now outcome) }
 {
-    if text.len() > LONGEST {
-        return Err(ReadError {
-            kind: ReadErrorKind::TooLong,
-            line: 1,
-        });
+    match tokens_with_place(alloc, text) {
+        Ok(tokens) => Ok(tokens),
+        Err(error) => Err(error.into_value()),
     }
-    lex(alloc, without_mark(text))
 }

@@ -10,7 +10,8 @@ use std::alloc::{AllocError, AllocFailed};
 #[derive(Clone, Copy, Debug, PartialEq, Eq)]
 pub enum LexFault {
     Memory,
-    Wrong(ReadErrorKind),
+    /// What is wrong, and how many bytes are left behind what is.
+    Wrong(ReadErrorKind, usize),
 }
 
 impl From<AllocError> for LexFault {

@@ -4,8 +4,10 @@
 //! - `laws`: what holds of the definitions themselves.
 //! - `literal`: what stands behind the prefix of a literal; `number`: its integers; `lex_location`: how a location is
 //!   written.
-//! - `lex`: a whole text to its tokens; `lex_fault`: what keeps the lexer from going on.
-//! - `token`: tokens, each with its line.
+//! - `lex`: a whole text to its tokens; `lex_fault`: what keeps the lexer from going on; `refusal`: why a text is refused,
+//!   and where.
+//! - `token`: tokens, each with its bytes; `span`, `lines`: the bytes and the lines of a text.
+//! - `placed`: what a text says, with the bytes that say it.
 #![tactic(auto)]
 
 pub mod duration;
@@ -14,6 +16,10 @@ pub mod lex;
 mod lex_duration;
 mod lex_fault;
 mod lex_location;
+pub mod lines;
 mod literal;
 mod number;
+pub mod placed;
+pub mod refusal;
+pub mod span;
 pub mod token;

@@ -6,6 +6,7 @@ ghost use Rattle.sfc_variables.specs.Locations as located;
 
 use sfc_base::location::{Location, Size};
 use sfc_base::var_type::VarType;
+use sfc_tokens::placed::Placed;
 
 // Whether a location of this size holds a variable of this type.
 fn is_size_of(size: Size, var_type: VarType) -> bool
@@ -20,12 +21,12 @@ fn is_size_of(size: Size, var_type: VarType) -> bool
 }
 
 /// Whether a variable of this type can lie there; without a location it can.
-pub fn fits_location(var_type: VarType, location: &Option<Location>) -> bool
+pub fn fits_location(var_type: VarType, location: &Option<Placed<Location>>) -> bool
     ensures { result ≡ located.fits_location var_type location.now }
 {
     match location {
         None => true,
-        Some(location) => is_size_of(location.size(), var_type),
+        Some(location) => is_size_of(location.value().size(), var_type),
     }
 }
 

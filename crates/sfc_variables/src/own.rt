@@ -5,11 +5,14 @@ use sfc_base::items::Items;
 use sfc_base::name::Name;
 use sfc_base::references::GlobalId;
 use sfc_base::var_type::VarType;
+use sfc_check::detail::Detail;
+use sfc_check::placed_error::PlacedLoadError;
 use sfc_events::load_error::LoadError;
 use sfc_plant::name_table::NameTable;
 use sfc_plant::variable::Variable;
 use sfc_plant::variable_table::VariableTable;
 use sfc_text::tree::{Declaration, External, VariableBlock};
+use sfc_tokens::placed::Placed;
 use std::alloc::Global;
 use std::marker::Model;
 
@@ -65,10 +68,10 @@ fn no_variables(alloc: Global) -> OwnDraft
 #[tactic(auto, using(crate::proofs::Within::more_table, crate::proofs::Within::more_within))]
 fn with_local(
     alloc: Global,
-    name: &Name,
+    name: &Placed<Name>,
     declaration: &Declaration,
     draft: OwnDraft,
-) -> Result<OwnDraft, LoadError>
+) -> Result<OwnDraft, PlacedLoadError>
     ensures { let more : _ = declared_as declaration.now name.now in
         Loads (λ own. own) result (global_check draft.names more) (with_declared draft (more ∷ [])) }
 {
@@ -93,11 +96,11 @@ fn with_local(
 #[tactic(auto, using(crate::proofs::Within::within_more))]
 fn with_external(
     alloc: Global,
-    name: &Name,
+    name: &Placed<Name>,
     var_type: VarType,
     globals: &VariableTable,
     draft: OwnDraft,
-) -> Result<OwnDraft, LoadError>
+) -> Result<OwnDraft, PlacedLoadError>
     ensures { let more : _ = AnExternal name.now var_type in
         Loads (λ own. own) result (own_check globals.now draft.names more) (extended globals.now draft (more ∷ [])) }
 {
@@ -119,36 +122,39 @@ fn with_external(
 
 // The global of this name and type.
 fn external_of(
-    name: &Name,
+    name: &Placed<Name>,
     var_type: VarType,
     globals: &VariableTable,
-) -> Result<GlobalId, LoadError>
+) -> Result<GlobalId, PlacedLoadError>
     ensures { Loads (λ id. id) result (own.kind_check globals.now (AnExternal name.now var_type)) (own.global_id globals.now name.now) }
 {
     let Some(place) = globals.find(name.spelling()) else {
-        return Err(LoadError::Unknown);
+        return Err(PlacedLoadError::new(LoadError::Unknown, name.span()));
     };
     match globals.as_slice().get(place) {
         Some(variable) if variable.var_type == var_type => Ok(GlobalId(place)),
-        Some(_) => Err(LoadError::WrongType),
-        None => Err(LoadError::Unknown),
+        Some(variable) => {
+            let detail = Detail::mismatch(variable.var_type, var_type);
+            Err(PlacedLoadError::told(LoadError::WrongType, name.span(), detail))
+        }
+        None => Err(PlacedLoadError::new(LoadError::Unknown, name.span())),
     }
 }
 
 // One name of a VAR_EXTERNAL block as its global, and among the names before it.
 fn new_external(
     alloc: Global,
-    name: &Name,
+    name: &Placed<Name>,
     var_type: VarType,
     globals: &VariableTable,
     names: &mut NameTable,
-) -> Result<GlobalId, LoadError>
+) -> Result<GlobalId, PlacedLoadError>
     ensures loads { let more : _ = AnExternal name.now var_type in
         Loads (λ id. id) result (own_check globals.now names.old more) (own.global_id globals.now name.now) }
     ensures named { OnOk result (names.new ≡ names.old ++ name.now ∷ []) }
 {
     if !names.add(alloc, name.spelling())? {
-        return Err(LoadError::Duplicate);
+        return Err(PlacedLoadError::new(LoadError::Duplicate, name.span()));
     }
     external_of(name, var_type, globals)
 }
@@ -158,7 +164,7 @@ fn with_declaration(
     alloc: Global,
     declaration: &Declaration,
     draft: OwnDraft,
-) -> Result<OwnDraft, LoadError>
+) -> Result<OwnDraft, PlacedLoadError>
     ensures { let more : _ = declared_by declaration.now in
         Loads (λ own. own) result (in_turn declared_name global_check draft.names more) (with_declared draft more) }
 {
@@ -171,20 +177,32 @@ fn with_declaration(
     Ok(draft)
 }
 
+// With all names of a declaration of a VAR block, wherever it stands.
+fn with_placed(
+    alloc: Global,
+    declaration: &Placed<Declaration>,
+    draft: OwnDraft,
+) -> Result<OwnDraft, PlacedLoadError>
+    ensures { let more : _ = declared_by declaration.now in
+        Loads (λ own. own) result (in_turn declared_name global_check draft.names more) (with_declared draft more) }
+{
+    with_declaration(alloc, declaration.value(), draft)
+}
+
 // With all names of a VAR block.
 #[tactic(auto, using(crate::proofs::Checks::more_checked, crate::proofs::Checks::more_fails, crate::proofs::Extending::more_declared))]
 fn with_locals(
     alloc: Global,
-    declarations: &[Declaration],
+    declarations: &[Placed<Declaration>],
     draft: OwnDraft,
-) -> Result<OwnDraft, LoadError>
+) -> Result<OwnDraft, PlacedLoadError>
     ensures { let more : _ = declared_in declarations.now in
         Loads (λ own. own) result (in_turn declared_name global_check draft.names more) (with_declared draft more) }
 {
     let mut draft = draft;
     let mut rest = declarations;
     'declarations: while let Some((declaration, after)) = rest.split_first() {
-        draft = with_declaration(alloc, declaration, draft)?;
+        draft = with_placed(alloc, declaration, draft)?;
         rest = after;
     }
     Ok(draft)
@@ -196,7 +214,7 @@ fn with_named(
     external: &External,
     globals: &VariableTable,
     draft: OwnDraft,
-) -> Result<OwnDraft, LoadError>
+) -> Result<OwnDraft, PlacedLoadError>
     ensures { let more : _ = named_by external.now in
         Loads (λ own. own) result (in_turn own_name (own_check globals.now) draft.names more) (extended globals.now draft more) }
 {
@@ -216,7 +234,7 @@ fn with_externals(
     externals: &[External],
     globals: &VariableTable,
     draft: OwnDraft,
-) -> Result<OwnDraft, LoadError>
+) -> Result<OwnDraft, PlacedLoadError>
     ensures { let more : _ = flat_map named_by externals.now in
         Loads (λ own. own) result (in_turn own_name (own_check globals.now) draft.names more) (extended globals.now draft more) }
 {
@@ -236,7 +254,7 @@ fn with_block(
     block: &VariableBlock,
     globals: &VariableTable,
     draft: OwnDraft,
-) -> Result<OwnDraft, LoadError>
+) -> Result<OwnDraft, PlacedLoadError>
     ensures { let more : _ = own_by block.now in
         Loads (λ own. own) result (in_turn own_name (own_check globals.now) draft.names more) (extended globals.now draft more) }
 {
@@ -255,7 +273,7 @@ fn with_blocks(
     blocks: &[VariableBlock],
     globals: &VariableTable,
     draft: OwnDraft,
-) -> Result<OwnDraft, LoadError>
+) -> Result<OwnDraft, PlacedLoadError>
     ensures { let more : _ = own_in blocks.now in
         Loads (λ own. own) result (in_turn own_name (own_check globals.now) draft.names more) (extended globals.now draft more) }
 {
@@ -276,7 +294,7 @@ pub fn load_own(
     alloc: Global,
     blocks: &[VariableBlock],
     globals: &VariableTable,
-) -> Result<OwnVariables, LoadError>
+) -> Result<OwnVariables, PlacedLoadError>
     ensures { Loads (λ own. own) result (variables_check globals.now blocks.now) (own_of globals.now blocks.now) }
 {
     let draft = with_blocks(alloc, blocks, globals, no_variables(alloc))?;

@@ -19,6 +19,7 @@ use crate::expression::Expression;
 use crate::parse::expression::{MOST_LEVELS, expression};
 use crate::parse::fault::ParseFault;
 use crate::parse::list::Item;
+use crate::parse::place::span_between;
 use crate::parse::statement::body;
 use crate::parse::step::step;
 use crate::parse::terminal::{
@@ -31,11 +32,16 @@ use sfc_base::delimiter::Delimiter;
 use sfc_base::items::Items;
 use sfc_base::keyword::Keyword;
 use sfc_base::name::Name;
+use sfc_tokens::placed::Placed;
+use sfc_tokens::span::Span;
 use sfc_tokens::token::Token;
 use std::alloc::Global;
 
 // The name of a transition, where there is one.
-fn maybe_name(alloc: Global, tokens: &[Token]) -> Result<(Option<Name>, &[Token]), ParseFault>
+fn maybe_name(
+    alloc: Global,
+    tokens: &[Token],
+) -> Result<(Option<Placed<Name>>, &[Token]), ParseFault>
     ensures { Gives view result (reads (maybe grammar.name) (kinds tokens.now)) }
 {
     if begins_name(tokens) {
@@ -73,7 +79,7 @@ fn maybe_priority(tokens: &[Token]) -> Result<(Option<u32>, &[Token]), ParseFaul
 }
 
 // One step, without parentheses.
-fn one_step(alloc: Global, tokens: &[Token]) -> Result<(Items<Name>, &[Token]), ParseFault>
+fn one_step(alloc: Global, tokens: &[Token]) -> Result<(Items<Placed<Name>>, &[Token]), ParseFault>
     ensures value { Gives view result (reads (rules.map (λ step. step ∷ []) grammar.name) (kinds tokens.now)) }
     ensures some { IfOk result (λ x. is_empty x.0 ≡ false) }
 {
@@ -83,7 +89,10 @@ fn one_step(alloc: Global, tokens: &[Token]) -> Result<(Items<Name>, &[Token]), 
 }
 
 // Steps in parentheses, one at least.
-fn listed_steps(alloc: Global, tokens: &[Token]) -> Result<(Items<Name>, &[Token]), ParseFault>
+fn listed_steps(
+    alloc: Global,
+    tokens: &[Token],
+) -> Result<(Items<Placed<Name>>, &[Token]), ParseFault>
     ensures value { Gives view result (reads (terms.sign delimiter.Open ▸ grammar.names ◂ terms.sign delimiter.Close) (kinds tokens.now)) }
     ensures some { IfOk result (λ x. is_empty x.0 ≡ false) }
 {
@@ -95,7 +104,7 @@ fn listed_steps(alloc: Global, tokens: &[Token]) -> Result<(Items<Name>, &[Token
 
 // The steps on one side of a transition, one at least.
 #[tactic(auto, unfolding(crate::specs::Grammar::steps))]
-fn steps(alloc: Global, tokens: &[Token]) -> Result<(Items<Name>, &[Token]), ParseFault>
+fn steps(alloc: Global, tokens: &[Token]) -> Result<(Items<Placed<Name>>, &[Token]), ParseFault>
     ensures value { Gives view result (reads grammar.steps (kinds tokens.now)) }
     ensures some { IfOk result (λ x. is_empty x.0 ≡ false) }
 {
@@ -122,7 +131,7 @@ fn statements(alloc: Global, tokens: &[Token]) -> Result<(Vec<Statement>, &[Toke
 
 // What stands before FROM in a transition.
 struct Front {
-    name: Option<Name>,
+    name: Option<Placed<Name>>,
     priority: Option<u32>,
 }
 
@@ -138,7 +147,7 @@ impl Drop for Front {
 
 impl Front {
     // The name and the priority.
-    fn into_parts(self) -> (Option<Name>, Option<u32>)
+    fn into_parts(self) -> (Option<Placed<Name>>, Option<u32>)
         ensures { result ≡ (self.name, self.priority) }
     {
         let Front { name, priority } = self;
@@ -149,8 +158,8 @@ impl Front {
 // What stands before the condition of a transition.
 struct Sides {
     front: Front,
-    preceding: Items<Name>,
-    following: Items<Name>,
+    preceding: Items<Placed<Name>>,
+    following: Items<Placed<Name>>,
     ghost some_preceding: { is_empty preceding ≡ false },
     ghost some_following: { is_empty following ≡ false },
 }
@@ -167,8 +176,8 @@ impl Drop for Sides {
 }
 
 impl Sides {
-    // The transition with this condition.
-    fn with_condition(self, condition: Expression) -> Transition
+    // The transition with this condition, which has these bytes.
+    fn with_condition(self, condition: Expression, condition_span: Span) -> Transition
         ensures { transition_of result ≡ make.a_transition ((((self.front.name, self.front.priority), self.preceding), self.following), tree_of condition) }
     {
         let Sides {
@@ -183,6 +192,7 @@ impl Sides {
             preceding,
             following,
             condition,
+            condition_span,
         }
     }
 }
@@ -223,10 +233,11 @@ fn transition(alloc: Global, tokens: &[Token]) -> Result<(Transition, &[Token]),
 {
     let (sides, tokens) = before_condition(alloc, tokens)?;
     let tokens = sign(tokens, Delimiter::Assign)?;
-    let (condition, tokens) = condition(alloc, tokens)?;
-    let tokens = sign(tokens, Delimiter::Semicolon)?;
-    let tokens = word(tokens, Keyword::EndTransition)?;
-    Ok((sides.with_condition(condition), tokens))
+    let (condition, rest) = condition(alloc, tokens)?;
+    let span = span_between(tokens, rest);
+    let rest = sign(rest, Delimiter::Semicolon)?;
+    let rest = word(rest, Keyword::EndTransition)?;
+    Ok((sides.with_condition(condition, span), rest))
 }
 
 // An action with its body.
@@ -262,19 +273,20 @@ impl Item for Element {
     #[tactic(auto, unfolding(crate::specs::Grammar::element, crate::specs::Grammar::step, crate::specs::Grammar::before_from, crate::specs::Grammar::before_condition, crate::specs::Grammar::transition))]
     fn read(alloc: Global, tokens: &[Token]) -> Result<(Element, &[Token]), ParseFault> {
         if begins_word(tokens, Keyword::InitialStep) {
-            let (step, tokens) = step(alloc, true, Keyword::InitialStep, tokens)?;
-            return Ok((Element::Step(step), tokens));
+            let (step, rest) = step(alloc, true, Keyword::InitialStep, tokens)?;
+            return Ok((Element::Step(step, span_between(tokens, rest)), rest));
         }
         if begins_word(tokens, Keyword::Step) {
-            let (step, tokens) = step(alloc, false, Keyword::Step, tokens)?;
-            return Ok((Element::Step(step), tokens));
+            let (step, rest) = step(alloc, false, Keyword::Step, tokens)?;
+            return Ok((Element::Step(step, span_between(tokens, rest)), rest));
         }
         if begins_word(tokens, Keyword::Transition) {
-            let (transition, tokens) = transition(alloc, tokens)?;
-            return Ok((Element::Transition(transition), tokens));
+            let (transition, rest) = transition(alloc, tokens)?;
+            let span = span_between(tokens, rest);
+            return Ok((Element::Transition(transition, span), rest));
         }
-        let (action, tokens) = action(alloc, tokens)?;
-        Ok((Element::Action(action), tokens))
+        let (action, rest) = action(alloc, tokens)?;
+        Ok((Element::Action(action, span_between(tokens, rest)), rest))
     }
 
     ghost takes_a_token = { element_takes };

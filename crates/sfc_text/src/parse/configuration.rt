@@ -15,6 +15,7 @@ ghost use Rattle.sfc_base.specs.declared.keyword.Keyword.TheVariants as reserved
 
 use crate::parse::fault::ParseFault;
 use crate::parse::list::{Item, list, list_behind};
+use crate::parse::place::span_between;
 use crate::parse::terminal::{
     begins_named, begins_word, duration, integer, name, named, sign, syntax, word,
 };
@@ -24,12 +25,16 @@ use sfc_base::items::Items;
 use sfc_base::keyword::Keyword;
 use sfc_base::name::Name;
 use sfc_base::time_value::TimeValue;
+use sfc_tokens::placed::Placed;
 use sfc_tokens::token::Token;
 use std::alloc::Global;
 
 // The variable that starts a task once at each rise, where there is one.
 #[tactic(auto, unfolding(crate::specs::Grammar::single))]
-fn maybe_single(alloc: Global, tokens: &[Token]) -> Result<(Option<Name>, &[Token]), ParseFault>
+fn maybe_single(
+    alloc: Global,
+    tokens: &[Token],
+) -> Result<(Option<Placed<Name>>, &[Token]), ParseFault>
     ensures { Gives view result (reads (maybe grammar.single) (kinds tokens.now)) }
 {
     if begins_named(tokens, b"SINGLE") {
@@ -45,18 +50,20 @@ fn maybe_single(alloc: Global, tokens: &[Token]) -> Result<(Option<Name>, &[Toke
 
 // The interval of a task, or 0 where it is left out.
 #[tactic(auto, unfolding(crate::specs::Grammar::interval))]
-fn maybe_interval(tokens: &[Token]) -> Result<(TimeValue, &[Token]), ParseFault>
+fn maybe_interval(tokens: &[Token]) -> Result<(Placed<TimeValue>, &[Token]), ParseFault>
     ensures { Gives view result (reads (else_given (pos 0) grammar.interval) (kinds tokens.now)) }
 {
     if !begins_named(tokens, b"INTERVAL") {
-        return Ok((TimeValue::new(0), tokens));
+        let none = Placed::new(TimeValue::new(0), span_between(tokens, tokens));
+        return Ok((none, tokens));
     }
     let tokens = named(tokens, b"INTERVAL")?;
     let tokens = sign(tokens, Delimiter::Assign)?;
     match duration(tokens) {
-        Ok((interval, tokens)) => {
-            let tokens = sign(tokens, Delimiter::Comma)?;
-            Ok((interval, tokens))
+        Ok((interval, rest)) => {
+            let span = span_between(tokens, rest);
+            let rest = sign(rest, Delimiter::Comma)?;
+            Ok((Placed::new(interval, span), rest))
         }
         Err(fault) => Err(fault),
     }
@@ -75,8 +82,8 @@ fn task_priority(tokens: &[Token]) -> Result<(u32, &[Token]), ParseFault>
 
 // What stands before the interval of a task.
 struct Called {
-    name: Name,
-    single: Option<Name>,
+    name: Placed<Name>,
+    single: Option<Placed<Name>>,
 }
 
 // By hand, so that a caller that drops one proves one call.
@@ -88,7 +95,7 @@ impl Drop for Called {
 
 impl Called {
     // The task with this interval and this priority.
-    fn into_task(self, interval: TimeValue, priority: u32) -> Task
+    fn into_task(self, interval: Placed<TimeValue>, priority: u32) -> Task
         ensures { result ≡ record { name = self.name; single = self.single; interval = interval; priority = priority } }
     {
         let Called { name, single } = self;
@@ -128,7 +135,7 @@ fn task(alloc: Global, tokens: &[Token]) -> Result<(Task, &[Token]), ParseFault>
     }
 }
 
-impl Item for Task {
+impl Item for Placed<Task> {
     ghost Tree = { TaskValue };
 
     ghost tree = { λ task. task };
@@ -143,10 +150,10 @@ impl Item for Task {
     }
 
     #[tactic(auto, unfolding(crate::specs::Grammar::task_line))]
-    fn read(alloc: Global, tokens: &[Token]) -> Result<(Task, &[Token]), ParseFault> {
-        let (task, tokens) = task(alloc, tokens)?;
-        let tokens = sign(tokens, Delimiter::Semicolon)?;
-        Ok((task, tokens))
+    fn read(alloc: Global, tokens: &[Token]) -> Result<(Placed<Task>, &[Token]), ParseFault> {
+        let (task, rest) = task(alloc, tokens)?;
+        let rest = sign(rest, Delimiter::Semicolon)?;
+        Ok((Placed::new(task, span_between(tokens, rest)), rest))
     }
 
     ghost takes_a_token = { task_takes };
@@ -157,7 +164,10 @@ impl Item for Task {
 }
 
 // The task that an instance is given to, where there is one.
-fn maybe_with(alloc: Global, tokens: &[Token]) -> Result<(Option<Name>, &[Token]), ParseFault>
+fn maybe_with(
+    alloc: Global,
+    tokens: &[Token],
+) -> Result<(Option<Placed<Name>>, &[Token]), ParseFault>
     ensures { Gives view result (reads (maybe (terms.word reserved.With ▸ grammar.name)) (kinds tokens.now)) }
 {
     if begins_word(tokens, Keyword::With) {
@@ -187,7 +197,7 @@ fn instance(alloc: Global, tokens: &[Token]) -> Result<(Instance, &[Token]), Par
     Ok((instance, tokens))
 }
 
-impl Item for Instance {
+impl Item for Placed<Instance> {
     ghost Tree = { InstanceValue };
 
     ghost tree = { λ instance. instance };
@@ -202,10 +212,10 @@ impl Item for Instance {
     }
 
     #[tactic(auto, unfolding(crate::specs::Grammar::instance_line))]
-    fn read(alloc: Global, tokens: &[Token]) -> Result<(Instance, &[Token]), ParseFault> {
-        let (instance, tokens) = instance(alloc, tokens)?;
-        let tokens = sign(tokens, Delimiter::Semicolon)?;
-        Ok((instance, tokens))
+    fn read(alloc: Global, tokens: &[Token]) -> Result<(Placed<Instance>, &[Token]), ParseFault> {
+        let (instance, rest) = instance(alloc, tokens)?;
+        let rest = sign(rest, Delimiter::Semicolon)?;
+        Ok((Placed::new(instance, span_between(tokens, rest)), rest))
     }
 
     ghost takes_a_token = { instance_takes };
@@ -216,10 +226,13 @@ impl Item for Instance {
 }
 
 // Program instances, one at least.
-fn instances(alloc: Global, tokens: &[Token]) -> Result<(Items<Instance>, &[Token]), ParseFault>
+fn instances(
+    alloc: Global,
+    tokens: &[Token],
+) -> Result<(Items<Placed<Instance>>, &[Token]), ParseFault>
     ensures { Gives view result (reads (some_of grammar.instance_line grammar.instance_line) (kinds tokens.now)) }
 {
-    let (first, tokens) = Instance::read(alloc, tokens)?;
+    let (first, tokens) = <Placed<Instance> as Item>::read(alloc, tokens)?;
     let mut found = Vec::new(alloc);
     found.push(first)?;
     let (found, tokens) = list_behind(alloc, found, tokens)?;
@@ -230,9 +243,9 @@ fn instances(alloc: Global, tokens: &[Token]) -> Result<(Items<Instance>, &[Toke
 #[tactic(auto, unfolding(crate::specs::Grammar::globals))]
 fn globals(
     alloc: Global,
-    found: Vec<Declaration>,
+    found: Vec<Placed<Declaration>>,
     tokens: &[Token],
-) -> Result<(Vec<Declaration>, &[Token]), ParseFault>
+) -> Result<(Vec<Placed<Declaration>>, &[Token]), ParseFault>
     ensures { Gives (view_by (λ v. v.items)) result (behind found.items (reads grammar.globals (kinds tokens.now))) }
 {
     let tokens = word(tokens, Keyword::VarGlobal)?;
@@ -244,9 +257,9 @@ fn globals(
 // The blocks of global variables there, behind those found.
 fn all_globals(
     alloc: Global,
-    found: Vec<Declaration>,
+    found: Vec<Placed<Declaration>>,
     tokens: &[Token],
-) -> Result<(Vec<Declaration>, &[Token]), ParseFault>
+) -> Result<(Vec<Placed<Declaration>>, &[Token]), ParseFault>
     ensures { Gives (view_by (λ v. v.items)) result (behind found.items (reads (gathered grammar.globals) (kinds tokens.now))) }
 {
     let mut found = found;
@@ -261,16 +274,16 @@ fn all_globals(
 
 // The name of a configuration, and its own global variables.
 struct Level {
-    name: Name,
-    globals: Vec<Declaration>,
+    name: Placed<Name>,
+    globals: Vec<Placed<Declaration>>,
 }
 
 // What stands before the tasks of a configuration.
 struct Head {
-    name: Name,
-    resource: Name,
-    processor: Name,
-    globals: Vec<Declaration>,
+    name: Placed<Name>,
+    resource: Placed<Name>,
+    processor: Placed<Name>,
+    globals: Vec<Placed<Declaration>>,
 }
 
 // By hand, so that a caller that drops one proves one call.
@@ -287,7 +300,11 @@ impl Drop for Head {
 
 impl Head {
     // The configuration with these tasks and instances.
-    fn with_contents(self, tasks: Items<Task>, instances: Items<Instance>) -> Configuration
+    fn with_contents(
+        self,
+        tasks: Items<Placed<Task>>,
+        instances: Items<Placed<Instance>>,
+    ) -> Configuration
         ensures { result ≡ record { name = self.name; resource = self.resource; processor = self.processor; globals = self.globals.items; tasks = tasks; instances = instances } }
     {
         let Head {

@@ -15,12 +15,15 @@ ghost use Rattle.sfc_base.specs.declared.delimiter.Delimiter.TheVariants as deli
 use crate::expression::{Expression, Operator, Variable};
 use crate::parse::fault::ParseFault;
 use crate::parse::operator::{begins_operator, operator};
+use crate::parse::place::{first_span, span_between};
 use crate::parse::terminal::{
     begins_name, begins_sign, literal, name, sign, signed, syntax, too_deep, word,
 };
 use sfc_base::delimiter::Delimiter;
 use sfc_base::keyword::Keyword;
 use sfc_base::name::Name;
+use sfc_tokens::placed::Placed;
+use sfc_tokens::span::Span;
 use sfc_tokens::token::{Token, TokenKind};
 use std::alloc::{AllocError, Global};
 
@@ -59,7 +62,10 @@ impl Budget {
 }
 
 // What of a step or an action is meant, where something is.
-fn maybe_part(alloc: Global, tokens: &[Token]) -> Result<(Option<Name>, &[Token]), ParseFault>
+fn maybe_part(
+    alloc: Global,
+    tokens: &[Token],
+) -> Result<(Option<Placed<Name>>, &[Token]), ParseFault>
     ensures { Gives view result (reads (maybe (terms.sign delimiter.Dot ▸ grammar.name)) (kinds tokens.now)) }
 {
     if begins_sign(tokens, Delimiter::Dot) {
@@ -156,9 +162,9 @@ fn primary(
         return Ok((Counted { tree, operators: 0 }, tokens));
     }
     match literal(tokens) {
-        Ok((literal, tokens)) => {
-            let tree = Expression::Literal(literal);
-            Ok((Counted { tree, operators: 0 }, tokens))
+        Ok((literal, rest)) => {
+            let tree = Expression::Literal(literal, first_span(tokens));
+            Ok((Counted { tree, operators: 0 }, rest))
         }
         Err(fault) => Err(fault),
     }
@@ -181,7 +187,7 @@ fn opposite(
     let (inner, rest) = nested_operand(alloc, rest, budget.after_operators(1))?;
     let Counted { tree, operators } = inner;
     let counted = Counted {
-        tree: Expression::Minus(Box::new(alloc, tree)?),
+        tree: Expression::Minus(first_span(tokens), Box::new(alloc, tree)?),
         operators: operators + 1,
     };
     Ok((counted, rest))
@@ -204,7 +210,7 @@ fn negation(
     let (inner, rest) = nested_operand(alloc, rest, budget.after_operators(1))?;
     let Counted { tree, operators } = inner;
     let counted = Counted {
-        tree: Expression::Not(Box::new(alloc, tree)?),
+        tree: Expression::Not(first_span(tokens), Box::new(alloc, tree)?),
         operators: operators + 1,
     };
     Ok((counted, rest))
@@ -228,9 +234,9 @@ fn unary(alloc: Global, tokens: &[Token], budget: Budget) -> Result<(Counted, &[
             },
             ..
         ] => match signed(tokens) {
-            Ok((literal, tokens)) => {
-                let tree = Expression::Literal(literal);
-                Ok((Counted { tree, operators: 0 }, tokens))
+            Ok((literal, rest)) => {
+                let tree = Expression::Literal(literal, span_between(tokens, rest));
+                Ok((Counted { tree, operators: 0 }, rest))
             }
             Err(fault) => Err(fault),
         },
@@ -252,10 +258,11 @@ fn unary(alloc: Global, tokens: &[Token], budget: Budget) -> Result<(Counted, &[
     }
 }
 
-// Two expressions with an operator between them.
+// Two expressions with an operator between them, which has these bytes.
 fn binary(
     alloc: Global,
     operator: Operator,
+    span: Span,
     left: Expression,
     right: Expression,
 ) -> Result<Expression, AllocError>
@@ -263,7 +270,7 @@ fn binary(
 {
     let left = Box::new(alloc, left)?;
     let right = Box::new(alloc, right)?;
-    Ok(Expression::Binary(operator, left, right))
+    Ok(Expression::Binary(operator, span, left, right))
 }
 
 // An operator of the level and its right operand, which are counted.
@@ -313,7 +320,7 @@ fn joined(
             level,
             budget.after_operators(operators + 1),
         )?;
-        tree = binary(alloc, operator, tree, second.tree)?;
+        tree = binary(alloc, operator, first_span(rest), tree, second.tree)?;
         operators += second.operators + 1;
         rest = behind;
     }

@@ -12,6 +12,7 @@ ghost use Rattle.sfc_text.specs.Trees.{ProgramTree, program_of, source_of};
 use crate::parse::configuration::configuration;
 use crate::parse::fault::ParseFault;
 use crate::parse::list::{Item, list, list_behind};
+use crate::parse::place::span_between;
 use crate::parse::terminal::{begins_word, name, syntax, word};
 use crate::tree::{Program, Source};
 use sfc_base::items::Items;
@@ -35,17 +36,18 @@ impl Item for Program {
 
     #[tactic(auto, unfolding(crate::specs::Grammar::program))]
     fn read(alloc: Global, tokens: &[Token]) -> Result<(Program, &[Token]), ParseFault> {
-        let tokens = word(tokens, Keyword::Program)?;
-        let (name, tokens) = name(alloc, tokens)?;
-        let (variables, tokens) = list(alloc, tokens)?;
-        let (elements, tokens) = list(alloc, tokens)?;
-        let tokens = word(tokens, Keyword::EndProgram)?;
+        let rest = word(tokens, Keyword::Program)?;
+        let (name, rest) = name(alloc, rest)?;
+        let (variables, rest) = list(alloc, rest)?;
+        let (elements, rest) = list(alloc, rest)?;
+        let rest = word(rest, Keyword::EndProgram)?;
         let program = Program {
             name,
             variables,
             elements,
+            span: span_between(tokens, rest),
         };
-        Ok((program, tokens))
+        Ok((program, rest))
     }
 
     ghost takes_a_token = { program_takes };
@@ -61,13 +63,15 @@ fn source(alloc: Global, tokens: &[Token]) -> Result<(Source, &[Token]), ParseFa
     ensures { Gives (view_by source_of) result (reads grammar.source (kinds tokens.now)) }
 {
     let (programs, tokens) = list_behind(alloc, Vec::new(alloc), tokens)?;
-    let (configuration, tokens) = configuration(alloc, tokens)?;
-    let (programs, tokens) = list_behind(alloc, programs, tokens)?;
+    let (configuration, behind) = configuration(alloc, tokens)?;
+    let configuration_span = span_between(tokens, behind);
+    let (programs, rest) = list_behind(alloc, programs, behind)?;
     let source = Source {
         programs: Items::from_vec(programs),
         configuration,
+        configuration_span,
     };
-    Ok((source, tokens))
+    Ok((source, rest))
 }
 
 /// The tree of all tokens.

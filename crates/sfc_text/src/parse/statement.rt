@@ -13,18 +13,20 @@ ghost use Rattle.sfc_text.specs.Trees.{Nothing, If, When, Otherwise, append, bef
 use crate::expression::Expression;
 use crate::parse::expression::{expression, variable};
 use crate::parse::fault::ParseFault;
+use crate::parse::place::span_between;
 use crate::parse::terminal::{begins_name, begins_sign, begins_word, sign, too_deep, word};
 use crate::statement::{Branch, Statement};
 use sfc_base::delimiter::Delimiter;
 use sfc_base::keyword::Keyword;
+use sfc_tokens::span::Span;
 use sfc_tokens::token::Token;
 use std::alloc::Global;
 
-// An IF statement of these branches.
-fn if_of(branches: Vec<Branch>) -> Statement
+// An IF statement of these branches, which has these bytes.
+fn if_of(branches: Vec<Branch>, span: Span) -> Statement
     ensures { before result Nothing ≡ If (branches_of branches.items) Nothing }
 {
-    Statement::If(branches)
+    Statement::If(branches, span)
 }
 
 // A branch with a condition.
@@ -50,10 +52,11 @@ fn assignment(
 ) -> Result<(Statement, &[Token]), ParseFault>
     ensures { Gives (view_by (λ s. before s Nothing)) result (at left grammar.assignment (kinds tokens.now)) }
 {
-    let (target, tokens) = variable(alloc, tokens)?;
-    let tokens = sign(tokens, Delimiter::Assign)?;
-    let (value, tokens) = expression(alloc, tokens, left)?;
-    Ok((Statement::Assign(target, value), tokens))
+    let (target, rest) = variable(alloc, tokens)?;
+    let rest = sign(rest, Delimiter::Assign)?;
+    let (value, rest) = expression(alloc, rest, left)?;
+    let span = span_between(tokens, rest);
+    Ok((Statement::Assign(target, value, span), rest))
 }
 
 // What stands between IF and the end of END_IF, one level of nesting further in.
@@ -179,9 +182,9 @@ fn statement(alloc: Global, tokens: &[Token], left: u8) -> Result<(Statement, &[
     if begins_name(tokens) {
         return assignment(alloc, tokens, left);
     }
-    let tokens = word(tokens, Keyword::If)?;
-    let (branches, tokens) = nested_branches(alloc, tokens, left)?;
-    Ok((if_of(branches), tokens))
+    let rest = word(tokens, Keyword::If)?;
+    let (branches, rest) = nested_branches(alloc, rest, left)?;
+    Ok((if_of(branches, span_between(tokens, rest)), rest))
 }
 
 // A statement or none and a semicolon, behind those found.

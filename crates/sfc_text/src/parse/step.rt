@@ -17,12 +17,14 @@ ghost use Rattle.sfc_base.specs.declared.delimiter.Delimiter.TheVariants as deli
 
 use crate::parse::fault::ParseFault;
 use crate::parse::list::{Item, list};
+use crate::parse::place::span_between;
 use crate::parse::terminal::{begins_name, duration, name, sign, syntax, word};
 use crate::tree::{Association, AssociationTime, Qualifier, Step};
 use sfc_base::case::is_same_word;
 use sfc_base::delimiter::Delimiter;
 use sfc_base::keyword::Keyword;
 use sfc_base::qualifier::TimedQualifier;
+use sfc_tokens::placed::Placed;
 use sfc_tokens::token::{Token, TokenKind};
 use std::alloc::Global;
 
@@ -217,7 +219,7 @@ fn association(alloc: Global, tokens: &[Token]) -> Result<(Association, &[Token]
     Ok((association, tokens))
 }
 
-impl Item for Association {
+impl Item for Placed<Association> {
     ghost Tree = { Value };
 
     ghost tree = { λ association. association };
@@ -232,10 +234,13 @@ impl Item for Association {
     }
 
     #[tactic(auto, unfolding(crate::specs::Grammar::association_line))]
-    fn read(alloc: Global, tokens: &[Token]) -> Result<(Association, &[Token]), ParseFault> {
-        let (association, tokens) = association(alloc, tokens)?;
-        let tokens = sign(tokens, Delimiter::Semicolon)?;
-        Ok((association, tokens))
+    fn read(
+        alloc: Global,
+        tokens: &[Token],
+    ) -> Result<(Placed<Association>, &[Token]), ParseFault> {
+        let (association, rest) = association(alloc, tokens)?;
+        let rest = sign(rest, Delimiter::Semicolon)?;
+        Ok((Placed::new(association, span_between(tokens, rest)), rest))
     }
 
     ghost takes_a_token = { association_takes };

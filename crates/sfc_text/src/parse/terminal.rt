@@ -20,6 +20,7 @@ use sfc_base::location::Location;
 use sfc_base::name::Name;
 use sfc_base::time_value::TimeValue;
 use sfc_base::var_type::VarType;
+use sfc_tokens::placed::Placed;
 use sfc_tokens::token::{Token, TokenKind};
 use std::alloc::Global;
 
@@ -100,17 +101,17 @@ pub fn named<'a>(tokens: &'a [Token], wanted: &[u8]) -> Result<&'a [Token], Pars
 }
 
 /// A name, and what follows it.
-pub fn name(alloc: Global, tokens: &[Token]) -> Result<(Name, &[Token]), ParseFault>
+pub fn name(alloc: Global, tokens: &[Token]) -> Result<(Placed<Name>, &[Token]), ParseFault>
     ensures { Gives view result (reads grammar.name (kinds tokens.now)) }
 {
     match tokens {
         [
             Token {
                 kind: TokenKind::Name(found),
-                ..
+                span,
             },
             rest @ ..,
-        ] => Ok((found.copy(alloc)?, rest)),
+        ] => Ok((Placed::new(found.copy(alloc)?, *span), rest)),
         _ => Err(syntax(tokens)),
     }
 }
@@ -148,17 +149,17 @@ pub fn duration(tokens: &[Token]) -> Result<(TimeValue, &[Token]), ParseFault>
 }
 
 /// A location, and what follows it.
-pub fn location(alloc: Global, tokens: &[Token]) -> Result<(Location, &[Token]), ParseFault>
+pub fn location(alloc: Global, tokens: &[Token]) -> Result<(Placed<Location>, &[Token]), ParseFault>
     ensures { Gives view result (reads grammar.location (kinds tokens.now)) }
 {
     match tokens {
         [
             Token {
                 kind: TokenKind::Location(found),
-                ..
+                span,
             },
             rest @ ..,
-        ] => Ok((found.copy(alloc)?, rest)),
+        ] => Ok((Placed::new(found.copy(alloc)?, *span), rest)),
         _ => Err(syntax(tokens)),
     }
 }

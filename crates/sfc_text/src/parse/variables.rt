@@ -19,6 +19,7 @@ ghost use Rattle.sfc_base.specs.declared.keyword.Keyword.TheVariants as reserved
 
 use crate::parse::fault::ParseFault;
 use crate::parse::list::{Item, list, list_behind};
+use crate::parse::place::span_between;
 use crate::parse::terminal::{
     begins_name, begins_sign, begins_word, literal, location, name, sign, signed, var_type, word,
 };
@@ -28,10 +29,11 @@ use sfc_base::items::Items;
 use sfc_base::keyword::Keyword;
 use sfc_base::location::Location;
 use sfc_base::name::Name;
+use sfc_tokens::placed::Placed;
 use sfc_tokens::token::Token;
 use std::alloc::Global;
 
-impl Item for Name {
+impl Item for Placed<Name> {
     ghost Tree = { List ℕ };
 
     ghost tree = { λ name. name };
@@ -46,7 +48,7 @@ impl Item for Name {
     }
 
     #[tactic(auto, unfolding(crate::specs::Grammar::further_name))]
-    fn read(alloc: Global, tokens: &[Token]) -> Result<(Name, &[Token]), ParseFault> {
+    fn read(alloc: Global, tokens: &[Token]) -> Result<(Placed<Name>, &[Token]), ParseFault> {
         let tokens = sign(tokens, Delimiter::Comma)?;
         name(alloc, tokens)
     }
@@ -62,9 +64,9 @@ impl Item for Name {
 #[tactic(auto, using(crate::proofs::Loops::behind_some), unfolding(crate::specs::Grammar::further_names))]
 fn names_behind(
     alloc: Global,
-    first: Name,
+    first: Placed<Name>,
     tokens: &[Token],
-) -> Result<(Items<Name>, &[Token]), ParseFault>
+) -> Result<(Items<Placed<Name>>, &[Token]), ParseFault>
     ensures value { Gives view result (behind (first ∷ []) (reads grammar.further_names (kinds tokens.now))) }
     ensures some { IfOk result (λ x. is_empty x.0 ≡ false) }
 {
@@ -76,7 +78,7 @@ fn names_behind(
 
 /// Names with commas between them, one at least.
 #[tactic(auto, unfolding(crate::specs::Grammar::names))]
-pub fn names(alloc: Global, tokens: &[Token]) -> Result<(Items<Name>, &[Token]), ParseFault>
+pub fn names(alloc: Global, tokens: &[Token]) -> Result<(Items<Placed<Name>>, &[Token]), ParseFault>
     ensures value { Gives view result (reads grammar.names (kinds tokens.now)) }
     ensures some { IfOk result (λ x. is_empty x.0 ≡ false) }
 {
@@ -86,15 +88,15 @@ pub fn names(alloc: Global, tokens: &[Token]) -> Result<(Items<Name>, &[Token]),
 
 // The names of a declaration, and its location.
 struct LocatedNames {
-    names: Items<Name>,
-    location: Option<Location>,
+    names: Items<Placed<Name>>,
+    location: Option<Placed<Location>>,
 }
 
 // The names of a declaration behind its first one, in one list with it, or its location.
 #[tactic(auto, unfolding(crate::specs::Grammar::names_or_location))]
 fn names_or_location(
     alloc: Global,
-    first: Name,
+    first: Placed<Name>,
     tokens: &[Token],
 ) -> Result<(LocatedNames, &[Token]), ParseFault>
     ensures { Gives (view_by (λ located. (located.names, located.location))) result (made (with_first first) (reads grammar.names_or_location (kinds tokens.now))) }
@@ -125,7 +127,7 @@ fn initial_value(tokens: &[Token]) -> Result<(Literal, &[Token]), ParseFault>
 }
 
 // The initial value, where there is one.
-fn maybe_initial_value(tokens: &[Token]) -> Result<(Option<Literal>, &[Token]), ParseFault>
+fn maybe_initial_value(tokens: &[Token]) -> Result<(Option<Placed<Literal>>, &[Token]), ParseFault>
     ensures { Gives view result (reads (maybe (terms.sign delimiter.Assign ▸ grammar.initial_value)) (kinds tokens.now)) }
 {
     if !begins_sign(tokens, Delimiter::Assign) {
@@ -133,12 +135,15 @@ fn maybe_initial_value(tokens: &[Token]) -> Result<(Option<Literal>, &[Token]), 
     }
     let tokens = sign(tokens, Delimiter::Assign)?;
     match initial_value(tokens) {
-        Ok((literal, tokens)) => Ok((Some(literal), tokens)),
+        Ok((literal, rest)) => {
+            let span = span_between(tokens, rest);
+            Ok((Some(Placed::new(literal, span)), rest))
+        }
         Err(fault) => Err(fault),
     }
 }
 
-impl Item for Declaration {
+impl Item for Placed<Declaration> {
     ghost Tree = { Value };
 
     ghost tree = { λ declaration. declaration };
@@ -153,21 +158,24 @@ impl Item for Declaration {
     }
 
     #[tactic(auto, unfolding(crate::specs::Grammar::declaration))]
-    fn read(alloc: Global, tokens: &[Token]) -> Result<(Declaration, &[Token]), ParseFault> {
-        let (first, tokens) = name(alloc, tokens)?;
-        let (LocatedNames { names, location }, tokens) = names_or_location(alloc, first, tokens)?;
-        let tokens = sign(tokens, Delimiter::Colon)?;
-        let (var_type, tokens) = var_type(tokens)?;
-        match maybe_initial_value(tokens) {
-            Ok((initial, tokens)) => {
-                let tokens = sign(tokens, Delimiter::Semicolon)?;
+    fn read(
+        alloc: Global,
+        tokens: &[Token],
+    ) -> Result<(Placed<Declaration>, &[Token]), ParseFault> {
+        let (first, rest) = name(alloc, tokens)?;
+        let (LocatedNames { names, location }, rest) = names_or_location(alloc, first, rest)?;
+        let rest = sign(rest, Delimiter::Colon)?;
+        let (var_type, rest) = var_type(rest)?;
+        match maybe_initial_value(rest) {
+            Ok((initial, rest)) => {
+                let rest = sign(rest, Delimiter::Semicolon)?;
                 let declaration = Declaration {
                     names,
                     location,
                     var_type,
                     initial,
                 };
-                Ok((declaration, tokens))
+                Ok((Placed::new(declaration, span_between(tokens, rest)), rest))
             }
             Err(fault) => Err(fault),
         }

@@ -15,7 +15,7 @@ abbrev pub ◌>>=◌ : {A B : Type 0} → Result A ReadErrorKind → (A → Resu
 -- the fault that reading gives, or want of memory, which says nothing
 abbrev pub Fails : {Y : Type 0} → LexFault → Result Y ReadErrorKind → Type 0
 Fails Memory read = Unit {0}
-Fails (Wrong kind) read = read ≡ Err kind
+Fails (Wrong kind left) read = read ≡ Err kind
 
 -- what was returned, seen by view, is what reading gives
 abbrev pub Gives : {X Y : Type 0} → (X → Y) → Result X LexFault → Result Y ReadErrorKind → Type 0
@@ -34,4 +34,4 @@ Answers view (Err error) read = FailsAs error.kind read
 -- the kind of a fault
 abbrev pub kind_of : LexFault → ReadErrorKind
 kind_of Memory = kind.Memory
-kind_of (Wrong k) = k
+kind_of (Wrong k left) = k

@@ -1,5 +1,7 @@
-use Rattle.std.proofs.Common.{arith}
-use Rattle.sfc_expr.specs.Trees.{body_of, branches_of}
+use Rattle.std.proofs.Common.{arith, subst, sym}
+use Rattle.sfc_expr.specs.Trees.{Nothing, before, body_of, branches_of}
+use Rattle.sfc_check.specs.Checking.{checked_body}
+use Rattle.sfc_check.specs.TypeFaults.{Gives}
 use Rattle.sfc_check.proofs.Checks.{all_checked, all_branches, statements, branches, as_if, parts}
 use Rattle.sfc_check.proofs.check_body.+check_body.Goals as goal
 
@@ -22,7 +24,9 @@ pub check_branches-returns-in_err-check_branch : goal.check_branches-returns-in_
 check_branches-returns-in_err-check_branch g t c = grind (arith, branches)
 
 pub check_statement-returns-in-If : goal.check_statement-returns-in-If
-check_statement-returns-in-If g t c = grind (arith, as_if)
+check_statement-returns-in-If g t c =
+    subst (λ block. Gives (λ s. before s Nothing) c.check_if.result (checked_body (g.S.Scope.names c.args.scope.now) block))
+    (sym (as_if c.args.statement.now c.in-If.branches c.in-If.field-1 c.deref.result.now c.in-If.is c.deref.ensures.value)) c.check_if.ensures
 
 pub check_branch-returns-in-When : goal.check_branch-returns-in-When
 check_branch-returns-in-When g t c = grind (arith, parts)

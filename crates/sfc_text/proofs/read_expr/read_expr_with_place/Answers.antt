@@ -4,7 +4,7 @@ use Rattle.sfc_text.specs.Grammar.{expression}
 use Rattle.sfc_text.specs.Trees.{tree_of}
 use Rattle.sfc_text.proofs.Fine.{expression_fine}
 use Rattle.sfc_text.proofs.Readings.{faults, tree, told}
-use Rattle.sfc_text.proofs.read_expr.read_expr.Goals as goal
+use Rattle.sfc_text.proofs.read_expr.read_expr_with_place.Goals as goal
 
 pub returns-in_err-tokens : goal.returns-in_err-tokens
 returns-in_err-tokens c =

@@ -4,7 +4,7 @@ use Rattle.sfc_text.specs.Grammar.{source}
 use Rattle.sfc_text.specs.Trees.{source_of}
 use Rattle.sfc_text.proofs.Fine.{source_fine}
 use Rattle.sfc_text.proofs.Readings.{faults, tree, told}
-use Rattle.sfc_text.proofs.read.read.Goals as goal
+use Rattle.sfc_text.proofs.read.read_with_place.Goals as goal
 
 pub returns-in_err-tokens : goal.returns-in_err-tokens
 returns-in_err-tokens c =
