@@ -449,7 +449,7 @@ impl<'a> Misplaced<'a> {
         told.extend_from_slice(b"  mend: ")?;
         told.extend_from_slice(word.as_bytes())?;
         told.extend_from_slice(b" is missing, for the block that begins on line ")?;
-        append_number(told, u64::from(line_at(tokens, begin)))?;
+        append_number(told, u64::from(line_at(&self.chart, begin)))?;
         told.extend_from_slice(b"\n")?;
         Ok(true)
     }

@@ -1,18 +1,19 @@
 //! What is told of a fault beside its place: near names, the first one of a name, types, numbers.
 
-use crate::candidates::{candidates, steps_of};
+use crate::candidates::candidates;
 use crate::describe::{add_declared, add_element, add_part};
 use crate::near::nearest;
 use crate::writing::{add_joint, add_line};
-use sfc_base::case::is_same_word;
 use sfc_base::location::Size;
 use sfc_base::var_type::VarType;
 use sfc_page::append::{append_number, append_signed};
 use sfc_places::chart_text::ChartText;
 use sfc_places::declared::Declared;
+use sfc_places::enclosing::token_of;
 use sfc_places::finding::{Detail, Element, Finding, Part, Sort, Types};
-use sfc_places::marks::{behind, line_at, spelling_at};
-use sfc_places::regions::program_types;
+use sfc_places::marks::{line_at, spelling_at};
+use sfc_places::spaces::{first_of, steps_of};
+use sfc_places::tree_text::TreeText;
 use sfc_tokens::token::Token;
 use std::alloc::{AllocError, Global};
 
@@ -33,11 +34,13 @@ pub fn add_in(
 fn add_near(
     alloc: Global,
     told: &mut Vec<u8>,
-    tokens: &[Token],
+    text: &TreeText<'_>,
     wanted: &[u8],
     sort: Sort,
 ) -> Result<(), AllocError> {
-    let names = candidates(alloc, tokens, sort)?;
+    let chart = text.chart;
+    let tokens = chart.tokens;
+    let names = candidates(alloc, text, sort)?;
     let found = nearest(alloc, tokens, wanted, &names)?;
     if found.is_empty() {
         return Ok(());
@@ -50,33 +53,24 @@ fn add_near(
             told,
             tokens,
             near.declared,
-            line_at(tokens, near.declared.token),
+            line_at(chart, near.declared.token),
         )?;
         place = place.saturating_add(1);
     }
     told.extend_from_slice(b"\n")
 }
 
-// The one of these that has this name.
-fn find_named(tokens: &[Token], names: &[Declared], wanted: &[u8]) -> Option<Declared> {
-    for declared in names {
-        if is_same_word(spelling_at(tokens, declared.token), wanted) {
-            return Some(*declared);
-        }
-    }
-    None
-}
-
 // The step of this name in any program type, and the name of that type.
 fn step_anywhere(
     alloc: Global,
-    tokens: &[Token],
+    text: &TreeText<'_>,
     wanted: &[u8],
 ) -> Result<Option<(Declared, usize)>, AllocError> {
-    for region in program_types(alloc, tokens)?.as_slice() {
-        let steps = steps_of(alloc, tokens, *region)?;
-        if let Some(step) = find_named(tokens, &steps, wanted) {
-            return Ok(Some((step, behind(region.from, 1))));
+    let chart = text.chart;
+    for program in text.source.programs.as_slice() {
+        let steps = steps_of(alloc, chart, program)?;
+        if let Some(step) = first_of(chart, &steps, wanted) {
+            return Ok(Some((step, token_of(chart, &program.name))));
         }
     }
     Ok(None)
@@ -86,36 +80,41 @@ fn step_anywhere(
 fn add_elsewhere(
     alloc: Global,
     told: &mut Vec<u8>,
-    tokens: &[Token],
+    text: &TreeText<'_>,
     wanted: &[u8],
     sort: Sort,
 ) -> Result<(), AllocError> {
     let Sort::Steps { .. } = sort else {
         return Ok(());
     };
-    let Some((step, program)) = step_anywhere(alloc, tokens, wanted)? else {
+    let Some((step, program)) = step_anywhere(alloc, text, wanted)? else {
         return Ok(());
     };
+    let chart = text.chart;
     told.extend_from_slice(b"  mend: this is a step of PROGRAM ")?;
-    told.extend_from_slice(spelling_at(tokens, program))?;
+    told.extend_from_slice(spelling_at(chart.tokens, program))?;
     told.extend_from_slice(b" (line ")?;
-    append_number(told, u64::from(line_at(tokens, step.token)))?;
+    append_number(told, u64::from(line_at(chart, step.token)))?;
     add_line(told, b"), and a transition joins steps of one program type")
 }
 
 // Adds a line with the first one of a name.
-fn add_first(told: &mut Vec<u8>, tokens: &[Token], first: Declared) -> Result<(), AllocError> {
+fn add_first(told: &mut Vec<u8>, chart: &ChartText<'_>, first: Declared) -> Result<(), AllocError> {
     told.extend_from_slice(b"  first: ")?;
-    add_declared(told, tokens, first, line_at(tokens, first.token))?;
+    add_declared(told, chart.tokens, first, line_at(chart, first.token))?;
     told.extend_from_slice(b"\n")
 }
 
 // Adds a line with the first one in a list of steps.
-fn add_first_in_list(told: &mut Vec<u8>, tokens: &[Token], first: usize) -> Result<(), AllocError> {
+fn add_first_in_list(
+    told: &mut Vec<u8>,
+    chart: &ChartText<'_>,
+    first: usize,
+) -> Result<(), AllocError> {
     told.extend_from_slice(b"  first: ")?;
-    told.extend_from_slice(spelling_at(tokens, first))?;
+    told.extend_from_slice(spelling_at(chart.tokens, first))?;
     told.extend_from_slice(b" (line ")?;
-    append_number(told, u64::from(line_at(tokens, first)))?;
+    append_number(told, u64::from(line_at(chart, first)))?;
     add_line(told, b")")
 }
 
@@ -206,25 +205,26 @@ fn add_count(told: &mut Vec<u8>, found: usize, most: usize) -> Result<(), AllocE
     told.extend_from_slice(b"\n")
 }
 
-/// Adds lines with the details of a fault at a word; the tokens are those of the chart. The one error is that memory was refused.
+/// Adds lines with the details of a fault at a word, over the chart. The one error is that memory was refused.
 pub fn add_detail(
     alloc: Global,
     told: &mut Vec<u8>,
-    tokens: &[Token],
+    text: &TreeText<'_>,
     word: &[u8],
     detail: Detail,
 ) -> Result<(), AllocError> {
+    let chart = text.chart;
     match detail {
         Detail::Nothing => Ok(()),
         Detail::Missing(sort) => {
-            add_near(alloc, told, tokens, word, sort)?;
-            add_elsewhere(alloc, told, tokens, word, sort)
+            add_near(alloc, told, text, word, sort)?;
+            add_elsewhere(alloc, told, text, word, sort)
         }
         Detail::MissingPart => add_line(told, b"  expected: X, T or Q"),
         Detail::OutsideAction => add_line(told, b"  wanted: the action in whose body it stands"),
         Detail::NoWith => add_line(told, b"  expected: WITH and the name of a task"),
-        Detail::First(first) => add_first(told, tokens, first),
-        Detail::FirstInList(first) => add_first_in_list(told, tokens, first),
+        Detail::First(first) => add_first(told, chart, first),
+        Detail::FirstInList(first) => add_first_in_list(told, chart, first),
         Detail::Types { wanted, found } => {
             add_wanted(told, types_text(wanted), types_text(found))?;
             add_time(told, wanted, found)
@@ -243,13 +243,14 @@ pub fn add_detail(
 pub fn add_finding(
     alloc: Global,
     told: &mut Vec<u8>,
-    chart: &ChartText<'_>,
+    text: &TreeText<'_>,
     finding: Finding,
 ) -> Result<(), AllocError> {
+    let chart = text.chart;
     add_in(told, chart.tokens, finding.element, finding.part)?;
     let word = match chart.spans.get(finding.token) {
         Some(span) => chart.text.get(span.from..span.to).unwrap_or(b""),
         None => b"",
     };
-    add_detail(alloc, told, chart.tokens, word, finding.detail)
+    add_detail(alloc, told, text, word, finding.detail)
 }

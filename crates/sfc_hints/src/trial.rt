@@ -4,7 +4,7 @@
 use sfc_events::read_error::{ReadError, ReadErrorKind};
 use sfc_text::read::read;
 use sfc_text::read_expr::read_expr;
-use sfc_tokens::lex::last_line;
+use sfc_tokens::lines::last_line;
 use std::alloc::{AllocError, Global};
 
 /// What a text is to be read as.

@@ -1,11 +1,7 @@
 //! A text with its tokens.
 
 use crate::span::Span;
-use sfc_events::read_error::ReadErrorKind;
-use sfc_text::expression::Expression;
-use sfc_text::read_expr::read_expr;
 use sfc_tokens::token::Token;
-use std::alloc::{AllocError, Global};
 
 /// A text, its tokens, and the bytes of each of them.
 #[derive(Clone, Copy)]
@@ -24,21 +20,6 @@ impl<'a> ChartText<'a> {
         match self.text.get(first.from..last.from) {
             Some(bytes) => bytes,
             None => b"",
-        }
-    }
-
-    /// The expression from a token up to another one, which is left out; None where it is none. The one error is that
-    /// memory was refused.
-    pub fn expression(
-        &self,
-        alloc: Global,
-        from: usize,
-        to: usize,
-    ) -> Result<Option<Expression>, AllocError> {
-        match read_expr(alloc, self.bytes(from, to)) {
-            Ok(expression) => Ok(Some(expression)),
-            Err(error) if error.kind == ReadErrorKind::Memory => Err(AllocError),
-            Err(_) => Ok(None),
         }
     }
 }

@@ -4,10 +4,9 @@ use crate::declared::Declared;
 use sfc_base::location::Size;
 use sfc_base::var_type::VarType;
 use sfc_events::load_error::LoadError;
-use std::alloc::{AllocError, AllocFailed};
 
 /// What of a text a fault is in. Each number is the place of a name among the tokens.
-#[derive(Clone, Copy)]
+#[derive(Clone, Copy, PartialEq, Eq)]
 pub enum Element {
     /// The text outside program types and the configuration.
     Text,
@@ -64,7 +63,7 @@ pub enum Element {
 }
 
 /// Which part of it. Associations and statements are counted from 1.
-#[derive(Clone, Copy)]
+#[derive(Clone, Copy, PartialEq, Eq)]
 pub enum Part {
     Whole,
     Name,
@@ -85,7 +84,7 @@ pub enum Part {
 }
 
 /// Types that are wanted, or that are there.
-#[derive(Clone, Copy)]
+#[derive(Clone, Copy, PartialEq, Eq)]
 pub enum Types {
     One(VarType),
     /// INT or DINT.
@@ -97,7 +96,7 @@ pub enum Types {
 }
 
 /// Which names may be meant where one isn't found.
-#[derive(Clone, Copy)]
+#[derive(Clone, Copy, PartialEq, Eq)]
 pub enum Sort {
     /// The variables of a program type, whose name has this place, and the globals.
     Variables { program: usize },
@@ -112,7 +111,7 @@ pub enum Sort {
 }
 
 /// What is told of a fault beside its place.
-#[derive(Clone, Copy)]
+#[derive(Clone, Copy, PartialEq, Eq)]
 pub enum Detail {
     Nothing,
     /// The name isn't found among these.
@@ -140,43 +139,11 @@ pub enum Detail {
 }
 
 /// A fault, with the place of the token that is at fault.
-#[derive(Clone, Copy)]
+#[derive(Clone, Copy, PartialEq, Eq)]
 pub struct Finding {
     pub error: LoadError,
     pub token: usize,
     pub element: Element,
     pub part: Part,
     pub detail: Detail,
-}
-
-/// Why a walk over a text ended: it has found the first fault, or memory was refused.
-#[derive(Clone, Copy)]
-pub enum Stop {
-    Found(Finding),
-    Memory,
-}
-
-impl From<AllocError> for Stop {
-    fn from(_error: AllocError) -> Stop {
-        Stop::Memory
-    }
-}
-
-impl<T: Drop> From<AllocFailed<T>> for Stop {
-    fn from(_error: AllocFailed<T>) -> Stop {
-        Stop::Memory
-    }
-}
-
-impl Element {
-    /// The fault at a token in a part of it.
-    pub fn fault(self, part: Part, error: LoadError, token: usize, detail: Detail) -> Stop {
-        Stop::Found(Finding {
-            error,
-            token,
-            element: self,
-            part,
-            detail,
-        })
-    }
 }

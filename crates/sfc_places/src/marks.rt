@@ -1,7 +1,9 @@
 //! Tokens by their places among the tokens of a text, which are counted from 0.
 
+use crate::chart_text::ChartText;
 use sfc_base::delimiter::Delimiter;
 use sfc_base::keyword::Keyword;
+use sfc_tokens::lines;
 use sfc_tokens::token::{Token, TokenKind};
 
 /// What a token may be.
@@ -69,9 +71,9 @@ pub fn spelling_at(tokens: &[Token], at: usize) -> &[u8] {
 }
 
 /// The line of the token at the place; 1 where none stands there.
-pub fn line_at(tokens: &[Token], at: usize) -> u32 {
-    match tokens.get(at) {
-        Some(token) => token.line,
+pub fn line_at(chart: &ChartText<'_>, at: usize) -> u32 {
+    match chart.tokens.get(at) {
+        Some(token) => lines::line_at(chart.text, token.span.from),
         None => 1,
     }
 }

@@ -13,18 +13,22 @@ ghost use Rattle.sfc_why.specs.declared.report.Fault.TheVariants.{Reading, Loadi
 use crate::place::{Place, token_place};
 use crate::reading::reading_fault;
 use crate::report::{Fault, Report, report_at};
-use crate::sfc_load::load::load;
+use crate::sfc_load::load::load_with_place;
+use crate::sfc_places::by_tree::finding_of;
 use crate::sfc_places::chart_text::ChartText;
 use crate::sfc_places::finding::Finding;
-use crate::sfc_places::span::find_spans;
-use crate::sfc_places::walk::first_fault;
+use crate::sfc_places::sfc_check::placed_error::PlacedLoadError;
+use crate::sfc_places::span::spans_of;
+use crate::sfc_places::tree_text::TreeText;
 use sfc_events::load_error::LoadError;
 use sfc_events::read_error::{ReadError, ReadErrorKind};
 use sfc_hints::notes::add_finding;
 use sfc_hints::trial::Goal;
 use sfc_plant::plant::Plant;
-use sfc_text::read::read;
+use sfc_text::read::read_with_place;
+use sfc_text::tree::Source;
 use sfc_tokens::lex::tokens;
+use sfc_tokens::placed::Placed;
 use std::alloc::{AllocError, Global};
 
 /// What is told of a chart.
@@ -46,57 +50,67 @@ fn too_long(alloc: Global, text: &[u8]) -> Result<Report, AllocError>
 }
 
 // A fault of a text that the reader refuses for another reason.
-fn refused_by_reader(alloc: Global, text: &[u8], error: ReadError) -> Result<Report, AllocError>
-    ensures { IfOk result (IsReportFor text.now (Reading error.kind)) }
+fn refused_by_reader(
+    alloc: Global,
+    text: &[u8],
+    error: &Placed<ReadError>,
+) -> Result<Report, AllocError>
+    ensures { IfOk result (IsReportFor text.now (Reading error.now.kind)) }
 {
-    let spans = find_spans(alloc, text)?;
-    let fault = reading_fault(alloc, Goal::Chart, text, &spans, error)?;
-    let refusal = Fault::Reading(error.kind);
+    let fault = reading_fault(alloc, Goal::Chart, text, error)?;
+    let refusal = Fault::Reading(error.value().kind);
     report_at(alloc, text, refusal, fault.place, &fault.lines)
 }
 
 // A fault of a text that the reader refuses.
-fn refused_reading(alloc: Global, text: &[u8], error: ReadError) -> Result<Report, AllocError>
-    ensures report { IfOk result (IsReportFor text.now (Reading error.kind)) }
-    ensures memory { IfOk result (λ report. error.kind ≢ Memory) }
+fn refused_reading(
+    alloc: Global,
+    text: &[u8],
+    error: &Placed<ReadError>,
+) -> Result<Report, AllocError>
+    ensures report { IfOk result (IsReportFor text.now (Reading error.now.kind)) }
+    ensures memory { IfOk result (λ report. error.now.kind ≢ Memory) }
 {
-    match error.kind {
+    match error.value().kind {
         ReadErrorKind::Memory => Err(AllocError),
         ReadErrorKind::TooLong => too_long(alloc, text),
         _ => refused_by_reader(alloc, text, error),
     }
 }
 
-// The place of what the walk has found, and what is told of it.
+// The place of what was found, and what is told of it.
 fn found_at(
     alloc: Global,
-    chart: &ChartText<'_>,
+    text: &TreeText<'_>,
     finding: Finding,
     lines: &mut Vec<u8>,
 ) -> Result<Place, AllocError>
-    requires { TextLexes chart.now.text.now (Ok (kinds chart.now.tokens.now)) }
-    ensures { IfOk result (IsPlaceOf chart.now.text.now) }
+    requires { TextLexes text.now.chart.now.text.now (Ok (kinds text.now.chart.now.tokens.now)) }
+    ensures { IfOk result (IsPlaceOf text.now.chart.now.text.now) }
 {
+    let chart = text.chart;
     let Some(span) = chart.spans.get(finding.token) else {
         return Ok(Place::Whole);
     };
-    add_finding(alloc, lines, chart, finding)?;
+    add_finding(alloc, lines, text, finding)?;
     token_place(alloc, chart.text, chart.tokens, finding.token, *span)
 }
 
-// The place of a fault that loading finds, and what is told of it: that of the walk, where it has found the same one.
+// The place of a fault that loading finds, and what is told of it.
 fn loading_fault(
     alloc: Global,
     chart: &ChartText<'_>,
-    error: LoadError,
+    source: &Source,
+    fault: &PlacedLoadError,
     lines: &mut Vec<u8>,
 ) -> Result<Place, AllocError>
     requires { TextLexes chart.now.text.now (Ok (kinds chart.now.tokens.now)) }
     ensures { IfOk result (IsPlaceOf chart.now.text.now) }
 {
-    match first_fault(alloc, chart)? {
-        Some(finding) if finding.error == error => found_at(alloc, chart, finding, lines),
-        _ => Ok(Place::Whole),
+    let text = TreeText { chart, source };
+    match finding_of(alloc, &text, fault)? {
+        Some(finding) => found_at(alloc, &text, finding, lines),
+        None => Ok(Place::Whole),
     }
 }
 
@@ -104,20 +118,21 @@ fn loading_fault(
 fn loading_place(
     alloc: Global,
     text: &[u8],
-    error: LoadError,
+    source: &Source,
+    fault: &PlacedLoadError,
     lines: &mut Vec<u8>,
 ) -> Result<Place, AllocError>
     ensures { IfOk result (IsPlaceOf text.now) }
 {
-    let spans = find_spans(alloc, text)?;
     match tokens(alloc, text) {
         Ok(found) => {
+            let spans = spans_of(alloc, &found)?;
             let chart = ChartText {
                 text,
                 tokens: found.as_slice(),
-                spans: spans.tokens.as_slice(),
+                spans: spans.as_slice(),
             };
-            loading_fault(alloc, &chart, error, lines)
+            loading_fault(alloc, &chart, source, fault, lines)
         }
         Err(error) if error.kind == ReadErrorKind::Memory => Err(AllocError),
         Err(_) => Ok(Place::Whole),
@@ -125,22 +140,32 @@ fn loading_place(
 }
 
 // A fault of a text that loading refuses.
-fn refused_by_loader(alloc: Global, text: &[u8], error: LoadError) -> Result<Report, AllocError>
-    ensures { IfOk result (IsReportFor text.now (Loading error)) }
+fn refused_by_loader(
+    alloc: Global,
+    text: &[u8],
+    source: &Source,
+    fault: &PlacedLoadError,
+) -> Result<Report, AllocError>
+    ensures { IfOk result (IsReportFor text.now (Loading fault.now)) }
 {
     let mut lines = Vec::new(alloc);
-    let place = loading_place(alloc, text, error, &mut lines)?;
-    report_at(alloc, text, Fault::Loading(error), place, &lines)
+    let place = loading_place(alloc, text, source, fault, &mut lines)?;
+    report_at(alloc, text, Fault::Loading(fault.error()), place, &lines)
 }
 
 // A fault of a text that loading refuses, unless memory was refused.
-fn refused_loading(alloc: Global, text: &[u8], error: LoadError) -> Result<Report, AllocError>
-    ensures report { IfOk result (IsReportFor text.now (Loading error)) }
-    ensures memory { IfOk result (λ report. error ≢ load.Memory) }
+fn refused_loading(
+    alloc: Global,
+    text: &[u8],
+    source: &Source,
+    fault: &PlacedLoadError,
+) -> Result<Report, AllocError>
+    ensures report { IfOk result (IsReportFor text.now (Loading fault.now)) }
+    ensures memory { IfOk result (λ report. fault.now ≢ load.Memory) }
 {
-    match error {
+    match fault.error() {
         LoadError::Memory => Err(AllocError),
-        _ => refused_by_loader(alloc, text, error),
+        _ => refused_by_loader(alloc, text, source, fault),
     }
 }
 
@@ -149,12 +174,12 @@ fn refused_loading(alloc: Global, text: &[u8], error: LoadError) -> Result<Repor
 pub fn explain_chart(alloc: Global, text: &[u8]) -> Result<Told, AllocError>
     ensures { IfOk result (Explains text.now) }
 {
-    let source = match read(alloc, text) {
+    let source = match read_with_place(alloc, text) {
         Ok(source) => source,
-        Err(error) => return Ok(Told::Fault(refused_reading(alloc, text, error)?)),
+        Err(error) => return Ok(Told::Fault(refused_reading(alloc, text, &error)?)),
     };
-    match load(alloc, &source) {
+    match load_with_place(alloc, &source) {
         Ok(plant) => Ok(Told::NoFault(plant)),
-        Err(error) => Ok(Told::Fault(refused_loading(alloc, text, error)?)),
+        Err(fault) => Ok(Told::Fault(refused_loading(alloc, text, &source, &fault)?)),
     }
 }

@@ -1,23 +1,23 @@
 //! Faults of texts that can't be read: the byte or the token at fault, the element, and what could stand there.
 
-ghost use Rattle.std.specs.Prelude.{◌≡◌, IfOk, Ok};
+ghost use Rattle.std.specs.Prelude.{IfOk, Ok};
 ghost use Rattle.sfc_tokens.specs.Texts.{TextLexes};
 ghost use Rattle.sfc_tokens.specs.Tokens.{kinds};
 ghost use Rattle.sfc_why.specs.Places.{IsPlaceOf};
-ghost use Rattle.sfc_why.specs.declared.place.Place.TheVariants.{Whole};
 
 use crate::place::{Place, byte_place, token_place};
 use crate::sfc_places::chart_text::ChartText;
 use crate::sfc_places::finding::Part;
-use crate::sfc_places::span::{Span, Spans};
+use crate::sfc_places::span::{Span, character_length, spans_of};
 use sfc_events::read_error::{ReadError, ReadErrorKind};
 use sfc_hints::expected::{Front, find_expected};
 use sfc_hints::mending::{Misplaced, add_byte_mending};
 use sfc_hints::notes::add_in;
 use sfc_hints::short_front::{LONGEST, short_front};
 use sfc_hints::surroundings::element_before;
-use sfc_hints::trial::{Goal, Outcome, try_front};
+use sfc_hints::trial::Goal;
 use sfc_tokens::lex::tokens;
+use sfc_tokens::placed::Placed;
 use sfc_tokens::token::Token;
 use std::alloc::{AllocError, Global};
 
@@ -26,39 +26,6 @@ use std::alloc::{AllocError, Global};
 pub struct ReadingFault {
     pub place: Place,
     pub lines: Vec<u8>,
-}
-
-// How often a search may halve what it looks through.
-const HALVES: usize = 64;
-
-// Whether the text up to the end of these bytes has no lexical fault. The one error is that memory was refused.
-fn is_lexed(alloc: Global, text: &[u8], span: Span) -> Result<bool, AllocError> {
-    match tokens(alloc, text.get(..span.to).unwrap_or(b"")) {
-        Ok(_) => Ok(true),
-        Err(error) if error.kind == ReadErrorKind::Memory => Err(AllocError),
-        Err(_) => Ok(false),
-    }
-}
-
-// Which of the pieces is the first that is no token; how many there are where all are.
-fn first_not_lexed(alloc: Global, text: &[u8], spans: &[Span]) -> Result<usize, AllocError> {
-    let mut low = 0;
-    let mut high = spans.len();
-    for _ in 0..HALVES {
-        if low >= high {
-            break;
-        }
-        let middle = low + (high - low) / 2;
-        let Some(span) = spans.get(middle) else {
-            break;
-        };
-        if is_lexed(alloc, text, *span)? {
-            low = middle.saturating_add(1);
-        } else {
-            high = middle;
-        }
-    }
-    Ok(low)
 }
 
 // Adds a line with the element that is open behind these bytes, which are tokens.
@@ -100,82 +67,53 @@ fn byte_fault(
     Ok(ReadingFault { place, lines })
 }
 
-// The fault of a text as a whole.
-fn whole_fault(alloc: Global) -> ReadingFault
-    ensures { result.place ≡ Whole }
-{
-    ReadingFault {
-        place: Place::Whole,
-        lines: Vec::new(alloc),
+// How many tokens the bytes are; 0 where they are none. The one error is that memory was refused.
+fn count_tokens(alloc: Global, bytes: &[u8]) -> Result<usize, AllocError> {
+    match tokens(alloc, bytes) {
+        Ok(found) => Ok(found.len()),
+        Err(error) if error.kind == ReadErrorKind::Memory => Err(AllocError),
+        Err(_) => Ok(0),
     }
 }
 
-// Where a text is at fault that has no tokens, with its pieces. The one error is that memory was refused.
+// The bytes that are refused, up to the end of a character. A location has no sign, so that `%` alone is refused before a minus.
+fn whole_characters(text: &[u8], span: Span) -> Span {
+    let bytes = text.get(span.from..).unwrap_or(b"");
+    let least = span.from.saturating_add(character_length(bytes));
+    let to = match bytes {
+        [b'%', b'-', ..] => least,
+        _ => span.to.max(least),
+    };
+    Span {
+        from: span.from,
+        to,
+    }
+}
+
+// Where a text is at fault that has no tokens. The one error is that memory was refused.
 fn lexical_fault(
     alloc: Global,
     goal: Goal,
     text: &[u8],
-    spans: &Spans,
-    kind: ReadErrorKind,
+    fault: &Placed<ReadError>,
 ) -> Result<ReadingFault, AllocError>
     ensures { IfOk result (λ fault. IsPlaceOf text.now fault.place) }
 {
-    let index = first_not_lexed(alloc, text, &spans.tokens)?;
-    match (spans.tokens.get(index), spans.wrong) {
-        (Some(span), _) => byte_fault(alloc, goal, text, (index, *span), kind),
-        (None, Some(span)) => byte_fault(alloc, goal, text, (index, span), kind),
-        (None, None) => Ok(whole_fault(alloc)),
-    }
+    let span = whole_characters(text, Span::of(fault.span()));
+    let index = count_tokens(alloc, text.get(..span.from).unwrap_or(b""))?;
+    byte_fault(alloc, goal, text, (index, span), fault.value().kind)
 }
 
-// Whether the text may go on behind the token. The one error is that memory was refused.
-fn is_front(
-    alloc: Global,
-    goal: Goal,
-    chart: &ChartText<'_>,
-    index: usize,
-) -> Result<bool, AllocError> {
-    let Some(span) = chart.spans.get(index) else {
-        return Ok(true);
-    };
-    let front = chart.text.get(..span.to).unwrap_or(b"");
-    let outcome = try_front(alloc, goal, front, b"")?;
-    Ok(outcome != Outcome::Wrong)
-}
-
-// The place of the first token that stands on this line or a later one.
-fn first_on_line(tokens: &[Token], line: u32) -> usize {
-    let mut place = 0usize;
+// The place among the tokens of the first one that begins at a byte or behind it; how many there are where none does.
+fn index_of(tokens: &[Token], place: usize) -> usize {
+    let mut index = 0usize;
     for token in tokens {
-        if token.line >= line {
+        if token.span.from as usize >= place {
             break;
         }
-        place = place.saturating_add(1);
+        index = index.saturating_add(1);
     }
-    place
-}
-
-// Which token is the first, from this line on, behind which no text may go on; how many there are where none is.
-fn first_wrong(
-    alloc: Global,
-    goal: Goal,
-    chart: &ChartText<'_>,
-    line: u32,
-) -> Result<usize, AllocError> {
-    let mut low = first_on_line(chart.tokens, line);
-    let mut high = chart.tokens.len();
-    for _ in 0..HALVES {
-        if low >= high {
-            break;
-        }
-        let middle = low + (high - low) / 2;
-        if is_front(alloc, goal, chart, middle)? {
-            low = middle.saturating_add(1);
-        } else {
-            high = middle;
-        }
-    }
-    Ok(low)
+    index
 }
 
 // Adds a line of what could stand behind the front of a text.
@@ -274,37 +212,37 @@ fn syntax_fault(
     alloc: Global,
     goal: Goal,
     chart: &ChartText<'_>,
-    error: ReadError,
+    fault: &Placed<ReadError>,
 ) -> Result<ReadingFault, AllocError>
     requires { TextLexes chart.now.text.now (Ok (kinds chart.now.tokens.now)) }
     ensures { IfOk result (λ fault. IsPlaceOf chart.now.text.now fault.place) }
 {
-    let index = first_wrong(alloc, goal, chart, error.line)?;
+    let index = index_of(chart.tokens, Span::of(fault.span()).from);
     let place = place_at(alloc, chart, index)?;
-    let lines = syntax_lines(alloc, goal, chart, index, error.kind)?;
+    let lines = syntax_lines(alloc, goal, chart, index, fault.value().kind)?;
     Ok(ReadingFault { place, lines })
 }
 
-/// Where a text is at fault that can't be read so, with its pieces. The one error is that memory was refused.
+/// Where a text is at fault that can't be read so, by the reader's own place. The one error is that memory was refused.
 pub fn reading_fault(
     alloc: Global,
     goal: Goal,
     text: &[u8],
-    spans: &Spans,
-    error: ReadError,
+    fault: &Placed<ReadError>,
 ) -> Result<ReadingFault, AllocError>
     ensures { IfOk result (λ fault. IsPlaceOf text.now fault.place) }
 {
     match tokens(alloc, text) {
         Ok(found) => {
+            let spans = spans_of(alloc, &found)?;
             let chart = ChartText {
                 text,
                 tokens: found.as_slice(),
-                spans: spans.tokens.as_slice(),
+                spans: spans.as_slice(),
             };
-            syntax_fault(alloc, goal, &chart, error)
+            syntax_fault(alloc, goal, &chart, fault)
         }
         Err(error) if error.kind == ReadErrorKind::Memory => Err(AllocError),
-        Err(error) => lexical_fault(alloc, goal, text, spans, error.kind),
+        Err(_) => lexical_fault(alloc, goal, text, fault),
     }
 }

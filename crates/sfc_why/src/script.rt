@@ -8,19 +8,18 @@ use crate::place::{Place, word_place};
 use crate::reading::reading_fault;
 use crate::report::{Fault, Report, report_at};
 use crate::sfc_core::resource::Resource;
+use crate::sfc_load::scope::scope_of;
+use crate::sfc_places::by_tree::{condition_detail, token_at};
 use crate::sfc_places::chart_text::ChartText;
-use crate::sfc_places::declared::Space;
-use crate::sfc_places::finding::Stop;
-use crate::sfc_places::marks::{behind, spelling_at};
-use crate::sfc_places::regions::{Region, configuration, program_types};
-use crate::sfc_places::span::{Span, find_spans};
-use crate::sfc_places::types::{Names, TypeFinding, locate};
-use crate::sfc_places::variables::variables;
-use crate::sfc_places::walk_programs::space_of;
-use crate::sfc_places::walk_tasks::{instance_places, type_name};
-use crate::sfc_places::walk_variables::walk_globals;
+use crate::sfc_places::enclosing::token_of;
+use crate::sfc_places::sfc_check::check::check;
+use crate::sfc_places::sfc_check::placed_error::{PlacedLoadError, PlacedTypeError};
+use crate::sfc_places::sfc_check::type_error::TypeError;
+use crate::sfc_places::spaces::program_named;
+use crate::sfc_places::span::{Span, spans_of};
+use crate::sfc_places::tree_text::TreeText;
 use crate::words::{Words, words_of};
-use sfc_base::case::is_same_word;
+use sfc_base::ids::ProgId;
 use sfc_base::var_type::VarType;
 use sfc_events::read_error::{ReadError, ReadErrorKind};
 use sfc_hints::notes::add_detail;
@@ -29,8 +28,11 @@ use sfc_hints::writing::{add_joint, add_line};
 use sfc_page::append::append_number;
 use sfc_plant::plant::Plant;
 use sfc_script::script::{ScriptError, read_script};
-use sfc_text::read_expr::read_expr;
+use sfc_text::expression::Expression;
+use sfc_text::read::read;
+use sfc_text::read_expr::read_expr_with_place;
 use sfc_tokens::lex::tokens;
+use sfc_tokens::placed::Placed;
 use std::alloc::{AllocError, Global};
 
 // What is at fault in a script: bytes of it, and what is told of them.
@@ -111,85 +113,61 @@ fn unread_fault(
     alloc: Global,
     text: &[u8],
     base: usize,
-    error: ReadError,
+    error: &Placed<ReadError>,
 ) -> Result<ScriptFault, AllocError> {
-    if error.kind == ReadErrorKind::Memory {
+    let kind = error.value().kind;
+    if kind == ReadErrorKind::Memory {
         return Err(AllocError);
     }
-    let spans = find_spans(alloc, text)?;
-    let fault = reading_fault(alloc, Goal::Expression, text, &spans, error)?;
+    let fault = reading_fault(alloc, Goal::Expression, text, error)?;
     let span = span_in(text, fault.place, base);
-    let (number, name) = (error.kind.number(), error.kind.name());
+    let (number, name) = (kind.number(), kind.name());
     let lines = condition_lines(alloc, number, name, &fault.lines)?;
     Ok(ScriptFault { span, lines })
 }
 
-// The program type of the instance with this name.
-fn type_of_instance(
-    alloc: Global,
-    chart: &ChartText<'_>,
-    instance: &[u8],
-) -> Result<Option<Region>, AllocError> {
-    let tokens = chart.tokens;
-    let mut name: &[u8] = b"";
-    for at in instance_places(alloc, tokens, configuration(tokens))?.as_slice() {
-        if is_same_word(spelling_at(tokens, behind(*at, 1)), instance) {
-            name = type_name(tokens, *at);
-        }
-    }
-    for program in program_types(alloc, tokens)?.as_slice() {
-        if is_same_word(spelling_at(tokens, behind(program.from, 1)), name) {
-            return Ok(Some(*program));
-        }
-    }
-    Ok(None)
+// What a script is over: a plant, with its text.
+#[derive(Clone, Copy)]
+struct Over<'a> {
+    plant: &'a Plant,
+    text: &'a TreeText<'a>,
 }
 
-// The name space of the globals; None where one is faulty.
-fn globals_of(alloc: Global, chart: &ChartText<'_>) -> Result<Option<Space>, AllocError> {
-    let tokens = chart.tokens;
-    let declared = variables(alloc, tokens, configuration(tokens))?;
-    match walk_globals(alloc, tokens, &declared) {
-        Ok(space) => Ok(Some(space)),
-        Err(Stop::Memory) => Err(AllocError),
-        Err(Stop::Found(_)) => Ok(None),
-    }
+// A condition that is read, and that has no type in its program instance; and that instance.
+#[derive(Clone, Copy)]
+struct Untyped<'a> {
+    text: &'a [u8],
+    expression: &'a Expression,
+    instance: ProgId,
 }
 
-// The type fault of a condition in a program type, with the names of the globals.
-fn fault_in(
-    alloc: Global,
-    chart: &ChartText<'_>,
-    condition: &ChartText<'_>,
-    program: Region,
-    globals: &Space,
-) -> Result<Option<TypeFinding>, AllocError> {
-    let Some(own) = space_of(alloc, chart.tokens, program, globals)? else {
-        return Ok(None);
-    };
-    match read_expr(alloc, condition.text) {
-        Err(error) if error.kind == ReadErrorKind::Memory => Err(AllocError),
-        Err(_) => Ok(None),
-        Ok(expression) => {
-            let names = Names::new(globals, &own, behind(program.from, 1));
-            Ok(locate(condition.tokens, &expression, &names, VarType::Bool, 0))
-        }
-    }
-}
-
-// The type fault of a condition of this instance.
+// The type fault of a condition; None where it has none. The one error is that memory was refused.
 fn type_fault(
     alloc: Global,
-    chart: &ChartText<'_>,
-    condition: &ChartText<'_>,
-    instance: &[u8],
-) -> Result<Option<TypeFinding>, AllocError> {
-    let Some(program) = type_of_instance(alloc, chart, instance)? else {
+    plant: &Plant,
+    condition: &Untyped<'_>,
+) -> Result<Option<PlacedTypeError>, AllocError> {
+    if condition.instance.0 as usize >= plant.instances().len() {
         return Ok(None);
+    }
+    let scope = scope_of(plant, condition.instance);
+    match check(alloc, condition.expression, &scope, VarType::Bool) {
+        Ok(_expr) => Ok(None),
+        Err(fault) => match fault.error() {
+            TypeError::Memory => Err(AllocError),
+            _ => Ok(Some(fault)),
+        },
+    }
+}
+
+// The place in the chart of the name of this instance's program type.
+fn type_name_of(over: &Over<'_>, instance: ProgId) -> usize {
+    let Some(found) = over.plant.type_of(instance) else {
+        return 0;
     };
-    match globals_of(alloc, chart)? {
-        Some(globals) => fault_in(alloc, chart, condition, program, &globals),
-        None => Ok(None),
+    match program_named(over.text.source, found.name.spelling()) {
+        Some(program) => token_of(over.text.chart, &program.name),
+        None => 0,
     }
 }
 
@@ -207,23 +185,33 @@ fn word_at<'a>(text: &ChartText<'a>, token: usize) -> (Span, &'a [u8]) {
     }
 }
 
-// The fault of the types of a condition, which begins at this place of the script.
+// Adds what is told of a type fault of a condition, and answers its bytes there.
+fn add_fault(
+    alloc: Global,
+    over: &Over<'_>,
+    condition: &ChartText<'_>,
+    (instance, fault): (ProgId, &PlacedLoadError),
+    lines: &mut Vec<u8>,
+) -> Result<Span, AllocError> {
+    let token = token_at(condition, fault.span());
+    let (span, word) = word_at(condition, token);
+    let program = type_name_of(over, instance);
+    let detail = condition_detail(condition, token, program, fault);
+    add_detail(alloc, lines, over.text, word, detail)?;
+    Ok(span)
+}
+
+// The type fault of a condition, which begins at this place of the script.
 fn typing_fault(
     alloc: Global,
-    chart: &ChartText<'_>,
+    over: &Over<'_>,
     condition: &ChartText<'_>,
-    instance: &[u8],
+    (instance, fault): (ProgId, &PlacedLoadError),
     base: usize,
 ) -> Result<ScriptFault, AllocError> {
-    let Some(finding) = type_fault(alloc, chart, condition, instance)? else {
-        let lines = condition_lines(alloc, 10, "WrongType", b"")?;
-        let span = span_in(condition.text, Place::Whole, base);
-        return Ok(ScriptFault { span, lines });
-    };
-    let (span, word) = word_at(condition, finding.token);
     let mut more = Vec::new(alloc);
-    add_detail(alloc, &mut more, chart.tokens, word, finding.detail)?;
-    let (number, name) = (finding.error.number(), finding.error.name());
+    let span = add_fault(alloc, over, condition, (instance, fault), &mut more)?;
+    let (number, name) = (fault.error().number(), fault.error().name());
     let lines = condition_lines(alloc, number, name, &more)?;
     let span = Span {
         from: base.saturating_add(span.from),
@@ -232,43 +220,63 @@ fn typing_fault(
     Ok(ScriptFault { span, lines })
 }
 
+// The fault of a condition of which no type fault is found, which begins at this place of the script.
+fn whole_fault(alloc: Global, text: &[u8], base: usize) -> Result<ScriptFault, AllocError> {
+    let lines = condition_lines(alloc, 10, "WrongType", b"")?;
+    let span = span_in(text, Place::Whole, base);
+    Ok(ScriptFault { span, lines })
+}
+
 // The fault of a condition that is read, which begins at this place of the script.
 fn checked_fault(
     alloc: Global,
-    chart: &ChartText<'_>,
-    text: &[u8],
-    instance: &[u8],
+    over: &Over<'_>,
+    untyped: &Untyped<'_>,
     base: usize,
 ) -> Result<ScriptFault, AllocError> {
-    let spans = find_spans(alloc, text)?;
-    match tokens(alloc, text) {
-        Ok(found) => {
-            let condition = ChartText {
-                text,
-                tokens: found.as_slice(),
-                spans: spans.tokens.as_slice(),
-            };
-            typing_fault(alloc, chart, &condition, instance, base)
-        }
-        Err(_) => Err(AllocError),
+    let Some(fault) = type_fault(alloc, over.plant, untyped)? else {
+        return whole_fault(alloc, untyped.text, base);
+    };
+    let fault = PlacedLoadError::from(fault);
+    let Ok(found) = tokens(alloc, untyped.text) else {
+        return Err(AllocError);
+    };
+    let spans = spans_of(alloc, &found)?;
+    let condition = ChartText {
+        text: untyped.text,
+        tokens: found.as_slice(),
+        spans: spans.as_slice(),
+    };
+    typing_fault(alloc, over, &condition, (untyped.instance, &fault), base)
+}
+
+// The instance that a line names; one that no plant has where there is none of this name.
+fn instance_of(plant: &Plant, name: &[u8]) -> ProgId {
+    match plant.find_instance(name) {
+        Some(instance) => instance,
+        None => ProgId(u8::MAX),
     }
 }
 
 // The fault of a condition, behind the word at this place.
 fn condition_fault(
     alloc: Global,
-    chart: &ChartText<'_>,
+    over: &Over<'_>,
     script: &[u8],
     words: &Words,
     place: usize,
 ) -> Result<ScriptFault, AllocError> {
     let base = words.span(place.saturating_sub(1)).to;
     let text = script.get(base..words.line.to).unwrap_or(b"");
-    match read_expr(alloc, text) {
-        Err(error) => unread_fault(alloc, text, base, error),
-        Ok(_) => {
-            let instance = words.word(script, 2).unwrap_or(b"");
-            checked_fault(alloc, chart, text, instance, base)
+    match read_expr_with_place(alloc, text) {
+        Err(error) => unread_fault(alloc, text, base, &error),
+        Ok(expression) => {
+            let untyped = Untyped {
+                text,
+                expression: &expression,
+                instance: instance_of(over.plant, words.word(script, 2).unwrap_or(b"")),
+            };
+            checked_fault(alloc, over, &untyped, base)
         }
     }
 }
@@ -276,7 +284,7 @@ fn condition_fault(
 // The fault of a line.
 fn line_fault(
     alloc: Global,
-    chart: &ChartText<'_>,
+    over: &Over<'_>,
     script: &[u8],
     line: usize,
 ) -> Result<ScriptFault, AllocError> {
@@ -287,20 +295,20 @@ fn line_fault(
     };
     match command.fault() {
         LineFault::Word(place, wanted) => word_fault(alloc, script, &words, place, wanted),
-        LineFault::Condition(place) => condition_fault(alloc, chart, script, &words, place),
+        LineFault::Condition(place) => condition_fault(alloc, over, script, &words, place),
     }
 }
 
-// What is told of a script that is refused at a line, over a chart with its tokens.
+// What is told of a script that is refused at a line.
 fn refused_at(
     alloc: Global,
-    chart: &ChartText<'_>,
+    over: &Over<'_>,
     script: &[u8],
     line: usize,
 ) -> Result<Report, AllocError>
     ensures { IfOk result (IsReportForScript script.now line) }
 {
-    let fault = line_fault(alloc, chart, script, line)?;
+    let fault = line_fault(alloc, over, script, line)?;
     let place = word_place(script, fault.span);
     report_at(alloc, script, Fault::Script(line), place, &fault.lines)
 }
@@ -313,10 +321,41 @@ fn too_long(alloc: Global, script: &[u8]) -> Result<Report, AllocError>
     report_at(alloc, script, Fault::Script(0), Place::Whole, lines)
 }
 
-// What is told of a script that is refused at a line, over the text of a chart.
+// What is told of a script that is refused at a line, over a plant and the text of its chart.
+fn refused_over(
+    alloc: Global,
+    text: &[u8],
+    plant: &Plant,
+    script: &[u8],
+    line: usize,
+) -> Result<Report, AllocError>
+    ensures { IfOk result (IsReportForScript script.now line) }
+{
+    let Ok(source) = read(alloc, text) else {
+        return Err(AllocError);
+    };
+    let Ok(found) = tokens(alloc, text) else {
+        return Err(AllocError);
+    };
+    let spans = spans_of(alloc, &found)?;
+    let chart = ChartText {
+        text,
+        tokens: found.as_slice(),
+        spans: spans.as_slice(),
+    };
+    let text = TreeText {
+        chart: &chart,
+        source: &source,
+    };
+    let over = Over { plant, text: &text };
+    refused_at(alloc, &over, script, line)
+}
+
+// The same, where the line may be 0: then the script is too long.
 fn refused_script(
     alloc: Global,
     text: &[u8],
+    plant: &Plant,
     script: &[u8],
     line: usize,
 ) -> Result<Report, AllocError>
@@ -325,18 +364,7 @@ fn refused_script(
     if line == 0 {
         return too_long(alloc, script);
     }
-    let spans = find_spans(alloc, text)?;
-    match tokens(alloc, text) {
-        Ok(found) => {
-            let chart = ChartText {
-                text,
-                tokens: found.as_slice(),
-                spans: spans.tokens.as_slice(),
-            };
-            refused_at(alloc, &chart, script, line)
-        }
-        Err(_) => Err(AllocError),
-    }
+    refused_over(alloc, text, plant, script, line)
 }
 
 /// What is told of a script, over a plant and the text of its chart: None where it has no fault, else its first faulty line, which is
@@ -353,6 +381,9 @@ pub fn explain_script(
     match read_script(alloc, &resource, script) {
         Ok(_) => Ok(None),
         Err(ScriptError::Memory) => Err(AllocError),
-        Err(ScriptError::Faulty(line)) => Ok(Some(refused_script(alloc, text, script, line)?)),
+        Err(ScriptError::Faulty(line)) => {
+            let report = refused_script(alloc, text, resource.plant(), script, line)?;
+            Ok(Some(report))
+        },
     }
 }
