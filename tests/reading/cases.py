@@ -1,7 +1,7 @@
 #!/usr/bin/env python3
 """Runs files of cases through the reading: `cases.py FOLDER`. Their form is told in crates/conformance/README.md.
 
-It plays charts, scripts and refusals. Listings are passed over, since the reading writes none, and so are sessions by hand, what `why`
+It plays charts, scripts, tests and refusals. Listings are passed over, since the reading writes none, and so are sessions by hand, what `why`
 tells, and what scripts reach together. A case that doesn't end as it is to is shown; the last line is `N passed, M failed`.
 """
 
@@ -10,6 +10,7 @@ import sys
 from pathlib import Path
 
 from reading import Ended, plant_of, replayed
+from testing import FaultyLine, tested, without_details
 
 TEXTS = ("chart", "globals", "body", "task", "script", "second", "output")
 TASK = b"TASK Main(INTERVAL := T#10ms, PRIORITY := 1); PROGRAM P WITH Main : Mix;"
@@ -95,7 +96,7 @@ def case_of(path: Path) -> Case:
 
 def is_played(case: Case) -> bool:
     """Whether the reading answers the case: a replay or a check, or a listing that is refused (`tests/cover.sh` has what scripts reach)."""
-    return case.words["command"] in ("replay", "check") or case.words["command"] == "list" and case.words["stderr"] != ""
+    return case.words["command"] in ("replay", "check", "test") or case.words["command"] == "list" and case.words["stderr"] != ""
 
 
 def answered(case: Case) -> str:
@@ -103,8 +104,12 @@ def answered(case: Case) -> str:
     try:
         if case.words["command"] == "replay":
             return replayed(case.chart(), case.text("script"))
-        plant_of(case.chart())
+        plant = plant_of(case.chart())
+        if case.words["command"] == "test":
+            return "".join(line + "\n" for line in tested(plant, case.text("script"), "script"))
         return "ok\n"
+    except FaultyLine as line:
+        return f"ended: script: script line {line}\n"
     except Ended as ended:
         return f"ended: {ended.args[0]}\n"
 
@@ -113,6 +118,8 @@ def differs(case: Case) -> str:
     """How the reading ends where that isn't as it is to be; else an empty text."""
     got, refused = answered(case), case.words["stderr"]
     wanted = f"ended: {refused}\n" if refused else case.text("output").decode("latin-1")
+    if case.words["command"] == "test":
+        wanted = without_details(wanted)
     return "" if got == wanted else f"wanted\n{wanted}got\n{got}"
 
 

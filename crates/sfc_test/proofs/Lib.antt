@@ -1,0 +1,18 @@
+-- words of a line
+mod Splitting
+pub mod Parts
+-- what texts are read as
+mod Tests
+mod ConditionTexts
+-- lines of a file
+mod Lines
+-- a bench
+mod Told
+mod Active
+mod Trying
+mod Scanning
+-- cases that run
+mod Watched
+mod Passing
+mod Running
+mod Scripts

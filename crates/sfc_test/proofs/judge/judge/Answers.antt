@@ -1,0 +1,13 @@
+use Rattle.std.proofs.Common.{◌≡◌, ◌∙◌, sym, ap, List}
+use Rattle.sfc_replay.specs.sfc_debug.Steered.{Steered}
+use Rattle.sfc_test.specs.declared.line.Line.{Line}
+use Rattle.sfc_test.specs.Running.Benches.{steered_in}
+use Rattle.sfc_test.specs.Running.Watching.{held_in, rest_passes}
+use Rattle.sfc_test.proofs.Passing.{all_end}
+use Rattle.sfc_test.proofs.judge.judge.Goals as goal
+
+pub returns-clause-passed : goal.returns-clause-passed
+returns-clause-passed c =
+    let st : Steered = steered_in c.args.bench.now in
+    let rest = c.lines.invariant.rest in
+    sym (rest.2 ∙ ap (λ (ls : List Line). rest_passes st rest.0 (held_in c.lines.pending) ls) c.in_default.ensures ∙ all_end st (held_in c.lines.pending))
