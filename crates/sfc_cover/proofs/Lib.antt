@@ -4,3 +4,5 @@ pub mod Following
 pub mod TaskScans
 -- instances beside a debugger, command by command
 pub mod Playing
+-- lists of what is at numbers, one number more
+pub mod Ranges

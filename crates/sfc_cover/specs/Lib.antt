@@ -4,5 +4,7 @@
 pub mod Beside
 -- what a `Watch` is large enough for; opaque to the crates above
 pub mod Stages
+-- what scripts never reach, as marks of a drawing
+pub mod Unreached
 -- What private clauses cite.
 pub mod Private

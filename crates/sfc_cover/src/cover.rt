@@ -21,10 +21,17 @@ impl Drop for Cover {
     }
 }
 
+ghost use Rattle.std.specs.Prelude.{◌≡◌, IfOk, option_map};
+ghost use Rattle.sfc_cover.specs.Unreached as unreached;
+ghost use Rattle.sfc_cover.specs.Unreached.{IsCovered};
+
+use crate::drawing::drawing_of;
 use crate::follow::{Beside, follow_all};
 use crate::page::{report_of, total_of};
 use crate::share::Share;
+use sfc_base::ids::TypeId;
 use sfc_base::write_fault::put_all;
+use sfc_drawing::drawing_error::DrawingError;
 use sfc_replay::chart::plant_of_text;
 use sfc_replay::input::read_to_end;
 use sfc_replay::opening::{Opened, open_both};
@@ -46,6 +53,26 @@ fn played(alloc: Global, opened: Opened, reached: &Watch) -> Result<Watch, Repla
         watch,
     } = beside;
     Ok(watch)
+}
+
+// The program type of this name, where one is named.
+fn wanted_type(plant: &Plant, name: Option<&[u8]>) -> Option<TypeId>
+    ensures { result ≡ unreached.wanted_of plant.now (option_map (λ name. name.now) name.entry) }
+{
+    match name {
+        None => None,
+        Some(name) => plant.find_type(name),
+    }
+}
+
+// Whether a name is wanted that no program type has.
+fn is_missing(plant: &Plant, name: Option<&[u8]>) -> bool
+    ensures { result ≡ unreached.is_missing plant.now (option_map (λ name. name.now) name.entry) }
+{
+    match name {
+        None => false,
+        Some(name) => plant.find_type(name).is_none(),
+    }
 }
 
 impl Cover {
@@ -71,6 +98,24 @@ impl Cover {
         let opened = open_both(alloc, &self.text, &bytes)?;
         self.watch = played(alloc, opened, &self.watch)?;
         Ok(())
+    }
+
+    /// The drawing of the program instances as SVG: of all, or of those of the program type with this name, each with what was never reached
+    /// of it. `None` is answered where no program type has the name. The errors are that it would be too large, or that memory was refused.
+    pub fn drawing(
+        &self,
+        alloc: Global,
+        name: Option<&[u8]>,
+    ) -> Result<Option<Vec<u8>>, DrawingError>
+        ensures { IfOk result (λ drawn. IsCovered self.now.plant self.now.watch.reaches.items (option_map (λ name. name.now) name.entry)
+            (option_map (λ text. text.items) drawn)) }
+    {
+        if is_missing(&self.plant, name) {
+            return Ok(None);
+        }
+        let wanted = wanted_type(&self.plant, name);
+        let text = drawing_of(alloc, &self.plant, self.watch.reaches(), wanted)?;
+        Ok(Some(text))
     }
 
     /// How much was reached of all program instances: steps that were active, transitions that were cleared, actions that were executed, and

@@ -3,6 +3,7 @@
 //!
 //! - `arms`: the branches of IFs in the bodies of a chart.
 //! - `cover`: a chart with its scripts, from bytes to bytes.
+//! - `drawing`: what was never reached, in the graphic form of charts.
 //! - `elements`: what there is to be reached.
 //! - `fault_counts`: which faults ended scans.
 //! - `follow`: program instances beside a debugger.
@@ -17,6 +18,7 @@
 
 mod arms;
 pub mod cover;
+mod drawing;
 mod elements;
 mod fault_counts;
 pub mod follow;

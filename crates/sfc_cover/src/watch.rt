@@ -22,7 +22,7 @@ impl Drop for Watch {
     }
 }
 
-ghost use Rattle.std.specs.Prelude.{◌<◌, ◌≤ℤ◌, ◌^◌, pos, length, IfOk};
+ghost use Rattle.std.specs.Prelude.{◌≡◌, ◌<◌, ◌≤ℤ◌, ◌^◌, pos, length, IfOk};
 ghost use Rattle.sfc_replay.specs.sfc_instance.Views.{plant_in};
 ghost use Rattle.sfc_replay.specs.sfc_instances.Agreement.{AreInstancesOf};
 ghost use Rattle.sfc_cover.specs.Stages.{IsWatchOf};
@@ -84,7 +84,9 @@ impl Watch {
     }
 
     /// What was reached of each instance, by number.
-    pub(crate) fn reaches(&self) -> &[Reach] {
+    pub(crate) fn reaches(&self) -> &[Reach]
+        ensures { result.now ≡ self.now.reaches.items }
+    {
         self.reaches.as_slice()
     }
 

@@ -16,7 +16,7 @@ mod link;
 mod listed;
 pub mod marks;
 mod owned;
-mod part;
+pub mod part;
 pub mod picture;
 mod row;
 mod shape;

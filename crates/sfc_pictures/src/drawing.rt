@@ -1,12 +1,16 @@
 //! The drawings of program types and of instances.
 
+ghost use Rattle.std.specs.Prelude.{◌≡◌, ℕ, IfSome, length};
+ghost use Rattle.sfc_plant.specs.Sound.{IsProgram};
+
 use crate::conditions::Conditions;
 use crate::sfc_core::resource::Resource;
 use crate::sfc_instance::program_view::ProgramView;
+use crate::sfc_tables::tables::Tables;
 use crate::sheet::Sheet;
 use crate::step::append_step;
 use crate::transition::append_transition;
-use sfc_base::ids::{ProgId, TypeId};
+use sfc_base::ids::{ProgId, TransitionId, TypeId};
 use sfc_page::append::{append, append_number};
 use sfc_plant::chart::{Step, Transition};
 use sfc_plant::names::Names;
@@ -24,16 +28,17 @@ fn append_steps(out: &mut Vec<u8>, sheet: &Sheet<'_>, steps: &[Step]) -> Result<
     Ok(())
 }
 
-// The transitions of a chart.
+// The transitions of a chart as they win (2.6.5), so that branches stand in this order from left to right.
 fn append_transitions(
     out: &mut Vec<u8>,
     sheet: &Sheet<'_>,
     transitions: &[Transition],
 ) -> Result<(), AllocError> {
-    let mut number = 0usize;
-    for transition in transitions {
-        append_transition(out, sheet, number, transition)?;
-        number = number.saturating_add(1);
+    for id in &sheet.ranked {
+        let number = usize::from(id.0);
+        if let Some(transition) = transitions.get(number) {
+            append_transition(out, sheet, number, transition)?;
+        }
     }
     Ok(())
 }
@@ -83,20 +88,37 @@ fn transitions_before(plant: &Plant, program: usize) -> usize {
     count
 }
 
+// The program type with this number.
+fn type_at(plant: &Plant, number: usize) -> Option<&ProgramType>
+    ensures { IfSome result (λ program. IsProgram (length plant.now.globals) program.now) }
+{
+    plant.types().get(number)
+}
+
+// The transitions of a program type as they win.
+fn ranked_of(alloc: Global, program: &ProgramType) -> Result<Vec<TransitionId>, AllocError>
+    requires { (globals : ℕ) × IsProgram globals program.now }
+{
+    let tables = Tables::build(alloc, &program.chart)?;
+    Vec::from_slice(alloc, tables.ranked())
+}
+
 // The drawing of a program type.
 fn append_type<'a>(
+    alloc: Global,
     out: &mut Vec<u8>,
     plant: &'a Plant,
     conditions: &'a Conditions,
     number: usize,
 ) -> Result<(), AllocError> {
-    let Some(program) = plant.types().get(number) else {
+    let Some(program) = type_at(plant, number) else {
         return Ok(());
     };
     append_begin(out, number)?;
     append(out, program.name.spelling())?;
     let sheet = Sheet {
         number,
+        ranked: ranked_of(alloc, program)?,
         names: Names::new(plant.globals(), program),
         chart: &program.chart,
         conditions,
@@ -108,6 +130,7 @@ fn append_type<'a>(
 
 // The drawing of an instance.
 fn append_instance<'a>(
+    alloc: Global,
     out: &mut Vec<u8>,
     resource: &'a Resource,
     conditions: &'a Conditions,
@@ -117,7 +140,7 @@ fn append_instance<'a>(
     let Some(instance) = plant.instances().get(number) else {
         return Ok(());
     };
-    let Some(program) = plant.types().get(instance.program.0) else {
+    let Some(program) = type_at(plant, instance.program.0) else {
         return Ok(());
     };
     let view = resource.program(ProgId(number as u8));
@@ -125,6 +148,7 @@ fn append_instance<'a>(
     append_title(out, instance.name.spelling(), program, &view)?;
     let sheet = Sheet {
         number,
+        ranked: ranked_of(alloc, program)?,
         names: plant.names(ProgId(number as u8)),
         chart: &program.chart,
         conditions,
@@ -144,6 +168,7 @@ fn is_wanted(wanted: Option<TypeId>, program: usize) -> bool {
 
 // A drawing for each program type that is wanted.
 fn append_types(
+    alloc: Global,
     out: &mut Vec<u8>,
     plant: &Plant,
     conditions: &Conditions,
@@ -151,7 +176,7 @@ fn append_types(
 ) -> Result<(), AllocError> {
     for number in 0..plant.types().len() {
         if is_wanted(wanted, number) {
-            append_type(out, plant, conditions, number)?;
+            append_type(alloc, out, plant, conditions, number)?;
         }
     }
     Ok(())
@@ -159,6 +184,7 @@ fn append_types(
 
 // A drawing for each instance of what is wanted.
 fn append_instances(
+    alloc: Global,
     out: &mut Vec<u8>,
     resource: &Resource,
     conditions: &Conditions,
@@ -167,7 +193,7 @@ fn append_instances(
     let instances = resource.plant().instances();
     for number in 0..instances.len() {
         if is_wanted(wanted, instances[number].program.0) {
-            append_instance(out, resource, conditions, number)?;
+            append_instance(alloc, out, resource, conditions, number)?;
         }
     }
     Ok(())
@@ -179,7 +205,7 @@ fn append_head(out: &mut Vec<u8>, plant: &Plant) -> Result<(), AllocError> {
     append(out, plant.configuration().spelling())?;
     append(
         out,
-        b"\" {\n  graph [fontname=\"Helvetica\" fontsize=12 ranksep=0.25 nodesep=0.4 style=rounded color=\"#9e9e9e\"]\n",
+        b"\" {\n  graph [fontname=\"Helvetica\" fontsize=12 ranksep=0.25 nodesep=0.4 style=rounded ordering=out color=\"#9e9e9e\"]\n",
     )?;
     append(
         out,
@@ -197,7 +223,7 @@ pub fn picture_of_types(
     let conditions = Conditions::of_plant(alloc, plant)?;
     let mut out = Vec::new(alloc);
     append_head(&mut out, plant)?;
-    append_types(&mut out, plant, &conditions, wanted)?;
+    append_types(alloc, &mut out, plant, &conditions, wanted)?;
     append(&mut out, b"}\n")?;
     Ok(out)
 }
@@ -212,7 +238,7 @@ pub fn picture_of_instances(
     let conditions = Conditions::of_plant(alloc, resource.plant())?;
     let mut out = Vec::new(alloc);
     append_head(&mut out, resource.plant())?;
-    append_instances(&mut out, resource, &conditions, wanted)?;
+    append_instances(alloc, &mut out, resource, &conditions, wanted)?;
     append(&mut out, b"}\n")?;
     Ok(out)
 }

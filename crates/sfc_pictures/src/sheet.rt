@@ -14,6 +14,8 @@ use std::alloc::AllocError;
 pub struct Sheet<'a> {
     /// Its number among the drawings of a picture, which parts the names of their nodes.
     pub number: usize,
+    /// The numbers of its transitions as they win (2.6.5).
+    pub ranked: Vec<TransitionId>,
     /// The names of what the chart refers to.
     pub names: Names<'a>,
     /// The chart.

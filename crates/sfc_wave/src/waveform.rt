@@ -1,16 +1,19 @@
 //! A waveform as it goes on: which signals changed, and when.
 
-use crate::declared::append_declarations;
+use crate::asked::{Asked, Form};
+use crate::declared::Declared;
 use crate::due::{Due, output_of};
 use crate::dump::Dump;
-use crate::instance::{put_actions, put_steps};
+use crate::instance::{put_actions, put_steps, say_active};
+use crate::picked::pick;
 use crate::sfc_core::resource::Resource;
 use crate::sfc_debug::debugger::Debugger;
 use crate::sfc_debug::mode::Mode;
 use crate::sfc_instance::program_view::ProgramView;
 use crate::shown::Shown;
-use crate::signal::{bits_of, overruns_of, width_of};
+use crate::signal::{Signal, bits_of, overruns_of, width_of};
 use crate::signals::Signals;
+use crate::wave_error::WaveError;
 use sfc_base::ids::{ProgId, TaskId, VarId};
 use sfc_events::command::{Answer, Command};
 use sfc_events::instance_set::InstanceSet;
@@ -35,13 +38,17 @@ const COUNT: u32 = 64;
 
 /// A waveform, whose text waits to be written.
 pub struct Waveform {
-    signals: Signals,
+    alloc: Global,
+    /// The signals that there are.
+    pub signals: Signals,
     // Which variables are looked at behind a scan.
     due: Due,
     // Of each instance what was shown last.
     shown: Vec<Shown>,
     // Whether a scan's signal is up.
     is_raised: bool,
+    // The names of steps that were said last.
+    said: Vec<u8>,
     /// What was put so far.
     pub dump: Dump,
 }
@@ -50,10 +57,12 @@ pub struct Waveform {
 impl Drop for Waveform {
     fn drop(self) {
         let Waveform {
+            alloc: _,
             signals: _,
             due: _,
             shown: _,
             is_raised: _,
+            said: _,
             dump: _,
         } = self;
     }
@@ -92,18 +101,26 @@ fn shown_of(alloc: Global, resource: &Resource) -> Result<Vec<Shown>, AllocError
 }
 
 impl Waveform {
-    /// That of a debugger, with its declarations, and what each signal reads at instant 0. The one error is that memory was refused.
-    pub fn new(alloc: Global, debugger: &Debugger) -> Result<Waveform, AllocError> {
+    /// That of a debugger, with its declarations, and what each signal that is wanted reads at instant 0. The errors are that a name leads to
+    /// no signal, and that memory was refused.
+    pub fn new(
+        alloc: Global,
+        debugger: &Debugger,
+        asked: Asked<'_>,
+    ) -> Result<Waveform, WaveError> {
         let resource = debugger.resource();
         let signals = Signals::of_resource(alloc, resource)?;
+        let picked = pick(alloc, resource, &signals, asked.only)?;
         let due = Due::of_resource(alloc, resource, &signals)?;
         let shown = shown_of(alloc, resource)?;
         let mut waveform = Waveform {
+            alloc,
             signals,
             due,
             shown,
             is_raised: false,
-            dump: Dump::new(alloc),
+            said: Vec::new(alloc),
+            dump: Dump::new(alloc, picked, asked.form == Form::Picture),
         };
         waveform.begin(debugger)?;
         Ok(waveform)
@@ -111,14 +128,57 @@ impl Waveform {
 
     // Puts the declarations and what each signal reads.
     fn begin(&mut self, debugger: &Debugger) -> Result<(), AllocError> {
-        let text = &mut self.dump.text;
-        append_declarations(text, debugger.resource(), &self.signals)?;
-        append(text, b"#0\n$dumpvars\n")?;
-        for signal in self.signals.list.as_slice() {
-            self.dump.put_first(signal.width(), signal.bits(debugger))?;
+        let declared = Declared {
+            resource: debugger.resource(),
+            signals: &self.signals,
+            picked: self.dump.picked(),
+        };
+        let mut head = Vec::new(self.alloc);
+        declared.append(&mut head)?;
+        append(&mut head, b"#0\n$dumpvars\n")?;
+        if self.dump.kept().is_none() {
+            self.dump.text = head;
+        }
+        for number in 0..self.signals.list.len() {
+            self.put_first(debugger, number)?;
         }
         self.dump.finish()?;
-        append(&mut self.dump.text, b"$end\n")
+        if self.dump.kept().is_none() {
+            append(&mut self.dump.text, b"$end\n")?;
+        }
+        Ok(())
+    }
+
+    /// The allocator.
+    pub fn alloc(&self) -> Global {
+        self.alloc
+    }
+
+    // Puts what the next signal reads first.
+    fn put_first(&mut self, debugger: &Debugger, number: usize) -> Result<(), AllocError> {
+        match self.signals.list.get(number).copied() {
+            None => Ok(()),
+            Some(Signal::Steps(program)) => {
+                self.say(debugger.resource(), usize::from(program.0))?;
+                self.dump.put_first_text(&self.said)
+            }
+            Some(signal) => self.dump.put_first(signal.width(), signal.bits(debugger)),
+        }
+    }
+
+    // Says the names of the active steps of an instance.
+    fn say(&mut self, resource: &Resource, number: usize) -> Result<(), AllocError> {
+        match view_of(resource, number) {
+            Some(view) => say_active(&mut self.said, &view),
+            None => Ok(()),
+        }
+    }
+
+    // Puts the names of the active steps of an instance.
+    fn put_names(&mut self, resource: &Resource, number: usize) -> Result<(), AllocError> {
+        self.say(resource, number)?;
+        self.dump
+            .put_text(self.signals.names_of(number), &self.said)
     }
 
     // Puts what a signal reads, if there is such a signal.
@@ -145,6 +205,7 @@ impl Waveform {
         for signal in self.signals.begin_of(number)..end {
             self.put_signal(debugger, signal)?;
         }
+        self.put_names(debugger.resource(), number)?;
         if let Some(view) = view_of(debugger.resource(), number) {
             self.keep(&view, number);
         }
@@ -236,10 +297,14 @@ impl Waveform {
         };
         let steps = self.signals.steps_of(number);
         let actions = steps.saturating_add(view.steps().saturating_mul(2));
-        if let Some(shown) = self.shown.get_mut(number) {
-            put_steps(&mut self.dump, &view, shown, steps)?;
-            put_actions(&mut self.dump, &view, shown, actions)?;
-            shown.settle();
+        let Some(shown) = self.shown.get_mut(number) else {
+            return Ok(());
+        };
+        let is_other = put_steps(&mut self.dump, &view, shown, steps)?;
+        put_actions(&mut self.dump, &view, shown, actions)?;
+        shown.settle();
+        if is_other {
+            self.put_names(resource, number)?;
         }
         Ok(())
     }

@@ -143,6 +143,7 @@ impl Signals {
             let view = resource.program(program);
             self.push_steps(&view, program)?;
             self.push_actions(&view, program)?;
+            self.push(Signal::Steps(program))?;
         }
         Ok(end)
     }
@@ -190,6 +191,20 @@ impl Signals {
             Some(group) => group.signal,
             None => self.list.len(),
         }
+    }
+
+    /// The signal of the names of an instance's active steps.
+    pub fn names_of(&self, instance: usize) -> usize {
+        self.begin_of(instance.saturating_add(1)).saturating_sub(1)
+    }
+
+    /// The instance whose signal has this number; none where it is one of the resource.
+    pub fn instance_of(&self, number: usize) -> Option<usize> {
+        let group = self
+            .groups
+            .iter()
+            .rposition(|group| group.signal <= number)?;
+        group.checked_sub(1)
     }
 
     /// The number in the image of a variable of an instance's program.

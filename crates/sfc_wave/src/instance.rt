@@ -5,46 +5,83 @@ use crate::sfc_instance::program_view::ProgramView;
 use crate::shown::{Shown, nearer};
 use sfc_base::ids::ActionNumber;
 use sfc_base::references::StepId;
+use sfc_base::ticks::Ticks;
+use sfc_page::append::append;
+use sfc_plant::names::Names;
 use std::alloc::AllocError;
 
 /// How many bits a step time has.
 const TIME: u32 = 64;
 
-// Puts X and T of a step, if there is such a step.
+// Puts X and T of a step, if there is such a step. It answers whether X is another.
 fn put_step(
     dump: &mut Dump,
     view: &ProgramView<'_>,
     shown: &mut Shown,
     signal: usize,
     step: usize,
-) -> Result<(), AllocError> {
+) -> Result<bool, AllocError> {
     if step >= view.tables().steps() {
-        return Ok(());
+        return Ok(false);
     }
     let id = StepId(step as u16);
     let is_active = view.active(id);
-    shown.keep_active(step, is_active);
+    let is_other = shown.keep_active(step, is_active);
     dump.put_bit(signal, is_active)?;
     let elapsed = view.elapsed(id).cast_unsigned();
-    dump.put(signal.saturating_add(1), TIME, elapsed)
+    dump.put(signal.saturating_add(1), TIME, elapsed)?;
+    Ok(is_other)
 }
 
-/// Puts the steps of an instance, whose signals begin here. T goes on while a step is active, and at the scan that leaves it. The one error is
-/// that memory was refused.
+/// Puts the steps of an instance, whose signals begin here. T goes on while a step is active, and at the scan that leaves it. It answers
+/// whether other steps are active than before. The one error is that memory was refused.
 pub fn put_steps(
     dump: &mut Dump,
     view: &ProgramView<'_>,
     shown: &mut Shown,
     first: usize,
-) -> Result<(), AllocError> {
+) -> Result<bool, AllocError> {
     let mut from = 0;
+    let mut is_other = false;
     for _ in 0..view.steps() {
         let Some(step) = shown.next_step(view, from) else {
             break;
         };
         let signal = first.saturating_add(step.saturating_mul(2));
-        put_step(dump, view, shown, signal, step)?;
+        is_other |= put_step(dump, view, shown, signal, step)?;
         from = step.saturating_add(1);
+    }
+    Ok(is_other)
+}
+
+// Puts the name of an active step behind those that stand there.
+fn append_step(said: &mut Vec<u8>, names: &Names<'_>, step: usize) -> Result<(), AllocError> {
+    let Ok(number) = u16::try_from(step) else {
+        return Ok(());
+    };
+    if !said.is_empty() {
+        append(said, b",")?;
+    }
+    append(said, names.step(StepId(number)))
+}
+
+/// The text becomes the names of the active steps of an instance in the order of the text, with commas between them, and `-` where none is.
+/// The one error is that memory was refused.
+pub fn say_active(said: &mut Vec<u8>, view: &ProgramView<'_>) -> Result<(), AllocError> {
+    let names = view.plant().names(view.instance());
+    let active = view.active_flags().flags();
+    let ticks = &mut Ticks::new();
+    let mut from = 0;
+    said.clear();
+    for _ in 0..view.steps() {
+        let Some(step) = active.next_set(from, ticks) else {
+            break;
+        };
+        append_step(said, &names, step)?;
+        from = step.saturating_add(1);
+    }
+    if said.is_empty() {
+        append(said, b"-")?;
     }
     Ok(())
 }

@@ -96,9 +96,11 @@ impl Shown {
         self.is_settled = false;
     }
 
-    /// A step is shown, active or not.
-    pub fn keep_active(&mut self, step: usize, is_active: bool) {
+    /// A step is shown, active or not. It answers whether that is another than was shown last.
+    pub fn keep_active(&mut self, step: usize, is_active: bool) -> bool {
+        let is_other = step < self.active.count() && self.active.get(step) != is_active;
         keep(&mut self.active, step, is_active);
+        is_other
     }
 
     /// Q of an action is shown.

@@ -22,6 +22,9 @@ const ROOM: usize = 256;
 
 const LONG: usize = 128;
 
+/// How many bytes a text has at the most that stands in a piece.
+pub const TEXT: usize = 32;
+
 /// How many bytes a short line has at the most: a bit, a code of two characters, and the end.
 const SHORT: usize = 4;
 
@@ -143,6 +146,17 @@ impl Piece {
             self.push_code(number);
             self.push(b'\n');
         }
+    }
+
+    /// The text that a signal reads from now on, on a line. It has at most 32 bytes.
+    pub fn push_text(&mut self, number: usize, text: &[u8]) {
+        self.push(b's');
+        for byte in text {
+            self.push(*byte);
+        }
+        self.push(b' ');
+        self.push_code(number);
+        self.push(b'\n');
     }
 
     // What a signal of one bit reads.

@@ -30,6 +30,8 @@ pub enum Signal {
     Q(ProgId, ActionNumber),
     /// A of an action: whether the latest scan executed it.
     Executed(ProgId, ActionNumber),
+    /// The names of the active steps of an instance. It is a text, and has no bits.
+    Steps(ProgId),
 }
 
 /// A bit.
@@ -106,7 +108,7 @@ impl Signal {
         let resource = debugger.resource();
         match self {
             Signal::Running => bit(debugger.mode() == Mode::Running),
-            Signal::Scan(_) => 0,
+            Signal::Scan(_) | Signal::Steps(_) => 0,
             Signal::Overruns(task) => overruns_of(resource, task),
             Signal::Variable(variable, _) => variable_bits(resource, variable),
             Signal::Forced(variable) => bit(is_forced(resource, variable)),
@@ -124,5 +126,10 @@ impl Signal {
             Signal::Variable(_, var_type) => width_of(var_type),
             _ => 1,
         }
+    }
+
+    /// Whether it is a text.
+    pub fn is_text(self) -> bool {
+        matches!(self, Signal::Steps(_))
     }
 }
