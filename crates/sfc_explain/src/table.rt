@@ -403,7 +403,7 @@ static FAULTS: [Explanation; 9] = [
         topic: Topic::Named("DivZero"),
         from: "scan",
         line: LineMark::No,
-        meaning: "a division by zero, by / or MOD, in a condition or a body",
+        meaning: "a division by zero in a condition or a body; MOD by zero is 0",
         cause: "a variable that is 0 until something was counted or put in",
         kind: ExampleKind::Chart,
         example: "    TRANSITION FROM Idle TO Busy := Count / Zero = 1; END_TRANSITION    (* Zero is 0 *)\n",
