@@ -135,8 +135,11 @@ in_both() {
   beside "$limit" "damaged.sh bytes" "$tests/damaged.sh" bytes
   beside "$limit" "damaged.sh limits" "$tests/damaged.sh" limits
   beside "$limit" pictures.sh "$tests/pictures.sh"
+  beside "$limit" report.sh "$tests/report.sh"
   beside "$limit" editors.sh "$tests/editors.sh"
+  beside "$limit" mutants.sh "$tests/mutants.sh"
   beside "$limit" "the reading's own cases" python3 "$tests/reading/cases.py" "$top/crates/conformance/data"
+  beside "$limit" outline.sh "$tests/outline.sh"
   beside "$limit" scripts.sh "$tests/scripts.sh"
   beside "$limit" tools/check-pages "$top/tools/check-pages"
   beside "$limit" "tools/dev --paths" "$top/tools/dev" --paths
@@ -156,10 +159,13 @@ quick() {
   damages "" 400 1 2
   damages why 400 1 2
   beside "$limit" "cover.sh 2" "$tests/cover.sh" 2
+  beside "$limit" "drawing.sh 1" "$tests/drawing.sh" 1
+  beside "$limit" "reading/tests.py 200" python3 "$tests/reading/tests.py" "$program" 200
   wait_for_all
 }
 
 full() {
+  local first
   limit=7200
   alone "$limit" program.sh "$tests/program.sh"
   alone "$limit" pressure.sh "$tests/pressure.sh"
@@ -170,6 +176,8 @@ full() {
   damages "" 10000 200001 4
   damages why 5000 300001 4
   beside "$limit" "cover.sh 40" "$tests/cover.sh" 40
+  for ((first = 1; first < 341; first += 85)); do beside "$limit" "drawing.sh 85 $first" "$tests/drawing.sh" 85 "$first"; done
+  beside "$limit" "reading/tests.py 2000" python3 "$tests/reading/tests.py" "$program" 2000
   in_both
   wait_for_all
   alone "$limit" c_library.sh "$tests/c_library.sh"

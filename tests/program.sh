@@ -185,6 +185,88 @@ if [ -e /dev/full ]; then
   note $? "a report that can't be written"
 fi
 
+# ---- test
+
+for example in "$examples"/*.chart; do
+  run test "$example" "${example%.chart}.sfctest"
+  ends 0 && says "" && [ "$(tail -n 1 "$work/out")" = "$(grep -c '^TEST ' "${example%.chart}.sfctest") passed, 0 failed" ]
+  note $? "the tests of $(basename "$example")"
+  run test "$example" "${example%.chart}.script"
+  ends 0 || ends 1
+  note $? "the script of $(basename "$example") is a file of tests"
+done
+# what docs/FORMATS.md shows
+cat >"$work/pump.sfctest" <<'end'
+TEST it starts
+INPUT Start TRUE
+UNTIL Pump WITHIN T#200ms
+TEST it runs on
+INPUT Start TRUE
+RUN T#1s
+INPUT Start FALSE
+INPUT Stop TRUE
+ALWAYS Pump FOR T#2s
+RUN T#5s
+end
+awk '/^## Test/ { seen = 1 } seen && /^```/ { if (++fence == 2) exit; next } fence == 1' "$top/docs/FORMATS.md" | tail -n +2 >"$work/shown"
+run test "$examples/pump.chart" "$work/pump.sfctest"
+ends 1 && says "" && [ -s "$work/shown" ] && sed "s|$work/||" "$work/out" | cmp -s - "$work/shown"
+note $? "the results that are shown"
+# the files of docs/TESTING.md
+awk '/^```/ { fence++; next } fence == 1' "$top/docs/TESTING.md" >"$work/first.sfctest"
+run test "$examples/pump.chart" "$work/first.sfctest"
+ends 0 && says "" && [ "$(tail -n 1 "$work/out")" = "2 passed, 0 failed" ]
+note $? "the first test of docs/TESTING.md"
+printf 'TEST it starts\nEXPECT Pimp\n' >"$work/misspelt.sfctest"
+run test "$examples/pump.chart" "$work/misspelt.sfctest" "$work/first.sfctest"
+ends 1 && says "$work/misspelt.sfctest: script line 2" && [ "$(tail -n 1 "$work/out")" = "2 passed, 0 failed" ]
+note $? "a file with a faulty line, and one without"
+run test --list "$examples/pump.chart" "$work/pump.sfctest"
+ends 0 && says "" && [ "$(cat "$work/out")" = $'it starts\nit runs on' ]
+note $? "the names of cases"
+run test --filter starts "$examples/pump.chart" "$work/pump.sfctest"
+ends 0 && says "" && [ "$(cat "$work/out")" = $'ok it starts\n1 passed, 0 failed' ]
+note $? "the cases with a word in their names"
+run test --tap --junit "$work/junit.xml" "$examples/pump.chart" "$work/pump.sfctest"
+ends 1 && says "" && [ "$(grep -E '^(not )?ok |^1' "$work/out")" = $'ok 1 - it starts\nnot ok 2 - it runs on\n1..2' ]
+note $? "results in the Test Anything Protocol"
+[ "$(python3 -c '
+import sys
+import xml.etree.ElementTree as tree
+suite = tree.parse(sys.argv[1]).getroot()[0]
+print(suite.get("tests"), suite.get("failures"), *(f"{it.get('"'name'"')}:{len(it)}" for it in suite))
+' "$work/junit.xml")" = "2 1 it starts:0 it runs on:1" ]
+note $? "results as the XML of JUnit"
+if command -v prove >/dev/null; then
+  prove -e "$program test --tap $examples/pump.chart" "$examples/pump.sfctest" >"$work/out" 2>&1 && mentions "Result: PASS" out
+  note $? "prove reads the results"
+else
+  echo "not asked, prove isn't there: prove reads the results"
+fi
+if pytest=$(command -v pytest-3 || command -v pytest); then
+  mkdir "$work/collected" && cp "$examples/pump.chart" "$examples/pump.sfctest" "$work/collected"
+  (cd "$work/collected" && SFCMON=$program PYTHONPATH=$top/share/python "$pytest" -q -p pytest_sfctest) >"$work/out" 2>&1
+  mentions "4 passed" out
+  note $? "pytest collects files of tests"
+else
+  echo "not asked, pytest isn't there: pytest collects files of tests"
+fi
+run test --help
+ends 0 && mentions "Exit status:" out && mentions "docs/FORMATS.md" out && mentions "Examples:" out && says ""
+note $? "the help on test"
+usage "no file to test" "<FILE>" test
+usage "no tests" "<TESTS>" test "$chart"
+fails "a chart that is refused, tested" 1 "refused 14 NoInitial" test "$work/dark.chart" "$work/first.sfctest"
+fails "a chart that isn't there, tested" 3 "read fault" test "$work/no.chart" "$work/first.sfctest"
+fails "tests that aren't there" 3 "$work/no.sfctest: read fault" test "$chart" "$work/first.sfctest" "$work/no.sfctest"
+fails "a folder of tests" 3 "$work: read fault" test "$chart" "$work"
+if [ -e /dev/full ]; then
+  "$program" test "$examples/pump.chart" "$work/first.sfctest" >/dev/full 2>"$work/err"
+  status=$?
+  ends 3 && says "write fault"
+  note $? "results that can't be written"
+fi
+
 # ---- explain
 
 unknown() { fails "$1" 2 "error: no refusal or fault is called '$2'; 'sfcmon explain' lists all" explain "${@:3}"; }

@@ -188,11 +188,12 @@ def try_commands(runs: Runs):
 
 
 def try_memory(runs: Runs):
-    """Drawings, a waveform, what is never reached, and sessions by hand: each allocation is refused."""
+    """Drawings, a waveform, what is never reached, tests, and sessions by hand: each allocation is refused."""
     chart, script, late = EXAMPLES / "mixing.chart", EXAMPLES / "mixing.script", EXAMPLES / "late_dose.chart"
     typed = late.with_suffix(".script").read_bytes() + b"IMAGE\nAGAIN 20\n"
     for words, given in ((["draw", chart], b""), (["draw", "--after", script, chart], b""), (["wave", chart, script], b""),
-                         (["cover", chart, script], b""), (["debug", chart], script.read_bytes()), (["debug", late], typed)):
+                         (["cover", chart, script], b""), (["test", chart, chart.with_suffix(".sfctest")], b""),
+                         (["debug", chart], script.read_bytes()), (["debug", late], typed)):
         calm = runs.run(words, "", given)
         runs.note(calm.status == 0 and calm.out and not calm.err, f"{words[0]}, the undisturbed run", calm)
         sweep = Sweep(runs, calm.out, words, 0, given)

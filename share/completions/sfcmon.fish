@@ -1,6 +1,6 @@
 # Completes the words of sfcmon in fish. Put this file into ~/.config/fish/completions.
 
-set -l commands check list why replay run debug draw wave cover explain help
+set -l commands check list why replay run debug draw wave cover test report explain help
 set -l names TooLong NotAscii BadToken Syntax TooDeep BadDuration BadNumber Memory \
     Unknown WrongType LiteralRange NotAssignable Duplicate NoInitial UnknownStep UnknownAction NotBool NotTime NoTask \
     UnknownType SameLocation Limit \
@@ -17,12 +17,14 @@ complete -c sfcmon -n __fish_use_subcommand -a why -d 'tell where the first faul
 complete -c sfcmon -n __fish_use_subcommand -a replay -d 'play a script on a chart and print what each command answers'
 complete -c sfcmon -n __fish_use_subcommand -a run -d 'run a chart in real time, with a session on standard input'
 complete -c sfcmon -n __fish_use_subcommand -a debug -d 'step a chart by hand in virtual time'
-complete -c sfcmon -n __fish_use_subcommand -a draw -d 'draw a chart, for dot of Graphviz'
-complete -c sfcmon -n __fish_use_subcommand -a wave -d 'print the signals of a script on a chart, for viewers of waveforms'
+complete -c sfcmon -n __fish_use_subcommand -a draw -d 'draw a chart in its graphic form, as SVG'
+complete -c sfcmon -n __fish_use_subcommand -a wave -d 'print the signals of a script on a chart, for viewers of waveforms or as SVG'
 complete -c sfcmon -n __fish_use_subcommand -a cover -d 'tell what scripts on a chart never reach'
+complete -c sfcmon -n __fish_use_subcommand -a test -d 'run the cases of files of tests on a chart'
+complete -c sfcmon -n __fish_use_subcommand -a report -d 'print a page that shows a chart and what came of scripts on it'
 complete -c sfcmon -n __fish_use_subcommand -a explain -d 'tell what a refusal or a fault means'
 complete -c sfcmon -n __fish_use_subcommand -a help -d 'print help on a command'
-complete -c sfcmon -n '__fish_seen_subcommand_from check list why replay run debug draw wave cover' -F
+complete -c sfcmon -n '__fish_seen_subcommand_from check list why replay run debug draw wave cover test report' -F
 complete -c sfcmon -n '__fish_seen_subcommand_from replay' -l strict -d 'end with status 1 after a refused command or a fault'
 complete -c sfcmon -n '__fish_seen_subcommand_from run' -l trace -x -d 'which commands have lines, a sum from 0 to 127'
 complete -c sfcmon -n '__fish_seen_subcommand_from run' -l history -x -d 'how many commands may be held, 65536 to 1048576'
@@ -30,7 +32,16 @@ complete -c sfcmon -n '__fish_seen_subcommand_from run' -l for -x -d 'ends so lo
 complete -c sfcmon -n '__fish_seen_subcommand_from run' -l forever -d 'goes on until a signal ends the process'
 complete -c sfcmon -n '__fish_seen_subcommand_from draw' -l program -x -d 'draw this program type alone'
 complete -c sfcmon -n '__fish_seen_subcommand_from draw' -l after -r -d 'draw the instances behind a script'
+complete -c sfcmon -n '__fish_seen_subcommand_from draw' -l cover -r -d 'mark what a script never reaches'
+complete -c sfcmon -n '__fish_seen_subcommand_from draw' -l dot -d 'for dot of Graphviz'
 complete -c sfcmon -n '__fish_seen_subcommand_from wave' -l raw -d 'show the instants of the script'
+complete -c sfcmon -n '__fish_seen_subcommand_from wave' -l svg -d 'print a picture in SVG'
+complete -c sfcmon -n '__fish_seen_subcommand_from wave' -l only -x -d 'show these signals alone'
+complete -c sfcmon -n '__fish_seen_subcommand_from wave' -l gtkw -r -d 'write a save file of GTKWave'
 complete -c sfcmon -n '__fish_seen_subcommand_from cover' -l min -x -d 'end with status 1 where less was reached, in percent'
+complete -c sfcmon -n '__fish_seen_subcommand_from test' -l filter -x -d 'take the cases with this in their names'
+complete -c sfcmon -n '__fish_seen_subcommand_from test' -l list -d 'print the names of the cases'
+complete -c sfcmon -n '__fish_seen_subcommand_from test' -l tap -d 'tell the results as the Test Anything Protocol'
+complete -c sfcmon -n '__fish_seen_subcommand_from test' -l junit -r -d 'write the results as XML'
 complete -c sfcmon -n '__fish_seen_subcommand_from explain' -a "$names"
 complete -c sfcmon -n '__fish_seen_subcommand_from help' -a "$commands"

@@ -85,6 +85,14 @@ for (const name of fs.readdirSync(path.join(top, 'examples')).sort()) {
   judge(`the scopes of ${name}`, wrongWords(tokens, isChart), []);
   judge(`the bytes of ${name}`, tokens.map((one) => one.text).join(''), text.replace(/\n/g, ''));
 }
+// In a test each line begins with a word of its own or a command, behind its instant.
+for (const name of fs.readdirSync(path.join(top, 'examples')).filter((one) => one.endsWith('.sfctest')).sort()) {
+  const text = fs.readFileSync(path.join(top, 'examples', name), 'utf8');
+  const tokens = tokenize(grammars, 'source.sfc-test', text);
+  judge(`the bytes of ${name}`, tokens.map((one) => one.text).join(''), text.replace(/\n/g, ''));
+  const heads = tokens.filter((one) => /^\s*(\+?T#\S+\s+)?$/.test(one.line.slice(0, one.place)) && one.text.trim());
+  judge(`the heads of ${name}`, heads.filter((one) => !/^(keyword\.control|comment|constant\.numeric\.duration)/.test(one.scope)), []);
+}
 // A few lines, with the scope of each word.
 function scopes(scope, line) {
   return tokenize(grammars, scope, line).filter((one) => one.text.trim() && one.scope).map((one) => `${one.text.trim()} ${one.scope}`);
@@ -104,6 +112,13 @@ judge('a breakpoint', scopes('source.sfc-script', 't#0s break P STEP Full WHEN L
   'WHEN keyword.control.sfc-script', 'Level variable.other.sfc', '> keyword.operator.sfc', '5 constant.numeric.sfc']);
 judge('a comment of a script', scopes('source.sfc-script', '  ; T#0s SCAN Main'), ['; comment.line.semicolon.sfc-script',
   'T#0s comment.line.semicolon.sfc-script', 'SCAN comment.line.semicolon.sfc-script', 'Main comment.line.semicolon.sfc-script']);
+
+judge('a line of a test', scopes('source.sfc-test', '+T#1s always IN P Pump AND S.T > T#2s FOR T#3s'), ['+T#1s constant.numeric.duration.sfc-test',
+  'always keyword.control.sfc-test', 'IN keyword.other.sfc-test', 'P variable.other.sfc-test', 'Pump variable.other.sfc', 'AND keyword.operator.word.sfc',
+  'S variable.other.sfc', 'T variable.other.sfc', '> keyword.operator.sfc', 'T#2s constant.numeric.duration.sfc', 'FOR keyword.other.sfc-test',
+  'T#3s constant.numeric.duration.sfc']);
+judge('a refusal of a test', scopes('source.sfc-test', 'EXPECT REFUSED 29 SCAN Main'), ['EXPECT keyword.control.sfc-test',
+  'REFUSED keyword.other.sfc-test', '29 constant.numeric.sfc-script', 'SCAN variable.other.sfc-script', 'Main variable.other.sfc-script']);
 
 console.log(`${passed} passed, ${failed} failed`);
 process.exit(failed ? 1 : 0);

@@ -5,10 +5,13 @@ import shutil
 import subprocess
 import sys
 import tempfile
+import xml.etree.ElementTree as ET
 from pathlib import Path
 
 HERE = Path(__file__).resolve().parent
-EXAMPLES = HERE.parent.parent / "examples"
+TOP = HERE.parent.parent
+EXAMPLES, PICTURES = TOP / "examples", TOP / "docs/pictures"
+SVG = "{http://www.w3.org/2000/svg}"
 UNITS = {"d": 86_400_000_000, "h": 3_600_000_000, "m": 60_000_000, "s": 1_000_000, "ms": 1_000}
 
 
@@ -33,7 +36,7 @@ class Wave:
     """A Value Change Dump: the width of each signal by its whole name, and its changes."""
 
     def __init__(self, text: str):
-        self.widths, self.codes, self.initial = {}, {}, {}
+        self.widths, self.kinds, self.codes, self.initial = {}, {}, {}, {}
         self.changes = []  # (instant, name, bits)
         scopes, instant, in_dump = [], 0, False
         for line in text.splitlines():
@@ -44,21 +47,24 @@ class Wave:
                 scopes.pop()
             elif words[0] == "$var":
                 name = ".".join([*scopes[1:], words[4]])
-                self.codes[words[3]], self.widths[name] = name, int(words[2])
+                self.codes[words[3]], self.widths[name], self.kinds[name] = name, int(words[2]), words[1]
             elif words[0] == "$dumpvars":
                 in_dump = True
             elif words[0] == "$end":
                 in_dump = False
             elif line[0] == "#":
                 instant = int(line[1:])
-            elif line[0] in "01" or line[0] == "b":
+            elif line[0] in "01bs":
                 name, bits = self.change(line)
                 if in_dump:
                     self.initial[name] = bits
                 self.changes.append((instant, name, bits))
 
     def change(self, line: str):
-        """The signal and the bits of a line."""
+        """The signal and the bits of a line, or its text."""
+        if line[0] == "s":
+            text, code = line[1:].split()
+            return self.codes[code], text
         if line[0] == "b":
             bits, code = line[1:].split()
             return self.codes[code], int(bits, 2)
@@ -149,7 +155,9 @@ def wanted_of(answer: str, below: list, wanted: dict, wave: Wave):
             name, steps, _, ran = seen
             of_program = [it[len(name) + 1:] for it in wave.widths if it.startswith(f"{name}.")]
             for it in of_program:
-                if it.endswith(".X"):
+                if it == "steps.active":
+                    wanted[f"{name}.{it}"] = ",".join(steps) or "-"
+                elif it.endswith(".X"):
                     wanted[f"{name}.{it}"] = int(it[:-2] in steps)
                 elif it.endswith(".T") and it[:-2] in steps:
                     wanted[f"{name}.{it}"] = steps[it[:-2]]
@@ -192,7 +200,77 @@ def check_wave(checks: Checks, title: str, program: str, chart: Path, script: Pa
     rising = [when for when, _, _ in wave.changes]
     checks.note(rising == sorted(rising), f"{title}: instants rise")
     checks.note(wave.initial.keys() == wave.widths.keys(), f"{title}: each signal has a first value")
+    kinds = {name: "string" if name.endswith(".steps.active") else "wire" if width == 1 else "integer" for name, width in wave.widths.items()}
+    checks.note(wave.kinds == kinds, f"{title}: kinds {wave.kinds}")
     return done.stdout
+
+
+def check_chosen(checks: Checks, title: str, program: str, chart: Path, script: Path, folder: Path):
+    """Holds chosen signals to the whole waveform, and a save file to the listing and to the names of the waveform."""
+    whole, save = Wave(run(program, "wave", chart, script).stdout), folder / "wave.gtkw"
+    resource = re.search(r"(?m)^  RESOURCE (\w+) ON", run(program, "list", chart).stdout)[1]
+    names = list(whole.widths)
+    for name in dict.fromkeys(re.sub(r"\.\w+$", "", it) for it in names[:: max(1, len(names) // 12)]):
+        done = run(program, "wave", "--only", name.upper(), chart, script)
+        own = [it for it in names if it == name] or [it for it in names if it.startswith(f"{name}.")]
+        changes = [it for it in whole.changes if it[1] in own]
+        checks.note((done.returncode, done.stderr) == (0, "") and Wave(done.stdout).changes == changes, f"{title}, --only {name}: {done.stderr!r}")
+    done = run(program, "wave", "--only", f"{names[0]},No.Such", chart, script)
+    checks.note((done.returncode, done.stdout) == (2, "") and done.stderr.endswith(": No.Such\n"), f"{title}, --only of no signal: {done.stderr!r}")
+    run(program, "wave", "--gtkw", save, chart, script)
+    said = [line for line in save.read_text().splitlines() if line[0] not in "[@"]
+    located = re.findall(r"(?m)^ +(\w+) AT %([IQ])\S* : (\w+)", run(program, "list", chart).stdout)
+    shown = lambda area: [f"{resource}.{name}" + ("" if kind == "BOOL" else f"[{whole.widths[name] - 1}:0]") for name, where, kind in located
+                          if where == area and name in whole.widths]
+    steps = [f"{resource}.{it}" for it in names if it.endswith(".steps.active")]
+    checks.note(said == [*shown("I"), *steps, *shown("Q")], f"{title}: the save file has {said}")
+
+
+def level_at(path: str, x: int) -> set:
+    """The heights of a line of levels at a pixel."""
+    found, here = set(), None
+    for letter, first, second in re.findall(r"([MHV])(\d+)(?: (\d+))?", path):
+        before = here
+        here = (int(first), int(second)) if letter == "M" else (int(first), here[1]) if letter == "H" else (here[0], int(first))
+        if before and min(before[0], here[0]) <= x <= max(before[0], here[0]):
+            found |= {before[1], here[1]}
+    return found
+
+
+def check_picture(checks: Checks, title: str, program: str, chart: Path, script: Path):
+    """Holds the picture of a run to its waveform: at each pixel at which a signal keeps its value for a while, it is drawn so."""
+    wave = Wave(run(program, "wave", chart, script).stdout)
+    names = [it for it in wave.widths if not it.endswith((".forced", ".scan", ".T", ".overruns")) and wave.kinds[it] != "integer"][:40]
+    done = run(program, "wave", "--svg", "--only", ",".join(names), chart, script)
+    root = ET.fromstring(done.stdout)
+    texts = [it.text for it in root.iter(f"{SVG}text") if it.get("class") == "end"]
+    checks.note((done.returncode, done.stderr, texts) == (0, "", names), f"{title}, --svg: rows {texts}")
+    bases = {it.text: int(it.get("y")) + 3 for it in root.iter(f"{SVG}text") if it.get("class") == "end"}
+    rows, row = [], None
+    for node in root:
+        if node.get("class") == "end":
+            row = []
+            rows.append(row)
+        elif row is not None:
+            row.append(node)
+    left = int(next(node for node in root if node.get("class") == "end").get("x")) + 8
+    last = max((when for when, _, _ in wave.changes), default=0)
+    end = last + max(1, last // 40)
+    for name, row in zip(names, rows):
+        course = [(when, bits) for when, signal, bits in wave.changes if signal == name]
+        for (begin, bits), until in zip(course, [when for when, _ in course[1:]] + [end]):
+            first, behind = left + begin * 900 // end, left + until * 900 // end
+            if behind - first < 5:
+                continue
+            middle = (first + behind) // 2
+            if wave.kinds[name] == "wire":
+                base = bases[name]
+                holds = level_at(row[0].get("d"), middle) == {base - 14 * bits}
+            else:
+                holds = any(int(it.get("x")) == first and it.get("class") == "v" for it in row)
+                wide = 7 * len(bits) + 16 <= behind - first
+                holds = holds and (not wide or any(it.text == bits and first <= int(it.get("x")) < behind for it in row))
+            checks.note(holds, f"{title}, --svg: {name} from {begin} to {until}")
 
 
 def check_images(checks: Checks, title: str, program: str, chart: Path, script: Path):
@@ -301,21 +379,21 @@ def drawings_of(text: str) -> list:
 
 def check_types(checks: Checks, title: str, program: str, chart: Path):
     """Holds the picture of a chart to its listing, whole and by each program type."""
-    done, types = run(program, "draw", chart), listed_types(program, chart)
+    done, types = run(program, "draw", "--dot", chart), listed_types(program, chart)
     checks.note(done.returncode == 0 and not done.stderr, f"{title}: status {done.returncode}")
     drawings = drawings_of(done.stdout)
     checks.note([it.title for it in drawings] == list(types), f"{title}: titles")
     for drawn in drawings:
         check_drawing(checks, f"{title}, {drawn.title}", drawn, types[drawn.title])
-        alone = drawings_of(run(program, "draw", "--program", drawn.title.upper(), chart).stdout)
+        alone = drawings_of(run(program, "draw", "--dot", "--program", drawn.title.upper(), chart).stdout)
         checks.note([it.nodes for it in alone] == [drawn.nodes], f"{title}: {drawn.title} alone")
-    checks.note(run(program, "draw", "--program", "no_such", chart).returncode == 2, f"{title}: no such type")
+    checks.note(run(program, "draw", "--dot", "--program", "no_such", chart).returncode == 2, f"{title}: no such type")
     return done.stdout
 
 
 def check_after(checks: Checks, title: str, program: str, chart: Path, script: Path):
     """Holds the picture behind a script to the last line of each instance."""
-    done, types = run(program, "draw", "--after", script, chart), listed_types(program, chart)
+    done, types = run(program, "draw", "--dot", "--after", script, chart), listed_types(program, chart)
     checks.note(done.returncode == 0 and not done.stderr, f"{title}: status {done.returncode}")
     last, resets = {}, set()
     for _, answer, below in Replay(program, chart, script).commands:
@@ -348,6 +426,9 @@ def check_tools(checks: Checks, title: str, wave: str, drawings: list, folder: P
         (folder / "wave.vcd").write_text(wave)
         done = run("vcd2fst", folder / "wave.vcd", folder / "wave.fst")
         checks.note(done.returncode == 0 and (folder / "wave.fst").stat().st_size > 0, f"{title}: vcd2fst: {done.stderr!r}")
+    if shutil.which("gtkwave") and shutil.which("xvfb-run"):
+        done = run("xvfb-run", "-a", "gtkwave", "--exit", folder / "wave.vcd", folder / "wave.gtkw")
+        checks.note(done.returncode == 0 and "error" not in done.stderr.lower(), f"{title}: gtkwave: {done.stderr!r}")
     if shutil.which("dot"):
         for text in drawings:
             check_by_tool(checks, title, ["dot", "-Tsvg"], text)
@@ -361,18 +442,51 @@ def check_case(checks: Checks, program: str, file: Path):
     checks.note((done.returncode, done.stdout, done.stderr) == (0, wanted, ""), f"{file.name}: {done.stdout!r} {done.stderr!r}")
 
 
+def shown_pictures(program: str) -> dict:
+    """The pictures of docs/pictures, as the commands of its page make them."""
+    page = (PICTURES / "README.md").read_text()
+    commands = re.findall(r"(?m)^\| \[([\w.]+)\]\([\w.]+\) \| `([^`]+)` \|$", page)
+    made = {}
+    for name, words in commands:
+        done = subprocess.run([program, *words.split()], cwd=TOP, capture_output=True, text=True, timeout=60, check=False)
+        made[name] = done.stdout if (done.returncode, done.stderr) == (0, "") else f"status {done.returncode}, {done.stderr!r}"
+    return made
+
+
+def make_pictures(program: str):
+    """Makes the pictures of docs/pictures anew."""
+    for name, text in shown_pictures(program).items():
+        (PICTURES / name).write_text(text)
+
+
+def check_pictures(checks: Checks, program: str):
+    """Holds the pictures of docs/pictures to their commands; there is no other."""
+    made = shown_pictures(program)
+    there = {it.name for it in PICTURES.iterdir() if it.suffix in (".svg", ".html")}
+    checks.note(made.keys() == there, f"docs/pictures: {sorted(made.keys() ^ there)}")
+    for name, text in made.items():
+        checks.note((PICTURES / name).read_text() == text, f"docs/pictures/{name} isn't what its command makes: {text[:100]!r}")
+
+
 def main() -> int:
     """Runs all; gives the exit status."""
     checks, program = Checks(), sys.argv[1]
-    for tool, package in (("vcd2fst", "gtkwave"), ("dot", "graphviz")):
+    if sys.argv[2:] == ["make"]:
+        make_pictures(program)
+        return 0
+    check_pictures(checks, program)
+    for tool, package in (("vcd2fst", "gtkwave"), ("xvfb-run", "xvfb"), ("dot", "graphviz")):
         if not shutil.which(tool):
             print(f"skipped: {tool} isn't installed ({package})")
     with tempfile.TemporaryDirectory(prefix="pictures-") as folder:
         for chart in sorted([*EXAMPLES.glob("*.chart"), *HERE.glob("*.chart")]):
             script, title = chart.with_suffix(".script"), chart.stem
             wave = check_wave(checks, f"{title}, wave", program, chart, script, False)
+            run(program, "wave", "--gtkw", Path(folder) / "wave.gtkw", chart, script)
             check_wave(checks, f"{title}, wave --raw", program, chart, script, True)
             check_images(checks, f"{title}, variables", program, chart, script)
+            check_chosen(checks, f"{title}, wave", program, chart, script, Path(folder))
+            check_picture(checks, f"{title}, wave", program, chart, script)
             drawings = [check_types(checks, f"{title}, draw", program, chart),
                         check_after(checks, f"{title}, draw --after", program, chart, script)]
             check_tools(checks, title, wave, drawings, Path(folder))

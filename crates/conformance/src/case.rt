@@ -6,6 +6,7 @@ use crate::ending::Ending;
 use crate::frame::Frame;
 use crate::sfc_replay::check::{check_chart, list_chart};
 use crate::sfc_replay::replay::replay;
+use crate::tested::tested;
 use anyhow::{Result, bail};
 use sfc_plant::plant::Plant;
 use sfc_why::chart::{Told, explain_chart};
@@ -29,6 +30,8 @@ enum Command {
     Cover,
     /// A chart is stepped by hand, by the lines of the script.
     Debug,
+    /// Tests are run on a chart, which are the script.
+    Test,
 }
 
 /// What is run, and how it is to end. The chart is the whole of `chart`, or where there is none that of `frame`. `second` and `least` are for
@@ -123,6 +126,7 @@ impl Case {
             "why" => self.command = Command::Why,
             "cover" => self.command = Command::Cover,
             "debug" => self.command = Command::Debug,
+            "test" => self.command = Command::Test,
             _ => bail!("there is no command {name}"),
         }
         Ok(())
@@ -233,6 +237,7 @@ impl Case {
             Command::Why => self.explained(alloc, chart)?,
             Command::Cover => self.covered(alloc, chart)?,
             Command::Debug => debugged(alloc, chart, &self.script)?,
+            Command::Test => tested(alloc, chart, &self.script)?,
         };
         if !self.lists_alike(alloc, chart)? {
             ending

@@ -6,6 +6,7 @@
 //! - `debugged`: sessions in which a chart is stepped by hand.
 //! - `frame`: a chart of which only some parts are given.
 //! - `report`: what is printed of a case.
+//! - `tested`: tests of a chart.
 #![tactic(auto)]
 
 mod case;
@@ -17,6 +18,7 @@ mod folder;
 mod frame;
 mod recipe;
 mod report;
+mod tested;
 
 use report::Counts;
 use sfc_cover::sfc_replay;

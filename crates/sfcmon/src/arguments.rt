@@ -7,9 +7,12 @@ use crate::sfc_replay::replay_error::ReplayError;
 use clap::builder::ValueParser;
 use clap::error::ErrorKind;
 use clap::{Arg, ArgAction, ArgMatches, Command, Error};
-use sfc_pictures::wave::Instants;
 use sfc_tokens::duration::duration;
+use sfc_wave::asked::{Form, Instants};
 use std::alloc::{AllocError, Global};
+
+/// The version of the program.
+pub const VERSION: &str = "0.4.0";
 
 /// A script to be played on a chart.
 #[derive(Drop)]
@@ -44,6 +47,17 @@ pub struct Running {
     pub lasting: Lasting,
 }
 
+/// What a drawing shows.
+#[derive(Drop)]
+pub enum Shown {
+    /// The program types.
+    Types,
+    /// The program instances behind the script in the file of this name.
+    After(String),
+    /// The program instances, with what is never reached by the scripts in the files of these names.
+    Covered(Vec<String>),
+}
+
 /// A chart to be drawn.
 #[derive(Drop)]
 pub struct Drawing {
@@ -51,8 +65,10 @@ pub struct Drawing {
     pub chart: String,
     /// The program type that is drawn alone.
     pub program: Option<String>,
-    /// The name of the file of the script behind which the instances are drawn.
-    pub script: Option<String>,
+    /// What is shown of it.
+    pub shown: Shown,
+    /// Whether it is drawn for Graphviz.
+    pub is_dot: bool,
 }
 
 /// A script on a chart whose signals are to be shown.
@@ -64,6 +80,12 @@ pub struct Waving {
     pub script: String,
     /// Which instants are shown.
     pub instants: Instants,
+    /// How they are written.
+    pub form: Form,
+    /// The names of the signals that are wanted, or of what they belong to; all are, where none is named.
+    pub only: Vec<String>,
+    /// The name of the file for the save file of GTKWave.
+    pub view: Option<String>,
 }
 
 /// Scripts on a chart of which is asked what they reach together.
@@ -75,6 +97,34 @@ pub struct Covering {
     pub scripts: Vec<String>,
     /// How many percents are wanted at the least.
     pub least: u8,
+}
+
+/// Tests of a chart.
+#[derive(Drop)]
+pub struct Testing {
+    /// The name of the chart's file.
+    pub chart: String,
+    /// The names of the files of tests.
+    pub files: Vec<String>,
+    /// What stands in the names of the cases that are wanted.
+    pub filter: Option<String>,
+    /// Whether the cases are listed, and not run.
+    pub is_list: bool,
+    /// Whether they are told as the Test Anything Protocol has it.
+    pub is_tap: bool,
+    /// The name of the file to which the results go as the XML of JUnit.
+    pub junit: Option<String>,
+}
+
+/// Scripts on a chart, and its tests, of which a report is asked.
+#[derive(Drop)]
+pub struct Reporting {
+    /// The name of the chart's file.
+    pub chart: String,
+    /// The names of the scripts' files.
+    pub scripts: Vec<String>,
+    /// The names of the files of tests.
+    pub tests: Vec<String>,
 }
 
 /// What the words ask for.
@@ -98,6 +148,10 @@ pub enum Request {
     Wave(Waving),
     /// Scripts on a chart of which is asked what they reach together.
     Cover(Covering),
+    /// Tests of a chart.
+    Test(Testing),
+    /// A report of a chart and of scripts on it.
+    Report(Reporting),
     /// What a refusal or a fault means, by its number or its name.
     Explain { word: String },
     /// The numbers and names of all refusals and faults.
@@ -246,35 +300,43 @@ docs/LANGUAGE.md describes the text of charts, docs/FORMATS.md how it is laid ou
 
 // What stands at the end of the help on `draw`.
 const DRAW_NOTES: &str = "\
+The picture is SVG, in the graphic form of IEC 61131-3 (2.6.2 to 2.6.5): program types, one below the other. Branches stand from left to right
+as they win. A jump is an arrow with the name of its target, and at the target an arrow with the numbers of the transitions from which it
+comes. Names and conditions that are cut with '..' stand whole where the pointer rests on them.
+
 Exit status:
   0  the picture is written
-  1  the chart or the script is refused
+  1  the chart or a script is refused, or the picture would be too large
   2  there is no such program type, or the words of the command line are wrong
   3  a file can't be read, or the output can't be written
   4  memory was refused
 
 Examples:
-  sfcmon draw examples/pump.chart | dot -Tsvg > pump.svg
+  sfcmon draw examples/pump.chart > pump.svg
   sfcmon draw --program PumpControl examples/pump.chart
   sfcmon draw --after examples/pump.script examples/pump.chart
+  sfcmon draw --cover examples/pump.script examples/pump.chart
+  sfcmon draw --dot examples/pump.chart | dot -Tpdf > pump.pdf
 
-dot is a program of Graphviz. A long condition is cut with '..', and stands whole where the pointer rests on it.";
+dot is a program of Graphviz. docs/FORMATS.md says what is drawn how.";
 
 // What stands at the end of the help on `wave`.
 const WAVE_NOTES: &str = "\
 Signals, in the scope of the resource: mode.Running; TASK.scan, up at each scan, and TASK.overruns; each global variable, and VARIABLE.forced.
-In the scope of each program instance: its local variables; STEP.X and STEP.T, in microseconds as of its latest scan; ACTION.Q and ACTION.A.
-Instants are microseconds. They are run instants, so that a halt takes no time; with --raw they are those of the script.
+In the scope of each program instance: its local variables; STEP.X and STEP.T, as of its latest scan; ACTION.Q and ACTION.A; and steps.active, the
+names of its active steps. A TIME is a number of microseconds, and so is an instant. Instants are run instants, so that a halt takes no time; with --raw they are those of the script.
 
 Exit status:
   0  the whole script was played; what was refused isn't shown
-  1  the chart or the script is refused
-  2  the words of the command line are wrong
+  1  the chart or the script is refused, or the run has too many changes for a picture
+  2  there is no such signal, or the words of the command line are wrong
   3  a file can't be read, or the output can't be written
   4  memory was refused
 
 Examples:
   sfcmon wave examples/pump.chart examples/pump.script > pump.vcd
+  sfcmon wave --gtkw pump.gtkw examples/pump.chart examples/pump.script > pump.vcd; gtkwave pump.vcd pump.gtkw
+  sfcmon wave --svg --only Start,Stop,Pump,Pump1.steps examples/pump.chart examples/pump.script > pump.svg
   sfcmon wave --raw examples/commissioning.chart examples/commissioning.script > commissioning.vcd
 
 GTKWave and PulseView show such files.";
@@ -298,6 +360,52 @@ Examples:
   sfcmon cover --min 90 examples/mixing.chart examples/mixing.script
 
 docs/FORMATS.md says what each line is.";
+
+// What stands at the end of the help on `test`.
+const TEST_NOTES: &str = "\
+A line of a test is a line of a script, its instant in front, left out (that of the last line) or with a + (from that on), or one of these:
+  TEST NAME                                a case begins; what stands before the first TEST is done before each
+  RUN INSTANT                              scans all tasks at their releases, up to the instant
+  UNTIL CONDITION WITHIN DURATION          the same until the condition is TRUE, which it has to be by then
+  EXPECT CONDITION                         it has to be TRUE
+  EXPECT [IN PROGRAM] ACTIVE STEP, STEP    just these steps have to be active
+  EXPECT REFUSED NUMBER COMMAND            the command has to be refused
+  EXPECT FAULT KIND PROGRAM                the program has to stand with this fault
+  EXPECT OVERRUNS NUMBER TASK              the task has to have so many overruns
+  ALWAYS CONDITION, NEVER CONDITION        it has to be TRUE, or FALSE, from here on; behind it UNTIL CONDITION, FOR DURATION or nothing
+  LET NAME = WORD                          the name stands for the word
+A condition is an expression; where there are several programs, IN and the name of one stand before it. A refused command, a fault and an
+overrun that no line expects fail the case. Of each case is told 'ok' or 'FAILED'.
+
+Exit status:
+  0  all cases have passed
+  1  a case has failed; or the chart or a file of tests is refused
+  2  the words of the command line are wrong
+  3  a file can't be read, or the output can't be written
+  4  memory was refused
+
+Examples:
+  sfcmon test examples/pump.chart examples/pump.sfctest
+  sfcmon test --filter stop examples/pump.chart examples/pump.sfctest
+
+docs/FORMATS.md says what each line is.";
+
+// What stands at the end of the help on `report`.
+const REPORT_NOTES: &str = "\
+The page wants no network, and shows itself in any browser: versions and SHA-256 of the files; what came of each script and of each case of the
+tests; the chart, which a slider over the commands colours, with the values and the waveform of that instant; faults, hits and refusals; how
+all stands behind each script; and what the scripts reach together. It prints on paper as a record to sign.
+
+Exit status:
+  0  the page is written
+  1  the chart, a script or a file of tests is refused, or a drawing would be too large
+  2  the words of the command line are wrong
+  3  a file can't be read, or the output can't be written
+  4  memory was refused
+
+Examples:
+  sfcmon report examples/press.chart examples/press.script > press.html
+  sfcmon report examples/press.chart examples/press.script examples/press.sfctest > press.html";
 
 // What stands at the end of the help on `explain`.
 const EXPLAIN_NOTES: &str = "\
@@ -430,12 +538,35 @@ fn after_argument<'a>(alloc: Global) -> Arg<'a> {
         .help("Draws the program instances as they stand when this script has been played")
 }
 
+// The argument that names a script of which is asked what it reaches.
+fn cover_argument<'a>(alloc: Global) -> Result<Arg<'a>, AllocError> {
+    Arg::new(alloc, "cover")
+        .long("cover")
+        .value_name("SCRIPT")
+        .action(ArgAction::Append)
+        .help(
+            "Draws the program instances and marks what this script never reaches; may be given several times",
+        )
+        .conflicts_with("after")?
+        .conflicts_with("dot")
+}
+
+// The argument by which a chart is drawn for Graphviz.
+fn dot_argument<'a>(alloc: Global) -> Arg<'a> {
+    Arg::new(alloc, "dot")
+        .long("dot")
+        .action(ArgAction::SetTrue)
+        .help("Draws for dot of Graphviz, and not as SVG")
+}
+
 fn draw_command<'a>(alloc: Global) -> Result<Command<'a>, AllocError> {
     Command::new(alloc, "draw")
-        .about("Draws a chart, for dot of Graphviz: steps, transitions, action blocks")
+        .about("Draws a chart as SVG: steps, transitions, action blocks")
         .after_help(DRAW_NOTES)
         .arg(program_argument(alloc))?
         .arg(after_argument(alloc))?
+        .arg(cover_argument(alloc)?)?
+        .arg(dot_argument(alloc))?
         .arg(chart_argument(alloc))
 }
 
@@ -454,11 +585,38 @@ fn raw_argument<'a>(alloc: Global) -> Arg<'a> {
         .help("Shows the instants of the script, so that a halt takes time")
 }
 
+// The argument by which a waveform is a picture.
+fn picture_argument<'a>(alloc: Global) -> Arg<'a> {
+    Arg::new(alloc, "svg")
+        .long("svg")
+        .action(ArgAction::SetTrue)
+        .help("Prints a picture in SVG")
+}
+
+// The argument that names signals.
+fn only_argument<'a>(alloc: Global) -> Arg<'a> {
+    Arg::new(alloc, "only")
+        .long("only")
+        .value_name("NAME,..")
+        .action(ArgAction::Append)
+        .help("Shows these signals alone, or those of what is named")
+}
+
+// The argument that names the file for the save file of GTKWave.
+fn view_argument<'a>(alloc: Global) -> Arg<'a> {
+    Arg::new(alloc, "gtkw").long("gtkw").value_name("SAVE").help(
+        "Writes a save file of GTKWave with inputs, steps and outputs",
+    )
+}
+
 fn wave_command<'a>(alloc: Global) -> Result<Command<'a>, AllocError> {
     Command::new(alloc, "wave")
         .about("Plays a script on a chart and prints its signals as a Value Change Dump")
         .after_help(WAVE_NOTES)
         .arg(raw_argument(alloc))?
+        .arg(picture_argument(alloc))?
+        .arg(only_argument(alloc))?
+        .arg(view_argument(alloc))?
         .arg(chart_argument(alloc))?
         .arg(script_argument(alloc))
 }
@@ -482,6 +640,69 @@ fn cover_command<'a>(alloc: Global) -> Result<Command<'a>, AllocError> {
         .about("Plays scripts on a chart and prints what of it they never reached together")
         .after_help(COVER_NOTES)
         .arg(min_argument(alloc))?
+        .arg(chart_argument(alloc))?
+        .arg(scripts)
+}
+
+// The argument that picks cases by their names.
+fn filter_argument<'a>(alloc: Global) -> Arg<'a> {
+    Arg::new(alloc, "filter")
+        .long("filter")
+        .value_name("WORD")
+        .help("Takes the cases alone whose names have this in them")
+}
+
+// The argument by which cases are listed.
+fn list_argument<'a>(alloc: Global) -> Arg<'a> {
+    Arg::new(alloc, "list")
+        .long("list")
+        .action(ArgAction::SetTrue)
+        .help("Prints the names of the cases, and runs none")
+}
+
+// The argument by which results are told for other tools.
+fn tap_argument<'a>(alloc: Global) -> Arg<'a> {
+    Arg::new(alloc, "tap")
+        .long("tap")
+        .action(ArgAction::SetTrue)
+        .help("Tells the results as the Test Anything Protocol has it, for prove and the like")
+}
+
+// The argument that names a file for the results.
+fn junit_argument<'a>(alloc: Global) -> Arg<'a> {
+    Arg::new(alloc, "junit")
+        .long("junit")
+        .value_name("FILE")
+        .help("Writes the results to this file too, as the XML of JUnit")
+}
+
+fn test_command<'a>(alloc: Global) -> Result<Command<'a>, AllocError> {
+    let files = Arg::new(alloc, "TESTS")
+        .required(true)
+        .num_args(1..)
+        .help("The files of tests");
+    Command::new(alloc, "test")
+        .about(
+            "Runs the cases of files of tests on a chart, and tells of each whether all holds that must",
+        )
+        .after_help(TEST_NOTES)
+        .arg(filter_argument(alloc))?
+        .arg(list_argument(alloc))?
+        .arg(tap_argument(alloc))?
+        .arg(junit_argument(alloc))?
+        .arg(chart_argument(alloc))?
+        .arg(files)
+}
+
+fn report_command<'a>(alloc: Global) -> Result<Command<'a>, AllocError> {
+    let scripts = Arg::new(alloc, "SCRIPT").num_args(0..).help(
+        "The scripts; a file whose name ends with .sfctest has tests",
+    );
+    Command::new(alloc, "report")
+        .about(
+            "Prints a page in HTML that shows a chart and what came of scripts on it, as a record to sign",
+        )
+        .after_help(REPORT_NOTES)
         .arg(chart_argument(alloc))?
         .arg(scripts)
 }
@@ -522,7 +743,7 @@ fn bare_command<'a>(alloc: Global) -> Result<Command<'a>, AllocError> {
     let command = Command::new(alloc, "sfcmon").bin_name("sfcmon")?;
     Ok(
         command
-            .version("0.4.0")
+            .version(VERSION)
             .about(
                 "Runs Sequential Function Charts (IEC 61131-3:2003) exactly as their definitions say",
             )
@@ -555,6 +776,8 @@ fn sfcmon_command<'a>(alloc: Global) -> Result<Command<'a>, AllocError> {
     let command = with_command(command, debug_command(alloc))?;
     let command = with_picture_commands(alloc, command)?;
     let command = with_command(command, cover_command(alloc))?;
+    let command = with_command(command, test_command(alloc))?;
+    let command = with_command(command, report_command(alloc))?;
     with_command(command, explain_command(alloc))
 }
 
@@ -696,42 +919,76 @@ fn option_of(
     }
 }
 
+// What a drawing is to show.
+fn shown_of(alloc: Global, matches: &ArgMatches) -> Result<Shown, AllocError> {
+    if let Some(scripts) = matches.get_strs("cover") {
+        return Ok(Shown::Covered(owned(alloc, scripts)?));
+    }
+    match option_of(alloc, matches, "after")? {
+        Some(script) => Ok(Shown::After(script)),
+        None => Ok(Shown::Types),
+    }
+}
+
 // A chart to be drawn, where one is named.
 fn draw_request(alloc: Global, matches: &ArgMatches) -> Result<Request, AllocError> {
     match matches.get_str("FILE") {
-        Some(chart) => {
-            let chart = String::from_str(alloc, chart)?;
-            let program = option_of(alloc, matches, "program")?;
-            let script = option_of(alloc, matches, "after")?;
-            Ok(Request::Draw(Drawing {
-                chart,
-                program,
-                script,
-            }))
-        }
+        Some(chart) => Ok(Request::Draw(Drawing {
+            chart: String::from_str(alloc, chart)?,
+            program: option_of(alloc, matches, "program")?,
+            shown: shown_of(alloc, matches)?,
+            is_dot: matches.get_flag("dot"),
+        })),
         None => Ok(Request::Answered(2)),
+    }
+}
+
+// The names in these words, which stand with commas between them.
+fn names_in(alloc: Global, words: &[&str]) -> Result<Vec<String>, AllocError> {
+    let mut names = Vec::new(alloc);
+    for word in words {
+        for name in word.split(',') {
+            names.push(String::from_str(alloc, name)?)?;
+        }
+    }
+    Ok(names)
+}
+
+// A word as a text of its own, where there is one.
+fn owned_word(alloc: Global, word: Option<&str>) -> Result<Option<String>, AllocError> {
+    match word {
+        Some(word) => Ok(Some(String::from_str(alloc, word)?)),
+        None => Ok(None),
     }
 }
 
 // A waveform, where chart and script are named.
 fn wave_request(alloc: Global, matches: &ArgMatches) -> Result<Request, AllocError> {
-    match (matches.get_str("FILE"), matches.get_str("SCRIPT")) {
-        (Some(chart), Some(script)) => {
-            let chart = String::from_str(alloc, chart)?;
-            let script = String::from_str(alloc, script)?;
-            let instants = if matches.get_flag("raw") {
-                Instants::Raw
-            } else {
-                Instants::Run
-            };
-            Ok(Request::Wave(Waving {
-                chart,
-                script,
-                instants,
-            }))
-        }
-        _ => Ok(Request::Answered(2)),
-    }
+    let (Some(chart), Some(script)) = (matches.get_str("FILE"), matches.get_str("SCRIPT")) else {
+        return Ok(Request::Answered(2));
+    };
+    let instants = if matches.get_flag("raw") {
+        Instants::Raw
+    } else {
+        Instants::Run
+    };
+    let form = if matches.get_flag("svg") {
+        Form::Picture
+    } else {
+        Form::Dump
+    };
+    let only = match matches.get_strs("only") {
+        Some(words) => names_in(alloc, words)?,
+        None => Vec::new(alloc),
+    };
+    Ok(Request::Wave(Waving {
+        chart: String::from_str(alloc, chart)?,
+        script: String::from_str(alloc, script)?,
+        instants,
+        form,
+        only,
+        view: owned_word(alloc, matches.get_str("gtkw"))?,
+    }))
 }
 
 // The words as texts of their own.
@@ -757,6 +1014,45 @@ fn cover_request(alloc: Global, matches: &ArgMatches) -> Result<Request, AllocEr
         })),
         _ => Ok(Request::Answered(2)),
     }
+}
+
+// Tests of a chart, where both are named.
+fn test_request(alloc: Global, matches: &ArgMatches) -> Result<Request, AllocError> {
+    match (matches.get_str("FILE"), matches.get_strs("TESTS")) {
+        (Some(chart), Some(files)) => Ok(Request::Test(Testing {
+            chart: String::from_str(alloc, chart)?,
+            files: owned(alloc, files)?,
+            filter: option_of(alloc, matches, "filter")?,
+            is_list: matches.get_flag("list"),
+            is_tap: matches.get_flag("tap"),
+            junit: option_of(alloc, matches, "junit")?,
+        })),
+        _ => Ok(Request::Answered(2)),
+    }
+}
+
+// Those of these names that are of files of tests, or those that aren't.
+fn names_where(alloc: Global, names: &[&str], are_tests: bool) -> Result<Vec<String>, AllocError> {
+    let mut found = Vec::new(alloc);
+    for name in names {
+        if name.ends_with(".sfctest") == are_tests {
+            found.push(String::from_str(alloc, name)?)?;
+        }
+    }
+    Ok(found)
+}
+
+// A report, where the chart is named.
+fn report_request(alloc: Global, matches: &ArgMatches) -> Result<Request, AllocError> {
+    let Some(chart) = matches.get_str("FILE") else {
+        return Ok(Request::Answered(2));
+    };
+    let names = matches.get_strs("SCRIPT").unwrap_or(&[]);
+    Ok(Request::Report(Reporting {
+        chart: String::from_str(alloc, chart)?,
+        scripts: names_where(alloc, names, false)?,
+        tests: names_where(alloc, names, true)?,
+    }))
 }
 
 // What the words that matched ask for.
@@ -787,6 +1083,12 @@ fn request_of(alloc: Global, matches: &ArgMatches) -> Result<Request, Error> {
     }
     if let Some(cover) = matches.subcommand_matches("cover") {
         return Ok(cover_request(alloc, cover)?);
+    }
+    if let Some(test) = matches.subcommand_matches("test") {
+        return Ok(test_request(alloc, test)?);
+    }
+    if let Some(report) = matches.subcommand_matches("report") {
+        return Ok(report_request(alloc, report)?);
     }
     if let Some(explain) = matches.subcommand_matches("explain") {
         return Ok(explain_request(alloc, explain.get_strs("NAME"))?);

@@ -56,21 +56,31 @@ fn print_report<R: Print + Eprint + AllocGlobal>(rt: &R, cover: &Cover, least: u
     }
 }
 
-// Plays the scripts on the chart, and prints what they reach: the exit status.
-fn cover_opened<R: Print + Eprint + AllocGlobal, C: Read, S: Read>(
+// Plays the scripts, which are open, on the chart; or the exit status.
+fn cover_opened<R: Eprint + AllocGlobal, C: Read, S: Read>(
     rt: &R,
     chart: &mut C,
     scripts: &mut [S],
-    covering: &Covering,
-) -> u8 {
-    let mut cover = match Cover::of_chart(rt.alloc(), chart) {
-        Ok(cover) => cover,
-        Err(error) => return end_with(rt, error),
-    };
-    match play_all(rt, &mut cover, scripts, &covering.scripts) {
-        Ok(()) => print_report(rt, &cover, covering.least),
-        Err(status) => status,
+    names: &[String],
+) -> Result<Cover, u8> {
+    match Cover::of_chart(rt.alloc(), chart) {
+        Ok(mut cover) => {
+            play_all(rt, &mut cover, scripts, names)?;
+            Ok(cover)
+        }
+        Err(error) => Err(end_with(rt, error)),
     }
+}
+
+/// A chart with what the scripts in the files of these names reach together; or the exit status. All files are opened before one is read;
+/// one that can't be opened is a read fault. What is wrong with a script is told behind the name of its file.
+pub fn open_cover<R: Eprint + Files + AllocGlobal, C: Read>(
+    rt: &R,
+    chart: &mut C,
+    names: &[String],
+) -> Result<Cover, u8> {
+    let mut scripts = open_scripts(rt, names)?;
+    cover_opened(rt, chart, &mut scripts, names)
 }
 
 /// Plays the scripts of files on the chart of another, and prints on standard output what they reach together: the exit status, which is 1
@@ -80,8 +90,8 @@ pub fn cover_files<R: Print + Eprint + Files + AllocGlobal>(rt: &R, covering: &C
     let Ok(mut chart) = fs::open(rt, covering.chart.as_str()) else {
         return end_with(rt, ReplayError::Read);
     };
-    match open_scripts(rt, &covering.scripts) {
-        Ok(mut scripts) => cover_opened(rt, &mut chart, &mut scripts, covering),
+    match open_cover(rt, &mut chart, &covering.scripts) {
+        Ok(cover) => print_report(rt, &cover, covering.least),
         Err(status) => status,
     }
 }

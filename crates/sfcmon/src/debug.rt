@@ -11,9 +11,9 @@ use std::rt::Files;
 
 /// Files, by their names.
 #[derive(Drop)]
-struct FileArchive<'a, R: Files> {
-    rt: &'a R,
-    alloc: Global,
+pub struct FileArchive<'a, R: Files> {
+    pub rt: &'a R,
+    pub alloc: Global,
 }
 
 // The name of the file that is written before it takes its place.

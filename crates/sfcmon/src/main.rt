@@ -1,23 +1,29 @@
 //! `sfcmon`: checks, lists and draws Sequential Function Charts, says where a fault is, plays scripts on them and prints what happens, how
-//! the signals go or what they never reach, runs them in real time, and tells what a refusal or a fault means.
+//! the signals go or what they never reach, tests them, runs them in real time, and tells what a refusal or a fault means.
 //!
 //! - `arguments`: the command line.
 //! - `cover`: what scripts on a chart reach together.
 //! - `debug`: a chart that is stepped by hand.
+//! - `draw`: charts as drawings.
 //! - `explain`: what refusals and faults mean.
 //! - `files`: charts and scripts in files, standard output and exit status.
 //! - `lasting`: input of a run that lasts longer, or shorter, than its input.
-//! - `pictures`: charts and runs as pictures.
+//! - `report`: reports of charts and scripts.
+//! - `testing`: tests of a chart.
+//! - `wave`: runs as waveforms.
 //! - `why`: where the first fault of a chart or a script is.
 #![tactic(auto)]
 
 mod arguments;
 mod cover;
 mod debug;
+mod draw;
 mod explain;
 mod files;
 mod lasting;
-mod pictures;
+mod report;
+mod testing;
+mod wave;
 mod why;
 
 use crate::sfc_replay::replay_error::ReplayError;
@@ -80,9 +86,11 @@ where
         Request::Replay(playing) => replay(rt, playing),
         Request::Run(running) => files::run_file(rt, streams, running),
         Request::Debug { chart } => debug::debug_file(rt, streams, chart.as_str()),
-        Request::Draw(drawing) => pictures::draw_file(rt, drawing),
-        Request::Wave(waving) => pictures::wave_files(rt, waving),
+        Request::Draw(drawing) => draw::draw_file(rt, drawing),
+        Request::Wave(waving) => wave::wave_files(rt, waving),
         Request::Cover(covering) => cover::cover_files(rt, covering),
+        Request::Report(reporting) => report::report_files(rt, reporting),
+        Request::Test(testing) => testing::test_files(rt, testing),
         Request::Explain { word } => explain::explain_word(rt, word.as_str()),
         Request::ListExplanations => explain::list_explanations(rt),
         Request::Answered(status) => *status,
