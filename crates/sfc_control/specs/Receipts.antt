@@ -19,6 +19,7 @@ IsReceiptOf r seat command raw = (r.seat ≡ seat) × (r.command ≡ command) ×
 abbrev pub IsAt : List Entry → Receipt → Type 0
 IsAt es r = slice_get es (r.index - 1) ≡ Some (entry_of r)
 
--- A receipt from before the cut isn't compared; any other stands where its entry is at its index. The entries are all that were ever accepted.
+-- A receipt from before the cut isn't compared; any other stands where its entry is at its index. The entries are all that were ever
+-- accepted.
 abbrev pub Stands : List Entry → Receipt → Type 0
 Stands es r = (0 < r.index) × (first_in es ≤ r.index → IsAt es r)

@@ -1,5 +1,6 @@
 -- What contracts see of a seat.
-use Rattle.std.specs.Prelude.{ℕ, ◌≡◌, ◌<◌, ◌+◌, List, [], ◌∷◌, ◌++◌, ℤ, Option, None, IfSome, Result, Ok, Err, IfOk, length, max, slice_index_or}
+use Rattle.std.specs.Prelude.{ℕ, ◌≡◌, ◌<◌, ◌+◌, List, [], ◌∷◌, ◌++◌, ℤ, Option, None, IfSome, Result, Ok, Err, IfOk}
+use Rattle.std.specs.Prelude.{length, max, slice_index_or}
 use Rattle.sfc_plant.specs.Plants.{PlantData}
 use Rattle.sfc_events.specs.declared.command.Command.{Command}
 use Rattle.sfc_events.specs.declared.refusal.Refusal.{Refusal}
@@ -63,15 +64,15 @@ Puts es command old new (Ok receipt) =
 Puts es command old new (Err error) = new ≡ old
 
 -- What a call does after these entries, which are legal: what it answers, and what the seat keeps of it.
-pub record IsCalled {X : Type 0} (plant : PlantData) (table : List BreakCondition) (limit : ℕ) (es : List Entry) (command : Command) (raw : ℤ)
-    (old new : Seat X) (answer : Result Receipt CallError) : Type 0 where
+pub record IsCalled {X : Type 0} (plant : PlantData) (table : List BreakCondition) (limit : ℕ) (es : List Entry)
+    (command : Command) (raw : ℤ) (old new : Seat X) (answer : Result Receipt CallError) : Type 0 where
   pub legal : IsLegal plant table es
   pub answered : IsEntered plant table limit (last_receipt old) (number old) es command raw answer
   pub put : Puts es command (given old) (given new) answer
   pub held : IfOk answer (λ receipt. first_held new ≡ max (first_held old) (first_after command (first_in es) receipt.index))
 
--- One legal history has both: the later receipt's entry is the next one behind others, among which the earlier one stands, unless it is from
--- before their cut. The later one's index is higher.
+-- One legal history has both: the later receipt's entry is the next one behind others, among which the earlier one stands, unless it is
+-- from before their cut. The later one's index is higher.
 abbrev pub BothStand : PlantData → List BreakCondition → Option Receipt → Receipt → Type 0
 BothStand plant table last receipt =
     (es : List Entry) × IsLegal plant table (es ++ entry_of receipt ∷ []) × (receipt.index ≡ length es + 1)

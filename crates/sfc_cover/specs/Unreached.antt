@@ -1,5 +1,6 @@
 -- What scripts never reach, as marks of a drawing.
-use Rattle.std.specs.Prelude.{◌≡◌, ◌==◌, ℕ, Bool, true, false, not, List, [], Option, Some, None, filter, is_none, length, map, slice_get, if◌then◌else◌}
+use Rattle.std.specs.Prelude.{◌≡◌, ◌==◌, ℕ, Bool, true, false, not, List, [], Option, Some, None, if◌then◌else◌}
+use Rattle.std.specs.Prelude.{filter, is_none, length, map, slice_get}
 use Rattle.std.specs.List.{filter_map, range_with_len}
 use Rattle.sfc_base.specs.declared.ids.ProgId.{ProgId}
 use Rattle.sfc_base.specs.declared.ids.TypeId.{TypeId}
@@ -49,7 +50,11 @@ transition_mark reach tr = record {
 
 -- an action that no scan executed (2.6.4.5)
 abbrev pub action_mark : Reach → ℕ → ActionMark
-action_mark reach a = record { is_executed = false; is_forced = false; is_never = not (is_marked (slice_get reach.actions.items a)) }
+action_mark reach a = record {
+  is_executed = false;
+  is_forced = false;
+  is_never = not (is_marked (slice_get reach.actions.items a));
+}
 
 -- the body of such a one, if it has one (2.6.4.1)
 abbrev pub body_mark : ActionMark → Option Target → Option ActionMark
@@ -68,7 +73,8 @@ module _ (tables : Tabled) (reach : Reach) where
   }
 
   abbrev pub body_marks : List ActionMark
-  body_marks = filter_map (λ (a : ℕ). body_mark (action_mark reach a) (slice_get tables.actions a)) (range_with_len 0 (length tables.actions))
+  body_marks =
+      filter_map (λ (a : ℕ). body_mark (action_mark reach a) (slice_get tables.actions a)) (range_with_len 0 (length tables.actions))
 
   -- all of a chart with these tables, and nothing behind its name
   abbrev pub marks_of : Marks
