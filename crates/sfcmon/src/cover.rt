@@ -1,35 +1,12 @@
 //! What scripts on a chart reach together, from files to standard output.
 
 use crate::arguments::Covering;
-use crate::files::end_with;
+use crate::files::{end_with, end_with_file, open_files};
 use crate::sfc_replay::replay_error::ReplayError;
 use sfc_cover::cover::Cover;
 use std::io::Read;
 use std::rt::Files;
 use std::{fs, io};
-
-// Prints the text of an error of a script behind the name of its file; the exit status.
-fn end_with_script<R: Eprint>(rt: &R, script: &str, error: ReplayError) -> u8 {
-    let _ = eprintln!(rt; "{script}: {error}");
-    error.status()
-}
-
-// The files of the scripts, all of which are opened before one is read; or the exit status.
-fn open_scripts<R: Eprint + Files + AllocGlobal>(
-    rt: &R,
-    names: &[String],
-) -> Result<Vec<R::File>, u8> {
-    let mut files = Vec::new(rt.alloc());
-    for name in names {
-        let Ok(file) = fs::open(rt, name.as_str()) else {
-            return Err(end_with_script(rt, name.as_str(), ReplayError::Read));
-        };
-        if files.push(file).is_err() {
-            return Err(end_with(rt, ReplayError::Memory));
-        }
-    }
-    Ok(files)
-}
 
 // Plays the scripts; or the exit status of the first that is refused.
 fn play_all<R: Eprint + AllocGlobal, S: Read>(
@@ -40,7 +17,7 @@ fn play_all<R: Eprint + AllocGlobal, S: Read>(
 ) -> Result<(), u8> {
     for (script, name) in scripts.iter_mut().zip(names) {
         if let Err(error) = cover.play(rt.alloc(), script) {
-            return Err(end_with_script(rt, name.as_str(), error));
+            return Err(end_with_file(rt, name.as_str(), error));
         }
     }
     Ok(())
@@ -79,7 +56,7 @@ pub fn open_cover<R: Eprint + Files + AllocGlobal, C: Read>(
     chart: &mut C,
     names: &[String],
 ) -> Result<Cover, u8> {
-    let mut scripts = open_scripts(rt, names)?;
+    let mut scripts = open_files(rt, names)?;
     cover_opened(rt, chart, &mut scripts, names)
 }
 

@@ -20,6 +20,29 @@ pub fn end_with<R: Eprint>(rt: &R, error: ReplayError) -> u8 {
     error.status()
 }
 
+/// Prints the text of the error of a file behind its name on standard error, where a fault is passed over; the exit status.
+pub fn end_with_file<R: Eprint>(rt: &R, name: &str, error: ReplayError) -> u8 {
+    let _ = eprintln!(rt; "{name}: {error}");
+    error.status()
+}
+
+/// The files of these names, all of which are opened before one is read; or the exit status of the first that can't be, which is a read fault.
+pub fn open_files<R: Eprint + Files + AllocGlobal>(
+    rt: &R,
+    names: &[String],
+) -> Result<Vec<R::File>, u8> {
+    let mut files = Vec::new(rt.alloc());
+    for name in names {
+        let Ok(file) = fs::open(rt, name.as_str()) else {
+            return Err(end_with_file(rt, name.as_str(), ReplayError::Read));
+        };
+        if files.push(file).is_err() {
+            return Err(end_with(rt, ReplayError::Memory));
+        }
+    }
+    Ok(files)
+}
+
 /// Checks the chart of a file: the exit status. A file that can't be opened is a read fault.
 pub fn check_file<R: Print + Eprint + Files + AllocGlobal>(rt: &R, chart: &str) -> u8 {
     let Ok(mut chart) = fs::open(rt, chart) else {

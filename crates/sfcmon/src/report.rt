@@ -1,7 +1,7 @@
 //! Reports, from files to standard output.
 
 use crate::arguments::{Reporting, VERSION};
-use crate::files::end_with;
+use crate::files::{end_with, end_with_file};
 use crate::sfc_replay::input::read_to_end;
 use crate::sfc_replay::replay::replay;
 use crate::sfc_replay::replay_error::ReplayError;
@@ -334,14 +334,12 @@ fn report<R: Files + AllocGlobal>(rt: &R, reporting: &Reporting) -> Result<Vec<u
     report_of(rt.alloc(), reporting, &texts)
 }
 
-// Prints the text of an error of the file at a place behind its name; the exit status.
-fn end_with_file<R: Eprint>(rt: &R, names: &[String], place: usize, error: ReplayError) -> u8 {
-    let name = match names.get(place) {
+// The name at a place.
+fn name_at(names: &[String], place: usize) -> &str {
+    match names.get(place) {
         Some(name) => name.as_str(),
         None => "",
-    };
-    let _ = eprintln!(rt; "{name}: {error}");
-    error.status()
+    }
 }
 
 // What is wrong is told on standard error: the exit status.
@@ -349,9 +347,13 @@ fn fail<R: Eprint>(rt: &R, reporting: &Reporting, refused: Refused) -> u8 {
     match refused {
         Refused::At(Kind::Chart, _, error) => end_with(rt, error),
         Refused::At(Kind::Script, place, error) => {
-            end_with_file(rt, &reporting.scripts, place, error)
+            end_with_file(rt, name_at(&reporting.scripts, place), error)
         }
-        Refused::At(Kind::Tests, place, error) => end_with_file(rt, &reporting.tests, place, error),
+        Refused::At(Kind::Tests, place, error) => end_with_file(
+            rt,
+            name_at(&reporting.tests, place),
+            error,
+        ),
         Refused::TooLarge => {
             let _ = eprintln!(rt; "error: {}", SvgError::TooLarge);
             1

@@ -2,36 +2,13 @@
 
 use crate::arguments::Testing;
 use crate::debug::FileArchive;
-use crate::files::end_with;
+use crate::files::{end_with, end_with_file, open_files};
 use crate::sfc_replay::replay_error::ReplayError;
 use sfc_prompt::archive::Archive;
 use sfc_test::suite::{Asked, Choice, Suite};
 use std::io::Read;
 use std::rt::Files;
 use std::{fs, io};
-
-// Prints the text of an error of a file of tests behind its name; the exit status.
-fn end_with_file<R: Eprint>(rt: &R, file: &str, error: ReplayError) -> u8 {
-    let _ = eprintln!(rt; "{file}: {error}");
-    error.status()
-}
-
-// The files of tests, all of which are opened before one is read; or the exit status.
-fn open_tests<R: Eprint + Files + AllocGlobal>(
-    rt: &R,
-    names: &[String],
-) -> Result<Vec<R::File>, u8> {
-    let mut files = Vec::new(rt.alloc());
-    for name in names {
-        let Ok(file) = fs::open(rt, name.as_str()) else {
-            return Err(end_with_file(rt, name.as_str(), ReplayError::Read));
-        };
-        if files.push(file).is_err() {
-            return Err(end_with(rt, ReplayError::Memory));
-        }
-    }
-    Ok(files)
-}
 
 // What is wanted of them.
 fn asked_of(testing: &Testing) -> Asked {
@@ -150,7 +127,7 @@ pub fn test_files<R: Print + Eprint + Files + AllocGlobal>(rt: &R, testing: &Tes
     let Ok(mut chart) = fs::open(rt, testing.chart.as_str()) else {
         return end_with(rt, ReplayError::Read);
     };
-    match open_tests(rt, &testing.files) {
+    match open_files(rt, &testing.files) {
         Ok(mut files) => test_opened(rt, &mut chart, &mut files, testing),
         Err(status) => status,
     }
