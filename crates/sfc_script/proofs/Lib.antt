@@ -12,6 +12,8 @@ pub mod PlainTimes
 pub mod Said
 pub mod Splits
 pub mod TimedLines
+pub mod ToldLines
+pub mod ToldPlaces
 -- What the crates above name through this one.
 pub use Rattle.sfc_load.proofs.of_sfc_check as of_sfc_check
 pub use Rattle.sfc_load.proofs.of_sfc_program as of_sfc_program

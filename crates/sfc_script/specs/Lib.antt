@@ -12,6 +12,8 @@ pub mod Points
 pub mod Conditions
 -- the commands: a keyword, and what stands behind it; what a line says
 pub mod Commands
+-- which word makes a line no command
+pub mod LineFaults
 -- whole scripts
 pub mod Scripts
 -- lines of text that comes in pieces, and what a line of a session says

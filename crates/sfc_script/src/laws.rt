@@ -7,9 +7,12 @@ ghost use Rattle.sfc_base.specs.TimeText.{time_text};
 ghost use Rattle.sfc_plant.specs.Plants.{PlantData};
 ghost use Rattle.sfc_script.specs.Arriving.{ended_line};
 ghost use Rattle.sfc_script.specs.Commands.{command_of, conditional_of, said_by, said_of};
+ghost use Rattle.sfc_script.specs.LineFaults.{IsToldOf, IsWrongAt, line_fault};
 ghost use Rattle.sfc_script.specs.Lines.{is_one_line, lines_of};
 ghost use Rattle.sfc_script.specs.Scripts.{ScriptData, ScriptReads};
 ghost use Rattle.sfc_script.specs.Values.{number_of};
+ghost use Rattle.sfc_script.specs.declared.line_fault.LineFault.TheVariants.{Word};
+ghost use Rattle.sfc_script.specs.declared.wanted.Wanted.{Wanted};
 
 /// What is written for a number is read as that number.
 pub fn number_read()
@@ -42,4 +45,16 @@ pub fn timed_line_read()
 /// A line with an LF behind it is the first line of a text, and the others are those of what stands behind that.
 pub fn line_in_front()
     ensures { (line rest : List ℕ) → is_one_line line ≡ true → lines_of (line ++ codes "\n" ++ rest) ≡ line ∷ lines_of rest }
+{}
+
+/// What is told of a line tells what it says, over any plant: nothing of one that says nothing or a command, the condition of a
+/// breakpoint with one, and a word of a line that is no command.
+pub fn fault_told()
+    ensures { (plant : PlantData) (line : List ℕ) → IsToldOf (said_of plant line) (line_fault line) }
+{}
+
+/// The word that is told of a line stands there and isn't what is wanted, or the line ends there and may not.
+pub fn word_told_is_wrong()
+    ensures { (line : List ℕ) (place : ℕ) (wanted : Wanted) → line_fault line ≡ Some (Word place wanted)
+        → IsWrongAt line place wanted }
 {}

@@ -11,6 +11,7 @@
 //! - `point`: points of charts, by their names and numbers.
 //! - `names`: tasks, program instances and variables by their names.
 //! - `value`, `number`: values of variables, and decimal numbers.
+//! - `line_fault`: which word makes a line no command; `wanted`: what may stand in a place of a line.
 //! - `split`: lines and words; `arriving`: lines of text that comes in pieces.
 //! - `instant`, `repeated`: instants in their plainest form, and commands that a script says again.
 #![tactic(auto)]
@@ -23,6 +24,7 @@ pub mod conditions;
 mod instant;
 pub mod laws;
 mod line;
+pub mod line_fault;
 mod names;
 pub mod number;
 pub mod point;
@@ -31,6 +33,7 @@ pub mod script;
 pub mod session_line;
 pub mod split;
 mod value;
+pub mod wanted;
 
 // What the crates above name through this one.
 pub use sfc_debug;

@@ -25,8 +25,8 @@ pub struct Place {
     pub point: Point,
 }
 
-// Whether the word has decimal digits alone.
-fn are_digits(word: &[u8]) -> bool
+/// Whether the word has decimal digits alone; one without bytes has. It takes no memory.
+pub fn are_digits(word: &[u8]) -> bool
     ensures { result ≡ points.are_digits word.now }
 {
     let mut rest = word;
@@ -39,8 +39,9 @@ fn are_digits(word: &[u8]) -> bool
     true
 }
 
-// The transition that is counted as the number that the digits are, from 1.
-fn numbered_transition(word: &[u8]) -> Option<TransitionId>
+/// The transition that is counted as the number that the digits are, from 1 to 65,535; None where it is no such number. It takes no
+/// memory.
+pub fn numbered_transition(word: &[u8]) -> Option<TransitionId>
     ensures { result ≡ points.numbered_transition word.now }
 {
     let number = magnitude(word, GREATEST_NUMBER)?;
