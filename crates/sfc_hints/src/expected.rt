@@ -14,7 +14,7 @@ const OPERATORS: &str = "OR XOR AND & = <> < > <= >= + - * / MOD";
 const OPERATOR_COUNT: usize = 15;
 
 /// The reserved words that are neither operators of two operands nor literals.
-const KEYWORDS: &str =
+pub const KEYWORDS: &str =
     "ACTION AT BOOL CONFIGURATION DINT ELSE ELSIF END_ACTION END_CONFIGURATION END_IF END_PROGRAM END_RESOURCE END_STEP END_TRANSITION END_VAR FROM IF INITIAL_STEP INT NOT ON PROGRAM RESOURCE STEP TASK THEN TIME TO TRANSITION VAR VAR_EXTERNAL VAR_GLOBAL WITH";
 
 /// The words that mean something in their places only.

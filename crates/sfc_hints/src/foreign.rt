@@ -8,9 +8,9 @@ struct Foreign {
     serves: &'static str,
 }
 
-static FOREIGN: [Foreign; 16] = [
+static FOREIGN: [Foreign; 20] = [
     Foreign {
-        words: "CASE OF END_CASE",
+        words: "CASE OF END_CASE SWITCH",
         serves: "there is no CASE: IF with ELSIF serves, or a step for each state",
     },
     Foreign {
@@ -22,11 +22,11 @@ static FOREIGN: [Foreign; 16] = [
         serves: "nothing leaves a body early: IF with ELSE serves",
     },
     Foreign {
-        words: "REAL LREAL",
+        words: "REAL LREAL FLOAT DOUBLE",
         serves: "there are no fractions: DINT in thousandths serves, or another small unit",
     },
     Foreign {
-        words: "SINT LINT USINT UINT UDINT ULINT BYTE WORD DWORD LWORD",
+        words: "SINT LINT USINT UINT UDINT ULINT BYTE WORD DWORD LWORD INTEGER LONG SHORT",
         serves: "the numbers are INT (16 bits) and DINT (32 bits), both with a sign",
     },
     Foreign {
@@ -68,6 +68,22 @@ static FOREIGN: [Foreign; 16] = [
     Foreign {
         words: "RETAIN NON_RETAIN PERSISTENT",
         serves: "nothing is kept while the runtime is off",
+    },
+    Foreign {
+        words: "BOOLEAN",
+        serves: "the types are BOOL, INT, DINT and TIME",
+    },
+    Foreign {
+        words: "ELSEIF ELIF",
+        serves: "ELSIF tests a second condition",
+    },
+    Foreign {
+        words: "AND_THEN OR_ELSE XNOR",
+        serves: "AND, OR, XOR and NOT join conditions",
+    },
+    Foreign {
+        words: "SET",
+        serves: "a step sets and resets by the qualifiers S and R: Valve(S), Valve(R); a body assigns: Valve := TRUE;",
     },
     Foreign {
         words: "FUNCTION END_FUNCTION FUNCTION_BLOCK END_FUNCTION_BLOCK METHOD",

@@ -3,21 +3,27 @@
 //!
 //! - `surroundings`: which element a place lies in; `describe`: elements in words.
 //! - `notes`: lines with what is told of a fault that loading finds.
-//! - `mending`: what mends a typical fault of a text that can't be read; `foreign`: words that mean something elsewhere, and what
-//!   serves in their place.
+//! - `mending`: what mends a typical fault of a text that can't be read, at a token that is `misplaced`: by `signs` and by words that
+//!   are `foreign`, by the `forms` of elements, by `blocks`, and by `reserved` words that are near.
 //! - `candidates`, `near`: declared names that may be meant.
 //! - `short_front`, `trial`, `expected`: what could stand at a place.
-//! - `writing`: text that is put together.
+//! - `hints`: what is told of a fault; `writing`: text that is put together.
 #![tactic(auto)]
 
+mod blocks;
 pub mod candidates;
 pub mod describe;
 pub mod expected;
 pub mod foreign;
+mod forms;
+pub mod hints;
 pub mod mending;
+pub mod misplaced;
 pub mod near;
 pub mod notes;
+mod reserved;
 pub mod short_front;
+mod signs;
 pub mod surroundings;
 pub mod trial;
 pub mod writing;

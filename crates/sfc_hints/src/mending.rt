@@ -1,18 +1,20 @@
 //! What mends a text that can't be read, where the fault is a typical one. The one error of each call is that memory was refused.
 
+use crate::blocks::{is_before_name, is_last_word, last_word, open_block};
 use crate::foreign::{is_among, serving};
+use crate::hints::Hints;
+use crate::misplaced::Misplaced;
+use crate::signs::{pairs, sign_mending, word_mending};
 use crate::surroundings::element_before;
-use crate::trial::{Goal, Outcome, try_front};
+use crate::trial::Goal;
 use crate::writing::add_line;
 use sfc_base::delimiter::Delimiter;
 use sfc_base::keyword::Keyword;
 use sfc_events::read_error::ReadErrorKind;
 use sfc_page::append::append_number;
-use sfc_places::chart_text::ChartText;
 use sfc_places::finding::Element;
 use sfc_places::marks::{Mark, behind, is_at, keyword_at, line_at, spelling_at};
-use sfc_places::regions::{Region, configuration};
-use sfc_tokens::token::{Token, TokenKind};
+use sfc_tokens::token::TokenKind;
 use std::alloc::{AllocError, Global};
 
 /// The qualifiers that have a time.
@@ -21,157 +23,17 @@ const TIMED: &str = "L D SD DS SL";
 /// Those that have none.
 const TIMELESS: &str = "N R S P P0 P1";
 
-/// A token that can't stand where it does, and the text before it.
-#[derive(Clone, Copy)]
-pub struct Misplaced<'a> {
-    pub chart: ChartText<'a>,
-    /// Its place among the tokens; how many there are at the end of the text.
-    pub index: usize,
-    /// What the text is to be read as.
-    pub goal: Goal,
-    /// A front of the text before it, behind which may stand what may stand there.
-    pub front: &'a [u8],
-}
-
-// The word that ends the block that this one begins; None where it begins none.
-fn last_word(first: Keyword) -> Option<&'static str> {
-    match first {
-        Keyword::If => Some("END_IF"),
-        Keyword::Step | Keyword::InitialStep => Some("END_STEP"),
-        Keyword::Transition => Some("END_TRANSITION"),
-        Keyword::Action => Some("END_ACTION"),
-        Keyword::Var | Keyword::VarExternal | Keyword::VarGlobal => Some("END_VAR"),
-        Keyword::Program => Some("END_PROGRAM"),
-        Keyword::Resource => Some("END_RESOURCE"),
-        Keyword::Configuration => Some("END_CONFIGURATION"),
-        _ => None,
-    }
-}
-
-// Whether the word ends a block.
-fn is_last_word(word: Keyword) -> bool {
-    matches!(
-        word,
-        Keyword::EndIf
-            | Keyword::EndStep
-            | Keyword::EndTransition
-            | Keyword::EndAction
-            | Keyword::EndVar
-            | Keyword::EndProgram
-            | Keyword::EndResource
-            | Keyword::EndConfiguration
-    )
-}
-
-// Whether a name always stands behind the word, and seldom is left out.
-fn is_before_name(word: Keyword) -> bool {
-    matches!(
-        word,
-        Keyword::Step | Keyword::InitialStep | Keyword::Action | Keyword::Program | Keyword::Task
-    )
-}
-
-// Whether a block begins at the place. A program instance, which is declared in the configuration, is none.
-fn begins_block(tokens: &[Token], configured: Region, at: usize) -> bool {
-    match keyword_at(tokens, at) {
-        Some(Keyword::Program) => !configured.has(at),
-        Some(word) => last_word(word).is_some(),
-        None => false,
-    }
-}
-
-// The place of the first word of the innermost block that is open before a place.
-fn open_block(tokens: &[Token], before: usize) -> Option<usize> {
-    let configured = configuration(tokens);
-    let mut closed = 0usize;
-    for at in (0..before).rev() {
-        let ends = matches!(keyword_at(tokens, at), Some(word) if is_last_word(word));
-        if ends {
-            closed = closed.saturating_add(1);
-        } else if begins_block(tokens, configured, at) {
-            if closed == 0 {
-                return Some(at);
-            }
-            closed -= 1;
-        }
-    }
-    None
-}
-
-// How often the two bytes stand there, one behind the other.
-fn pairs(bytes: &[u8], first: u8, second: u8) -> usize {
-    let mut count = 0usize;
-    for at in 0..bytes.len() {
-        if bytes.get(at) == Some(&first) && bytes.get(behind(at, 1)) == Some(&second) {
-            count = count.saturating_add(1);
-        }
-    }
-    count
-}
-
-// What mends a sign that isn't one here, by the bytes from it on and the one before it.
-fn sign_mending(before: Option<u8>, bytes: &[u8]) -> Option<&'static str> {
-    match (before, bytes) {
-        (_, [b'/', b'/', ..]) | (Some(b'/'), [b'/', ..]) => Some("a comment stands in (* *)"),
-        (_, [b'*', b')', ..]) => Some("a comment in a comment ends both with its *)"),
-        (_, [b'=', b'=', ..]) | (Some(b'='), [b'=', ..]) => Some("= compares, and := assigns"),
-        (_, [b'&', b'&', ..]) | (Some(b'&'), [b'&', ..]) => Some("AND joins conditions"),
-        (Some(b'='), [b'>', ..]) => Some(">= says that the left one is as great, or greater"),
-        (Some(b'='), [b'<', ..]) => Some("<= says that the left one is as small, or smaller"),
-        (Some(b'>'), [b'<', ..]) => Some("<> says that two are not equal"),
-        _ => step_mending(before, bytes),
-    }
-}
-
-// What mends += and ++, and what is like them.
-fn step_mending(before: Option<u8>, bytes: &[u8]) -> Option<&'static str> {
-    match (before, bytes) {
-        (_, [b'+' | b'-', b'=', ..]) | (_, [b'+', b'+', ..]) | (Some(b'+'), [b'+', ..]) => {
-            Some("a variable is named again: Parts := Parts + 1;")
-        }
-        _ => None,
-    }
-}
-
-// What mends bytes at which no token begins.
-fn byte_mending(bytes: &[u8]) -> Option<&'static str> {
-    match bytes {
-        [b'!', b'=', ..] => Some("<> says that two are not equal"),
-        [b'!', ..] => Some("NOT turns a condition round"),
-        [b'|', ..] => Some("OR joins conditions"),
-        [b'\'' | b'"', ..] => Some("there are no texts in quotes"),
-        [b'[' | b']', ..] => Some("there are no arrays: a variable for each place serves"),
-        [b'(', b'*', ..] => Some("*) ends this comment, and stands nowhere behind it"),
-        [b'{', ..] => Some("} ends this pragma, and stands nowhere behind it"),
-        _ => None,
-    }
-}
-
-// Whether an underscore of the word stands at its end, or beside another one.
-fn has_loose_underscore(word: &[u8]) -> bool {
-    pairs(word, b'_', b'_') > 0 || word.last() == Some(&b'_')
-}
-
-// What mends a number that ends with a letter.
-fn number_mending(word: &[u8]) -> Option<&'static str> {
-    match word.last() {
-        Some(last) if last.is_ascii_alphabetic() => Some("a time begins with T#: T#2s"),
-        _ => None,
-    }
-}
-
-// What mends a word, or a literal, that is none, by its bytes and by those from it on.
-fn word_mending(kind: ReadErrorKind, word: &[u8], bytes: &[u8]) -> Option<&'static str> {
-    match kind {
-        ReadErrorKind::BadDuration => Some(
-            "a duration has d, h, m, s and ms in this order, the last number maybe with a point, and nothing finer than 0.001ms: T#1m_30s, T#0.5ms",
-        ),
-        ReadErrorKind::BadNumber => number_mending(word),
-        ReadErrorKind::BadToken if has_loose_underscore(word) => {
-            Some("an underscore stands alone, between letters and digits")
-        }
-        ReadErrorKind::BadToken => byte_mending(bytes),
-        _ => None,
+// A word that ends a block, as it is put before a token.
+fn put_word(word: &str) -> &'static [u8] {
+    match word.as_bytes() {
+        b"END_IF" => b"END_IF; ",
+        b"END_STEP" => b"END_STEP ",
+        b"END_TRANSITION" => b"END_TRANSITION ",
+        b"END_ACTION" => b"END_ACTION ",
+        b"END_VAR" => b"END_VAR ",
+        b"END_PROGRAM" => b"END_PROGRAM ",
+        b"END_RESOURCE" => b"END_RESOURCE ",
+        _ => b"END_CONFIGURATION ",
     }
 }
 
@@ -195,67 +57,7 @@ pub fn add_byte_mending(
     }
 }
 
-impl<'a> Misplaced<'a> {
-    // The place of the token before it, and the one of the token before that.
-    fn back(&self, count: usize) -> Option<usize> {
-        self.index.checked_sub(count)
-    }
-
-    // Whether such a token stands so many places before it.
-    fn has_before(&self, count: usize, mark: Mark) -> bool {
-        match self.back(count) {
-            Some(at) => is_at(self.chart.tokens, at, mark),
-            None => false,
-        }
-    }
-
-    // The name so many places before it; nothing where none stands there.
-    fn name_before(&self, count: usize) -> &'a [u8] {
-        match self.back(count) {
-            Some(at) => spelling_at(self.chart.tokens, at),
-            None => b"",
-        }
-    }
-
-    // Whether it is such a token.
-    fn is(&self, mark: Mark) -> bool {
-        is_at(self.chart.tokens, self.index, mark)
-    }
-
-    // The byte at which it begins.
-    fn from(&self) -> usize {
-        match self.chart.spans.get(self.index) {
-            Some(span) => span.from,
-            None => self.chart.text.len(),
-        }
-    }
-
-    // Its bytes.
-    fn bytes(&self) -> &'a [u8] {
-        match self.chart.spans.get(self.index) {
-            Some(span) => self.chart.text.get(span.from..span.to).unwrap_or(b""),
-            None => b"",
-        }
-    }
-
-    // The bytes between the token before it and it.
-    fn gap(&self) -> &'a [u8] {
-        let begin = match self.back(1) {
-            Some(at) => match self.chart.spans.get(at) {
-                Some(span) => span.to,
-                None => 0,
-            },
-            None => 0,
-        };
-        self.chart.text.get(begin..self.from()).unwrap_or(b"")
-    }
-
-    // Whether this may stand in its place.
-    fn takes(&self, alloc: Global, more: &str) -> Result<bool, AllocError> {
-        let outcome = try_front(alloc, self.goal, self.front, more.as_bytes())?;
-        Ok(outcome != Outcome::Wrong)
-    }
-
+impl Misplaced<'_> {
     // What mends a sign.
     fn of_sign(&self) -> Option<&'static str> {
         let from = self.from();
@@ -268,6 +70,11 @@ impl<'a> Misplaced<'a> {
 
     // What mends an assignment that compares, and a comparison that assigns.
     fn of_equal(&self, alloc: Global) -> Result<Option<&'static str>, AllocError> {
+        let next = behind(self.index, 1);
+        let is_parted = is_at(self.chart.tokens, next, Mark::Sign(Delimiter::Equal));
+        if self.is(Mark::Sign(Delimiter::Colon)) && is_parted {
+            return Ok(Some(":= is one sign, without a blank in it"));
+        }
         if self.is(Mark::Sign(Delimiter::Equal)) && self.takes(alloc, ":=")? {
             return Ok(Some(":= assigns"));
         }
@@ -296,25 +103,42 @@ impl<'a> Misplaced<'a> {
         if self.is_number() && self.takes(alloc, "T#1s")? && !self.takes(alloc, "1")? {
             return Ok(Some("T#2s is a time of two seconds"));
         }
+        if self.is(Mark::Sign(Delimiter::Dot)) && self.is_number_at(self.back(1)) {
+            return Ok(serving(b"REAL"));
+        }
         if self.is(Mark::Sign(Delimiter::Colon)) && self.takes(alloc, ":=")? {
             return Ok(Some(":= stands before a condition"));
         }
         Ok(None)
     }
 
-    // Whether it is an integer.
-    fn is_number(&self) -> bool {
-        match self.chart.tokens.get(self.index) {
-            Some(token) => matches!(token.kind, TokenKind::Integer(_)),
+    // Whether what stands before it may end there: a name, a literal or a sign ).
+    fn is_behind_value(&self) -> bool {
+        match self.back(1).and_then(|at| self.chart.tokens.get(at)) {
+            Some(token) => match &token.kind {
+                TokenKind::Keyword(word) => matches!(
+                    word,
+                    Keyword::Bool | Keyword::Int | Keyword::Dint | Keyword::Time
+                ),
+                TokenKind::Delimiter(sign) => *sign == Delimiter::Close,
+                _ => true,
+            },
             None => false,
         }
     }
 
-    // What mends a statement that isn't ended, where another one begins on a line of its own.
+    // What mends a statement or a declaration that isn't ended, where another one begins on a line of its own, or a block begins or ends.
     fn of_end(&self, alloc: Global) -> Result<Option<&'static str>, AllocError> {
         let begins = self.is(Mark::Name) || self.is(Mark::Keyword(Keyword::If));
         if begins && pairs(self.gap(), b'\n', b' ') > 0 && self.takes(alloc, ";")? {
             return Ok(Some("; ends the statement before it"));
+        }
+        if self.keyword().is_some()
+            && self.is_at_edge()
+            && self.is_behind_value()
+            && self.takes(alloc, ";")?
+        {
+            return Ok(Some("; ends what stands before it"));
         }
         Ok(None)
     }
@@ -339,21 +163,29 @@ impl<'a> Misplaced<'a> {
         None
     }
 
-    // What mends it in words that don't depend on the text, if that is known.
-    fn in_words(&self, alloc: Global) -> Result<Option<&'static str>, AllocError> {
+    // What mends a sign, a comment or a word of another language.
+    fn of_other_language(&self, alloc: Global) -> Result<Option<&'static str>, AllocError> {
         if let Some(mend) = self.of_comment().or(self.of_sign()) {
             return Ok(Some(mend));
         }
-        if let Some(mend) = self.of_equal(alloc)? {
-            return Ok(Some(mend));
+        match self.of_equal(alloc)? {
+            Some(mend) => Ok(Some(mend)),
+            None => Ok(self.of_word()),
         }
-        if let Some(mend) = self.of_word().or(self.of_task()).or(self.of_call()) {
-            return Ok(Some(mend));
-        }
+    }
+
+    // What mends it in words that don't depend on the text, if that is known.
+    fn in_words(&self, alloc: Global) -> Result<Option<&'static str>, AllocError> {
         if let Some(mend) = self.of_literal(alloc)? {
             return Ok(Some(mend));
         }
-        self.of_end(alloc)
+        if let Some(mend) = self.of_end(alloc)? {
+            return Ok(Some(mend));
+        }
+        match self.of_form(alloc)? {
+            Some(mend) => Ok(Some(mend)),
+            None => Ok(self.of_task().or(self.of_call())),
+        }
     }
 
     // Whether it ends an association whose qualifier, so many places before it, is one of these.
@@ -434,18 +266,38 @@ impl<'a> Misplaced<'a> {
         }
     }
 
-    // Adds which word is missing that ends a block, and where the block begins; whether one is.
-    fn add_missing_end(&self, alloc: Global, told: &mut Vec<u8>) -> Result<bool, AllocError> {
+    // The place of the first word of the innermost block that is open, and the word that ends it, where that is missing.
+    fn missing_end(&self, alloc: Global) -> Result<Option<(usize, &'static str)>, AllocError> {
         let tokens = self.chart.tokens;
         let Some(begin) = open_block(tokens, self.index) else {
-            return Ok(false);
+            return Ok(None);
         };
         let Some(word) = keyword_at(tokens, begin).and_then(last_word) else {
-            return Ok(false);
+            return Ok(None);
         };
         if !self.is_at_edge() || !self.takes(alloc, word)? {
-            return Ok(false);
+            return Ok(None);
         }
+        Ok(Some((begin, word)))
+    }
+
+    /// What is missing before it, where that is a semicolon or a word that ends a block: as it is put there, with a blank behind it. The one
+    /// error is that memory was refused.
+    pub fn missing(&self, alloc: Global) -> Result<Option<&'static [u8]>, AllocError> {
+        if self.of_end(alloc)?.is_some() {
+            return Ok(Some(b"; "));
+        }
+        match self.missing_end(alloc)? {
+            Some((_, word)) => Ok(Some(put_word(word))),
+            None => Ok(None),
+        }
+    }
+
+    // Adds which word is missing that ends a block, and where the block begins; whether one is.
+    fn add_missing_end(&self, alloc: Global, told: &mut Vec<u8>) -> Result<bool, AllocError> {
+        let Some((begin, word)) = self.missing_end(alloc)? else {
+            return Ok(false);
+        };
         told.extend_from_slice(b"  mend: ")?;
         told.extend_from_slice(word.as_bytes())?;
         told.extend_from_slice(b" is missing, for the block that begins on line ")?;
@@ -454,15 +306,53 @@ impl<'a> Misplaced<'a> {
         Ok(true)
     }
 
-    /// Adds a line with what mends it, if that is known.
-    pub fn add_mending(&self, alloc: Global, told: &mut Vec<u8>) -> Result<(), AllocError> {
-        if let Some(mend) = self.in_words(alloc)? {
-            return add_mend(told, mend);
+    // Adds which reserved word may be meant; whether one is near.
+    fn add_near_reserved(&self, alloc: Global, told: &mut Hints) -> Result<bool, AllocError> {
+        let Some(word) = self.near_reserved(alloc)? else {
+            return Ok(false);
+        };
+        told.keep_near(alloc, word.as_bytes())?;
+        told.lines.extend_from_slice(b"  mend: ")?;
+        told.lines.extend_from_slice(word.as_bytes())?;
+        add_line(&mut told.lines, b" may be meant")?;
+        Ok(true)
+    }
+
+    // Adds which reserved word two words are together; whether they are one.
+    fn add_one_word(&self, alloc: Global, told: &mut Hints) -> Result<bool, AllocError> {
+        let Some(word) = self.one_word(alloc)? else {
+            return Ok(false);
+        };
+        told.keep_near(alloc, word.as_bytes())?;
+        told.lines.extend_from_slice(b"  mend: ")?;
+        told.lines.extend_from_slice(word.as_bytes())?;
+        add_line(&mut told.lines, b" is one word")?;
+        Ok(true)
+    }
+
+    // Adds what mends it by the text; whether that is known.
+    fn add_by_text(&self, alloc: Global, told: &mut Vec<u8>) -> Result<bool, AllocError> {
+        Ok(
+            self.add_qualifier(told)?
+                || self.add_reserved(alloc, told)?
+                || self.add_missing_end(alloc, told)?,
+        )
+    }
+
+    /// Adds a line with what mends it, if that is known, and keeps the reserved word that may be meant.
+    pub fn add_mending(&self, alloc: Global, told: &mut Hints) -> Result<(), AllocError> {
+        if let Some(mend) = self.of_other_language(alloc)? {
+            return add_mend(&mut told.lines, mend);
         }
-        if self.add_qualifier(told)? || self.add_reserved(alloc, told)? {
+        if self.add_one_word(alloc, told)? {
             return Ok(());
         }
-        self.add_missing_end(alloc, told)?;
+        if let Some(mend) = self.in_words(alloc)? {
+            return add_mend(&mut told.lines, mend);
+        }
+        if !self.add_by_text(alloc, &mut told.lines)? {
+            self.add_near_reserved(alloc, told)?;
+        }
         Ok(())
     }
 }

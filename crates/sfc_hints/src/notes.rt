@@ -2,6 +2,7 @@
 
 use crate::candidates::candidates;
 use crate::describe::{add_declared, add_element, add_part};
+use crate::hints::Hints;
 use crate::near::nearest;
 use crate::writing::{add_joint, add_line};
 use sfc_base::location::Size;
@@ -30,34 +31,44 @@ pub fn add_in(
     told.extend_from_slice(b"\n")
 }
 
+/// Adds a line with those of the names that are near to one that isn't found, if there are any, and keeps the nearest, unless that is as far
+/// as the name is long. The one error is that memory was refused.
+pub fn add_nearest(
+    alloc: Global,
+    told: &mut Hints,
+    chart: &ChartText<'_>,
+    wanted: &[u8],
+    names: &[Declared],
+) -> Result<(), AllocError> {
+    let tokens = chart.tokens;
+    let found = nearest(alloc, tokens, wanted, names)?;
+    if found.is_empty() {
+        return Ok(());
+    }
+    told.lines.extend_from_slice(b"  declared nearby: ")?;
+    let mut place = 0usize;
+    for near in found.as_slice() {
+        if near.distance < wanted.len() {
+            told.keep_near(alloc, spelling_at(tokens, near.declared.token))?;
+        }
+        add_joint(&mut told.lines, place, 0)?;
+        let line = line_at(chart, near.declared.token);
+        add_declared(&mut told.lines, tokens, near.declared, line)?;
+        place = place.saturating_add(1);
+    }
+    told.lines.extend_from_slice(b"\n")
+}
+
 // Adds a line with the declared names that are near to one that isn't found, if there are any.
 fn add_near(
     alloc: Global,
-    told: &mut Vec<u8>,
+    told: &mut Hints,
     text: &TreeText<'_>,
     wanted: &[u8],
     sort: Sort,
 ) -> Result<(), AllocError> {
-    let chart = text.chart;
-    let tokens = chart.tokens;
     let names = candidates(alloc, text, sort)?;
-    let found = nearest(alloc, tokens, wanted, &names)?;
-    if found.is_empty() {
-        return Ok(());
-    }
-    told.extend_from_slice(b"  declared nearby: ")?;
-    let mut place = 0usize;
-    for near in found.as_slice() {
-        add_joint(told, place, 0)?;
-        add_declared(
-            told,
-            tokens,
-            near.declared,
-            line_at(chart, near.declared.token),
-        )?;
-        place = place.saturating_add(1);
-    }
-    told.extend_from_slice(b"\n")
+    add_nearest(alloc, told, text.chart, wanted, &names)
 }
 
 // The step of this name in any program type, and the name of that type.
@@ -96,6 +107,26 @@ fn add_elsewhere(
     told.extend_from_slice(b" (line ")?;
     append_number(told, u64::from(line_at(chart, step.token)))?;
     add_line(told, b"), and a transition joins steps of one program type")
+}
+
+// Adds a line of how a step is asked, where a variable is wanted and a step of this name is there.
+fn add_step_flag(
+    alloc: Global,
+    told: &mut Vec<u8>,
+    text: &TreeText<'_>,
+    wanted: &[u8],
+    sort: Sort,
+) -> Result<(), AllocError> {
+    let Sort::Variables { program } = sort else {
+        return Ok(());
+    };
+    let steps = candidates(alloc, text, Sort::Steps { program })?;
+    if first_of(text.chart, &steps, wanted).is_none() {
+        return Ok(());
+    }
+    told.extend_from_slice(b"  mend: ")?;
+    told.extend_from_slice(wanted)?;
+    add_line(told, b".X says whether this step is active")
 }
 
 // Adds a line with the first one of a name.
@@ -208,19 +239,35 @@ fn add_count(told: &mut Vec<u8>, found: usize, most: usize) -> Result<(), AllocE
 /// Adds lines with the details of a fault at a word, over the chart. The one error is that memory was refused.
 pub fn add_detail(
     alloc: Global,
-    told: &mut Vec<u8>,
+    told: &mut Hints,
     text: &TreeText<'_>,
     word: &[u8],
     detail: Detail,
 ) -> Result<(), AllocError> {
-    let chart = text.chart;
+    if let Detail::Missing(sort) = detail {
+        add_near(alloc, told, text, word, sort)?;
+        add_step_flag(alloc, &mut told.lines, text, word, sort)?;
+        return add_elsewhere(alloc, &mut told.lines, text, word, sort);
+    }
+    add_lines(&mut told.lines, text.chart, word, detail)
+}
+
+// The same of a fault that isn't of a name that is missing.
+fn add_lines(
+    told: &mut Vec<u8>,
+    chart: &ChartText<'_>,
+    word: &[u8],
+    detail: Detail,
+) -> Result<(), AllocError> {
     match detail {
-        Detail::Nothing => Ok(()),
-        Detail::Missing(sort) => {
-            add_near(alloc, told, text, word, sort)?;
-            add_elsewhere(alloc, told, text, word, sort)
+        Detail::Nothing | Detail::Missing(_) => Ok(()),
+        Detail::MissingPart => {
+            add_line(told, b"  expected: X, T or Q")?;
+            add_line(
+                told,
+                b"  mend: Fill.X says whether step Fill is active, Fill.T for how long",
+            )
         }
-        Detail::MissingPart => add_line(told, b"  expected: X, T or Q"),
         Detail::OutsideAction => add_line(told, b"  wanted: the action in whose body it stands"),
         Detail::NoWith => add_line(told, b"  expected: WITH and the name of a task"),
         Detail::First(first) => add_first(told, chart, first),
@@ -242,12 +289,12 @@ pub fn add_detail(
 /// memory was refused.
 pub fn add_finding(
     alloc: Global,
-    told: &mut Vec<u8>,
+    told: &mut Hints,
     text: &TreeText<'_>,
     finding: Finding,
 ) -> Result<(), AllocError> {
     let chart = text.chart;
-    add_in(told, chart.tokens, finding.element, finding.part)?;
+    add_in(&mut told.lines, chart.tokens, finding.element, finding.part)?;
     let word = match chart.spans.get(finding.token) {
         Some(span) => chart.text.get(span.from..span.to).unwrap_or(b""),
         None => b"",

@@ -172,6 +172,17 @@ pub fn actions_of(
     Ok(space)
 }
 
+/// The transitions of a program type that have a name. The one error is that memory was refused.
+pub fn transitions_of(
+    alloc: Global,
+    chart: &ChartText<'_>,
+    program: &Program,
+) -> Result<Vec<Declared>, AllocError> {
+    let mut space = Vec::new(alloc);
+    add_transitions(chart, program.elements.as_slice(), &mut space)?;
+    Ok(space)
+}
+
 /// The names of a program type's own: variables, steps, actions, transitions. The one error is that memory was refused.
 pub fn own_of(
     alloc: Global,

@@ -2,3 +2,5 @@
 
 -- writes one after the other
 pub mod Put
+-- reports in the order of the text
+pub mod Rising

@@ -11,7 +11,7 @@ ghost use Rattle.sfc_events.specs.declared.load_error.LoadError.TheVariants as l
 ghost use Rattle.sfc_why.specs.declared.report.Fault.TheVariants.{Reading, Loading};
 
 use crate::place::{Place, token_place};
-use crate::reading::reading_fault;
+use crate::reading::{ReadingFault, reading_fault};
 use crate::report::{Fault, Report, report_at};
 use crate::sfc_load::load::load_with_place;
 use crate::sfc_places::by_tree::finding_of;
@@ -22,6 +22,7 @@ use crate::sfc_places::span::spans_of;
 use crate::sfc_places::tree_text::TreeText;
 use sfc_events::load_error::LoadError;
 use sfc_events::read_error::{ReadError, ReadErrorKind};
+use sfc_hints::hints::Hints;
 use sfc_hints::notes::add_finding;
 use sfc_hints::trial::Goal;
 use sfc_plant::plant::Plant;
@@ -59,7 +60,10 @@ fn refused_by_reader(
 {
     let fault = reading_fault(alloc, Goal::Chart, text, error)?;
     let refusal = Fault::Reading(error.value().kind);
-    report_at(alloc, text, refusal, fault.place, &fault.lines)
+    let ReadingFault { place, told } = fault;
+    let report = report_at(alloc, text, refusal, place, &told.lines)?;
+    let Hints { lines: _, near } = told;
+    Ok(report.with_near(near))
 }
 
 // A fault of a text that the reader refuses.
@@ -83,7 +87,7 @@ fn found_at(
     alloc: Global,
     text: &TreeText<'_>,
     finding: Finding,
-    lines: &mut Vec<u8>,
+    told: &mut Hints,
 ) -> Result<Place, AllocError>
     requires { TextLexes text.now.chart.now.text.now (Ok (kinds text.now.chart.now.tokens.now)) }
     ensures { IfOk result (IsPlaceOf text.now.chart.now.text.now) }
@@ -92,7 +96,7 @@ fn found_at(
     let Some(span) = chart.spans.get(finding.token) else {
         return Ok(Place::Whole);
     };
-    add_finding(alloc, lines, text, finding)?;
+    add_finding(alloc, told, text, finding)?;
     token_place(alloc, chart.text, chart.tokens, finding.token, *span)
 }
 
@@ -102,14 +106,14 @@ fn loading_fault(
     chart: &ChartText<'_>,
     source: &Source,
     fault: &PlacedLoadError,
-    lines: &mut Vec<u8>,
+    told: &mut Hints,
 ) -> Result<Place, AllocError>
     requires { TextLexes chart.now.text.now (Ok (kinds chart.now.tokens.now)) }
     ensures { IfOk result (IsPlaceOf chart.now.text.now) }
 {
     let text = TreeText { chart, source };
     match finding_of(alloc, &text, fault)? {
-        Some(finding) => found_at(alloc, &text, finding, lines),
+        Some(finding) => found_at(alloc, &text, finding, told),
         None => Ok(Place::Whole),
     }
 }
@@ -120,7 +124,7 @@ fn loading_place(
     text: &[u8],
     source: &Source,
     fault: &PlacedLoadError,
-    lines: &mut Vec<u8>,
+    told: &mut Hints,
 ) -> Result<Place, AllocError>
     ensures { IfOk result (IsPlaceOf text.now) }
 {
@@ -132,7 +136,7 @@ fn loading_place(
                 tokens: found.as_slice(),
                 spans: spans.as_slice(),
             };
-            loading_fault(alloc, &chart, source, fault, lines)
+            loading_fault(alloc, &chart, source, fault, told)
         }
         Err(error) if error.kind == ReadErrorKind::Memory => Err(AllocError),
         Err(_) => Ok(Place::Whole),
@@ -148,9 +152,17 @@ fn refused_by_loader(
 ) -> Result<Report, AllocError>
     ensures { IfOk result (IsReportFor text.now (Loading fault.now)) }
 {
-    let mut lines = Vec::new(alloc);
-    let place = loading_place(alloc, text, source, fault, &mut lines)?;
-    report_at(alloc, text, Fault::Loading(fault.error()), place, &lines)
+    let mut told = Hints::new(alloc);
+    let place = loading_place(alloc, text, source, fault, &mut told)?;
+    let report = report_at(
+        alloc,
+        text,
+        Fault::Loading(fault.error()),
+        place,
+        &told.lines,
+    )?;
+    let Hints { lines: _, near } = told;
+    Ok(report.with_near(near))
 }
 
 // A fault of a text that loading refuses, unless memory was refused.

@@ -2,20 +2,31 @@
 //! there or was meant, what the refusal means and what usually leads to it.
 //!
 //! - `chart`: why a chart is refused; `reading`: where it can't be read.
-//! - `script`: why a script is refused; `words`, `command_line`: the words of a line, and which of them makes it faulty.
+//! - `all`: all faults of a chart; `search`: those behind the first one, in a text that is `mended`, by `pieces` that are taken out or
+//!   changed as `repair` says; `lost`: names that went with them.
+//! - `script`: why a script is refused; `words`: the words of a line; `commands`: the words that begin commands;
+//!   `naming`, `warning`: names in it that the chart hasn't.
 //! - `report`: what is told of a fault; `page`: a report as text.
 //! - `place`: where in a text a fault is; `position`: lines and columns; `source_line`: a line with a mark.
 #![tactic(auto)]
 
+pub mod all;
 pub mod chart;
-mod command_line;
+mod commands;
+mod lost;
+mod mended;
+mod naming;
 pub mod page;
+mod pieces;
 pub mod place;
 pub mod position;
 mod reading;
+mod repair;
 pub mod report;
 pub mod script;
+mod search;
 mod source_line;
+mod warning;
 mod words;
 
 // What the crates above name through this one.

@@ -9,9 +9,10 @@ use crate::position::Position;
 use crate::report::{Fault, Report};
 use sfc_base::write_fault::{WriteFault, put_all};
 use sfc_events::load_error::{Limit, LoadError};
+use sfc_events::refusal::Refusal;
 use sfc_explain::explanation::Explanation;
 use sfc_explain::finding::find;
-use sfc_explain::table::{faults, of_charts};
+use sfc_explain::table::{faults, of_charts, of_commands};
 use sfc_page::time_text::put_decimal;
 use std::io::Write;
 
@@ -22,8 +23,10 @@ enum Piece {
     Colon,
     /// A colon and a blank.
     Behind,
+    Near,
     LineEnd,
     ScriptLine,
+    Warning,
     Meaning,
     Cause,
 }
@@ -37,8 +40,10 @@ fn piece_text(piece: Piece) -> &'static [u8]
         Piece::Blank => b" ",
         Piece::Colon => b":",
         Piece::Behind => b": ",
+        Piece::Near => b"; near: ",
         Piece::LineEnd => b"\n",
         Piece::ScriptLine => b"script line ",
+        Piece::Warning => b"warning ",
         Piece::Meaning => b"  meaning: ",
         Piece::Cause => b"  usual cause: ",
     }
@@ -91,6 +96,15 @@ fn put_script<W: Write>(line: usize, writer: &mut W) -> Result<(), WriteFault>
     put_decimal(line as u64, writer)
 }
 
+// Writes for what a command will be refused.
+#[tactic(auto, unfolding(crate::specs::Pages::warning_text), using(crate::proofs::Put::then_writes, crate::proofs::Put::front_first))]
+fn put_warning<W: Write>(refusal: Refusal, writer: &mut W) -> Result<(), WriteFault>
+    ensures { Writes (W.contents writer.old) (W.contents writer.new) result (text.warning_text refusal) }
+{
+    put_all(writer, piece_text(Piece::Warning))?;
+    put_numbered(refusal.number(), refusal.name(), writer)
+}
+
 // Writes what a chart or a script is refused for.
 fn put_refusal<W: Write>(refusal: Fault, writer: &mut W) -> Result<(), WriteFault>
     ensures { Writes (W.contents writer.old) (W.contents writer.new) result (text.refusal_text refusal) }
@@ -99,6 +113,7 @@ fn put_refusal<W: Write>(refusal: Fault, writer: &mut W) -> Result<(), WriteFaul
         Fault::Reading(kind) => put_numbered(kind.number(), kind.name(), writer),
         Fault::Loading(error) => put_loading(error, writer),
         Fault::Script(line) => put_script(line, writer),
+        Fault::Warning(refusal) => put_warning(refusal, writer),
     }
 }
 
@@ -129,14 +144,42 @@ fn put_refused<W: Write>(refusal: Fault, writer: &mut W) -> Result<(), WriteFaul
     put_refusal(refusal, writer)
 }
 
-// Writes the word, behind a colon.
+// Writes what may be meant.
+#[tactic(auto, unfolding(crate::specs::Pages::meant), using(crate::proofs::Put::then_writes, crate::proofs::Put::front_first))]
+fn put_meant<W: Write>(near: &[u8], writer: &mut W) -> Result<(), WriteFault>
+    ensures { Writes (W.contents writer.old) (W.contents writer.new) result (text.meant near.now) }
+{
+    put_all(writer, piece_text(Piece::Near))?;
+    put_all(writer, near)
+}
+
+// Writes what may be meant, where that is known.
+fn put_near<W: Write>(report: &Report, writer: &mut W) -> Result<(), WriteFault>
+    ensures { Writes (W.contents writer.old) (W.contents writer.new) result (text.near_text report.now.near) }
+{
+    match &report.near {
+        Some(near) => put_meant(near, writer),
+        None => Ok(()),
+    }
+}
+
+// Writes what may be meant, and the end of the line.
+#[tactic(auto, unfolding(crate::specs::Pages::end_text), using(crate::proofs::Put::then_writes, crate::proofs::Put::front_first))]
+fn put_end<W: Write>(report: &Report, writer: &mut W) -> Result<(), WriteFault>
+    ensures { Writes (W.contents writer.old) (W.contents writer.new) result (text.end_text report.now) }
+{
+    put_near(report, writer)?;
+    put_all(writer, piece_text(Piece::LineEnd))
+}
+
+// Writes the word behind a colon, and what may be meant.
 #[tactic(auto, unfolding(crate::specs::Pages::word_text), using(crate::proofs::Put::then_writes, crate::proofs::Put::front_first))]
-fn put_word<W: Write>(word: &[u8], writer: &mut W) -> Result<(), WriteFault>
-    ensures { Writes (W.contents writer.old) (W.contents writer.new) result (text.word_text word.now) }
+fn put_word<W: Write>(report: &Report, writer: &mut W) -> Result<(), WriteFault>
+    ensures { Writes (W.contents writer.old) (W.contents writer.new) result (text.word_text report.now) }
 {
     put_all(writer, piece_text(Piece::Behind))?;
-    put_all(writer, word)?;
-    put_all(writer, piece_text(Piece::LineEnd))
+    put_all(writer, &report.word)?;
+    put_end(report, writer)
 }
 
 // Writes what stands behind the place in the first line.
@@ -145,7 +188,7 @@ fn put_told<W: Write>(report: &Report, writer: &mut W) -> Result<(), WriteFault>
     ensures { Writes (W.contents writer.old) (W.contents writer.new) result (text.told_text report.now) }
 {
     put_refused(report.refusal, writer)?;
-    put_word(&report.word, writer)
+    put_word(report, writer)
 }
 
 // Writes the first line.
@@ -165,6 +208,13 @@ fn explanation_by_number(number: u8) -> Option<&'static Explanation>
     find(&[of_charts()], Some(number), b"")
 }
 
+// The explanation of a refusal of commands with this number.
+fn explanation_of_command(number: u8) -> Option<&'static Explanation>
+    ensures { IfSome result (λ explanation. is_numbered number explanation.now ≡ true) }
+{
+    find(&[of_commands()], Some(number), b"")
+}
+
 // The explanation of a fault with this name.
 fn explanation_by_name(name: &[u8]) -> Option<&'static Explanation>
     ensures { IfSome result (λ explanation. is_named name.now explanation.now ≡ true) }
@@ -180,6 +230,7 @@ pub fn explanation_of(refusal: Fault) -> Option<&'static Explanation>
         Fault::Reading(kind) => explanation_by_number(kind.number()),
         Fault::Loading(error) => explanation_by_number(error.number()),
         Fault::Script(_) => explanation_by_name(b"script line"),
+        Fault::Warning(refusal) => explanation_of_command(refusal.number()),
     }
 }
 

@@ -11,7 +11,9 @@ use crate::sfc_places::finding::Part;
 use crate::sfc_places::span::{Span, character_length, spans_of};
 use sfc_events::read_error::{ReadError, ReadErrorKind};
 use sfc_hints::expected::{Front, find_expected};
-use sfc_hints::mending::{Misplaced, add_byte_mending};
+use sfc_hints::hints::Hints;
+use sfc_hints::mending::add_byte_mending;
+use sfc_hints::misplaced::Misplaced;
 use sfc_hints::notes::add_in;
 use sfc_hints::short_front::{LONGEST, short_front};
 use sfc_hints::surroundings::element_before;
@@ -25,7 +27,7 @@ use std::alloc::{AllocError, Global};
 #[derive(Drop)]
 pub struct ReadingFault {
     pub place: Place,
-    pub lines: Vec<u8>,
+    pub told: Hints,
 }
 
 // Adds a line with the element that is open behind these bytes, which are tokens.
@@ -54,17 +56,17 @@ fn byte_fault(
 {
     let (index, span) = piece;
     let place = byte_place(alloc, text, index, span)?;
-    let mut lines = Vec::new(alloc);
+    let mut told = Hints::new(alloc);
     if let Goal::Chart = goal {
-        add_element_behind(alloc, text.get(..span.from).unwrap_or(b""), &mut lines)?;
+        add_element_behind(alloc, text.get(..span.from).unwrap_or(b""), &mut told.lines)?;
     }
     add_byte_mending(
-        &mut lines,
+        &mut told.lines,
         kind,
         text.get(span.from..span.to).unwrap_or(b""),
         text.get(span.from..).unwrap_or(b""),
     )?;
-    Ok(ReadingFault { place, lines })
+    Ok(ReadingFault { place, told })
 }
 
 // How many tokens the bytes are; 0 where they are none. The one error is that memory was refused.
@@ -172,10 +174,10 @@ fn add_expected_at(
     goal: Goal,
     chart: &ChartText<'_>,
     index: usize,
-    lines: &mut Vec<u8>,
+    told: &mut Hints,
 ) -> Result<(), AllocError> {
     let front = front_of(alloc, goal, chart, index)?;
-    add_expected(alloc, goal, &front, lines)?;
+    add_expected(alloc, goal, &front, &mut told.lines)?;
     if front.len() > LONGEST {
         return Ok(());
     }
@@ -185,26 +187,26 @@ fn add_expected_at(
         goal,
         front: &front,
     };
-    misplaced.add_mending(alloc, lines)
+    misplaced.add_mending(alloc, told)
 }
 
-// Lines of what is told of a token that can't stand there: the element, and what could.
-fn syntax_lines(
+// What is told of a token that can't stand there: the element, and what could.
+fn syntax_told(
     alloc: Global,
     goal: Goal,
     chart: &ChartText<'_>,
     index: usize,
     kind: ReadErrorKind,
-) -> Result<Vec<u8>, AllocError> {
-    let mut lines = Vec::new(alloc);
+) -> Result<Hints, AllocError> {
+    let mut told = Hints::new(alloc);
     if let Goal::Chart = goal {
         let element = element_before(chart.tokens, index);
-        add_in(&mut lines, chart.tokens, element, Part::Whole)?;
+        add_in(&mut told.lines, chart.tokens, element, Part::Whole)?;
     }
     if let ReadErrorKind::Syntax = kind {
-        add_expected_at(alloc, goal, chart, index, &mut lines)?;
+        add_expected_at(alloc, goal, chart, index, &mut told)?;
     }
-    Ok(lines)
+    Ok(told)
 }
 
 // Where a text is at fault whose tokens can't be read so, with what could stand there. The one error is that memory was refused.
@@ -219,8 +221,8 @@ fn syntax_fault(
 {
     let index = index_of(chart.tokens, Span::of(fault.span()).from);
     let place = place_at(alloc, chart, index)?;
-    let lines = syntax_lines(alloc, goal, chart, index, fault.value().kind)?;
-    Ok(ReadingFault { place, lines })
+    let told = syntax_told(alloc, goal, chart, index, fault.value().kind)?;
+    Ok(ReadingFault { place, told })
 }
 
 /// Where a text is at fault that can't be read so, by the reader's own place. The one error is that memory was refused.

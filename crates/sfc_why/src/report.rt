@@ -1,6 +1,6 @@
 //! What is told of a fault.
 
-ghost use Rattle.std.specs.Prelude.{IfOk};
+ghost use Rattle.std.specs.Prelude.{◌≡◌, IfOk};
 ghost use Rattle.sfc_why.specs.Telling.{IsReportAt};
 
 use crate::place::{Place, front_of};
@@ -8,6 +8,7 @@ use crate::position::{Position, position_behind};
 use crate::source_line::{add_source_line, told_word};
 use sfc_events::load_error::LoadError;
 use sfc_events::read_error::ReadErrorKind;
+use sfc_events::refusal::Refusal;
 use std::alloc::{AllocError, Global};
 
 /// Why a chart or a script is refused.
@@ -19,6 +20,8 @@ pub enum Fault {
     Loading(LoadError),
     /// A script, at this line, counted from 1, or for its length at 0.
     Script(usize),
+    /// A command of a script names what the chart hasn't: it is refused for this when it is played.
+    Warning(Refusal),
 }
 
 /// What is told of the first fault of a chart or a script.
@@ -30,6 +33,8 @@ pub struct Report {
     pub position: Position,
     /// The token, or in words what there is in its stead.
     pub word: Vec<u8>,
+    /// The name or the word that may be meant, if one is near.
+    pub near: Option<Vec<u8>>,
     /// The source line with marks, the element, and what else is told, in lines.
     pub lines: Vec<u8>,
 }
@@ -42,8 +47,35 @@ impl Drop for Report {
             place: _,
             position: _,
             word: _,
+            near: _,
             lines: _,
         } = self;
+    }
+}
+
+impl Report {
+    /// The report, with the name or the word that may be meant.
+    pub fn with_near(self, near: Option<Vec<u8>>) -> Report
+        ensures refusal { result.refusal ≡ self.refusal }
+        ensures place { result.place ≡ self.place }
+        ensures position { result.position ≡ self.position }
+    {
+        let Report {
+            refusal,
+            place,
+            position,
+            word,
+            near: _,
+            lines,
+        } = self;
+        Report {
+            refusal,
+            place,
+            position,
+            word,
+            near,
+            lines,
+        }
     }
 }
 
@@ -81,8 +113,8 @@ fn shown(
     Ok(lines)
 }
 
-/// A report of a fault at a place of a text; these lines are told behind the source line. The one error is that memory was
-/// refused.
+/// A report of a fault at a place of a text; these lines are told behind the source line, and nothing that may be meant. The one error is
+/// that memory was refused.
 pub fn report_at(
     alloc: Global,
     text: &[u8],
@@ -101,6 +133,7 @@ pub fn report_at(
         place,
         position,
         word,
+        near: None,
         lines,
     })
 }

@@ -3,9 +3,9 @@
 ghost use Rattle.std.specs.Prelude.{IfOk};
 ghost use Rattle.sfc_why.specs.Telling.{ExplainsScript, IsReportForScript};
 
-use crate::command_line::{CommandLine, LineFault, Wanted, near_commands};
+use crate::commands::near_commands;
 use crate::place::{Place, word_place};
-use crate::reading::reading_fault;
+use crate::reading::{ReadingFault, reading_fault};
 use crate::report::{Fault, Report, report_at};
 use crate::sfc_core::resource::Resource;
 use crate::sfc_load::scope::scope_of;
@@ -18,16 +18,20 @@ use crate::sfc_places::sfc_check::type_error::TypeError;
 use crate::sfc_places::spaces::program_named;
 use crate::sfc_places::span::{Span, spans_of};
 use crate::sfc_places::tree_text::TreeText;
+use crate::warning::warnings_of;
 use crate::words::{Words, words_of};
 use sfc_base::ids::ProgId;
 use sfc_base::var_type::VarType;
 use sfc_events::read_error::{ReadError, ReadErrorKind};
+use sfc_hints::hints::Hints;
 use sfc_hints::notes::add_detail;
 use sfc_hints::trial::Goal;
 use sfc_hints::writing::{add_joint, add_line};
 use sfc_page::append::append_number;
 use sfc_plant::plant::Plant;
+use sfc_script::line_fault::{LineFault, line_fault};
 use sfc_script::script::{ScriptError, read_script};
+use sfc_script::wanted::Wanted;
 use sfc_text::expression::Expression;
 use sfc_text::read::read;
 use sfc_text::read_expr::read_expr_with_place;
@@ -39,34 +43,35 @@ use std::alloc::{AllocError, Global};
 #[derive(Drop)]
 struct ScriptFault {
     span: Span,
-    lines: Vec<u8>,
+    told: Hints,
 }
 
-// The line of what would do, and the command that may be meant.
-fn wanted_lines(alloc: Global, word: &[u8], wanted: Wanted) -> Result<Vec<u8>, AllocError> {
-    let mut lines = Vec::new(alloc);
+// What would do in place of a word, and the command that may be meant.
+fn wanted_told(alloc: Global, word: &[u8], wanted: Wanted) -> Result<Hints, AllocError> {
+    let mut told = Hints::new(alloc);
     if wanted == Wanted::Command {
-        add_near_commands(alloc, word, &mut lines)?;
+        add_near_commands(alloc, word, &mut told)?;
     }
-    lines.extend_from_slice(b"  expected: ")?;
-    add_line(&mut lines, wanted.text())?;
-    Ok(lines)
+    told.lines.extend_from_slice(b"  expected: ")?;
+    add_line(&mut told.lines, wanted.text())?;
+    Ok(told)
 }
 
-// Adds a line with the commands that are near to the word.
-fn add_near_commands(alloc: Global, word: &[u8], lines: &mut Vec<u8>) -> Result<(), AllocError> {
-    let found = near_commands(alloc, word)?;
-    if found.is_empty() {
+// Adds a line with the commands that are near to the word, and keeps the nearest.
+fn add_near_commands(alloc: Global, word: &[u8], told: &mut Hints) -> Result<(), AllocError> {
+    let (found, nearest) = near_commands(alloc, word)?;
+    let Some(nearest) = nearest else {
         return Ok(());
-    }
-    lines.extend_from_slice(b"  nearby: ")?;
+    };
+    told.keep_near(alloc, nearest.as_bytes())?;
+    told.lines.extend_from_slice(b"  nearby: ")?;
     let mut place = 0usize;
     for command in found.as_slice() {
-        add_joint(lines, place, 0)?;
-        lines.extend_from_slice(command.as_bytes())?;
+        add_joint(&mut told.lines, place, 0)?;
+        told.lines.extend_from_slice(command.as_bytes())?;
         place = place.saturating_add(1);
     }
-    lines.extend_from_slice(b"\n")
+    told.lines.extend_from_slice(b"\n")
 }
 
 // The fault of a word of a line.
@@ -78,9 +83,9 @@ fn word_fault(
     wanted: Wanted,
 ) -> Result<ScriptFault, AllocError> {
     let word = words.word(script, place).unwrap_or(b"");
-    let lines = wanted_lines(alloc, word, wanted)?;
+    let told = wanted_told(alloc, word, wanted)?;
     let span = words.span(place);
-    Ok(ScriptFault { span, lines })
+    Ok(ScriptFault { span, told })
 }
 
 // The bytes of the script at which a place of a condition lies that begins here.
@@ -92,20 +97,16 @@ fn span_in(text: &[u8], place: Place, base: usize) -> Span {
     }
 }
 
-// Lines of what is told of a condition: by which refusal, and these.
-fn condition_lines(
-    alloc: Global,
-    number: u8,
-    name: &str,
-    more: &[u8],
-) -> Result<Vec<u8>, AllocError> {
+// What is told of a condition: by which refusal, and this.
+fn condition_told(alloc: Global, number: u8, name: &str, more: Hints) -> Result<Hints, AllocError> {
     let mut lines = Vec::new(alloc);
     lines.extend_from_slice(b"  in: the condition behind WHEN, ")?;
     append_number(&mut lines, u64::from(number))?;
     lines.extend_from_slice(b" ")?;
     add_line(&mut lines, name.as_bytes())?;
-    lines.extend_from_slice(more)?;
-    Ok(lines)
+    lines.extend_from_slice(&more.lines)?;
+    let Hints { lines: _, near } = more;
+    Ok(Hints { lines, near })
 }
 
 // The fault of a condition that can't be read, which begins at this place of the script.
@@ -122,8 +123,9 @@ fn unread_fault(
     let fault = reading_fault(alloc, Goal::Expression, text, error)?;
     let span = span_in(text, fault.place, base);
     let (number, name) = (kind.number(), kind.name());
-    let lines = condition_lines(alloc, number, name, &fault.lines)?;
-    Ok(ScriptFault { span, lines })
+    let ReadingFault { place: _, told } = fault;
+    let told = condition_told(alloc, number, name, told)?;
+    Ok(ScriptFault { span, told })
 }
 
 // What a script is over: a plant, with its text.
@@ -191,13 +193,13 @@ fn add_fault(
     over: &Over<'_>,
     condition: &ChartText<'_>,
     (instance, fault): (ProgId, &PlacedLoadError),
-    lines: &mut Vec<u8>,
+    told: &mut Hints,
 ) -> Result<Span, AllocError> {
     let token = token_at(condition, fault.span());
     let (span, word) = word_at(condition, token);
     let program = type_name_of(over, instance);
     let detail = condition_detail(condition, token, program, fault);
-    add_detail(alloc, lines, over.text, word, detail)?;
+    add_detail(alloc, told, over.text, word, detail)?;
     Ok(span)
 }
 
@@ -209,22 +211,22 @@ fn typing_fault(
     (instance, fault): (ProgId, &PlacedLoadError),
     base: usize,
 ) -> Result<ScriptFault, AllocError> {
-    let mut more = Vec::new(alloc);
+    let mut more = Hints::new(alloc);
     let span = add_fault(alloc, over, condition, (instance, fault), &mut more)?;
     let (number, name) = (fault.error().number(), fault.error().name());
-    let lines = condition_lines(alloc, number, name, &more)?;
+    let told = condition_told(alloc, number, name, more)?;
     let span = Span {
         from: base.saturating_add(span.from),
         to: base.saturating_add(span.to),
     };
-    Ok(ScriptFault { span, lines })
+    Ok(ScriptFault { span, told })
 }
 
 // The fault of a condition of which no type fault is found, which begins at this place of the script.
 fn whole_fault(alloc: Global, text: &[u8], base: usize) -> Result<ScriptFault, AllocError> {
-    let lines = condition_lines(alloc, 10, "WrongType", b"")?;
+    let told = condition_told(alloc, 10, "WrongType", Hints::new(alloc))?;
     let span = span_in(text, Place::Whole, base);
-    Ok(ScriptFault { span, lines })
+    Ok(ScriptFault { span, told })
 }
 
 // The fault of a condition that is read, which begins at this place of the script.
@@ -282,20 +284,21 @@ fn condition_fault(
 }
 
 // The fault of a line.
-fn line_fault(
+fn fault_of_line(
     alloc: Global,
     over: &Over<'_>,
     script: &[u8],
     line: usize,
 ) -> Result<ScriptFault, AllocError> {
     let words = words_of(alloc, script, line)?;
-    let command = CommandLine {
-        script,
-        words: &words,
-    };
-    match command.fault() {
-        LineFault::Word(place, wanted) => word_fault(alloc, script, &words, place, wanted),
-        LineFault::Condition(place) => condition_fault(alloc, over, script, &words, place),
+    let bytes = script.get(words.line.from..words.line.to).unwrap_or(b"");
+    match line_fault(bytes) {
+        Some(LineFault::Word(place, wanted)) => word_fault(alloc, script, &words, place, wanted),
+        Some(LineFault::Condition(place)) => condition_fault(alloc, over, script, &words, place),
+        None => Ok(ScriptFault {
+            span: words.line,
+            told: Hints::new(alloc),
+        }),
     }
 }
 
@@ -308,9 +311,12 @@ fn refused_at(
 ) -> Result<Report, AllocError>
     ensures { IfOk result (IsReportForScript script.now line) }
 {
-    let fault = line_fault(alloc, over, script, line)?;
+    let fault = fault_of_line(alloc, over, script, line)?;
     let place = word_place(script, fault.span);
-    report_at(alloc, script, Fault::Script(line), place, &fault.lines)
+    let ScriptFault { span: _, told } = fault;
+    let report = report_at(alloc, script, Fault::Script(line), place, &told.lines)?;
+    let Hints { lines: _, near } = told;
+    Ok(report.with_near(near))
 }
 
 // What is told of a script that is too long.
@@ -367,23 +373,32 @@ fn refused_script(
     refused_over(alloc, text, plant, script, line)
 }
 
-/// What is told of a script, over a plant and the text of its chart: None where it has no fault, else its first faulty line, which is
-/// that of `read_script`. The one error is that memory was refused.
+/// What is told of a script.
+#[derive(Drop)]
+pub enum ScriptTold {
+    /// Its first faulty line.
+    Fault(Report),
+    /// It has no fault: warnings of names in it that the chart hasn't, up to a hundred, in the order of its lines.
+    NoFault(Vec<Report>),
+}
+
+/// What is told of a script, over a plant and the text of its chart: its first faulty line, which is that of `read_script`; where it has no
+/// fault, warnings of names that the chart hasn't, which are refused when the script is played. The one error is that memory was refused.
 pub fn explain_script(
     alloc: Global,
     text: &[u8],
     plant: Plant,
     script: &[u8],
-) -> Result<Option<Report>, AllocError>
+) -> Result<ScriptTold, AllocError>
     ensures { IfOk result (ExplainsScript plant script.now) }
 {
     let resource = Resource::open(alloc, plant)?;
     match read_script(alloc, &resource, script) {
-        Ok(_) => Ok(None),
+        Ok(_) => Ok(ScriptTold::NoFault(warnings_of(alloc, text, &resource, script)?)),
         Err(ScriptError::Memory) => Err(AllocError),
         Err(ScriptError::Faulty(line)) => {
             let report = refused_script(alloc, text, resource.plant(), script, line)?;
-            Ok(Some(report))
+            Ok(ScriptTold::Fault(report))
         },
     }
 }
