@@ -1,8 +1,8 @@
 -- Steps that are gone through by their numbers.
-use Rattle.std.proofs.Common.{◌≡◌, ◌∙◌, ◌<◌, ◌+◌, ◌-◌, sym, ap, ℕ, suc, arith, Bool, true, false, ◌&&◌, ◌∷◌, length}
+use Rattle.std.proofs.Common.{◌≡◌, ◌∙◌, ◌<◌, ◌+◌, ◌-◌, ap, ℕ, suc, arith, Bool, true, false, ◌&&◌, ◌∷◌}
 use Rattle.std.specs.List.{list_all, range_with_len}
 
-unrolled : (k n : ℕ) → k < n → range_with_len k (n - k) ≡ k ∷ range_with_len (k + 1) (n - (k + 1))
+pub unrolled : (k n : ℕ) → k < n → range_with_len k (n - k) ≡ k ∷ range_with_len (k + 1) (n - (k + 1))
 unrolled k n less =
     let e : n - k ≡ suc (n - (k + 1)) = omega arith in
     ap (range_with_len k) e

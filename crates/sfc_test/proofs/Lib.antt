@@ -4,6 +4,7 @@ pub mod Parts
 -- what texts are read as
 mod Tests
 mod ConditionTexts
+mod JoinedParts
 -- lines of a file
 mod Lines
 -- a bench
@@ -11,6 +12,7 @@ mod Told
 mod Active
 mod Trying
 mod Scanning
+mod Stirring
 -- cases that run
 mod Watched
 mod Passing

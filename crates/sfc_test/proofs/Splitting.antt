@@ -1,22 +1,23 @@
--- What stands in front of a keyword.
+-- What stands in front of what is found in a text.
 use Rattle.std.proofs.Common.{◌≡◌, ◌∙◌, refl, sym, ap, ℕ, zero, suc, ◌+◌, if◌then◌else◌, List, [], ◌∷◌, ◌++◌, take, drop, append_assoc, add-one, Option, Some, None}
 use Rattle.std.specs.Prelude.{option_map}
 use Rattle.sfc_replay.specs.sfc_script.Lines.{is_blank}
-use Rattle.sfc_test.specs.Lines.{behind_keyword, divided, divided_by}
+use Rattle.sfc_test.specs.Lines.{divided_at, divided_by}
 
--- what stands before and behind it, with these bytes in front
-abbrev pub in_front : List ℕ → List ℕ × List ℕ → List ℕ × List ℕ
-in_front front d = (front ++ d.0, d.1)
+module _ {X : Type 0} where
+  -- what stands before it and what it is, with these bytes in front
+  abbrev pub in_front : List ℕ → List ℕ × X → List ℕ × X
+  in_front front d = (front ++ d.0, d.1)
 
--- these bytes and one more
-shifted : (front : List ℕ) (b : ℕ) (o : Option (List ℕ × List ℕ)) → option_map (in_front front) (option_map (in_front (b ∷ [])) o)
-    ≡ option_map (in_front (front ++ b ∷ [])) o
-shifted front b None = refl
-shifted front b (Some d) = ap (λ xs. Some (xs, d.1)) (sym (append_assoc front (b ∷ []) d.0))
+  -- these bytes and one more
+  shifted : (front : List ℕ) (b : ℕ) (o : Option (List ℕ × X)) → option_map (in_front front) (option_map (in_front (b ∷ [])) o)
+      ≡ option_map (in_front (front ++ b ∷ [])) o
+  shifted front b None = refl
+  shifted front b (Some d) = ap (λ xs. Some (xs, d.1)) (sym (append_assoc front (b ∷ []) d.0))
 
-pub nothing : (o : Option (List ℕ × List ℕ)) → option_map (in_front []) o ≡ o
-nothing None = refl
-nothing (Some d) = refl
+  pub nothing : (o : Option (List ℕ × X)) → option_map (in_front []) o ≡ o
+  nothing None = refl
+  nothing (Some d) = refl
 
 -- ---- a front that becomes longer
 
@@ -32,17 +33,17 @@ rest_more zero (c ∷ text) b rest e = cc
 rest_more (suc n) [] b rest e = absurd cc
 rest_more (suc n) (c ∷ text) b rest e = rest_more n text b rest e
 
-module _ (keyword text rest after : List ℕ) (count b : ℕ) (first : rest ≡ b ∷ after) (placed : rest ≡ drop count text) where
+module _ {X : Type 0} (find : List ℕ → Option X) (text rest after : List ℕ) (count b : ℕ) (first : rest ≡ b ∷ after) (placed : rest ≡ drop count text) where
   pub placed_more : after ≡ drop (count + 1) text
   placed_more = sym (ap (λ n. drop n text) (add-one count) ∙ rest_more count text b after (sym placed ∙ first))
 
-  pub said_more : ((later : Option (List ℕ × List ℕ)) → divided_by b (if is_blank b then behind_keyword keyword after else None) later
+  pub said_more : ((later : Option (List ℕ × X)) → divided_by b (if is_blank b then find after else None) later
       ≡ option_map (in_front (b ∷ [])) later)
-      → divided keyword text ≡ option_map (in_front (take count text)) (divided keyword rest)
-      → divided keyword text ≡ option_map (in_front (take (count + 1) text)) (divided keyword after)
+      → divided_at find text ≡ option_map (in_front (take count text)) (divided_at find rest)
+      → divided_at find text ≡ option_map (in_front (take (count + 1) text)) (divided_at find after)
   said_more never before =
-      before ∙ ap (λ xs. option_map (in_front (take count text)) (divided keyword xs)) first
-      ∙ ap (option_map (in_front (take count text))) (never (divided keyword after))
-      ∙ shifted (take count text) b (divided keyword after)
-      ∙ ap (λ xs. option_map (in_front xs) (divided keyword after))
+      before ∙ ap (λ xs. option_map (in_front (take count text)) (divided_at find xs)) first
+      ∙ ap (option_map (in_front (take count text))) (never (divided_at find after))
+      ∙ shifted (take count text) b (divided_at find after)
+      ∙ ap (λ xs. option_map (in_front xs) (divided_at find after))
       (sym (ap (λ n. take n text) (add-one count) ∙ front_more count text b after (sym placed ∙ first)))

@@ -1,5 +1,5 @@
 -- Tasks that are tried one after the other at a raw instant.
-use Rattle.std.proofs.Common.{◌≡◌, ◌∙◌, refl, sym, ap, subst, true, false, ℕ, ◌+◌, ◌<◌, ◌≤◌, ◌∷◌, length, Option, None, Some, ℤ, Result, Ok, Err}
+use Rattle.std.proofs.Common.{◌≡◌, ◌∙◌, refl, sym, ap, subst, true, false, ℕ, ◌+◌, ◌<◌, ◌≤◌, ◌∷◌, length, Option, None, ℤ, Ok, Err}
 use Rattle.std.specs.Result.{is_ok}
 use Rattle.sfc_replay.specs.sfc_debug.Histories.{CommandHistory, TimedCommand}
 use Rattle.sfc_replay.specs.sfc_debug.Steered.{Steered}
@@ -11,7 +11,7 @@ use Rattle.sfc_test.specs.declared.bench.Bench.{Bench}
 use Rattle.sfc_test.specs.declared.given.Given.{Given}
 use Rattle.sfc_test.specs.declared.turn.Turn.TheVariants.{Taken, NoTurn}
 use Rattle.sfc_test.specs.Moments.{Moment, behind_command}
-use Rattle.sfc_test.specs.Running.Benches.{GivesAt, IsGiven, Stands, TakesTurn, scan_of}
+use Rattle.sfc_test.specs.Running.Benches.{IsGiven, Stands, TakesTurn, scan_of}
 
 -- what was refused leaves nothing
 refused : (v : Verdict) (timed : TimedCommand) (h : CommandHistory) → is_out_of_turn v ≡ true → history_by v timed h ≡ h
@@ -43,12 +43,12 @@ module _ (st : Steered) (m : Moment) (raw : ℤ) where
       (through : GoesThrough st m raw old number earliest) (is : IsGiven st m (scan_of number raw) given) where
     -- it isn't this task's turn either
     pub through_more : is_out_of_turn given.answer ≡ true
-        → Stands new (record { history = (debugger_of st).after m.history (scan_of number raw); clock = m.clock })
+        → Stands new (record { history = (debugger_of st).after m.history (scan_of number raw); clock = m.clock; stimuli = m.stimuli })
         → GoesThrough st m raw new (number + 1) (earlier earliest (release_in given.answer))
     through_more out stands =
         let no : is_out_of_turn (scan_verdict st m.history raw number) ≡ true = sym (ap is_out_of_turn is.answer) ∙ out in
         record {
-          stands = subst (λ (h : CommandHistory). Stands new (record { history = h; clock = m.clock }))
+          stands = subst (λ (h : CommandHistory). Stands new (record { history = h; clock = m.clock; stimuli = m.stimuli }))
               (refused (scan_verdict st m.history raw number) (scan_of number raw) m.history no) stands;
           turn = through.turn ∙ turn_later st m.history raw number less no;
           next = through.next ∙ next_later st m.history raw earliest number less

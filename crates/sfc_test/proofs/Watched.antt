@@ -3,12 +3,16 @@ use Rattle.std.proofs.Common.{◌≡◌, ◌∙◌, ◌<◌, ◌≤◌, ◌+◌,
 use Rattle.std.proofs.Math.ListN.{set}
 use Rattle.std.proofs.Math.Seq.{take-append_seam, take-suc-set}
 use Rattle.std.proofs.lemmas.List.{drop-set-lt, drop_all, map-append, take_all}
-use Rattle.std.specs.Prelude.{map}
+use Rattle.std.specs.Prelude.{map, not, Option}
 use Rattle.sfc_test.specs.declared.pending.Watched.{Watched}
 use Rattle.sfc_replay.specs.sfc_debug.Steered.{Steered}
-use Rattle.sfc_test.specs.Holding.{held, is_over}
+use Rattle.sfc_test.specs.declared.watch.Response.{Response}
+use Rattle.sfc_test.specs.declared.watch.Steady.{Steady}
+use Rattle.sfc_test.specs.declared.watch.Watch.{Watch}
+use Rattle.sfc_test.specs.declared.watch.Watch.TheVariants.{Stays, Responds}
+use Rattle.sfc_test.specs.Holding.{due_behind, held, is_late, is_over, responds, stays}
 use Rattle.sfc_test.specs.Moments.{Moment, reads}
-use Rattle.sfc_test.specs.Running.Watching.{Held, LooksAt, all_held, as_held, still_held}
+use Rattle.sfc_test.specs.Running.Watching.{Held, LooksAt, all_held, as_held, first_held, still_by, still_held}
 
 and_assoc : (a b c : Bool) → (a && (b && c)) ≡ ((a && b) && c)
 and_assoc true b c = refl
@@ -31,31 +35,54 @@ all_with st ms hs h = all_appended st ms hs (h ∷ []) ∙ ap (λ t. all_held st
 
 -- ---- one that is looked at
 
-module _ (st : Steered) (m : Moment) (old : Held) where
-  -- over before or now
-  pub looks_over : (old.over || is_over st old.from old.watch.end m) ≡ true
-      → LooksAt st m old (record { watch = old.watch; from = old.from; over = true }) true
-  looks_over e = λ ms. by old.over (is_over st old.from old.watch.end m) (reads st m old.watch.wanted old.watch.condition && held st old.from old.watch ms) e
-    where
-      by : (a b c : Bool) → (a || b) ≡ true → (a || (b || c)) ≡ true
-      by true b c e = refl
-      by false true c e = refl
-      by false false c e = let bad : false ≡ true = e in absurd cc
+-- a: over before, b: over now, r: it reads as it has to, s: it holds from here on
+steady_on : (a b r s over : Bool) → over ≡ (a || b) → (over || r) ≡ true → (a || (b || (r && s))) ≡ (over || s)
+steady_on true b r s over e t = sym (ap (λ o. o || s) e)
+steady_on false true r s over e t = sym (ap (λ o. o || s) e)
+steady_on false false true s over e t = sym (ap (λ o. o || s) e)
+steady_on false false false s over e t = let bad : false ≡ true = sym (ap (λ o. o || false) e) ∙ t in absurd cc
 
-  pub looks_on : (old.over || is_over st old.from old.watch.end m) ≡ false → (t : Bool) → reads st m old.watch.wanted old.watch.condition ≡ t
-      → LooksAt st m old (record { watch = old.watch; from = old.from; over = false }) t
-  looks_on e true r = λ ms. by old.over (is_over st old.from old.watch.end m) (held st old.from old.watch ms) e ∙ ap (λ t. t && held st old.from old.watch ms) r
-    where
-      by : (a b c : Bool) → (a || b) ≡ false → (a || (b || (reads st m old.watch.wanted old.watch.condition && c))) ≡ (reads st m old.watch.wanted old.watch.condition && c)
-      by true b c e = let bad : true ≡ false = e in absurd cc
-      by false true c e = let bad : true ≡ false = e in absurd cc
-      by false false c e = refl
-  looks_on e false r = λ ms. by old.over (is_over st old.from old.watch.end m) (held st old.from old.watch ms) e ∙ ap (λ t. t && held st old.from old.watch ms) r
-    where
-      by : (a b c : Bool) → (a || b) ≡ false → (a || (b || (reads st m old.watch.wanted old.watch.condition && c))) ≡ (reads st m old.watch.wanted old.watch.condition && c)
-      by true b c e = let bad : true ≡ false = e in absurd cc
-      by false true c e = let bad : true ≡ false = e in absurd cc
-      by false false c e = refl
+steady_off : (a b r s over : Bool) → over ≡ (a || b) → (over || r) ≡ false → (a || (b || (r && s))) ≡ false
+steady_off true b r s over e t = let bad : true ≡ false = sym (ap (λ o. o || r) e) ∙ t in absurd cc
+steady_off false true r s over e t = let bad : true ≡ false = sym (ap (λ o. o || r) e) ∙ t in absurd cc
+steady_off false false true s over e t = let bad : true ≡ false = sym (ap (λ o. o || true) e) ∙ t in absurd cc
+steady_off false false false s over e t = refl
+
+module _ (st : Steered) (m : Moment) (old : Held) where
+  module _ (steady : Steady) (e : old.watch ≡ Stays steady) (over : Bool) (ends : over ≡ (old.over || is_over st old.from steady.end m)) where
+    abbrev pub steady_new : Held
+    steady_new = record { watch = old.watch; from = old.from; over = over; was = old.was; due = old.due }
+
+    pub looks_steady : (t : Bool) → t ≡ (over || reads st m steady.wanted steady.condition) → LooksAt st m old steady_new t
+    looks_steady true is = λ ms.
+        ap (still_by st (m ∷ ms) old) e
+        ∙ steady_on old.over (is_over st old.from steady.end m) (reads st m steady.wanted steady.condition) (stays st old.from steady ms) over ends (sym is)
+        ∙ sym (ap (still_by st ms steady_new) e)
+    looks_steady false is = λ ms.
+        ap (still_by st (m ∷ ms) old) e
+        ∙ steady_off old.over (is_over st old.from steady.end m) (reads st m steady.wanted steady.condition) (stays st old.from steady ms) over ends (sym is)
+
+  module _ (r : Response) (e : old.watch ≡ Responds r) (was : Bool) (due : Option ℤ) (caused : was ≡ reads st m true r.cause)
+      (wanted : due ≡ due_behind st r old.was old.due m) where
+    abbrev pub response_new : Held
+    response_new = record { watch = old.watch; from = old.from; over = old.over; was = was; due = due }
+
+    goes_on : (ms : List Moment) → responds st r (reads st m true r.cause) (due_behind st r old.was old.due m) ms ≡ still_held st ms response_new
+    goes_on ms = ap (λ w. responds st r w (due_behind st r old.was old.due m) ms) (sym caused) ∙ ap (λ d. responds st r was d ms) (sym wanted)
+        ∙ sym (ap (still_by st ms response_new) e)
+
+    pub looks_response : (t : Bool) → t ≡ not (is_late old.due m.clock) → LooksAt st m old response_new t
+    looks_response true is = λ ms.
+        ap (still_by st (m ∷ ms) old) e
+        ∙ ap (λ t. t && responds st r (reads st m true r.cause) (due_behind st r old.was old.due m) ms) (sym is) ∙ goes_on ms
+    looks_response false is = λ ms.
+        ap (still_by st (m ∷ ms) old) e
+        ∙ ap (λ t. t && responds st r (reads st m true r.cause) (due_behind st r old.was old.due m) ms) (sym is)
+
+-- one that begins
+pub first_is : (st : Steered) (m : Moment) (watch : Watch) (ms : List Moment) → still_held st ms (first_held m watch) ≡ held st m.clock watch ms
+first_is st m (Stays steady) ms = refl
+first_is st m (Responds response) ms = refl
 
 -- ---- those that are gone through, of which the first have been looked at
 

@@ -10,6 +10,7 @@ use Rattle.sfc_plant.specs.Finding.{instance_named, step_named, task_named}
 use Rattle.sfc_plant.specs.Plants.{PlantData}
 use Rattle.sfc_tokens.specs.Lexing.DurationWords.{duration_value}
 use Rattle.sfc_replay.specs.sfc_debug.declared.break_condition.BreakCondition.{BreakCondition}
+use Rattle.sfc_test.specs.declared.joined.Condition.{Condition}
 use Rattle.sfc_expr.specs.declared.fault.Fault.TheVariants.{DivZero, Range}
 use Rattle.sfc_replay.specs.sfc_instance.sfc_action.declared.fault.ControlFault.TheVariants.{TwoTimed, SdWhileSl, SlWhileSd}
 use Rattle.sfc_replay.specs.sfc_instance.declared.scan_fault.ScanFault.{ScanFault}
@@ -26,8 +27,10 @@ use Rattle.sfc_test.specs.declared.said.Said.{Said}
 use Rattle.sfc_test.specs.declared.said.Said.TheVariants.{Nothing, Names, Does, Waits, Wrong}
 use Rattle.sfc_test.specs.declared.watch.End.{End}
 use Rattle.sfc_test.specs.declared.watch.End.TheVariants.{CaseEnds, When, After}
-use Rattle.sfc_test.specs.Conditions.{Reader, asked, condition, condition_by, condition_in}
+use Rattle.sfc_test.specs.declared.watch.Watch.TheVariants.{Stays, Responds}
+use Rattle.sfc_test.specs.Conditions.{Reader, asked, condition, condition_by}
 use Rattle.sfc_test.specs.Lines.{divided, from_word, instant_of, replaced}
+use Rattle.sfc_test.specs.Stimuli.{at_of, every_of, ramp_of}
 
 -- ---- RUN and UNTIL
 
@@ -35,7 +38,7 @@ use Rattle.sfc_test.specs.Lines.{divided, from_word, instant_of, replaced}
 abbrev pub run_of : List ℕ → Option Deed
 run_of text = option_map (deeds.Runs None) (option_and_then instant_of (only_word text))
 
-abbrev pub until_by : Option BreakCondition → Option ℤ → Option Deed
+abbrev pub until_by : Option Condition → Option ℤ → Option Deed
 until_by (Some until) (Some d) = Some (deeds.Runs (Some until) (Later d))
 until_by _ _ = None
 
@@ -99,28 +102,35 @@ all_steps (Some step ∷ steps) = option_map (λ others. step ∷ others) (all_s
 abbrev pub active_of : PlantData → ProgId → List ℕ → Option Deed
 active_of plant p text = option_map (deeds.Active p) (all_steps (map (step_said plant p) (parts text)))
 
--- what is said of a program instance: the steps that are active, or a condition
-abbrev pub stated_by : PlantData → Reader → ProgId × List ℕ → List ℕ × List ℕ → Option Deed
-stated_by plant read a w =
-    if same_word w.0 (codes "ACTIVE") then active_of plant a.0 w.1 else option_map deeds.Expects (condition_in plant read a)
+-- of a program instance, what stands behind ACTIVE
+abbrev pub listed_by : ProgId → List ℕ × List ℕ → Option (ProgId × List ℕ)
+listed_by p w = if same_word w.0 (codes "ACTIVE") then Some (p, w.1) else None
 
-abbrev pub stated : PlantData → Reader → ProgId × List ℕ → Option Deed
-stated plant read a = option_and_then (stated_by plant read a) (first_word a.1)
+abbrev pub listed : PlantData → List ℕ → Option (ProgId × List ℕ)
+listed plant text = option_and_then (λ a. option_and_then (listed_by a.0) (first_word a.1)) (asked plant text)
+
+-- the steps that are active, or a condition
+abbrev pub stated_by : PlantData → Reader → List ℕ → Option (ProgId × List ℕ) → Option Deed
+stated_by plant read text (Some l) = active_of plant l.0 l.1
+stated_by plant read text None = option_map deeds.Expects (condition plant read text)
+
+abbrev pub stated : PlantData → Reader → List ℕ → Option Deed
+stated plant read text = stated_by plant read text (listed plant text)
 
 abbrev pub expected_by : PlantData → Reader → List ℕ → List ℕ × List ℕ → Option Deed
 expected_by plant read text w =
     if same_word w.0 (codes "REFUSED") then refused_of plant w.1 else
     if same_word w.0 (codes "FAULT") then faulted_of plant w.1 else
-    if same_word w.0 (codes "OVERRUNS") then overran_of plant w.1 else
-    option_and_then (stated plant read) (asked plant text)
+    if same_word w.0 (codes "OVERRUNS") then overran_of plant w.1 else stated plant read text
 
 abbrev pub expected_of : PlantData → Reader → List ℕ → Option Deed
 expected_of plant read text = option_and_then (expected_by plant read text) (first_word text)
 
 -- ---- ALWAYS and NEVER
 
-abbrev pub watched_by : Bool → Option BreakCondition → Option End → Option Deed
-watched_by wanted (Some watched) (Some end) = Some (deeds.Watches (record { wanted = wanted; condition = watched; end = end }))
+abbrev pub watched_by : Bool → Option Condition → Option End → Option Deed
+watched_by wanted (Some watched) (Some end) =
+    Some (deeds.Watches (Stays (record { wanted = wanted; condition = watched; end = end })))
 watched_by wanted _ _ = None
 
 -- up to where UNTIL, FOR or nothing says
@@ -134,6 +144,23 @@ watched_up_to plant read wanted text None None = watched_by wanted (condition pl
 abbrev pub watched_of : PlantData → Reader → Bool → List ℕ → Option Deed
 watched_of plant read wanted text =
     watched_up_to plant read wanted text (divided (codes "UNTIL") text) (divided (codes "FOR") text)
+
+-- ---- WITHIN, AFTER and EXPECT
+
+abbrev pub response_by : Option ℤ → Option Condition → Option Condition → Option Deed
+response_by (Some d) (Some cause) (Some effect) =
+    Some (deeds.Watches (Responds (record { cause = cause; effect = effect; within = d })))
+response_by _ _ _ = None
+
+-- condition EXPECT condition
+abbrev pub responded : PlantData → Reader → Option ℤ → List ℕ → Option Deed
+responded plant read d text =
+    option_and_then (λ e. response_by d (condition plant read e.0) (condition plant read e.1)) (divided (codes "EXPECT") text)
+
+-- WITHIN duration AFTER condition EXPECT condition
+abbrev pub response_of : PlantData → Reader → List ℕ → Option Deed
+response_of plant read text =
+    option_and_then (λ a. responded plant read (duration_of a.0) a.1) (divided (codes "AFTER") text)
 
 -- ---- lines
 
@@ -151,6 +178,15 @@ given_by plant read instant (Some command) conditional = Does instant (deeds.Giv
 given_by plant read instant None (Some c) = waits instant c.place.point (condition_by plant c.place.program (read c.text))
 given_by plant read instant None None = Wrong
 
+-- a stimulus, or a command of a script
+abbrev pub stirred_by : PlantData → Reader → Instant → List ℕ → Option (List ℕ × List ℕ) → Said
+stirred_by plant read instant text None = Wrong
+stirred_by plant read instant text (Some w) =
+    if same_word w.0 (codes "EVERY") then does instant (option_map deeds.Stirs (every_of plant w.1)) else
+    if same_word w.0 (codes "AT") then does instant (option_map deeds.Stirs (at_of plant w.1)) else
+    if same_word w.0 (codes "RAMP") then does instant (option_map deeds.Stirs (ramp_of plant w.1)) else
+    given_by plant read instant (command_of plant text) (conditional_of plant text)
+
 -- what stands behind an instant, or without one: by its first word
 abbrev pub deed_by : PlantData → Reader → Instant → List ℕ → Option (List ℕ × List ℕ) → Said
 deed_by plant read instant text None = Wrong
@@ -160,7 +196,8 @@ deed_by plant read instant text (Some w) =
     if same_word w.0 (codes "EXPECT") then does instant (expected_of plant read w.1) else
     if same_word w.0 (codes "ALWAYS") then does instant (watched_of plant read true w.1) else
     if same_word w.0 (codes "NEVER") then does instant (watched_of plant read false w.1) else
-    given_by plant read instant (command_of plant text) (conditional_of plant text)
+    if same_word w.0 (codes "WITHIN") then does instant (response_of plant read w.1) else
+    stirred_by plant read instant text (Some w)
 
 abbrev pub timed_at : PlantData → Reader → List ℕ → List ℕ → Option Instant → Said
 timed_at plant read text rest None = deed_by plant read Same text (first_word text)

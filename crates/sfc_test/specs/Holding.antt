@@ -1,5 +1,6 @@
 -- What has to hold in a case, and which cases pass.
-use Rattle.std.specs.Prelude.{ℕ, ◌==◌, Bool, true, false, not, ◌&&◌, ◌||◌, if◌then◌else◌, nat_lt, List, [], ◌∷◌, length, ℤ, int_lt, Option, Some, None, Ok, Err}
+use Rattle.std.specs.Prelude.{ℕ, ◌==◌, Bool, true, false, not, ◌&&◌, ◌||◌, if◌then◌else◌, nat_lt, List}
+use Rattle.std.specs.Prelude.{[], ◌∷◌, ◌++◌, length, ℤ, int_lt, Option, Some, None, Ok, Err}
 use Rattle.std.specs.List.{list_all, list_any, range_with_len}
 use Rattle.sfc_base.specs.declared.ids.ProgId.{ProgId}
 use Rattle.sfc_base.specs.declared.ids.TaskId.{TaskId}
@@ -27,11 +28,14 @@ use Rattle.sfc_test.specs.declared.deed.Deed.TheVariants.{Gives, Refuses, Runs, 
 use Rattle.sfc_test.specs.declared.line.Line.{Line}
 use Rattle.sfc_test.specs.declared.watch.End.{End}
 use Rattle.sfc_test.specs.declared.watch.End.TheVariants.{CaseEnds, When, After}
+use Rattle.sfc_test.specs.declared.watch.Response.{Response}
+use Rattle.sfc_test.specs.declared.watch.Steady.{Steady}
 use Rattle.sfc_test.specs.declared.watch.Watch.{Watch}
+use Rattle.sfc_test.specs.declared.watch.Watch.TheVariants.{Stays, Responds}
 use Rattle.sfc_test.specs.declared.instant.Instant.TheVariants.{Later}
-use Rattle.sfc_test.specs.Courses.{behind, behind_line, commands_of, given, here}
+use Rattle.sfc_test.specs.Courses.{behind, behind_line, behind_lines, given, here, steps_of}
 use Rattle.sfc_test.specs.Lines.{instant_after}
-use Rattle.sfc_test.specs.Moments.{Moment, agree, behind_command, is_there, moments, opening, plant_at, reads}
+use Rattle.sfc_test.specs.Moments.{Moment, Step, agree, behind_step, is_there, moments, opening, plant_at, reads}
 use Rattle.sfc_test.specs.Scans.{is_reached}
 
 -- ---- what answers have to be
@@ -94,10 +98,10 @@ abbrev pub is_fine : Steered → List Line → CommandHistory → TimedCommand �
 is_fine steered lines h timed = is_fine_by steered lines h timed.0 ((debugger_of steered).verdict h timed)
 
 -- so of each of these commands in turn
-abbrev pub are_fine : Steered → List Line → Moment → List TimedCommand → Bool
+abbrev pub are_fine : Steered → List Line → Moment → List Step → Bool
 are_fine steered lines m [] = true
-are_fine steered lines m (timed ∷ later) =
-    is_fine steered lines m.history timed && are_fine steered lines (behind_command steered m timed) later
+are_fine steered lines m (step ∷ later) =
+    is_fine steered lines m.history step.timed && are_fine steered lines (behind_step steered m step) later
 
 -- refused by the reason of this number
 abbrev pub is_refused : ℕ → Verdict → Bool
@@ -135,10 +139,40 @@ is_over steered from (When condition) m = reads steered m true condition
 is_over steered from (After d) m = int_lt (instant_after from (Later d)) m.clock
 
 -- It held at each of these moments up to the first at which it is over.
+abbrev pub stays : Steered → ℤ → Steady → List Moment → Bool
+stays steered from steady [] = true
+stays steered from steady (m ∷ later) =
+    is_over steered from steady.end m || (reads steered m steady.wanted steady.condition && stays steered from steady later)
+
+-- ---- responses
+
+-- the effect had to be TRUE before this instant
+abbrev pub is_late : Option ℤ → ℤ → Bool
+is_late None clock = false
+is_late (Some due) clock = int_lt due clock
+
+-- The cause becomes TRUE: it is, and wasn't at the moment before. The effect has to be TRUE by then; an earlier instant counts.
+abbrev pub due_from : Steered → Response → Bool → Option ℤ → Moment → Option ℤ
+due_from steered r was None m =
+    if not was && reads steered m true r.cause then Some (instant_after m.clock (Later r.within)) else None
+due_from steered r was (Some due) m = Some due
+
+-- by which instant the effect has to be TRUE behind this moment, if by one
+abbrev pub due_behind : Steered → Response → Bool → Option ℤ → Moment → Option ℤ
+due_behind steered r was due m = if reads steered m true r.effect then None else due_from steered r was due m
+
+-- At each of these moments the effect isn't late; where the cause was TRUE before them, and by when the effect has to be.
+abbrev pub responds : Steered → Response → Bool → Option ℤ → List Moment → Bool
+responds steered r was due [] = true
+responds steered r was due (m ∷ later) =
+    not (is_late due m.clock) && responds steered r (reads steered m true r.cause) (due_behind steered r was due m) later
+
+-- ---- what is watched
+
+-- from the clock's instant on it holds at these moments
 abbrev pub held : Steered → ℤ → Watch → List Moment → Bool
-held steered from watch [] = true
-held steered from watch (m ∷ later) =
-    is_over steered from watch.end m || (reads steered m watch.wanted watch.condition && held steered from watch later)
+held steered from (Stays steady) ms = stays steered from steady ms
+held steered from (Responds response) ms = responds steered response false None ms
 
 -- ---- cases
 
@@ -150,7 +184,8 @@ holds steered m (Faulted fault p) = is_fault fault (fault_at steered m p)
 holds steered m (Overran n task) = overruns_at steered m.history task == n
 holds steered m _ = true
 
--- At this moment the deed of a line is right, behind which these lines stand.
+-- At this moment the deed of a line is right, behind which these lines stand. What is watched is looked at here, behind each command, and
+-- where the case ends.
 abbrev pub is_right : Steered → Moment → Deed → List Line → Bool
 is_right steered m (Gives command) lines = is_fine steered lines m.history (command, m.clock)
 is_right steered m (Refuses n command) lines = is_refused n ((debugger_of steered).verdict m.history (command, m.clock))
@@ -158,7 +193,7 @@ is_right steered m (Runs until limit) lines =
     are_fine steered lines m (given steered m (Runs until limit))
     && is_reached steered until (given steered m (Runs until limit)) (behind steered m (Runs until limit))
 is_right steered m (Watches watch) lines =
-    held steered m.clock watch (m ∷ moments steered m (commands_of steered m lines))
+    held steered m.clock watch (m ∷ (moments steered m (steps_of steered m lines) ++ behind_lines steered m lines ∷ []))
 is_right steered m deed lines = holds steered m deed
 
 -- From this moment on each line is right where it stands.

@@ -10,7 +10,9 @@ pub mod Deeds
 pub mod Files
 -- where a case stands, and what a condition reads there
 pub mod Moments
--- which scans RUN and UNTIL give
+-- commands that are given beside RUN and UNTIL
+pub mod Stimuli
+-- what RUN and UNTIL give
 pub mod Scans
 -- what a line gives, and where a case stands behind it
 pub mod Courses

@@ -36,15 +36,18 @@ abbrev pub behind_keyword : List ℕ → List ℕ → Option (List ℕ)
 behind_keyword keyword text =
     if begins_with_blank text then None else option_and_then (behind_word keyword) (first_word text)
 
-abbrev pub divided_by : ℕ → Option (List ℕ) → Option (List ℕ × List ℕ) → Option (List ℕ × List ℕ)
+abbrev pub divided_by : {X : Type 0} → ℕ → Option X → Option (List ℕ × X) → Option (List ℕ × X)
 divided_by b None later = option_map (λ d. (b ∷ d.0, d.1)) later
-divided_by b (Some behind) later = Some ([], behind)
+divided_by b (Some found) later = Some ([], found)
+
+-- what stands before the first blank behind which something is found, and what that is
+abbrev pub divided_at : {X : Type 0} → (List ℕ → Option X) → List ℕ → Option (List ℕ × X)
+divided_at find [] = None
+divided_at find (b ∷ text) = divided_by b (if is_blank b then find text else None) (divided_at find text)
 
 -- what stands before the first word behind a blank that is the keyword, and behind it
 abbrev pub divided : List ℕ → List ℕ → Option (List ℕ × List ℕ)
-divided keyword [] = None
-divided keyword (b ∷ text) =
-    divided_by b (if is_blank b then behind_keyword keyword text else None) (divided keyword text)
+divided keyword text = divided_at (behind_keyword keyword) text
 
 -- what stands from the first word on
 abbrev pub from_word : List ℕ → List ℕ

@@ -1,13 +1,17 @@
--- Which scans RUN and UNTIL give: those of all tasks at each of their releases, in turn (2.7.2).
-use Rattle.std.specs.Prelude.{ℕ, zero, suc, ◌*◌, nat_lt, Bool, true, false, ◌&&◌, if◌then◌else◌, List, [], ◌∷◌, length, ℤ, int_le, int_lt}
+-- What RUN and UNTIL give: the scans of all tasks at each of their releases, in turn (2.7.2), and the commands of stimuli.
+use Rattle.std.specs.Prelude.{ℕ, zero, suc, ◌*◌, nat_lt, Bool, true, false, ◌&&◌}
+use Rattle.std.specs.Prelude.{if◌then◌else◌, List, [], ◌∷◌, length, ℤ, int_le, int_lt, ◌-ℤ◌, pos}
 use Rattle.std.specs.Prelude.{Option, Some, None, option_map}
-use Rattle.sfc_replay.specs.sfc_debug.declared.break_condition.BreakCondition.{BreakCondition}
+use Rattle.std.specs.Int.{saturate_signed, w64}
 use Rattle.sfc_replay.specs.sfc_debug.Histories.{TimedCommand}
 use Rattle.sfc_replay.specs.sfc_debug.Steered.{Steered}
 use Rattle.sfc_replay.specs.sfc_output.Output.{debugger_of}
 use Rattle.sfc_session.specs.Scanning.{next_among, raw_of, scan_at, tasks_of, turn_among}
 use Rattle.sfc_session.specs.Sessions.{last_instant}
-use Rattle.sfc_test.specs.Moments.{Moment, behind_command, reads}
+use Rattle.sfc_test.specs.declared.due.Due.{Due}
+use Rattle.sfc_test.specs.declared.joined.Condition.{Condition}
+use Rattle.sfc_test.specs.Moments.{Moment, Step, behind_step, plain_step, reads}
+use Rattle.sfc_test.specs.Stimuli.{due_by, given_at, stimulus_step}
 
 -- ---- the next scan
 
@@ -32,35 +36,54 @@ abbrev pub next_scan : Steered → ℤ → Moment → Option TimedCommand
 next_scan steered limit m =
     if int_lt limit m.clock then None else option_map (scan_at steered m.history) (up_to limit (next_instant steered m))
 
+-- ---- the next command
+
+-- the last instant before this one
+abbrev pub before : ℤ → ℤ
+before instant = saturate_signed w64 (instant -ℤ pos 1)
+
+-- a scan that comes before the stimulus, or else this
+abbrev pub scan_or : Moment → Due → Option TimedCommand → Option Step
+scan_or m due None = Some (stimulus_step m due)
+scan_or m due (Some scan) = Some (plain_step m scan)
+
+abbrev pub next_by : Steered → ℤ → Moment → Option Due → Option Step
+next_by steered limit m None = option_map (plain_step m) (next_scan steered limit m)
+next_by steered limit m (Some due) = scan_or m due (next_scan steered (before (given_at m due)) m)
+
+-- What comes next up to a limit: the scan that does, or the command of a stimulus, which goes before a scan of the same instant.
+abbrev pub next_step : Steered → ℤ → Moment → Option Step
+next_step steered limit m = next_by steered limit m (due_by m limit)
+
 -- ---- RUN and UNTIL
 
 -- the condition is TRUE, if there is one
-abbrev pub is_met : Steered → Option BreakCondition → Moment → Bool
+abbrev pub is_met : Steered → Option Condition → Moment → Bool
 is_met steered None m = false
 is_met steered (Some until) m = reads steered m true until
 
--- the next scan, where the condition isn't TRUE yet
-abbrev pub scan_wanted : Steered → Option BreakCondition → ℤ → Moment → Option TimedCommand
-scan_wanted steered until limit m = if is_met steered until m then None else next_scan steered limit m
+-- what comes next, where the condition isn't TRUE yet
+abbrev pub step_wanted : Steered → Option Condition → ℤ → Moment → Option Step
+step_wanted steered until limit m = if is_met steered until m then None else next_step steered limit m
 
-abbrev pub scan_then : Option TimedCommand → (TimedCommand → List TimedCommand) → List TimedCommand
-scan_then None behind = []
-scan_then (Some scan) behind = scan ∷ behind scan
+abbrev pub step_then : Option Step → (Step → List Step) → List Step
+step_then None behind = []
+step_then (Some step) behind = step ∷ behind step
 
--- One scan after the other, n at the most, until none comes up to the limit or the condition is TRUE.
-unfoldable pub scans : Steered → Option BreakCondition → ℤ → ℕ → Moment → List TimedCommand
-scans steered until limit zero m = []
-scans steered until limit (suc n) m =
-    scan_then (scan_wanted steered until limit m) (λ scan. scans steered until limit n (behind_command steered m scan))
+-- One command after the other, n at the most, until none comes up to the limit or the condition is TRUE.
+unfoldable pub run_steps : Steered → Option Condition → ℤ → ℕ → Moment → List Step
+run_steps steered until limit zero m = []
+run_steps steered until limit (suc n) m =
+    step_then (step_wanted steered until limit m) (λ step. run_steps steered until limit n (behind_step steered m step))
 
--- the most scans of a line
+-- the most commands of a line
 abbrev pub most : ℕ
 most = 10000 * 10000
 
-abbrev pub is_met_if : Steered → Option BreakCondition → Moment → Bool
+abbrev pub is_met_if : Steered → Option Condition → Moment → Bool
 is_met_if steered None m = true
 is_met_if steered (Some until) m = reads steered m true until
 
--- fewer scans than the most were enough, and the condition is TRUE behind them, if there is one
-abbrev pub is_reached : Steered → Option BreakCondition → List TimedCommand → Moment → Bool
+-- fewer commands than the most were enough, and the condition is TRUE behind them, if there is one
+abbrev pub is_reached : Steered → Option Condition → List Step → Moment → Bool
 is_reached steered until given m = nat_lt (length given) most && is_met_if steered until m

@@ -1,6 +1,7 @@
 //! A debugger on which cases are run.
 
-ghost use Rattle.std.specs.Prelude.{◌≡◌, ◌==◌, ◌<◌, ◌∷◌, ℕ, length, false, slice_get, unwrap_or, None, Some, IfOk, IfSome};
+ghost use Rattle.std.specs.Prelude.{◌≡◌, ◌==◌, ◌<◌, ◌∷◌, ◌++◌, [], ℕ, length};
+ghost use Rattle.std.specs.Prelude.{false, slice_get, slice_set, unwrap_or, None, Some, IfOk, IfSome, OnOk};
 ghost use Rattle.std.specs.List.{list_any};
 ghost use Rattle.sfc_replay.specs.sfc_core.Agreement as core;
 ghost use Rattle.sfc_replay.specs.sfc_debug.Agreement.{Agrees};
@@ -10,16 +11,18 @@ ghost use Rattle.sfc_replay.specs.sfc_instance.Views.{Shows};
 ghost use Rattle.sfc_replay.specs.sfc_output.Output.{debugger_of};
 ghost use Rattle.sfc_session.specs.Scanning as scanning;
 ghost use Rattle.sfc_session.specs.Sessions.{last_instant};
-ghost use Rattle.sfc_test.specs.Courses as courses;
 ghost use Rattle.sfc_test.specs.Running.Benches as benches;
 ghost use Rattle.sfc_test.specs.Running.Benches.{IsReady, Stands, steered_in};
 ghost use Rattle.sfc_test.specs.Holding as holding;
 ghost use Rattle.sfc_test.specs.Moments as moments;
 ghost use Rattle.sfc_test.specs.Moments.{Moment};
 ghost use Rattle.sfc_test.specs.Scans as scans;
+ghost use Rattle.sfc_test.specs.Stimuli as stimuli;
 
+use crate::due::{Due, first_due};
 use crate::given::{Given, task_of};
 use crate::instant::Instant;
+use crate::joined::{Condition, Joint};
 use crate::sfc_core::resource::Resource;
 use crate::sfc_debug::break_condition::BreakCondition;
 use crate::sfc_debug::debugger::Debugger;
@@ -28,6 +31,8 @@ use crate::sfc_debug::timed::Timed;
 use crate::sfc_instance::laws::window;
 use crate::sfc_instance::program_view::ProgramView;
 use crate::sfc_instance::scan_fault::ScanFault;
+use crate::stimulus::Stimulus;
+use crate::trail::Trail;
 use crate::turn::{Turn, earlier, is_out_of_turn, release_in};
 use sfc_base::ids::{ProgId, TaskId};
 use sfc_base::references::StepId;
@@ -49,6 +54,9 @@ pub struct Bench {
     last: i64,
     // Of each task the overruns that its latest scan told, 0 before the first.
     told: Vec<u64>,
+    // Of the case, in the order of its lines.
+    stimuli: Vec<Stimulus>,
+    trail: Trail,
 }
 
 // By hand, so that a caller that drops one proves one call.
@@ -60,6 +68,8 @@ impl Drop for Bench {
             clock: _,
             last: _,
             told: _,
+            stimuli: _,
+            trail: _,
         } = self;
     }
 }
@@ -76,7 +86,7 @@ fn told_in(told: &[u64], task: TaskId) -> u64
 
 // The later of two instants.
 fn later(first: i64, second: i64) -> i64
-    ensures { result ≡ courses.later first second }
+    ensures { result ≡ stimuli.later first second }
 {
     if first <= second { second } else { first }
 }
@@ -114,14 +124,70 @@ fn agree(first: bool, second: bool) -> bool
     if first { second } else { !second }
 }
 
-// Whether the value is that truth value.
-fn is_value(wanted: bool, value: Result<Value, Fault>) -> bool
-    ensures { result ≡ moments.is_value wanted value }
+// The truth value that a value is; None of a fault.
+fn truth_of(value: Result<Value, Fault>) -> Option<bool>
+    ensures { result ≡ moments.truth_of value }
 {
     match value {
-        Ok(Value::Bool(truth)) => truth == wanted,
-        _ => false,
+        Ok(Value::Bool(truth)) => Some(truth),
+        Ok(_) | Err(_) => None,
     }
+}
+
+// Whether both are TRUE; None where one is neither TRUE nor FALSE.
+fn both(first: Option<bool>, second: Option<bool>) -> Option<bool>
+    ensures { result ≡ moments.both first second }
+{
+    match (first, second) {
+        (Some(first), Some(second)) => Some(first && second),
+        _ => None,
+    }
+}
+
+// Whether one of them is TRUE; None where one is neither TRUE nor FALSE.
+fn either(first: Option<bool>, second: Option<bool>) -> Option<bool>
+    ensures { result ≡ moments.either first second }
+{
+    match (first, second) {
+        (Some(first), Some(second)) => Some(first || second),
+        _ => None,
+    }
+}
+
+// Of the alternatives before a part, and of the one that goes on, behind it.
+fn whole_behind(joint: Joint, whole: Option<bool>, current: Option<bool>) -> Option<bool>
+    ensures { result ≡ moments.whole_behind joint whole current }
+{
+    match joint {
+        Joint::And => whole,
+        Joint::Or => either(whole, current),
+    }
+}
+
+fn current_behind(joint: Joint, current: Option<bool>, part: Option<bool>) -> Option<bool>
+    ensures { result ≡ moments.current_behind joint current part }
+{
+    match joint {
+        Joint::And => both(current, part),
+        Joint::Or => part,
+    }
+}
+
+// Whether it is that truth value.
+fn is_truth(wanted: bool, truth: Option<bool>) -> bool
+    ensures { result ≡ moments.is_truth wanted truth }
+{
+    match truth {
+        Some(truth) => agree(wanted, truth),
+        None => false,
+    }
+}
+
+// The last instant before this one.
+fn before(instant: i64) -> i64
+    ensures { result ≡ scans.before instant }
+{
+    instant.saturating_sub(1)
 }
 
 #[tactic(auto, unfolding(crate::specs::Running::Benches::IsReady, crate::specs::Running::Benches::Stands, crate::specs::Running::Benches::Accepted, crate::specs::Running::Benches::debugger_in, crate::specs::Running::Benches::steered_in))]
@@ -140,6 +206,8 @@ impl Bench {
             clock: 0,
             last: 0,
             told,
+            stimuli: Vec::new(alloc),
+            trail: Trail::new(alloc),
         })
     }
 
@@ -154,6 +222,37 @@ impl Bench {
         self.clock = 0;
         self.last = 0;
         self.told.fill(0);
+        self.stimuli.clear();
+        self.trail.begin();
+    }
+
+    /// From now on what is accepted is kept, or not.
+    pub fn keep_trail(&mut self, is_kept: bool)
+        ensures ready { IsReady self.old → IsReady self.new }
+        ensures steered { steered_in self.new ≡ steered_in self.old }
+    {
+        self.trail.keep(is_kept);
+    }
+
+    /// What was accepted, where it is kept, the first first; it isn't kept any more.
+    pub fn take_trail(&mut self, alloc: Global) -> Option<Vec<Timed>>
+        ensures ready { IsReady self.old → IsReady self.new }
+        ensures steered { steered_in self.new ≡ steered_in self.old }
+    {
+        self.trail.take(alloc)
+    }
+
+    /// Gives a command at its instant.
+    pub fn repeat(&mut self, timed: Timed)
+        ensures ready { IsReady self.old → IsReady self.new }
+        ensures steered { steered_in self.new ≡ steered_in self.old }
+    {
+        let _given = self.attempt(timed.command, timed.raw);
+    }
+
+    /// The debugger to which commands are given.
+    pub fn debugger(&self) -> &Debugger {
+        &self.debugger
     }
 
     /// The resource.
@@ -184,7 +283,7 @@ impl Bench {
         ensures ready { IsReady self.old → IsReady self.new }
         ensures steered { steered_in self.new ≡ steered_in self.old }
         ensures stands { (m : Moment) → Stands self.old m →
-            Stands self.new (record { history = m.history; clock = courses.later m.clock limit }) }
+            Stands self.new (record { history = m.history; clock = stimuli.later m.clock limit; stimuli = m.stimuli }) }
     {
         self.clock = later(self.clock, limit);
     }
@@ -218,9 +317,10 @@ impl Bench {
         ensures ready { IsReady self.old → IsReady self.new }
         ensures steered { steered_in self.new ≡ steered_in self.old }
         ensures stands { (m : Moment) → benches.Accepted self.old m (command, raw) →
-            Stands self.new (record { history = (command, raw) ∷ m.history; clock = m.clock }) }
+            Stands self.new (record { history = (command, raw) ∷ m.history; clock = m.clock; stimuli = m.stimuli }) }
     {
         self.last = raw;
+        self.trail.note(Timed { command, raw });
         if let Some(task) = task_of(command) {
             let overruns = self.overruns(task);
             keep_told(&mut self.told, task, overruns);
@@ -233,7 +333,11 @@ impl Bench {
         ensures steered { steered_in self.new ≡ steered_in self.old }
         ensures given { (m : Moment) → Stands self.old m → benches.IsGiven (steered_in self.old) m (command, raw) result }
         ensures stands { (m : Moment) → Stands self.old m → Stands self.new
-            (record { history = (debugger_of (steered_in self.old)).after m.history (command, raw); clock = m.clock }) }
+            (record {
+              history = (debugger_of (steered_in self.old)).after m.history (command, raw);
+              clock = m.clock;
+              stimuli = m.stimuli;
+            }) }
     {
         let overruns = self.told_before(command);
         let answer = self.debugger.obey(Timed { command, raw });
@@ -300,9 +404,9 @@ impl Bench {
         self.last.saturating_add(stretch)
     }
 
-    /// Gives the scan that comes next: of the task whose turn it is at the clock's instant, or where it is no task's turn then, at the earliest
-    /// next release of all tasks; the clock goes there. None, and nothing changes, where none comes up to the limit, a raw instant.
-    pub fn next_scan(&mut self, limit: i64) -> Option<Given>
+    // Gives the scan that comes next: of the task whose turn it is at the clock's instant, or where it is no task's turn then, at the
+    // earliest next release of all tasks; the clock goes there. None, and nothing changes, where none comes up to the limit, a raw instant.
+    fn next_scan(&mut self, limit: i64) -> Option<Given>
         ensures ready { IsReady self.old → IsReady self.new }
         ensures steered { steered_in self.new ≡ steered_in self.old }
         ensures gives { (m : Moment) → Stands self.old m →
@@ -324,6 +428,76 @@ impl Bench {
         }
     }
 
+    // The stimulus whose command comes next, where that is given up to a limit.
+    fn due_by(&self, limit: i64) -> Option<Due>
+        ensures { (m : Moment) → Stands self.now m → result ≡ stimuli.due_by m limit }
+    {
+        let due = first_due(self.stimuli.as_slice(), self.clock)?;
+        if later(self.clock, due.instant) <= limit {
+            Some(due)
+        } else {
+            None
+        }
+    }
+
+    // The stimulus of this place is left as it is behind its next command.
+    fn advance(&mut self, due: Due)
+        ensures ready { IsReady self.old → IsReady self.new }
+        ensures steered { steered_in self.new ≡ steered_in self.old }
+        ensures stands { (m : Moment) → Stands self.old m → Stands self.new (record {
+          history = m.history;
+          clock = m.clock;
+          stimuli = slice_set m.stimuli due.place (stimuli.behind_one due.instant due.stimulus);
+        }) }
+    {
+        if due.place < self.stimuli.len() {
+            self.stimuli[due.place] = due.stimulus.behind_one(due.instant);
+        }
+    }
+
+    // Gives the command of a stimulus, at the clock's instant where it is wanted before.
+    fn stir(&mut self, due: Due) -> Given
+        ensures ready { IsReady self.old → IsReady self.new }
+        ensures steered { steered_in self.new ≡ steered_in self.old }
+        ensures gives { (m : Moment) → Stands self.old m →
+            benches.GivesStep (steered_in self.old) m (Some (stimuli.stimulus_step m due)) (Some result) self.new }
+    {
+        self.clock = later(self.clock, due.instant);
+        self.advance(due);
+        self.attempt(due.stimulus.command, self.clock)
+    }
+
+    /// Gives what comes next up to a limit, a raw instant: the scan that does, or the command of a stimulus, which goes before a scan of
+    /// the same instant; the clock goes there. None, and nothing changes, where nothing comes.
+    pub fn next(&mut self, limit: i64) -> Option<Given>
+        ensures ready { IsReady self.old → IsReady self.new }
+        ensures steered { steered_in self.new ≡ steered_in self.old }
+        ensures gives { (m : Moment) → Stands self.old m →
+            benches.GivesStep (steered_in self.old) m (scans.next_step (steered_in self.old) limit m) result self.new }
+    {
+        let Some(due) = self.due_by(limit) else {
+            return self.next_scan(limit);
+        };
+        match self.next_scan(before(later(self.clock, due.instant))) {
+            Some(given) => Some(given),
+            None => Some(self.stir(due)),
+        }
+    }
+
+    /// A stimulus begins at the clock's instant. The one error is that memory was refused.
+    pub fn begin_stimulus(&mut self, stimulus: Stimulus) -> Result<(), AllocError>
+        ensures ready { IsReady self.old → IsReady self.new }
+        ensures steered { steered_in self.new ≡ steered_in self.old }
+        ensures stands { (m : Moment) → Stands self.old m → OnOk result (Stands self.new (record {
+          history = m.history;
+          clock = m.clock;
+          stimuli = m.stimuli ++ stimuli.begun m.clock stimulus ∷ [];
+        })) }
+    {
+        self.stimuli.push(stimulus.begun(self.clock))?;
+        Ok(())
+    }
+
     /// A window on a program instance, where it is there.
     pub fn view(&self, program: ProgId) -> Option<ProgramView<'_>>
         ensures none { result ≡ None → moments.is_there (steered_in self.now) program ≡ false }
@@ -338,20 +512,40 @@ impl Bench {
         Some(resource.program(program))
     }
 
-    /// Whether a condition is TRUE, or FALSE, as is wanted; one whose evaluation ends with a fault is neither.
-    pub fn reads(&self, wanted: bool, condition: &BreakCondition) -> bool
-        ensures { (m : Moment) → Stands self.now m → result ≡ moments.reads (steered_in self.now) m wanted condition.now }
+    // Whether a part of a condition is TRUE; None where its evaluation ends with a fault.
+    fn truth_at(&self, condition: &BreakCondition) -> Option<bool>
+        ensures { (m : Moment) → Stands self.now m → result ≡ moments.truth_at (steered_in self.now) m condition.now }
     {
         window();
-        let Some(view) = self.view(condition.program) else {
-            return false;
-        };
+        let view = self.view(condition.program)?;
         let mut ticks = Ticks::new();
-        is_value(wanted, eval(condition.condition.expr(), &view, &mut ticks))
+        truth_of(eval(condition.condition.expr(), &view, &mut ticks))
+    }
+
+    // Whether a condition is TRUE; None where the evaluation of a part ends with a fault.
+    fn truth(&self, condition: &Condition) -> Option<bool>
+        ensures { (m : Moment) → Stands self.now m → result ≡ moments.truth (steered_in self.now) m condition.now }
+    {
+        let mut whole = Some(false);
+        let mut current = Some(false);
+        let mut rest = condition.parts.as_slice();
+        'parts: while let Some((part, others)) = rest.split_first() {
+            whole = whole_behind(part.joint, whole, current);
+            current = current_behind(part.joint, current, self.truth_at(&part.condition));
+            rest = others;
+        }
+        either(whole, current)
+    }
+
+    /// Whether a condition is TRUE, or FALSE, as is wanted; one with a part whose evaluation ends with a fault is neither.
+    pub fn reads(&self, wanted: bool, condition: &Condition) -> bool
+        ensures { (m : Moment) → Stands self.now m → result ≡ moments.reads (steered_in self.now) m wanted condition.now }
+    {
+        is_truth(wanted, self.truth(condition))
     }
 
     /// Whether there is a condition and it is TRUE.
-    pub fn is_met(&self, until: &Option<BreakCondition>) -> bool
+    pub fn is_met(&self, until: &Option<Condition>) -> bool
         ensures { (m : Moment) → Stands self.now m → result ≡ scans.is_met (steered_in self.now) until.now m }
     {
         match until {

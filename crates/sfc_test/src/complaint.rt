@@ -32,11 +32,11 @@ pub enum Complaint<'a> {
     Overran(TaskId),
     /// The condition wasn't TRUE in time.
     NotYet,
-    /// The most scans of a line weren't enough.
+    /// The most commands of a line weren't enough.
     TooMany,
     /// What has to hold doesn't.
     Differs,
-    /// The condition that this line watches isn't as it has to be.
+    /// What this line watches isn't as it has to be.
     Broken(&'a Line),
 }
 

@@ -1,6 +1,6 @@
 //! What stands behind EXPECT.
 
-ghost use Rattle.std.specs.Prelude.{◌≡◌, ◌∷◌, ◌<◌, [], None, length, IfOk, IfSome, option_and_then, option_map};
+ghost use Rattle.std.specs.Prelude.{◌≡◌, ◌∷◌, ◌<◌, [], None, Some, length, IfOk, IfSome, MatchOption, option_map};
 ghost use Rattle.sfc_replay.specs.sfc_core.Agreement.{plant_of};
 ghost use Rattle.sfc_test.specs.declared.deed.Deed.TheVariants.{Expects};
 ghost use Rattle.sfc_test.specs.Conditions as conditions;
@@ -8,7 +8,7 @@ ghost use Rattle.sfc_test.specs.Conditions.{IsReader, Reader};
 ghost use Rattle.sfc_test.specs.Deeds as deeds;
 ghost use Rattle.sfc_test.specs.Running.Reading.{before_comma};
 
-use crate::condition::{Asked, condition_in, find_asked};
+use crate::condition::{Asked, find_asked, read_condition};
 use crate::deed::Deed;
 use crate::sfc_action::fault::ControlFault;
 use crate::sfc_core::resource::Resource;
@@ -140,38 +140,39 @@ fn active(
 }
 
 // A condition that has to be TRUE. The error is that memory was refused.
-fn expects(alloc: Global, plant: &Plant, said: Asked<'_>) -> Result<Option<Deed>, AllocError>
+fn expects(alloc: Global, plant: &Plant, text: &[u8]) -> Result<Option<Deed>, AllocError>
     ensures { (read : Reader) → IsReader read → IfOk result (λ deed. deed
-        ≡ option_map Expects (conditions.condition_in plant.now read (said.entry.program, said.entry.text.now))) }
+        ≡ option_map Expects (conditions.condition plant.now read text.now)) }
 {
-    match condition_in(alloc, plant, said)? {
+    match read_condition(alloc, plant, text)? {
         Some(condition) => Ok(Some(Deed::Expects(condition))),
         None => Ok(None),
     }
 }
 
-// What is said of a program instance. The error is that memory was refused.
-fn stated(alloc: Global, plant: &Plant, said: Asked<'_>) -> Result<Option<Deed>, AllocError>
-    ensures { (read : Reader) → IsReader read → IfOk result (λ deed.
-        deed ≡ deeds.stated plant.now read (said.entry.program, said.entry.text.now)) }
+// Of which program instance steps are listed, and what stands behind ACTIVE.
+fn find_listed<'a>(plant: &Plant, text: &'a [u8]) -> Option<Asked<'a>>
+    ensures { MatchOption result (deeds.listed plant.now text.now ≡ None)
+        (λ a. deeds.listed plant.now text.now ≡ Some (a.program, a.text.now)) }
 {
-    match first_word(said.text) {
-        Some((word, behind)) if is_same_word(word, b"ACTIVE") => {
-            active(alloc, plant, said.program, behind)
-        }
-        Some(_) => expects(alloc, plant, said),
-        None => Ok(None),
+    let asked = find_asked(plant, text)?;
+    let (word, behind) = first_word(asked.text)?;
+    if !is_same_word(word, b"ACTIVE") {
+        return None;
     }
+    Some(Asked {
+        program: asked.program,
+        text: behind,
+    })
 }
 
 // What stands behind EXPECT, where its first word is no keyword. The error is that memory was refused.
-fn other(alloc: Global, plant: &Plant, text: &[u8]) -> Result<Option<Deed>, AllocError>
-    ensures { (read : Reader) → IsReader read → IfOk result (λ deed. deed
-        ≡ option_and_then (deeds.stated plant.now read) (conditions.asked plant.now text.now)) }
+fn stated(alloc: Global, plant: &Plant, text: &[u8]) -> Result<Option<Deed>, AllocError>
+    ensures { (read : Reader) → IsReader read → IfOk result (λ deed. deed ≡ deeds.stated plant.now read text.now) }
 {
-    match find_asked(plant, text) {
-        Some(said) => stated(alloc, plant, said),
-        None => Ok(None),
+    match find_listed(plant, text) {
+        Some(listed) => active(alloc, plant, listed.program, listed.text),
+        None => expects(alloc, plant, text),
     }
 }
 
@@ -194,6 +195,6 @@ pub fn read_expected(
     } else if is_same_word(word, b"OVERRUNS") {
         Ok(overran(resource.plant(), behind))
     } else {
-        other(alloc, resource.plant(), text)
+        stated(alloc, resource.plant(), text)
     }
 }

@@ -1,15 +1,15 @@
 //! Cases that are run, and what becomes of them.
 
-ghost use Rattle.std.specs.Prelude.{◌≡◌, ◌∷◌, [], is_none, IfNone, IfOk};
-ghost use Rattle.sfc_replay.specs.sfc_debug.Histories.{TimedCommand};
+ghost use Rattle.std.specs.Prelude.{◌≡◌, ◌∷◌, ◌++◌, [], None, is_none, IfNone, IfOk, OnOk};
 ghost use Rattle.sfc_replay.specs.sfc_output.Output.{debugger_of};
 ghost use Rattle.sfc_test.specs.Answers.{is_passed};
 ghost use Rattle.sfc_test.specs.Courses as courses;
 ghost use Rattle.sfc_test.specs.Holding as holding;
-ghost use Rattle.sfc_test.specs.Moments.{Moment, behind_command};
+ghost use Rattle.sfc_test.specs.Moments.{Moment, Step, behind_command, behind_step};
 ghost use Rattle.sfc_test.specs.Running.Benches.{IsGiven, IsReady, Stands, steered_in};
 ghost use Rattle.sfc_test.specs.Running.Cases.{lines_in};
 ghost use Rattle.sfc_test.specs.Running.Watching as watching;
+ghost use Rattle.sfc_test.specs.Stimuli as stimuli;
 ghost use Rattle.sfc_test.specs.Running.Watching.{held_in};
 
 use crate::bench::Bench;
@@ -17,15 +17,16 @@ use crate::case::Case;
 use crate::complaint::{Complaint, wrong_with};
 use crate::deed::Deed;
 use crate::given::Given;
+use crate::joined::Condition;
 use crate::line::Line;
 use crate::pending::Pending;
-use crate::sfc_debug::break_condition::BreakCondition;
 use crate::sfc_instance::scan_fault::ScanFault;
+use crate::stimulus::Stimulus;
 use crate::watch::Watch;
 use sfc_events::command::Command;
 use std::alloc::{AllocError, Global};
 
-/// The most scans of a line.
+/// The most commands of a line.
 const MOST: u64 = 100_000_000;
 
 /// Where a case failed.
@@ -85,9 +86,9 @@ fn check<'a>(
     given: &Given,
     behind: Case<'a>,
 ) -> Option<Complaint<'a>>
-    ensures { (m : Moment) (timed : TimedCommand) → IsGiven (steered_in bench.now) m timed given.now →
-        Stands bench.now (behind_command (steered_in bench.now) m timed) →
-        watching.Checks (steered_in bench.now) m timed (lines_in behind.entry) (held_in pending.old) (held_in pending.new) result }
+    ensures { (m : Moment) (step : Step) → IsGiven (steered_in bench.now) m step.timed given.now →
+        Stands bench.now (behind_step (steered_in bench.now) m step) →
+        watching.ChecksStep (steered_in bench.now) m step (lines_in behind.entry) (held_in pending.old) (held_in pending.new) result }
 {
     match wrong_with(bench.resource(), given, behind) {
         Some(wrong) => Some(wrong),
@@ -133,13 +134,13 @@ fn refuse<'a>(
     }
 }
 
-// What is wrong at the end of a run, behind which no scan comes up to the limit, if something is.
-fn end<'a>(bench: &mut Bench, until: &Option<BreakCondition>, limit: i64) -> Option<Complaint<'a>>
+// What is wrong at the end of a run, behind which nothing comes up to the limit, if something is.
+fn end<'a>(bench: &mut Bench, until: &Option<Condition>, limit: i64) -> Option<Complaint<'a>>
     ensures ready { IsReady bench.old → IsReady bench.new }
     ensures steered { steered_in bench.new ≡ steered_in bench.old }
     ensures wrong { is_none result ≡ is_none until.now }
     ensures stands { (m : Moment) → Stands bench.old m → IfNone result
-        (Stands bench.new (record { history = m.history; clock = courses.later m.clock limit })) }
+        (Stands bench.new (record { history = m.history; clock = stimuli.later m.clock limit; stimuli = m.stimuli })) }
 {
     if until.is_some() {
         return Some(Complaint::NotYet);
@@ -148,11 +149,11 @@ fn end<'a>(bench: &mut Bench, until: &Option<BreakCondition>, limit: i64) -> Opt
     None
 }
 
-// Scans up to a limit, or until a condition is TRUE: what is wrong then, if something is.
+// Gives what comes up to a limit, or until a condition is TRUE: what is wrong then, if something is.
 fn run<'a>(
     bench: &mut Bench,
     pending: &mut Pending<'a>,
-    until: &Option<BreakCondition>,
+    until: &Option<Condition>,
     limit: i64,
     behind: Case<'a>,
 ) -> Option<Complaint<'a>>
@@ -167,7 +168,7 @@ fn run<'a>(
         if bench.is_met(until) {
             return None;
         }
-        let Some(given) = bench.next_scan(limit) else {
+        let Some(given) = bench.next(limit) else {
             return end(bench, until, limit);
         };
         if let Some(wrong) = check(bench, pending, &given, behind) {
@@ -177,7 +178,7 @@ fn run<'a>(
     Some(Complaint::TooMany)
 }
 
-// A condition is watched from here on: what is wrong, if something is. The error is that memory was refused.
+// Something is watched from here on: what is wrong, if something is. The error is that memory was refused.
 fn begin_watch<'a>(
     bench: &Bench,
     pending: &mut Pending<'a>,
@@ -191,6 +192,21 @@ fn begin_watch<'a>(
         return Ok(None);
     }
     Ok(Some(Complaint::Broken(line)))
+}
+
+// A stimulus goes on from here. The error is that memory was refused.
+fn stir<'a>(bench: &mut Bench, stimulus: Stimulus) -> Result<Option<Complaint<'a>>, AllocError>
+    ensures ready { IsReady bench.old → IsReady bench.new }
+    ensures steered { steered_in bench.new ≡ steered_in bench.old }
+    ensures nothing { IfOk result (λ wrong. wrong ≡ None) }
+    ensures stands { (m : Moment) → Stands bench.old m → OnOk result (Stands bench.new (record {
+      history = m.history;
+      clock = m.clock;
+      stimuli = m.stimuli ++ stimuli.begun m.clock stimulus ∷ [];
+    })) }
+{
+    bench.begin_stimulus(stimulus)?;
+    Ok(None)
 }
 
 // Whether holds what a deed says of now.
@@ -229,7 +245,22 @@ fn obey<'a>(
             Ok(run(bench, pending, until, limit, behind))
         }
         Deed::Watches(watched) => begin_watch(bench, pending, line, watched),
+        Deed::Stirs(stimulus) => stir(bench, *stimulus),
         deed => Ok(unless(holds(bench, deed))),
+    }
+}
+
+// What becomes of a case whose lines are right, where it ends.
+fn ended<'a>(bench: &Bench, pending: &mut Pending<'a>) -> Outcome<'a>
+    ensures { (m : Moment) → Stands bench.now m →
+        is_passed result ≡ watching.all_held (steered_in bench.now) (held_in pending.old) (m ∷ []) }
+{
+    match pending.look(bench) {
+        Some(line) => Outcome::Failed(Failure {
+            line,
+            complaint: Complaint::Broken(line),
+        }),
+        None => Outcome::Passed,
     }
 }
 
@@ -254,5 +285,5 @@ pub fn judge<'a>(
         }
         rest = behind;
     }
-    Ok(Outcome::Passed)
+    Ok(ended(bench, &mut pending))
 }

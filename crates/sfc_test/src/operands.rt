@@ -1,9 +1,11 @@
 //! What conditions read, in one line.
 
 use crate::bench::Bench;
+use crate::joined::Condition;
 use crate::sfc_debug::break_condition::BreakCondition;
 use crate::sfc_instance::program_view::ProgramView;
 use crate::sfc_instance::scan_fault::ScanFault;
+use sfc_base::ids::ProgId;
 use sfc_base::references::{StepId, Variable};
 use sfc_base::ticks::Ticks;
 use sfc_base::value::Value;
@@ -11,7 +13,7 @@ use sfc_expr::eval::eval;
 use sfc_expr::expr::Expr;
 use sfc_expr::view::View;
 use sfc_page::append::{append, append_value};
-use sfc_plant::names::Names;
+use sfc_plant::names::{Names, instance_name};
 use std::alloc::{AllocError, Global};
 
 /// Something that a condition reads.
@@ -46,37 +48,50 @@ fn add_all(found: &mut Vec<Operand>, expr: &Expr) -> Result<(), AllocError> {
     }
 }
 
-// A name, what stands behind it, and a value.
+// What stands before a name, a name, what stands behind it, and a value.
 fn append_read(
     out: &mut Vec<u8>,
+    own: &[u8],
     name: &[u8],
     behind: &[u8],
     value: Value,
 ) -> Result<(), AllocError> {
+    append(out, own)?;
     append(out, name)?;
     append(out, behind)?;
     append(out, b" ")?;
     append_value(out, value)
 }
 
-// An operand, and what it reads.
+// An operand, and what it reads; what is a program's own has this before it.
 fn append_operand(
     out: &mut Vec<u8>,
+    own: &[u8],
     names: &Names<'_>,
     view: &ProgramView<'_>,
     operand: Operand,
 ) -> Result<(), AllocError> {
     match operand {
         Operand::Variable(variable) => {
-            append_read(out, names.variable(variable), b"", view.value_at(variable))
+            let own = match variable {
+                Variable::Global(_) => b"",
+                Variable::Local(_) => own,
+            };
+            append_read(
+                out,
+                own,
+                names.variable(variable),
+                b"",
+                view.value_at(variable),
+            )
         }
         Operand::Active(step) => {
             let value = Value::Bool(view.is_active(step));
-            append_read(out, names.step(step), b".X", value)
+            append_read(out, own, names.step(step), b".X", value)
         }
         Operand::Time(step) => {
             let value = Value::Time(view.time_of(step));
-            append_read(out, names.step(step), b".T", value)
+            append_read(out, own, names.step(step), b".T", value)
         }
     }
 }
@@ -115,26 +130,57 @@ fn append_fault(
     }
 }
 
-/// Puts at the end what a condition of a program instance reads: each variable and step once with its value, from left to right, with commas
-/// between; and the fault with which its evaluation ends, if it does; or a dash, where it reads nothing. The one error is that memory was refused.
+// The name of a program instance and a dot.
+fn own_name(alloc: Global, bench: &Bench, program: ProgId) -> Result<Vec<u8>, AllocError> {
+    let mut own = Vec::new(alloc);
+    let instances = bench.resource().plant().instances();
+    append(&mut own, instance_name(instances, usize::from(program.0)))?;
+    append(&mut own, b".")?;
+    Ok(own)
+}
+
+// What a part of a condition reads, where a list begins; what is a program's own has this before it.
+fn append_part(
+    alloc: Global,
+    out: &mut Vec<u8>,
+    bench: &Bench,
+    own: &[u8],
+    part: &BreakCondition,
+) -> Result<(), AllocError> {
+    let Some(view) = bench.view(part.program) else {
+        return Ok(());
+    };
+    let begin = out.len();
+    let names = bench.resource().plant().names(part.program);
+    let expr = part.condition.expr();
+    let mut found = Vec::new(alloc);
+    add_all(&mut found, expr)?;
+    for operand in &found {
+        append_joint(out, begin)?;
+        append_operand(out, own, &names, &view, *operand)?;
+    }
+    append_fault(out, begin, &view, expr)?;
+    append_none(out, begin)
+}
+
+/// Puts at the end what a condition reads, part by part: each variable and step of a part once with its value, from left to right, with
+/// commas between; and the fault with which the part's evaluation ends, if it does; or a dash, where it reads nothing. Where there are
+/// several parts, what is a program's own has the name of its instance before it. The one error is that memory was refused.
 pub fn append_operands(
     alloc: Global,
     out: &mut Vec<u8>,
     bench: &Bench,
-    condition: &BreakCondition,
+    condition: &Condition,
 ) -> Result<(), AllocError> {
-    let Some(view) = bench.view(condition.program) else {
-        return Ok(());
-    };
-    let names = bench.resource().plant().names(condition.program);
-    let expr = condition.condition.expr();
-    let mut found = Vec::new(alloc);
-    add_all(&mut found, expr)?;
     let begin = out.len();
-    for operand in &found {
+    for part in condition.parts.as_slice() {
         append_joint(out, begin)?;
-        append_operand(out, &names, &view, *operand)?;
+        let own = if condition.parts.len() > 1 {
+            own_name(alloc, bench, part.condition.program)?
+        } else {
+            Vec::new(alloc)
+        };
+        append_part(alloc, out, bench, &own, &part.condition)?;
     }
-    append_fault(out, begin, &view, expr)?;
-    append_none(out, begin)
+    Ok(())
 }

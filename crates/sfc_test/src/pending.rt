@@ -1,18 +1,18 @@
-//! Conditions that are watched while a case runs.
+//! What is watched while a case runs.
 
-ghost use Rattle.std.specs.Prelude.{◌≡◌, [], IfOk};
-ghost use Rattle.sfc_test.specs.Holding.{is_over};
-ghost use Rattle.sfc_test.specs.Moments.{Moment};
+ghost use Rattle.std.specs.Prelude.{◌≡◌, ◌||◌, [], not, true, IfOk};
+ghost use Rattle.sfc_test.specs.Holding as holding;
+ghost use Rattle.sfc_test.specs.Moments.{Moment, reads};
 ghost use Rattle.sfc_test.specs.Running.Benches.{Stands, steered_in};
 ghost use Rattle.sfc_test.specs.Running.Watching.{Begins, Looks, LooksAt, as_held, held_in};
 
 use crate::bench::Bench;
 use crate::instant::Instant;
 use crate::line::Line;
-use crate::watch::{End, Watch};
+use crate::watch::{End, Response, Steady, Watch};
 use std::alloc::{AllocError, Global};
 
-/// A condition that is watched.
+/// Something that is watched.
 struct Watched<'a> {
     // The line that says so, and what it says.
     line: &'a Line,
@@ -20,6 +20,9 @@ struct Watched<'a> {
     // Where the clock stood when it began.
     from: i64,
     is_over: bool,
+    // Of a response whether its cause was TRUE at the last moment, and by when its effect has to be.
+    was: bool,
+    due: Option<i64>,
 }
 
 // By hand, so that a caller that drops one proves one call.
@@ -30,21 +33,82 @@ impl Drop for Watched<'_> {
             watch: _,
             from: _,
             is_over: _,
+            was: _,
+            due: _,
         } = self;
     }
 }
 
+// Whether that is over which began at this instant.
+fn has_ended(bench: &Bench, from: i64, end: &End) -> bool
+    ensures { (m : Moment) → Stands bench.now m → result ≡ holding.is_over (steered_in bench.now) from end.now m }
+{
+    match end {
+        End::CaseEnds => false,
+        End::When(condition) => bench.reads(true, condition),
+        End::After(micros) => Instant::Later(*micros).after(from) < bench.clock(),
+    }
+}
+
+// Whether an effect had to be TRUE before this instant.
+fn is_late(due: Option<i64>, clock: i64) -> bool
+    ensures { result ≡ holding.is_late due clock }
+{
+    match due {
+        Some(due) => due < clock,
+        None => false,
+    }
+}
+
+// By when the effect of a response has to be TRUE, which isn't, if by an instant.
+fn due_from(bench: &Bench, response: &Response, was: bool, due: Option<i64>) -> Option<i64>
+    ensures { (m : Moment) → Stands bench.now m → result ≡ holding.due_from (steered_in bench.now) response.now was due m }
+{
+    if due.is_some() {
+        return due;
+    }
+    if !was && bench.reads(true, &response.cause) {
+        Some(Instant::Later(response.within).after(bench.clock()))
+    } else {
+        None
+    }
+}
+
+// The same where the effect may be TRUE.
+fn due_behind(bench: &Bench, response: &Response, was: bool, due: Option<i64>) -> Option<i64>
+    ensures { (m : Moment) → Stands bench.now m → result ≡ holding.due_behind (steered_in bench.now) response.now was due m }
+{
+    if bench.reads(true, &response.effect) {
+        return None;
+    }
+    due_from(bench, response, was, due)
+}
+
 impl Watched<'_> {
-    // Whether it is over now.
-    fn has_ended(&self, bench: &Bench) -> bool
-        ensures { (m : Moment) → Stands bench.now m →
-            result ≡ is_over (steered_in bench.now) self.now.from self.now.watch.now.end m }
+    // Whether a condition holds now, or is over from now on or before.
+    fn look_at(&mut self, bench: &Bench, steady: &Steady) -> bool
+        ensures same { self.new ≡ record self.old { is_over = self.new.is_over } }
+        ensures over { (m : Moment) → Stands bench.now m → self.new.is_over
+            ≡ (self.old.is_over || holding.is_over (steered_in bench.now) self.old.from steady.now.end m) }
+        ensures result { (m : Moment) → Stands bench.now m → result
+            ≡ (self.new.is_over || reads (steered_in bench.now) m steady.now.wanted steady.now.condition) }
     {
-        match &self.watch.end {
-            End::CaseEnds => false,
-            End::When(condition) => bench.reads(true, condition),
-            End::After(micros) => Instant::Later(*micros).after(self.from) < bench.clock(),
-        }
+        self.is_over = self.is_over || has_ended(bench, self.from, &steady.end);
+        self.is_over || bench.reads(steady.wanted, &steady.condition)
+    }
+
+    // Whether the effect of a response isn't late.
+    fn look_for(&mut self, bench: &Bench, response: &Response) -> bool
+        ensures same { self.new ≡ record self.old { was = self.new.was; due = self.new.due } }
+        ensures was { (m : Moment) → Stands bench.now m → self.new.was ≡ reads (steered_in bench.now) m true response.now.cause }
+        ensures due { (m : Moment) → Stands bench.now m →
+            self.new.due ≡ holding.due_behind (steered_in bench.now) response.now self.old.was self.old.due m }
+        ensures result { (m : Moment) → Stands bench.now m → result ≡ not (holding.is_late self.old.due m.clock) }
+    {
+        let in_time = !is_late(self.due, bench.clock());
+        self.due = due_behind(bench, response, self.was, self.due);
+        self.was = bench.reads(true, &response.cause);
+        in_time
     }
 
     // Whether it holds now, or is over from now on or before.
@@ -53,12 +117,15 @@ impl Watched<'_> {
         ensures looks { (m : Moment) → Stands bench.now m →
             LooksAt (steered_in bench.now) m (as_held self.old) (as_held self.new) result }
     {
-        self.is_over = self.is_over || self.has_ended(bench);
-        self.is_over || bench.reads(self.watch.wanted, &self.watch.condition)
+        let watch = self.watch;
+        match watch {
+            Watch::Stays(steady) => self.look_at(bench, steady),
+            Watch::Responds(response) => self.look_for(bench, response),
+        }
     }
 }
 
-/// The conditions that are watched.
+/// What is watched.
 pub struct Pending<'a> {
     watched: Vec<Watched<'a>>,
 }
@@ -96,6 +163,8 @@ impl<'a> Pending<'a> {
             watch,
             from: bench.clock(),
             is_over: false,
+            was: false,
+            due: None,
         };
         let holds = watched.look(bench);
         self.watched.push(watched)?;

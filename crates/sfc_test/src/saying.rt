@@ -1,7 +1,8 @@
 //! What lines of a test say.
 
-ghost use Rattle.std.specs.Prelude.{◌≡◌, IfOk, MatchOption};
+ghost use Rattle.std.specs.Prelude.{◌≡◌, IfOk, MatchOption, option_map};
 ghost use Rattle.sfc_replay.specs.sfc_core.Agreement.{plant_of};
+ghost use Rattle.sfc_test.specs.declared.deed.Deed.TheVariants.{Stirs};
 ghost use Rattle.sfc_test.specs.declared.said.Said.TheVariants.{Names, Wrong};
 ghost use Rattle.sfc_test.specs.Conditions.{IsReader, Reader, condition_by};
 ghost use Rattle.sfc_replay.specs.sfc_script.Commands as commands;
@@ -18,7 +19,9 @@ use crate::said::Said;
 use crate::sfc_core::resource::Resource;
 use crate::sfc_script::command::{Conditional, read_command, read_conditional};
 use crate::sfc_script::split::{first_word, two_words};
-use crate::watching::{read_run, read_until, read_watched};
+use crate::stimulating::{read_at, read_every, read_ramp};
+use crate::stimulus::Stimulus;
+use crate::watching::{read_response, read_run, read_until, read_watched};
 use crate::words::{from_word, kept};
 use sfc_base::case::is_same_word;
 use sfc_plant::plant::Plant;
@@ -73,6 +76,40 @@ fn read_given(
     }
 }
 
+// The deed of a stimulus, where there is one.
+fn stirs(stimulus: Option<Stimulus>) -> Option<Deed>
+    ensures { result ≡ option_map Stirs stimulus }
+{
+    match stimulus {
+        Some(stimulus) => Some(Deed::Stirs(stimulus)),
+        None => None,
+    }
+}
+
+// A stimulus or a command of a script. The error is that memory was refused.
+fn read_stirred(
+    alloc: Global,
+    resource: &Resource,
+    instant: Instant,
+    text: &[u8],
+) -> Result<Said, AllocError>
+    ensures { (read : Reader) → IsReader read → IfOk result (λ said.
+        said ≡ deeds.stirred_by (plant_of resource.now) read instant text.now (script_lines.first_word text.now)) }
+{
+    let Some((word, behind)) = first_word(text) else {
+        return Ok(Said::Wrong);
+    };
+    if is_same_word(word, b"EVERY") {
+        Ok(does(instant, stirs(read_every(resource, behind))))
+    } else if is_same_word(word, b"AT") {
+        Ok(does(instant, stirs(read_at(resource, behind))))
+    } else if is_same_word(word, b"RAMP") {
+        Ok(does(instant, stirs(read_ramp(resource.plant(), behind))))
+    } else {
+        read_given(alloc, resource, instant, text)
+    }
+}
+
 // What a text says at an instant. The error is that memory was refused.
 fn read_deed(
     alloc: Global,
@@ -97,8 +134,10 @@ fn read_deed(
         Ok(does(instant, read_watched(alloc, plant, true, behind)?))
     } else if is_same_word(word, b"NEVER") {
         Ok(does(instant, read_watched(alloc, plant, false, behind)?))
+    } else if is_same_word(word, b"WITHIN") {
+        Ok(does(instant, read_response(alloc, plant, behind)?))
     } else {
-        read_given(alloc, resource, instant, text)
+        read_stirred(alloc, resource, instant, text)
     }
 }
 

@@ -6,17 +6,21 @@ ghost use Rattle.sfc_test.specs.Running.Benches.{IsReady};
 
 use crate::bench::Bench;
 use crate::case::{Case, split_test};
+use crate::changes::{append_last_changes, append_script};
+use crate::desk::{Desk, NoDesk};
 use crate::input::read_tests_to_end;
 use crate::judge::{Outcome, judge};
 use crate::junit::Junit;
 use crate::line::Line;
 use crate::sfc_core::resource::Resource;
 use crate::sfc_debug::debugger::Debugger;
+use crate::sfc_debug::timed::Timed;
 use crate::sfc_debug::trace_mask::TraceMask;
 use crate::sfc_replay::chart::plant_of_text;
 use crate::sfc_replay::input::read_to_end;
 use crate::sfc_replay::replay_error::ReplayError;
 use crate::sfc_script::split::next_line;
+use crate::sources::Sources;
 use crate::telling::{Source, append_failure};
 use crate::test_file::{TestFile, read_tests};
 use sfc_base::write_fault::put_all;
@@ -129,12 +133,32 @@ fn append_told(out: &mut Vec<u8>, word: &[u8], name: &[u8]) -> Result<(), AllocE
     append(out, b"\n")
 }
 
-/// A case, its name, and the file in which it stands.
+/// A case, its name, the text in which it stands, and what is done with it.
 #[derive(Clone, Copy)]
 struct Titled<'a> {
     source: Source<'a>,
+    choice: Choice<'a>,
     name: &'a [u8],
     case: Case<'a>,
+}
+
+/// The text of a file, and what is done with its cases.
+#[derive(Clone, Copy)]
+struct Job<'a> {
+    source: Source<'a>,
+    choice: Choice<'a>,
+}
+
+impl<'a> Job<'a> {
+    // A case of this name.
+    fn titled(self, name: &'a [u8], case: Case<'a>) -> Titled<'a> {
+        Titled {
+            source: self.source,
+            choice: self.choice,
+            name,
+            case,
+        }
+    }
 }
 
 /// A chart, and how many of its cases have passed and failed.
@@ -160,8 +184,8 @@ impl Drop for Suite {
 }
 
 impl Suite {
-    /// The chart that a reader gives. At most 1,048,577 bytes are taken from it. `Chart` is answered where the chart is refused, `Read` where
-    /// the reader failed, `Memory` where memory was refused.
+    /// The chart that a reader gives. At most 1,048,577 bytes are taken from it. `Chart` is answered where the chart is refused, `Read`
+    /// where the reader failed, `Memory` where memory was refused.
     pub fn of_chart<C: Read>(alloc: Global, reader: &mut C) -> Result<Suite, ReplayError> {
         let chart = read_to_end(alloc, reader)?;
         let _plant = plant_of_text(alloc, &chart)?;
@@ -185,15 +209,11 @@ impl Suite {
     }
 
     // Counts a case that passed, and puts at the end that it did.
-    fn put_passed(
-        &mut self,
-        out: &mut Vec<u8>,
-        titled: Titled<'_>,
-        asked: Asked,
-    ) -> Result<(), AllocError> {
+    fn put_passed(&mut self, out: &mut Vec<u8>, titled: Titled<'_>) -> Result<(), AllocError> {
         self.passed = self.passed.saturating_add(1);
-        self.junit.add_passed(titled.source.name, titled.name)?;
-        match asked {
+        self.junit
+            .add_passed(titled.source.sources.name(), titled.name)?;
+        match titled.choice.asked {
             Asked::Tap => append_tap(out, b"ok ", self.total(), titled.name),
             _ => append_told(out, b"ok ", titled.name),
         }
@@ -204,13 +224,12 @@ impl Suite {
         &mut self,
         out: &mut Vec<u8>,
         titled: Titled<'_>,
-        asked: Asked,
         told: &[u8],
     ) -> Result<(), AllocError> {
         self.failed = self.failed.saturating_add(1);
         self.junit
-            .add_failed(titled.source.name, titled.name, told)?;
-        match asked {
+            .add_failed(titled.source.sources.name(), titled.name, told)?;
+        match titled.choice.asked {
             Asked::Tap => {
                 append_tap(out, b"not ok ", self.total(), titled.name)?;
                 append_lines(out, b"# ", told)
@@ -222,84 +241,159 @@ impl Suite {
         }
     }
 
-    // Runs a case, and puts at the end what becomes of it.
-    fn run(
-        &mut self,
-        bench: &mut Bench,
-        titled: Titled<'_>,
-        asked: Asked,
-        out: &mut Vec<u8>,
-    ) -> Result<(), AllocError>
+    // What a case accepts, which has failed: it is run once more. None where memory is refused for that.
+    fn accepted(&self, bench: &mut Bench, case: Case<'_>) -> Result<Option<Vec<Timed>>, AllocError>
         requires ready { IsReady bench.old }
         ensures ready { IsReady bench.new }
     {
+        bench.keep_trail(true);
+        let _outcome = judge(self.alloc, bench, case)?;
+        let commands = bench.take_trail(self.alloc);
+        bench.keep_trail(false);
+        bench.begin();
+        Ok(commands)
+    }
+
+    // Tells a case that has failed, with its last changes, and hands its commands over.
+    fn tell_failed<D: Desk>(
+        &mut self,
+        bench: &mut Bench,
+        titled: Titled<'_>,
+        desk: &mut D,
+        told: &mut Vec<u8>,
+    ) -> Result<(), ReplayError>
+        requires ready { IsReady bench.old }
+        ensures ready { IsReady bench.new }
+    {
+        let Some(commands) = self.accepted(bench, titled.case)? else {
+            return Ok(());
+        };
+        append_last_changes(self.alloc, told, bench, &commands)?;
+        let mut script = Vec::new(self.alloc);
+        append_script(&mut script, bench, &commands)?;
+        desk.take(&script, true)
+    }
+
+    // Hands the commands of a case over that has passed, where they are wanted.
+    fn hand_over<D: Desk>(&mut self, bench: &mut Bench, desk: &mut D) -> Result<(), ReplayError>
+        requires ready { IsReady bench.old }
+        ensures ready { IsReady bench.new }
+    {
+        let Some(commands) = bench.take_trail(self.alloc) else {
+            return Ok(());
+        };
+        let mut script = Vec::new(self.alloc);
+        append_script(&mut script, bench, &commands)?;
+        desk.take(&script, false)
+    }
+
+    // Runs a case, and puts at the end what becomes of it.
+    fn run<D: Desk>(
+        &mut self,
+        bench: &mut Bench,
+        titled: Titled<'_>,
+        desk: &mut D,
+        out: &mut Vec<u8>,
+    ) -> Result<(), ReplayError>
+        requires ready { IsReady bench.old }
+        ensures ready { IsReady bench.new }
+    {
+        bench.keep_trail(desk.wants_all());
         match judge(self.alloc, bench, titled.case)? {
-            Outcome::Passed => self.put_passed(out, titled, asked),
+            Outcome::Passed => {
+                self.put_passed(out, titled)?;
+                self.hand_over(bench, desk)
+            }
             Outcome::Failed(failure) => {
                 let mut told = Vec::new(self.alloc);
                 append_failure(self.alloc, &mut told, titled.source, bench, failure)?;
-                self.put_failed(out, titled, asked, &told)
+                self.tell_failed(bench, titled, desk, &mut told)?;
+                self.put_failed(out, titled, &told)?;
+                Ok(())
             }
         }
     }
 
     // Runs a case, where it is chosen, or lists it.
-    fn take<W: Write>(
+    fn take<W: Write, D: Desk>(
         &mut self,
         bench: &mut Bench,
         titled: Titled<'_>,
-        choice: Choice<'_>,
+        desk: &mut D,
         w: &mut W,
     ) -> Result<(), ReplayError>
         requires ready { IsReady bench.old }
         ensures ready { IsReady bench.new }
     {
-        if !has(titled.name, choice.filter) {
+        if !has(titled.name, titled.choice.filter) {
             return Ok(());
         }
         let mut out = Vec::new(self.alloc);
-        match choice.asked {
+        match titled.choice.asked {
             Asked::Names => append_told(&mut out, b"", titled.name)?,
-            asked => self.run(bench, titled, asked, &mut out)?,
+            _ => self.run(bench, titled, desk, &mut out)?,
         }
         put_all(w, &out)?;
         Ok(())
     }
 
     // Takes the cases of a file in turn, each with the lines before the first of them.
-    fn take_cases<W: Write>(
+    fn take_cases<W: Write, D: Desk>(
         &mut self,
         bench: &mut Bench,
-        source: Source<'_>,
-        choice: Choice<'_>,
+        job: Job<'_>,
+        desk: &mut D,
         w: &mut W,
     ) -> Result<(), ReplayError>
         requires ready { IsReady bench.old }
         ensures ready { IsReady bench.new }
     {
-        let (front, cases) = split_test(source.lines);
+        let (front, cases) = split_test(job.source.lines);
         if cases.is_empty() {
             let case = Case::new(front, cases);
-            let name = source.name;
-            return self.take(bench, Titled { source, name, case }, choice, w);
+            let titled = job.titled(job.source.sources.name(), case);
+            return self.take(bench, titled, desk, w);
         }
         let mut rest = cases;
         'cases: while let Some((line, others)) = rest.split_first() {
             let (own, next) = split_test(others);
             if let Some(name) = line.name() {
-                let case = Case::new(front, own);
-                self.take(bench, Titled { source, name, case }, choice, w)?;
+                let titled = job.titled(name, Case::new(front, own));
+                self.take(bench, titled, desk, w)?;
             }
             rest = next;
         }
         Ok(())
     }
 
-    /// Runs the cases of a file that are chosen, and writes of each `ok` or `FAILED` and its name, with what is wrong; or lists them. What stands
-    /// before the first TEST is done before each; a file without TEST is one case of the file's name. All of them are run whatever fails.
+    /// Runs the cases of a file, with those that it includes, that are chosen, and writes of each `ok` or `FAILED` and its name, with what
+    /// is wrong; or lists them. What stands before the first TEST is done before each; a file without TEST is one case of the file's name.
+    /// All of them are run whatever fails. The commands of cases go to the desk.
     ///
-    /// At most 67,108,865 bytes are taken from the reader. `Script` is answered where a line can't be read, and nothing was written; `Read`
-    /// where the reader failed, `Memory` where memory was refused, `Write` where the writer failed or took no byte.
+    /// `Script` is answered where a line can't be read, a line of the whole text, and nothing was written; `Memory` where memory was
+    /// refused, `Write` where the writer failed or took no byte; and what the desk answers.
+    pub fn test_sources<W: Write, D: Desk>(
+        &mut self,
+        sources: &Sources,
+        choice: Choice<'_>,
+        desk: &mut D,
+        w: &mut W,
+    ) -> Result<(), ReplayError> {
+        let Opened {
+            mut bench,
+            lines,
+            places,
+        } = open_file(self.alloc, &self.chart, sources.text())?;
+        let source = Source {
+            sources,
+            lines: &lines,
+            places: &places,
+        };
+        self.take_cases(&mut bench, Job { source, choice }, desk, w)
+    }
+
+    /// Runs the cases of a file that includes no other, as `test_sources` does. At most 67,108,865 bytes are taken from the reader; `Read`
+    /// is answered where it failed.
     pub fn test<S: Read, W: Write>(
         &mut self,
         name: &str,
@@ -307,19 +401,9 @@ impl Suite {
         choice: Choice<'_>,
         w: &mut W,
     ) -> Result<(), ReplayError> {
-        let bytes = read_tests_to_end(self.alloc, reader)?;
-        let Opened {
-            mut bench,
-            lines,
-            places,
-        } = open_file(self.alloc, &self.chart, &bytes)?;
-        let source = Source {
-            name: name.as_bytes(),
-            bytes: &bytes,
-            lines: &lines,
-            places: &places,
-        };
-        self.take_cases(&mut bench, source, choice, w)
+        let text = read_tests_to_end(self.alloc, reader)?;
+        let sources = Sources::of_one(self.alloc, name.as_bytes(), text)?;
+        self.test_sources(&sources, choice, &mut NoDesk, w)
     }
 
     /// The results as the XML of JUnit, for a chart of this name. The one error is that memory was refused.

@@ -7,6 +7,8 @@ use crate::judge::Failure;
 use crate::line::Line;
 use crate::operands::{append_joint, append_none, append_operands};
 use crate::sfc_script::split::next_line;
+use crate::sources::Sources;
+use crate::watch::Watch;
 use crate::words::from_word;
 use sfc_base::ids::{ProgId, TaskId};
 use sfc_base::references::StepId;
@@ -15,11 +17,10 @@ use sfc_page::append::{append, append_number, append_time};
 use sfc_plant::names::{instance_name, task_name};
 use std::alloc::{AllocError, Global};
 
-/// A file of tests: its name, its bytes, its lines that do something, and the bytes at which they begin.
+/// Tests: their text, its lines that do something, and the bytes at which they begin.
 #[derive(Clone, Copy)]
 pub struct Source<'a> {
-    pub name: &'a [u8],
-    pub bytes: &'a [u8],
+    pub sources: &'a Sources,
     pub lines: &'a [Line],
     pub places: &'a [usize],
 }
@@ -30,23 +31,30 @@ fn text_of<'a>(source: Source<'a>, number: usize) -> &'a [u8] {
     let Some(place) = source.places.get(index) else {
         return b"";
     };
-    if *place > source.bytes.len() {
+    let text = source.sources.text();
+    if *place > text.len() {
         return b"";
     }
-    let (_, bytes) = source.bytes.split_at(*place);
+    let (_, bytes) = text.split_at(*place);
     match next_line(bytes) {
         Some((line, _)) => line,
         None => b"",
     }
 }
 
-// A line with the file, the number and the text of a line.
+// A line with the file, the number and the text of a line, and at which of its bytes that begins, counted from 1.
 fn append_place(out: &mut Vec<u8>, source: Source<'_>, line: &Line) -> Result<(), AllocError> {
-    append(out, source.name)?;
+    let (name, number) = source.sources.place(line.number);
+    let whole = text_of(source, line.number);
+    let text = from_word(whole);
+    let column = whole.len().saturating_sub(text.len()).saturating_add(1);
+    append(out, name)?;
     append(out, b":")?;
-    append_number(out, line.number as u64)?;
+    append_number(out, number as u64)?;
+    append(out, b":")?;
+    append_number(out, column as u64)?;
     append(out, b": ")?;
-    append(out, from_word(text_of(source, line.number)))?;
+    append(out, text)?;
     append(out, b"\n")
 }
 
@@ -113,7 +121,16 @@ fn append_state(
         Deed::Expects(condition) | Deed::Runs(Some(condition), _) => {
             append_operands(alloc, out, bench, condition)
         }
-        Deed::Watches(watch) => append_operands(alloc, out, bench, &watch.condition),
+        Deed::Watches(Watch::Stays(steady)) => append_operands(
+            alloc,
+            out,
+            bench,
+            &steady.condition,
+        ),
+        Deed::Watches(Watch::Responds(response)) => {
+            append(out, b"late, ")?;
+            append_operands(alloc, out, bench, &response.effect)
+        }
         Deed::Active(program, _) => append_active(out, bench, *program),
         Deed::Faulted(_, program) => append_fault(out, bench, *program),
         Deed::Overran(_, task) => append_overruns(out, bench, *task),
@@ -122,11 +139,17 @@ fn append_state(
 }
 
 // The instant, and the line at which a condition was looked at that another line watches.
-fn append_moment(out: &mut Vec<u8>, bench: &Bench, failure: Failure<'_>) -> Result<(), AllocError> {
+fn append_moment(
+    out: &mut Vec<u8>,
+    source: Source<'_>,
+    bench: &Bench,
+    failure: Failure<'_>,
+) -> Result<(), AllocError> {
     append_time(out, bench.clock())?;
     if let Complaint::Broken(_) = failure.complaint {
+        let (_, number) = source.sources.place(failure.line.number);
         append(out, b", line ")?;
-        append_number(out, failure.line.number as u64)?;
+        append_number(out, number as u64)?;
     }
     append(out, b": ")
 }
@@ -143,7 +166,7 @@ fn append_complaint(
         Complaint::Accepted => append(out, b"accepted"),
         Complaint::Faulted(program) => append_fault(out, bench, program),
         Complaint::Overran(task) => append_overruns(out, bench, task),
-        Complaint::TooMany => append(out, b"more than 100000000 scans"),
+        Complaint::TooMany => append(out, b"more than 100000000 commands"),
         Complaint::NotYet | Complaint::Differs => append_state(alloc, out, bench, failure.line),
         Complaint::Broken(line) => append_state(alloc, out, bench, line),
     }
@@ -157,8 +180,8 @@ fn line_of<'a>(failure: Failure<'a>) -> &'a Line {
     }
 }
 
-/// Puts at the end what is told of a failure: a line with the file, the number and the text of the line that isn't right; and one with the
-/// instant of the test's clock, and what it reads, how that stands, or the refusal. The one error is that memory was refused.
+/// Puts at the end what is told of a failure: a line with the file, the number, the column and the text of the line that isn't right; and
+/// one with the instant of the test's clock, and what it reads, how that stands, or the refusal. The one error is that memory was refused.
 pub fn append_failure(
     alloc: Global,
     out: &mut Vec<u8>,
@@ -167,7 +190,7 @@ pub fn append_failure(
     failure: Failure<'_>,
 ) -> Result<(), AllocError> {
     append_place(out, source, line_of(failure))?;
-    append_moment(out, bench, failure)?;
+    append_moment(out, source, bench, failure)?;
     append_complaint(alloc, out, bench, failure)?;
     append(out, b"\n")
 }

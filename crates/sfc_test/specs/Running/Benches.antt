@@ -19,7 +19,7 @@ use Rattle.sfc_test.specs.declared.given.Given.{Given}
 use Rattle.sfc_test.specs.declared.turn.Turn.{Turn}
 use Rattle.sfc_test.specs.declared.turn.Turn.TheVariants.{Taken, NoTurn}
 use Rattle.sfc_test.specs.Holding.{task_of, told_overruns}
-use Rattle.sfc_test.specs.Moments.{Moment, behind_command, is_there}
+use Rattle.sfc_test.specs.Moments.{Moment, Step, behind_command, behind_step, is_there}
 
 -- the debugger to which its commands are given
 unfoldable pub debugger_in : Bench → Debugger
@@ -46,6 +46,7 @@ pub record IsAt (bench : Bench) (m : Moment) : Type 0 where
   pub count : length bench.told.items ≡ length (plant_of bench.debugger).tasks
   pub told : (task : TaskId) → task.0 < length (plant_of bench.debugger).tasks →
       slice_get bench.told.items task.0 ≡ Some (told_overruns (steered_by bench.debugger) m.history task)
+  pub stimuli : bench.stimuli.items ≡ m.stimuli
 
 unfoldable pub Stands : Bench → Moment → Type 0
 Stands bench m = IsAt bench m
@@ -57,6 +58,7 @@ pub record IsBehind (bench : Bench) (m : Moment) (timed : TimedCommand) : Type 0
   pub count : length bench.told.items ≡ length (plant_of bench.debugger).tasks
   pub told : (task : TaskId) → task.0 < length (plant_of bench.debugger).tasks →
       slice_get bench.told.items task.0 ≡ Some (told_overruns (steered_by bench.debugger) m.history task)
+  pub stimuli : bench.stimuli.items ≡ m.stimuli
 
 unfoldable pub Accepted : Bench → Moment → TimedCommand → Type 0
 Accepted bench m timed = IsBehind bench m timed
@@ -95,3 +97,9 @@ abbrev pub GivesScan : Steered → Moment → Option TimedCommand → Option Giv
 GivesScan steered m None None new = Stands new m
 GivesScan steered m (Some timed) (Some given) new = GivesAt steered m timed given new
 GivesScan steered m _ _ new = ⊥
+
+-- the command was given that came next, and the stimuli are those behind it
+abbrev pub GivesStep : Steered → Moment → Option Step → Option Given → Bench → Type 0
+GivesStep steered m None None new = Stands new m
+GivesStep steered m (Some step) (Some given) new = IsGiven steered m step.timed given × Stands new (behind_step steered m step)
+GivesStep steered m _ _ new = ⊥

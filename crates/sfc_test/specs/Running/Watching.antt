@@ -3,33 +3,48 @@ use Rattle.std.specs.Prelude.{◌≡◌, ◌⊎◌, Bool, true, false, ◌&&◌,
 use Rattle.std.specs.List.{list_all}
 use Rattle.sfc_replay.specs.sfc_debug.Histories.{TimedCommand}
 use Rattle.sfc_replay.specs.sfc_debug.Steered.{Steered}
-use Rattle.sfc_replay.specs.sfc_debug.declared.break_condition.BreakCondition.{BreakCondition}
+use Rattle.sfc_test.specs.declared.joined.Condition.{Condition}
 use Rattle.sfc_test.specs.declared.line.Line.{Line}
 use Rattle.sfc_test.specs.declared.pending.Pending.{Pending}
 use Rattle.sfc_test.specs.declared.pending.Watched.{Watched}
 use Rattle.sfc_test.specs.declared.watch.Watch.{Watch}
-use Rattle.sfc_test.specs.Courses.{behind_line, commands_of, later}
-use Rattle.sfc_test.specs.Holding.{are_fine, held, is_fine, passes_from}
-use Rattle.sfc_test.specs.Moments.{Moment, behind_command, last_moment, moments}
-use Rattle.sfc_test.specs.Scans.{is_reached, most, scans}
+use Rattle.sfc_test.specs.declared.watch.Watch.TheVariants.{Stays, Responds}
+use Rattle.sfc_test.specs.Courses.{behind_line, behind_lines, steps_of}
+use Rattle.sfc_test.specs.Holding.{are_fine, held, is_fine, passes_from, responds, stays}
+use Rattle.sfc_test.specs.Moments.{Moment, Step, behind_step, last_moment, moments, plain_step}
+use Rattle.sfc_test.specs.Scans.{is_reached, most, run_steps}
+use Rattle.sfc_test.specs.Stimuli.{later}
 
 -- ---- what is watched
 
--- a condition that is watched: where the clock stood when it began, and whether it is over
+-- what is watched: where the clock stood when it began, and whether it is over; and of a response whether the cause was TRUE at the moment
+-- before, and by when the effect has to be
 pub record Held : Type 0 where
   pub watch : Watch
   pub from : ℤ
   pub over : Bool
+  pub was : Bool
+  pub due : Option ℤ
 
 abbrev pub as_held : Watched → Held
-as_held watched = record { watch = watched.watch.now; from = watched.from; over = watched.is_over }
+as_held watched = record {
+  watch = watched.watch.now;
+  from = watched.from;
+  over = watched.is_over;
+  was = watched.was;
+  due = watched.due;
+}
 
 unfoldable pub held_in : Pending → List Held
 held_in pending = map as_held pending.watched.items
 
 -- it holds at each of these moments up to its end
+abbrev pub still_by : Steered → List Moment → Held → Watch → Bool
+still_by steered ms h (Stays steady) = h.over || stays steered h.from steady ms
+still_by steered ms h (Responds response) = responds steered response h.was h.due ms
+
 abbrev pub still_held : Steered → List Moment → Held → Bool
-still_held steered ms h = h.over || held steered h.from h.watch ms
+still_held steered ms h = still_by steered ms h h.watch
 
 abbrev pub all_held : Steered → List Held → List Moment → Bool
 all_held steered hs ms = list_all (still_held steered ms) hs
@@ -48,7 +63,7 @@ LooksAt steered m old new false = (ms : List Moment) → still_held steered (m �
 
 -- one that begins at a moment, and joins the others
 abbrev pub first_held : Moment → Watch → Held
-first_held m watch = record { watch = watch; from = m.clock; over = false }
+first_held m watch = record { watch = watch; from = m.clock; over = false; was = false; due = None }
 
 abbrev pub Begins : Steered → Moment → Watch → List Held → List Held → Bool → Type 0
 Begins steered m watch old new holds = (h : Held) × (new ≡ old ++ h ∷ []) × LooksAt steered m (first_held m watch) h holds
@@ -72,33 +87,42 @@ Goes steered right over old new None = (right ≡ true) × GoOver steered old ov
 Goes steered right over old new (Some x) = (right ≡ false) ⊎ IsBroken steered old over
 
 -- a command that should be accepted, behind which these lines stand
+abbrev pub ChecksStep : {X : Type 0} → Steered → Moment → Step → List Line → List Held → List Held → Option X → Type 0
+ChecksStep steered m step lines old new wrong =
+    Goes steered (is_fine steered lines m.history step.timed) (behind_step steered m step ∷ []) old new wrong
+
 abbrev pub Checks : {X : Type 0} → Steered → Moment → TimedCommand → List Line → List Held → List Held → Option X → Type 0
-Checks steered m timed lines old new wrong =
-    Goes steered (is_fine steered lines m.history timed) (behind_command steered m timed ∷ []) old new wrong
+Checks steered m timed lines old new wrong = ChecksStep steered m (plain_step m timed) lines old new wrong
 
--- the scans of a run, up to this raw instant
-abbrev pub scans_from : Steered → Option BreakCondition → ℤ → Moment → List TimedCommand
-scans_from steered until limit m = scans steered until limit most m
+-- the commands of a run, up to this raw instant
+abbrev pub steps_from : Steered → Option Condition → ℤ → Moment → List Step
+steps_from steered until limit m = run_steps steered until limit most m
 
-abbrev pub end_of : Steered → Option BreakCondition → ℤ → Moment → Moment
-end_of steered until limit m = last_moment m (moments steered m (scans_from steered until limit m))
+abbrev pub end_of : Steered → Option Condition → ℤ → Moment → Moment
+end_of steered until limit m = last_moment m (moments steered m (steps_from steered until limit m))
 
-abbrev pub Runs : {X : Type 0} → Steered → Option BreakCondition → ℤ → Moment → List Line → List Held → List Held → Option X → Type 0
+abbrev pub Runs : {X : Type 0} → Steered → Option Condition → ℤ → Moment → List Line → List Held → List Held → Option X → Type 0
 Runs steered until limit m lines old new wrong =
-    Goes steered (are_fine steered lines m (scans_from steered until limit m)
-    && is_reached steered until (scans_from steered until limit m) (end_of steered until limit m))
-    (moments steered m (scans_from steered until limit m)) old new wrong
+    Goes steered (are_fine steered lines m (steps_from steered until limit m)
+    && is_reached steered until (steps_from steered until limit m) (end_of steered until limit m))
+    (moments steered m (steps_from steered until limit m)) old new wrong
 
--- where a run ends: behind RUN at its limit, behind UNTIL at its last scan
-abbrev pub run_end : Steered → Option BreakCondition → ℤ → Moment → Moment
-run_end steered None limit m =
-    record { history = (end_of steered None limit m).history; clock = later (end_of steered None limit m).clock limit }
+-- where a run ends: behind RUN at its limit, behind UNTIL at its last command
+abbrev pub run_end : Steered → Option Condition → ℤ → Moment → Moment
+run_end steered None limit m = record {
+  history = (end_of steered None limit m).history;
+  clock = later (end_of steered None limit m).clock limit;
+  stimuli = (end_of steered None limit m).stimuli;
+}
 run_end steered (Some until) limit m = end_of steered (Some until) limit m
+
+-- what these lines give from this moment on, and where the case ends
+abbrev pub rest_moments : Steered → Moment → List Line → List Moment
+rest_moments steered m lines = moments steered m (steps_of steered m lines) ++ behind_lines steered m lines ∷ []
 
 -- From this moment on the lines pass, and all hold that are watched.
 abbrev pub rest_passes : Steered → Moment → List Held → List Line → Bool
-rest_passes steered m hs lines =
-    passes_from steered m lines && all_held steered hs (moments steered m (commands_of steered m lines))
+rest_passes steered m hs lines = passes_from steered m lines && all_held steered hs (rest_moments steered m lines)
 
 -- Nothing is wrong with a line, and the others decide; or something is.
 abbrev pub Obeys : {X : Type 0} → Steered → Moment → Line → List Line → List Held → List Held → Option X → Type 0

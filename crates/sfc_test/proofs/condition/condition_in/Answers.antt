@@ -17,5 +17,5 @@ returns-in-Ok c = λ read is.
 pub returns-in-Err : goal.returns-in-Err
 returns-in-Err c = λ read is.
     let text = c.args.asked.text.now in
-    c.unread.ensures c.args.plant.now c.args.asked.program (read text)
+    c.unread.ensures.condition c.args.plant.now c.args.asked.program (read text)
     (told_as text (read text) c.in-Err.error.kind (λ o reads. c.one_expression_reading.ensures text o (read text) reads (is text)) c.in-Err.ensures)

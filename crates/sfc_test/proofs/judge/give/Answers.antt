@@ -1,8 +1,8 @@
-use Rattle.std.proofs.Common.{◌≡◌, sym, subst}
+use Rattle.std.proofs.Common.{sym, subst}
 use Rattle.sfc_replay.specs.sfc_debug.Histories.{TimedCommand}
 use Rattle.sfc_replay.specs.sfc_debug.Steered.{Steered}
-use Rattle.sfc_test.specs.Moments.{behind_command}
-use Rattle.sfc_test.specs.Running.Benches.{IsGiven, Stands, steered_in}
+use Rattle.sfc_test.specs.Moments.{behind_command, plain_step}
+use Rattle.sfc_test.specs.Running.Benches.{IsGiven, Stands}
 use Rattle.sfc_test.specs.Running.Cases.{lines_in}
 use Rattle.sfc_test.specs.Running.Watching.{Checks, held_in}
 use Rattle.sfc_test.proofs.judge.give.Goals as goal
@@ -14,5 +14,5 @@ returns-clause-checks c = λ m stands.
     let gives = c.give-given.ensures.gives m stands in
     let new = c.give-given.new.self in
     subst (λ (s : Steered). Checks s m timed (lines_in c.args.behind) (held_in c.args.pending.now) (held_in c.check.new.pending) c.check.result) same
-    (c.check.ensures m timed (subst (λ (s : Steered). IsGiven s m timed c.give-given.result) (sym same) gives.0)
+    (c.check.ensures m (plain_step m timed) (subst (λ (s : Steered). IsGiven s m timed c.give-given.result) (sym same) gives.0)
     (subst (λ (s : Steered). Stands new (behind_command s m timed)) (sym same) gives.1))

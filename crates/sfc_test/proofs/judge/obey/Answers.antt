@@ -1,5 +1,5 @@
-use Rattle.std.proofs.Common.{rules, ◌≡◌, ◌∙◌, ◌∷◌, [], refl, sym, ap, subst, ℕ, ℤ, List, w64, SFits, to_z, of_z, to_z-of_z}
-use Rattle.std.specs.Prelude.{IfNone}
+use Rattle.std.proofs.Common.{rules, ◌≡◌, ◌∙◌, ◌∷◌, [], refl, sym, ap, subst, ℤ, List, w64, SFits, to_z, of_z, to_z-of_z}
+use Rattle.std.specs.Prelude.{IfNone, None, is_none}
 use Rattle.sfc_replay.specs.sfc_debug.Steered.{Steered}
 use Rattle.sfc_replay.specs.sfc_output.Output.{debugger_of}
 use Rattle.sfc_test.specs.declared.deed.Deed.{Deed}
@@ -12,7 +12,7 @@ use Rattle.sfc_test.specs.Moments.{Moment, behind_command}
 use Rattle.sfc_test.specs.Running.Benches.{Stands, steered_in}
 use Rattle.sfc_test.specs.Running.Cases.{lines_in}
 use Rattle.sfc_test.specs.Running.Watching.{Checks, Goes, Held, Obeys, Runs, Starts, held_in, run_end}
-use Rattle.sfc_test.proofs.Passing.{each_ok, obeys_giving, obeys_plain, obeys_refusing, obeys_running, obeys_watching, plain_deed, run_behind, whatever}
+use Rattle.sfc_test.proofs.Passing.{each_ok, obeys_giving, obeys_plain, obeys_refusing, obeys_running, obeys_watching, plain_deed, run_behind, stirs_stands, whatever}
 use Rattle.sfc_test.proofs.judge.obey.Goals as goal
 
 pub returns-in-Gives-clause-obeys : goal.returns-in-Gives-clause-obeys
@@ -97,6 +97,26 @@ returns-in-Watches-clause-obeys c = λ m stands.
     (subst (λ (s : Steered). Starts s at c.in-Watches.watched old new wrong) same starts))
     (c.begin_watch.ensures at begun)
 
+pub returns-in-Stirs-clause-obeys : goal.returns-in-Stirs-clause-obeys
+returns-in-Stirs-clause-obeys c = λ m stands.
+    let st : Steered = steered_in c.args.bench.now in
+    let line : Line = c.args.line.now in
+    let lines : List Line = lines_in c.args.behind in
+    let old : List Held = held_in c.args.pending.now in
+    each_ok c.stir.result (λ wrong. wrong ≡ None) (λ wrong. Obeys st m line lines old old wrong)
+    (λ wrong none. obeys_plain st m line lines old wrong (deeds.Stirs c.in-Stirs.stimulus) c.in-Stirs.is refl (sym (ap is_none none)))
+    c.stir.ensures.nothing
+
+pub returns-in-Stirs-clause-stands : goal.returns-in-Stirs-clause-stands
+returns-in-Stirs-clause-stands c = λ m stands.
+    let st : Steered = steered_in c.args.bench.now in
+    let line : Line = c.args.line.now in
+    let at : Moment = here m line in
+    let begun = c.go_to.ensures.stands m stands in
+    let there : behind_line st m line ≡ behind st at (deeds.Stirs c.in-Stirs.stimulus) = ap (behind st at) c.in-Stirs.is in
+    stirs_stands c.stir.result c.stir.new.bench (behind_line st m line) (behind st at (deeds.Stirs c.in-Stirs.stimulus)) there
+    (c.stir.ensures.stands at begun)
+
 pub returns-in_default : goal.returns-in_default
 returns-in_default c = record {
   ready = c.go_to.ensures.ready;
@@ -109,7 +129,7 @@ returns-in_default c = record {
       let at : Moment = here m line in
       let begun = c.go_to.ensures.stands m stands in
       let same = c.go_to.ensures.steered in
-      let plain = plain_deed st at line.deed lines c.in_default.not-Gives c.in_default.not-Refuses c.in_default.not-Runs c.in_default.not-Watches in
+      let plain = plain_deed st at line.deed lines c.in_default.not-Gives c.in_default.not-Refuses c.in_default.not-Runs c.in_default.not-Watches c.in_default.not-Stirs in
       obeys_plain st m line lines old c.unless.result line.deed refl plain.0
       (plain.1 ∙ sym (c.unless.ensures ∙ c.holds.ensures at begun ∙ ap (λ (s : Steered). holds s at line.deed) same));
   stands = λ m stands.
@@ -120,7 +140,7 @@ returns-in_default c = record {
       let at : Moment = here m line in
       let begun = c.go_to.ensures.stands m stands in
       let same = c.go_to.ensures.steered in
-      let plain = plain_deed st at line.deed lines c.in_default.not-Gives c.in_default.not-Refuses c.in_default.not-Runs c.in_default.not-Watches in
+      let plain = plain_deed st at line.deed lines c.in_default.not-Gives c.in_default.not-Refuses c.in_default.not-Runs c.in_default.not-Watches c.in_default.not-Stirs in
       let there : behind_line st m line ≡ at = plain.2 in
       whatever c.unless.result (Stands c.go_to.new.self (behind_line st m line)) (subst (λ (x : Moment). Stands c.go_to.new.self x) (sym there) begun);
 }

@@ -8,7 +8,6 @@ use Rattle.sfc_replay.specs.sfc_debug.Steered.{Steered}
 use Rattle.sfc_replay.specs.sfc_debug.Verdict.{history_by}
 use Rattle.sfc_replay.specs.sfc_output.Output.{Verdict, debugger_of}
 use Rattle.sfc_test.specs.Holding.{told_overruns}
-use Rattle.sfc_test.specs.Moments.{Moment}
 use Rattle.sfc_test.specs.Running.Benches.{Accepted, Stands, steered_in}
 use Rattle.sfc_test.proofs.Trying.{accepted}
 use Rattle.sfc_test.proofs.bench.Bench.attempt.Goals as goal
@@ -31,12 +30,14 @@ returns-then-is_ok-clause-stands c = λ m stands.
       history = history_by ((debugger_of st).verdict m.history (c.args.command, r))
           (c.args.command, r) m.history;
       clock = m.clock;
+      stimuli = m.stimuli;
     })) (to_z-of_z fits)
-    (subst (λ (h : CommandHistory). Stands c.keep.new.self (record { history = h; clock = m.clock })) (sym more)
+    (subst (λ (h : CommandHistory). Stands c.keep.new.self (record { history = h; clock = m.clock; stimuli = m.stimuli })) (sym more)
     (c.keep.ensures.stands m (record {
       agrees = after;
       clock = stands.clock;
       count = stands.count ∙ sym (ap (λ (s : Steered). length s.plant.tasks) same);
       told = subst (λ (s : Steered). (task : TaskId) → task.0 < length s.plant.tasks →
           slice_get c.args.self.now.told.items task.0 ≡ Some (told_overruns s m.history task)) (sym same) stands.told;
+      stimuli = stands.stimuli;
     })))

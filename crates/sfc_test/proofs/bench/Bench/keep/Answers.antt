@@ -16,4 +16,5 @@ returns-in-Some-clause-stands c = λ m accepted.
       told = told_kept st c.args.self.now.told.items c.keep_told.new.told.items m.history (c.args.command, c.args.raw) c.in-Some.task
           c.overruns-overruns.result (sym c.task_of.ensures ∙ c.in-Some.is) (c.overruns-overruns.ensures.agrees _ accepted.agrees) accepted.count
           c.keep_told.ensures.kept c.keep_told.ensures.others accepted.told;
+      stimuli = accepted.stimuli;
     }

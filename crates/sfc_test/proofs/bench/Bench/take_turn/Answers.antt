@@ -6,7 +6,6 @@ use Rattle.sfc_replay.specs.sfc_output.Output.{debugger_of}
 use Rattle.sfc_session.specs.Scanning.{earlier, release_in}
 use Rattle.sfc_test.specs.declared.bench.Bench.{Bench}
 use Rattle.sfc_test.specs.declared.turn.Turn.TheVariants.{Taken, NoTurn}
-use Rattle.sfc_test.specs.Moments.{Moment, behind_command}
 use Rattle.sfc_test.specs.Running.Benches.{IsGiven, Stands, TakesTurn, scan_of, steered_in}
 use Rattle.sfc_test.proofs.Trying.{GoesThrough, through_all, through_here, through_more}
 use Rattle.sfc_test.proofs.bench.Bench.take_turn.Goals as goal
@@ -25,8 +24,8 @@ returns-then-not-is_out_of_turn-clause-takes c = λ m stands.
     (c.tasks-tasks.ensures.value ∙ ap (λ (p : PlantData). p.tasks) (c.plant.ensures ∙ c.resource.ensures.plant)) c.tasks-test.true in
     let is : IsGiven st m (scan_of k at) c.attempt-given.result =
     subst (λ (s : Steered). IsGiven s m (scan_of k at) c.attempt-given.result) same (c.attempt-given.ensures.given m through.stands) in
-    let after : Stands c.attempt-given.new.self (record { history = (debugger_of st).after m.history (scan_of k at); clock = m.clock }) =
-    subst (λ (s : Steered). Stands c.attempt-given.new.self (record { history = (debugger_of s).after m.history (scan_of k at); clock = m.clock })) same
+    let after : Stands c.attempt-given.new.self (record { history = (debugger_of st).after m.history (scan_of k at); clock = m.clock; stimuli = m.stimuli }) =
+    subst (λ (s : Steered). Stands c.attempt-given.new.self (record { history = (debugger_of s).after m.history (scan_of k at); clock = m.clock; stimuli = m.stimuli })) same
     (c.attempt-given.ensures.stands m through.stands) in
     let new : Bench = record {
       debugger = c.attempt-given.new.self.debugger;
@@ -34,11 +33,13 @@ returns-then-not-is_out_of_turn-clause-takes c = λ m stands.
       clock = at;
       last = c.attempt-given.new.self.last;
       told = c.attempt-given.new.self.told;
+      stimuli = c.attempt-given.new.self.stimuli;
+      trail = c.attempt-given.new.self.trail;
     } in
     subst (λ (r : ℤ). TakesTurn st m r (Taken c.attempt-given.result) new) (to_z-of_z fits)
     (through_here st m at c.tasks.self new c.attempt-given.result k c.tasks.earliest less through is
     (sym c.is_out_of_turn.ensures ∙ c.if-not-is_out_of_turn.true)
-    (record { agrees = after.agrees; clock = refl; last = after.last; count = after.count; told = after.told }))
+    (record { agrees = after.agrees; clock = refl; last = after.last; count = after.count; told = after.told; stimuli = after.stimuli }))
 
 pub tasks-preserved : goal.tasks-preserved
 unfolding steered_in
@@ -56,8 +57,8 @@ tasks-preserved c = record {
       (c.tasks-tasks.ensures.value ∙ ap (λ (p : PlantData). p.tasks) (c.plant.ensures ∙ c.resource.ensures.plant)) c.tasks-test.true in
       let is : IsGiven st m (scan_of k at) c.attempt-given.result =
       subst (λ (s : Steered). IsGiven s m (scan_of k at) c.attempt-given.result) same (c.attempt-given.ensures.given m through.stands) in
-      let after : Stands c.attempt-given.new.self (record { history = (debugger_of st).after m.history (scan_of k at); clock = m.clock }) =
-      subst (λ (s : Steered). Stands c.attempt-given.new.self (record { history = (debugger_of s).after m.history (scan_of k at); clock = m.clock })) same
+      let after : Stands c.attempt-given.new.self (record { history = (debugger_of st).after m.history (scan_of k at); clock = m.clock; stimuli = m.stimuli }) =
+      subst (λ (s : Steered). Stands c.attempt-given.new.self (record { history = (debugger_of s).after m.history (scan_of k at); clock = m.clock; stimuli = m.stimuli })) same
       (c.attempt-given.ensures.stands m through.stands) in
       let earliest : earlier c.tasks.earliest (release_in c.attempt-given.result.answer) ≡ c.earlier-earliest.result =
       sym (c.earlier-earliest.ensures ∙ ap (earlier c.tasks.earliest) c.release_in.ensures) in
