@@ -2,7 +2,7 @@
 # ~/.local/share/bash-completion/completions.
 
 _sfcmon() {
-  local commands='check list why replay run debug draw wave cover test report explain help'
+  local commands='check lint list why replay run debug draw wave cover test report explain help'
   local names='TooLong NotAscii BadToken Syntax TooDeep BadDuration BadNumber Memory
     Unknown WrongType LiteralRange NotAssignable Duplicate NoInitial UnknownStep UnknownAction NotBool NotTime NoTask
     UnknownType SameLocation Limit
@@ -21,15 +21,17 @@ _sfcmon() {
     :-*) mapfile -t COMPREPLY < <(compgen -W '-h --help -V --version' -- "$word") ;;
     :*) mapfile -t COMPREPLY < <(compgen -W "$commands" -- "$word") ;;
     help:*) mapfile -t COMPREPLY < <(compgen -W "$commands" -- "$word") ;;
+    why:-*) mapfile -t COMPREPLY < <(compgen -W '-h --help --all' -- "$word") ;;
     replay:-*) mapfile -t COMPREPLY < <(compgen -W '-h --help --strict' -- "$word") ;;
     run:-*) mapfile -t COMPREPLY < <(compgen -W '-h --help --trace --history --for --forever' -- "$word") ;;
     draw:-*) mapfile -t COMPREPLY < <(compgen -W '-h --help --program --after --cover --dot' -- "$word") ;;
     wave:-*) mapfile -t COMPREPLY < <(compgen -W '-h --help --raw --svg --only --gtkw' -- "$word") ;;
     cover:-*) mapfile -t COMPREPLY < <(compgen -W '-h --help --min' -- "$word") ;;
-    test:-*) mapfile -t COMPREPLY < <(compgen -W '-h --help --filter --list --tap --junit' -- "$word") ;;
+    test:-*) mapfile -t COMPREPLY < <(compgen -W '-h --help --filter --list --tap --junit --cover --script --wave' -- "$word") ;;
+    lint:-*) mapfile -t COMPREPLY < <(compgen -W '-h --help --deny --allow --limit' -- "$word") ;;
     *:-*) mapfile -t COMPREPLY < <(compgen -W '-h --help' -- "$word") ;;
     explain:*) mapfile -t COMPREPLY < <(compgen -W "$names" -- "$word") ;;
-    check:* | list:* | why:* | replay:* | run:* | debug:* | draw:* | wave:* | cover:* | test:* | report:*)
+    check:* | lint:* | list:* | why:* | replay:* | run:* | debug:* | draw:* | wave:* | cover:* | test:* | report:*)
       mapfile -t COMPREPLY < <(compgen -f -- "$word")
       compopt -o filenames 2>/dev/null
       ;;

@@ -7,6 +7,7 @@ use crate::sfc_replay::replay_error::ReplayError;
 use clap::builder::ValueParser;
 use clap::error::ErrorKind;
 use clap::{Arg, ArgAction, ArgMatches, Command, Error};
+use sfc_lint::kind::kind_named;
 use sfc_tokens::duration::duration;
 use sfc_wave::asked::{Form, Instants};
 use std::alloc::{AllocError, Global};
@@ -32,6 +33,8 @@ pub struct Asking {
     pub chart: String,
     /// The name of the script's file, if there is one.
     pub script: Option<String>,
+    /// Whether all faults of the chart are to be told.
+    pub all: bool,
 }
 
 /// A chart to be run in real time.
@@ -114,6 +117,11 @@ pub struct Testing {
     pub is_tap: bool,
     /// The name of the file to which the results go as the XML of JUnit.
     pub junit: Option<String>,
+    /// How many percents all cases have to reach together, where that is asked.
+    pub cover: Option<u8>,
+    /// The names of the files to which the signals and the script of the first case go that has failed.
+    pub wave: Option<String>,
+    pub script: Option<String>,
 }
 
 /// Scripts on a chart, and its tests, of which a report is asked.
@@ -127,6 +135,19 @@ pub struct Reporting {
     pub tests: Vec<String>,
 }
 
+/// A chart whose warnings are to be told.
+#[derive(Drop)]
+pub struct Linting {
+    /// The name of the chart's file.
+    pub chart: String,
+    /// The kinds of warnings that count for the exit status, by code or name; `all` stands for all.
+    pub denied: Vec<String>,
+    /// The kinds that aren't told.
+    pub allowed: Vec<String>,
+    /// How many sets of active steps of a network are looked at.
+    pub limit: usize,
+}
+
 /// What the words ask for.
 #[derive(Drop)]
 pub enum Request {
@@ -134,6 +155,8 @@ pub enum Request {
     Check { chart: String },
     /// A chart to be listed, by the name of its file.
     List { chart: String },
+    /// What a chart surely or probably does wrong.
+    Lint(Linting),
     /// Where the first fault of a chart is, or of a script, and what was meant.
     Why(Asking),
     /// A script to be played on a chart.
@@ -267,21 +290,49 @@ docs/LANGUAGE.md describes the text of charts and what is checked, docs/FORMATS.
 
 // What stands at the end of the help on `why`.
 const WHY_NOTES: &str = "\
-The first line is FILE:LINE:COLUMN: NUMBER NAME: WORD, as editors and CI jobs read it. Below it stand the line with a mark, the element, what
-could stand there or may be meant, what the refusal means, and what usually leads to it. Without a fault it is 'no fault'.
+The first line is FILE:LINE:COLUMN: NUMBER NAME: WORD, as editors and CI jobs read it, with a name that is near behind it. Below it stand the
+line with a mark, the element, what could stand there or may be meant, what the refusal means, and what usually leads to it. Without a fault
+it is 'no fault', behind a warning for each command of the script that names what the chart hasn't.
 
 Exit status:
   0  the chart has no fault, nor has the script
-  1  the chart or the script is refused: its first fault is told
+  1  the chart or the script is refused: its first fault is told, or with --all all faults of the chart
   2  the words of the command line are wrong
   3  a file can't be read, or the output can't be written
   4  memory was refused
 
 Examples:
   sfcmon why examples/lamp.chart
+  sfcmon why --all examples/lamp.chart
   sfcmon why examples/lamp.chart examples/lamp.script
 
 docs/FORMATS.md says what each line is, docs/LANGUAGE.md describes the text of charts. 'editors' has files for VS Code and Vim.";
+
+// What stands at the end of the help on `lint`.
+const LINT_NOTES: &str = "\
+Each warning is a line FILE:LINE:COLUMN: warning W101: NAME: what is wrong, as editors and CI jobs read it. Below it stand a shortest run that
+leads there, where there is one, a scan a line, and what to do. Without a warning it is 'no warning'. What a network can reach is
+searched with all conditions open, up to --limit sets of active steps; a program of which that gave up is named.
+A pragma {lint: allow DeadEnd} in front of an element, in the chart, allows the kind in it; several stand with commas between them.
+
+Kinds:
+  W101 Unreachable, W102 JoinNeverComes, W103 Unsafe, W104 DeadEnd, W105 TwoInitial, W106 NotJoined,
+  W201 TimedTogether, W202 DelayedAndLimited, W203 DivisionByZero, W204 AlwaysSame, W205 NeverTrue, W206 SetAndReset,
+  W301 TwoWriters, W302 ReadsOld, W303 InputWritten, W304 Unused, W305 NearNames, W306 OtherCase, W307 StoredForever,
+  W308 NoAssociation, W309 DeadBranch, W401 Overlap, W501 NeverRuns, W502 NoProgram, W503 Starved
+
+Exit status:
+  0  the chart has no fault; warnings may be told
+  1  the chart is refused; or there is a warning of a kind that --deny names
+  2  the words of the command line are wrong
+  3  the file can't be read, or the output can't be written
+  4  memory was refused
+
+Examples:
+  sfcmon lint examples/mixing.chart
+  sfcmon lint --deny all --allow Starved examples/mixing.chart
+
+'sfcmon explain W101' tells what a kind means. docs/FORMATS.md has them all in one table.";
 
 // What stands at the end of the help on `list`.
 const LIST_NOTES: &str = "\
@@ -373,9 +424,15 @@ A line of a test is a line of a script, its instant in front, left out (that of 
   EXPECT FAULT KIND PROGRAM                the program has to stand with this fault
   EXPECT OVERRUNS NUMBER TASK              the task has to have so many overruns
   ALWAYS CONDITION, NEVER CONDITION        it has to be TRUE, or FALSE, from here on; behind it UNTIL CONDITION, FOR DURATION or nothing
+  WITHIN DURATION AFTER CONDITION EXPECT CONDITION   each time that the first becomes TRUE the second has to be TRUE in time
+  EVERY DURATION COMMAND                   beside RUN and UNTIL the command is given again and again; INPUT VARIABLE TOGGLE is one
+  AT INSTANT COMMAND                       the command is given then
+  RAMP VARIABLE NUMBER NUMBER DURATION     an input goes from one number to another, by one at a time
   LET NAME = WORD                          the name stands for the word
-A condition is an expression; where there are several programs, IN and the name of one stand before it. A refused command, a fault and an
-overrun that no line expects fail the case. Of each case is told 'ok' or 'FAILED'.
+  INCLUDE FILE                             the lines of that file, beside this one
+A condition is an expression. Where there are several programs, IN and the name of one stand before it, unless it reads globals alone; AND
+IN and OR IN go on with another. A refused command, a fault and an overrun that no line expects fail the case. Of each case is told 'ok' or
+'FAILED'.
 
 Exit status:
   0  all cases have passed
@@ -443,6 +500,46 @@ fn check_command<'a>(alloc: Global) -> Result<Command<'a>, AllocError> {
     Command::new(alloc, "check")
         .about("Reads a chart of the whole language and checks its names, types and limits")
         .after_help(CHECK_NOTES)
+        .arg(chart_argument(alloc))
+}
+
+// The argument that names a kind of warnings that counts for the exit status.
+fn deny_argument<'a>(alloc: Global) -> Arg<'a> {
+    Arg::new(alloc, "deny")
+        .long("deny")
+        .value_name("KIND")
+        .action(ArgAction::Append)
+        .help(
+            "Ends with status 1 where there is a warning of this kind, by code or name, or of any for 'all'; may be given several times",
+        )
+}
+
+// The argument that names a kind of warnings that isn't told.
+fn allow_argument<'a>(alloc: Global) -> Arg<'a> {
+    Arg::new(alloc, "allow")
+        .long("allow")
+        .value_name("KIND")
+        .action(ArgAction::Append)
+        .help("Tells no warning of this kind, by code or name; may be given several times")
+}
+
+// The argument that says how far a network is searched.
+fn limit_argument<'a>(alloc: Global) -> Arg<'a> {
+    Arg::new(alloc, "limit")
+        .long("limit")
+        .value_name("N")
+        .value_parser(ValueParser::Unsigned(1, 100_000_000))
+        .default_value("100000")
+        .help("How many sets of active steps of a network are looked at")
+}
+
+fn lint_command<'a>(alloc: Global) -> Result<Command<'a>, AllocError> {
+    Command::new(alloc, "lint")
+        .about("Tells what a chart surely or probably does wrong")
+        .after_help(LINT_NOTES)
+        .arg(deny_argument(alloc))?
+        .arg(allow_argument(alloc))?
+        .arg(limit_argument(alloc))?
         .arg(chart_argument(alloc))
 }
 
@@ -676,6 +773,32 @@ fn junit_argument<'a>(alloc: Global) -> Arg<'a> {
         .help("Writes the results to this file too, as the XML of JUnit")
 }
 
+// The argument that says how much all cases have to reach.
+fn reach_argument<'a>(alloc: Global) -> Arg<'a> {
+    Arg::new(alloc, "cover")
+        .long("cover")
+        .value_name("PERCENT")
+        .value_parser(ValueParser::Unsigned(0, 100))
+        .help(
+            "Prints what the cases never reach together, and ends with status 1 where that is less than this in total, 0 to 100",
+        )
+}
+
+// The argument that names a file for the signals of a case.
+fn failed_wave_argument<'a>(alloc: Global) -> Arg<'a> {
+    Arg::new(alloc, "wave").long("wave").value_name("FILE").help(
+        "Writes the signals of the first case that fails to this file, as a Value Change Dump",
+    )
+}
+
+// The argument that names a file for the script of a case.
+fn failed_script_argument<'a>(alloc: Global) -> Arg<'a> {
+    Arg::new(alloc, "script")
+        .long("script")
+        .value_name("FILE")
+        .help("Writes the commands of the first case that fails to this file, as a script")
+}
+
 fn test_command<'a>(alloc: Global) -> Result<Command<'a>, AllocError> {
     let files = Arg::new(alloc, "TESTS")
         .required(true)
@@ -690,6 +813,9 @@ fn test_command<'a>(alloc: Global) -> Result<Command<'a>, AllocError> {
         .arg(list_argument(alloc))?
         .arg(tap_argument(alloc))?
         .arg(junit_argument(alloc))?
+        .arg(reach_argument(alloc))?
+        .arg(failed_wave_argument(alloc))?
+        .arg(failed_script_argument(alloc))?
         .arg(chart_argument(alloc))?
         .arg(files)
 }
@@ -729,11 +855,16 @@ fn with_command<'a>(
 
 fn why_command<'a>(alloc: Global) -> Result<Command<'a>, AllocError> {
     let script = Arg::new(alloc, "SCRIPT").help("The script, where its first fault is asked for");
+    let all = Arg::new(alloc, "all")
+        .long("all")
+        .action(ArgAction::SetTrue)
+        .help("Tells all faults of the chart, up to a hundred");
     Command::new(alloc, "why")
         .about(
             "Tells where the first fault of a chart, or else of a script, is, and what may be meant",
         )
         .after_help(WHY_NOTES)
+        .arg(all)?
         .arg(chart_argument(alloc))?
         .arg(script)
 }
@@ -756,6 +887,7 @@ fn bare_command<'a>(alloc: Global) -> Result<Command<'a>, AllocError> {
 // With the commands that take a chart alone.
 fn with_chart_commands<'a>(alloc: Global, command: Command<'a>) -> Result<Command<'a>, AllocError> {
     let command = with_command(command, check_command(alloc))?;
+    let command = with_command(command, lint_command(alloc))?;
     let command = with_command(command, list_command(alloc))?;
     with_command(command, why_command(alloc))
 }
@@ -853,7 +985,40 @@ fn why_request(alloc: Global, matches: &ArgMatches) -> Result<Request, AllocErro
         Some(script) => Some(String::from_str(alloc, script)?),
         None => None,
     };
-    Ok(Request::Why(Asking { chart, script }))
+    let all = matches.get_flag("all");
+    Ok(Request::Why(Asking { chart, script, all }))
+}
+
+// Whether a word is no kind of warnings, nor `all` where that may stand.
+fn is_no_kind(word: &str, may_be_all: bool) -> bool {
+    kind_named(word.as_bytes()).is_none() && !(may_be_all && word == "all")
+}
+
+// The kinds that an option names; the error is in clap's form.
+fn kinds_of(alloc: Global, matches: &ArgMatches, name: &str) -> Result<Vec<String>, Error> {
+    let words = matches.get_strs(name).unwrap_or(&[]);
+    for word in words {
+        if is_no_kind(word, name == "deny") {
+            return Err(invalid(
+                alloc,
+                "there is no such kind of warnings; 'sfcmon lint --help' lists all",
+            )?);
+        }
+    }
+    Ok(owned(alloc, words)?)
+}
+
+// A chart whose warnings are asked for, where one is named.
+fn lint_request(alloc: Global, matches: &ArgMatches) -> Result<Request, Error> {
+    match (matches.get_str("FILE"), matches.get_one::<usize>("limit")) {
+        (Some(chart), Some(limit)) => Ok(Request::Lint(Linting {
+            chart: String::from_str(alloc, chart)?,
+            denied: kinds_of(alloc, matches, "deny")?,
+            allowed: kinds_of(alloc, matches, "allow")?,
+            limit,
+        })),
+        _ => Ok(Request::Answered(2)),
+    }
 }
 
 // That the words are wrong, in clap's form.
@@ -1026,6 +1191,9 @@ fn test_request(alloc: Global, matches: &ArgMatches) -> Result<Request, AllocErr
             is_list: matches.get_flag("list"),
             is_tap: matches.get_flag("tap"),
             junit: option_of(alloc, matches, "junit")?,
+            cover: matches.get_one::<u8>("cover"),
+            wave: option_of(alloc, matches, "wave")?,
+            script: option_of(alloc, matches, "script")?,
         })),
         _ => Ok(Request::Answered(2)),
     }
@@ -1062,6 +1230,9 @@ fn request_of(alloc: Global, matches: &ArgMatches) -> Result<Request, Error> {
     }
     if let Some(list) = matches.subcommand_matches("list") {
         return Ok(list_request(alloc, list)?);
+    }
+    if let Some(lint) = matches.subcommand_matches("lint") {
+        return lint_request(alloc, lint);
     }
     if let Some(why) = matches.subcommand_matches("why") {
         return Ok(why_request(alloc, why)?);

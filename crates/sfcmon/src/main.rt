@@ -4,30 +4,37 @@
 //! - `arguments`: the command line.
 //! - `cover`: what scripts on a chart reach together.
 //! - `debug`: a chart that is stepped by hand.
+//! - `disk`: files that tests include.
 //! - `draw`: charts as drawings.
 //! - `explain`: what refusals and faults mean.
 //! - `files`: charts and scripts in files, standard output and exit status.
 //! - `lasting`: input of a run that lasts longer, or shorter, than its input.
+//! - `lint`: warnings of a chart.
 //! - `report`: reports of charts and scripts.
-//! - `testing`: tests of a chart.
+//! - `terminal`: what is told beside, where standard error is a terminal.
+//! - `testing`: tests of a chart; `test_desk`: what is done with their commands.
 //! - `wave`: runs as waveforms.
-//! - `why`: where the first fault of a chart or a script is.
+//! - `why`: where the faults of a chart or a script are.
 #![tactic(auto)]
 
 mod arguments;
 mod cover;
 mod debug;
+mod disk;
 mod draw;
 mod explain;
 mod files;
 mod lasting;
+mod lint;
 mod report;
+mod terminal;
+mod test_desk;
 mod testing;
 mod wave;
 mod why;
 
 use crate::sfc_replay::replay_error::ReplayError;
-use arguments::{Asking, Playing, Request, read_words, refuse_words};
+use arguments::{Playing, Request, read_words, refuse_words};
 use files::Streams;
 use sfc_cover::sfc_replay;
 use sfc_why::{sfc_debug, sfc_explain};
@@ -54,15 +61,6 @@ fn replay<R: Print + Eprint + Files + AllocGlobal>(rt: &R, playing: &Playing) ->
     )
 }
 
-// Tells where the first fault is: the exit status.
-fn explain_fault<R: Print + Eprint + Files + AllocGlobal>(rt: &R, asking: &Asking) -> u8 {
-    let chart = asking.chart.as_str();
-    match &asking.script {
-        Some(script) => why::why_files(rt, chart, script.as_str()),
-        None => why::why_file(rt, chart),
-    }
-}
-
 // Does what is asked for: the exit status.
 fn serve<R>(rt: &R, streams: Streams, request: &Request) -> u8
 where
@@ -81,8 +79,9 @@ where
 {
     match request {
         Request::Check { chart } => files::check_file(rt, chart.as_str()),
+        Request::Lint(linting) => lint::lint_file(rt, linting),
         Request::List { chart } => files::list_file(rt, chart.as_str()),
-        Request::Why(asking) => explain_fault(rt, asking),
+        Request::Why(asking) => why::explain_fault(rt, asking),
         Request::Replay(playing) => replay(rt, playing),
         Request::Run(running) => files::run_file(rt, streams, running),
         Request::Debug { chart } => debug::debug_file(rt, streams, chart.as_str()),
@@ -116,5 +115,8 @@ fn main(rt: HostRuntime) -> ExitCode {
         alarms: rt.stderr(),
         errors: rt.stderr(),
     };
-    ExitCode::from(serve(&rt, streams, &request))
+    let status = serve(&rt, streams, &request);
+    let mut errors = rt.stderr();
+    terminal::tell_more(&rt, &mut errors, status, &request);
+    ExitCode::from(status)
 }
