@@ -119,7 +119,7 @@ plants() {
     beside "$limit" "$title" "$tests/reading/compare.sh" --mode "$1" "$(printf %q "$program")" "$each" "$first"
   done
 }
-# damages WORD COUNT FIRST PARTS: damaged texts (WORD is empty, or `why`) from a seed on, in so many parts
+# damages WORD COUNT FIRST PARTS: damaged texts (WORD is empty, `why` or `all`) from a seed on, in so many parts
 damages() {
   local each=$(($2 / $4)) part first
   for ((part = 0; part < $4; part++)); do
@@ -158,8 +158,10 @@ quick() {
   for kind in control tasks image debug; do plants "$kind" 100 1; done
   damages "" 400 1 2
   damages why 400 1 2
+  damages all 400 1 2
   beside "$limit" "cover.sh 2" "$tests/cover.sh" 2
   beside "$limit" "drawing.sh 1" "$tests/drawing.sh" 1
+  beside "$limit" "lint.sh 300 10" "$tests/lint.sh" 300 10
   beside "$limit" "reading/tests.py 200" python3 "$tests/reading/tests.py" "$program" 200
   wait_for_all
 }
@@ -175,8 +177,10 @@ full() {
   for kind in whole control tasks image debug; do plants "$kind" 2000 4; done
   damages "" 10000 200001 4
   damages why 5000 300001 4
+  damages all 5000 300001 4
   beside "$limit" "cover.sh 40" "$tests/cover.sh" 40
   for ((first = 1; first < 341; first += 85)); do beside "$limit" "drawing.sh 85 $first" "$tests/drawing.sh" 85 "$first"; done
+  beside "$limit" "lint.sh 5000 850" "$tests/lint.sh" 5000 850
   beside "$limit" "reading/tests.py 2000" python3 "$tests/reading/tests.py" "$program" 2000
   in_both
   wait_for_all

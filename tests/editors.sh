@@ -24,7 +24,7 @@ fault() {
   "$program" why "${@:6}" >"$name.out" 2>"$name.err"
 }
 sed 's/Lamp(N)/Lmap(N)/' "$examples/lamp.chart" >unknown.chart
-fault unknown 4 5 '16 UnknownAction' Lmap unknown.chart
+fault unknown 4 5 '16 UnknownAction' 'Lmap; near: Lamp' unknown.chart
 sed 's/Lamp(N);/Lamp(N)/' "$examples/lamp.chart" >'with blanks.chart'
 fault blanks 5 3 '4 Syntax' END_STEP 'with blanks.chart'
 head -c 300 "$examples/pump.chart" >cut.chart
@@ -40,6 +40,8 @@ printf 'T#0s SCAN Main\nT#0s JUMP\n' >jump.script
 fault script 2 6 'script line 2' JUMP "$examples/lamp.chart" jump.script
 printf '; a:1:2: 3 b: c\nT#0s BREAK P STEP S WHEN (* a:1:2: 3 b: c *) 5 5\n' >colon.script
 fault colon 2 48 'script line 2' 5 "$examples/lamp.chart" colon.script
+printf 'T#0s SCAN Mian\n' >warned.script
+fault warned 1 11 'warning 31 UnknownTask' 'Mian; near: Main' "$examples/lamp.chart" warned.script
 "$program" why "$examples/lamp.chart" >none.out 2>none.err
 : >none.want
 

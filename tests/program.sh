@@ -154,6 +154,11 @@ tells "why the reader refuses a chart" "$work/faulty.chart:2:1: 4 Syntax: 1" "$w
 tells "why the loader refuses a chart" "$work/dark.chart:2:9: 14 NoInitial: Mix" "$work/dark.chart"
 tells "why a script is refused" "$work/faulty.script:2:6: script line 2: JUMP" "$chart" "$work/faulty.script"
 tells "why a chart is refused, before its script" "$work/dark.chart:2:9: 14 NoInitial: Mix" "$work/dark.chart" "$work/faulty.script"
+tells "why a chart is refused, for all of its faults" "$work/faulty.chart:2:1: 4 Syntax: 1" --all "$work/faulty.chart"
+printf 'T#0s READ Gone\n' >"$work/warned.script"
+run why "$chart" "$work/warned.script"
+ends 0 && says "" && [ "$(sed -n '1p;$p' "$work/out")" = "$work/warned.script:1:11: warning 24 UnknownVar: Gone"$'\n'"no fault" ]
+note $? "a script without fault that is warned of"
 # the report that docs/FORMATS.md shows
 sed 's/:= Stop;/:= Stpo AND Start;/' "$examples/pump.chart" >"$work/bad.chart"
 awk '/^## Why/ { seen = 1 } seen && /^```/ { if (++fence == 2) exit; next } fence == 1' "$top/docs/FORMATS.md" >"$work/shown"
@@ -188,9 +193,10 @@ fi
 # ---- test
 
 for example in "$examples"/*.chart; do
-  run test "$example" "${example%.chart}.sfctest"
-  ends 0 && says "" && [ "$(tail -n 1 "$work/out")" = "$(grep -c '^TEST ' "${example%.chart}.sfctest") passed, 0 failed" ]
-  note $? "the tests of $(basename "$example")"
+  run test --cover 100 "$example" "${example%.chart}.sfctest"
+  ends 0 && says "" && mentions "$(grep -c '^TEST ' "${example%.chart}.sfctest") passed, 0 failed" out &&
+    grep -q '^total .* 100%$' "$work/out"
+  note $? "the tests of $(basename "$example"), which reach all of it"
   run test "$example" "${example%.chart}.script"
   ends 0 || ends 1
   note $? "the script of $(basename "$example") is a file of tests"
@@ -217,6 +223,54 @@ awk '/^```/ { fence++; next } fence == 1' "$top/docs/TESTING.md" >"$work/first.s
 run test "$examples/pump.chart" "$work/first.sfctest"
 ends 0 && says "" && [ "$(tail -n 1 "$work/out")" = "2 passed, 0 failed" ]
 note $? "the first test of docs/TESTING.md"
+# each pattern of docs/TESTING.md, on the chart that it names
+awk -v to="$work/pattern" '/^## Patterns/ { seen = 1 } /^## On a bench/ { exit } !seen { next }
+  match($0, /On `[a-z_]+\.chart`:$/) { name = substr($0, RSTART + 4, RLENGTH - 12) }
+  /^```/ { if (open) close(file); else file = to "-" ++number "-" name ".sfctest"; open = !open; next }
+  open { print >file }' "$top/docs/TESTING.md"
+for pattern in "$work"/pattern-*.sfctest; do
+  name=${pattern##*-}
+  run test "$examples/${name%.sfctest}.chart" "$pattern"
+  ends 0 && says "" && mentions "1 passed, 0 failed" out
+  note $? "a pattern of docs/TESTING.md on ${name%.sfctest}.chart"
+done
+# files that include others
+mkdir -p "$work/parts/deep"
+printf 'LET Soon = T#200ms\n; no case\nINCLUDE deep/never.sfctest\n' >"$work/parts/front.sfctest"
+printf 'NEVER Pump AND IdleLamp' >"$work/parts/deep/never.sfctest"
+printf '%s\n' 'RUN T#0s' 'INCLUDE parts/front.sfctest  ' 'TEST it starts' 'INPUT Start TRUE' 'UNTIL Pump WITHIN Soon' \
+  'EXPECT IdleLamp' >"$work/whole.sfctest"
+run test "$examples/pump.chart" "$work/whole.sfctest"
+ends 1 && says "" && mentions "whole.sfctest:6:1: EXPECT IdleLamp" out && mentions "0 passed, 1 failed" out
+note $? "a file that includes two others"
+printf '%s\n' 'INPUT Start TRUE' 'FORCE IdleLamp TRUE' 'INCLUDE parts/front.sfctest' 'TEST it starts' 'UNTIL Pump WITHIN T#1s' \
+  >"$work/broken.sfctest"
+run test "$examples/pump.chart" "$work/broken.sfctest"
+ends 1 && says "" && mentions "parts/deep/never.sfctest:1:1: NEVER Pump AND IdleLamp" out && mentions ", line 5: " out
+note $? "what a file says that is included"
+printf 'EXPECT Pimp\n' >"$work/parts/deep/never.sfctest"
+run test "$examples/pump.chart" "$work/whole.sfctest"
+ends 1 && says "$work/parts/deep/never.sfctest: script line 1"
+note $? "a faulty line of a file that is included"
+printf '\nINCLUDE ../front.sfctest\n' >"$work/parts/deep/never.sfctest"
+run test "$examples/pump.chart" "$work/whole.sfctest"
+ends 1 && mentions "never.sfctest: script line 2: ../front.sfctest: " err
+note $? "a ring of files"
+printf 'TEST one\nINCLUDE nowhere.sfctest\n' >"$work/lost.sfctest"
+run test "$examples/pump.chart" "$work/lost.sfctest" "$work/first.sfctest"
+ends 1 && says "$work/lost.sfctest: script line 2: nowhere.sfctest: it can't be read" && mentions "2 passed, 0 failed" out
+note $? "a file that isn't there, included"
+# the first case that fails
+run test --script "$work/kept.script" --wave "$work/kept.vcd" "$examples/pump.chart" "$work/pump.sfctest"
+# shellcheck disable=SC2016 # the word of the dump
+ends 1 && says "" && [ "$(tail -n 1 "$work/kept.script")" = "T#2s_200ms SCAN Main" ] && grep -q '^\$enddefinitions' "$work/kept.vcd"
+note $? "the script and the signals of the first case that fails"
+run replay --strict "$examples/pump.chart" "$work/kept.script"
+ends 0 && says "" && mentions "Pump FALSE" out
+note $? "the script of a case that has failed, replayed"
+run test --cover 100 "$examples/pump.chart" "$work/first.sfctest"
+ends 1 && says "" && mentions "2 passed, 0 failed" out && grep -q '^total ' "$work/out"
+note $? "cases that reach too little"
 printf 'TEST it starts\nEXPECT Pimp\n' >"$work/misspelt.sfctest"
 run test "$examples/pump.chart" "$work/misspelt.sfctest" "$work/first.sfctest"
 ends 1 && says "$work/misspelt.sfctest: script line 2" && [ "$(tail -n 1 "$work/out")" = "2 passed, 0 failed" ]

@@ -191,7 +191,7 @@ def try_memory(runs: Runs):
     """Drawings, a waveform, what is never reached, tests, and sessions by hand: each allocation is refused."""
     chart, script, late = EXAMPLES / "mixing.chart", EXAMPLES / "mixing.script", EXAMPLES / "late_dose.chart"
     typed = late.with_suffix(".script").read_bytes() + b"IMAGE\nAGAIN 20\n"
-    for words, given in ((["draw", chart], b""), (["draw", "--after", script, chart], b""), (["wave", chart, script], b""),
+    for words, given in ((["lint", chart], b""), (["draw", chart], b""), (["draw", "--after", script, chart], b""), (["wave", chart, script], b""),
                          (["cover", chart, script], b""), (["test", chart, chart.with_suffix(".sfctest")], b""),
                          (["debug", chart], script.read_bytes()), (["debug", late], typed)):
         calm = runs.run(words, "", given)
@@ -201,7 +201,7 @@ def try_memory(runs: Runs):
 
 
 def try_why(runs: Runs):
-    """What is told where there is no fault; of a chart that can't be read, of one that can't be loaded, and of a script."""
+    """What is told where there is no fault; of a chart that can't be read, of one that can't be loaded, of three faults, and of a script."""
     lamp, script = EXAMPLES / "lamp.chart", EXAMPLES / "lamp.script"
     text = lamp.read_bytes()
     Sweep(runs, b"no fault\n", ["why", lamp, script]).all()
@@ -212,6 +212,12 @@ def try_why(runs: Runs):
         file = runs.folder / f"{name}.chart"
         file.write_bytes(body)
         Sweep(runs, runs.run(["why", file]).out, ["why", file], 1).all()
+    file = runs.folder / "three.chart"
+    file.write_bytes(text.replace(b"Lamp(N);", b"Lmap(N); Lamp(L); Lamp(N)"))
+    Sweep(runs, runs.run(["why", "--all", file]).out, ["why", "--all", file], 1).all()
+    file = runs.folder / "warned.script"
+    file.write_bytes(b"T#0s SCAN Mian\n")
+    Sweep(runs, runs.run(["why", lamp, file]).out, ["why", lamp, file], 0).all()
     for name, body in scripts.items():
         file = runs.folder / f"{name}.script"
         file.write_bytes(body)

@@ -1,14 +1,18 @@
 #!/usr/bin/env python3
 """terminal.py PROGRAM CHART: runs the chart in real time at a terminal: a session that is typed and ended by Ctrl-D, and a terminal that is
-closed. The chart's task is never due. The last line is 'N passed, M failed'."""
+closed. The chart's task is never due. Then what is told at a terminal of a chart and of a script that is refused, and of a file that isn't
+there: the line that is told elsewhere, and behind it what `why` prints, or the name of the file. The last line is 'N passed, M failed'."""
 import os
 import pty
 import re
 import signal
+import subprocess
 import sys
+import tempfile
 import time
 
 program, chart = sys.argv[1:3]
+here = os.getcwd()
 passed = failed = 0
 
 
@@ -66,5 +70,49 @@ time.sleep(0.3)
 os.close(end)
 status = status_of(child)
 note(status == 3, f"a terminal that is closed: status {status}")
+
+
+def errors_at_terminal(words):
+    """What is told on standard error, which is a terminal."""
+    end, inner = pty.openpty()
+    with subprocess.Popen([program, *words], stdin=subprocess.DEVNULL, stdout=subprocess.DEVNULL, stderr=inner) as child:
+        os.close(inner)
+        text = read_all(end).replace("\r\n", "\n")
+        child.wait()
+    os.close(end)
+    return text
+
+
+def errors_elsewhere(words):
+    return subprocess.run([program, *words], stdin=subprocess.DEVNULL, stdout=subprocess.DEVNULL, stderr=subprocess.PIPE).stderr.decode()
+
+
+def told_more(words, more):
+    """Whether at a terminal this is told behind what is told elsewhere."""
+    text, line = errors_at_terminal(words), errors_elsewhere(words)
+    note(line.count("\n") == 1 and text == line + more, f"{words} at a terminal: {text!r}")
+
+
+def why(*files):
+    return subprocess.run([program, "why", *files], stdout=subprocess.PIPE).stdout.decode()
+
+
+with tempfile.TemporaryDirectory(prefix="terminal-") as folder:
+    os.chdir(folder)
+    good = open(chart if os.path.isabs(chart) else os.path.join(here, chart)).read()
+    open("good", "w").write(good)
+    open("bad", "w").write(good.replace("END_PROGRAM", "END_PROGRAMM", 1))
+    open("script", "w").write("T#0s SCNA Main\n")
+    for words in (["check"], ["list"], ["run"], ["debug"], ["draw"], ["draw", "--dot"]):
+        told_more([*words, "bad"], why("bad"))
+    for words in (["replay"], ["wave"], ["cover"]):
+        told_more([*words, "bad", "script"], why("bad"))
+        told_more([*words, "good", "script"], why("good", "script"))
+    told_more(["draw", "good", "--after", "script"], why("good", "script"))
+    told_more(["check", "none"], "none: it can't be opened, or it can't be read\n")
+    told_more(["replay", "good", "none"], "none: it can't be opened, or it can't be read\n")
+    note(errors_at_terminal(["check", "good"]) == "", "a chart without fault at a terminal")
+    pipe = subprocess.run(["bash", "-c", 'timeout 10 "$1" check <(cat bad) 2>&1', "bash", program], stdout=subprocess.PIPE).stdout.decode()
+    note(pipe == errors_elsewhere(["check", "bad"]), f"a pipe: {pipe!r}")
 print(f"{passed} passed, {failed} failed")
 sys.exit(failed != 0)

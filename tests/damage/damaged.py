@@ -12,7 +12,7 @@ import corpus
 import damages
 import limits
 from trial import Trial
-from why import WhyTrial
+from why import AllTrial, WhyTrial
 
 MARK = b"\n====\n"
 BYTES = [0x00, ord("("), ord("{"), ord("#"), 0xFF]
@@ -47,7 +47,7 @@ def file_inputs(folder: str):
 
 def inputs(given):
     """The inputs that the words of the command line ask for."""
-    if given.what == "why":
+    if given.what in ("why", "all"):
         return random_inputs(int(given.more or 1), int(given.seed or 1))
     if given.what == "bytes":
         return byte_inputs()
@@ -71,20 +71,20 @@ def main() -> int:
     """Tries all inputs; gives the exit status."""
     parser = argparse.ArgumentParser(prog="damaged.sh")
     parser.add_argument("program")
-    parser.add_argument("what", help="how many, or bytes, limits, files or why")
-    parser.add_argument("more", nargs="?", help="the first seed, or the folder of files; behind why how many")
-    parser.add_argument("seed", nargs="?", help="behind why the first seed")
+    parser.add_argument("what", help="how many, or bytes, limits, files, why or all")
+    parser.add_argument("more", nargs="?", help="the first seed, or the folder of files; behind why and all how many")
+    parser.add_argument("seed", nargs="?", help="behind why and all the first seed")
     given = parser.parse_args()
     kept, answers, failed = Path(tempfile.gettempdir()) / "damaged", Counter(), 0
     with tempfile.TemporaryDirectory(prefix="damaged-") as work:
-        asks_why = given.what == "why"
-        trial = (WhyTrial if asks_why else Trial)(given.program, Path(work))
+        kinds = {"why": WhyTrial, "all": AllTrial}
+        trial = kinds.get(given.what, Trial)(given.program, Path(work))
         for title, chart, script in inputs(given):
             why, answer = trial.fault(chart, script)
             answers[answer] += 1
             failed += bool(why)
             if why:
-                keep(kept, title, chart, script, why, given.program, "why" if asks_why else "replay")
+                keep(kept, title, chart, script, why, given.program, "why" if given.what in kinds else "replay")
     for answer, count in sorted(answers.items()):
         print(f"{count} {answer}")
     print(f"{answers.total() - failed} passed, {failed} failed")

@@ -1,8 +1,8 @@
 #!/usr/bin/env python3
 """tests.py PROGRAM N [SEED]: random files of tests over random plants, by `PROGRAM test CHART FILE` and by the reading.
 
-Compared are which cases pass, and of those that fail the line, the instant, and the line at which a watched condition didn't hold; or the
-first faulty line. What differs is kept in a temporary folder. The last line is 'N passed, M failed'.
+Compared are which cases pass, and of those that fail the line, the instant, the line at which what is watched didn't hold, and what changed
+last; or the first faulty line. What differs is kept in a temporary folder. The last line is 'N passed, M failed'.
 """
 
 import subprocess
@@ -61,12 +61,52 @@ class Maker:
             text += self.pick([" AND ", " OR ", " XOR "]) + self.simple(program)
         if len(self.plant.instances) > 1 or self.rng.random() < 0.2:
             text = f"IN {self.plant.instances[program].name} {text}"
-        return text
+        while self.rng.random() < 0.25:
+            program = self.rng.randrange(len(self.plant.instances))
+            text += self.pick([" AND ", " OR ", " or ", " and\t "]) + f"IN {self.plant.instances[program].name} {self.simple(program)}"
+        return text if self.rng.random() < 0.97 else self.shared()
+
+    def shared(self) -> str:
+        """A condition that names no program instance, and mostly reads global variables alone."""
+        names = [one.name for one in self.plant.variables[:self.plant.globals] if one.type == "BOOL"]
+        return self.pick(names + ["TRUE"] + ([self.pick(names) + " OR NOT " + self.pick(names)] if names else []))
 
     def likely(self, wanted: bool) -> str:
         """A condition that is mostly as it is wanted, a fault of it apart."""
         text = self.condition()
+        if self.rng.random() < 0.3:
+            one = self.pick(self.plant.instances).name
+            return f"{text} OR IN {one} TRUE" if wanted else self.conjunction(one)
         return text if self.rng.random() < 0.2 else f"{text} OR TRUE" if wanted else f"{text} AND FALSE"
+
+    def conjunction(self, one: str) -> str:
+        """What is FALSE mostly, over two instances."""
+        program = self.rng.randrange(len(self.plant.instances))
+        return f"IN {self.plant.instances[program].name} {self.simple(program)} AND IN {one} FALSE"
+
+    def stimulus(self) -> str:
+        """A command that is given beside RUN and UNTIL; now and then one that says nothing."""
+        kind = self.rng.random()
+        inputs = [one for one in self.plant.variables if one.location and "I" in str(one.location[0])]
+        flags = [one.name for one in inputs if one.type == "BOOL"]
+        numbers = [one.name for one in inputs if one.type in ("INT", "DINT")]
+        if kind < 0.3 and flags:
+            return f"EVERY T#{self.rng.randrange(1, 40)}ms INPUT {self.pick(flags)} TOGGLE"
+        if kind < 0.5 and numbers:
+            first, last = self.rng.randrange(-3, 9), self.rng.randrange(-3, 9)
+            return f"RAMP {self.pick(numbers)} {first} {last} T#{self.rng.randrange(1, 200)}ms"
+        if kind < 0.98:
+            when = self.pick([f"EVERY T#{self.rng.randrange(1, 40)}ms", f"AT {self.pick(['', '+'])}T#{self.rng.randrange(90)}ms"])
+            if inputs and self.rng.random() < 0.9:
+                one = self.pick(inputs)
+                return f"{when} INPUT {one.name} {self.value(one.type)}"
+            return f"{when} {self.command()}"
+        return self.pick(["EVERY T#0s STOP", "AT STOP", "RAMP Nope 0 1 T#1s", "RAMP"])
+
+    def response(self) -> str:
+        """One condition that responds to another."""
+        effect = self.likely(True) if self.rng.random() < 0.6 else self.condition()
+        return f"WITHIN T#{self.rng.randrange(60)}ms AFTER {self.condition()} EXPECT {effect}"
 
     def value(self, type_: str) -> str:
         """A value of a type, mostly."""
@@ -118,7 +158,11 @@ class Maker:
         if kind < 0.55:
             end = self.pick(["", f" UNTIL {self.condition()}", f" FOR T#{self.rng.randrange(50)}ms"])
             return instant + self.pick([f"ALWAYS {self.likely(True)}", f"NEVER {self.likely(False)}"]) + end
-        if kind < 0.75:
+        if kind < 0.6:
+            return instant + self.response()
+        if kind < 0.67:
+            return instant + self.stimulus()
+        if kind < 0.78:
             return instant + self.command()
         if kind < 0.995:
             return instant + self.expectation()

@@ -9,10 +9,11 @@ use crate::sfc_replay::replay::replay;
 use crate::tested::tested;
 use anyhow::{Result, bail};
 use sfc_plant::plant::Plant;
+use sfc_why::all::explain_all;
 use sfc_why::chart::{Told, explain_chart};
 use sfc_why::page::{explanation_of, put_report};
 use sfc_why::report::Report;
-use sfc_why::script::explain_script;
+use sfc_why::script::{ScriptTold, explain_script};
 use std::alloc::{AllocError, Global};
 
 /// A command of `sfcmon`.
@@ -26,6 +27,8 @@ enum Command {
     Replay,
     /// The first fault of a chart, or else of a script, is told.
     Why,
+    /// All faults of a chart are told, or else the first one of a script.
+    WhyAll,
     /// What scripts on a chart reach together is told.
     Cover,
     /// A chart is stepped by hand, by the lines of the script.
@@ -85,11 +88,17 @@ fn tell(ending: &mut Ending, file: &[u8], report: &Report) -> Result<(), AllocEr
     }
 }
 
-// Adds a report of a script's fault to the output, if it has one.
-fn tell_script(ending: &mut Ending, report: &Option<Report>) -> Result<(), AllocError> {
-    match report {
-        Some(report) => tell(ending, b"script", report),
-        None => ending.output.extend_from_slice(b"no fault\n"),
+// Adds a report of a script's fault to the output, if it has one, or else warnings.
+fn tell_script(ending: &mut Ending, told: &ScriptTold) -> Result<(), AllocError> {
+    match told {
+        ScriptTold::Fault(report) => tell(ending, b"script", report),
+        ScriptTold::NoFault(warnings) => {
+            for warning in warnings {
+                tell(ending, b"script", warning)?;
+            }
+            ending.status = 0;
+            ending.output.extend_from_slice(b"no fault\n")
+        }
     }
 }
 
@@ -124,6 +133,7 @@ impl Case {
             "list" => self.command = Command::List,
             "replay" => self.command = Command::Replay,
             "why" => self.command = Command::Why,
+            "why --all" => self.command = Command::WhyAll,
             "cover" => self.command = Command::Cover,
             "debug" => self.command = Command::Debug,
             "test" => self.command = Command::Test,
@@ -199,8 +209,8 @@ impl Case {
         plant: Plant,
         ending: &mut Ending,
     ) -> Result<(), AllocError> {
-        let report = explain_script(alloc, chart, plant, &self.script)?;
-        tell_script(ending, &report)
+        let told = explain_script(alloc, chart, plant, &self.script)?;
+        tell_script(ending, &told)
     }
 
     // Tells the first fault of the chart, or else of the script.
@@ -209,6 +219,19 @@ impl Case {
         match explain_chart(alloc, chart)? {
             Told::Fault(report) => tell(&mut ending, b"chart", &report)?,
             Told::NoFault(plant) => self.explain_script(alloc, chart, plant, &mut ending)?,
+        }
+        Ok(ending)
+    }
+
+    // Tells all faults of the chart, or else the first one of the script.
+    fn all_explained(&self, alloc: Global, chart: &[u8]) -> Result<Ending, AllocError> {
+        let reports = explain_all(alloc, chart)?;
+        if reports.is_empty() {
+            return self.explained(alloc, chart);
+        }
+        let mut ending = Ending::new(alloc);
+        for report in &reports {
+            tell(&mut ending, b"chart", report)?;
         }
         Ok(ending)
     }
@@ -235,6 +258,7 @@ impl Case {
             Command::List => self.listed(alloc, chart)?,
             Command::Replay => self.replayed(alloc, chart)?,
             Command::Why => self.explained(alloc, chart)?,
+            Command::WhyAll => self.all_explained(alloc, chart)?,
             Command::Cover => self.covered(alloc, chart)?,
             Command::Debug => debugged(alloc, chart, &self.script)?,
             Command::Test => tested(alloc, chart, &self.script)?,
