@@ -24,6 +24,12 @@ abbrev pub IsReportAt : List ℕ → Fault → Place → Report → Type 0
 IsReportAt text refusal place report =
     (report.refusal ≡ refusal) × (report.place ≡ place) × (report.position ≡ position_behind (front text place))
 
+-- the same, but that the line is this one of the file from which it came
+abbrev pub IsReportInFile : List ℕ → Fault → Place → ℕ → Report → Type 0
+IsReportInFile text refusal place line report =
+    (report.refusal ≡ refusal) × (report.place ≡ place) × (report.position.line ≡ line)
+    × (report.position.column ≡ (position_behind (front text place)).column)
+
 -- why the text is no plant: what the reader finds, or the first check that fails
 abbrev pub IsRefusedFor : List ℕ → Fault → Type 0
 IsRefusedFor text (Reading kind) = TextReads text (Err kind)

@@ -4,8 +4,8 @@
 //! - `chart`: why a chart is refused; `reading`: where it can't be read.
 //! - `all`: all faults of a chart; `search`: those behind the first one, in a text that is `mended`, by `pieces` that are taken out or
 //!   changed as `repair` says; `lost`: names that went with them.
-//! - `script`: why a script is refused; `words`: the words of a line; `commands`: the words that begin commands;
-//!   `naming`, `warning`: names in it that the chart hasn't.
+//! - `script`: why a script is refused; `words`: the words of a line; `commands`: the words that begin commands; `condition`: faults of
+//!   conditions; `naming`, `warning`: names in it that the chart hasn't; `over`: a plant with the text of its chart.
 //! - `report`: what is told of a fault; `page`: a report as text.
 //! - `place`: where in a text a fault is; `position`: lines and columns; `source_line`: a line with a mark.
 #![tactic(auto)]
@@ -13,9 +13,11 @@
 pub mod all;
 pub mod chart;
 mod commands;
+pub mod condition;
 mod lost;
 mod mended;
-mod naming;
+pub mod naming;
+pub mod over;
 pub mod page;
 mod pieces;
 pub mod place;
@@ -26,10 +28,11 @@ pub mod report;
 pub mod script;
 mod search;
 mod source_line;
-mod warning;
+pub mod warning;
 mod words;
 
 // What the crates above name through this one.
 pub use sfc_explain;
+pub use sfc_hints;
 pub use sfc_hints::sfc_places;
 pub use sfc_script::{sfc_core, sfc_debug, sfc_load};

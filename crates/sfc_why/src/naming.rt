@@ -137,16 +137,21 @@ pub fn missing_name(resource: &Resource, line: &[u8]) -> Option<Missing> {
     if let Some(LineFault::Word(_, _)) = line_fault(line) {
         return None;
     }
+    let (instant, command) = first_word(line)?;
+    if let Some(b';') = instant.first() {
+        return None;
+    }
+    missing_in(resource, line, command)
+}
+
+/// The first name in a command that the plant hasn't, at whose end the line ends; None where there is none. It takes no memory.
+pub fn missing_in(resource: &Resource, line: &[u8], command: &[u8]) -> Option<Missing> {
     let start = Named {
         line,
         word: b"",
-        behind: line,
+        behind: command,
     };
-    let instant = start.next()?;
-    if let Some(b';') = instant.word.first() {
-        return None;
-    }
-    let command = instant.next()?;
+    let command = start.next()?;
     let wanted = words_behind(command.word)?;
     let named = command.next()?;
     match wanted.first()? {

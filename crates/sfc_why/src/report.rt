@@ -1,7 +1,7 @@
 //! What is told of a fault.
 
 ghost use Rattle.std.specs.Prelude.{◌≡◌, IfOk};
-ghost use Rattle.sfc_why.specs.Telling.{IsReportAt};
+ghost use Rattle.sfc_why.specs.Telling.{IsReportAt, IsReportInFile};
 
 use crate::place::{Place, front_of};
 use crate::position::{Position, position_behind};
@@ -113,6 +113,32 @@ fn shown(
     Ok(lines)
 }
 
+// A report of a fault at a place of a text, whose line and column these are.
+fn report_with(
+    alloc: Global,
+    text: &[u8],
+    refusal: Fault,
+    at: (Place, Position),
+    more: &[u8],
+) -> Result<Report, AllocError>
+    ensures refusal { IfOk result (λ report. report.refusal ≡ refusal) }
+    ensures place { IfOk result (λ report. report.place ≡ at.0) }
+    ensures position { IfOk result (λ report. report.position ≡ at.1) }
+{
+    let (place, position) = at;
+    let word = word_of(alloc, text, place)?;
+    let mut lines = shown(alloc, text, place, position)?;
+    lines.extend_from_slice(more)?;
+    Ok(Report {
+        refusal,
+        place,
+        position,
+        word,
+        near: None,
+        lines,
+    })
+}
+
 /// A report of a fault at a place of a text; these lines are told behind the source line, and nothing that may be meant. The one error is
 /// that memory was refused.
 pub fn report_at(
@@ -125,15 +151,21 @@ pub fn report_at(
     ensures { IfOk result (IsReportAt text.now refusal place) }
 {
     let position = position_behind(front_of(text, place));
-    let word = word_of(alloc, text, place)?;
-    let mut lines = shown(alloc, text, place, position)?;
-    lines.extend_from_slice(more)?;
-    Ok(Report {
-        refusal,
-        place,
-        position,
-        word,
-        near: None,
-        lines,
-    })
+    report_with(alloc, text, refusal, (place, position), more)
+}
+
+/// The same where the line with the place is this one of the file that it came from.
+pub fn report_in_file(
+    alloc: Global,
+    text: &[u8],
+    refusal: Fault,
+    at: (Place, usize),
+    more: &[u8],
+) -> Result<Report, AllocError>
+    ensures { IfOk result (IsReportInFile text.now refusal at.0 at.1) }
+{
+    let (place, line) = at;
+    let Position { line: _, column } = position_behind(front_of(text, place));
+    let position = Position { line, column };
+    report_with(alloc, text, refusal, (place, position), more)
 }

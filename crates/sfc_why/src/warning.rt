@@ -4,43 +4,26 @@ ghost use Rattle.std.specs.Prelude.{IfOk, All};
 ghost use Rattle.sfc_why.specs.Telling.{IsWarningOf};
 
 use crate::naming::{Missing, Sought, missing_name};
+use crate::over::{Opened, Over};
 use crate::place::word_place;
 use crate::report::{Fault, Report, report_at};
 use crate::sfc_core::resource::Resource;
-use crate::sfc_places::chart_text::ChartText;
 use crate::sfc_places::declared::Declared;
 use crate::sfc_places::spaces::{
-    actions_of, globals_of, instances_of, program_named, steps_of, tasks_of, transitions_of,
-    variables_of,
+    actions_of, globals_of, instances_of, steps_of, tasks_of, transitions_of, variables_of,
 };
-use crate::sfc_places::span::{Span, spans_of};
+use crate::sfc_places::span::Span;
 use crate::sfc_places::tree_text::TreeText;
 use sfc_base::ids::ProgId;
 use sfc_hints::hints::Hints;
 use sfc_hints::notes::add_nearest;
 use sfc_script::split::next_line;
-use sfc_text::read::read;
-use sfc_text::tree::Program;
-use sfc_tokens::lex::tokens;
 use std::alloc::{AllocError, Global};
 
 /// The most warnings.
 const MOST: usize = 100;
 
-/// A plant, and the text of its chart.
-#[derive(Clone, Copy)]
-struct Over<'a> {
-    resource: &'a Resource,
-    text: &'a TreeText<'a>,
-}
-
 impl<'a> Over<'a> {
-    // The program type of an instance.
-    fn program_of(&self, instance: ProgId) -> Option<&'a Program> {
-        let found = self.resource.plant().type_of(instance)?;
-        program_named(self.text.source, found.name.spelling())
-    }
-
     // The names of a kind that an instance's chart has.
     fn points_of(&self, alloc: Global, sought: Sought) -> Result<Vec<Declared>, AllocError> {
         let chart = self.text.chart;
@@ -117,8 +100,8 @@ fn qualified(alloc: Global, instance: &[u8], near: Vec<u8>) -> Result<Vec<u8>, A
     Ok(name)
 }
 
-// What is told of a word that names nothing.
-fn hints_of(
+/// What is told of a word that names nothing which is sought: the names that may be meant. The one error is that memory was refused.
+pub fn hints_of(
     alloc: Global,
     over: &Over<'_>,
     word: &[u8],
@@ -190,22 +173,9 @@ pub fn warnings_of(
 ) -> Result<Vec<Report>, AllocError>
     ensures { IfOk result (λ reports. All (IsWarningOf script.now) reports.items) }
 {
-    let Ok(source) = read(alloc, text) else {
-        return Err(AllocError);
-    };
-    let Ok(found) = tokens(alloc, text) else {
-        return Err(AllocError);
-    };
-    let spans = spans_of(alloc, &found)?;
-    let chart = ChartText {
-        text,
-        tokens: found.as_slice(),
-        spans: spans.as_slice(),
-    };
-    let text = TreeText {
-        chart: &chart,
-        source: &source,
-    };
+    let opened = Opened::of(alloc, text)?;
+    let chart = opened.chart(text);
+    let text = opened.tree(&chart);
     let over = Over {
         resource,
         text: &text,

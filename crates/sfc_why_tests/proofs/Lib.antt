@@ -1,0 +1,2 @@
+-- faults of a file of tests
+mod Faults

@@ -1,0 +1,2 @@
+-- What is told of a file of tests.
+pub mod Telling
