@@ -1,8 +1,7 @@
 //! What has changed behind the last commands of a case.
 
-ghost use Rattle.sfc_test.specs.Running.Benches.{IsReady};
+ghost use Rattle.sfc_judge.specs.Running.Benches.{IsReady};
 
-use crate::bench::Bench;
 use crate::operands::append_joint;
 use crate::sfc_debug::timed::Timed;
 use crate::sfc_output::command::append_command;
@@ -12,6 +11,7 @@ use sfc_base::references::{GlobalId, StepId, Variable};
 use sfc_base::value::Value;
 use sfc_events::command::Answer;
 use sfc_expr::view::View;
+use sfc_judge::bench::Bench;
 use sfc_page::append::{append, append_time, append_value};
 use sfc_plant::names::instance_name;
 use std::alloc::{AllocError, Global};

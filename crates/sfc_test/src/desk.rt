@@ -1,6 +1,6 @@
 //! What a suite asks of its surroundings.
 
-use crate::sfc_replay::replay_error::ReplayError;
+use sfc_replay::replay_error::ReplayError;
 
 /// Where the commands of cases go, each case as a script.
 pub trait Desk {

@@ -1,6 +1,6 @@
 //! Files of tests, read to their end.
 
-use crate::sfc_replay::replay_error::ReplayError;
+use sfc_replay::replay_error::ReplayError;
 use std::alloc::Global;
 use std::io::Read;
 

@@ -1,7 +1,5 @@
 //! What conditions read, in one line.
 
-use crate::bench::Bench;
-use crate::joined::Condition;
 use crate::sfc_debug::break_condition::BreakCondition;
 use crate::sfc_instance::program_view::ProgramView;
 use crate::sfc_instance::scan_fault::ScanFault;
@@ -9,9 +7,11 @@ use sfc_base::ids::ProgId;
 use sfc_base::references::{StepId, Variable};
 use sfc_base::ticks::Ticks;
 use sfc_base::value::Value;
+use sfc_cases::joined::Condition;
 use sfc_expr::eval::eval;
 use sfc_expr::expr::Expr;
 use sfc_expr::view::View;
+use sfc_judge::bench::Bench;
 use sfc_page::append::{append, append_value};
 use sfc_plant::names::{Names, instance_name};
 use std::alloc::{AllocError, Global};

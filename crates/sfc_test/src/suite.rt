@@ -2,29 +2,29 @@
 
 ghost use Rattle.std.specs.Prelude.{[], IfOk};
 ghost use Rattle.sfc_replay.specs.sfc_core.Agreement as core;
-ghost use Rattle.sfc_test.specs.Running.Benches.{IsReady};
+ghost use Rattle.sfc_judge.specs.Running.Benches.{IsReady};
 
-use crate::bench::Bench;
-use crate::case::{Case, split_test};
 use crate::changes::{append_last_changes, append_script};
 use crate::desk::{Desk, NoDesk};
 use crate::input::read_tests_to_end;
-use crate::judge::{Outcome, judge};
 use crate::junit::Junit;
-use crate::line::Line;
 use crate::sfc_core::resource::Resource;
 use crate::sfc_debug::debugger::Debugger;
 use crate::sfc_debug::timed::Timed;
 use crate::sfc_debug::trace_mask::TraceMask;
-use crate::sfc_replay::chart::plant_of_text;
-use crate::sfc_replay::input::read_to_end;
-use crate::sfc_replay::replay_error::ReplayError;
 use crate::sfc_script::split::next_line;
-use crate::sources::Sources;
 use crate::telling::{Source, append_failure};
-use crate::test_file::{TestFile, read_tests};
 use sfc_base::write_fault::put_all;
+use sfc_cases::line::Line;
+use sfc_cases::sources::Sources;
+use sfc_cases::test_file::{TestFile, read_tests};
+use sfc_judge::bench::Bench;
+use sfc_judge::case::{Case, split_test};
+use sfc_judge::judge::{Outcome, judge};
 use sfc_page::append::{append, append_number};
+use sfc_replay::chart::plant_of_text;
+use sfc_replay::input::read_to_end;
+use sfc_replay::replay_error::ReplayError;
 use std::alloc::{AllocError, Global};
 use std::io::{Read, Write};
 

@@ -1,18 +1,18 @@
 //! What is told of a failure.
 
-use crate::bench::Bench;
-use crate::complaint::Complaint;
-use crate::deed::Deed;
-use crate::judge::Failure;
-use crate::line::Line;
 use crate::operands::{append_joint, append_none, append_operands};
 use crate::sfc_script::split::next_line;
-use crate::sources::Sources;
-use crate::watch::Watch;
-use crate::words::from_word;
 use sfc_base::ids::{ProgId, TaskId};
 use sfc_base::references::StepId;
+use sfc_cases::deed::Deed;
+use sfc_cases::line::Line;
+use sfc_cases::sources::Sources;
+use sfc_cases::watch::Watch;
+use sfc_cases::words::from_word;
 use sfc_events::refusal::Refusal;
+use sfc_judge::bench::Bench;
+use sfc_judge::complaint::Complaint;
+use sfc_judge::judge::Failure;
 use sfc_page::append::{append, append_number, append_time};
 use sfc_plant::names::{instance_name, task_name};
 use std::alloc::{AllocError, Global};
@@ -40,6 +40,50 @@ fn text_of<'a>(source: Source<'a>, number: usize) -> &'a [u8] {
         Some((line, _)) => line,
         None => b"",
     }
+}
+
+// How many stimuli these lines begin.
+fn count_stimuli(lines: &[Line]) -> usize {
+    let mut count = 0usize;
+    for line in lines {
+        if let Deed::Stirs(_) = line.deed {
+            count = count.saturating_add(1);
+        }
+    }
+    count
+}
+
+// The line of these that begins the stimulus of a place, counted from 0.
+fn stirring_line(lines: &[Line], place: usize) -> Option<&Line> {
+    let mut left = place;
+    'lines: for line in lines {
+        if let Deed::Stirs(_) = line.deed {
+            if left == 0 {
+                return Some(line);
+            }
+            left = left.saturating_sub(1);
+        }
+    }
+    None
+}
+
+// The line that begins the stimulus of a place among those of the case that stands at a line: those of the lines before the first TEST come
+// first.
+fn stimulus_line<'a>(lines: &'a [Line], at: &Line, place: usize) -> Option<&'a Line> {
+    let first = lines
+        .iter()
+        .position(Line::begins_case)
+        .unwrap_or(lines.len());
+    let (front, cases) = lines.split_at(first.min(lines.len()));
+    let before = count_stimuli(front);
+    if place < before {
+        return stirring_line(front, place);
+    }
+    let done = cases.partition_point(|line| line.number <= at.number);
+    let (done, _) = cases.split_at(done.min(cases.len()));
+    let begins = done.iter().rposition(Line::begins_case).unwrap_or(0);
+    let (_, own) = done.split_at(begins.min(done.len()));
+    stirring_line(own, place.saturating_sub(before))
 }
 
 // A line with the file, the number and the text of a line, and at which of its bytes that begins, counted from 1.
@@ -138,7 +182,7 @@ fn append_state(
     }
 }
 
-// The instant, and the line at which a condition was looked at that another line watches.
+// The instant, and the line at which a condition was looked at that another line watches, or the command of a stimulus was given.
 fn append_moment(
     out: &mut Vec<u8>,
     source: Source<'_>,
@@ -146,7 +190,7 @@ fn append_moment(
     failure: Failure<'_>,
 ) -> Result<(), AllocError> {
     append_time(out, bench.clock())?;
-    if let Complaint::Broken(_) = failure.complaint {
+    if let Complaint::Broken(_) | Complaint::Unstirred(_, _) = failure.complaint {
         let (_, number) = source.sources.place(failure.line.number);
         append(out, b", line ")?;
         append_number(out, number as u64)?;
@@ -162,7 +206,9 @@ fn append_complaint(
     failure: Failure<'_>,
 ) -> Result<(), AllocError> {
     match failure.complaint {
-        Complaint::Refused(refusal) => append_refusal(out, refusal),
+        Complaint::Refused(refusal) | Complaint::Unstirred(_, refusal) => {
+            append_refusal(out, refusal)
+        }
         Complaint::Accepted => append(out, b"accepted"),
         Complaint::Faulted(program) => append_fault(out, bench, program),
         Complaint::Overran(task) => append_overruns(out, bench, task),
@@ -172,10 +218,13 @@ fn append_complaint(
     }
 }
 
-// The line that isn't right: that which watches a condition, or the one at which the case failed.
-fn line_of<'a>(failure: Failure<'a>) -> &'a Line {
+// The line that isn't right: that which watches a condition, or which begins a stimulus, or the one at which the case failed.
+fn line_of<'a>(lines: &'a [Line], failure: Failure<'a>) -> &'a Line {
     match failure.complaint {
         Complaint::Broken(line) => line,
+        Complaint::Unstirred(place, _) => {
+            stimulus_line(lines, failure.line, place).unwrap_or(failure.line)
+        }
         _ => failure.line,
     }
 }
@@ -189,7 +238,7 @@ pub fn append_failure(
     bench: &Bench,
     failure: Failure<'_>,
 ) -> Result<(), AllocError> {
-    append_place(out, source, line_of(failure))?;
+    append_place(out, source, line_of(source.lines, failure))?;
     append_moment(out, source, bench, failure)?;
     append_complaint(alloc, out, bench, failure)?;
     append(out, b"\n")

@@ -1,4 +1,4 @@
-use Rattle.sfc_test.specs.Running.Benches.{IsReady}
+use Rattle.sfc_judge.specs.Running.Benches.{IsReady}
 use Rattle.sfc_test.proofs.changes.append_last_changes.Given as goal
 
 abbrev pub invariant-commands : goal.invariant-commands

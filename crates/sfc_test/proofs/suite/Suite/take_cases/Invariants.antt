@@ -1,5 +1,5 @@
 use Rattle.std.proofs.Common.{length}
-use Rattle.sfc_test.specs.Running.Benches.{IsReady}
+use Rattle.sfc_judge.specs.Running.Benches.{IsReady}
 use Rattle.sfc_test.proofs.suite.Suite.take_cases.Given as goal
 
 abbrev pub invariant-cases : goal.invariant-cases

@@ -1,6 +1,0 @@
-use Rattle.sfc_test.specs.Moments.{opening}
-use Rattle.sfc_test.proofs.Scripts.{as_script}
-use Rattle.sfc_test.proofs.laws.a_case_is_a_script.Goals as goal
-
-pub returns : goal.returns
-returns c steered lines = as_script steered opening lines

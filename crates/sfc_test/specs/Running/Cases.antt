@@ -1,8 +1,0 @@
--- The lines of a case.
-use Rattle.std.specs.Prelude.{List, ◌++◌}
-use Rattle.sfc_test.specs.declared.case.Case.{Case}
-use Rattle.sfc_test.specs.declared.line.Line.{Line}
-
--- those before the first TEST, and its own
-abbrev pub lines_in : Case → List Line
-lines_in lines = lines.front.now ++ lines.own.now
