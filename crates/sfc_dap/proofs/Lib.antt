@@ -1,0 +1,2 @@
+-- a script that is played with breakpoints
+pub mod Hits

@@ -1,0 +1,2 @@
+-- histories after which a resource stands alike
+pub mod Alike

@@ -1,0 +1,9 @@
+//! Where charts and scripts come from, and where scripts are kept.
+
+use sfc_prompt::archive::Archive;
+
+/// Where charts and scripts come from, by the names of their files, and where scripts are kept.
+pub trait Desk: Archive {
+    /// The bytes of a file; None where it can't be read.
+    fn read(&mut self, path: &str) -> Option<Vec<u8>>;
+}

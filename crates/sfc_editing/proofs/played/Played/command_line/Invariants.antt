@@ -1,0 +1,5 @@
+use Rattle.std.proofs.Common.{length}
+use Rattle.sfc_editing.proofs.played.Played.command_line.Given as goal
+
+abbrev pub decreases-lines : goal.decreases-lines
+decreases-lines l = length l.rest

@@ -1,0 +1,13 @@
+//! An archive that keeps nothing.
+
+use sfc_prompt::archive::Archive;
+
+/// Keeps no script: for lines that keep none.
+#[derive(Clone, Copy)]
+pub struct Unkept;
+
+impl Archive for Unkept {
+    fn keep(&mut self, _name: &str, _script: &[u8]) -> bool {
+        false
+    }
+}

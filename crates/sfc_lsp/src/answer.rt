@@ -1,0 +1,28 @@
+//! What a request is answered.
+
+use serde_json::Value;
+use sfc_wire::error_code::ErrorCode;
+
+/// What a request is answered.
+#[derive(Drop)]
+pub enum Answer {
+    /// It was done: what it gave.
+    Done(Value),
+    /// It was not, for a reason.
+    Refused(ErrorCode, &'static str),
+}
+
+impl Answer {
+    /// There is nothing to answer.
+    pub fn nothing() -> Answer {
+        Answer::Done(Value::Null)
+    }
+
+    /// The parameters are not those of the method.
+    pub fn wrong() -> Answer {
+        Answer::Refused(
+            ErrorCode::InvalidParams,
+            "these are no parameters of this method",
+        )
+    }
+}

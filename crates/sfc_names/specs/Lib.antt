@@ -1,0 +1,10 @@
+-- The rules, in reading order.
+
+-- what is shown of a chart
+pub mod Diagnosing
+-- texts that say the same
+pub mod Sameness
+-- pieces of texts, and names in them
+pub mod Pieces
+-- what gets another name
+pub mod Renaming

@@ -1,0 +1,2 @@
+-- a whole client
+pub mod Serving
