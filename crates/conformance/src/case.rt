@@ -4,16 +4,18 @@ use crate::covering::{Scripts, covered};
 use crate::debugged::debugged;
 use crate::ending::Ending;
 use crate::frame::Frame;
-use crate::sfc_replay::check::{check_chart, list_chart};
-use crate::sfc_replay::replay::replay;
 use crate::tested::tested;
 use anyhow::{Result, bail};
 use sfc_plant::plant::Plant;
-use sfc_why::all::explain_all;
-use sfc_why::chart::{Told, explain_chart};
-use sfc_why::page::{explanation_of, put_report};
-use sfc_why::report::Report;
-use sfc_why::script::{ScriptTold, explain_script};
+use sfc_replay::check::{check_chart, list_chart};
+use sfc_replay::replay::replay;
+use sfc_why_tests::sfc_cases::sources::Sources;
+use sfc_why_tests::sfc_why::all::explain_all;
+use sfc_why_tests::sfc_why::chart::{Told, explain_chart};
+use sfc_why_tests::sfc_why::page::{explanation_of, put_report};
+use sfc_why_tests::sfc_why::report::Report;
+use sfc_why_tests::sfc_why::script::{ScriptTold, explain_script};
+use sfc_why_tests::tests::{TestFault, TestsTold, explain_tests};
 use std::alloc::{AllocError, Global};
 
 /// A command of `sfcmon`.
@@ -29,6 +31,8 @@ enum Command {
     Why,
     /// All faults of a chart are told, or else the first one of a script.
     WhyAll,
+    /// The first fault of a chart, or else the faults of a file of tests, are told.
+    WhyTests,
     /// What scripts on a chart reach together is told.
     Cover,
     /// A chart is stepped by hand, by the lines of the script.
@@ -102,6 +106,37 @@ fn tell_script(ending: &mut Ending, told: &ScriptTold) -> Result<(), AllocError>
     }
 }
 
+// Adds a report of a line of tests to the output.
+fn tell_test(ending: &mut Ending, fault: &TestFault) -> Result<(), AllocError> {
+    ending.status = 1;
+    match put_report(b"script", &fault.report, None, &mut ending.output) {
+        Ok(()) => Ok(()),
+        Err(_) => Err(AllocError),
+    }
+}
+
+// Adds reports of the faults of tests on a chart's text, which is this plant, to the output.
+fn explain_tests_of(
+    alloc: Global,
+    (chart, plant): (&[u8], Plant),
+    tests: &[u8],
+    ending: &mut Ending,
+) -> Result<(), AllocError> {
+    let sources = Sources::of_one(alloc, b"script", Vec::from_slice(alloc, tests)?)?;
+    match explain_tests(alloc, chart, plant, &sources)? {
+        TestsTold::Fault(fault) => tell_test(ending, &fault)?,
+        TestsTold::NoFault(faults) if faults.is_empty() => {
+            ending.output.extend_from_slice(b"no fault\n")?
+        }
+        TestsTold::NoFault(faults) => {
+            for fault in &faults {
+                tell_test(ending, fault)?;
+            }
+        }
+    }
+    Ok(())
+}
+
 impl Case {
     /// A case with this title, of which nothing else is said: a replay of an empty frame and an empty script that is to
     /// write nothing and to leave status 0.
@@ -134,6 +169,7 @@ impl Case {
             "replay" => self.command = Command::Replay,
             "why" => self.command = Command::Why,
             "why --all" => self.command = Command::WhyAll,
+            "why tests" => self.command = Command::WhyTests,
             "cover" => self.command = Command::Cover,
             "debug" => self.command = Command::Debug,
             "test" => self.command = Command::Test,
@@ -236,6 +272,18 @@ impl Case {
         Ok(ending)
     }
 
+    // Tells the first fault of the chart, or else the faults of the tests.
+    fn tests_explained(&self, alloc: Global, chart: &[u8]) -> Result<Ending, AllocError> {
+        let mut ending = Ending::new(alloc);
+        match explain_chart(alloc, chart)? {
+            Told::Fault(report) => tell(&mut ending, b"chart", &report)?,
+            Told::NoFault(plant) => {
+                explain_tests_of(alloc, (chart, plant), &self.script, &mut ending)?
+            }
+        }
+        Ok(ending)
+    }
+
     // What the scripts reach on the chart.
     fn covered(&self, alloc: Global, chart: &[u8]) -> Result<Ending, AllocError> {
         let scripts = Scripts {
@@ -259,6 +307,7 @@ impl Case {
             Command::Replay => self.replayed(alloc, chart)?,
             Command::Why => self.explained(alloc, chart)?,
             Command::WhyAll => self.all_explained(alloc, chart)?,
+            Command::WhyTests => self.tests_explained(alloc, chart)?,
             Command::Cover => self.covered(alloc, chart)?,
             Command::Debug => debugged(alloc, chart, &self.script)?,
             Command::Test => tested(alloc, chart, &self.script)?,

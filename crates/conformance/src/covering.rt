@@ -1,8 +1,8 @@
 //! What scripts on a chart reach together.
 
 use crate::ending::Ending;
-use crate::sfc_replay::replay_error::ReplayError;
 use sfc_cover::cover::Cover;
+use sfc_replay::replay_error::ReplayError;
 use std::alloc::{AllocError, Global};
 
 /// The scripts of a case, and how many percents are wanted at the least.

@@ -21,7 +21,6 @@ mod report;
 mod tested;
 
 use report::Counts;
-use sfc_cover::sfc_replay;
 use std::process::ExitCode;
 
 // Runs the cases of the file.

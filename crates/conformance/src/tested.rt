@@ -1,7 +1,7 @@
 //! Tests of a chart.
 
 use crate::ending::Ending;
-use crate::sfc_replay::replay_error::ReplayError;
+use sfc_replay::replay_error::ReplayError;
 use sfc_test::suite::{Asked, Choice, Suite};
 use std::alloc::{AllocError, Global};
 

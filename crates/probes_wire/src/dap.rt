@@ -66,7 +66,7 @@ fn responses_and_events_are_those_of_the_protocol(rt: HostRuntime) -> Result<(),
         &rt,
         alloc,
         &refused,
-        "{\"seq\":3,\"type\":\"response\",\"request_seq\":7,\"success\":false,\"command\":\"threads\",\"message\":\"not now\"}",
+        "{\"seq\":3,\"type\":\"response\",\"request_seq\":7,\"success\":false,\"command\":\"threads\",\"message\":\"not now\",\"body\":{\"error\":{\"id\":1,\"format\":\"{reason}\",\"variables\":{\"reason\":\"not now\"}}}}",
     )?;
     let told = event(alloc, 4, "initialized", Value::Null)?;
     says(

@@ -33,6 +33,5 @@ mod stage;
 mod walk;
 pub mod watch;
 
-// What the crates above name through this one.
-pub use sfc_replay;
-pub use sfc_replay::{sfc_action, sfc_debug, sfc_image, sfc_instance, sfc_instances, sfc_tables};
+// What lies deeper, under a name of this crate.
+use sfc_replay::{sfc_action, sfc_debug, sfc_image, sfc_instance, sfc_instances, sfc_tables};

@@ -22,5 +22,5 @@ mod sheet;
 mod step;
 mod transition;
 
-// What the crates above name through this one.
-pub use sfc_replay::{sfc_core, sfc_debug, sfc_instance, sfc_list, sfc_script, sfc_tables};
+// What lies deeper, under a name of this crate.
+use sfc_replay::{sfc_core, sfc_debug, sfc_instance, sfc_list, sfc_script, sfc_tables};

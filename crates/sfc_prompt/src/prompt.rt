@@ -84,6 +84,13 @@ impl Prompt {
         }
     }
 
+    /// The session.
+    pub fn session(&self) -> &Session
+        ensures { result.now ≡ session_in self.now }
+    {
+        &self.session
+    }
+
     // What should be a command of a script.
     fn say(&mut self, spoken: Spoken<'_>, out: &mut Vec<u8>) -> Result<(), AllocError>
         ensures obeys { (h : CommandHistory) (lines : List ℕ) → HasSaid (session_in self.old) h lines → OnOk result

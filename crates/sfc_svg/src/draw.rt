@@ -12,13 +12,13 @@ ghost use Rattle.sfc_svg.specs.Written.{IsPut, IsWritten};
 
 use crate::playing::debugger_after;
 use crate::sfc_core::resource::Resource;
-use crate::sfc_replay::chart::plant_of_text;
-use crate::sfc_replay::input::read_to_end;
-use crate::sfc_replay::replay_error::ReplayError;
 use crate::svg::{svg_of_plant, svg_of_resource};
 use crate::svg_error::SvgError;
 use sfc_base::write_fault::put_all;
 use sfc_plant::plant::Plant;
+use sfc_replay::chart::plant_of_text;
+use sfc_replay::input::read_to_end;
+use sfc_replay::replay_error::ReplayError;
 use std::alloc::Global;
 use std::io::{Read, Write};
 

@@ -15,6 +15,5 @@ pub mod playing;
 pub mod svg;
 pub mod svg_error;
 
-// What the crates above name through this one.
-pub use sfc_replay;
-pub use sfc_replay::{sfc_core, sfc_debug, sfc_instance, sfc_output, sfc_tables};
+// What lies deeper, under a name of this crate.
+use sfc_replay::{sfc_core, sfc_debug, sfc_instance, sfc_output, sfc_tables};

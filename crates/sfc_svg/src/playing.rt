@@ -9,8 +9,8 @@ ghost use Rattle.sfc_svg.specs.Played.{PlaysFrom};
 
 use crate::sfc_debug::debugger::Debugger;
 use crate::sfc_debug::timed::Timed;
-use crate::sfc_replay::opening::{Opened, open_from};
-use crate::sfc_replay::replay_error::ReplayError;
+use sfc_replay::opening::{Opened, open_from};
+use sfc_replay::replay_error::ReplayError;
 use std::alloc::Global;
 use std::io::Read;
 

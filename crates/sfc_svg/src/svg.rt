@@ -12,7 +12,6 @@ ghost use Rattle.sfc_svg.specs.Standing as standing;
 
 use crate::marking::marks_of;
 use crate::sfc_core::resource::Resource;
-use crate::sfc_replay::replay_error::ReplayError;
 use crate::svg_error::SvgError;
 use sfc_base::ids::{ProgId, TypeId};
 use sfc_drawing::drawing::{svg_of_instances, svg_of_types};
@@ -20,6 +19,7 @@ use sfc_drawing::drawing_error::DrawingError;
 use sfc_drawing::marks::Marked;
 use sfc_plant::instance::Instance;
 use sfc_plant::plant::Plant;
+use sfc_replay::replay_error::ReplayError;
 use std::alloc::{AllocError, Global};
 
 // The program type of this name, where one is named.

@@ -1,8 +1,8 @@
 //! Why there is no drawing.
 
-use crate::sfc_replay::replay_error::ReplayError;
 use sfc_base::write_fault::WriteFault;
 use sfc_drawing::drawing_error::DrawingError;
+use sfc_replay::replay_error::ReplayError;
 use std::alloc::AllocError;
 use thiserror::Error;
 

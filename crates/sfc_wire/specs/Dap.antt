@@ -43,15 +43,25 @@ success_of seq request command value = object
     (member (codes "success") (boolean true)
     (member (codes "type") (string (codes "response")) no_members))))))
 
+-- what a client shows of a reason: the reason itself, whatever signs it has
+abbrev pub reason_of : List ℕ → Data
+reason_of reason = object
+    (member (codes "error") (object
+    (member (codes "format") (string (codes "{reason}"))
+    (member (codes "id") (number (unsigned 1))
+    (member (codes "variables") (object (member (codes "reason") (string reason) no_members)) no_members))))
+    no_members)
+
 -- it was not done, for this reason
 abbrev pub failure_of : ℕ → ℕ → List ℕ → List ℕ → Data
 failure_of seq request command reason = object
+    (member (codes "body") (reason_of reason)
     (member (codes "command") (string command)
     (member (codes "message") (string reason)
     (member (codes "request_seq") (number (unsigned request))
     (member (codes "seq") (number (unsigned seq))
     (member (codes "success") (boolean false)
-    (member (codes "type") (string (codes "response")) no_members))))))
+    (member (codes "type") (string (codes "response")) no_members)))))))
 
 abbrev pub event_of : ℕ → List ℕ → Data → Data
 event_of seq event value = object

@@ -37,6 +37,7 @@ pub fn failure(
     ensures { IfOk result (λ message. view message ≡ dap.failure_of seq request.entry.seq request.entry.command.now reason.now) }
 {
     json!(in alloc; {
+        "body": {"error": {"format": "{reason}", "id": 1, "variables": {"reason": reason}}},
         "command": request.command,
         "message": reason,
         "request_seq": request.seq,

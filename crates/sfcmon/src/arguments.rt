@@ -3,11 +3,11 @@
 use crate::files::end_with;
 use crate::lasting::Lasting;
 use crate::sfc_debug::trace_mask::TraceMask;
-use crate::sfc_replay::replay_error::ReplayError;
 use clap::builder::ValueParser;
 use clap::error::ErrorKind;
 use clap::{Arg, ArgAction, ArgMatches, Command, Error};
 use sfc_lint::kind::kind_named;
+use sfc_replay::replay_error::ReplayError;
 use sfc_tokens::duration::duration;
 use sfc_wave::asked::{Form, Instants};
 use std::alloc::{AllocError, Global};
@@ -165,6 +165,10 @@ pub enum Request {
     Run(Running),
     /// A chart to be stepped by hand, by the name of its file.
     Debug { chart: String },
+    /// An editor, to be served by the Language Server Protocol on standard input and standard output.
+    Lsp,
+    /// An editor, to be served by the Debug Adapter Protocol on standard input and standard output.
+    Dap,
     /// A chart to be drawn.
     Draw(Drawing),
     /// A script on a chart whose signals are to be shown.
@@ -288,15 +292,37 @@ Example:
 'sfcmon why FILE' tells where a fault is and what may be meant, 'sfcmon explain NUMBER' what it means.
 docs/LANGUAGE.md describes the text of charts and what is checked, docs/FORMATS.md the faults.";
 
+// What stands at the end of the help on `lsp`.
+const LSP_NOTES: &str = "\
+An editor starts it, sends requests and is answered: faults and warnings as they are typed, what a name is and where it stands, names to choose
+from, renaming, layout. 'editors' has files for VS Code, Neovim and Emacs.
+
+Exit status:
+  0  the editor has asked for shutdown, and has left
+  1  it has left without that
+  3  what came is no frame, or can't be read, or an answer can't be written
+  4  memory was refused";
+
+// What stands at the end of the help on `dap`.
+const DAP_NOTES: &str = "\
+An editor starts it and steps the chart that its request launch names, in virtual time, by breakpoints, forwards and back. What was done is a
+script. 'editors' has files for VS Code, Neovim and Emacs.
+
+Exit status:
+  0  the editor has left
+  3  what came is no frame, or can't be read, or an answer can't be written
+  4  memory was refused";
+
 // What stands at the end of the help on `why`.
 const WHY_NOTES: &str = "\
 The first line is FILE:LINE:COLUMN: NUMBER NAME: WORD, as editors and CI jobs read it, with a name that is near behind it. Below it stand the
 line with a mark, the element, what could stand there or may be meant, what the refusal means, and what usually leads to it. Without a fault
-it is 'no fault', behind a warning for each command of the script that names what the chart hasn't.
+it is 'no fault', behind a warning for each command of the script that names what the chart hasn't. In a file of tests such a command is a
+fault.
 
 Exit status:
-  0  the chart has no fault, nor has the script
-  1  the chart or the script is refused: its first fault is told, or with --all all faults of the chart
+  0  the chart has no fault, nor has the script or the file of tests
+  1  one of them is refused: its first fault is told, or with --all all faults of the chart
   2  the words of the command line are wrong
   3  a file can't be read, or the output can't be written
   4  memory was refused
@@ -305,6 +331,7 @@ Examples:
   sfcmon why examples/lamp.chart
   sfcmon why --all examples/lamp.chart
   sfcmon why examples/lamp.chart examples/lamp.script
+  sfcmon why examples/lamp.chart examples/lamp.sfctest
 
 docs/FORMATS.md says what each line is, docs/LANGUAGE.md describes the text of charts. 'editors' has files for VS Code and Vim.";
 
@@ -566,6 +593,22 @@ fn debug_command<'a>(alloc: Global) -> Result<Command<'a>, AllocError> {
         .about("Steps a chart by hand in virtual time, with a session on standard input")
         .after_help(DEBUG_NOTES)
         .arg(chart_argument(alloc))
+}
+
+fn lsp_command<'a>(alloc: Global) -> Command<'a> {
+    Command::new(alloc, "lsp")
+        .about(
+            "Serves an editor by the Language Server Protocol, on standard input and standard output",
+        )
+        .after_help(LSP_NOTES)
+}
+
+fn dap_command<'a>(alloc: Global) -> Command<'a> {
+    Command::new(alloc, "dap")
+        .about(
+            "Lets an editor debug a chart by the Debug Adapter Protocol, on standard input and standard output",
+        )
+        .after_help(DAP_NOTES)
 }
 
 // The argument that says which commands have lines.
@@ -854,14 +897,16 @@ fn with_command<'a>(
 }
 
 fn why_command<'a>(alloc: Global) -> Result<Command<'a>, AllocError> {
-    let script = Arg::new(alloc, "SCRIPT").help("The script, where its first fault is asked for");
+    let script = Arg::new(alloc, "SCRIPT").help(
+        "The script or the file of tests (.sfctest), where its first fault is asked for",
+    );
     let all = Arg::new(alloc, "all")
         .long("all")
         .action(ArgAction::SetTrue)
         .help("Tells all faults of the chart, up to a hundred");
     Command::new(alloc, "why")
         .about(
-            "Tells where the first fault of a chart, or else of a script, is, and what may be meant",
+            "Tells where the first fault of a chart, or else of a script or of tests, is, and what may be meant",
         )
         .after_help(WHY_NOTES)
         .arg(all)?
@@ -906,6 +951,8 @@ fn sfcmon_command<'a>(alloc: Global) -> Result<Command<'a>, AllocError> {
     let command = with_command(command, replay_command(alloc))?;
     let command = with_command(command, run_command(alloc))?;
     let command = with_command(command, debug_command(alloc))?;
+    let command = with_command(command, Ok(lsp_command(alloc)))?;
+    let command = with_command(command, Ok(dap_command(alloc)))?;
     let command = with_picture_commands(alloc, command)?;
     let command = with_command(command, cover_command(alloc))?;
     let command = with_command(command, test_command(alloc))?;
@@ -1245,6 +1292,12 @@ fn request_of(alloc: Global, matches: &ArgMatches) -> Result<Request, Error> {
     }
     if let Some(debug) = matches.subcommand_matches("debug") {
         return Ok(debug_request(alloc, debug)?);
+    }
+    if matches.subcommand_matches("lsp").is_some() {
+        return Ok(Request::Lsp);
+    }
+    if matches.subcommand_matches("dap").is_some() {
+        return Ok(Request::Dap);
     }
     if let Some(draw) = matches.subcommand_matches("draw") {
         return Ok(draw_request(alloc, draw)?);

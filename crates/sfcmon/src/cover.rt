@@ -2,8 +2,8 @@
 
 use crate::arguments::Covering;
 use crate::files::{end_with, end_with_file, open_files};
-use crate::sfc_replay::replay_error::ReplayError;
 use sfc_cover::cover::Cover;
+use sfc_replay::replay_error::ReplayError;
 use std::io::Read;
 use std::rt::Files;
 use std::{fs, io};

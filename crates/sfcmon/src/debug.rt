@@ -1,9 +1,9 @@
 //! A chart that is stepped by hand.
 
 use crate::files::{Streams, end_with};
-use crate::sfc_replay::replay_error::ReplayError;
 use sfc_prompt::archive::Archive;
 use sfc_prompt::desk::{Desk, hold};
+use sfc_replay::replay_error::ReplayError;
 use std::alloc::{AllocError, Global};
 use std::fs;
 use std::io::IsTerminal;

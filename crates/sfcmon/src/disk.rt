@@ -1,9 +1,9 @@
 //! Files that tests include.
 
 use crate::files::end_with_file;
-use crate::sfc_replay::replay_error::ReplayError;
+use sfc_replay::replay_error::ReplayError;
 use sfc_test::input::read_tests_to_end;
-use sfc_test::sources::{IncludeError, Library, Reason, Sources};
+use sfc_why_tests::sfc_cases::sources::{IncludeError, Library, Reason, Sources};
 use std::alloc::Global;
 use std::fs;
 use std::io::Read;

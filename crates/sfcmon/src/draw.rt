@@ -3,11 +3,11 @@
 use crate::arguments::{Drawing, Shown};
 use crate::cover::open_cover;
 use crate::files::end_with;
-use crate::sfc_replay::replay_error::ReplayError;
 use sfc_base::write_fault::put_all;
 use sfc_cover::cover::Cover;
 use sfc_pictures::draw::{draw_after as dot_after, draw_chart as dot_chart};
 use sfc_pictures::picture_error::PictureError;
+use sfc_replay::replay_error::ReplayError;
 use sfc_svg::draw::{draw_after, draw_types};
 use sfc_svg::svg_error::SvgError;
 use std::alloc::Global;

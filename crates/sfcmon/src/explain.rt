@@ -5,9 +5,9 @@ use crate::lint::explain_kind;
 use crate::sfc_explain::finding::find;
 use crate::sfc_explain::page::{put_list, put_page};
 use crate::sfc_explain::table::{faults, of_charts, of_commands};
-use crate::sfc_replay::replay_error::ReplayError;
 use sfc_base::write_fault::WriteFault;
 use sfc_lint::kind::kind_named;
+use sfc_replay::replay_error::ReplayError;
 use std::io;
 
 // The lines of all tables, one after the other.

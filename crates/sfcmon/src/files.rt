@@ -2,9 +2,9 @@
 
 use crate::arguments::Running;
 use crate::lasting::{Lasting, LastingInput};
-use crate::sfc_replay::check::{check_chart, list_chart};
-use crate::sfc_replay::replay::{replay, replay_strict};
-use crate::sfc_replay::replay_error::ReplayError;
+use sfc_replay::check::{check_chart, list_chart};
+use sfc_replay::replay::{replay, replay_strict};
+use sfc_replay::replay_error::ReplayError;
 use sfc_run::run::run_chart;
 use sfc_run::streams::{Asked, Streams as RunStreams};
 use std::alloc::Global;

@@ -1,7 +1,7 @@
 //! Input of a run that lasts longer, or shorter, than its input.
 
-use crate::sfc_replay::replay_error::ReplayError;
 use sfc_base::write_fault::put_all;
+use sfc_replay::replay_error::ReplayError;
 use std::alloc::{AllocError, Global};
 use std::collections::VecDeque;
 use std::io::{ErrorKind, Read, Stdin};

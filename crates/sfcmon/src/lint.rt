@@ -2,13 +2,13 @@
 
 use crate::arguments::Linting;
 use crate::files::end_with;
-use crate::sfc_replay::input::read_to_end;
-use crate::sfc_replay::replay_error::ReplayError;
 use sfc_base::write_fault::{WriteFault, put_all};
 use sfc_lint::kind::{Kind, kind_named};
 use sfc_lint::lint::{Warning, Warnings, lint};
 use sfc_lint::sfc_page::time_text::put_decimal;
 use sfc_lint::sfc_text::read::read;
+use sfc_replay::input::read_to_end;
+use sfc_replay::replay_error::ReplayError;
 use sfc_why::position::position_behind;
 use sfc_why::sfc_load::load::load;
 use std::alloc::Global;

@@ -6,6 +6,7 @@
 //! - `debug`: a chart that is stepped by hand.
 //! - `disk`: files that tests include.
 //! - `draw`: charts as drawings.
+//! - `editors`: editors that are served.
 //! - `explain`: what refusals and faults mean.
 //! - `files`: charts and scripts in files, standard output and exit status.
 //! - `lasting`: input of a run that lasts longer, or shorter, than its input.
@@ -22,6 +23,7 @@ mod cover;
 mod debug;
 mod disk;
 mod draw;
+mod editors;
 mod explain;
 mod files;
 mod lasting;
@@ -33,10 +35,9 @@ mod testing;
 mod wave;
 mod why;
 
-use crate::sfc_replay::replay_error::ReplayError;
 use arguments::{Playing, Request, read_words, refuse_words};
 use files::Streams;
-use sfc_cover::sfc_replay;
+use sfc_replay::replay_error::ReplayError;
 use sfc_why::{sfc_debug, sfc_explain};
 use std::process::ExitCode;
 use std::rt::Files;
@@ -85,6 +86,8 @@ where
         Request::Replay(playing) => replay(rt, playing),
         Request::Run(running) => files::run_file(rt, streams, running),
         Request::Debug { chart } => debug::debug_file(rt, streams, chart.as_str()),
+        Request::Lsp => editors::serve_language(rt, streams),
+        Request::Dap => editors::serve_debugger(rt, streams),
         Request::Draw(drawing) => draw::draw_file(rt, drawing),
         Request::Wave(waving) => wave::wave_files(rt, waving),
         Request::Cover(covering) => cover::cover_files(rt, covering),

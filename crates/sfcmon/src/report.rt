@@ -2,11 +2,11 @@
 
 use crate::arguments::{Reporting, VERSION};
 use crate::files::{end_with, end_with_file};
-use crate::sfc_replay::input::read_to_end;
-use crate::sfc_replay::replay::replay;
-use crate::sfc_replay::replay_error::ReplayError;
 use sfc_base::write_fault::put_all;
 use sfc_cover::cover::Cover;
+use sfc_replay::input::read_to_end;
+use sfc_replay::replay::replay;
+use sfc_replay::replay_error::ReplayError;
 use sfc_report::contents::{Contents, Run, Source};
 use sfc_report::report::page_of;
 use sfc_svg::draw::draw_after;

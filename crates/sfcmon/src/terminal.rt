@@ -2,8 +2,8 @@
 //! read.
 
 use crate::arguments::{Request, Shown};
-use crate::sfc_replay::input::read_to_end;
 use sfc_plant::plant::Plant;
+use sfc_replay::input::read_to_end;
 use sfc_why::chart::{Told, explain_chart};
 use sfc_why::page::{explanation_of, put_report};
 use sfc_why::report::Report;

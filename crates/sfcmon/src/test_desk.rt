@@ -1,7 +1,7 @@
 //! What is done with the commands of cases.
 
-use crate::sfc_replay::replay_error::ReplayError;
 use sfc_cover::cover::Cover;
+use sfc_replay::replay_error::ReplayError;
 use sfc_test::desk::Desk;
 use std::alloc::Global;
 

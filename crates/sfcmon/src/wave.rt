@@ -2,7 +2,7 @@
 
 use crate::arguments::Waving;
 use crate::files::end_with;
-use crate::sfc_replay::replay_error::ReplayError;
+use sfc_replay::replay_error::ReplayError;
 use sfc_wave::asked::Asked;
 use sfc_wave::wave::wave_script;
 use sfc_wave::wave_error::WaveError;
