@@ -137,6 +137,7 @@ in_both() {
   beside "$limit" pictures.sh "$tests/pictures.sh"
   beside "$limit" report.sh "$tests/report.sh"
   beside "$limit" editors.sh "$tests/editors.sh"
+  beside "$limit" "damaged streams of editors" python3 "$tests/editors/damage.py" "$program" "$streams"
   beside "$limit" mutants.sh "$tests/mutants.sh"
   beside "$limit" "the reading's own cases" python3 "$tests/reading/cases.py" "$top/crates/conformance/data"
   beside "$limit" outline.sh "$tests/outline.sh"
@@ -146,7 +147,7 @@ in_both() {
 }
 
 quick() {
-  limit=1800
+  limit=1800 streams=400
   # both wait most of the time
   [ ! -x "$tests/launcher.sh" ] || beside "$limit" "launcher.sh quick" "$tests/launcher.sh" quick
   beside "$limit" program.sh "$tests/program.sh"
@@ -168,7 +169,7 @@ quick() {
 
 full() {
   local first
-  limit=7200
+  limit=7200 streams=50000
   alone "$limit" program.sh "$tests/program.sh"
   alone "$limit" pressure.sh "$tests/pressure.sh"
   alone "$limit" epochs.sh "$tests/epochs.sh"

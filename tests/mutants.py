@@ -1,5 +1,5 @@
 #!/usr/bin/env python3
-"""mutants.py PROGRAM EXAMPLES: see mutants.sh."""
+"""mutants.py PROGRAM FOLDER ..: see mutants.sh."""
 
 import re
 import subprocess
@@ -40,8 +40,9 @@ def is_found(program, chart, text):
 
 
 def main():
-    program, examples = sys.argv[1], Path(sys.argv[2])
-    tried = [(chart, *it) for chart in sorted(examples.glob("*.chart")) for it in mutants(chart.read_text(encoding="ascii"))]
+    program, folders = sys.argv[1], [Path(it) for it in sys.argv[2:]]
+    charts = [chart for folder in folders for chart in sorted(folder.glob("*.chart"))]
+    tried = [(chart, *it) for chart in charts for it in mutants(chart.read_text(encoding="ascii"))]
     with ThreadPoolExecutor() as pool:
         found = list(pool.map(lambda it: is_found(program, it[0], it[1]), tried))
     for (chart, _, what), is_one in zip(tried, found):

@@ -234,6 +234,22 @@ for pattern in "$work"/pattern-*.sfctest; do
   ends 0 && says "" && mentions "1 passed, 0 failed" out
   note $? "a pattern of docs/TESTING.md on ${name%.sfctest}.chart"
 done
+# the charts of docs/PATTERNS.md: without a warning, held whole by their tests; and each of its blocks stands in the chart above it
+for chart_of in "$examples"/patterns/*.chart; do
+  name=$(basename "${chart_of%.chart}")
+  run lint --deny all "$chart_of"
+  ends 0 && says "" && run test --cover 100 "$chart_of" "${chart_of%.chart}.sfctest"
+  ends 0 && says "" && mentions " passed, 0 failed" out && [ "$(grep -c "patterns/$name\.\(chart\|sfctest\|svg\))" "$top/docs/PATTERNS.md")" = 2 ]
+  note $? "the pattern $name"
+done
+awk -v to="$work/block" 'match($0, /^\[Chart\]\(\.\.\/examples\/patterns\/[a-z]+/) { name = substr($0, 30, RLENGTH - 29) }
+  /^```/ { if (open) close(file); else file = to "-" ++number "-" name; open = !open; next }
+  open { print >file }' "$top/docs/PATTERNS.md"
+for block in "$work"/block-*; do
+  [ -s "$block" ] && python3 -c 'import sys; sys.exit(open(sys.argv[1]).read() not in open(sys.argv[2]).read())' \
+    "$block" "$examples/patterns/${block##*-}.chart"
+  note $? "a block of docs/PATTERNS.md on ${block##*-}.chart"
+done
 # files that include others
 mkdir -p "$work/parts/deep"
 printf 'LET Soon = T#200ms\n; no case\nINCLUDE deep/never.sfctest\n' >"$work/parts/front.sfctest"
@@ -796,6 +812,22 @@ status=${PIPESTATUS[1]}
 ends 3 && [ "$(grep -c '^  Divide1 fault DivZero$' "$work/err")" = 1 ] && [ "$(tail -n 2 "$work/err")" = "write fault
 a program stood faulted at the end" ]
 note $? "a program that dies is told behind a closed standard output"
+
+if command -v python3 >/dev/null; then
+  PYTHONPATH=$top/share/python timeout 60 python3 "$examples/python/tank.py" "$program" >"$work/out" 2>"$work/err"
+  status=$?
+  ends 0 && calm && last "batches 1 status 0" && [ "$(grep '^Mixer' "$work/out" | tail -n 2)" = "Mixer True
+Mixer False" ]
+  note $? "a simulated tank beside a run"
+  # values of the page on formats, and of the C library's tests, as a program beside a run reads and writes them
+  PYTHONPATH=$top/share/python python3 -c 'from sfcmon import text_of, value_of
+for text, value in {"TRUE": True, "FALSE": False, "-32768": -32768, "T#0s": 0, "T#1d_2h_3m_4s_5.25ms": 93_784_005_250, "T#-1s_500ms": -1_500_000}.items():
+    assert value_of(text) == value and type(value_of(text)) is type(value), text
+assert [text_of(it) for it in (True, False, -7, "T#1s")] == ["TRUE", "FALSE", "-7", "T#1s"]' >"$work/out" 2>"$work/err"
+  status=$?
+  ends 0 && says ""
+  note $? "values that a program beside a run reads and writes"
+fi
 
 # at_terminal TITLE FILE WORD..: what a script of Python counts that runs the program at a terminal of its own
 at_terminal() {

@@ -1,5 +1,6 @@
 """What refused.sh does; its head says what that is."""
 
+import json
 import os
 import re
 import signal
@@ -200,6 +201,32 @@ def try_memory(runs: Runs):
         sweep.memory(sweep.undisturbed()[0])
 
 
+def framed(messages: list) -> bytes:
+    """Messages as editors send them."""
+    texts = [json.dumps(it).encode() for it in messages]
+    return b"".join(b"Content-Length: %d\r\n\r\n%s" % (len(it), it) for it in texts)
+
+
+def try_editors(runs: Runs):
+    """A session of each protocol of editors: each allocation is refused."""
+    chart = EXAMPLES / "lamp.chart"
+    uri, text = f"file://{chart}", chart.read_text(encoding="utf-8")
+    document = {"uri": uri, "languageId": "sfc-chart", "version": 1, "text": text.replace("Lamp(N)", "Lmap(N)")}
+    place = {"textDocument": {"uri": uri}, "position": {"line": 3, "character": 6}}
+    asked = [("initialize", {"capabilities": {}}), ("textDocument/hover", place), ("textDocument/documentSymbol", place), ("shutdown", None)]
+    calls = [{"jsonrpc": "2.0", "id": number, "method": method, "params": params} for number, (method, params) in enumerate(asked, 1)]
+    opened = {"jsonrpc": "2.0", "method": "textDocument/didOpen", "params": {"textDocument": document}}
+    lsp = framed([calls[0], opened, *calls[1:], {"jsonrpc": "2.0", "method": "exit"}])
+    wanted = [("initialize", {"adapterID": "sfcmon"}), ("launch", {"program": str(chart), "stopOnEntry": True}), ("configurationDone", {}),
+              ("threads", {}), ("next", {"threadId": 1}), ("stackTrace", {"threadId": 1}), ("stepBack", {"threadId": 1}), ("disconnect", {})]
+    dap = framed([{"seq": seq, "type": "request", "command": command, "arguments": given} for seq, (command, given) in enumerate(wanted, 1)])
+    for word, given in (("lsp", lsp), ("dap", dap)):
+        calm = runs.run([word], "", given)
+        runs.note(calm.status == 0 and calm.out and not calm.err, f"{word}, the undisturbed run", calm)
+        sweep = Sweep(runs, calm.out, [word], 0, given)
+        sweep.memory(sweep.undisturbed()[0])
+
+
 def try_why(runs: Runs):
     """What is told where there is no fault; of a chart that can't be read, of one that can't be loaded, of three faults, and of a script."""
     lamp, script = EXAMPLES / "lamp.chart", EXAMPLES / "lamp.script"
@@ -208,6 +235,7 @@ def try_why(runs: Runs):
     charts = {"cut": text.replace(b"Lamp(N);", b"Lamp(N)"), "token": b"PROGRAM Mix\n  VAR a__b : INT; END_VAR\n",
               "name": text.replace(b"Lamp(N)", b"Lmap(N)"), "dark": text.replace(b"INITIAL_STEP", b"STEP")}
     scripts = {"name": b"T#0s BREAK P STEP S WHEN Lmap\n", "jump": b"T#0s JUMP\n"}
+    tests = {"word": b"LET a = Lmap\nEXPECT a\n", "names": b"SCAN Mian\nEVERY T#1s INPUT Strat TOGGLE\n", "right": b"NEVER Lamp AND NOT Lamp\n"}
     for name, body in charts.items():
         file = runs.folder / f"{name}.chart"
         file.write_bytes(body)
@@ -222,6 +250,13 @@ def try_why(runs: Runs):
         file = runs.folder / f"{name}.script"
         file.write_bytes(body)
         Sweep(runs, runs.run(["why", lamp, file]).out, ["why", lamp, file], 1).all()
+    for name, body in tests.items():
+        file = runs.folder / f"{name}.sfctest"
+        file.write_bytes(body)
+        calm = runs.run(["why", lamp, file])
+        sweep = Sweep(runs, calm.out, ["why", lamp, file], calm.status)
+        sweep.memory(sweep.undisturbed()[0])
+        sweep.output()
 
 
 def try_refused_chart(runs: Runs):
@@ -381,7 +416,7 @@ def main() -> int:
         library = f"{work}/refuse.so"
         subprocess.run(["cc", "-O1", "-shared", "-fPIC", "-o", library, str(here / "refuse.c"), "-ldl"], check=True)
         runs = Runs(sys.argv[1], library, Path(work))
-        for part in (try_commands, try_memory, try_why, try_refused_chart, try_run, try_code):
+        for part in (try_commands, try_memory, try_editors, try_why, try_refused_chart, try_run, try_code):
             part(runs)
         runs.pool.shutdown()
     print(f"{runs.passed} passed, {runs.failed} failed")

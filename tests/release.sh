@@ -47,8 +47,8 @@ note $? "a release: $(cat "$work/err")"
 (umask 077; TZ=Asia/Tokyo LC_ALL=C.UTF-8 "$other/tools/release" >"$work/again" 2>&1)
 cmp "$work/again" "$made/SHA256SUMS"
 note $? "a release in another clone has the same sums"
-(cd "$made" && sha256sum --quiet -c SHA256SUMS) && [ "$(find "$made" -type f | wc -l)" = 4 ] && [ "$(wc -l <"$made/SHA256SUMS")" = 3 ]
-note $? "three files and their sums"
+(cd "$made" && sha256sum --quiet -c SHA256SUMS) && [ "$(find "$made" -type f | wc -l)" = 5 ] && [ "$(wc -l <"$made/SHA256SUMS")" = 4 ]
+note $? "four files and their sums"
 archive=$made/zadorike-$version-linux-x86_64.tar.gz
 package=$made/zadorike_${version}_amd64.deb
 wheel=$(echo "$made"/*.whl)

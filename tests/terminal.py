@@ -1,10 +1,12 @@
 #!/usr/bin/env python3
 """terminal.py PROGRAM CHART: runs the chart in real time at a terminal: a session that is typed and ended by Ctrl-D, and a terminal that is
-closed. The chart's task is never due. Then what is told at a terminal of a chart and of a script that is refused, and of a file that isn't
+closed. The chart's task is never due. Then the pump of the examples: it is started, read, halted by a breakpoint that a forced value leads to,
+let go and ended. Then what is told at a terminal of a chart and of a script that is refused, and of a file that isn't
 there: the line that is told elsewhere, and behind it what `why` prints, or the name of the file. The last line is 'N passed, M failed'."""
 import os
 import pty
 import re
+import select
 import signal
 import subprocess
 import sys
@@ -25,13 +27,44 @@ def note(is_so, title):
         print("not as it should be:", title)
 
 
-def start():
+def start(chart=chart):
     """The program at a terminal of its own, which it may outlive: its number, and the other end."""
     child, end = pty.fork()
     if child == 0:
         signal.signal(signal.SIGHUP, signal.SIG_IGN)
         os.execv(program, [program, "run", chart])
     return child, end
+
+
+class Typed:
+    """A run to which lines are typed, and what its terminal has shown and wasn't looked at yet."""
+
+    def __init__(self, chart):
+        self.child, self.end = start(chart)
+        self.text = ""
+
+    def type(self, line):
+        os.write(self.end, line.encode() + b"\n")
+
+    def read(self, seconds):
+        """What comes within so long; whether something did."""
+        if not select.select([self.end], [], [], max(seconds, 0))[0]:
+            return False
+        try:
+            piece = os.read(self.end, 4096)
+        except OSError:
+            return False
+        self.text += piece.decode().replace("\r\n", "\n")
+        return bool(piece)
+
+    def shows(self, pattern, title, seconds=10):
+        """Whether this comes in time; what stands before it is passed over."""
+        until = time.monotonic() + seconds
+        while not (found := re.search(pattern, self.text)):
+            if not self.read(until - time.monotonic()):
+                break
+        note(found, f"{title}: {self.text!r}")
+        self.text = self.text[found.end():] if found else self.text
 
 
 def status_of(child):
@@ -70,6 +103,35 @@ time.sleep(0.3)
 os.close(end)
 status = status_of(child)
 note(status == 3, f"a terminal that is closed: status {status}")
+
+
+pump = Typed(os.path.join(os.path.dirname(os.path.abspath(__file__)), "..", "examples", "pump.chart"))
+pump.shows(r"1 T#\S+ SCAN Main overruns \d+\n", "the first scan")
+pump.type("READ Pump")
+pump.shows(r"\n\d+ T#\S+ READ Pump FALSE\n", "what the pump reads at first")
+pump.type("INPUT Start TRUE")
+pump.shows(r"\n\d+ T#\S+ INPUT Start TRUE\n(?:.*\n)*?\d+ T#\S+ SCAN Main overruns \d+\n", "an input, and the scan behind it")
+pump.type("READ Pump")
+pump.shows(r"\n\d+ T#\S+ READ Pump TRUE\n", "what the pump reads then")
+pump.type("NONSENSE")
+pump.shows(r"\nscript line 4\n", "a line that is no command")
+pump.type("BREAK Pump1 STEP RunningOn")
+pump.shows(r"\n\d+ T#\S+ BREAK Pump1 STEP RunningOn\n", "a breakpoint")
+pump.type("FORCE Stop TRUE")
+pump.shows(r"SCAN Main overruns \d+ hit\n  Pump1 \d+ steps RunningOn=T#0s cleared 2 run Pump,RunOnLamp\n", "that is hit")
+pump.type("SINGLE Main T#200ms")
+pump.shows(r"\n\d+ T#\S+ SINGLE Main T#200ms overruns \d+\n", "a single scan")
+pump.type("STOP")
+pump.shows(r"\nrefused \d+ NotRunning\n", "a refusal")
+pump.type("GO")
+pump.shows(r"\n\d+ T#\S+ GO\n(?:.*\n)*?\d+ T#\S+ SCAN Main overruns \d+\n", "it goes on")
+pump.type("RELEASE Stop")
+pump.type("END")
+pump.shows(r"\n\d+ T#\S+ END\n", "END")
+os.write(pump.end, b"\x04")
+pump.shows(r"audit ok \d+\n", "the audit")
+note(status_of(pump.child) == 0, "the status of the pump")
+os.close(pump.end)
 
 
 def errors_at_terminal(words):

@@ -2,7 +2,7 @@
 # ~/.local/share/bash-completion/completions.
 
 _sfcmon() {
-  local commands='check lint list why replay run debug draw wave cover test report explain help'
+  local commands='check lint list why replay run debug lsp dap draw wave cover test report explain help'
   local names='TooLong NotAscii BadToken Syntax TooDeep BadDuration BadNumber Memory
     Unknown WrongType LiteralRange NotAssignable Duplicate NoInitial UnknownStep UnknownAction NotBool NotTime NoTask
     UnknownType SameLocation Limit

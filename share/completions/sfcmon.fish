@@ -1,6 +1,6 @@
 # Completes the words of sfcmon in fish. Put this file into ~/.config/fish/completions.
 
-set -l commands check lint list why replay run debug draw wave cover test report explain help
+set -l commands check lint list why replay run debug lsp dap draw wave cover test report explain help
 set -l names TooLong NotAscii BadToken Syntax TooDeep BadDuration BadNumber Memory \
     Unknown WrongType LiteralRange NotAssignable Duplicate NoInitial UnknownStep UnknownAction NotBool NotTime NoTask \
     UnknownType SameLocation Limit \
@@ -13,7 +13,9 @@ complete -c sfcmon -s h -l help -d 'print help'
 complete -c sfcmon -n __fish_use_subcommand -s V -l version -d 'print the version'
 complete -c sfcmon -n __fish_use_subcommand -a check -d 'read a chart and check its names, types and limits'
 complete -c sfcmon -n __fish_use_subcommand -a list -d 'print the text of a chart anew, in one layout'
-complete -c sfcmon -n __fish_use_subcommand -a why -d 'tell where the faults of a chart or a script are'
+complete -c sfcmon -n __fish_use_subcommand -a why -d 'tell where the faults of a chart, a script or a file of tests are'
+complete -c sfcmon -n __fish_use_subcommand -a lsp -d 'serve an editor by the Language Server Protocol'
+complete -c sfcmon -n __fish_use_subcommand -a dap -d 'let an editor debug a chart by the Debug Adapter Protocol'
 complete -c sfcmon -n __fish_use_subcommand -a replay -d 'play a script on a chart and print what each command answers'
 complete -c sfcmon -n __fish_use_subcommand -a run -d 'run a chart in real time, with a session on standard input'
 complete -c sfcmon -n __fish_use_subcommand -a debug -d 'step a chart by hand in virtual time'

@@ -445,7 +445,7 @@ def check_case(checks: Checks, program: str, file: Path):
 def shown_pictures(program: str) -> dict:
     """The pictures of docs/pictures, as the commands of its page make them."""
     page = (PICTURES / "README.md").read_text()
-    commands = re.findall(r"(?m)^\| \[([\w.]+)\]\([\w.]+\) \| `([^`]+)` \|$", page)
+    commands = re.findall(r"(?m)^\| \[([\w./]+)\]\([\w./]+\) \| `([^`]+)` \|$", page)
     made = {}
     for name, words in commands:
         done = subprocess.run([program, *words.split()], cwd=TOP, capture_output=True, text=True, timeout=60, check=False)
@@ -462,7 +462,7 @@ def make_pictures(program: str):
 def check_pictures(checks: Checks, program: str):
     """Holds the pictures of docs/pictures to their commands; there is no other."""
     made = shown_pictures(program)
-    there = {it.name for it in PICTURES.iterdir() if it.suffix in (".svg", ".html")}
+    there = {str(it.relative_to(PICTURES)) for it in PICTURES.rglob("*") if it.suffix in (".svg", ".html")}
     checks.note(made.keys() == there, f"docs/pictures: {sorted(made.keys() ^ there)}")
     for name, text in made.items():
         checks.note((PICTURES / name).read_text() == text, f"docs/pictures/{name} isn't what its command makes: {text[:100]!r}")

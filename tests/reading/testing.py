@@ -374,7 +374,7 @@ class Case:
         one["given"] += 1
         one["next"] += one["period"]
         self.clock = instant
-        self.give(line, behind, command)
+        self.give(line, behind, command, one["line"])
 
     def expects(self, behind: list, kind: str, number: int) -> bool:
         """Whether a line behind expects a fault of a program, or overruns of a task."""
@@ -391,17 +391,18 @@ class Case:
         if overruns != told and not self.expects(behind, "OVERRUNS", task):
             raise Wrong(line, None)
 
-    def give(self, line: Line, behind: list, command):
-        """A command at the clock's instant; it has to be accepted."""
+    def give(self, line: Line, behind: list, command, stirring: Line = None):
+        """A command at the clock's instant, of a stimulus's line or of the line itself; it has to be accepted."""
+        refused = Wrong(line, None) if stirring is None else Wrong(stirring, line.number)
         if command.word in ("SCAN", "SINGLE"):
             task = self.replay.task(command.name)
             try:
                 done = self.debugger.scan(task, self.clock)[0] if command.word == "SCAN" else self.debugger.single(task, command.value, self.clock)
             except Refusal:
-                raise Wrong(line, None) from None
+                raise refused from None
             self.scanned(line, behind, task, done)
         elif self.replay.play(command._replace(instant=self.clock))[0].startswith("refused"):
-            raise Wrong(line, None)
+            raise refused
         else:
             self.note(self.clock)
         self.look(line)
@@ -491,7 +492,7 @@ class Case:
             self.run(line, behind, deed[1], self.later(deed[2]))
         elif deed[0] == "STIR":
             first = self.clock if deed[1] is None else self.later(deed[1])
-            self.stimuli.append({"next": first, "period": deed[2], "left": deed[3], "commands": deed[4], "given": 0})
+            self.stimuli.append({"next": first, "period": deed[2], "left": deed[3], "commands": deed[4], "given": 0, "line": line})
         elif deed[0] in ("WATCH", "RESPONSE"):
             others, self.watches = self.watches, [{"line": line, "from": self.clock, "over": False, "was": False, "open": []}]
             self.look(line)

@@ -2,9 +2,11 @@
 """tests.py PROGRAM N [SEED]: random files of tests over random plants, by `PROGRAM test CHART FILE` and by the reading.
 
 Compared are which cases pass, and of those that fail the line, the instant, the line at which what is watched didn't hold, and what changed
-last; or the first faulty line. What differs is kept in a temporary folder. The last line is 'N passed, M failed'.
+last; or the first faulty line. `why` has to tell the same faulty line, and nothing but names where there is none. What differs is kept in a
+temporary folder. The last line is 'N passed, M failed'.
 """
 
+import re
 import subprocess
 import sys
 import tempfile
@@ -193,6 +195,18 @@ def there(program: str, chart: Path, file: Path) -> tuple:
     return without_details(ran.stdout.decode("latin-1")).rstrip("\n"), ran.returncode
 
 
+def told_by_why(program: str, chart: Path, file: Path, faulty: int) -> str:
+    """What `why` tells otherwise than it should: of a file whose first faulty line is this one, or that has none (0); '' where it tells that."""
+    ran = subprocess.run([program, "why", str(chart), str(file)], stdin=subprocess.DEVNULL, capture_output=True, timeout=60, check=False)
+    told = ran.stdout.decode("latin-1")
+    if faulty:
+        return "" if ran.returncode == 1 and told.startswith(f"{file}:{faulty}:") else f"not line {faulty}: {told[:200]}"
+    if ran.returncode == 0:
+        return "" if told == "no fault\n" else f"more than that there is no fault: {told[:200]}"
+    reports = told.count(f"{file}:")
+    return "" if reports == told.count("\n  in: the name, ") else f"a fault that is no name: {told[:300]}"
+
+
 def main() -> int:
     """Compares so many."""
     program, count, seed = sys.argv[1], int(sys.argv[2]), int(sys.argv[3]) if len(sys.argv) > 3 else 1
@@ -206,6 +220,12 @@ def main() -> int:
         ours, theirs = here(plant, file.read_bytes(), str(file)), there(program, chart, file)
         ok[0] += ours[0].count("ok case")
         ok[1] += ours[0].count("FAILED case")
+        faulty = re.fullmatch(r".*: script line (\d+)", ours[0])
+        why = told_by_why(program, chart, file, int(faulty[1]) if faulty else 0)
+        if why:
+            failed += 1
+            print(f"{chart} {file}: why tells {why}")
+            continue
         if ours == theirs:
             passed += 1
             chart.unlink()
