@@ -20,8 +20,9 @@ const MOST_LINES: usize = 268_435_456;
 
 /// Where files are read from.
 pub trait Library {
-    /// What the file of this name holds, at most 67,108,865 bytes of it; None where it can't be read.
-    fn read(&mut self, name: &[u8]) -> Option<Vec<u8>>;
+    /// What the file of this name holds, at most 67,108,865 bytes of it; None where it can't be read. The one error is that memory was
+    /// refused.
+    fn read(&mut self, name: &[u8]) -> Result<Option<Vec<u8>>, AllocError>;
 }
 
 /// Why a file isn't included.
@@ -318,11 +319,12 @@ impl Reading {
         if self.texts.len() > MOST_FILES {
             return Err(Reason::TooMany);
         }
-        let Some(text) = library.read(&path) else {
-            return Err(Reason::Missing);
-        };
-        match self.open(path, text) {
-            Ok(()) => Ok(()),
+        match library.read(&path) {
+            Ok(Some(text)) => match self.open(path, text) {
+                Ok(()) => Ok(()),
+                Err(_) => Err(Reason::Memory),
+            },
+            Ok(None) => Err(Reason::Missing),
             Err(_) => Err(Reason::Memory),
         }
     }

@@ -114,7 +114,7 @@ fn with_files<D: Desk>(
     chart: Chart,
 ) -> Result<Opening, AllocError> {
     let script = match &launch.script {
-        Some(path) => match desk.read(path.as_str()) {
+        Some(path) => match desk.read(path.as_str())? {
             Some(script) => Some(script),
             None => return unread(alloc, path.as_str()),
         },
@@ -129,7 +129,7 @@ fn with_files<D: Desk>(
 /// The chart that a launch asks for, to which nothing was said, and the script; or why it is refused. The one error is that memory was
 /// refused.
 pub fn open<D: Desk>(alloc: Global, desk: &mut D, launch: Launch) -> Result<Opening, AllocError> {
-    let Some(text) = desk.read(launch.program.as_str()) else {
+    let Some(text) = desk.read(launch.program.as_str())? else {
         return unread(alloc, launch.program.as_str());
     };
     match open_prompt(alloc, &text) {

@@ -41,7 +41,7 @@ fn shelved<S: Shelf>(
     let Some(path) = path_of(alloc, uri)? else {
         return Ok(None);
     };
-    match shelf.read(path.as_str()) {
+    match shelf.read(path.as_str())? {
         Some(text) => Ok(Some(Document::new(alloc, Heading::of_chart(), text, None)?)),
         None => Ok(None),
     }

@@ -16,10 +16,10 @@ struct Included<'a, S: Shelf> {
 }
 
 impl<S: Shelf> Library for Included<'_, S> {
-    fn read(&mut self, name: &[u8]) -> Option<Vec<u8>> {
+    fn read(&mut self, name: &[u8]) -> Result<Option<Vec<u8>>, AllocError> {
         match str::from_utf8(name) {
             Ok(name) => self.shelf.read(name),
-            Err(_) => None,
+            Err(_) => Ok(None),
         }
     }
 }

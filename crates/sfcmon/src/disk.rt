@@ -1,10 +1,10 @@
 //! Files that tests include.
 
-use crate::files::end_with_file;
+use crate::files::{bytes_or_none, end_with_file};
 use sfc_replay::replay_error::ReplayError;
 use sfc_test::input::read_tests_to_end;
 use sfc_why_tests::sfc_cases::sources::{IncludeError, Library, Reason, Sources};
-use std::alloc::Global;
+use std::alloc::{AllocError, Global};
 use std::fs;
 use std::io::Read;
 use std::rt::Files;
@@ -17,17 +17,14 @@ pub struct Disk<'a, R: Files> {
 }
 
 impl<R: Files> Library for Disk<'_, R> {
-    fn read(&mut self, name: &[u8]) -> Option<Vec<u8>> {
+    fn read(&mut self, name: &[u8]) -> Result<Option<Vec<u8>>, AllocError> {
         let Ok(name) = str::from_utf8(name) else {
-            return None;
+            return Ok(None);
         };
         let Ok(mut file) = fs::open(self.rt, name) else {
-            return None;
+            return Ok(None);
         };
-        match read_tests_to_end(self.alloc, &mut file) {
-            Ok(text) => Some(text),
-            Err(_) => None,
-        }
+        bytes_or_none(read_tests_to_end(self.alloc, &mut file))
     }
 }
 

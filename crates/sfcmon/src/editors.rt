@@ -1,7 +1,7 @@
 //! Editors that are served on standard input and standard output, by either of their protocols.
 
 use crate::debug::FileArchive;
-use crate::files::{Streams, end_with};
+use crate::files::{Streams, bytes_or_none, end_with};
 use sfc_dap::desk::Desk;
 use sfc_dap::serving::serve_dap;
 use sfc_lsp::serving::serve_lsp;
@@ -10,28 +10,29 @@ use sfc_lsp::sfc_frames::serving::ServeFault;
 use sfc_lsp::shelf::Shelf;
 use sfc_replay::input::read_to_end;
 use sfc_replay::replay_error::ReplayError;
+use std::alloc::AllocError;
 use std::fs;
 use std::rt::Files;
 
-// What a file holds; None where it can't be read.
-fn read_file<R: Files>(archive: &FileArchive<'_, R>, path: &str) -> Option<Vec<u8>> {
+// What a file holds; None where it can't be read. The one error is that memory was refused.
+fn read_file<R: Files>(
+    archive: &FileArchive<'_, R>,
+    path: &str,
+) -> Result<Option<Vec<u8>>, AllocError> {
     let Ok(mut file) = fs::open(archive.rt, path) else {
-        return None;
+        return Ok(None);
     };
-    match read_to_end(archive.alloc, &mut file) {
-        Ok(bytes) => Some(bytes),
-        Err(_) => None,
-    }
+    bytes_or_none(read_to_end(archive.alloc, &mut file))
 }
 
 impl<R: Files> Desk for FileArchive<'_, R> {
-    fn read(&mut self, path: &str) -> Option<Vec<u8>> {
+    fn read(&mut self, path: &str) -> Result<Option<Vec<u8>>, AllocError> {
         read_file(self, path)
     }
 }
 
 impl<R: Files> Shelf for FileArchive<'_, R> {
-    fn read(&mut self, path: &str) -> Option<Vec<u8>> {
+    fn read(&mut self, path: &str) -> Result<Option<Vec<u8>>, AllocError> {
         read_file(self, path)
     }
 }

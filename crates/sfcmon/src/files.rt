@@ -7,7 +7,7 @@ use sfc_replay::replay::{replay, replay_strict};
 use sfc_replay::replay_error::ReplayError;
 use sfc_run::run::run_chart;
 use sfc_run::streams::{Asked, Streams as RunStreams};
-use std::alloc::Global;
+use std::alloc::{AllocError, Global};
 use std::io::{Read, Stderr, Stdin, Stdout, Write};
 use std::rt::Files;
 use std::sync::Wait;
@@ -24,6 +24,15 @@ pub fn end_with<R: Eprint>(rt: &R, error: ReplayError) -> u8 {
 pub fn end_with_file<R: Eprint>(rt: &R, name: &str, error: ReplayError) -> u8 {
     let _ = eprintln!(rt; "{name}: {error}");
     error.status()
+}
+
+/// What a file was read as; None where it can't be read. The one error is that memory was refused.
+pub fn bytes_or_none(read: Result<Vec<u8>, ReplayError>) -> Result<Option<Vec<u8>>, AllocError> {
+    match read {
+        Ok(bytes) => Ok(Some(bytes)),
+        Err(ReplayError::Memory) => Err(AllocError),
+        Err(_) => Ok(None),
+    }
 }
 
 /// The files of these names, all of which are opened before one is read; or the exit status of the first that can't be, which is a read fault.
