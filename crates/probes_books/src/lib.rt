@@ -12,4 +12,5 @@ mod crews;
 mod sessions;
 
 // What the crates above name through this one.
-pub use sfc_control::{sfc_core, sfc_debug};
+use sfc_control::sfc_debug;
+use sfc_debug::sfc_core;

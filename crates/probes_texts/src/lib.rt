@@ -22,5 +22,6 @@ mod tokens;
 mod values;
 
 // What the crates above name through this one.
-pub use samples::{sfc_load, sfc_variables};
-pub use sfc_replay::sfc_list;
+use samples::sfc_load;
+use sfc_load::sfc_variables;
+use sfc_replay::sfc_output::sfc_list;

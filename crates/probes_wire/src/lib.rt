@@ -14,4 +14,4 @@ mod framing;
 mod rpc;
 
 // What the crates above name through this one.
-pub use sfc_wire::sfc_frames;
+use sfc_wire::sfc_frames;

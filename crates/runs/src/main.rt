@@ -4,7 +4,7 @@
 
 use crate::sfc_debug::trace_mask::TraceMask;
 use sfc_run::run::run_chart;
-use sfc_run::sfc_debug;
+use sfc_run::sfc_control::sfc_debug;
 use sfc_run::streams::{Asked, Streams};
 use std::process::ExitCode;
 

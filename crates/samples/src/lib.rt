@@ -8,4 +8,4 @@ pub mod loaded;
 
 // What the crates above name through this one.
 pub use sfc_load;
-pub use sfc_load::{sfc_check, sfc_variables};
+use sfc_load::{sfc_check, sfc_variables};

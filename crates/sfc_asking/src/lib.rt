@@ -24,6 +24,9 @@ pub mod trace;
 pub mod why;
 
 // What the crates above name through this one.
-pub use sfc_output::{sfc_core, sfc_debug, sfc_instance, sfc_list};
+pub use sfc_output;
 pub use sfc_script;
-pub use sfc_script::sfc_check;
+use sfc_output::{sfc_debug, sfc_list};
+use sfc_debug::sfc_core;
+use sfc_script::sfc_load::sfc_check;
+use sfc_core::sfc_instances::sfc_instance;

@@ -15,7 +15,7 @@ ghost use Rattle.sfc_cases.specs.Conditions as conditions;
 ghost use Rattle.sfc_cases.specs.Conditions.{IsReader, Reader};
 
 use crate::joined::{Condition, Joint, Part};
-use crate::sfc_debug::break_condition::BreakCondition;
+use sfc_debug::break_condition::BreakCondition;
 use crate::words::{names_instance, split_joint};
 use sfc_base::case::is_same_word;
 use sfc_base::ids::ProgId;

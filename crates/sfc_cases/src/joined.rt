@@ -1,6 +1,6 @@
 //! Conditions of program instances, joined.
 
-use crate::sfc_debug::break_condition::BreakCondition;
+use sfc_debug::break_condition::BreakCondition;
 use sfc_base::items::Items;
 
 /// What joins a part of a condition to those before it. AND binds closer than OR.

@@ -26,7 +26,8 @@ mod watching;
 pub mod words;
 
 // What the crates above name through this one.
-pub use sfc_debug;
-pub use sfc_debug::{sfc_action, sfc_core, sfc_instance};
 pub use sfc_script;
-pub use sfc_script::sfc_load;
+use sfc_debug::sfc_core;
+use sfc_script::sfc_load;
+use sfc_core::sfc_instances::sfc_instance;
+use sfc_instance::sfc_action;

@@ -3,7 +3,7 @@
 use crate::deed::Deed;
 use crate::instant::Instant;
 use crate::named::Named;
-use crate::sfc_debug::break_condition::BreakCondition;
+use sfc_debug::break_condition::BreakCondition;
 use sfc_events::command::Point;
 
 /// What a line of a test says.

@@ -15,7 +15,7 @@ use crate::named::Named;
 use crate::said::Said;
 use crate::saying::read_line;
 use crate::sfc_core::resource::Resource;
-use crate::sfc_debug::break_condition::BreakCondition;
+use sfc_debug::break_condition::BreakCondition;
 use sfc_events::command::{Command, CondId, Point};
 use sfc_script::script::ScriptError;
 use sfc_script::split::next_line;

@@ -47,4 +47,4 @@ pub mod work;
 
 // What the crates above name through this one.
 pub use sfc_debug;
-pub use sfc_debug::sfc_core;
+use sfc_debug::sfc_core;

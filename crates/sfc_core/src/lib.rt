@@ -21,4 +21,5 @@ mod singles;
 
 // What the crates above name through this one.
 pub use sfc_instances;
-pub use sfc_instances::{sfc_action, sfc_image, sfc_instance, sfc_tables};
+use sfc_instances::sfc_instance;
+use sfc_instance::{sfc_action, sfc_image, sfc_tables};

@@ -11,4 +11,4 @@ pub mod laws;
 
 // What the crates above name through this one.
 pub use sfc_instance;
-pub use sfc_instance::{sfc_action, sfc_image, sfc_tables};
+use sfc_instance::{sfc_action, sfc_image, sfc_tables};

@@ -19,4 +19,7 @@ pub mod trail;
 mod turn;
 
 // What lies deeper, under a name of this crate.
-use sfc_replay::{sfc_action, sfc_core, sfc_debug, sfc_instance};
+use sfc_cases::sfc_script::sfc_debug;
+use sfc_debug::sfc_core;
+use sfc_core::sfc_instances::sfc_instance;
+use sfc_instance::sfc_action;

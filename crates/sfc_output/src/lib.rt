@@ -30,5 +30,8 @@ pub mod program;
 
 // What the crates above name through this one.
 pub use sfc_debug;
-pub use sfc_debug::{sfc_action, sfc_core, sfc_image, sfc_instance, sfc_instances, sfc_tables};
 pub use sfc_list;
+use sfc_debug::sfc_core;
+use sfc_core::sfc_instances;
+use sfc_instances::sfc_instance;
+use sfc_instance::{sfc_action, sfc_image, sfc_tables};

@@ -28,4 +28,8 @@ mod spoken;
 mod words;
 
 // What the crates above name through this one.
-pub use sfc_asking::{sfc_check, sfc_debug, sfc_instance, sfc_script};
+pub use sfc_asking;
+use sfc_replay::sfc_script;
+use sfc_session::sfc_output::sfc_debug;
+use sfc_script::sfc_load::sfc_check;
+use sfc_debug::sfc_core::sfc_instances::sfc_instance;

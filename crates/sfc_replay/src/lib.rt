@@ -25,8 +25,11 @@ pub mod text;
 
 // What the crates above name through this one.
 pub use sfc_output;
-pub use sfc_output::{
-    sfc_action, sfc_core, sfc_debug, sfc_image, sfc_instance, sfc_instances, sfc_list, sfc_tables,
-};
 pub use sfc_script;
-pub use sfc_script::{sfc_load, sfc_variables};
+use sfc_output::{sfc_debug, sfc_list};
+use sfc_script::sfc_load;
+use sfc_debug::sfc_core;
+use sfc_load::sfc_variables;
+use sfc_core::sfc_instances;
+use sfc_instances::sfc_instance;
+use sfc_instance::{sfc_action, sfc_image, sfc_tables};

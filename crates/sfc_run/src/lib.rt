@@ -38,5 +38,7 @@ pub mod watch;
 mod worker_ends;
 
 // What the crates above name through this one.
-pub use sfc_control::{sfc_core, sfc_debug};
-pub use sfc_replay::{sfc_output, sfc_script};
+pub use sfc_control;
+use sfc_control::sfc_debug;
+use sfc_replay::{sfc_output, sfc_script};
+use sfc_debug::sfc_core;

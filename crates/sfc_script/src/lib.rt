@@ -37,6 +37,7 @@ pub mod wanted;
 
 // What the crates above name through this one.
 pub use sfc_debug;
-pub use sfc_debug::{sfc_core, sfc_instance};
 pub use sfc_load;
-pub use sfc_load::{sfc_check, sfc_variables};
+use sfc_debug::sfc_core;
+use sfc_load::{sfc_check, sfc_variables};
+use sfc_core::sfc_instances::sfc_instance;

@@ -12,4 +12,5 @@ pub mod session;
 pub mod step;
 
 // What the crates above name through this one.
-pub use sfc_output::sfc_debug;
+pub use sfc_output;
+use sfc_output::sfc_debug;

@@ -15,7 +15,7 @@ use sfc_page::append::{append, append_number, append_time, append_value};
 use sfc_plant::chart::Transition;
 use sfc_plant::plant::Plant;
 use sfc_plant::variable::Variable;
-use sfc_replay::sfc_list::list_expr::list_expr;
+use sfc_output::sfc_list::list_expr::list_expr;
 use sfc_session::session::Session;
 use std::alloc::{AllocError, Global};
 

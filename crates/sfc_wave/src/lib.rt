@@ -42,4 +42,7 @@ pub mod wave_error;
 mod waveform;
 
 // What the crates above name through this one.
-pub use sfc_replay::{sfc_core, sfc_debug, sfc_instance, sfc_script};
+use sfc_replay::sfc_script;
+use sfc_replay::sfc_output::sfc_debug;
+use sfc_debug::sfc_core;
+use sfc_core::sfc_instances::sfc_instance;

@@ -34,5 +34,7 @@ mod words;
 // What the crates above name through this one.
 pub use sfc_explain;
 pub use sfc_hints;
-pub use sfc_hints::sfc_places;
-pub use sfc_script::{sfc_core, sfc_debug, sfc_load};
+pub use sfc_script;
+use sfc_hints::sfc_places;
+use sfc_script::{sfc_debug, sfc_load};
+use sfc_debug::sfc_core;

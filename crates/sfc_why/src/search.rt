@@ -15,7 +15,7 @@ use crate::sfc_places::by_tree::finding_of;
 use crate::sfc_places::chart_text::ChartText;
 use crate::sfc_places::finding::Finding;
 use crate::sfc_places::marks::spelling_at;
-use crate::sfc_places::sfc_check::placed_error::PlacedLoadError;
+use crate::sfc_script::sfc_load::sfc_check::placed_error::PlacedLoadError;
 use crate::sfc_places::span::{Span, spans_of};
 use crate::sfc_places::tree_text::TreeText;
 use sfc_events::load_error::LoadError;

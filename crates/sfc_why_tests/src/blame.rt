@@ -4,7 +4,7 @@ use crate::piece::Piece;
 use crate::wanted::Wanted;
 use sfc_base::ids::ProgId;
 use sfc_why::naming::Sought;
-use sfc_why::sfc_places::span::Span;
+use sfc_why::sfc_hints::sfc_places::span::Span;
 
 /// What makes a line no line of a test, or names what the plant hasn't.
 #[derive(Clone, Copy)]

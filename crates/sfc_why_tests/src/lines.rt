@@ -10,7 +10,7 @@ use sfc_cases::instant::read_instant;
 use sfc_cases::sfc_script::wanted::words_behind;
 use sfc_plant::plant::Plant;
 use sfc_why::naming::{Missing, missing_in};
-use sfc_why::sfc_core::resource::Resource;
+use sfc_script::sfc_debug::sfc_core::resource::Resource;
 use std::alloc::{AllocError, Global};
 
 // What makes a text no name with `=` and a word; None where it is that.

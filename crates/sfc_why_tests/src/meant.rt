@@ -2,7 +2,7 @@
 
 use sfc_base::run::{Alphabet, has};
 use sfc_cases::named::{Named, put_replaced};
-use sfc_why::sfc_places::span::Span;
+use sfc_why::sfc_hints::sfc_places::span::Span;
 use std::alloc::{AllocError, Global};
 
 /// The side of bytes that are looked for.

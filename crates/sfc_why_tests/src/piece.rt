@@ -3,7 +3,7 @@
 use sfc_base::case::is_same_word;
 use sfc_cases::sfc_script::split::{first_word, is_blank};
 use sfc_cases::words::divided;
-use sfc_why::sfc_places::span::Span;
+use sfc_why::sfc_hints::sfc_places::span::Span;
 
 /// Bytes of a line, and where they begin in it.
 #[derive(Clone, Copy)]

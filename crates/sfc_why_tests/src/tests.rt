@@ -24,10 +24,10 @@ use sfc_why::naming::Sought;
 use sfc_why::over::{Opened, Over};
 use sfc_why::place::{Place, word_place};
 use sfc_why::report::{Fault, Report, report_in_file};
-use sfc_why::sfc_core::resource::Resource;
+use sfc_script::sfc_debug::sfc_core::resource::Resource;
 use sfc_why::sfc_hints::hints::Hints;
 use sfc_why::sfc_hints::writing::add_line;
-use sfc_why::sfc_places::span::Span;
+use sfc_why::sfc_hints::sfc_places::span::Span;
 use sfc_why::warning::hints_of;
 use std::alloc::{AllocError, Global};
 

@@ -10,7 +10,7 @@ use sfc_lint::sfc_text::read::read;
 use sfc_replay::input::read_to_end;
 use sfc_replay::replay_error::ReplayError;
 use sfc_why::position::position_behind;
-use sfc_why::sfc_load::load::load;
+use sfc_why::sfc_script::sfc_load::load::load;
 use std::alloc::Global;
 use std::io::{Read, Write};
 use std::rt::Files;
