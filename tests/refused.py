@@ -201,6 +201,29 @@ def try_memory(runs: Runs):
         sweep.memory(sweep.undisturbed()[0])
 
 
+def including(folder: Path) -> Path:
+    """Tests in a file that another includes, beside their chart; the one that includes."""
+    (folder / "beside.chart").write_bytes((EXAMPLES / "lamp.chart").read_bytes())
+    (folder / "beside_lit.sfctest").write_text("TEST lit\nRUN T#0s\nEXPECT Lamp\n")
+    tests = folder / "beside.sfctest"
+    tests.write_text("INCLUDE beside_lit.sfctest\nTEST dark\nEXPECT NOT Lamp\n")
+    return tests
+
+
+def try_including(runs: Runs):
+    """Tests that are included: each allocation is refused, while they are run and while an editor shows their faults."""
+    tests = including(runs.folder)
+    document = {"uri": f"file://{tests}", "languageId": "sfc-test", "version": 1, "text": tests.read_text() + "EXPECT Lmap\n"}
+    opened = {"jsonrpc": "2.0", "method": "textDocument/didOpen", "params": {"textDocument": document}}
+    calls = [{"jsonrpc": "2.0", "id": number, "method": method, "params": {}} for number, method in ((1, "initialize"), (2, "shutdown"))]
+    lsp = framed([calls[0], opened, calls[1], {"jsonrpc": "2.0", "method": "exit"}])
+    for words, given, told in ((["test", tests.with_suffix(".chart"), tests], b"", b"2 passed, 0 failed"), (["lsp"], lsp, b"Lmap")):
+        calm = runs.run(words, "", given)
+        runs.note(calm.status == 0 and told in calm.out and not calm.err, f"{words[0]}, files that are included, the undisturbed run", calm)
+        sweep = Sweep(runs, calm.out, words, 0, given)
+        sweep.memory(sweep.undisturbed()[0])
+
+
 def framed(messages: list) -> bytes:
     """Messages as editors send them."""
     texts = [json.dumps(it).encode() for it in messages]
@@ -416,7 +439,7 @@ def main() -> int:
         library = f"{work}/refuse.so"
         subprocess.run(["cc", "-O1", "-shared", "-fPIC", "-o", library, str(here / "refuse.c"), "-ldl"], check=True)
         runs = Runs(sys.argv[1], library, Path(work))
-        for part in (try_commands, try_memory, try_editors, try_why, try_refused_chart, try_run, try_code):
+        for part in (try_commands, try_memory, try_editors, try_including, try_why, try_refused_chart, try_run, try_code):
             part(runs)
         runs.pool.shutdown()
     print(f"{runs.passed} passed, {runs.failed} failed")
