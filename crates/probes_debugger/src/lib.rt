@@ -18,7 +18,7 @@ mod scans;
 mod stations;
 
 // What the crates above name through this one.
+use sfc_core::sfc_instances::sfc_instance;
+use sfc_debug::sfc_core;
 use sfc_script::sfc_debug;
 use sfc_script::sfc_load::sfc_check;
-use sfc_debug::sfc_core;
-use sfc_core::sfc_instances::sfc_instance;

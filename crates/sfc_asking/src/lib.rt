@@ -24,9 +24,9 @@ pub mod trace;
 pub mod why;
 
 // What the crates above name through this one.
-pub use sfc_output;
-pub use sfc_script;
-use sfc_output::{sfc_debug, sfc_list};
-use sfc_debug::sfc_core;
-use sfc_script::sfc_load::sfc_check;
 use sfc_core::sfc_instances::sfc_instance;
+use sfc_debug::sfc_core;
+pub use sfc_output;
+use sfc_output::{sfc_debug, sfc_list};
+pub use sfc_script;
+use sfc_script::sfc_load::sfc_check;

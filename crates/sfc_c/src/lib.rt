@@ -37,8 +37,8 @@ mod status;
 pub mod tasks;
 
 // What the crates above name through this one.
-use sfc_replay::{sfc_output, sfc_script};
-use sfc_output::sfc_debug;
-use sfc_debug::sfc_core;
-use sfc_script::sfc_load::sfc_variables;
 use sfc_core::sfc_instances::sfc_instance;
+use sfc_debug::sfc_core;
+use sfc_output::sfc_debug;
+use sfc_replay::{sfc_output, sfc_script};
+use sfc_script::sfc_load::sfc_variables;

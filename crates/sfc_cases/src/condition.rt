@@ -15,12 +15,12 @@ ghost use Rattle.sfc_cases.specs.Conditions as conditions;
 ghost use Rattle.sfc_cases.specs.Conditions.{IsReader, Reader};
 
 use crate::joined::{Condition, Joint, Part};
-use sfc_debug::break_condition::BreakCondition;
 use crate::words::{names_instance, split_joint};
 use sfc_base::case::is_same_word;
 use sfc_base::ids::ProgId;
 use sfc_base::items::Items;
 use sfc_base::references::Variable;
+use sfc_debug::break_condition::BreakCondition;
 use sfc_events::read_error::ReadErrorKind;
 use sfc_expr::expr::Expr;
 use sfc_plant::plant::Plant;

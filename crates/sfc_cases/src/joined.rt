@@ -1,7 +1,7 @@
 //! Conditions of program instances, joined.
 
-use sfc_debug::break_condition::BreakCondition;
 use sfc_base::items::Items;
+use sfc_debug::break_condition::BreakCondition;
 
 /// What joins a part of a condition to those before it. AND binds closer than OR.
 #[derive(Clone, Copy, Debug, PartialEq, Eq)]

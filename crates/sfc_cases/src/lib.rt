@@ -26,8 +26,8 @@ mod watching;
 pub mod words;
 
 // What the crates above name through this one.
-pub use sfc_script;
-use sfc_debug::sfc_core;
-use sfc_script::sfc_load;
 use sfc_core::sfc_instances::sfc_instance;
+use sfc_debug::sfc_core;
 use sfc_instance::sfc_action;
+pub use sfc_script;
+use sfc_script::sfc_load;

@@ -20,6 +20,6 @@ pub mod resource;
 mod singles;
 
 // What the crates above name through this one.
+use sfc_instance::{sfc_action, sfc_image, sfc_tables};
 pub use sfc_instances;
 use sfc_instances::sfc_instance;
-use sfc_instance::{sfc_action, sfc_image, sfc_tables};

@@ -34,7 +34,7 @@ mod walk;
 pub mod watch;
 
 // What lies deeper, under a name of this crate.
-use sfc_replay::sfc_output::sfc_debug;
 use sfc_debug::sfc_core::sfc_instances;
-use sfc_instances::sfc_instance;
 use sfc_instance::{sfc_action, sfc_image, sfc_tables};
+use sfc_instances::sfc_instance;
+use sfc_replay::sfc_output::sfc_debug;

@@ -31,5 +31,5 @@ pub mod trace_mask;
 // What the crates above name through this one.
 pub use sfc_core;
 use sfc_core::sfc_instances;
-use sfc_instances::sfc_instance;
 use sfc_instance::{sfc_action, sfc_image, sfc_tables};
+use sfc_instances::sfc_instance;

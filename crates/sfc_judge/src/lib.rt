@@ -20,6 +20,6 @@ mod turn;
 
 // What lies deeper, under a name of this crate.
 use sfc_cases::sfc_script::sfc_debug;
-use sfc_debug::sfc_core;
 use sfc_core::sfc_instances::sfc_instance;
+use sfc_debug::sfc_core;
 use sfc_instance::sfc_action;

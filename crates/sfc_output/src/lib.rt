@@ -29,9 +29,9 @@ pub mod naming;
 pub mod program;
 
 // What the crates above name through this one.
-pub use sfc_debug;
-pub use sfc_list;
-use sfc_debug::sfc_core;
 use sfc_core::sfc_instances;
-use sfc_instances::sfc_instance;
+pub use sfc_debug;
+use sfc_debug::sfc_core;
 use sfc_instance::{sfc_action, sfc_image, sfc_tables};
+use sfc_instances::sfc_instance;
+pub use sfc_list;

@@ -23,8 +23,8 @@ mod step;
 mod transition;
 
 // What lies deeper, under a name of this crate.
-use sfc_replay::sfc_script;
-use sfc_replay::sfc_output::{sfc_debug, sfc_list};
-use sfc_debug::sfc_core;
 use sfc_core::sfc_instances::sfc_instance;
+use sfc_debug::sfc_core;
 use sfc_instance::sfc_tables;
+use sfc_replay::sfc_output::{sfc_debug, sfc_list};
+use sfc_replay::sfc_script;

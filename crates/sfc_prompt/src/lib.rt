@@ -29,7 +29,7 @@ mod words;
 
 // What the crates above name through this one.
 pub use sfc_asking;
-use sfc_replay::sfc_script;
-use sfc_session::sfc_output::sfc_debug;
-use sfc_script::sfc_load::sfc_check;
 use sfc_debug::sfc_core::sfc_instances::sfc_instance;
+use sfc_replay::sfc_script;
+use sfc_script::sfc_load::sfc_check;
+use sfc_session::sfc_output::sfc_debug;

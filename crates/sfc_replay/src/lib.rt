@@ -24,12 +24,12 @@ pub mod report;
 pub mod text;
 
 // What the crates above name through this one.
-pub use sfc_output;
-pub use sfc_script;
-use sfc_output::{sfc_debug, sfc_list};
-use sfc_script::sfc_load;
-use sfc_debug::sfc_core;
-use sfc_load::sfc_variables;
 use sfc_core::sfc_instances;
-use sfc_instances::sfc_instance;
+use sfc_debug::sfc_core;
 use sfc_instance::{sfc_action, sfc_image, sfc_tables};
+use sfc_instances::sfc_instance;
+use sfc_load::sfc_variables;
+pub use sfc_output;
+use sfc_output::{sfc_debug, sfc_list};
+pub use sfc_script;
+use sfc_script::sfc_load;

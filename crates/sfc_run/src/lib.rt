@@ -40,5 +40,5 @@ mod worker_ends;
 // What the crates above name through this one.
 pub use sfc_control;
 use sfc_control::sfc_debug;
-use sfc_replay::{sfc_output, sfc_script};
 use sfc_debug::sfc_core;
+use sfc_replay::{sfc_output, sfc_script};

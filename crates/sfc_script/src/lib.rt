@@ -36,8 +36,8 @@ mod value;
 pub mod wanted;
 
 // What the crates above name through this one.
-pub use sfc_debug;
-pub use sfc_load;
-use sfc_debug::sfc_core;
-use sfc_load::{sfc_check, sfc_variables};
 use sfc_core::sfc_instances::sfc_instance;
+pub use sfc_debug;
+use sfc_debug::sfc_core;
+pub use sfc_load;
+use sfc_load::{sfc_check, sfc_variables};

@@ -15,7 +15,7 @@ pub mod shown;
 pub mod watches;
 
 // What lies deeper, under a name of this crate.
+use sfc_core::sfc_instances::sfc_instance;
+use sfc_load::sfc_check;
 use sfc_output::sfc_debug::sfc_core;
 use sfc_replay::sfc_script::sfc_load;
-use sfc_load::sfc_check;
-use sfc_core::sfc_instances::sfc_instance;

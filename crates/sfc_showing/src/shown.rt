@@ -11,11 +11,11 @@ use sfc_base::value::Value;
 use sfc_base::var_type::VarType;
 use sfc_expr::eval::eval;
 use sfc_output::naming::append_image_name;
+use sfc_output::sfc_list::list_expr::list_expr;
 use sfc_page::append::{append, append_number, append_time, append_value};
 use sfc_plant::chart::Transition;
 use sfc_plant::plant::Plant;
 use sfc_plant::variable::Variable;
-use sfc_output::sfc_list::list_expr::list_expr;
 use sfc_session::session::Session;
 use std::alloc::{AllocError, Global};
 

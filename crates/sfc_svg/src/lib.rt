@@ -16,8 +16,8 @@ pub mod svg;
 pub mod svg_error;
 
 // What lies deeper, under a name of this crate.
-use sfc_replay::sfc_output;
-use sfc_output::sfc_debug;
-use sfc_debug::sfc_core;
 use sfc_core::sfc_instances::sfc_instance;
+use sfc_debug::sfc_core;
 use sfc_instance::sfc_tables;
+use sfc_output::sfc_debug;
+use sfc_replay::sfc_output;

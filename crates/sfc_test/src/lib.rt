@@ -16,8 +16,8 @@ pub mod suite;
 mod telling;
 
 // What lies deeper, under a name of this crate.
-use sfc_replay::sfc_output;
 use sfc_cases::sfc_script;
-use sfc_script::sfc_debug;
-use sfc_debug::sfc_core;
 use sfc_core::sfc_instances::sfc_instance;
+use sfc_debug::sfc_core;
+use sfc_replay::sfc_output;
+use sfc_script::sfc_debug;

@@ -42,7 +42,7 @@ pub mod wave_error;
 mod waveform;
 
 // What the crates above name through this one.
-use sfc_replay::sfc_script;
-use sfc_replay::sfc_output::sfc_debug;
-use sfc_debug::sfc_core;
 use sfc_core::sfc_instances::sfc_instance;
+use sfc_debug::sfc_core;
+use sfc_replay::sfc_output::sfc_debug;
+use sfc_replay::sfc_script;

@@ -32,9 +32,9 @@ pub mod warning;
 mod words;
 
 // What the crates above name through this one.
+use sfc_debug::sfc_core;
 pub use sfc_explain;
 pub use sfc_hints;
-pub use sfc_script;
 use sfc_hints::sfc_places;
+pub use sfc_script;
 use sfc_script::{sfc_debug, sfc_load};
-use sfc_debug::sfc_core;

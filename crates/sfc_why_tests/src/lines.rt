@@ -9,8 +9,8 @@ use crate::watches::{response_blame, run_blame, until_blame, watched_blame};
 use sfc_cases::instant::read_instant;
 use sfc_cases::sfc_script::wanted::words_behind;
 use sfc_plant::plant::Plant;
-use sfc_why::naming::{Missing, missing_in};
 use sfc_script::sfc_debug::sfc_core::resource::Resource;
+use sfc_why::naming::{Missing, missing_in};
 use std::alloc::{AllocError, Global};
 
 // What makes a text no name with `=` and a word; None where it is that.

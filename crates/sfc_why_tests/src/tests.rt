@@ -19,15 +19,15 @@ use sfc_cases::test_file::read_tests;
 use sfc_cases::words::kept;
 use sfc_page::append::append_number;
 use sfc_plant::plant::Plant;
+use sfc_script::sfc_debug::sfc_core::resource::Resource;
 use sfc_why::condition::{ScriptFault, Site, condition_fault};
 use sfc_why::naming::Sought;
 use sfc_why::over::{Opened, Over};
 use sfc_why::place::{Place, word_place};
 use sfc_why::report::{Fault, Report, report_in_file};
-use sfc_script::sfc_debug::sfc_core::resource::Resource;
 use sfc_why::sfc_hints::hints::Hints;
-use sfc_why::sfc_hints::writing::add_line;
 use sfc_why::sfc_hints::sfc_places::span::Span;
+use sfc_why::sfc_hints::writing::add_line;
 use sfc_why::warning::hints_of;
 use std::alloc::{AllocError, Global};
 
