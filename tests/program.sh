@@ -845,7 +845,7 @@ at_terminal "runs at a terminal" "$here/terminal.py" "$program" "$work/edge.char
 typed() { printf '%s' "$1" | "$program" debug "$2" >"$work/out" 2>"$work/err"; status=${PIPESTATUS[1]}; }
 # the scripts of the examples, line by line, are answered as a replay of them; so is what the session saves, but for what was refused
 for example in "$examples"/*.chart; do
-  { cat "${example%.chart}.script"; printf '\nIMAGE\nSAVE %s\n' "$work/saved.script"; } | sed '/^ *$/d' >"$work/session"
+  { cat "${example%.chart}.script"; printf '\nIMAGE\nSAVE %s!\n' "$work/saved.script"; } | sed '/^ *$/d' >"$work/session"
   "$program" debug "$example" <"$work/session" >"$work/out" 2>"$work/err"
   status=$?
   ends 0 && says "" && last "; saved to $work/saved.script" && sed '$d' "$work/out" | cmp -s - "${example%.chart}.expect"
@@ -857,7 +857,7 @@ done
 # sessions whose lines have no instants are saved as scripts that a replay answers alike, but for refusals, notes and what is shown
 while read -r name session; do
   # shellcheck disable=SC2059 # its line ends
-  { printf "$session"; printf 'IMAGE\nSAVE %s\n' "$work/saved.script"; } >"$work/session"
+  { printf "$session"; printf 'IMAGE\nSAVE %s !\n' "$work/saved.script"; } >"$work/session"
   "$program" debug "$examples/$name.chart" <"$work/session" 2>"$work/err" | grep -v '^[;r]' >"$work/played"
   run replay "$examples/$name.chart" "$work/saved.script"
   ends 0 && says "" && [ -s "$work/saved.script" ] && cmp -s "$work/played" "$work/out"
@@ -869,11 +869,24 @@ press break press1 step Open when TRUE (* at once *)\nbreak press1 step Open whe
 commissioning SCAN\nAGAIN 20\nT#1m READ nothing\n\n\n
 SESSIONS
 typed $'SCAN\nSAVE /nowhere/at/all\nREAD Lamp' "$chart"
-ends 0 && says "" && mentions "; can't be saved to /nowhere/at/all" out && last "T#0s READ Lamp TRUE"
+ends 0 && says "" && mentions "; can't be saved to /nowhere/at/all: the folder isn't there" out && last "T#0s READ Lamp TRUE"
 note $? "a script that can't be saved, and a session that goes on"
 typed $'SAVE caf\xe9\n' "$chart"
-ends 0 && says "" && last $'; can\'t be saved to caf\xe9'
+ends 0 && says "" && last $'; can\'t be saved to caf\xe9: the name isn\'t UTF-8'
 note $? "a name of a file that isn't UTF-8"
+cp "$chart" "$work/kept.chart"
+typed "SCAN
+SAVE $work/kept.chart
+SAVE $work/new.script
+SCAN
+SAVE $work/new.script" "$work/kept.chart"
+ends 0 && says "" && mentions "; can't be saved to $work/kept.chart: it is there, and wasn't saved here; a ! behind the name replaces it" out \
+  && last "; saved to $work/new.script" && cmp -s "$chart" "$work/kept.chart" && [ "$(grep -c SCAN "$work/new.script")" = 2 ]
+note $? "the chart isn't overwritten by SAVE, what was saved is"
+typed "SCAN
+SAVE $work/kept.chart !" "$chart"
+ends 0 && says "" && last "; saved to $work/kept.chart" && [ "$(cat "$work/kept.chart")" = "T#0s SCAN Main" ]
+note $? "a ! behind the name of a file replaces it"
 typed '' "$chart"
 ends 0 && is_silent && says ""
 note $? "a session without lines"

@@ -1,13 +1,13 @@
 //! Sessions in which a chart is stepped by hand.
 
 use crate::ending::Ending;
-use sfc_prompt::archive::Archive;
+use sfc_prompt::archive::{Archive, Kept};
 use sfc_prompt::desk::{Desk, hold};
 use std::alloc::{AllocError, Global};
 
 /// Scripts that were saved: of each a line with the name of its file, and its text.
 #[derive(Drop)]
-struct Kept<'a> {
+struct Scripts<'a> {
     text: &'a mut Vec<u8>,
 }
 
@@ -19,9 +19,12 @@ fn add(text: &mut Vec<u8>, name: &str, script: &[u8]) -> Result<(), AllocError> 
     text.extend_from_slice(script)
 }
 
-impl Archive for Kept<'_> {
-    fn keep(&mut self, name: &str, script: &[u8]) -> bool {
-        add(self.text, name, script).is_ok()
+impl Archive for Scripts<'_> {
+    fn keep(&mut self, name: &str, script: &[u8], _may_replace: bool) -> Kept {
+        match add(self.text, name, script) {
+            Ok(()) => Kept::Kept,
+            Err(_) => Kept::Failed,
+        }
     }
 }
 
@@ -33,7 +36,7 @@ pub fn debugged(alloc: Global, chart: &[u8], lines: &[u8]) -> Result<Ending, All
     let mut kept = Vec::new(alloc);
     let desk = Desk {
         answers: &mut ending.output,
-        archive: Kept { text: &mut kept },
+        archive: Scripts { text: &mut kept },
         is_terminal: false,
     };
     let (_, held) = hold(alloc, &mut chart, &mut lines, desk);

@@ -181,6 +181,49 @@ fn append_near(out: &mut Vec<u8>, asked: &Asked<'_>) -> Result<usize, AllocError
     Ok(count)
 }
 
+// The names of the initial steps, divided by commas.
+fn append_initial(out: &mut Vec<u8>, asked: &Asked<'_>) -> Result<(), AllocError> {
+    let mut is_first = true;
+    for step in asked.program_type.chart.steps.as_slice() {
+        if step.is_initial {
+            if !is_first {
+                append(out, b",")?;
+            }
+            append(out, b" ")?;
+            append(out, step.name.spelling())?;
+            is_first = false;
+        }
+    }
+    append(out, b"\n")
+}
+
+// What is told of an instance no step of which has a transition behind it that is active.
+fn append_none(out: &mut Vec<u8>, asked: &Asked<'_>) -> Result<(), AllocError> {
+    let name = asked.resource.plant().instance_name(asked.program);
+    if 0 < asked.view.scans() {
+        return append_named(out, b"no transition is behind an active step of ", name);
+    }
+    append(out, b"; ")?;
+    append(out, name)?;
+    append(out, b" had no scan yet: the next one activates")?;
+    append_initial(out, asked)
+}
+
+// That an instance stands faulted, where it does.
+fn append_fault(out: &mut Vec<u8>, asked: &Asked<'_>) -> Result<(), AllocError> {
+    let Some(fault) = asked.view.fault() else {
+        return Ok(());
+    };
+    let name = asked.resource.plant().instance_name(asked.program);
+    append(out, b"; ")?;
+    append(out, name)?;
+    append(out, b" ended with ")?;
+    append(out, fault.name())?;
+    append(out, b", and isn't scanned until RESET ")?;
+    append(out, name)?;
+    append(out, b"\n")
+}
+
 // The lines of each transition behind an active step of an instance.
 fn append_program(
     alloc: Global,
@@ -191,10 +234,9 @@ fn append_program(
     let Some(asked) = find_asked(alloc, resource, program) else {
         return Ok(());
     };
-    let count = append_near(out, &asked)?;
-    if count == 0 {
-        let name = resource.plant().instance_name(program);
-        append_named(out, b"no transition is behind an active step of ", name)?;
+    append_fault(out, &asked)?;
+    if append_near(out, &asked)? == 0 {
+        append_none(out, &asked)?;
     }
     Ok(())
 }
@@ -233,7 +275,8 @@ fn append_one(
 
 /// Puts at the end why transitions aren't cleared: of one of a program instance, by its name or number, or where none is given of each that has
 /// an active step before it, of one instance or of all. Of each it tells which steps before it are active, its condition, what that evaluates
-/// to, and what it reads, with the times of steps as of the latest scan. The one error is that memory was refused.
+/// to, and what it reads, with the times of steps as of the latest scan. Of an instance that ended with a fault, had no scan in its life, or
+/// has no such transition, that is told. The one error is that memory was refused.
 pub fn append_why(
     alloc: Global,
     out: &mut Vec<u8>,

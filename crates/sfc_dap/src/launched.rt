@@ -15,6 +15,7 @@ use crate::variables::{scopes, set_variable, variables};
 use serde_json::Value;
 use sfc_base::ids::ProgId;
 use sfc_editing::burst::Filters;
+use sfc_prompt::archive::Kept;
 use sfc_replies::arguments::{items_argument, text_argument};
 use sfc_replies::body::Body;
 use sfc_replies::reply::Reply;
@@ -171,9 +172,14 @@ fn script(alloc: Global, debuggee: &Debuggee) -> Result<Reply, AllocError> {
     Ok(Reply::done(alloc, body))
 }
 
-/// Keeps the script so far under this name; whether that was possible.
+/// Keeps the script so far under this name, which isn't that of the chart; whether that was possible. What an earlier session kept there is
+/// replaced.
 pub fn keep<D: Desk>(desk: &mut D, debuggee: &Debuggee, path: &str) -> bool {
-    desk.keep(path, debuggee.prompt.session().script())
+    if path == debuggee.launch.program.as_str() {
+        return false;
+    }
+    let script = debuggee.prompt.session().script();
+    desk.keep(path, script, true) == Kept::Kept
 }
 
 // Keeps the script so far.

@@ -1,5 +1,5 @@
 -- What a prompt holds, and whether it goes on.
-use Rattle.std.specs.Prelude.{Option}
+use Rattle.std.specs.Prelude.{Option, []}
 use Rattle.sfc_session.specs.declared.step.Step.{Step}
 use Rattle.sfc_prompt.specs.declared.course.Course.{Course}
 use Rattle.sfc_prompt.specs.declared.line.Word.TheVariants.{Quit}
@@ -21,7 +21,7 @@ course_in prompt = prompt.course
 unfoldable pub last_in : Prompt → Option Step
 last_in prompt = prompt.last
 
--- it ends at QUIT
+-- it ends at QUIT alone
 abbrev pub flow_of : Said → Flow
-flow_of (Asks Quit text) = Ends
+flow_of (Asks Quit []) = Ends
 flow_of _ = GoesOn

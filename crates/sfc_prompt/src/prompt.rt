@@ -2,14 +2,16 @@
 
 ghost use Rattle.std.specs.Prelude.{◌≡◌, ◌<◌, false, OnOk, IfOk, Some, None, is_some};
 ghost use Rattle.sfc_prompt.specs.Lines.{as_said};
+ghost use Rattle.sfc_prompt.specs.Notes.{Adds};
 ghost use Rattle.sfc_prompt.specs.Prompts as prompts;
 
-use crate::archive::Archive;
+use crate::archive::{Archive, Kept};
 use crate::course::{Course, Wanted, again_count, read_wanted};
 use crate::expression::append_fault;
 use crate::line::{Line, Word, read_line};
 use crate::showing::shown;
 use crate::spoken::{Spoken, say};
+use crate::words::trimmed;
 use sfc_asking::note::{append_named, append_note};
 use sfc_page::append::append;
 use sfc_session::session::Session;
@@ -30,9 +32,52 @@ fn flow_of(line: Line<'_>) -> Flow
     ensures { result ≡ prompts.flow_of (as_said line.entry) }
 {
     match line {
-        Line::Asks(Word::Quit, _) => Flow::Ends,
+        Line::Asks(Word::Quit, []) => Flow::Ends,
         _ => Flow::GoesOn,
     }
+}
+
+// The end; or that nothing may stand behind QUIT.
+fn quit(text: &[u8], out: &mut Vec<u8>) -> Result<(), AllocError>
+    ensures { OnOk result (Adds out.old.items out.new.items) }
+{
+    match text {
+        [] => append(out, b""),
+        _ => append_note(out, b"QUIT, and nothing behind it"),
+    }
+}
+
+// The name of a file, and whether what is there may be replaced, which a `!` behind it says.
+fn file_of(text: &[u8]) -> (&[u8], bool) {
+    match text.strip_suffix(b"!") {
+        Some(name) => (trimmed(name), true),
+        None => (text, false),
+    }
+}
+
+// Why nothing was kept.
+fn reason_of(kept: Kept) -> &'static [u8] {
+    match kept {
+        Kept::Kept | Kept::Failed => b"",
+        Kept::Foreign => b": it is there, and wasn't saved here; a ! behind the name replaces it",
+        Kept::NoFolder => b": the folder isn't there",
+        Kept::NoRight => b": there is no right to write there",
+    }
+}
+
+// That nothing was kept in a file of this name, and why.
+fn append_unkept(
+    alloc: Global,
+    out: &mut Vec<u8>,
+    name: &[u8],
+    reason: &[u8],
+) -> Result<(), AllocError>
+    ensures { OnOk result (Adds out.old.items out.new.items) }
+{
+    let mut named = Vec::new(alloc);
+    append(&mut named, name)?;
+    append(&mut named, reason)?;
+    append_named(out, b"can't be saved to ", &named)
 }
 
 /// A session, the step that was last taken in it, and the steps that are under way.
@@ -63,7 +108,6 @@ impl Prompt {
     ghost use Rattle.sfc_prompt.specs.Courses as courses;
     ghost use Rattle.sfc_prompt.specs.Courses.{Begins, BeginsUntil, IsBehindStep, StepsOn, asked, is_over_after, step_behind};
     ghost use Rattle.sfc_prompt.specs.Lines.{Asks, as_said, line_said};
-    ghost use Rattle.sfc_prompt.specs.Notes.{Adds};
     ghost use Rattle.sfc_prompt.specs.Orders.{IsShown, Obeys, order_of, text_order, text_step};
     ghost use Rattle.std.specs.Option.{option_or};
     ghost use Rattle.sfc_prompt.specs.Prompts.{course_in, last_in, session_in};
@@ -114,17 +158,16 @@ impl Prompt {
     ) -> Result<(), AllocError>
         ensures { OnOk result (Adds out.old.items out.new.items) }
     {
+        let (name, may_replace) = file_of(name);
         if name.is_empty() {
             return append_note(out, b"SAVE and the name of a file");
         }
-        let kept = match str::from_utf8(name) {
-            Ok(name) => archive.keep(name, self.session.script()),
-            Err(_) => false,
+        let Ok(text) = str::from_utf8(name) else {
+            return append_unkept(self.alloc, out, name, b": the name isn't UTF-8");
         };
-        if kept {
-            append_named(out, b"saved to ", name)
-        } else {
-            append_named(out, b"can't be saved to ", name)
+        match archive.keep(text, self.session.script(), may_replace) {
+            Kept::Kept => append_named(out, b"saved to ", name),
+            kept => append_unkept(self.alloc, out, name, reason_of(kept)),
         }
     }
 
@@ -205,7 +248,7 @@ impl Prompt {
             (course_in self.old) (course_in self.new)) }
     {
         match word {
-            Word::Quit => Ok(()),
+            Word::Quit => quit(text, out),
             Word::Until => self.until(text, out),
             Word::Again => self.again(text, out),
             Word::Save => self.save(text, archive, out),

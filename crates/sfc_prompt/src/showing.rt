@@ -105,6 +105,8 @@ fn append_shown(
     ensures { (h : CommandHistory) (lines : List ℕ) → HasSaid session.old h lines → Stays session.old session.new h lines }
 {
     match word {
+        Word::Show if !is_empty(text) => append_note(out, b"SHOW, and nothing behind it"),
+        Word::Points if !is_empty(text) => append_note(out, b"POINTS, and nothing behind it"),
         Word::Show => show(alloc, session, out),
         Word::Image => append_image(out, session.debugger().resource(), text),
         Word::Points => append_points(alloc, out, session.debugger(), session.rows()),

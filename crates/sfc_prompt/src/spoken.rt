@@ -10,10 +10,14 @@ ghost use Rattle.sfc_asking.specs.sfc_script.Private.Reading.{as_conditional};
 use crate::expression::{Found, append_fault, read_condition};
 use crate::sfc_debug::timed::Timed;
 use crate::sfc_script::command::{Conditional, read_command, read_conditional};
+use crate::sfc_script::line_fault::{LineFault, text_fault};
+use crate::sfc_script::split::first_word;
+use crate::sfc_script::wanted::Wanted;
 use crate::words::is_word;
-use sfc_asking::note::append_note;
+use sfc_asking::note::append_named;
 use sfc_base::ids::TaskId;
 use sfc_events::command::{Command, CondId};
+use sfc_page::append::append;
 use sfc_session::scanning::{scan, scan_first};
 use sfc_session::session::Session;
 use sfc_session::step::{Step, step_of};
@@ -111,6 +115,35 @@ fn is_scan_alone(spoken: Spoken<'_>) -> bool
     }
 }
 
+// The word of a text at a place, counted from 1; None where it has fewer.
+fn word_at(text: &[u8], place: usize) -> Option<&[u8]> {
+    let mut rest = text;
+    let mut found = None;
+    for _place in 0..place {
+        let (word, behind) = first_word(rest)?;
+        found = Some(word);
+        rest = behind;
+    }
+    found
+}
+
+// What is wanted in a text that is no command, and the word in whose place it is.
+fn slip(alloc: Global, text: &[u8]) -> Result<Vec<u8>, AllocError> {
+    let mut told = Vec::new(alloc);
+    match text_fault(text) {
+        Some(LineFault::Word(place, wanted)) if wanted != Wanted::Command => {
+            append(&mut told, b": expected ")?;
+            append(&mut told, wanted.text())?;
+            if let Some(word) = word_at(text, place) {
+                append(&mut told, b", not ")?;
+                append(&mut told, word)?;
+            }
+        }
+        _ => append(&mut told, b"; HELP lists what may be said")?,
+    }
+    Ok(told)
+}
+
 // What is no command of a script, but maybe SCAN alone.
 fn say_other(
     alloc: Global,
@@ -127,7 +160,7 @@ fn say_other(
         let _ = scan_first(alloc, session, out)?;
         return Ok(Some(Step::First));
     }
-    append_note(out, b"no command; HELP lists what may be said")?;
+    append_named(out, b"no command", &slip(alloc, spoken.text)?)?;
     Ok(None)
 }
 

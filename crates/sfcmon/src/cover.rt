@@ -23,12 +23,18 @@ fn play_all<R: Eprint + AllocGlobal, S: Read>(
     Ok(())
 }
 
+/// Tells that less was reached than is wanted, in percents: the exit status.
+pub fn end_below<R: Eprint>(rt: &R, percent: u64, least: u8) -> u8 {
+    let _ = eprintln!(rt; "{percent} % is less than {least} %");
+    1
+}
+
 // Prints the report; the exit status.
 fn print_report<R: Print + Eprint + AllocGlobal>(rt: &R, cover: &Cover, least: u8) -> u8 {
     let mut out = io::writer(rt);
     match cover.put_report(rt.alloc(), &mut out) {
         Err(error) => end_with(rt, error),
-        Ok(()) if cover.total().is_below(least) => 1,
+        Ok(()) if cover.total().is_below(least) => { end_below(rt, cover.total().percent(), least) }
         Ok(()) => 0,
     }
 }

@@ -1,19 +1,63 @@
 //! A chart that is stepped by hand.
 
 use crate::files::{Streams, end_with};
-use sfc_prompt::archive::Archive;
+use sfc_prompt::archive::{Archive, Kept};
 use sfc_prompt::desk::{Desk, hold};
 use sfc_replay::replay_error::ReplayError;
 use std::alloc::{AllocError, Global};
-use std::fs;
 use std::io::IsTerminal;
 use std::rt::Files;
+use std::{fs, io};
 
 /// Files, by their names.
 #[derive(Drop)]
 pub struct FileArchive<'a, R: Files> {
     pub rt: &'a R,
     pub alloc: Global,
+    // The files that were written here.
+    written: Vec<String>,
+}
+
+impl<'a, R: Files> FileArchive<'a, R> {
+    /// No file was written yet.
+    pub fn new(rt: &'a R, alloc: Global) -> FileArchive<'a, R> {
+        FileArchive {
+            rt,
+            alloc,
+            written: Vec::new(alloc),
+        }
+    }
+
+    // Whether a file is there that wasn't written here.
+    fn is_foreign(&self, name: &str) -> bool {
+        if self.written.iter().any(|written| written.as_str() == name) {
+            return false;
+        }
+        !matches!(fs::exists(self.rt, name), Ok(false))
+    }
+
+    // Writes a file beside the one of this name, and puts it in its place.
+    fn write(&self, name: &str, script: &[u8]) -> io::Result<()> {
+        let part = part_name(self.alloc, name)?;
+        let written = fs::write(self.rt, part.as_str(), script).and_then(|()| fs::rename(
+            self.rt,
+            part.as_str(),
+            name,
+        ));
+        if written.is_err() {
+            let _ = fs::remove_file(self.rt, part.as_str());
+        }
+        written
+    }
+}
+
+// Why a file isn't written.
+fn kept_by(error: &io::Error) -> Kept {
+    match error.kind() {
+        io::ErrorKind::NotFound | io::ErrorKind::NotADirectory => Kept::NoFolder,
+        io::ErrorKind::PermissionDenied | io::ErrorKind::ReadOnlyFilesystem => Kept::NoRight,
+        _ => Kept::Failed,
+    }
 }
 
 // The name of the file that is written before it takes its place.
@@ -24,16 +68,23 @@ fn part_name(alloc: Global, name: &str) -> Result<String, AllocError> {
 }
 
 impl<R: Files> Archive for FileArchive<'_, R> {
-    fn keep(&mut self, name: &str, script: &[u8]) -> bool {
-        let Ok(part) = part_name(self.alloc, name) else {
-            return false;
-        };
-        let kept = fs::write(self.rt, part.as_str(), script).is_ok()
-            && fs::rename(self.rt, part.as_str(), name).is_ok();
-        if !kept {
-            let _ = fs::remove_file(self.rt, part.as_str());
+    fn keep(&mut self, name: &str, script: &[u8], may_replace: bool) -> Kept {
+        if !may_replace && self.is_foreign(name) {
+            return Kept::Foreign;
         }
-        kept
+        let Ok(written) = String::from_str(self.alloc, name) else {
+            return Kept::Failed;
+        };
+        if self.written.reserve(1).is_err() {
+            return Kept::Failed;
+        }
+        match self.write(name, script) {
+            Ok(()) => {
+                self.written.push_reserved(written);
+                Kept::Kept
+            }
+            Err(error) => kept_by(&error),
+        }
     }
 }
 
@@ -52,10 +103,7 @@ pub fn debug_file<R: Eprint + Files + AllocGlobal>(rt: &R, streams: Streams, cha
     let desk = Desk {
         is_terminal: input.is_terminal() && output.is_terminal(),
         answers: output,
-        archive: FileArchive {
-            rt,
-            alloc: rt.alloc(),
-        },
+        archive: FileArchive::new(rt, rt.alloc()),
     };
     let (_, held) = hold(rt.alloc(), &mut chart, &mut input, desk);
     match held {

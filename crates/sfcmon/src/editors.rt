@@ -61,7 +61,7 @@ pub fn serve_language<R: Eprint + Files + AllocGlobal>(rt: &R, streams: Streams)
         errors: _,
     } = streams;
     let alloc = rt.alloc();
-    let mut shelf = FileArchive { rt, alloc };
+    let mut shelf = FileArchive::new(rt, alloc);
     match serve_lsp(alloc, &mut shelf, &mut input, &mut output) {
         Ok(status) => status,
         Err(fault) => end_with_fault(rt, fault),
@@ -77,7 +77,7 @@ pub fn serve_debugger<R: Eprint + Files + AllocGlobal>(rt: &R, streams: Streams)
         errors: _,
     } = streams;
     let alloc = rt.alloc();
-    let desk = FileArchive { rt, alloc };
+    let desk = FileArchive::new(rt, alloc);
     match serve_dap(alloc, desk, &mut input, &mut output) {
         Ok(()) => 0,
         Err(fault) => end_with_fault(rt, fault),

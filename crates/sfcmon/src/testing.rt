@@ -1,12 +1,13 @@
 //! Tests of a chart, from files to standard output.
 
 use crate::arguments::Testing;
+use crate::cover::end_below;
 use crate::debug::FileArchive;
 use crate::disk::sources_of;
 use crate::files::{end_with, end_with_file, open_files};
 use crate::test_desk::TestDesk;
 use sfc_cover::cover::Cover;
-use sfc_prompt::archive::Archive;
+use sfc_prompt::archive::{Archive, Kept};
 use sfc_replay::input::read_to_end;
 use sfc_replay::replay_error::ReplayError;
 use sfc_test::suite::{Asked, Choice, Suite};
@@ -136,7 +137,7 @@ fn report_cover<R: Print + Eprint + AllocGlobal>(
         return end_with(rt, error);
     }
     if cover.total().is_below(least) {
-        1
+        end_below(rt, cover.total().percent(), least)
     } else {
         status
     }
@@ -152,9 +153,8 @@ fn keep<R: Eprint + Files + AllocGlobal>(
     let (Some(name), Some(text)) = (name, text) else {
         return status;
     };
-    let alloc = rt.alloc();
-    let mut archive = FileArchive { rt, alloc };
-    if archive.keep(name.as_str(), text) {
+    let mut archive = FileArchive::new(rt, rt.alloc());
+    if archive.keep(name.as_str(), text, true) == Kept::Kept {
         status
     } else {
         end_with(rt, ReplayError::Write)
