@@ -367,10 +367,11 @@ note $? "a name of three words"
 field() { sed -n "s/^  $1: //p" "$work/page"; }
 # each that is listed is told by its number and by its name, with all that is told of one; rows: number|name|from|line
 : >"$work/told"
-while read -r heading; do
+while read -r row; do
+  heading=${row%%: *}
   number=${heading%%[!0-9]*} name=${heading#[0-9]* }
   run explain "${number:-$name}"
-  ends 0 && says "" && cp "$work/out" "$work/page" && [ "$(head -1 "$work/page")" = "$heading" ] && [ -n "$(field meaning)" ] \
+  ends 0 && says "" && cp "$work/out" "$work/page" && [ "$(head -1 "$work/page")" = "$heading" ] && [ "$row" = "$heading: $(field meaning)" ] \
     && [ -n "$(field 'usual cause')" ] && grep -q '^    [^ ]' "$work/page" && run explain "${name^^}" && ends 0 \
     && { cmp -s "$work/out" "$work/page" || [ "$heading" = "23 Memory" ]; }
   note $? "explain $heading"

@@ -47,10 +47,19 @@ kind_text Code = codes "  example, in code, as no script leads to it:\n"
 unfoldable pub heading : Explanation → List ℕ
 heading explanation = number_text (number_of explanation.topic) ++ ended (name_of explanation.topic)
 
--- the number and the name of each explanation
-unfoldable pub headings : List Explanation → List ℕ
-headings [] = []
-headings (explanation ∷ explanations) = heading explanation ++ headings explanations
+-- what stands behind a name in a list
+unfoldable pub colon : List ℕ
+colon = codes ": "
+
+-- the number and the name, and what it means, in a line
+unfoldable pub row : Explanation → List ℕ
+row explanation =
+    number_text (number_of explanation.topic) ++ (name_of explanation.topic ++ (colon ++ ended explanation.meaning.now))
+
+-- such a line for each explanation
+unfoldable pub rows : List Explanation → List ℕ
+rows [] = []
+rows (explanation ∷ explanations) = row explanation ++ rows explanations
 
 -- what tells it, and whether with a line
 unfoldable pub source : Explanation → List ℕ

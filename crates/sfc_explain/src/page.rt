@@ -1,8 +1,9 @@
 //! Explanations as text.
 
-ghost use Rattle.std.specs.Prelude.{◌≡◌};
+ghost use Rattle.std.specs.Prelude.{◌≡◌, ◌++◌};
 ghost use Rattle.sfc_base.specs.Writing.{Writes};
 ghost use Rattle.sfc_explain.specs.Pages as text;
+ghost use Rattle.sfc_explain.specs.Topics.{name_of};
 
 use crate::explanation::{ExampleKind, Explanation, LineMark};
 use sfc_base::write_fault::{WriteFault, put_all};
@@ -146,16 +147,52 @@ pub fn put_page<W: Write>(explanation: &Explanation, writer: &mut W) -> Result<(
     put_body(explanation, writer)
 }
 
-/// Writes the number and the name of each of the explanations, a line each. It takes no memory.
+// What stands behind a name in a list.
+#[tactic(auto, unfolding(crate::specs::Pages::colon))]
+fn colon() -> &'static [u8]
+    ensures { result.now ≡ text.colon }
+{
+    b": "
+}
+
+// Writes what it means behind a colon, to the end of the line.
+#[tactic(auto, using(crate::proofs::Put::then_writes, crate::proofs::Put::front_first))]
+fn put_meaning<W: Write>(explanation: &Explanation, writer: &mut W) -> Result<(), WriteFault>
+    ensures { Writes (W.contents writer.old) (W.contents writer.new) result (text.colon ++ text.ended explanation.now.meaning.now) }
+{
+    put_all(writer, colon())?;
+    put_end(explanation.meaning.as_bytes(), writer)
+}
+
+// Writes the name, and what it means.
+#[tactic(auto, using(crate::proofs::Put::then_writes, crate::proofs::Put::front_first))]
+fn put_named<W: Write>(explanation: &Explanation, writer: &mut W) -> Result<(), WriteFault>
+    ensures { Writes (W.contents writer.old) (W.contents writer.new) result
+        (name_of explanation.now.topic ++ (text.colon ++ text.ended explanation.now.meaning.now)) }
+{
+    put_all(writer, explanation.topic.name().as_bytes())?;
+    put_meaning(explanation, writer)
+}
+
+// Writes the number and the name, and what it means, as a line.
+#[tactic(auto, unfolding(crate::specs::Pages::row), using(crate::proofs::Put::then_writes, crate::proofs::Put::front_first))]
+fn put_row<W: Write>(explanation: &Explanation, writer: &mut W) -> Result<(), WriteFault>
+    ensures { Writes (W.contents writer.old) (W.contents writer.new) result (text.row explanation.now) }
+{
+    put_number(explanation.topic.number(), writer)?;
+    put_named(explanation, writer)
+}
+
+/// Writes the number and the name of each of the explanations, and what it means, a line each. It takes no memory.
 ///
 /// The one error is that the writer failed or took no byte: a front of the text was then written.
-#[tactic(auto, unfolding(crate::specs::Pages::headings), using(crate::proofs::Put::then_writes))]
+#[tactic(auto, unfolding(crate::specs::Pages::rows), using(crate::proofs::Put::then_writes))]
 pub fn put_list<W: Write>(explanations: &[Explanation], writer: &mut W) -> Result<(), WriteFault>
-    ensures { Writes (W.contents writer.old) (W.contents writer.new) result (text.headings explanations.now) }
+    ensures { Writes (W.contents writer.old) (W.contents writer.new) result (text.rows explanations.now) }
 {
     let Some((explanation, rest)) = explanations.split_first() else {
         return Ok(());
     };
-    put_heading(explanation, writer)?;
+    put_row(explanation, writer)?;
     put_list(rest, writer)
 }
