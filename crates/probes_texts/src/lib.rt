@@ -21,7 +21,6 @@ mod tokens;
 #[cfg(test)]
 mod values;
 
-// What the crates above name through this one.
+// What lies deeper, under a name of this crate.
 use samples::sfc_load;
-use sfc_load::sfc_variables;
 use sfc_replay::sfc_output::sfc_list;

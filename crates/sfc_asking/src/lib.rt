@@ -23,10 +23,8 @@ pub mod show;
 pub mod trace;
 pub mod why;
 
-// What the crates above name through this one.
+// What lies deeper, under a name of this crate.
 use sfc_core::sfc_instances::sfc_instance;
 use sfc_debug::sfc_core;
-pub use sfc_output;
 use sfc_output::{sfc_debug, sfc_list};
-pub use sfc_script;
 use sfc_script::sfc_load::sfc_check;

@@ -36,7 +36,7 @@ pub mod showing;
 mod status;
 pub mod tasks;
 
-// What the crates above name through this one.
+// What lies deeper, under a name of this crate.
 use sfc_core::sfc_instances::sfc_instance;
 use sfc_debug::sfc_core;
 use sfc_output::sfc_debug;

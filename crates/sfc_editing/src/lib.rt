@@ -21,8 +21,5 @@ pub mod unkept;
 // What lies deeper, under a name of this crate.
 use sfc_core::sfc_instances::sfc_instance;
 use sfc_debug::sfc_core;
-use sfc_instance::sfc_tables;
-use sfc_load::sfc_check;
 use sfc_replay::sfc_script;
-use sfc_script::sfc_load;
 use sfc_session::sfc_output::sfc_debug;

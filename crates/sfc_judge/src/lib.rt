@@ -22,4 +22,3 @@ mod turn;
 use sfc_cases::sfc_script::sfc_debug;
 use sfc_core::sfc_instances::sfc_instance;
 use sfc_debug::sfc_core;
-use sfc_instance::sfc_action;

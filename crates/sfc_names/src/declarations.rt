@@ -60,8 +60,13 @@ fn head_of(span: Span) -> Span {
     }
 }
 
-// The bytes from the steps before a transition up to those behind it.
-fn steps_of(chart: &Chart, item: Item) -> Option<Span> {
+// Which of these entries is that of something.
+fn entry_among(entries: &[Entry], item: Item) -> Option<&Entry> {
+    entries.iter().find(|entry| entry.item == item)
+}
+
+// The bytes from the steps before a transition up to those behind it, which are the first of the entries behind its own.
+fn steps_of(item: Item, behind: &[Entry]) -> Option<Span> {
     let Item::Transition {
         program,
         transition,
@@ -69,37 +74,42 @@ fn steps_of(chart: &Chart, item: Item) -> Option<Span> {
     else {
         return None;
     };
-    let preceding = chart.outline.entry_of(Item::Preceding {
+    let preceding = Item::Preceding {
         program,
         transition,
-    })?;
-    let following = chart.outline.entry_of(Item::Following {
+    };
+    let following = Item::Following {
         program,
         transition,
-    })?;
+    };
+    let preceding = entry_among(behind, preceding)?;
+    let following = entry_among(behind, following)?;
     Some(Span {
         from: preceding.span.from,
         to: following.span.to,
     })
 }
 
-// The bytes by which an entry without a name is shown.
-fn label_of(chart: &Chart, entry: &Entry) -> Span {
-    match steps_of(chart, entry.item) {
+// The bytes by which an entry is shown that these stand behind.
+fn label_of(entry: &Entry, behind: &[Entry]) -> Span {
+    if let Some(name) = entry.name {
+        return name;
+    }
+    match steps_of(entry.item, behind) {
         Some(steps) => steps,
         None => head_of(entry.span),
     }
 }
 
-// What an entry declares.
-fn declaration_of(chart: &Chart, entry: &Entry) -> Option<Declaration> {
+// What an entry declares that these stand behind.
+fn declaration_of(entry: &Entry, behind: &[Entry]) -> Option<Declaration> {
     let sort = sort_of(entry.item)?;
     let is_inner = sort != Sort::ProgramType && sort != Sort::Configuration;
     Some(Declaration {
         sort,
         span: entry.span,
         name: entry.name.unwrap_or(head_of(entry.span)),
-        label: entry.name.unwrap_or(label_of(chart, entry)),
+        label: label_of(entry, behind),
         is_inner,
     })
 }
@@ -108,8 +118,10 @@ fn declaration_of(chart: &Chart, entry: &Entry) -> Option<Declaration> {
 /// memory was refused.
 pub fn declarations_of(alloc: Global, chart: &Chart) -> Result<Vec<Declaration>, AllocError> {
     let mut declarations = Vec::new(alloc);
-    for entry in &chart.outline.entries {
-        if let Some(declaration) = declaration_of(chart, entry) {
+    let entries = chart.outline.entries.as_slice();
+    for (number, entry) in entries.iter().enumerate() {
+        let (_, behind) = entries.split_at(number.saturating_add(1).min(entries.len()));
+        if let Some(declaration) = declaration_of(entry, behind) {
             declarations.push(declaration)?;
         }
     }

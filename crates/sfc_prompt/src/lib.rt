@@ -27,8 +27,7 @@ mod showing;
 mod spoken;
 mod words;
 
-// What the crates above name through this one.
-pub use sfc_asking;
+// What lies deeper, under a name of this crate.
 use sfc_debug::sfc_core::sfc_instances::sfc_instance;
 use sfc_replay::sfc_script;
 use sfc_script::sfc_load::sfc_check;

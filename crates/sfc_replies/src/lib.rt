@@ -11,7 +11,3 @@ pub mod reply;
 pub mod row;
 pub mod rows;
 pub mod serving;
-
-// What the crates above name through this one.
-pub use sfc_frames;
-pub use sfc_wire;

@@ -41,8 +41,7 @@ pub mod wave;
 pub mod wave_error;
 mod waveform;
 
-// What the crates above name through this one.
+// What lies deeper, under a name of this crate.
 use sfc_core::sfc_instances::sfc_instance;
 use sfc_debug::sfc_core;
 use sfc_replay::sfc_output::sfc_debug;
-use sfc_replay::sfc_script;
