@@ -285,7 +285,7 @@ run replay --strict "$examples/pump.chart" "$work/kept.script"
 ends 0 && says "" && mentions "Pump FALSE" out
 note $? "the script of a case that has failed, replayed"
 run test --cover 100 "$examples/pump.chart" "$work/first.sfctest"
-ends 1 && says "" && mentions "2 passed, 0 failed" out && grep -q '^total ' "$work/out"
+ends 1 && mentions "2 passed, 0 failed" out && says "$(sed -n 's/^total .* \([0-9]*\)%$/\1/p' "$work/out") % is less than 100 %"
 note $? "cases that reach too little"
 printf 'TEST it starts\nEXPECT Pimp\n' >"$work/misspelt.sfctest"
 run test "$examples/pump.chart" "$work/misspelt.sfctest" "$work/first.sfctest"
