@@ -172,7 +172,8 @@ EXPLAIN number, EXPLAIN name: what a refusal or a fault means.
     Topic {
         word: b"SAVE",
         text: b"\
-SAVE file: writes the accepted commands with their instants: a script of which replay writes the lines that were written here.
+SAVE file: writes the accepted commands with their instants: a script of which replay writes the lines that were written here. A file
+that is there and wasn't saved here stays as it is; SAVE file! replaces it.
 ",
     },
     Topic {
