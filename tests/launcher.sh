@@ -59,7 +59,7 @@ try_builds() {
   run --version
   ends 0 && [ "$(cat "$work/out")" = "$("$program" --version)" ] && mentions "not proved"; note $? "--version says that it isn't proved"
   run --prove
-  [[ $(head -n 1 "$work/err") = *"up to an hour"* ]]; note $? "--prove says beforehand how long it takes"
+  [[ $(head -n 1 "$work/err") = *"one to two hours"* ]]; note $? "--prove says beforehand how long it takes"
   [ "$("$clone/tools/unproved" --quiet)" = "$(echo "$clone"/build/unproved/*/sfcmon)" ]; note $? "tools/unproved prints the path"
   [ "$(stat -c %s "$("$clone/tools/unproved" --quiet --module)")" = 200000 ]; note $? "tools/unproved --module prints that of the module"
 }
