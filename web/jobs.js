@@ -1,0 +1,45 @@
+/** What the worker does, and the page itself where it can have no worker: calls of the module that take long. */
+import {Sfc} from './sfc.js';
+
+/** After so many lines of a long replay the memory is kept, to go back to. */
+export const STRIDE = 1000;
+/** So many bytes of kept memory at the most. */
+const MOST_KEPT = 100_000_000;
+
+/** Lines that are said one after the other, from an opening on. */
+function replay(sfc, {chart, script, place}) {
+  const code = sfc.open(chart, script);
+  if (code) return {code, told: [], kept: []};
+  const lines = script.split('\n'), told = [], kept = [];
+  let bytes = 0;
+  for (let k = 0; k < Math.min(place, lines.length); k++) {
+    told.push(sfc.command(lines[k]).text);
+    if ((k + 1) % STRIDE || bytes > MOST_KEPT) continue;
+    const saved = sfc.save();
+    bytes += saved.bytes.length;
+    kept.push({place: k + 1, saved});
+  }
+  const saved = sfc.save();
+  sfc.close();
+  return {code, told, kept: [...kept, {place: told.length, saved}]};
+}
+
+/** A caller of the module that makes a new instance behind a trap. */
+export class Jobs {
+  /** @param {WebAssembly.Module} module */
+  constructor(module) {
+    this.module = module;
+    this.sfc = null;
+  }
+
+  /** @param {{name: string, texts?: string[], replay?: object}} job */
+  async run(job) {
+    this.sfc ??= await Sfc.of(this.module);
+    try {
+      return job.replay ? replay(this.sfc, job.replay) : this.sfc.tool(job.name, ...job.texts);
+    } catch (error) {
+      this.sfc = null;
+      throw error;
+    }
+  }
+}
