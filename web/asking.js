@@ -13,7 +13,7 @@ export function readWhy(text) {
 }
 
 /** Those that are enabled. @param {Map<string, string>} blocks */
-export const enabledOf = blocks => new Set([...blocks].filter(([, text]) => / enabled$/.test(text.split('\n', 1)[0])).map(([key]) => key));
+export const enabledOf = blocks => new Set([...blocks].filter(([, text]) => /(?<! not) enabled$/.test(text.split('\n', 1)[0])).map(([key]) => key));
 
 /** @param {string} text what POINTS has told @returns {Map<string, string>} the condition of each, or nothing, by program, kind and name */
 export function readPoints(text) {

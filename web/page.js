@@ -189,6 +189,7 @@ class Page {
 
   edited(kind) {
     this.stopRun();
+    this.busy(true);
     if (kind === 'tests') return;
     byId('example').value = '';
   }
@@ -208,7 +209,11 @@ class Page {
     this.afterLoad();
   }
 
+  /** @param {boolean} is */
+  busy(is) { document.querySelector('main').setAttribute('aria-busy', String(is)); }
+
   afterLoad() {
+    this.busy(false);
     byId('drawing').classList.remove('stale');
     this.enable(true);
     this.moved();
@@ -216,6 +221,7 @@ class Page {
   }
 
   unload(isChart) {
+    this.busy(false);
     this.play.names = null;
     this.enable(false);
     byId('mode').dataset.mode = 'faulty';
@@ -241,6 +247,7 @@ class Page {
   /** Puts texts in the place of those that are there. */
   put({chart, script = '', tests = '', place = 0}) {
     this.stopRun();
+    this.busy(true);
     closePopover();
     const {editors} = this.texts;
     [editors.chart.text, editors.script.text, editors.tests.text] = [chart, script, tests];

@@ -1,11 +1,14 @@
 //! Where the faults of charts, scripts and tests are.
 
-ghost use Rattle.std.specs.Prelude.{IfErr, List, ℕ, ℤ, Result};
+ghost use Rattle.std.specs.Prelude.{◌≡◌, IfOk, IfErr, List, ℕ, ℤ, Result, Ok, Err};
 ghost use Rattle.sfc_tools.specs.Codes.{IsCode};
+ghost use Rattle.sfc_tools.specs.Codes as codes;
+ghost use Rattle.sfc_tools.specs.Reports.{IsOfAll, IsOfLines};
 ghost use Rattle.sfc_tools.specs.Texts.{GivesOr};
 
 use crate::giving::give_or;
 use crate::refused::code_of;
+use crate::status::NO_MEMORY;
 use sfc_base::write_fault::put_all;
 use sfc_plant::plant::Plant;
 use sfc_replay::chart::plant_of_text;
@@ -117,6 +120,28 @@ fn faults_of_tests(alloc: Global, chart: &[u8], tests: &[u8]) -> Result<Vec<u8>,
     Ok(text)
 }
 
+// The reports of a chart, or that memory was refused.
+fn told_of_chart(alloc: Global, chart: &[u8]) -> Result<Vec<u8>, i32>
+    ensures text { IfOk result (λ text. IsOfAll chart.now (Ok text.items)) }
+    ensures none { IfErr result (λ code. code ≡ codes.no_memory) }
+{
+    match faults_of_chart(alloc, chart) {
+        Ok(text) => Ok(text),
+        Err(_) => Err(NO_MEMORY),
+    }
+}
+
+// The reports of a script, or the code of why there are none.
+fn told_of_script(alloc: Global, chart: &[u8], script: &[u8]) -> Result<Vec<u8>, i32>
+    ensures text { IfOk result (λ text. IsOfLines chart.now script.now (Ok text.items)) }
+    ensures none { IfErr result (λ code. IsOfLines chart.now script.now (Err code)) }
+{
+    match faults_of_script(alloc, chart, script) {
+        Ok(text) => Ok(text),
+        Err(error) => Err(code_of(error)),
+    }
+}
+
 // A text, or the code of why there is none.
 fn or_code(told: Result<Vec<u8>, ReplayError>) -> Result<Vec<u8>, i32>
     ensures { IfErr result IsCode }
@@ -131,9 +156,9 @@ fn or_code(told: Result<Vec<u8>, ReplayError>) -> Result<Vec<u8>, i32>
 /// where the buffer is too short; `needed` tells the length.
 #[unsafe(no_mangle)]
 pub extern "C" fn sfc_why(alloc: Global, chart: &[u8], into: &mut [u8], needed: &mut usize) -> i32
-    ensures { (told : Result (List ℕ) ℤ) × GivesOr told into.old into.new needed.new result }
+    ensures { (told : Result (List ℕ) ℤ) × IsOfAll chart.now told × GivesOr told into.old into.new needed.new result }
 {
-    give_or(or_code(faults_of_chart(alloc, chart)), into, needed)
+    give_or(told_of_chart(alloc, chart), into, needed)
 }
 
 /// The same of a script, whose name is `script`. The number of the chart's first fault where it has one.
@@ -145,9 +170,9 @@ pub extern "C" fn sfc_why_script(
     into: &mut [u8],
     needed: &mut usize,
 ) -> i32
-    ensures { (told : Result (List ℕ) ℤ) × GivesOr told into.old into.new needed.new result }
+    ensures { (told : Result (List ℕ) ℤ) × IsOfLines chart.now script.now told × GivesOr told into.old into.new needed.new result }
 {
-    give_or(or_code(faults_of_script(alloc, chart, script)), into, needed)
+    give_or(told_of_script(alloc, chart, script), into, needed)
 }
 
 /// The same of tests, whose name is `tests`.
