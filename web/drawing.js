@@ -56,9 +56,9 @@ export class Drawing {
 
   /** Puts a drawing of the program instances in place of the one that is there. @param {string} text */
   show(text, names) {
-    const parsed = new DOMParser().parseFromString(text, DRAWN).documentElement;
+    // The page has a style of its own for it, since its policy allows no other.
+    const parsed = new DOMParser().parseFromString(text.replace(/<style>[^<]*<\/style>/, ''), DRAWN).documentElement;
     if (parsed.localName !== 'svg') return this.clear('');
-    parsed.querySelector('style')?.remove();
     this.svg = document.importNode(parsed, true);
     this.svg.setAttribute('role', 'group');
     this.svg.setAttribute('aria-label', 'The chart. Arrow keys go from step to step; Enter sets a breakpoint.');

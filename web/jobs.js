@@ -13,7 +13,7 @@ function replay(sfc, {chart, script, place}) {
   const lines = script.split('\n'), told = [], kept = [];
   let bytes = 0;
   for (let k = 0; k < Math.min(place, lines.length); k++) {
-    told.push(sfc.command(lines[k]).text);
+    told.push(sfc.command(`${lines[k]}\n`).text);
     if ((k + 1) % STRIDE || bytes > MOST_KEPT) continue;
     const saved = sfc.save();
     bytes += saved.bytes.length;

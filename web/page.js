@@ -102,6 +102,7 @@ class Page {
 
   /** Does something that says lines, when what was asked before is done. @param {() => any} act */
   act(act) {
+    if (this.isBusy) return this.texts.check().then(() => this.act(act)).catch(error => this.notice(String(error), true));
     this.last = this.last.then(async () => {
       if (!this.play.isOpen) return;
       const {place} = this.play;
@@ -210,9 +211,13 @@ class Page {
   }
 
   /** @param {boolean} is */
-  busy(is) { document.querySelector('main').setAttribute('aria-busy', String(is)); }
+  busy(is) {
+    this.isBusy = is;
+    document.querySelector('main').setAttribute('aria-busy', String(is));
+  }
 
   afterLoad() {
+    if (byId('mode').dataset.mode === 'faulty') this.notice('');
     this.busy(false);
     byId('drawing').classList.remove('stale');
     this.enable(true);
@@ -269,7 +274,7 @@ class Page {
   /** The script as it stands now in its editor, where that is seen. */
   syncScript() {
     const {script} = this.texts.editors, wanted = this.play.script;
-    if (!this.play.isOpen || this.textTabs?.current() !== 'script' || script.text === wanted) return;
+    if (!this.play.isOpen || this.isBusy || this.textTabs?.current() !== 'script' || script.text === wanted) return;
     if (wanted.startsWith(script.text)) script.append(wanted.slice(script.text.length));
     else script.text = wanted;
   }

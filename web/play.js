@@ -103,7 +103,7 @@ export class Play {
   goNear(to) {
     const from = this.nearest(to);
     if (from.saved) this.sfc.restore(from.saved);
-    for (let k = from.place; k < to; k++) this.hear(k, this.sfc.command(this.lines[k]).text);
+    for (let k = from.place; k < to; k++) this.hear(k, this.sfc.command(`${this.lines[k]}\n`).text);
     this.doc.place = to;
   }
 

@@ -54,9 +54,10 @@ class Browser:
     def wait(self, expression, seconds=20):
         """Waits until the expression is true: its value."""
         until = time.monotonic() + seconds
-        while not (found := self.value(expression)):
+        while not (found := self.value(f"Boolean({expression})")):
             if time.monotonic() > until:
-                raise TimeoutError(f"never true: {expression}; notice: {self.value('document.getElementById(`notice`)?.textContent')}")
+                told = self.value("[...document.querySelectorAll('#notice, .faults')].map(it => it.textContent.slice(0, 120)).join(' | ')")
+                raise TimeoutError(f"never true: {expression}; told: {told}")
             time.sleep(0.05)
         return found
 

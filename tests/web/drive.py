@@ -432,7 +432,7 @@ def attempt(name, act, counts):
         counts[0] += 1
     except Exception as error:  # whatever it is, the others are tried
         counts[1] += 1
-        print(f"not as it should be: {name}: {type(error).__name__}: {str(error)[:500]}", flush=True)
+        print(f"not as it should be: {name}: {type(error).__name__}: {str(error)[:900]}", flush=True)
 
 
 def main():

@@ -52,7 +52,8 @@ class Native:
         return self.kept[words]
 
     def asked(self, script):
-        front = script if script.endswith(b"\n") or not script else script + b"\n"
+        """What the prompt answers behind the script. At the prompt a line without words is a command, and in a script it is none."""
+        front = b"".join(it + b"\n" for it in script.split(b"\n") if it.strip())
         before, _ = run(self.program, self.folder, ["debug", "chart"], front)
         whole, error = run(self.program, self.folder, ["debug", "chart"], front + QUESTIONS)
         return whole[len(before):], error

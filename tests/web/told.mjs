@@ -15,9 +15,9 @@ const said = ({code, bytes}) => `${code} ${crypto.createHash('md5').update(bytes
 function lines(chart, script) {
   const code = sfc.open(chart, script), parts = [];
   for (let from = 0; !code && from < script.length;) {
-    const end = script.indexOf(10, from), to = end < 0 ? script.length : end;
+    const end = script.indexOf(10, from), to = end < 0 ? script.length : end + 1;
     parts.push(sfc.bytes((...out) => sfc.with([script.subarray(from, to)], (...words) => sfc.lib.sfc_command(sfc.handle, ...words, ...out))).bytes);
-    from = to + 1;
+    from = to;
   }
   if (!code) parts.push(sfc.bytes((...out) => sfc.lib.sfc_image_text(sfc.handle, ...out)).bytes);
   sfc.close();
