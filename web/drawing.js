@@ -4,6 +4,8 @@ import {typeOf} from './listing.js';
 import {timeText} from './time.js';
 
 const DRAWN = 'image/svg+xml';
+/** The faults of sfc_program_state_t, by their numbers. */
+const FAULTS = ['', 'DivZero', 'Range', 'TwoTimed', 'SdWhileSl', 'SlWhileSd'];
 
 /** What of an instance is drawn, by the numbers of things. */
 class Instance {
@@ -18,12 +20,14 @@ class Instance {
     this.bodies = program.actions.map(name => find(`action-${name}`));
     this.rows = type.steps.flatMap((step, n) => step.actions.map((name, k) => (
       {step: n, action: numbers.get(name.toLowerCase()), name, element: find(`step-${step.name}-${k + 1}`)})));
-    this.title = root.querySelector(`[id="${CSS.escape(program.name)}"]`);
+    this.heading = root.querySelector(`[id="${CSS.escape(program.name)}"] > text.n`);
+    this.front = this.heading?.textContent.replace(/, scans .*/, '') ?? '';
   }
 
   /** @param {import('./sfc.js').Sfc} sfc */
   mark(sfc, forced) {
     const {number, steps, transitions, actions} = this.program;
+    this.markHeading(sfc.program(number));
     const ofSteps = sfc.points(number, KIND.step, steps.length), ofActions = sfc.points(number, KIND.action, actions.length);
     sfc.points(number, KIND.transition, transitions.length).forEach((it, n) => set(this.transitions[n], 'fired', it.happened));
     ofSteps.forEach((it, n) => this.markStep(n, it));
@@ -33,6 +37,13 @@ class Instance {
       const name = row.name.toLowerCase(), own = `${this.program.name.toLowerCase()}.${name}`;
       set(row.element, 'forced', forced.has(own) || forced.has(name));
     }
+  }
+
+  markHeading(state) {
+    if (!this.heading || !state) return;
+    const fault = state.fault ? `, fault ${FAULTS[state.fault]}` : '', text = `${this.front}, scans ${state.scans}${fault}`;
+    if (this.heading.textContent !== text) this.heading.textContent = text;
+    set(this.heading, 'faulted', state.fault !== 0);
   }
 
   markStep(n, {active, elapsed}) {
@@ -63,10 +74,20 @@ export class Drawing {
     this.svg.setAttribute('role', 'group');
     this.svg.setAttribute('aria-label', 'The chart. Arrow keys go from step to step; Enter sets a breakpoint.');
     this.host.replaceChildren(this.svg);
+    this.host.classList.remove('empty');
     this.instances = names.programs.map(program => new Instance(this.svg, program, names.listing));
     this.points = this.instances.flatMap(it => this.pointsOf(it));
     this.points.forEach((it, k) => this.open(it, k === 0));
+    this.showBeginning();
     return this.svg;
+  }
+
+  /** Scrolls to where the first initial step is seen. */
+  showBeginning() {
+    const first = this.svg.querySelector('.initial'), host = this.host.getBoundingClientRect();
+    if (!first) return;
+    const at = first.getBoundingClientRect();
+    this.host.scrollTo(Math.max(0, this.host.scrollLeft + at.left + at.width / 2 - host.left - host.width / 2), 0);
   }
 
   /** @param {string} note */
@@ -75,6 +96,7 @@ export class Drawing {
     this.instances = [];
     this.points = [];
     this.host.textContent = note;
+    this.host.classList.add('empty');
     return null;
   }
 

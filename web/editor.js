@@ -1,6 +1,8 @@
 /** A text to write: a text area over its own coloured copy, of which only the lines that are seen are there. */
 import {piecesOf, WORDS} from './words.js';
 
+/** The height of a line in pixels, as the style has it. */
+const LINE = 18;
 const MOST_OFFERED = 8, LONGEST_COLOURED = 400_000;
 
 /** The place in a text of a line and a column, both from 1; a character is a column. */
@@ -77,12 +79,12 @@ export class Editor {
 
   repaint() {
     this.split();
-    const height = parseFloat(getComputedStyle(this.area).lineHeight), first = Math.max(0, Math.floor(this.area.scrollTop / height) - 2);
-    const last = Math.min(this.lines.length, first + Math.ceil(this.area.clientHeight / height) + 6);
+    const first = Math.max(0, Math.floor(this.area.scrollTop / LINE) - 2);
+    const last = Math.min(this.lines.length, first + Math.ceil(this.area.clientHeight / LINE) + 6);
     const rows = [];
     for (let k = first; k < last; k++) rows.push(this.row(k));
     this.copy.replaceChildren(...rows);
-    this.copy.style.transform = `translate(${-this.area.scrollLeft}px, ${first * height - this.area.scrollTop}px)`;
+    this.copy.style.transform = `translate(${-this.area.scrollLeft}px, ${first * LINE - this.area.scrollTop}px)`;
   }
 
   row(k) {
@@ -129,13 +131,13 @@ export class Editor {
     this.paint(false);
   }
 
-  /** Shows a line as the one at which all stands, from 0. */
-  point(line, isShown) {
+  /** Shows a line, from 0, as the one at which all stands. Nothing is measured where the text isn't seen. */
+  point(line, isSeen) {
     if (this.current === line) return;
     this.current = line;
-    const height = parseFloat(getComputedStyle(this.area).lineHeight) || 18, top = line * height;
-    const isSeen = top >= this.area.scrollTop && top + height <= this.area.scrollTop + this.area.clientHeight;
-    if (isShown && !isSeen && document.activeElement !== this.area) this.area.scrollTop = Math.max(0, top - this.area.clientHeight / 2);
+    if (!isSeen) return;
+    const top = line * LINE, from = this.area.scrollTop, height = this.area.clientHeight;
+    if ((top < from || top + LINE > from + height) && document.activeElement !== this.area) this.area.scrollTop = Math.max(0, top - height / 2);
     this.paint(false);
   }
 
@@ -144,8 +146,7 @@ export class Editor {
     const from = placeOf(this.text, line, column);
     this.area.focus();
     this.area.setSelectionRange(from, from + length);
-    const height = parseFloat(getComputedStyle(this.area).lineHeight);
-    this.area.scrollTop = Math.max(0, (line - 1) * height - this.area.clientHeight / 2);
+    this.area.scrollTop = Math.max(0, (line - 1) * LINE - this.area.clientHeight / 2);
   }
 
   // ---- completion
@@ -194,9 +195,8 @@ export class Editor {
   }
 
   put() {
-    const lines = this.text.slice(0, this.area.selectionStart).split('\n'), style = getComputedStyle(this.area);
-    const height = parseFloat(style.lineHeight), width = this.width();
-    const left = lines.at(-1).length * width - this.area.scrollLeft, top = lines.length * height - this.area.scrollTop;
+    const lines = this.text.slice(0, this.area.selectionStart).split('\n');
+    const left = lines.at(-1).length * this.width() - this.area.scrollLeft, top = lines.length * LINE - this.area.scrollTop;
     this.list.style.left = `${Math.max(0, Math.min(left, this.area.clientWidth - 140))}px`;
     this.list.style.top = `${top + 8}px`;
   }

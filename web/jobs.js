@@ -6,22 +6,17 @@ export const STRIDE = 1000;
 /** So many bytes of kept memory at the most. */
 const MOST_KEPT = 100_000_000;
 
-/** Lines that are said one after the other, from an opening on. */
+/** Lines that are said one after the other, from an opening on, in an instance that has done nothing else. */
 function replay(sfc, {chart, script, place}) {
   const code = sfc.open(chart, script);
   if (code) return {code, told: [], kept: []};
-  const lines = script.split('\n'), told = [], kept = [];
-  let bytes = 0;
-  for (let k = 0; k < Math.min(place, lines.length); k++) {
+  const lines = script.split('\n'), count = Math.min(place, lines.length), told = [], kept = [];
+  const stride = Math.max(STRIDE, Math.ceil(count * sfc.lib.memory.buffer.byteLength / MOST_KEPT));
+  for (let k = 0; k < count; k++) {
     told.push(sfc.command(`${lines[k]}\n`).text);
-    if ((k + 1) % STRIDE || bytes > MOST_KEPT) continue;
-    const saved = sfc.save();
-    bytes += saved.bytes.length;
-    kept.push({place: k + 1, saved});
+    if ((k + 1) % stride === 0) kept.push({place: k + 1, saved: sfc.save()});
   }
-  const saved = sfc.save();
-  sfc.close();
-  return {code, told, kept: [...kept, {place: told.length, saved}]};
+  return {code, told, kept: [...kept, {place: count, saved: sfc.save()}]};
 }
 
 /** A caller of the module that makes a new instance behind a trap. */
@@ -34,9 +29,10 @@ export class Jobs {
 
   /** @param {{name: string, texts?: string[], replay?: object}} job */
   async run(job) {
+    if (job.replay) return replay(await Sfc.of(this.module), job.replay);
     this.sfc ??= await Sfc.of(this.module);
     try {
-      return job.replay ? replay(this.sfc, job.replay) : this.sfc.tool(job.name, ...job.texts);
+      return this.sfc.tool(job.name, ...job.texts);
     } catch (error) {
       this.sfc = null;
       throw error;

@@ -16,7 +16,7 @@ import {fromBase64, readLink, unpack, writeLink} from './link.js';
 import {openFiles, saveFile} from './files.js';
 import {timeText} from './time.js';
 
-const REST = 120, HOVER = 160;
+const REST = 150, LONG_REST = 800, LONG = 200_000, HOVER = 160;
 const MODES = {[MODE.running]: 'running', [MODE.halted]: 'halted', [MODE.ended]: 'ended'};
 const KEYS = [['S', 'Scan'], ['R', 'Run, or pause'], ['H', 'Halt'], ['N', 'Single'], ['G', 'Go'], ['[ and ]', 'back and forward'],
   ['Ctrl+Space', 'names and words, in a text'], ['arrow keys', 'from element to element of the chart'], ['Enter', 'a breakpoint there'], ['?', 'this list']];
@@ -154,6 +154,7 @@ class Page {
 
   goTo(place) {
     this.stopRun();
+    this.notice('');
     this.wanted = place;
     return this.act(async () => {
       if (this.wanted !== place) return; // the slider has gone on
@@ -330,10 +331,10 @@ class Page {
     this.variables.mark(image);
     this.drawing.mark(sfc, this.variables.forced(image));
     this.enableByMode();
-    this.texts.editors.script.point(place - 1, true);
+    this.texts.editors.script.point(place - 1, this.textTabs.current() === 'script');
     if (this.resultTabs.current() === 'output') showTold(byId('output'), play.told, place);
     clearTimeout(this.rest);
-    this.rest = setTimeout(() => this.rested(), REST);
+    this.rest = setTimeout(() => this.rested(), lines.length * 16 > LONG ? LONG_REST : REST);
   }
 
   /** What takes longer is shown when nothing has moved for a while. */
@@ -358,9 +359,15 @@ class Page {
     const {chart} = this.play.doc, {script} = this.play;
     if (name === 'output') showTold(byId('output'), this.play.told, this.play.place);
     if (name === 'image') showLines(byId('image'), this.play.sfc.imageText());
-    if (name === 'waves') this.waves.show((await this.remote.tool('wave', chart, script)).text, this.play.status().instant);
+    if (name === 'waves') await this.showWaves(chart, script);
     if (name === 'coverage') showLines(byId('coverage'), (await this.remote.tool('cover', chart, script)).text);
     if (name === 'outcome') await this.showOutcome(chart);
+  }
+
+  async showWaves(chart, script) {
+    const times = new Set(this.play.names.listing.variables.filter(it => it.type === 'TIME').map(it => it.name));
+    const {text} = await this.remote.tool('wave', chart, script);
+    if (this.play.isOpen) this.waves.show(text, this.play.status().instant, times);
   }
 
   async showOutcome(chart) {
@@ -376,7 +383,7 @@ class Page {
   askBreak(point) {
     if (!point || !this.play.isOpen) return;
     const condition = this.points?.get(keyOf(point)), words = `${point.program} ${point.kind} ${point.name}`;
-    const when = field('Only when (may be left out)', condition ?? '', 'Batches = 1');
+    const when = field('Only when (may be left out)', condition ?? '', 'Count >= 10');
     const set = button('Break here', () => this.say(`BREAK ${words}${when.input.value.trim() ? ` WHEN ${when.input.value.trim()}` : ''}`));
     when.input.addEventListener('keydown', event => { if (event.key === 'Enter') set.click(); });
     const choices = document.createElement('div');

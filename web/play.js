@@ -43,7 +43,7 @@ export class Play {
   /** Opens a chart and a script, and goes to the place: the code of the opening. @param {import('./link.js').Doc} doc */
   async open(doc) {
     this.names = null;
-    this.sfc ??= await Sfc.of(this.module);
+    if (!this.sfc || doc.chart !== this.doc.chart) this.sfc = await Sfc.of(this.module);
     try {
       const code = this.sfc.open(doc.chart, doc.script);
       if (code) return code;

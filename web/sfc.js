@@ -7,7 +7,7 @@
 
 /** @typedef {string | Uint8Array} Text */
 /** @typedef {{code: number, text: string}} Told */
-/** @typedef {{bytes: Uint8Array, handle: bigint}} Saved */
+/** @typedef {{bytes: Uint8Array, fixed: bigint, handle: bigint, out: bigint, room: number}} Saved */
 
 /** Kinds, as in sfc.h. */
 export const KIND = Object.freeze({step: 0, transition: 1, action: 2, variable: 3, task: 4, program: 5});
@@ -118,7 +118,10 @@ export class Sfc {
   close() { this.lib.sfc_close(this.handle); }
 
   /** All of the memory, to go back to. @returns {Saved} */
-  save() { return {bytes: new Uint8Array(this.lib.memory.buffer).slice(), handle: this.handle}; }
+  save() {
+    const {fixed, handle, out, room} = this;
+    return {bytes: new Uint8Array(this.lib.memory.buffer).slice(), fixed, handle, out, room};
+  }
 
   /** Goes back to what was saved, of this instance or of another one of the same module. @param {Saved} saved */
   restore(saved) {
@@ -127,6 +130,7 @@ export class Sfc {
     const all = new Uint8Array(this.lib.memory.buffer);
     all.set(saved.bytes);
     all.fill(0, saved.bytes.length);
+    [this.fixed, this.handle, this.out, this.room] = [saved.fixed, saved.handle, saved.out, saved.room];
   }
 
   /** @param {number} pages */

@@ -74,13 +74,14 @@ export class Waves {
     act();
   }
 
-  /** @param {string} text */
-  show(text, now) {
+  /** @param {string} text @param {number} now the run instant of the place @param {Set<string>} times the variables that are TIME */
+  show(text, now, times) {
     const {signals, end} = readDump(text), isWhole = this.from === 0 && this.to === this.end;
     signals.sort((a, b) => Number(b.kind === 'string') - Number(a.kind === 'string'));
     this.signals = signals.slice(0, MOST_ROWS);
     this.end = Math.max(end, 1);
     this.now = now;
+    this.times = times;
     this.told.textContent = this.signals.map(it => `${it.name} ${it.values.at(-1) ?? ''}`).join(', ');
     if (isWhole || this.to > this.end) this.fit();
     else this.draw();
@@ -172,12 +173,13 @@ export class Waves {
   }
 
   words(pen, signal, top, width) {
+    const textOf = value => this.times.has(signal.name) ? timeText(value) : String(value);
     for (const {from, to, value} of this.parts(signal, width)) {
       pen.fillStyle = this.colours.soft;
       pen.fillRect(from, top + 3, 1, ROW - 6);
       pen.fillStyle = this.colours.ink;
       const room = Math.floor((to - from - 6) / 7.3);
-      if (room >= 2) pen.fillText(fitted(String(value), room), from + 4, top + ROW / 2);
+      if (room >= 2) pen.fillText(fitted(textOf(value), room), from + 4, top + ROW / 2);
     }
   }
 }

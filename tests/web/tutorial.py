@@ -89,8 +89,8 @@ class Tutorial:
     def why(self, command, printed):
         name = command.split()[-1]
         told = self.faults(name.split(".")[1], name).split("\n")
-        wanted = [it for it in printed.split("\n") if not re.match(r" +\d* \|", it)]
-        assert told[:len(wanted)] == wanted or told == wanted, f"{told} for {wanted}"
+        wanted = [it for it in printed.rstrip("\n").split("\n") if not re.match(r" +\d* \|", it)]
+        assert told[:len(wanted)] == wanted, f"{told} for {wanted}"
 
     def replay(self, command, printed):
         if printed.startswith("script line"):
