@@ -14,6 +14,7 @@ import {enabledOf, readPoints, readWhy} from './asking.js';
 import {showLines, showTold} from './results.js';
 import {fromBase64, readLink, unpack, writeLink} from './link.js';
 import {openFiles, saveFile} from './files.js';
+import {listen, liveChart, liveMode, tellRun} from './live.js';
 import {timeText} from './time.js';
 
 const REST = 150, LONG_REST = 800, LONG = 200_000, HOVER = 160;
@@ -121,6 +122,8 @@ class Page {
 
   /** Says a command at the instant of now. @param {string} words */
   say(words) {
+    if (this.live === 'look') return this.notice('This run is only looked at.', true);
+    if (this.live) return tellRun(words).then(wrong => this.notice(wrong || `Said: ${words}`, Boolean(wrong)));
     return this.act(async () => {
       const line = `${timeText(this.run.instant)} ${words}`, told = await this.play.say(line);
       return told.code === CODE.noLine ? this.faultOf(line) : told;
@@ -436,11 +439,34 @@ class Page {
     return known ?? (await this.ask(`WHY ${program} ${name}`)).trimEnd();
   }
 
+  // ---- a run that is shown
+
+  /** Shows a run: the texts are its own, and its commands come by themselves. */
+  async showRun() {
+    document.body.dataset.live = this.live;
+    for (const kind of ['chart', 'script']) this.texts.editors[kind].area.readOnly = true;
+    await this.put({chart: await liveChart()});
+    listen(lines => this.hear(lines), () => this.notice('The run has ended.'));
+  }
+
+  /** Commands of the run. Who has gone back stays there. @param {string[]} lines */
+  hear(lines) {
+    return this.act(() => {
+      for (const line of lines) {
+        const told = this.play.place < this.play.lines.length ? this.play.add(line) : this.play.sayNow(line);
+        if (told?.code) return told;
+      }
+      return null;
+    });
+  }
+
   // ---- the beginning
 
   async start() {
     byId('example').replaceChildren(new Option('', ''), ...EXAMPLES.map(it => new Option(it.name, it.name)));
     this.enable(false);
+    this.live = liveMode();
+    if (this.live) return this.showRun();
     if (await this.follow()) return;
     const isBad = byId('notice').textContent;
     await this.put({...EXAMPLES.find(it => it.name === 'mixing') ?? EXAMPLES[0]});

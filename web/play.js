@@ -143,6 +143,9 @@ export class Play {
     return told;
   }
 
+  /** Puts a line behind the last one, and stays at the place. @param {string} line */
+  add(line) { this.lines.push(line); }
+
   append(line) {
     this.lines.length = this.place;
     this.told.length = this.place;
