@@ -1,7 +1,7 @@
 #!/usr/bin/env bash
-# web.sh [quick|full]: the runtime in a page. `quick` compares the module with the program under node, to the byte; `full` has more plants, and uses the
-# page in Chromium and Firefox, without a window. WEB, where it is set, is a folder with sfc.wasm and index.html; else tools/web builds them, which
-# wants the proved libraries. What isn't installed is told and passed over. The last line is 'N passed, M failed'.
+# web.sh [quick|full]: the runtime in a page. `quick` compares the module with the program under node, to the byte; `full` has more plants,
+# and uses the page in Chromium and Firefox, without a window. WEB, where it is set, is a folder with sfc.wasm and index.html; else tools/web
+# builds them, which wants the proved libraries. What isn't installed is told and passed over. The last line is 'N passed, M failed'.
 set -u
 # shellcheck source=tests/common.sh
 . "$(dirname "${BASH_SOURCE[0]}")/common.sh"

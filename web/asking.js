@@ -1,6 +1,9 @@
 /** Questions that the prompt of `sfcmon debug` answers behind a script: WHY and POINTS, taken apart by transitions and points. */
 
-/** @param {string} text what WHY has told @returns {Map<string, string>} the lines of each transition, by the program's name and its number */
+/**
+ * @param {string} text what WHY has told
+ * @returns {Map<string, string>} the lines of each transition, by the program's name and its number
+ */
 export function readWhy(text) {
   const blocks = new Map();
   let key = '';
@@ -13,7 +16,10 @@ export function readWhy(text) {
 }
 
 /** Those that are enabled. @param {Map<string, string>} blocks */
-export const enabledOf = blocks => new Set([...blocks].filter(([, text]) => /(?<! not) enabled$/.test(text.split('\n', 1)[0])).map(([key]) => key));
+export function enabledOf(blocks) {
+  const isEnabled = text => /(?<! not) enabled$/.test(text.split('\n', 1)[0]);
+  return new Set([...blocks].filter(([, text]) => isEnabled(text)).map(([key]) => key));
+}
 
 /** @param {string} text what POINTS has told @returns {Map<string, string>} the condition of each, or nothing, by program, kind and name */
 export function readPoints(text) {

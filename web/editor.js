@@ -90,8 +90,7 @@ export class Editor {
   row(k) {
     const row = document.createElement('div'), from = this.starts[k], line = this.lines[k];
     row.className = k === this.current ? 'row now' : 'row';
-    const pieces = this.pieces ? this.pieces.filter(it => it.to > from && it.from < from + line.length) : piecesOf(line, this.kind).map(it => ({...it, from: it.from + from, to: it.to + from}));
-    const marked = this.marksIn(k);
+    const pieces = this.piecesIn(from, line), marked = this.marksIn(k);
     let at = from;
     const put = (to, name) => {
       if (to <= at) return;
@@ -108,6 +107,12 @@ export class Editor {
     put(from + line.length, '');
     row.append('\n');
     return row;
+  }
+
+  /** The pieces of a line that begins at this place. A script's lines stand for themselves. */
+  piecesIn(from, line) {
+    if (this.pieces) return this.pieces.filter(it => it.to > from && it.from < from + line.length);
+    return piecesOf(line, this.kind).map(it => ({...it, from: it.from + from, to: it.to + from}));
   }
 
   /** Pieces with the faulty ones in front of the others. */
@@ -137,7 +142,8 @@ export class Editor {
     this.current = line;
     if (!isSeen) return;
     const top = line * LINE, from = this.area.scrollTop, height = this.area.clientHeight;
-    if ((top < from || top + LINE > from + height) && document.activeElement !== this.area) this.area.scrollTop = Math.max(0, top - height / 2);
+    const isHidden = top < from || top + LINE > from + height;
+    if (isHidden && document.activeElement !== this.area) this.area.scrollTop = Math.max(0, top - height / 2);
     this.paint(false);
   }
 
@@ -171,12 +177,16 @@ export class Editor {
   }
 
   /** The part of a word before the caret. */
-  front() { return /[A-Za-z_][\w.]*$/.exec(this.text.slice(Math.max(0, this.area.selectionStart - 80), this.area.selectionStart))?.[0] ?? ''; }
+  front() {
+    const end = this.area.selectionStart;
+    return /[A-Za-z_][\w.]*$/.exec(this.text.slice(Math.max(0, end - 80), end))?.[0] ?? '';
+  }
 
   offer(isAsked) {
     const front = this.front(), low = front.toLowerCase();
     const fits = it => it.toLowerCase().startsWith(low) && it.length > front.length;
-    this.offered = front.length < (isAsked ? 0 : 2) ? [] : [...new Set([...this.names(), ...WORDS[this.kind]])].filter(fits).slice(0, MOST_OFFERED);
+    const all = front.length < (isAsked ? 0 : 2) ? [] : [...new Set([...this.names(), ...WORDS[this.kind]])];
+    this.offered = all.filter(fits).slice(0, MOST_OFFERED);
     if (!this.offered.length) return this.close();
     const items = this.offered.map((name, k) => this.item(name, k));
     this.list.replaceChildren(...items);

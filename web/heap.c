@@ -1,4 +1,5 @@
-/* heap.c: memory for the runtime in a page: what the library takes from malloc, realloc and free in a C program, by the names that it calls.
+/* heap.c: memory for the runtime in a page: what the library takes from malloc, realloc and free in a C program, by the names that it
+ * calls.
  *
  * Blocks have sizes that are powers of two, with a header of 16 bytes. A block that is given back is put in front of a list of those of its
  * size, from which the next of that size comes. What the host has given is never handed back. Nothing here is proved. */

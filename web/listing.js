@@ -1,4 +1,7 @@
-/** What a listing of `sfcmon list` says of variables, steps and tasks, line by line. It is a layout of the program's own, so nothing is judged here. */
+/**
+ * What a listing of `sfcmon list` says of variables, steps and tasks, line by line. It is a layout of the program's own, so nothing is judged
+ * here.
+ */
 
 /** @typedef {{name: string, type: string, location: string}} Variable */
 /** @typedef {{variables: Variable[], steps: {name: string, actions: string[]}[], transitions: number}} ProgramType */
@@ -68,7 +71,8 @@ export function readListing(text) {
   const reader = new Reader();
   for (const line of text.split('\n')) reader.take(line);
   const {types, globals, tasks, instances} = reader;
-  const own = instances.flatMap(it => (types.get(it.type.toLowerCase()) ?? emptyType()).variables.map(v => ({...v, name: `${it.name}.${v.name}`})));
+  const ownOf = it => (types.get(it.type.toLowerCase()) ?? emptyType()).variables;
+  const own = instances.flatMap(it => ownOf(it).map(variable => ({...variable, name: `${it.name}.${variable.name}`})));
   return {types, tasks, instances, variables: [...globals, ...own]};
 }
 

@@ -20,7 +20,8 @@ import {timeText} from './time.js';
 const REST = 150, LONG_REST = 800, LONG = 200_000, HOVER = 160;
 const MODES = {[MODE.running]: 'running', [MODE.halted]: 'halted', [MODE.ended]: 'ended'};
 const KEYS = [['S', 'Scan'], ['R', 'Run, or pause'], ['H', 'Halt'], ['N', 'Single'], ['G', 'Go'], ['[ and ]', 'back and forward'],
-  ['Ctrl+Space', 'names and words, in a text'], ['arrow keys', 'from element to element of the chart'], ['Enter', 'a breakpoint there'], ['?', 'this list']];
+  ['Ctrl+Space', 'names and words, in a text'], ['arrow keys', 'from element to element of the chart'], ['Enter', 'a breakpoint there'],
+  ['?', 'this list']];
 const byId = id => /** @type {any} */ (document.getElementById(id));
 
 class Page {
@@ -189,7 +190,8 @@ class Page {
   get names() {
     if (!this.play.names) return [];
     const {programs, tasks, variables} = this.play.names;
-    return [...variables, ...variables.map(it => it.split('.').at(-1)), ...tasks, ...programs.flatMap(it => [it.name, ...it.steps, ...it.transitions, ...it.actions])].filter(Boolean);
+    const inPrograms = programs.flatMap(it => [it.name, ...it.steps, ...it.transitions, ...it.actions]);
+    return [...variables, ...variables.map(it => it.split('.').at(-1)), ...tasks, ...inPrograms].filter(Boolean);
   }
 
   edited(kind) {
@@ -272,7 +274,8 @@ class Page {
   async openFiles() {
     const texts = await openFiles(byId('file').files), {editors} = this.texts;
     byId('file').value = '';
-    await this.put({chart: texts.chart ?? editors.chart.text, script: texts.script ?? (texts.chart ? '' : editors.script.text), tests: texts.tests ?? ''});
+    const script = texts.chart ? '' : editors.script.text;
+    await this.put({chart: editors.chart.text, script, ...texts});
   }
 
   /** The script as it stands now in its editor, where that is seen. */
@@ -286,10 +289,11 @@ class Page {
   // ---- links
 
   async share() {
-    const link = await writeLink({chart: this.texts.editors.chart.text, script: this.play.isOpen ? this.play.script : this.texts.editors.script.text, place: this.play.place});
+    const {chart, script} = this.texts.editors, {isOpen, place} = this.play;
+    const link = await writeLink({chart: chart.text, script: isOpen ? this.play.script : script.text, place});
     history.replaceState(null, '', link);
     const isCopied = await navigator.clipboard?.writeText(location.href).then(() => true, () => false);
-    this.notice(isCopied ? 'The address is this chart, this script and this place; it was copied.' : 'The address is now this chart, this script and this place.');
+    this.notice(`The address is now this chart, this script and this place${isCopied ? '; it was copied.' : '.'}`);
   }
 
   async follow() {
@@ -435,7 +439,8 @@ class Page {
 
   /** What a transition waits for, as WHY tells it. */
   async waitsOf({program, name}) {
-    const known = this.why.place === this.play.place && this.why.doc === this.play.doc ? this.why.blocks.get(`${program} ${name}`) : undefined;
+    const isNow = this.why.place === this.play.place && this.why.doc === this.play.doc;
+    const known = isNow ? this.why.blocks.get(`${program} ${name}`) : undefined;
     return known ?? (await this.ask(`WHY ${program} ${name}`)).trimEnd();
   }
 

@@ -159,7 +159,8 @@ export class Sfc {
   status() {
     if (this.lib.sfc_status(this.handle, this.fixed)) return null;
     const view = this.view(), at = Number(this.fixed);
-    return {instant: Number(view.getBigInt64(at, true)), accepted: Number(view.getBigUint64(at + 8, true)), mode: view.getInt32(at + 16, true)};
+    const instant = Number(view.getBigInt64(at, true)), accepted = Number(view.getBigUint64(at + 8, true));
+    return {instant, accepted, mode: view.getInt32(at + 16, true)};
   }
 
   /** @param {number} task */
@@ -186,7 +187,8 @@ export class Sfc {
     const view = this.view(), at = Number(this.fixed), all = [];
     for (let number = 0; number < count; number++) {
       if (this.lib.sfc_point_state(this.handle, program, kind, number, this.fixed)) break;
-      all.push({elapsed: Number(view.getBigInt64(at, true)), active: view.getInt32(at + 8, true) !== 0, happened: view.getInt32(at + 12, true) !== 0});
+      const active = view.getInt32(at + 8, true) !== 0, happened = view.getInt32(at + 12, true) !== 0;
+      all.push({elapsed: Number(view.getBigInt64(at, true)), active, happened});
     }
     return all;
   }

@@ -23,5 +23,6 @@ export function makeTabs(list, onshow) {
       show(to);
     });
   });
-  return {show: name => show(tabs.find(it => nameOf(it) === name)), current: () => nameOf(tabs.find(it => it.getAttribute('aria-selected') === 'true'))};
+  const current = () => nameOf(tabs.find(it => it.getAttribute('aria-selected') === 'true'));
+  return {show: name => show(tabs.find(it => nameOf(it) === name)), current};
 }

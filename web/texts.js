@@ -14,7 +14,8 @@ export class Texts {
   constructor(remote, listener) {
     this.remote = remote;
     this.listener = listener;
-    this.editors = Object.fromEntries(KINDS.map(kind => [kind, new Editor(document.querySelector(`#panel-${kind} .editor`), kind, LABELS[kind])]));
+    const editorOf = kind => new Editor(document.querySelector(`#panel-${kind} .editor`), kind, LABELS[kind]);
+    this.editors = Object.fromEntries(KINDS.map(kind => [kind, editorOf(kind)]));
     this.version = 0;
     this.timer = 0;
     for (const kind of KINDS) this.editors[kind].onchange = () => this.edited(kind);

@@ -21,6 +21,8 @@ export function readTime(word) {
   const text = /^(?:t|time)#((?:[0-9][0-9_.]*(?:ms|d|h|m|s)_?)+)$/i.exec(word);
   if (!text) return null;
   let sum = 0;
-  for (const [, number, unit] of text[1].matchAll(/([0-9][0-9_.]*)(ms|d|h|m|s)/gi)) sum += Number(number.replaceAll('_', '')) * UNIT[unit.toLowerCase()];
+  for (const [, number, unit] of text[1].matchAll(/([0-9][0-9_.]*)(ms|d|h|m|s)/gi)) {
+    sum += Number(number.replaceAll('_', '')) * UNIT[unit.toLowerCase()];
+  }
   return Number.isFinite(sum) ? Math.round(sum) : null;
 }

@@ -26,8 +26,10 @@ class Row {
     this.force.setAttribute('aria-label', `Force ${variable.name}`);
     this.force.setAttribute('aria-pressed', 'false');
     this.force.addEventListener('click', () => actions.force(variable, this.force, this.isForced));
-    const name = make('span', {className: 'name', textContent: variable.name, title: `${variable.name} ${variable.location} ${variable.type}`});
-    this.element = make('li', {className: 'variable'}, name, make('span', {className: 'location', textContent: variable.location || variable.type}), this.control, this.force);
+    const title = `${variable.name} ${variable.location} ${variable.type}`;
+    const name = make('span', {className: 'name', textContent: variable.name, title});
+    const location = make('span', {className: 'location', textContent: variable.location || variable.type});
+    this.element = make('li', {className: 'variable'}, name, location, this.control, this.force);
     this.element.dataset.name = variable.name;
   }
 
@@ -37,7 +39,8 @@ class Row {
     const button = make('button', {type: 'button', className: 'switch'});
     button.setAttribute('role', 'switch');
     button.setAttribute('aria-label', this.variable.name);
-    button.addEventListener('click', () => this.actions.input(this.variable, button.getAttribute('aria-checked') === 'true' ? 'FALSE' : 'TRUE'));
+    const isOn = () => button.getAttribute('aria-checked') === 'true';
+    button.addEventListener('click', () => this.actions.input(this.variable, isOn() ? 'FALSE' : 'TRUE'));
     return button;
   }
 

@@ -31,11 +31,13 @@ function signed(bits, width) {
   return bits.length === width && bits[0] === '1' ? value - 2 ** width : value;
 }
 
+const signalOf = (name, kind, width) => ({name, kind: kind === 'wire' && width === 1 ? 'bit' : kind, width, times: [], values: []});
+
 function declare(line, scopes, byId) {
   const [word, kind, second, id, name] = line.split(' ');
   if (word === '$scope') scopes.push(second);
   else if (word === '$upscope') scopes.pop();
-  else if (word === '$var') byId.set(id, {name: [...scopes.slice(1), name].join('.'), kind: kind === 'wire' && second === '1' ? 'bit' : kind, width: Number(second), times: [], values: []});
+  else if (word === '$var') byId.set(id, signalOf([...scopes.slice(1), name].join('.'), kind, Number(second)));
 }
 
 const HIDDEN = /\.(forced|T|Q|A|overruns)$|^mode\.|\.scan$/;
@@ -59,16 +61,24 @@ export class Waves {
     this.told = told;
     this.signals = [];
     [this.from, this.to, this.end, this.now] = [0, 1, 1, 0];
-    canvas.addEventListener('wheel', event => { event.preventDefault(); this.zoom(event.deltaY < 0 ? 0.7 : 1.4, this.share(event)); }, {passive: false});
+    canvas.addEventListener('wheel', event => this.wheel(event), {passive: false});
     canvas.addEventListener('keydown', event => this.key(event));
     new ResizeObserver(() => this.draw()).observe(canvas.parentElement);
     matchMedia('(prefers-color-scheme: dark)').addEventListener('change', () => this.draw());
   }
 
+  wheel(event) {
+    event.preventDefault();
+    this.zoom(event.deltaY < 0 ? 0.7 : 1.4, this.share(event));
+  }
+
   share(event) { return Math.max(0, Math.min(1, (event.offsetX - LABELS) / (this.canvas.clientWidth - LABELS))); }
 
   key(event) {
-    const act = {'+': () => this.zoom(0.7, 0.5), '-': () => this.zoom(1.4, 0.5), 0: () => this.fit(), ArrowLeft: () => this.move(-0.2), ArrowRight: () => this.move(0.2)}[event.key];
+    const act = {
+      '+': () => this.zoom(0.7, 0.5), '-': () => this.zoom(1.4, 0.5), 0: () => this.fit(),
+      ArrowLeft: () => this.move(-0.2), ArrowRight: () => this.move(0.2),
+    }[event.key];
     if (!act) return;
     event.preventDefault();
     act();
@@ -108,7 +118,8 @@ export class Waves {
   // ---- drawing
 
   draw() {
-    const {canvas} = this, width = canvas.parentElement.clientWidth, height = HEAD + this.signals.length * ROW + 4, ratio = devicePixelRatio;
+    const {canvas} = this, width = canvas.parentElement.clientWidth, ratio = devicePixelRatio;
+    const height = HEAD + this.signals.length * ROW + 4;
     if (!width) return;
     canvas.width = width * ratio;
     canvas.height = height * ratio;
@@ -158,7 +169,8 @@ export class Waves {
       const from = Math.max(LABELS, this.x(times[k], width));
       let next = k + 1;
       while (next < times.length && this.x(times[next], width) < from + 1) next++;
-      yield {from, to: next < times.length ? Math.min(this.x(times[next], width), width - 8) : this.x(Math.min(this.to, this.end), width), value: values[next - 1], isDense: next > k + 1};
+      const to = Math.min(this.x(next < times.length ? times[next] : Math.min(this.to, this.end), width), width - 8);
+      yield {from, to, value: values[next - 1], isDense: next > k + 1};
       k = next;
     }
   }

@@ -1,16 +1,22 @@
 /** Words of charts, scripts and tests, for colours and completion. What is right or wrong says the program alone. */
 
 const of = text => text.split(' ');
-const CHART = of('PROGRAM END_PROGRAM VAR VAR_EXTERNAL VAR_GLOBAL END_VAR CONSTANT AT STEP INITIAL_STEP END_STEP TRANSITION END_TRANSITION FROM TO '
-  + 'PRIORITY ACTION END_ACTION IF THEN ELSIF ELSE END_IF CONFIGURATION END_CONFIGURATION RESOURCE END_RESOURCE ON TASK INTERVAL SINGLE WITH '
+const CHART = of('PROGRAM END_PROGRAM VAR VAR_EXTERNAL VAR_GLOBAL END_VAR CONSTANT AT STEP INITIAL_STEP END_STEP TRANSITION END_TRANSITION '
+  + 'FROM TO PRIORITY ACTION END_ACTION IF THEN ELSIF ELSE END_IF CONFIGURATION END_CONFIGURATION RESOURCE END_RESOURCE ON TASK INTERVAL '
+  + 'SINGLE WITH '
   + 'BOOL INT DINT TIME TRUE FALSE AND OR XOR NOT MOD');
-const SCRIPT = of('SCAN INPUT FORCE RELEASE RESET READ STOP GO SINGLE BREAK UNBREAK WHEN STEP TRANSITION ACTION EPOCH END TRUE FALSE AND OR NOT');
-const TESTS = of('TEST RUN UNTIL WITHIN EXPECT ACTIVE NEVER ALWAYS INPUT FORCE RELEASE SCAN EVERY AT LET INCLUDE FAULT REFUSED RESET STOP GO SINGLE TRUE FALSE AND OR NOT');
+const SCRIPT = of('SCAN INPUT FORCE RELEASE RESET READ STOP GO SINGLE BREAK UNBREAK WHEN STEP TRANSITION ACTION EPOCH END TRUE FALSE '
+  + 'AND OR NOT');
+const TESTS = of('TEST RUN UNTIL WITHIN EXPECT ACTIVE NEVER ALWAYS INPUT FORCE RELEASE SCAN EVERY AT LET INCLUDE FAULT REFUSED RESET STOP '
+  + 'GO SINGLE TRUE FALSE AND OR NOT');
 
 export const WORDS = {chart: CHART, script: SCRIPT, tests: TESTS};
 const SETS = Object.fromEntries(Object.entries(WORDS).map(([kind, words]) => [kind, new Set(words)]));
 
-const COMMON = String.raw`(?<time>\b(?:T|TIME)#[-\w.]+)|(?<located>%[A-Za-z]+[\d.]*)|(?<number>\b(?:(?:D?INT|BOOL)#)?[-+]?\d[\d_]*\b)|(?<word>[A-Za-z_]\w*)`;
+const COMMON = [
+  String.raw`(?<time>\b(?:T|TIME)#[-\w.]+)`, String.raw`(?<located>%[A-Za-z]+[\d.]*)`,
+  String.raw`(?<number>\b(?:(?:D?INT|BOOL)#)?[-+]?\d[\d_]*\b)`, String.raw`(?<word>[A-Za-z_]\w*)`,
+].join('|');
 const TOKENS = {
   chart: new RegExp(String.raw`(?<comment>\(\*[\s\S]*?(?:\*\)|$)|\{[^}]*(?:\}|$))|${COMMON}`, 'gi'),
   script: new RegExp(String.raw`(?<comment>^[ \t]*;.*$)|${COMMON}`, 'gim'),

@@ -3,9 +3,9 @@
 
     panel.py CHART [--control] [--port N] [--program FILE] [--page FILE] [-- WORD..]
 
-It runs `sfcmon run CHART --forever`, with WORDs behind it, prints an address, and serves the page there, to this machine alone. The page plays the commands
-that the run accepts, as they come. It changes nothing, unless --control is given: then what is clicked is said to the run. The address has a
-word that nobody can guess; who knows it may look, and with --control steer. Ctrl-C ends both.
+It runs `sfcmon run CHART --forever`, with WORDs behind it, prints an address, and serves the page there, to this machine alone. The page
+plays the commands that the run accepts, as they come. It changes nothing, unless --control is given: then what is clicked is said to the
+run. The address has a word that nobody can guess; who knows it may look, and with --control steer. Ctrl-C ends both.
 
 It needs nothing but Python; the page is that of `tools/web`, or of a release.
 """
@@ -51,8 +51,8 @@ class Machine:
 
     def __init__(self, program, chart, words):
         self.lines, self.more, self.added = [], threading.Condition(), 0
-        self.process = subprocess.Popen([program, "run", chart, "--forever", *words], stdin=subprocess.PIPE, stdout=subprocess.PIPE, text=True,
-                                        bufsize=1, start_new_session=True)
+        command, pipe = [program, "run", chart, "--forever", *words], subprocess.PIPE
+        self.process = subprocess.Popen(command, stdin=pipe, stdout=pipe, text=True, bufsize=1, start_new_session=True)
         threading.Thread(target=self.listen, daemon=True).start()
 
     def listen(self):
@@ -65,7 +65,7 @@ class Machine:
             self.more.notify_all()
 
     def take(self, instant, told):
-        """A line of the run as one of a script. The run tells run instants: a halt takes no time in the script, and a SINGLE takes its own."""
+        """A line of the run as one of a script. It tells run instants, so that in the script a halt takes no time, and SINGLE its own."""
         behind = BEHIND.match(told)
         command = (behind[1] or behind[2]) if behind else told
         if command.startswith("SINGLE "):
@@ -105,7 +105,8 @@ class Panel(ThreadingHTTPServer):
     def whole_page(self):
         """The page, which may ask this server, and knows that it shows a run."""
         live = f'<meta name="live" content="{"control" if self.control else "look"}">'
-        return self.page.replace("base-uri 'none'", "connect-src 'self'; base-uri 'none'", 1).replace("<title>", f"{live}\n<title>", 1).encode()
+        page = self.page.replace("base-uri 'none'", "connect-src 'self'; base-uri 'none'", 1)
+        return page.replace("<title>", f"{live}\n<title>", 1).encode()
 
 
 class Handler(BaseHTTPRequestHandler):

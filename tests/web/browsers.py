@@ -1,7 +1,7 @@
 """Chromium by a pipe and Firefox by WebDriver BiDi, each without a window, by their own protocols and with no package.
 
-Both have the same calls: `open`, `value` of an expression of JavaScript, `click`, `type`, `press`, `move`, `size`, `picture`. What they were told on the
-console, and what was requested, stands in `console` and `requests`.
+Both have the same calls: `open`, `value` of an expression of JavaScript, `click`, `type`, `press`, `move`, `size`, `picture`. What they were
+told on the console, and what was requested, stands in `console` and `requests`.
 """
 import base64
 import json
@@ -85,8 +85,8 @@ class Chromium(Browser):
     def __init__(self, dark=False):
         super().__init__()
         ours, theirs = os.pipe(), os.pipe()
-        words = ["chromium", "--headless=new", "--no-sandbox", "--remote-debugging-pipe", "--disable-gpu", "--no-first-run", "--disable-extensions",
-                 "--disable-background-networking", "--disable-component-update", f"--user-data-dir={self.folder}", "about:blank"]
+        words = ["chromium", "--headless=new", "--no-sandbox", "--remote-debugging-pipe", "--disable-gpu", "--no-first-run",
+                 "--disable-extensions", "--disable-background-networking", "--disable-component-update", f"--user-data-dir={self.folder}", "about:blank"]
 
         def hand_over():
             os.dup2(ours[0], 13)
@@ -121,7 +121,8 @@ class Chromium(Browser):
         if method == "Runtime.consoleAPICalled":
             self.console.append(f"{said['type']}: {[it.get('value', it.get('description')) for it in said['args']]}")
         elif method == "Runtime.exceptionThrown":
-            self.console.append(f"exception: {said['exceptionDetails'].get('exception', {}).get('description', said['exceptionDetails']['text'])}")
+            details = said["exceptionDetails"]
+            self.console.append(f"exception: {details.get('exception', {}).get('description', details['text'])}")
         elif method == "Log.entryAdded":
             self.console.append(f"{said['entry']['level']}: {said['entry']['text']}")
         elif method == "Network.requestWillBeSent":
@@ -162,7 +163,8 @@ class Chromium(Browser):
         text = "\r" if key == "Enter" else key if len(key) == 1 and not modifiers else ""
         code = CODES.get(key, ord(key[0].upper()))
         for kind in ("keyDown", "keyUp"):
-            self.call("Input.dispatchKeyEvent", type=kind, key=key, windowsVirtualKeyCode=code, modifiers=modifiers, **({"text": text} if text and kind == "keyDown" else {}))
+            more = {"text": text} if text and kind == "keyDown" else {}
+            self.call("Input.dispatchKeyEvent", type=kind, key=key, windowsVirtualKeyCode=code, modifiers=modifiers, **more)
 
     def size(self, width, height):
         self.call("Emulation.setDeviceMetricsOverride", width=width, height=height, deviceScaleFactor=1, mobile=False)
@@ -176,12 +178,14 @@ class Firefox(Browser):
 
     def __init__(self, dark=False):
         super().__init__()
-        prefs = {"ui.systemUsesDarkTheme": int(dark), "browser.shell.checkDefaultBrowser": False, "datareporting.policy.dataSubmissionEnabled": False,
-                 "remote.active-protocols": 1, "toolkit.telemetry.enabled": False, "app.normandy.enabled": False, "layout.css.prefers-color-scheme.content-override": 0 if dark else 1}
+        prefs = {"ui.systemUsesDarkTheme": int(dark), "layout.css.prefers-color-scheme.content-override": 0 if dark else 1,
+                 "browser.shell.checkDefaultBrowser": False, "datareporting.policy.dataSubmissionEnabled": False, "remote.active-protocols": 1,
+                 "toolkit.telemetry.enabled": False, "app.normandy.enabled": False}
         Path(self.folder, "user.js").write_text("".join(f"user_pref({json.dumps(k)}, {json.dumps(v)});\n" for k, v in prefs.items()))
         words = ["firefox-esr", "--headless", "--no-remote", "--profile", self.folder, "--remote-debugging-port", "0", "about:blank"]
         log = open(Path(self.folder, "log"), "wb")
-        self.process = subprocess.Popen(words, stdout=log, stderr=log, env={**os.environ, "HOME": self.folder, "MOZ_DISABLE_CONTENT_SANDBOX": "1"})
+        surroundings = {**os.environ, "HOME": self.folder, "MOZ_DISABLE_CONTENT_SANDBOX": "1"}
+        self.process = subprocess.Popen(words, stdout=log, stderr=log, env=surroundings)
         self.connect(self.port())
         self.call("session.new", capabilities={})
         self.call("session.subscribe", events=["log.entryAdded", "network.beforeRequestSent"])
@@ -199,8 +203,8 @@ class Firefox(Browser):
     def connect(self, port):
         self.socket = socket.create_connection(("127.0.0.1", port), WAIT)
         key = base64.b64encode(os.urandom(16)).decode()
-        self.socket.sendall(f"GET /session HTTP/1.1\r\nHost: 127.0.0.1:{port}\r\nUpgrade: websocket\r\nConnection: Upgrade\r\nSec-WebSocket-Key: {key}\r\n"
-                            "Sec-WebSocket-Version: 13\r\n\r\n".encode())
+        self.socket.sendall(f"GET /session HTTP/1.1\r\nHost: 127.0.0.1:{port}\r\nUpgrade: websocket\r\nConnection: Upgrade\r\n"
+                            f"Sec-WebSocket-Key: {key}\r\nSec-WebSocket-Version: 13\r\n\r\n".encode())
         self.rest = b""
         while b"\r\n\r\n" not in self.rest:
             self.rest += self.socket.recv(4096)
@@ -209,7 +213,7 @@ class Firefox(Browser):
     def send(self, message):
         data, mask = json.dumps(message).encode(), os.urandom(4)
         size = len(data)
-        length = bytes([0x80 | size]) if size < 126 else b"\xfe" + struct.pack(">H", size) if size < 65536 else b"\xff" + struct.pack(">Q", size)
+        length = bytes([0x80 | size]) if size < 126 else struct.pack(">BH", 0xfe, size) if size < 65536 else struct.pack(">BQ", 0xff, size)
         repeated = (mask * (size // 4 + 1))[:size]
         masked = (int.from_bytes(data, "big") ^ int.from_bytes(repeated, "big")).to_bytes(size, "big") if size else b""
         self.socket.sendall(b"\x81" + length + mask + masked)

@@ -1,7 +1,7 @@
 """drive.py BROWSER INDEX PROGRAM [PICTURES]: what is clicked and typed in the page, with what is seen behind each.
 
-BROWSER is chromium or firefox. A number of interactions in the order of this file, each over what the ones before have left; then links that mean harm.
-PROGRAM plays the script that the page has made. The last line is 'N passed, M failed'.
+BROWSER is chromium or firefox. Interactions come in the order of this file, each over what the ones before have left; then links that mean
+harm. PROGRAM plays the script that the page has made. The last line is 'N passed, M failed'.
 """
 import base64
 import gzip
@@ -300,7 +300,8 @@ def a_fault_is_told_at_its_place(site):
 @step
 def a_click_goes_to_the_fault(site):
     site.click("#faults-chart .fault")
-    same(site.value("(() => { const it = document.activeElement; return it.value.slice(it.selectionStart, it.selectionEnd); })()"), "END_STEP")
+    chosen = "(() => { const it = document.activeElement; return it.value.slice(it.selectionStart, it.selectionEnd); })()"
+    same(site.value(chosen), "END_STEP")
 
 
 @step
@@ -314,12 +315,13 @@ def a_mended_chart_runs_on(site):
 
 @step
 def names_are_completed(site):
-    site.value("(() => { const it = document.querySelector('#panel-chart textarea'); it.focus(); it.setSelectionRange(0, 0); return true; })()")
+    area = "document.querySelector('#panel-chart textarea')"
+    site.value(f"(() => {{ const it = {area}; it.focus(); it.setSelectionRange(0, 0); return true; }})()")
     for letter in "DrainV":
         site.press(letter)
     site.until("#offered-chart", "DrainValve")
     site.press("Enter")
-    site.wait("document.querySelector('#panel-chart textarea').value.startsWith('DrainValve')")
+    site.wait(f"{area}.value.startsWith('DrainValve')")
     site.put("chart", MIXING)
 
 
@@ -395,9 +397,11 @@ def a_new_instance_replays_behind_a_trap(site):
 
 
 # Throws what a trap throws, once, where it is asked for.
-TRAP = """const make = WebAssembly.instantiate; WebAssembly.instantiate = async (...all) => { const made = await make(...all); if (!made.exports) return made;
-const lib = {...made.exports, sfc_command: (...words) => { if (globalThis.trapNext) { globalThis.trapNext = false; throw new WebAssembly.RuntimeError('trap'); }
-return made.exports.sfc_command(...words); }}; return {exports: lib}; };"""
+TRAP = """const make = WebAssembly.instantiate;
+WebAssembly.instantiate = async (...all) => { const {exports} = await make(...all); return {exports: {...exports, sfc_command: (...words) => {
+  if (!globalThis.trapNext) return exports.sfc_command(...words);
+  globalThis.trapNext = false;
+  throw new WebAssembly.RuntimeError('trap'); }}}; };"""
 
 
 def packed(text):

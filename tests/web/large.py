@@ -1,4 +1,7 @@
-"""large.py INDEX: a chart of 1,000 steps and a script of 20,000 lines in the page, in Chromium, and how long they take. The last line is 'N passed, M failed'."""
+"""large.py INDEX: a chart of 1,000 steps and a script of 20,000 lines in the page, in Chromium, and how long they take.
+
+The last line is 'N passed, M failed'.
+"""
 import sys
 from pathlib import Path
 
@@ -12,14 +15,15 @@ SCAN, SLIDE, REPLAY = 60, 200, 30_000  # milliseconds
 def ring(count):
     steps = "".join(f"  {'' if k else 'INITIAL_'}STEP S{k}:\n    Lamp(N);\n  END_STEP\n" for k in range(count))
     ways = "".join(f"  TRANSITION FROM S{k} TO S{(k + 1) % count} := TRUE; END_TRANSITION\n" for k in range(count))
-    return (f"PROGRAM Ring\n{steps}{ways}END_PROGRAM\nCONFIGURATION C\n  RESOURCE R ON Plc\n    VAR_GLOBAL\n      Lamp AT %QX0.0 : BOOL;\n    END_VAR\n"
-            "    TASK Main(INTERVAL := T#100ms, PRIORITY := 1);\n    PROGRAM P WITH Main : Ring;\n  END_RESOURCE\nEND_CONFIGURATION\n")
+    return (f"PROGRAM Ring\n{steps}{ways}END_PROGRAM\nCONFIGURATION C\n  RESOURCE R ON Plc\n    VAR_GLOBAL\n      Lamp AT %QX0.0 : BOOL;\n"
+            "    END_VAR\n    TASK Main(INTERVAL := T#100ms, PRIORITY := 1);\n    PROGRAM P WITH Main : Ring;\n  END_RESOURCE\nEND_CONFIGURATION\n")
 
 
-# The middle one of the times of so many clicks, each behind a frame that has shown what the one before did: in milliseconds, without waiting.
-CLICKS = """(async () => { const it = document.getElementById('%s'), rest = () => new Promise(done => requestAnimationFrame(() => setTimeout(done)));
-  const times = []; for (let k = 0; k < %d; k++) { const from = performance.now(); it.click(); await new Promise(done => setTimeout(done));
-  document.body.offsetHeight; times.push(performance.now() - from); await rest(); } return times.sort((a, b) => a - b)[times.length >> 1]; })()"""
+# The middle one of the times of so many clicks, each behind a frame that has shown what the one before did: in milliseconds.
+CLICKS = """(async () => { const it = document.getElementById('%s'), times = [], soon = () => new Promise(done => setTimeout(done));
+  for (let k = 0; k < %d; k++) { const from = performance.now(); it.click(); await soon(); document.body.offsetHeight;
+  times.push(performance.now() - from); await new Promise(done => requestAnimationFrame(() => setTimeout(done))); }
+  return times.sort((a, b) => a - b)[times.length >> 1]; })()"""
 # The same of going to places by the slider.
 SLIDES = """(async () => { const it = document.getElementById('slider'), where = document.getElementById('where'), times = [];
   for (const place of [%s]) { const from = performance.now(); it.value = place; it.dispatchEvent(new Event('input'));

@@ -1,5 +1,7 @@
-"""panel.py INDEX PROGRAM: the page over a run (share/python/panel.py), in Chromium: looked at, and steered. The last line is 'N passed, M failed'."""
-import os
+"""panel.py INDEX PROGRAM: the page over a run (share/python/panel.py), in Chromium: looked at, and steered.
+
+The last line is 'N passed, M failed'.
+"""
 import subprocess
 import sys
 import tempfile
@@ -85,8 +87,9 @@ def replayed(page, program):
     """What the page has heard is a script that the program plays with nothing refused."""
     script = page.script()
     with tempfile.TemporaryDirectory() as folder:
-        Path(folder, "script").write_text(script)
-        done = subprocess.run([program, "replay", "--strict", str(CHART), os.path.join(folder, "script")], capture_output=True, text=True, check=False)
+        file = Path(folder, "script")
+        file.write_text(script)
+        done = subprocess.run([program, "replay", "--strict", str(CHART), str(file)], capture_output=True, text=True, check=False)
     same(done.returncode, 0)
     assert done.stdout.count("\n  Tank1 ") > 5
 
@@ -107,7 +110,8 @@ def main():
                 attempt("its script", lambda: replayed(page, program))
                 attempt("strangers", lambda: strangers(address))
             attempt("the console", lambda: same(browser.console, []))
-            attempt("requests", lambda: same([it for it in browser.requests if not it.startswith((address, "blob:", "data:", "about:"))], []))
+            others = [it for it in browser.requests if not it.startswith((address, "blob:", "data:", "about:"))]
+            attempt("requests", lambda: same(others, []))
         finally:
             browser.close()
             process.terminate()

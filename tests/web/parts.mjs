@@ -16,7 +16,8 @@ function same(what, found, wanted) {
   else { failed++; console.log(`not as it should be: ${what}: ${a} for ${b}`); }
 }
 
-for (const [micros, text] of [[0, 'T#0s'], [90061001500, 'T#1d_1h_1m_1s_1.5ms'], [200000, 'T#200ms'], [1, 'T#0.001ms'], [-1500, 'T#-1.5ms'], [3.6e9, 'T#1h']]) {
+const TIMES = [[0, 'T#0s'], [90061001500, 'T#1d_1h_1m_1s_1.5ms'], [200000, 'T#200ms'], [1, 'T#0.001ms'], [-1500, 'T#-1.5ms'], [3.6e9, 'T#1h']];
+for (const [micros, text] of TIMES) {
   same(`the text of ${micros}`, timeText(micros), text);
   if (micros >= 0) same(`the time of ${text}`, readTime(text), micros);
 }
@@ -25,7 +26,9 @@ for (const word of ['', 'T#', '5s', 'T#5', 'T#s', 'T#5s x', 'SCAN']) same(`the t
 
 const doc = {chart: 'PROGRAM é </script>', script: 'T#0s SCAN Main\n', place: 1};
 same('a link', await readLink(await writeLink(doc)), doc);
-for (const link of ['', '#', '#a', '#%ff', '#AAAA', `#${'A'.repeat(4_000_000)}`, 'x'.repeat(100)]) same(`a link ${link.slice(0, 9)}`, await readLink(link), null);
+for (const link of ['', '#', '#a', '#%ff', '#AAAA', `#${'A'.repeat(4_000_000)}`, 'x'.repeat(100)]) {
+  same(`a link ${link.slice(0, 9)}`, await readLink(link), null);
+}
 
 const listing = readListing(`PROGRAM A
   VAR
@@ -55,14 +58,17 @@ same('tasks', listing.tasks, [{name: 'Main', interval: 'T#10ms'}]);
 same('associations', listing.types.get('a').steps, [{name: 'Begin', actions: ['Lamp', 'Count']}]);
 
 const [fault] = readReports('chart:4:3: 4 Syntax: END_STEP\n    4 |   END_STEP\n      |   ^^^^^^^^\n  in: step Ready\n  mend: ;\n');
-same('a report', fault, {line: 4, column: 3, length: 8, title: '4 Syntax: END_STEP', details: ['in: step Ready', 'mend: ;'], isWarning: false});
+const details = ['in: step Ready', 'mend: ;'];
+same('a report', fault, {line: 4, column: 3, length: 8, title: '4 Syntax: END_STEP', details, isWarning: false});
 same('no fault', readReports('no fault\n'), []);
 
 const why = readWhy('P TRANSITION 1 Begin enabled\n  step A is active\nP TRANSITION 2 not enabled\n');
 same('WHY', [...why], [['P 1', 'P TRANSITION 1 Begin enabled\n  step A is active'], ['P 2', 'P TRANSITION 2 not enabled']]);
-same('POINTS', [...readPoints('T#0s BREAK P STEP A WHEN n = INT#0\nT#0s BREAK P TRANSITION 2\n')], [['p step a', 'n = INT#0'], ['p transition 2', '']]);
+const points = readPoints('T#0s BREAK P STEP A WHEN n = INT#0\nT#0s BREAK P TRANSITION 2\n');
+same('POINTS', [...points], [['p step a', 'n = INT#0'], ['p transition 2', '']]);
 
-const dump = readDump('$scope module Cpu $end\n$var wire 1 ! Lamp $end\n$var integer 16 " n $end\n$upscope $end\n#0\n1!\nb1111111111111111 "\n#5\n0!\n');
+const head = '$scope module Cpu $end\n$var wire 1 ! Lamp $end\n$var integer 16 " n $end\n$upscope $end\n';
+const dump = readDump(`${head}#0\n1!\nb1111111111111111 "\n#5\n0!\n`);
 same('a dump', dump.signals.map(it => [it.name, it.times, it.values]), [['Lamp', [0, 5], [1, 0]], ['n', [0], [-1]]]);
 same('colours', piecesOf('STEP A: (* STEP *) T#1s', 'chart').map(it => it.name), ['word', 'comment', 'time']);
 same('enabled', [...enabledOf(why)], ['P 1']);

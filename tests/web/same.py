@@ -1,7 +1,7 @@
 """same.py PROGRAM MODULE COUNT [SEED]: whether the module for pages tells the same as the program, to the byte.
 
-Of each example with its script and its tests, of COUNT random plants with their scripts (tests/reading), and of damaged charts and scripts. The
-last line is 'N passed, M failed'; what differs stands above it.
+Of each example with its script and its tests, of COUNT random plants with their scripts (tests/reading), and of damaged charts and scripts.
+The last line is 'N passed, M failed'; what differs stands above it.
 """
 import base64
 import hashlib
@@ -97,7 +97,8 @@ def damaged(count, seed):
     for k in range(count):
         case = rng.choice(sound)
         which = rng.choice(["chart", "chart", "script"])
-        yield f"damaged {seed} {k}", {**case, which: damage(rng, case[which])}, ["play", "list", "why", "why_script"] + ["why_tests"] * ("tests" in case)
+        calls = ["play", "list", "why", "why_script"] + ["why_tests"] * ("tests" in case)
+        yield f"damaged {seed} {k}", {**case, which: damage(rng, case[which])}, calls
 
 
 def say(text):
@@ -120,7 +121,8 @@ def main():
     seed = int(sys.argv[4]) if len(sys.argv) > 4 else 1
     cases = [*examples(), *plants(count, seed), *damaged(count // 4, seed)]
     rows = [json.dumps({"calls": calls, **{k: base64.b64encode(v).decode() for k, v in case.items()}}) for _, case, calls in cases]
-    ran = subprocess.run(["node", str(HERE / "told.mjs"), module], input="\n".join(rows) + "\n", capture_output=True, text=True, check=False)
+    words = ["node", str(HERE / "told.mjs"), module]
+    ran = subprocess.run(words, input="\n".join(rows) + "\n", capture_output=True, text=True, check=False)
     answers = [json.loads(it) for it in ran.stdout.splitlines()]
     if len(answers) != len(cases):
         print(f"not as it should be: the module answers {len(answers)} of {len(cases)} cases: {ran.stderr[:600]}")

@@ -1,5 +1,5 @@
-// told.mjs MODULE: what the module tells of charts and scripts. Each line of standard input is a case as JSON: a number of texts in base64, by name;
-// of each the answers by the tools' names come out as JSON, with the sum of each text in place of the text where it is long.
+// told.mjs MODULE: what the module tells of charts and scripts. Each line of standard input is a case as JSON: texts in base64, by name, and the
+// calls that are wanted. Of each call the code, the sum and the length of what it told come out, as JSON by the names of the calls.
 import fs from 'node:fs';
 import crypto from 'node:crypto';
 import readline from 'node:readline';
@@ -16,7 +16,8 @@ function lines(chart, script) {
   const code = sfc.open(chart, script), parts = [];
   for (let from = 0; !code && from < script.length;) {
     const end = script.indexOf(10, from), to = end < 0 ? script.length : end + 1;
-    parts.push(sfc.bytes((...out) => sfc.with([script.subarray(from, to)], (...words) => sfc.lib.sfc_command(sfc.handle, ...words, ...out))).bytes);
+    const say = (...out) => sfc.with([script.subarray(from, to)], (...words) => sfc.lib.sfc_command(sfc.handle, ...words, ...out));
+    parts.push(sfc.bytes(say).bytes);
     from = to;
   }
   if (!code) parts.push(sfc.bytes((...out) => sfc.lib.sfc_image_text(sfc.handle, ...out)).bytes);

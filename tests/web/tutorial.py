@@ -1,5 +1,7 @@
-"""tutorial.py BROWSER INDEX: plays the first five parts of docs/TUTORIAL.md in the page: each text and change is put into its editor, and what the page
-then tells is what the program prints there. The last line is 'N passed, M failed'.
+"""tutorial.py BROWSER INDEX: plays the first five parts of docs/TUTORIAL.md in the page.
+
+Each text and change is put into its editor, and what the page then tells is what the program prints there. The last line is
+'N passed, M failed'.
 """
 import re
 import sys
@@ -68,7 +70,8 @@ class Tutorial:
 
     def faults(self, kind, name):
         """The reports of a text as the page shows them, in the form of the program, without its picture of the line."""
-        heads = self.page.value(f"[...document.querySelectorAll('#faults-{kind} > *')].map(it => (it.tagName === 'BUTTON' ? '' : '  ') + it.textContent)")
+        all_ = f"[...document.querySelectorAll('#faults-{kind} > *')]"
+        heads = self.page.value(f"{all_}.map(it => (it.tagName === 'BUTTON' ? '' : '  ') + it.textContent)")
         return "".join(f"{it}\n" for it in ([f"{name}:{heads[0]}", *heads[1:]] if heads else ["no fault"]))
 
     def replayed(self):

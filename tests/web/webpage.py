@@ -15,7 +15,8 @@ class Webpage:
         self.ready()
 
     def ready(self):
-        self.browser.wait("document.readyState === 'complete' && document.querySelector('main')?.getAttribute('aria-busy') === 'false'", 180)
+        self.browser.wait("document.readyState === 'complete'", 180)
+        self.browser.wait("document.querySelector('main')?.getAttribute('aria-busy') === 'false'", 180)
 
     def text(self, selector):
         return self.browser.value(f"document.querySelector({json.dumps(selector)})?.textContent ?? null")
@@ -35,7 +36,8 @@ class Webpage:
         self.browser.wait(f"(document.querySelector({quoted})?.textContent ?? '').includes({json.dumps(text)})", seconds)
 
     def until_has(self, selector, name, is_=True, seconds=60):
-        self.browser.wait(f"Boolean(document.querySelector({json.dumps(selector)})?.classList.contains({json.dumps(name)})) === {json.dumps(is_)}", seconds)
+        has = f"Boolean(document.querySelector({json.dumps(selector)})?.classList.contains({json.dumps(name)}))"
+        self.browser.wait(f"{has} === {json.dumps(is_)}", seconds)
 
     def tab(self, name):
         self.browser.click(f"#tab-{name}")
@@ -43,7 +45,8 @@ class Webpage:
     def put(self, kind, text):
         """Puts a text in the place of the one that is there, as a paste does."""
         area = f"document.querySelector('#panel-{kind} textarea')"
-        self.browser.value(f"(() => {{ const it = {area}; it.value = {json.dumps(text)}; it.dispatchEvent(new Event('input')); return true; }})()")
+        put = f"it.value = {json.dumps(text)}; it.dispatchEvent(new Event('input')); return true;"
+        self.browser.value(f"(() => {{ const it = {area}; {put} }})()")
         self.ready()
 
     def choose(self, selector, value):
