@@ -187,9 +187,10 @@ class Page {
 
   // ---- texts
 
+  /** The names of the last chart that had no fault, which one that is being written mostly has. */
   get names() {
-    if (!this.play.names) return [];
-    const {programs, tasks, variables} = this.play.names;
+    if (!this.known) return [];
+    const {programs, tasks, variables} = this.known;
     const inPrograms = programs.flatMap(it => [it.name, ...it.steps, ...it.transitions, ...it.actions]);
     return [...variables, ...variables.map(it => it.split('.').at(-1)), ...tasks, ...inPrograms].filter(Boolean);
   }
@@ -225,6 +226,7 @@ class Page {
   afterLoad() {
     if (byId('mode').dataset.mode === 'faulty') this.notice('');
     this.busy(false);
+    this.known = this.play.names;
     byId('drawing').classList.remove('stale');
     this.enable(true);
     this.moved();

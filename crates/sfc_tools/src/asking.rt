@@ -87,9 +87,9 @@ fn answered(
     }
 }
 
-/// What `sfcmon debug` answers to the lines of questions, when those of a script were said: WHY, SHOW, IMAGE, POINTS, TRACE and other words of
-/// the prompt. No steps are taken that a line leaves under way, and no file is written. The number of the chart's first fault where it has one,
-/// -4 where memory was refused, -6 where the buffer is too short; `needed` tells the length.
+/// What `sfcmon debug` answers to the lines of questions, when those of a script were said: WHY, SHOW, IMAGE, POINTS, TRACE and other words
+/// of the prompt. No steps are taken that a line leaves under way, and no file is written. The number of the chart's first fault where it
+/// has one, -4 where memory was refused, -6 where the buffer is too short; `needed` tells the length.
 #[unsafe(no_mangle)]
 pub extern "C" fn sfc_ask(
     alloc: Global,

@@ -36,8 +36,8 @@ fn covered(alloc: Global, chart: &[u8], script: &[u8]) -> Result<Vec<u8>, i32>
     }
 }
 
-/// What `sfcmon cover` prints of a script on a chart. The number of the chart's first fault where it has one, -5 where a line of the script is
-/// no command, -4 where memory was refused, -6 where the buffer is too short; `needed` tells the length.
+/// What `sfcmon cover` prints of a script on a chart. The number of the chart's first fault where it has one, -5 where a line of the script
+/// is no command, -4 where memory was refused, -6 where the buffer is too short; `needed` tells the length.
 #[unsafe(no_mangle)]
 pub extern "C" fn sfc_cover(
     alloc: Global,

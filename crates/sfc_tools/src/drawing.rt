@@ -35,8 +35,8 @@ fn drawn_behind(alloc: Global, chart: &[u8], script: &[u8]) -> Result<Vec<u8>, i
     }
 }
 
-/// The drawing that `sfcmon draw` prints of a chart: its program types. The number of its first fault where it has one, -7 where the drawing
-/// would be too large, -4 where memory was refused, -6 where the buffer is too short; `needed` tells the length.
+/// The drawing that `sfcmon draw` prints of a chart: its program types. The number of its first fault where it has one, -7 where the
+/// drawing would be too large, -4 where memory was refused, -6 where the buffer is too short; `needed` tells the length.
 #[unsafe(no_mangle)]
 pub extern "C" fn sfc_draw(alloc: Global, chart: &[u8], into: &mut [u8], needed: &mut usize) -> i32
     ensures { (told : Result (List ℕ) ℤ) × IsDrawing chart.now told × GivesOr told into.old into.new needed.new result }
@@ -44,8 +44,8 @@ pub extern "C" fn sfc_draw(alloc: Global, chart: &[u8], into: &mut [u8], needed:
     give_or(drawn(alloc, chart), into, needed)
 }
 
-/// The drawing that `sfcmon draw --after` prints of a chart and a script: its program instances, as they stand when the script was played. The
-/// codes are those of `sfc_draw`, and -5 where a line of the script is no command.
+/// The drawing that `sfcmon draw --after` prints of a chart and a script: its program instances, as they stand when the script was played.
+/// The codes are those of `sfc_draw`, and -5 where a line of the script is no command.
 #[unsafe(no_mangle)]
 pub extern "C" fn sfc_draw_after(
     alloc: Global,

@@ -152,8 +152,8 @@ fn or_code(told: Result<Vec<u8>, ReplayError>) -> Result<Vec<u8>, i32>
     }
 }
 
-/// What `sfcmon why --all` prints of a chart, whose name is `chart`: where its faults are, and what mends them. -4 where memory was refused, -6
-/// where the buffer is too short; `needed` tells the length.
+/// What `sfcmon why --all` prints of a chart, whose name is `chart`: where its faults are, and what mends them. -4 where memory was
+/// refused, -6 where the buffer is too short; `needed` tells the length.
 #[unsafe(no_mangle)]
 pub extern "C" fn sfc_why(alloc: Global, chart: &[u8], into: &mut [u8], needed: &mut usize) -> i32
     ensures { (told : Result (List ℕ) ℤ) × IsOfAll chart.now told × GivesOr told into.old into.new needed.new result }

@@ -37,8 +37,8 @@ fn tested(alloc: Global, chart: &[u8], tests: &[u8]) -> Result<Vec<u8>, i32>
     }
 }
 
-/// What `sfcmon test` prints of a chart and a file of tests that includes no other. The number of the chart's first fault where it has one, -5
-/// where a line of the tests says nothing, -4 where memory was refused, -6 where the buffer is too short; `needed` tells the length.
+/// What `sfcmon test` prints of a chart and a file of tests that includes no other. The number of the chart's first fault where it has one,
+/// -5 where a line of the tests says nothing, -4 where memory was refused, -6 where the buffer is too short; `needed` tells the length.
 #[unsafe(no_mangle)]
 pub extern "C" fn sfc_test(
     alloc: Global,
