@@ -222,7 +222,6 @@ export class Editor {
     this.picked = k;
     [...this.list.children].forEach((it, n) => it.setAttribute('aria-selected', String(n === k)));
     this.area.setAttribute('aria-activedescendant', this.list.children[k].id);
-    this.area.setAttribute('aria-expanded', 'true');
   }
 
   accept(k) {
@@ -235,7 +234,6 @@ export class Editor {
 
   close() {
     this.list.hidden = true;
-    this.area.setAttribute('aria-expanded', 'false');
     this.area.removeAttribute('aria-activedescendant');
   }
 }

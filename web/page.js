@@ -29,8 +29,10 @@ class Page {
   constructor(module) {
     this.remote = new Remote(module, WORKER);
     this.play = new Play(module, this.remote);
-    this.run = new Run(this.play, {moved: () => this.moved(), ended: told => this.runEnded(told)});
-    this.texts = new Texts(this.remote, {edited: kind => this.edited(kind), checked: good => this.checked(good)});
+    this.run = new Run(this.play, {moved: () => this.moved(), ended: told => this.runEnded(told), failed: error => this.runFailed(error)});
+    this.texts = new Texts(this.remote, {
+      edited: kind => this.edited(kind), checked: good => this.checked(good), failed: error => this.checkFailed(error),
+    });
     this.drawing = new Drawing(byId('drawing'));
     this.variables = new Variables(byId('variables'), {
       input: (variable, value) => this.say(`INPUT ${variable.name} ${value}`),
@@ -185,6 +187,11 @@ class Page {
     this.moved();
   }
 
+  runFailed(error) {
+    this.stopRun();
+    this.act(() => { throw error; });
+  }
+
   // ---- texts
 
   /** The names of the last chart that had no fault, which one that is being written mostly has. */
@@ -207,12 +214,17 @@ class Page {
     this.last = this.last.then(() => chart && script ? this.load() : this.unload(chart)).catch(error => this.notice(String(error), true));
   }
 
+  checkFailed(error) {
+    this.unload(false);
+    this.notice(`The texts can't be looked at: ${error}`, true);
+  }
+
   async load() {
     const {chart, script} = this.texts.editors, place = this.firstPlace ?? this.play.place;
     this.firstPlace = null;
     if (this.play.isOpen && chart.text === this.play.doc.chart && script.text === this.play.script) return this.afterLoad();
     const code = await this.play.open({chart: chart.text, script: script.text, place});
-    if (code) return this.notice(`The chart isn't opened: ${code}`, true);
+    if (code) return this.checkFailed(new Error(`the chart isn't opened: ${code}`));
     await this.draw();
     this.afterLoad();
   }
@@ -432,6 +444,7 @@ class Page {
     const text = point.kind === 'TRANSITION' && this.play.isOpen ? await this.waitsOf(point) : point.element.getAttribute('aria-label');
     const waits = byId('waits'), host = byId('chart').getBoundingClientRect(), at = point.element.getBoundingClientRect();
     if (!point.element.isConnected) return;
+    point.element.setAttribute('aria-describedby', 'waits');
     waits.textContent = text;
     waits.hidden = false;
     waits.style.left = `${Math.max(4, Math.min(at.left - host.left, host.width - waits.offsetWidth - 8))}px`;

@@ -31,6 +31,8 @@ export class Play {
     this.kept = [];
     this.names = null;
     this.traps = 0;
+    /** Whether it is on its way to a place, so that nothing may be said. */
+    this.isMoving = false;
   }
 
   get place() { return this.doc.place; }
@@ -84,12 +86,15 @@ export class Play {
   /** Goes to a place of the script. @param {number} place */
   async go(place) {
     const to = Math.max(0, Math.min(place, this.lines.length));
+    this.isMoving = true;
     try {
       if (to - this.nearest(to).place > AT_ONCE) await this.goFar(to);
       else this.goNear(to);
       this.traps = 0;
     } catch (error) {
       await this.revive(error, {...this.doc, place: Math.min(to, this.place)});
+    } finally {
+      this.isMoving = false;
     }
   }
 

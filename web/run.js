@@ -5,7 +5,7 @@ const BUDGET = 24; // milliseconds of work in a frame
 export class Run {
   /**
    * @param {import('./play.js').Play} play
-   * @param {{moved: () => void, ended: (told: {code: number, text: string} | null) => void}} listener
+   * @param {{moved: () => void, ended: (told: {code: number, text: string} | null) => void, failed: (error: Error) => void}} listener
    */
   constructor(play, listener) {
     this.play = play;
@@ -35,14 +35,20 @@ export class Run {
     const now = performance.now();
     this.clock += Math.min(now - this.last, 250) * 1000 * this.speed;
     this.last = now;
-    const told = this.work(now + BUDGET);
-    this.listener.moved();
-    if (told) {
+    try {
+      const told = this.play.isOpen && !this.play.isMoving ? this.work(now + BUDGET) : null;
+      this.listener.moved();
+      if (told) this.end(told);
+      else requestAnimationFrame(() => this.tick());
+    } catch (error) {
       this.isRunning = false;
-      this.listener.ended(told.code ? told : null);
-    } else {
-      requestAnimationFrame(() => this.tick());
+      this.listener.failed(error);
     }
+  }
+
+  end(told) {
+    this.isRunning = false;
+    this.listener.ended(told.code ? told : null);
   }
 
   /** Scans what has come due; what ends the run, if something does. @param {number} end */

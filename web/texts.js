@@ -9,7 +9,8 @@ const REST = 250, MOST_SHOWN = 20;
 export class Texts {
   /**
    * @param {import('./remote.js').Remote} remote
-   * @param {{edited: (kind: string) => void, checked: (good: {chart: boolean, script: boolean}) => void}} listener
+   * @param {{edited: (kind: string) => void, checked: (good: {chart: boolean, script: boolean}) => void,
+   *   failed: (error: Error) => void}} listener
    */
   constructor(remote, listener) {
     this.remote = remote;
@@ -30,6 +31,14 @@ export class Texts {
 
   /** Looks for faults, and tells which texts have none. */
   async check() {
+    try {
+      await this.look();
+    } catch (error) {
+      this.listener.failed(error);
+    }
+  }
+
+  async look() {
     clearTimeout(this.timer);
     const version = ++this.version, {chart, script, tests} = this.editors;
     const inChart = await this.faults('why', chart.text);
