@@ -51,6 +51,9 @@ if [ "$mode" = full ]; then
     try "the page in $browser" python3 "$here/drive.py" "$browser" "$web/index.html" "$program"
     try "the tutorial in $browser" python3 "$here/tutorial.py" "$browser" "$web/index.html"
   done
-  if command -v chromium >/dev/null; then try 'large charts and long scripts' python3 "$here/large.py" "$web/index.html"; fi
+  if command -v chromium >/dev/null; then
+    try 'large charts and long scripts' python3 "$here/large.py" "$web/index.html"
+    try 'a run in the page' python3 "$here/panel.py" "$web/index.html" "$program"
+  fi
 fi
 tell_counts

@@ -29,6 +29,7 @@ export function piecesOf(text, kind) {
     const name = Object.keys(found.groups).find(it => found.groups[it] !== undefined);
     if (name === 'word' && !SETS[kind].has(found[0].toUpperCase())) continue;
     pieces.push({from: found.index, to: found.index + found[0].length, name});
+    if (kind === 'tests' && found[0].toUpperCase() === 'TEST') break; // its name stands behind it
   }
   return pieces;
 }

@@ -71,6 +71,7 @@ const head = '$scope module Cpu $end\n$var wire 1 ! Lamp $end\n$var integer 16 "
 const dump = readDump(`${head}#0\n1!\nb1111111111111111 "\n#5\n0!\n`);
 same('a dump', dump.signals.map(it => [it.name, it.times, it.values]), [['Lamp', [0, 5], [1, 0]], ['n', [0], [-1]]]);
 same('colours', piecesOf('STEP A: (* STEP *) T#1s', 'chart').map(it => it.name), ['word', 'comment', 'time']);
+same('colours of a title', piecesOf('TEST let it scan', 'tests').length, 1);
 same('enabled', [...enabledOf(why)], ['P 1']);
 
 console.log(`${passed} passed, ${failed} failed`);
