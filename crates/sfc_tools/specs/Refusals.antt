@@ -9,9 +9,13 @@ use Rattle.sfc_tools.specs.Codes.{number_of, no_line, no_memory, too_large}
 abbrev pub read_of : List ℕ → List ℕ
 read_of text = take most text
 
--- the chart is refused for a fault with this number
+-- a text is refused for a fault with this number
+abbrev pub IsOfText : List ℕ → ℤ → Type 0
+IsOfText text code = (error : ChartError) × IsRefusedFor text error × (code ≡ number_of error)
+
+-- the chart, as it is read
 abbrev pub IsOfChart : List ℕ → ℤ → Type 0
-IsOfChart chart code = (error : ChartError) × IsRefusedFor (read_of chart) error × (code ≡ number_of error)
+IsOfChart chart code = IsOfText (read_of chart) code
 
 -- the chart is a plant, over which the script has a line that is no command
 abbrev pub IsOfScript : List ℕ → List ℕ → ℤ → Type 0

@@ -1,5 +1,5 @@
 -- What `why` prints: the pages of reports, one behind the other.
-use Rattle.std.specs.Prelude.{◌≡◌, ℕ, List, [], ◌∷◌, ◌++◌, codes, ℤ, Option, Some, None, Result, Ok, Err, ⊤}
+use Rattle.std.specs.Prelude.{◌≡◌, ◌⊎◌, ℕ, List, [], ◌∷◌, ◌++◌, codes, ℤ, Option, Some, None, Result, Ok, Err, ⊤}
 use Rattle.sfc_explain.specs.declared.explanation.Explanation.{Explanation}
 use Rattle.sfc_plant.specs.Plants.{PlantData}
 use Rattle.sfc_replay.specs.sfc_load.Accepted.{IsAccepted}
@@ -10,7 +10,7 @@ use Rattle.sfc_why.specs.declared.report.Report.{Report}
 use Rattle.sfc_why.specs.declared.script.ScriptTold.{ScriptTold}
 use Rattle.sfc_why.specs.declared.script.ScriptTold.TheVariants as told
 use Rattle.sfc_tools.specs.Codes.{no_memory}
-use Rattle.sfc_tools.specs.Refusals.{IsNoneOf}
+use Rattle.sfc_tools.specs.Refusals.{IsOfText}
 
 -- what is printed where there is no fault
 abbrev pub none_text : List ℕ
@@ -49,4 +49,4 @@ IsOfTold (told.NoFault warnings) text = ArePages (codes "script") warnings.items
 abbrev pub IsOfLines : List ℕ → List ℕ → Result (List ℕ) ℤ → Type 0
 IsOfLines chart script (Ok text) =
     (plant : PlantData) × IsAccepted chart plant × ((said : ScriptTold) × ExplainsScript plant script said × IsOfTold said text)
-IsOfLines chart script (Err code) = IsNoneOf chart code
+IsOfLines chart script (Err code) = IsOfText chart code ⊎ (code ≡ no_memory)
