@@ -1,6 +1,6 @@
 /**
- * What a listing of `sfcmon list` says of variables, steps and tasks, line by line. It is a layout of the program's own, so nothing is judged
- * here.
+ * What a listing of `sfcmon list` says of variables, steps and tasks, line by line. It is a layout of the program's own, so nothing is
+ * judged here.
  */
 
 /** @typedef {{name: string, type: string, location: string}} Variable */

@@ -1,15 +1,16 @@
 /** The page: what is clicked becomes a line of the script, and how all stands behind it is shown. */
 import {EXAMPLES, MODULE, WORKER} from './assets.js';
-import {CODE, KIND, MODE} from './sfc.js';
+import {CODE, MODE} from './sfc.js';
 import {Play} from './play.js';
 import {Run} from './run.js';
 import {Remote} from './remote.js';
 import {Texts} from './texts.js';
-import {Drawing, keyOf} from './drawing.js';
-import {Variables, valueText} from './variables.js';
+import {Drawing} from './drawing.js';
+import {Pointing} from './pointing.js';
+import {Variables} from './variables.js';
 import {Waves} from './waves.js';
 import {makeTabs} from './tabs.js';
-import {button, closePopover, field, showPopover} from './popover.js';
+import {button, closePopover, showPopover} from './popover.js';
 import {enabledOf, readPoints, readWhy} from './asking.js';
 import {showLines, showTold} from './results.js';
 import {fromBase64, readLink, unpack, writeLink} from './link.js';
@@ -17,7 +18,7 @@ import {openFiles, saveFile} from './files.js';
 import {listen, liveChart, liveMode, tellRun} from './live.js';
 import {timeText} from './time.js';
 
-const REST = 150, LONG_REST = 800, LONG = 200_000, HOVER = 160;
+const REST = 150, LONG_REST = 800, LONG = 200_000;
 const MODES = {[MODE.running]: 'running', [MODE.halted]: 'halted', [MODE.ended]: 'ended'};
 const KEYS = [['S', 'Scan'], ['R', 'Run, or pause'], ['H', 'Halt'], ['N', 'Single'], ['G', 'Go'], ['[ and ]', 'back and forward'],
   ['Ctrl+Space', 'names and words, in a text'], ['arrow keys', 'from element to element of the chart'], ['Enter', 'a breakpoint there'],
@@ -34,9 +35,10 @@ class Page {
       edited: kind => this.edited(kind), checked: good => this.checked(good), failed: error => this.checkFailed(error),
     });
     this.drawing = new Drawing(byId('drawing'));
+    this.pointing = new Pointing(this);
     this.variables = new Variables(byId('variables'), {
       input: (variable, value) => this.say(`INPUT ${variable.name} ${value}`),
-      force: (variable, anchor, isForced) => this.askForce(variable, anchor, isForced),
+      force: (variable, anchor, isForced) => this.pointing.askForce(variable, anchor, isForced),
     });
     this.waves = new Waves(byId('waves'), byId('waves-told'));
     this.textTabs = makeTabs(byId('tab-chart').parentElement, () => this.syncScript());
@@ -70,18 +72,7 @@ class Page {
     byId('file').addEventListener('change', () => this.openFiles());
     document.addEventListener('keydown', event => this.key(event));
     addEventListener('hashchange', () => this.follow());
-    this.listenToChart();
     for (const kind of ['chart', 'script', 'tests']) this.texts.editors[kind].names = () => this.names;
-  }
-
-  listenToChart() {
-    const host = byId('drawing');
-    host.addEventListener('click', event => this.askBreak(this.drawing.pointAt(event.target)));
-    host.addEventListener('mouseover', event => this.hover(this.drawing.pointAt(event.target)));
-    host.addEventListener('mouseleave', () => this.hover(null));
-    host.addEventListener('focusin', event => this.hover(this.drawing.pointAt(event.target)));
-    host.addEventListener('focusout', () => this.hover(null));
-    host.addEventListener('keydown', event => this.keyInChart(event));
   }
 
   key(event) {
@@ -91,15 +82,6 @@ class Page {
     if (!id) return;
     event.preventDefault();
     byId(id).click();
-  }
-
-  keyInChart(event) {
-    const point = this.drawing.pointAt(event.target), by = {ArrowDown: 1, ArrowRight: 1, ArrowUp: -1, ArrowLeft: -1}[event.key];
-    if (!point) return;
-    if (by) this.drawing.step(point, by);
-    else if (event.key === 'Enter' || event.key === ' ') this.askBreak(point);
-    else return;
-    event.preventDefault();
   }
 
   // ---- lines
@@ -396,67 +378,6 @@ class Page {
     if (!tests.trim()) return showLines(byId('outcome'), 'There are no tests: write them in Tests, or open a file .sfctest.');
     const {code, text} = await this.remote.tool('test', chart, tests);
     showLines(byId('outcome'), code ? 'The tests have a fault, which is told below their text.' : text);
-  }
-
-  // ---- windows and hovering
-
-  /** @param {ReturnType<Drawing['pointAt']>} point */
-  askBreak(point) {
-    if (!point || !this.play.isOpen) return;
-    const condition = this.points?.get(keyOf(point)), words = `${point.program} ${point.kind} ${point.name}`;
-    const when = field('Only when (may be left out)', condition ?? '', 'Count >= 10');
-    const set = button('Break here', () => this.say(`BREAK ${words}${when.input.value.trim() ? ` WHEN ${when.input.value.trim()}` : ''}`));
-    when.input.addEventListener('keydown', event => { if (event.key === 'Enter') set.click(); });
-    const choices = document.createElement('div');
-    choices.className = 'choices';
-    choices.append(set);
-    if (condition !== undefined) choices.append(button('Remove', () => this.say(`UNBREAK ${words}`)));
-    showPopover(point.element, `Breakpoint: ${words}`, [when.label, choices]);
-  }
-
-  askForce(variable, anchor, isForced) {
-    const choices = document.createElement('div'), content = [choices];
-    choices.className = 'choices';
-    const force = value => this.say(`FORCE ${variable.name} ${value}`);
-    if (variable.type === 'BOOL') choices.append(button('TRUE', () => force('TRUE')), button('FALSE', () => force('FALSE')));
-    else content.unshift(this.forceField(variable, choices, force));
-    if (isForced) choices.append(button('Release', () => this.say(`RELEASE ${variable.name}`)));
-    showPopover(anchor, `Force ${variable.name}`, content);
-  }
-
-  forceField(variable, choices, force) {
-    const k = this.play.names.variables.indexOf(variable.name), now = this.play.sfc.image(this.play.names.variables.length)[k]?.value ?? 0;
-    const {label, input} = field(`Value, ${variable.type}`, valueText(now, variable.type));
-    const set = button('Force', () => force(input.value.trim()));
-    input.addEventListener('keydown', event => { if (event.key === 'Enter') set.click(); });
-    choices.append(set);
-    return label;
-  }
-
-  hover(point) {
-    clearTimeout(this.hovering);
-    if (!point) byId('waits').hidden = true;
-    else this.hovering = setTimeout(() => this.showWaits(point), HOVER);
-  }
-
-  /** @param {NonNullable<ReturnType<Drawing['pointAt']>>} point */
-  async showWaits(point) {
-    const text = point.kind === 'TRANSITION' && this.play.isOpen ? await this.waitsOf(point) : point.element.getAttribute('aria-label');
-    const waits = byId('waits'), host = byId('chart').getBoundingClientRect(), at = point.element.getBoundingClientRect();
-    if (!point.element.isConnected) return;
-    point.element.setAttribute('aria-describedby', 'waits');
-    waits.textContent = text;
-    waits.hidden = false;
-    waits.style.left = `${Math.max(4, Math.min(at.left - host.left, host.width - waits.offsetWidth - 8))}px`;
-    const below = at.bottom - host.top + 6;
-    waits.style.top = `${below + waits.offsetHeight > host.height ? Math.max(4, at.top - host.top - waits.offsetHeight - 6) : below}px`;
-  }
-
-  /** What a transition waits for, as WHY tells it. */
-  async waitsOf({program, name}) {
-    const isNow = this.why.place === this.play.place && this.why.doc === this.play.doc;
-    const known = isNow ? this.why.blocks.get(`${program} ${name}`) : undefined;
-    return known ?? (await this.ask(`WHY ${program} ${name}`)).trimEnd();
   }
 
   // ---- a run that is shown
