@@ -814,6 +814,78 @@ ends 3 && [ "$(grep -c '^  Divide1 fault DivZero$' "$work/err")" = 1 ] && [ "$(t
 a program stood faulted at the end" ]
 note $? "a program that dies is told behind a closed standard output"
 
+# ---- what changes is shown
+
+# changes: what is shown, without numbers and instants
+changes() { sed -E 's/^[0-9]+ T#[^ ]+ //; s/ overruns [0-9]+/ overruns/; s/ [0-9]+ steps / .. steps /; s/=T#[^ ,]*/=../g' "$work/out"; }
+# shown WORD..: half a second each of the pump at rest, pumping, and pumping on, with these words
+shown() {
+  for line in 'INPUT Start TRUE' 'INPUT Stop TRUE' '; and on'; do sleep 0.5; echo "$line"; done \
+    | "$program" run "$@" "$examples/pump.chart" >"$work/out" 2>"$work/err"
+  status=${PIPESTATUS[1]}
+}
+shown --show changes
+ends 0 && calm && [ "$(changes | sed 's/^audit ok .*/audit ok/')" = "SCAN Main overruns
+  Pump1 .. steps Idle=.. cleared - run IdleLamp
+IdleLamp TRUE
+SCAN Main overruns
+  Pump1 .. steps Pumping=.. cleared 1 run IdleLamp,Pump
+Pump TRUE
+IdleLamp FALSE
+SCAN Main overruns
+  Pump1 .. steps Pumping=.. cleared - run Pump
+SCAN Main overruns
+  Pump1 .. steps RunningOn=.. cleared 2 run Pump,RunOnLamp
+RunOnLamp TRUE
+SCAN Main overruns
+  Pump1 .. steps RunningOn=.. cleared - run Pump,RunOnLamp
+audit ok" ]
+note $? "what changes is shown, and nothing else"
+shown --watch Pump --watch pump1.x,IdleLamp
+ends 1 && says "there is no variable to be watched of this name: pump1.x" && [ ! -s "$work/out" ]
+note $? "a name that is none isn't watched"
+shown --watch pump,IDLELAMP --at-end Pump=FALSE,Start=1
+ends 0 && calm && [ "$(changes | sed 's/^audit ok .*/audit ok/')" = "SCAN Main overruns
+IdleLamp TRUE
+SCAN Main overruns
+Pump TRUE
+IdleLamp FALSE
+END
+Pump FALSE
+Start TRUE
+audit ok" ]
+note $? "variables that are watched, and what is shown at the end"
+for word in Pump Pupm=TRUE Pump=3 Pump= =TRUE 'Pump=TRUE FALSE'; do
+  fails "--at-end '$word'" 1 "there is no such variable and value of its type, as Pump=FALSE: $word" run --at-end "$word" "$examples/pump.chart"
+done
+usage "--show pictures" "--show wants the word 'changes'" run --show pictures "$examples/pump.chart"
+shown --watch Pump --trace 2
+ends 0 && calm && [ "$(changes | sed 's/^audit ok .*/audit ok/')" = "INPUT Start TRUE
+SCAN Main overruns
+Pump TRUE
+INPUT Stop TRUE
+audit ok" ]
+note $? "what changes beside the lines that are picked"
+{ for line in 'INPUT Parts 2' 'INPUT Start TRUE' 'FORCE Lamp TRUE' 'INPUT Parts 0' '; it stands'; do sleep 0.2; echo "$line"; done; } \
+  | "$program" run --watch Divide1.n,Parts --at-end Lamp=FALSE "$work/dying.chart" >"$work/out" 2>"$work/err"
+status=${PIPESTATUS[1]}
+ends 1 && [ "$(changes | sed 's/^audit ok .*/audit ok/')" = "INPUT Parts 2
+Parts 2
+SCAN Main overruns
+Divide1.n 3
+SCAN Main overruns
+Divide1.n 1
+SCAN Main overruns
+Divide1.n 0
+INPUT Parts 0
+Parts 0
+SCAN Main overruns
+Lamp FALSE
+END
+Lamp FALSE
+audit ok" ] && mentions "  Divide1 fault DivZero" err
+note $? "a fault shows what is safe, and so does the end"
+
 if command -v python3 >/dev/null; then
   PYTHONPATH=$top/share/python timeout 60 python3 "$examples/python/tank.py" "$program" >"$work/out" 2>"$work/err"
   status=$?

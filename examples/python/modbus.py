@@ -36,7 +36,7 @@ async def main(host, port, program):
     if not await client.connect():
         print(f"{host}:{port} doesn't answer", file=sys.stderr)
         return 3
-    async with Run(CHART, watch=OUTPUTS, cycle=CYCLE, program=program) as run:
+    async with Run(CHART, watch=OUTPUTS, program=program) as run:
         await serve(run, client)
     client.close()
     return run.status

@@ -9,7 +9,7 @@ import asyncio
 import re
 
 UNITS = {"d": 86_400_000_000, "h": 3_600_000_000, "m": 60_000_000, "s": 1_000_000, "ms": 1_000}
-READ = re.compile(r"\d+ T#\S+ READ (\S+) (\S+)")
+TOLD = re.compile(r"(?:\d+ T#\S+ READ )?([A-Za-z_][\w.]*) (\S+)$")
 
 
 def value_of(text):
@@ -28,24 +28,27 @@ def text_of(value):
 
 
 class Run:
-    """A chart that runs. What is set goes in as INPUT; `run[NAME]` is what one of the watched variables read last, which are read each
-    `cycle` seconds; once the run has ended, what `safe` says, or else False. `words` are further words of the command line."""
+    """A chart that runs. What is set goes in as INPUT; `run[NAME]` is what one of the watched variables reads, by its name as it was
+    declared, told when it changes. Where a fault has ended the scan of a program it is what `safe` says, until the variable changes; once
+    the run has ended, what `safe` says, or else False. `words` are further words of the command line."""
 
-    def __init__(self, chart, *words, watch, safe=None, cycle=0.02, program="sfcmon"):
-        self.words = [program, "run", "--trace", "64", *words, chart]
-        self.watch, self.safe, self.cycle = list(watch), dict(safe or {}), cycle
+    def __init__(self, chart, *words, watch, safe=None, program="sfcmon"):
+        self.watch, self.safe = list(watch), dict(safe or {})
+        closing = [f"--at-end={name}={text_of(value)}" for name, value in self.safe.items()]
+        self.words = [program, "run", "--trace=64", *(f"--watch={name}" for name in self.watch), *closing, *words, chart]
         self.values, self.given, self.status = {}, {}, None
 
     async def __aenter__(self):
         pipe = asyncio.subprocess.PIPE
         self.process = await asyncio.create_subprocess_exec(*self.words, stdin=pipe, stdout=pipe)
         self.changed = asyncio.Condition()
-        self.tasks = [asyncio.create_task(it) for it in (self.listen(), self.ask())]
+        self.listening = asyncio.create_task(self.listen())
+        self.say("\n".join(f"READ {name}" for name in self.watch))
         return self
 
     async def __aexit__(self, *_):
         self.end()
-        await asyncio.gather(*self.tasks)
+        await self.listening
 
     async def tell(self):
         async with self.changed:
@@ -53,17 +56,12 @@ class Run:
 
     async def listen(self):
         async for line in self.process.stdout:
-            if found := READ.match(line.decode()):
+            if found := TOLD.match(line.decode()):
                 self.values[found[1]] = value_of(found[2])
                 await self.tell()
         self.status = await self.process.wait()
         self.values.update((name, self.safe.get(name, False)) for name in self.watch)
         await self.tell()
-
-    async def ask(self):
-        while self.status is None:
-            self.say("\n".join(f"READ {name}" for name in self.watch))
-            await asyncio.sleep(self.cycle)
 
     def end(self):
         """The end of the session, and so of the run, with `--forever` too."""

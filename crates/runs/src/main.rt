@@ -3,6 +3,7 @@
 #![tactic(auto)]
 
 use crate::sfc_debug::trace_mask::TraceMask;
+use sfc_run::picked::Picked;
 use sfc_run::run::run_chart;
 use sfc_run::sfc_control::sfc_debug;
 use sfc_run::streams::{Asked, Streams};
@@ -19,6 +20,12 @@ fn main(rt: HostRuntime) -> ExitCode {
     let asked = Asked {
         w: rt.stdout(),
         tells: rt.stderr(),
+        shower: rt.stdout(),
+        picked: Picked {
+            changes: false,
+            watched: Vec::new(rt.alloc()),
+            at_end: Vec::new(rt.alloc()),
+        },
         wanted: TraceMask(0),
         history: 1_048_576,
     };

@@ -16,6 +16,7 @@ use Rattle.sfc_run.specs.Following.{debugger_in}
 use Rattle.sfc_run.specs.Printing.{line_if, rows_text, Takes, Reaches, ReadsAlike, Passes, Puts, Tells, steered_of}
 use Rattle.sfc_run.specs.Printing as printing
 use Rattle.sfc_run.specs.declared.alarms.Alarms.{Alarms}
+use Rattle.sfc_run.specs.declared.alarms.Told.{Told}
 use Rattle.sfc_run.specs.declared.printing.Printing.{Printing}
 use Rattle.sfc_run.specs.declared.watch.Texts.{Texts}
 use Rattle.sfc_run.specs.declared.watch.Watch.{Watch}
@@ -23,34 +24,40 @@ use Rattle.sfc_run.specs.declared.watch.Watch.{Watch}
 -- ---- what is told of rows, and then of more
 
 -- the debugger that follows stands behind those commands then
-told_agrees : (old new : Alarms) (rows : List TraceRow) (h behind : CommandHistory) (text : List ℕ)
-    → AreTold old new rows h behind text → Agrees (debugger_in old.follower) h → Agrees (debugger_in new.follower) behind
-told_agrees old new [] h behind text (same, now, none) agrees =
+told_agrees : (old new : Alarms) (rows : List TraceRow) (h behind : CommandHistory) (text shown : List ℕ)
+    → AreTold old new rows h behind text shown → Agrees (debugger_in old.follower) h → Agrees (debugger_in new.follower) behind
+told_agrees old new [] h behind text shown (same, now, none, empty) agrees =
     subst (λ (a : Alarms). Agrees (debugger_in a.follower) behind) (sym same)
     (subst (λ (x : CommandHistory). Agrees (debugger_in old.follower) x) (sym now) agrees)
-told_agrees old new (row ∷ rows) h behind text (mid, between, some, rest, same, one, more) agrees =
-    told_agrees mid new rows between behind rest more one.follows.agrees
+told_agrees old new (row ∷ rows) h behind text shown (mid, between, some, rest, seen, others, same, also, one, more) agrees =
+    told_agrees mid new rows between behind rest others more one.follows.agrees
 
-told_then : (old mid new : Alarms) (a b : List TraceRow) (h between behind : CommandHistory) (some rest : List ℕ)
-    → AreTold old mid a h between some → AreTold mid new b between behind rest → AreTold old new (a ++ b) h behind (some ++ rest)
-told_then old mid new [] b h between behind some rest (same, now, none) more =
-    subst (λ (t : List ℕ). AreTold old new b h behind (t ++ rest)) (sym none)
-    (subst (λ (x : CommandHistory). AreTold old new b x behind rest) now
-    (subst (λ (m : Alarms). AreTold m new b between behind rest) same more))
-told_then old mid new (row ∷ a) b h between behind some rest (first, after, one, others, same, is_told, told) more = (
+told_then : (old mid new : Alarms) (a b : List TraceRow) (h between behind : CommandHistory) (some rest seen others : List ℕ)
+    → AreTold old mid a h between some seen → AreTold mid new b between behind rest others
+    → AreTold old new (a ++ b) h behind (some ++ rest) (seen ++ others)
+told_then old mid new [] b h between behind some rest seen others (same, now, none, empty) more =
+    subst (λ (t : List ℕ). AreTold old new b h behind (t ++ rest) (seen ++ others)) (sym none)
+    (subst (λ (t : List ℕ). AreTold old new b h behind rest (t ++ others)) (sym empty)
+    (subst (λ (x : CommandHistory). AreTold old new b x behind rest others) now
+    (subst (λ (m : Alarms). AreTold m new b between behind rest others) same more)))
+told_then old mid new (row ∷ a) b h between behind some rest seen others (first, after, one, more, look, looks, same, also, is_told, told) then = (
   first,
   after,
   one,
-  others ++ rest,
-  ap (λ (t : List ℕ). t ++ rest) same ∙ append_assoc one others rest,
+  more ++ rest,
+  look,
+  looks ++ others,
+  ap (λ (t : List ℕ). t ++ rest) same ∙ append_assoc one more rest,
+  ap (λ (t : List ℕ). t ++ others) also ∙ append_assoc look looks others,
   is_told,
-  told_then first mid new a b after between behind others rest told more,
+  told_then first mid new a b after between behind more rest looks others told then,
 )
 
 -- a row by itself
-told_one : (old new : Alarms) (row : TraceRow) (h behind : CommandHistory) (text : List ℕ)
-    → IsTold old new row h behind text → AreTold old new (row ∷ []) h behind text
-told_one old new row h behind text told = (new, behind, text, [], sym (append-nil text), told, (refl, refl, refl))
+told_one : (old new : Alarms) (row : TraceRow) (h behind : CommandHistory) (text shown : List ℕ)
+    → IsTold old new row h behind text shown → AreTold old new (row ∷ []) h behind text shown
+told_one old new row h behind text shown told =
+    (new, behind, text, [], shown, [], sym (append-nil text), sym (append-nil shown), told, (refl, refl, refl, refl))
 
 -- ---- rows and their lines
 
@@ -76,15 +83,17 @@ rows_then old mid a b alike =
 alike_then : (old mid new : Watch) → ReadsAlike old mid → ReadsAlike mid new → ReadsAlike old new
 alike_then old mid new one two = (two.0 ∙ one.0, two.1 ∙ one.1)
 
-alarms_then : (old mid new : Watch) (a b : List TraceRow) (before text after : List ℕ)
+alarms_then : (old mid new : Watch) (a b : List TraceRow) (before text after : Told)
     → printing.Alarms old mid a before text → printing.Alarms mid new b text after → printing.Alarms old new (a ++ b) before after
 alarms_then old mid new a b before text after one two h agrees =
     let first = one h agrees in
-    let then = two first.0 (told_agrees old.alarms mid.alarms a h first.0 first.1 first.3 agrees) in (
+    let then = two first.0 (told_agrees old.alarms mid.alarms a h first.0 first.1 first.2 first.5 agrees) in (
       then.0,
       first.1 ++ then.1,
-      then.2 ∙ ap (λ (t : List ℕ). t ++ then.1) first.2 ∙ append_assoc before first.1 then.1,
-      told_then old.alarms mid.alarms new.alarms a b h first.0 then.0 first.1 then.1 first.3 then.3,
+      first.2 ++ then.2,
+      then.3 ∙ ap (λ (t : List ℕ). t ++ then.1) first.3 ∙ append_assoc before.alarms.items first.1 then.1,
+      then.4 ∙ ap (λ (t : List ℕ). t ++ then.2) first.4 ∙ append_assoc before.changes.items first.2 then.2,
+      told_then old.alarms mid.alarms new.alarms a b h first.0 then.0 first.1 then.1 first.2 then.2 first.5 then.5,
     )
 
 pub puts_then : (old mid new : Watch) (a b : List TraceRow) (before text after : Texts)
@@ -94,7 +103,7 @@ puts_then old mid new a b before text after one two = record {
   lines = two.lines ∙ ap (λ (t : List ℕ). t ++ rows_text mid.wanted (steered_of mid) b) one.lines
       ∙ append_assoc before.lines.items (rows_text old.wanted (steered_of old) a) (rows_text mid.wanted (steered_of mid) b)
       ∙ ap (λ (t : List ℕ). before.lines.items ++ t) (rows_then old mid a b one.alike);
-  alarms = alarms_then old mid new a b before.alarms.items text.alarms.items after.alarms.items one.alarms two.alarms;
+  alarms = alarms_then old mid new a b before.told text.told after.told one.alarms two.alarms;
 }
 
 -- some rows were taken, and their lines and alarms stand behind the texts
@@ -108,7 +117,7 @@ none_yet watch texts = (
   record {
     alike = (refl, refl);
     lines = sym (append-nil texts.lines.items);
-    alarms = λ h agrees. (h, [], sym (append-nil texts.alarms.items), (refl, refl, refl));
+    alarms = λ h agrees. (h, [], [], sym (append-nil texts.told.alarms.items), sym (append-nil texts.told.changes.items), (refl, refl, refl, refl));
   },
 )
 
@@ -116,8 +125,9 @@ none_yet watch texts = (
 pub one_more : (old mid new : Watch) (before text after : Texts) (row : TraceRow) → Along old mid before text
     → Takes mid.tail new.tail (row ∷ []) → ReadsAlike mid new
     → after.lines.items ≡ text.lines.items ++ line_if mid.wanted (steered_of mid) row
-    → ((h : CommandHistory) → Agrees (debugger_in mid.alarms.follower) h → (behind : CommandHistory) × (some : List ℕ)
-    × (after.alarms.items ≡ text.alarms.items ++ some) × IsTold mid.alarms new.alarms row h behind some)
+    → ((h : CommandHistory) → Agrees (debugger_in mid.alarms.follower) h → (behind : CommandHistory) × (some : List ℕ) × (seen : List ℕ)
+    × (after.told.alarms.items ≡ text.told.alarms.items ++ some) × (after.told.changes.items ≡ text.told.changes.items ++ seen)
+    × IsTold mid.alarms new.alarms row h behind some seen)
     → Along old new before after
 one_more old mid new before text after row was takes alike line told = (
   was.0 ++ row ∷ [],
@@ -127,7 +137,7 @@ one_more old mid new before text after row was takes alike line told = (
     lines = line ∙ ap (λ (t : List ℕ). text.lines.items ++ t) (sym (append-nil (line_if mid.wanted (steered_of mid) row)));
     alarms = λ h agrees.
         let t = told h agrees in
-        (t.0, t.1, t.2, told_one mid.alarms new.alarms row h t.0 t.1 t.3);
+        (t.0, t.1, t.2, t.3, t.4, told_one mid.alarms new.alarms row h t.0 t.1 t.2 t.5);
   }),
 )
 
@@ -160,30 +170,43 @@ module _ {W T : Type 0} (wc : W → Option (List ℕ)) (tc : T → Option (List 
   tells_then : (old mid new : Printing W T) (a b : List TraceRow) → Tells wc tc old mid a → Tells wc tc mid new b → Tells wc tc old new (a ++ b)
   tells_then old mid new a b one two h agrees =
       let first = one h agrees in
-      let then = two first.0 (told_agrees old.watch.alarms mid.watch.alarms a h first.0 first.1 first.2 agrees) in (
+      let then = two first.0 (told_agrees old.watch.alarms mid.watch.alarms a h first.0 first.1 first.2 first.3 agrees) in (
         then.0,
         first.1 ++ then.1,
-        told_then old.watch.alarms mid.watch.alarms new.watch.alarms a b h first.0 then.0 first.1 then.1 first.2 then.2,
+        first.2 ++ then.2,
+        told_then old.watch.alarms mid.watch.alarms new.watch.alarms a b h first.0 then.0 first.1 then.1 first.2 then.2 first.3 then.3,
         passes_then old.teller.has_failed mid.teller.has_failed new.teller.has_failed (tc old.teller.w) (tc mid.teller.w) (tc new.teller.w)
-            first.1 then.1 first.3 then.3,
+            first.1 then.1 first.4 then.4,
+        passes_then old.shower.has_failed mid.shower.has_failed new.shower.has_failed (wc old.shower.w) (wc mid.shower.w) (wc new.shower.w)
+            first.2 then.2 first.5 then.5,
       )
 
   -- some rows were taken, their lines written, and their alarms told
-  abbrev pub Told : Printing W T → Printing W T → Type 0
-  Told old new =
+  abbrev pub HasTold : Printing W T → Printing W T → Type 0
+  HasTold old new =
       (rows : List TraceRow) × Takes old.watch.tail new.watch.tail rows
       × Appends (wc old.w) (wc new.w) (rows_text old.watch.wanted (steered_of old.watch) rows)
       × (ReadsAlike old.watch new.watch × Tells wc tc old new rows)
 
-  pub told_none : (printing : Printing W T) → Told printing printing
+  pub told_none : (printing : Printing W T) → HasTold printing printing
   told_none printing = (
     [],
     sym (append-nil (taken printing.watch.tail)),
     Appends-nil (wc printing.w),
-    ((refl, refl), λ h agrees. (h, [], (refl, refl, refl), nothing_passed printing.teller.has_failed (tc printing.teller.w))),
+    (
+      (refl, refl),
+      λ h agrees. (
+        h,
+        [],
+        [],
+        (refl, refl, refl, refl),
+        nothing_passed printing.teller.has_failed (tc printing.teller.w),
+        nothing_passed printing.shower.has_failed (wc printing.shower.w),
+      ),
+    ),
   )
 
-  pub told_more : (old mid new : Printing W T) → Told old mid → Told mid new → Told old new
+  pub told_more : (old mid new : Printing W T) → HasTold old mid → HasTold mid new → HasTold old new
   told_more old mid new was more = (
     was.0 ++ more.0,
     takes_more old.watch.tail mid.watch.tail new.watch.tail was.0 more.0 was.1 more.1,
@@ -194,7 +217,7 @@ module _ {W T : Type 0} (wc : W → Option (List ℕ)) (tc : T → Option (List 
   )
 
   -- behind lines that were written, a front of others before a fault
-  pub told_front : (old mid new : Printing W T) → Told old mid → (rows : List TraceRow) → Takes mid.watch.tail new.watch.tail rows
+  pub told_front : (old mid new : Printing W T) → HasTold old mid → (rows : List TraceRow) → Takes mid.watch.tail new.watch.tail rows
       → AppendsFront (wc mid.w) (wc new.w) (rows_text mid.watch.wanted (steered_of mid.watch) rows)
       → (all : List TraceRow) × Takes old.watch.tail new.watch.tail all
       × AppendsFront (wc old.w) (wc new.w) (rows_text old.watch.wanted (steered_of old.watch) all)

@@ -3,8 +3,6 @@ use Rattle.std.specs.Prelude.{ℕ, zero, suc, length, ◌≡◌, ◌-◌, ◌+�
 use Rattle.std.specs.Fmt.{decimal}
 use Rattle.sfc_events.specs.declared.command.Answer.{Answer}
 use Rattle.sfc_events.specs.declared.command.Answer.TheVariants.{Scanned}
-use Rattle.sfc_events.specs.declared.command.Command.{Command}
-use Rattle.sfc_events.specs.declared.command.Command.TheVariants.{End}
 use Rattle.sfc_events.specs.declared.command.TraceRow.{TraceRow}
 use Rattle.sfc_events.specs.InstanceSets.{has}
 use Rattle.sfc_events.specs.declared.instance_set.InstanceSet.{InstanceSet}
@@ -20,15 +18,12 @@ use Rattle.sfc_run.specs.declared.follower.Follower.{Follower}
 use Rattle.sfc_run.specs.Following.{Follows, is_level, newest_in, steered_in}
 use Rattle.sfc_run.specs.Losses.{losses_after, told_with}
 use Rattle.sfc_run.specs.Overruns.{is_due, told_after, told_in}
+use Rattle.sfc_run.specs.Screens.{Mirrors, is_end, shown_text}
 
 -- a program's scan ended with a fault, or a breakpoint was hit
 abbrev pub is_alarm : Answer → Bool
 is_alarm (Scanned ran faulted skipped overruns hit) = not (faulted.bits == 0) || hit
 is_alarm _ = false
-
-abbrev pub is_end : Command → Bool
-is_end End = true
-is_end _ = false
 
 -- what tells of it doesn't wait
 abbrev pub is_urgent : TraceRow → Bool
@@ -72,23 +67,31 @@ overruns_text false steered row = []
 abbrev pub lost_before : Follower → TraceRow → ℕ
 lost_before follower row = row.number - (newest_in follower + 1)
 
--- what is told of a row, and of so many lost ones
-abbrev pub alarm_text : ℕ → Bool → Bool → Steered → DebugState → TraceRow → List ℕ
-alarm_text lost is_level is_due steered state row =
-    lost_text lost
-    ++ (if is_alarm row.answer then scan_text is_level steered state row else overruns_text is_due steered row)
+-- what is told of a row
+abbrev pub told_text : Bool → Bool → Steered → DebugState → TraceRow → List ℕ
+told_text is_level is_due steered state row =
+    if is_alarm row.answer then scan_text is_level steered state row else overruns_text is_due steered row
 
--- A row was taken behind these commands, and this was told of it; the debugger that follows stands behind those commands then.
-pub record IsTold (old new : Alarms) (row : TraceRow) (h behind : CommandHistory) (text : List ℕ) : Type 0 where
+-- and of so many lost ones
+abbrev pub alarm_text : ℕ → Bool → Bool → Steered → DebugState → TraceRow → List ℕ
+alarm_text lost is_level is_due steered state row = lost_text lost ++ told_text is_level is_due steered state row
+
+-- A row was taken behind these commands; this was told of it, and that was shown; the debugger that follows stands behind those commands
+-- then.
+pub record IsTold (old new : Alarms) (row : TraceRow) (h behind : CommandHistory) (text shown : List ℕ) : Type 0 where
   pub follows : Follows old.follower new.follower row h behind
   pub overruns : told_in new.overruns ≡ told_after (told_in old.overruns) row
   pub losses : new.losses ≡ losses_after old.losses (lost_before old.follower row) row.t (is_urgent row)
   pub told : text ≡ alarm_text (told_with old.losses (lost_before old.follower row) row.t (is_urgent row)) (is_level new.follower)
       (is_due (told_in old.overruns) row) (steered_in new.follower) ((output.debugger_of (steered_in new.follower)).state behind) row
+  pub shows : new.screen.shows ≡ old.screen.shows
+  pub shown : Mirrors old.screen old.follower h →
+      (shown ≡ shown_text old.screen.shows (is_level new.follower) (steered_in new.follower) h behind row) × Mirrors new.screen new.follower behind
 
--- Rows were taken one after the other, and this was told of them.
-abbrev pub AreTold : Alarms → Alarms → List TraceRow → CommandHistory → CommandHistory → List ℕ → Type 0
-AreTold old new [] h behind text = (new ≡ old) × (behind ≡ h) × (text ≡ [])
-AreTold old new (row ∷ rows) h behind text =
-    (mid : Alarms) × (between : CommandHistory) × (some : List ℕ) × (rest : List ℕ) × (text ≡ some ++ rest)
-    × IsTold old mid row h between some × AreTold mid new rows between behind rest
+-- Rows were taken one after the other; this was told of them, and that was shown.
+abbrev pub AreTold : Alarms → Alarms → List TraceRow → CommandHistory → CommandHistory → List ℕ → List ℕ → Type 0
+AreTold old new [] h behind text shown = (new ≡ old) × (behind ≡ h) × (text ≡ []) × (shown ≡ [])
+AreTold old new (row ∷ rows) h behind text shown =
+    (mid : Alarms) × (between : CommandHistory) × (some : List ℕ) × (rest : List ℕ) × (seen : List ℕ) × (others : List ℕ)
+    × (text ≡ some ++ rest) × (shown ≡ seen ++ others)
+    × IsTold old mid row h between some seen × AreTold mid new rows between behind rest others

@@ -20,6 +20,8 @@ pub mod Following
 pub mod Overruns
 -- when lost rows are told
 pub mod Losses
+-- what is shown where it changes
+pub mod Screens
 -- what is told beside the lines
 pub mod Alarms
 -- what a look into the feed finds

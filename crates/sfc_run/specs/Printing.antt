@@ -14,6 +14,7 @@ use Rattle.sfc_control.specs.sfc_debug.declared.trace_mask.TraceMask.{TraceMask}
 use Rattle.sfc_replay.specs.sfc_output.Commands.{row_line}
 use Rattle.sfc_run.specs.Alarms.{AreTold}
 use Rattle.sfc_run.specs.Following.{debugger_in, steered_in}
+use Rattle.sfc_run.specs.declared.alarms.Told.{Told}
 use Rattle.sfc_run.specs.declared.printing.Printing.{Printing}
 use Rattle.sfc_run.specs.declared.watch.Texts.{Texts}
 use Rattle.sfc_run.specs.declared.watch.Watch.{Watch}
@@ -43,17 +44,18 @@ steered_of watch = steered_in watch.alarms.follower
 abbrev pub ReadsAlike : Watch → Watch → Type 0
 ReadsAlike old new = (new.wanted ≡ old.wanted) × (steered_of new ≡ steered_of old)
 
--- The alarms of rows stand behind the text.
-abbrev pub Alarms : Watch → Watch → List TraceRow → List ℕ → List ℕ → Type 0
+-- What is told of rows, and what is shown, stand behind the two texts.
+abbrev pub Alarms : Watch → Watch → List TraceRow → Told → Told → Type 0
 Alarms old new rows before after =
-    (h : CommandHistory) → Agrees (debugger_in old.alarms.follower) h → (behind : CommandHistory) × (text : List ℕ)
-    × (after ≡ before ++ text) × AreTold old.alarms new.alarms rows h behind text
+    (h : CommandHistory) → Agrees (debugger_in old.alarms.follower) h → (behind : CommandHistory) × (text : List ℕ) × (shown : List ℕ)
+    × (after.alarms.items ≡ before.alarms.items ++ text) × (after.changes.items ≡ before.changes.items ++ shown)
+    × AreTold old.alarms new.alarms rows h behind text shown
 
--- The lines of rows and their alarms stand behind the two texts.
+-- The lines of rows, their alarms and what is shown of them stand behind the texts.
 pub record Puts (old new : Watch) (rows : List TraceRow) (before after : Texts) : Type 0 where
   pub alike : ReadsAlike old new
   pub lines : after.lines.items ≡ before.lines.items ++ rows_text old.wanted (steered_of old) rows
-  pub alarms : Alarms old new rows before.alarms.items after.alarms.items
+  pub alarms : Alarms old new rows before.told after.told
 
 -- some rows were taken, and where it succeeded their lines and alarms stand behind the texts
 abbrev pub Gathers : Watch → Watch → Texts → Texts → {X E : Type 0} → Result X E → Type 0
@@ -69,12 +71,13 @@ Passes true false before after text = AppendsFront before after text
 Passes true true before after text = Appends before after []
 
 module _ {W T : Type 0} (contents_of_lines : W → Option (List ℕ)) (contents_of_alarms : T → Option (List ℕ)) where
-  -- the alarms of rows were passed on, as far as they could be
+  -- the alarms of rows and what is shown of them were passed on, as far as they could be
   abbrev pub Tells : Printing W T → Printing W T → List TraceRow → Type 0
   Tells old new rows =
-      (h : CommandHistory) → Agrees (debugger_in old.watch.alarms.follower) h → (behind : CommandHistory) × (text : List ℕ)
-      × AreTold old.watch.alarms new.watch.alarms rows h behind text
+      (h : CommandHistory) → Agrees (debugger_in old.watch.alarms.follower) h → (behind : CommandHistory) × (text : List ℕ) × (shown : List ℕ)
+      × AreTold old.watch.alarms new.watch.alarms rows h behind text shown
       × Passes new.teller.has_failed old.teller.has_failed (contents_of_alarms old.teller.w) (contents_of_alarms new.teller.w) text
+      × Passes new.shower.has_failed old.shower.has_failed (contents_of_lines old.shower.w) (contents_of_lines new.shower.w) shown
 
   -- Some rows were taken and their lines written: all, or a front of them before a fault. Where there was none, their alarms were told.
   abbrev pub Prints : Printing W T → Printing W T → {X E : Type 0} → Result X E → Type 0

@@ -16,6 +16,7 @@ every_kind = record { 0 = 127 }
 abbrev pub Opens : List ℕ → Result RunDebuggers ReplayError → Type 0
 Opens text (Ok opened) =
     IsAccepted text (plant_of opened.debugger) × IsAccepted text (plant_of opened.names) × IsAccepted text (plant_of opened.follower)
+    × IsAccepted text (plant_of opened.before)
 Opens text (Err error) = Accepts text (Err error)
 
 -- the same of the text that was taken from a reader

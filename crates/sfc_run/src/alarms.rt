@@ -1,4 +1,5 @@
-//! What a run tells beside its lines: scans that a fault ended, breakpoints that were hit, overruns, rows of the feed that were lost.
+//! What a run tells beside its lines: scans that a fault ended, breakpoints that were hit, overruns, rows of the feed that were lost; and
+//! what it shows where it changes.
 
 ghost use Rattle.std.specs.Prelude.{◌≡◌, ◌<◌, ◌++◌, List, ℕ, OnOk, length};
 ghost use Rattle.sfc_events.specs.InstanceSets.{has};
@@ -14,17 +15,18 @@ ghost use Rattle.sfc_run.specs.Losses.{losses_after, told_with};
 use crate::follower::Follower;
 use crate::losses::Losses;
 use crate::overruns::OverrunsTold;
+use crate::screen::{Screen, is_end};
 use crate::sfc_debug::debugger::Debugger;
 use crate::sfc_output::answer::append_answer;
 use crate::sfc_output::command::append_row;
 use sfc_base::ids::ProgId;
-use sfc_events::command::{Answer, Command, TraceRow};
+use sfc_events::command::{Answer, TraceRow};
 use sfc_events::instance_set::InstanceSet;
 use sfc_page::append::{append, append_number};
 use sfc_plant::plant::Plant;
 use std::alloc::{AllocError, Global};
 
-/// What stands behind the alarms of a run: a debugger that follows it, and what was told of overruns.
+/// What stands behind the alarms of a run: a debugger that follows it, what was told of overruns, and what is shown.
 #[derive(Drop)]
 pub struct Alarms {
     /// The debugger that follows.
@@ -33,6 +35,17 @@ pub struct Alarms {
     pub overruns: OverrunsTold,
     /// What is still to be told of lost rows.
     pub losses: Losses,
+    /// What is shown where it changes.
+    pub screen: Screen,
+}
+
+/// What rows come to beside their lines.
+#[derive(Drop)]
+pub struct Told {
+    /// What is told of them.
+    pub alarms: Vec<u8>,
+    /// What is shown of them.
+    pub changes: Vec<u8>,
 }
 
 // Whether a program's scan ended with a fault, or a breakpoint was hit.
@@ -43,13 +56,6 @@ fn is_alarm(answer: Answer) -> bool
         Answer::Scanned { faulted, hit, .. } => !faulted.is_empty() || hit,
         _ => false,
     }
-}
-
-// Whether it is the end of a run.
-fn is_end(command: Command) -> bool
-    ensures { result ≡ rules.is_end command }
-{
-    matches!(command, Command::End)
 }
 
 // Whether what is told of a row doesn't wait.
@@ -173,6 +179,25 @@ fn append_overruns(
     }
 }
 
+// What is told of a row, where it is an alarm, or its overruns are due.
+fn append_alarm(
+    alloc: Global,
+    out: &mut Vec<u8>,
+    follower: &Follower,
+    row: TraceRow,
+    is_due: bool,
+) -> Result<(), AllocError>
+    ensures { (h : CommandHistory) → Agrees (debugger_in follower.now) h → OnOk result (out.new.items ≡ out.old.items
+        ++ rules.told_text (is_level follower.now) is_due (steered_by (debugger_in follower.now))
+        ((output.debugger_of (steered_by (debugger_in follower.now))).state h) row) }
+{
+    if is_alarm(row.answer) {
+        append_scan(alloc, out, follower, row)
+    } else {
+        append_overruns(out, follower, row, is_due)
+    }
+}
+
 impl Alarms {
     /// Takes the next row of the feed, and puts at the end what is told of it. A scan of a program that a fault ended, and one that hit a
     /// breakpoint, is told with all its lines, as a replay writes them: which program it is, the kind of the fault, and where the others
@@ -180,24 +205,25 @@ impl Alarms {
     /// were lost, if some were, at most once a second but for such a scan and END; from then on, how programs stand isn't known, and the
     /// line of the scan is told, with the names of the programs that ended with a fault.
     ///
+    /// Beside it stands at the end what is shown of the row: what `Screen::show` says.
+    ///
     /// The one error is that memory was refused.
     pub fn take(
         &mut self,
         alloc: Global,
-        out: &mut Vec<u8>,
+        told: &mut Told,
         row: TraceRow,
     ) -> Result<(), AllocError>
         ensures steered { steered_in self.new.follower ≡ steered_in self.old.follower }
         ensures told { (h : CommandHistory) → Agrees (debugger_in self.old.follower) h →
-            OnOk result ((behind : CommandHistory) × (text : List ℕ) × (out.new.items ≡ out.old.items ++ text)
-            × IsTold self.old self.new row h behind text) }
+            OnOk result ((behind : CommandHistory) × (text : List ℕ) × (shown : List ℕ)
+            × (told.new.alarms.items ≡ told.old.alarms.items ++ text) × (told.new.changes.items ≡ told.old.changes.items ++ shown)
+            × IsTold self.old self.new row h behind text shown) }
     {
         let lost = self.follower.follow(row);
         let is_due = self.overruns.is_due(row);
-        append_losses(out, &mut self.losses, lost, row)?;
-        if is_alarm(row.answer) {
-            return append_scan(alloc, out, &self.follower, row);
-        }
-        append_overruns(out, &self.follower, row, is_due)
+        append_losses(&mut told.alarms, &mut self.losses, lost, row)?;
+        append_alarm(alloc, &mut told.alarms, &self.follower, row, is_due)?;
+        self.screen.show(alloc, &mut told.changes, &self.follower, row)
     }
 }

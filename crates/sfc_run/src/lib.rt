@@ -9,6 +9,7 @@
 //! - `keeper`: the epochs of a run itself, which keep its history short.
 //! - `pace`: the gate of a worker that scans as long as it may.
 //! - `printing`: the lines of the feed; `watch`: what is read of it; `teller`: where alarms go.
+//! - `screen`: what is shown where it changes; `picked`: what that is, by names.
 //! - `real_time`: the clock of a run.
 //! - `run`: a chart from its bytes to the audit; `run_opening`: what it is opened with; `run_threads`: its threads.
 //! - `run_faults`: what went wrong in a run, with its exit status.
@@ -25,12 +26,14 @@ mod keeper;
 pub mod losses;
 pub mod overruns;
 pub mod pace;
+pub mod picked;
 pub mod printing;
 pub mod real_time;
 pub mod run;
 pub mod run_faults;
 mod run_opening;
 mod run_threads;
+pub mod screen;
 pub mod session;
 pub mod streams;
 pub mod teller;

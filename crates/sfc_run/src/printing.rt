@@ -6,6 +6,7 @@ ghost use Rattle.sfc_control.specs.Tails.{taken, coming};
 ghost use Rattle.sfc_run.specs.Printing.{Prints, Reaches};
 ghost use Rattle.sfc_run.specs.declared.printing.PrintFault.TheVariants.{Write as WriteVariant, Memory};
 
+use crate::alarms::Told;
 use crate::draining::{Drained, RowsEnded};
 use crate::pace::LONG;
 use crate::teller::Teller;
@@ -42,7 +43,7 @@ impl From<WriteFault> for PrintFault {
     }
 }
 
-/// What is read of a run, and where its lines and its alarms go.
+/// What is read of a run, and where its lines, its alarms and what is shown go.
 #[derive(Drop)]
 pub struct Printing<W: Write, T: Write> {
     /// What is read.
@@ -51,9 +52,11 @@ pub struct Printing<W: Write, T: Write> {
     pub w: W,
     /// What alarms are told to.
     pub teller: Teller<T>,
+    /// What is told what is shown.
+    pub shower: Teller<W>,
 }
 
-// Prints rows that have come, 256 at most, and tells their alarms; what the look for them came to.
+// Prints rows that have come, 256 at most, tells their alarms, and shows what has changed; what the look for them came to.
 fn print_some<W: Write, T: Write>(
     alloc: Global,
     printing: &mut Printing<W, T>,
@@ -66,20 +69,24 @@ fn print_some<W: Write, T: Write>(
 {
     let mut texts = Texts {
         lines: Vec::new(alloc),
-        alarms: Vec::new(alloc),
+        told: Told {
+            alarms: Vec::new(alloc),
+            changes: Vec::new(alloc),
+        },
     };
     let some = printing.watch.append_rows(alloc, &mut texts, ended)?;
-    printing.teller.tell(&texts.alarms);
+    printing.teller.tell(&texts.told.alarms);
     put_all(&mut printing.w, &texts.lines)?;
+    printing.shower.tell(&texts.told.changes);
     Ok(some)
 }
 
 /// Takes rows as they come and writes the line of each whose command is wanted: its number, and the line of its command. Beside it alarms
-/// are told. It ends once it is told that no more rows come, and none is left; a look that was begun behind that word is what it answers.
+/// are told, and behind the lines it is shown what has changed. It ends once it is told that no more rows come, and none is left; a look that was begun behind that word is what it answers.
 /// Where none has come it waits until its bell is rung.
 ///
 /// `Write` is answered where the writer failed or took no byte, `Memory` where memory was refused; then a front of the lines was
-/// written, and no more rows are taken. Faults of the writer of alarms are passed over.
+/// written, and no more rows are taken. Faults of the writers of alarms and of what is shown are passed over.
 pub fn print_rows<R: Wait, W: Write, T: Write>(
     rt: &R,
     alloc: Global,

@@ -5,6 +5,7 @@ ghost use Rattle.sfc_plant.specs.Plants.{PlantData};
 ghost use Rattle.sfc_control.specs.sfc_debug.Agreement.{Agrees, plant_of, table_of, mask_of};
 ghost use Rattle.sfc_run.specs.Following.{debugger_in};
 ghost use Rattle.sfc_run.specs.Running.{IsRunStatus};
+ghost use Rattle.sfc_run.specs.Screens.{before_in};
 
 use crate::alarms::Alarms;
 use crate::audit::{Returned, audit, gather, put_audit};
@@ -13,11 +14,13 @@ use crate::follower::Follower;
 use crate::keeper::Keeper;
 use crate::losses::Losses;
 use crate::overruns::OverrunsTold;
+use crate::picked::{PickFault, Picked, shows_of};
 use crate::printing::{PrintFault, Printing};
 use crate::real_time::RealTime;
 use crate::run_faults::RunFaults;
 use crate::run_opening::{RunDebuggers, open_run, posts_of};
 use crate::run_threads::{Left, Seated, run_threads};
+use crate::screen::{Screen, Shows};
 use crate::session::Desk;
 use crate::sfc_debug::debugger::Debugger;
 use crate::streams::{Asked, Streams};
@@ -107,27 +110,41 @@ fn finish<L: OpenedWith, C: Clock + Drop, W: Write + Drop>(
     }
 }
 
-// What the thread that prints begins with.
+// What is asked of a run, with what is shown of it.
+#[derive(Drop)]
+struct Ready<W: Write, T: Write> {
+    asked: Asked<W, T>,
+    shows: Shows,
+}
+
+// What the thread that prints begins with: two debuggers, of which the second one follows a row behind.
 fn printing_of<W: Write, T: Write>(
     tail: Tail,
-    follower: Debugger,
-    asked: Asked<W, T>,
+    followers: (Debugger, Debugger),
+    ready: Ready<W, T>,
 ) -> Printing<W, T>
     ensures tail { result.watch.tail ≡ tail }
-    ensures follower { debugger_in result.watch.alarms.follower ≡ follower }
-    ensures wanted { result.watch.wanted ≡ asked.wanted }
-    ensures writers { (result.w ≡ asked.w) × (result.teller.w ≡ asked.tells) }
+    ensures follower { debugger_in result.watch.alarms.follower ≡ followers.0 }
+    ensures before { before_in result.watch.alarms.screen ≡ followers.1 }
+    ensures shows { result.watch.alarms.screen.shows ≡ ready.shows }
+    ensures wanted { result.watch.wanted ≡ ready.asked.wanted }
+    ensures writers { (result.w ≡ ready.asked.w) × (result.teller.w ≡ ready.asked.tells) × (result.shower.w ≡ ready.asked.shower) }
 {
+    let Ready { asked, shows } = ready;
     let Asked {
         w,
         tells,
+        shower,
+        picked: _,
         wanted,
         history: _,
     } = asked;
+    let (follower, before) = followers;
     let alarms = Alarms {
         follower: Follower::new(follower),
         overruns: OverrunsTold::new(),
         losses: Losses::none(),
+        screen: Screen::new(shows, before),
     };
     Printing {
         watch: Watch {
@@ -137,6 +154,7 @@ fn printing_of<W: Write, T: Write>(
         },
         w,
         teller: Teller::new(tells),
+        shower: Teller::new(shower),
     }
 }
 
@@ -154,7 +172,7 @@ fn run_with<
     alloc: Global,
     blank: Blank,
     opened: RunDebuggers,
-    asked: Asked<W, T>,
+    ready: Ready<W, T>,
     streams: &mut Streams<'_, S, E>,
 ) -> Result<RunFaults, AllocError>
     requires name { blank.name ≡ L.name }
@@ -163,16 +181,17 @@ fn run_with<
     requires plant { plant_of opened.debugger ≡ L.plant }
     requires table { table_of opened.debugger ≡ L.table }
     requires mask { mask_of opened.debugger ≡ L.mask }
-    requires limit { asked.history ≡ L.limit }
+    requires limit { ready.asked.history ≡ L.limit }
     requires untold { Agrees opened.debugger [] }
 {
     let RunDebuggers {
         debugger,
         names,
         follower,
+        before,
     } = opened;
     let count = debugger.resource().plant().tasks().len() as u8 + 2;
-    let limit = asked.history;
+    let limit = ready.asked.history;
     let (controller, seats, tail) = Controller::<L>::open(
         alloc, blank, debugger, count, limit, FEED,
     )?;
@@ -190,7 +209,7 @@ fn run_with<
     };
     let posts = posts_of(rt, alloc, seats, &clock, controller.bells())?;
     let mut console = Console::new(alloc, seat, clock);
-    let printing = printing_of(tail, follower, asked);
+    let printing = printing_of(tail, (follower, before), ready);
     let left = {
         let desk = Desk {
             rt,
@@ -239,6 +258,20 @@ fn tell_faults<E: Write>(alloc: Global, faults: RunFaults, errors: &mut E) -> u8
     faults.status()
 }
 
+// Tells of names that are wrong, where a fault of the writer is passed over: the exit status.
+fn tell_names<E: Write>(alloc: Global, fault: PickFault, picked: &Picked, errors: &mut E) -> u8
+    ensures { IsRunStatus result }
+{
+    let mut text = Vec::new(alloc);
+    match fault.append_text(&mut text, picked) {
+        Ok(()) => {
+            let _ = put_all(errors, &text);
+            1
+        }
+        Err(_) => tell_faults(alloc, RunFaults::of_memory(), errors),
+    }
+}
+
 /// Runs a chart in real time, its clock from 0: a worker for each task in a thread of its own, a session that obeys the lines of `commands`
 /// as they come, and a thread that writes a line for each accepted command that is wanted: its number, and its line as `replay` writes it,
 /// without lines of instances. At the end of `commands` the session sends End. Then history, receipts and seats are audited, and the last
@@ -247,12 +280,12 @@ fn tell_faults<E: Write>(alloc: Global, faults: RunFaults, errors: &mut E) -> u8
 ///
 /// Whatever is wanted, alarms are told as they happen: a scan of a program that a fault ended, and one that hit a breakpoint, by all of the
 /// lines that `replay` writes; overruns by the line of their scan, at most once a second for each task; how many commands were lost in the
-/// feed. What else is wrong is told on `errors`: why the chart is refused; a line that is no command, by its number; why a command is
+/// feed. What is picked is shown where it changes (`Screen::show`). What else is wrong is told on `errors`: why the chart is refused; a line that is no command, by its number; why a command is
 /// refused; at the end a task whose scans ended before the session did, and why, and a line for each fault of the run. Faults of these
 /// writers are passed over. At most 1,048,577 bytes are taken from the chart. As many commands are held as is asked, at most: where half of
 /// them are, the run itself sends Epoch. The feed has room for 65,536 rows; a row that finds it full isn't written.
 ///
-/// The answer is the exit status: 0; 1 where the chart is refused, a program stood faulted at the end, scans of a task ended early, or the
+/// The answer is the exit status: 0; 1 where the chart is refused, a picked name is none or has no such value, a program stood faulted at the end, scans of a task ended early, or the
 /// audit fails; 3 where a reader or the writer of lines failed; 4 where memory or a thread was refused. Of several the first of 4, 3, 1. It
 /// waits for the end of `commands`, and for locks and threads.
 pub fn run_chart<
@@ -269,13 +302,18 @@ pub fn run_chart<
         Ok(opened) => opened,
         Err(error) => return end_with(alloc, error, streams.errors),
     };
+    let shows = match shows_of(alloc, opened.names.resource(), &asked.picked) {
+        Ok(shows) => shows,
+        Err(fault) => return tell_names(alloc, fault, &asked.picked, streams.errors),
+    };
+    let ready = Ready { asked, shows };
     let seats = opened.debugger.resource().plant().tasks().len() as u64 + 2;
     let ran = run_with::<Brand, R, S, W, T, E>(
         rt,
         alloc,
         Blank::new(seats),
         opened,
-        asked,
+        ready,
         streams,
     );
     let faults = match ran {

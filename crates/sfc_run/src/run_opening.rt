@@ -2,6 +2,7 @@
 
 ghost use Rattle.std.specs.Prelude.{◌≡◌, ◌≤◌, [], IfOk, length};
 ghost use Rattle.sfc_control.specs.sfc_debug.Agreement.{Agrees, table_of, mask_of};
+ghost use Rattle.sfc_control.specs.sfc_debug.Steered.{steered_by};
 ghost use Rattle.sfc_run.specs.Posting.{ArePostsOf};
 ghost use Rattle.sfc_run.specs.Running.{Opens, OpensFrom, every_kind};
 
@@ -16,6 +17,7 @@ use sfc_control::seat::Seat;
 use sfc_replay::input::read_to_end;
 use sfc_replay::opening::debugger_of_text;
 use sfc_replay::replay_error::ReplayError;
+use sfc_text::laws::one_reading;
 use std::alloc::{AllocError, Global};
 use std::io::Read;
 use std::sync::Wait;
@@ -25,7 +27,7 @@ use std::time;
 /// How many rows the debugger of a run keeps.
 const KEPT: usize = 1024;
 
-/// The debugger of a run, and two of the same chart beside it.
+/// The debugger of a run, and three of the same chart beside it.
 #[derive(Drop)]
 pub struct RunDebuggers {
     /// That of the run. The feed tells all of its commands.
@@ -34,31 +36,40 @@ pub struct RunDebuggers {
     pub names: Debugger,
     /// One that follows the run.
     pub follower: Debugger,
+    /// One that follows it a row behind.
+    pub before: Debugger,
 }
 
-// All three debuggers, each from the same bytes.
+// All four debuggers, each from the same bytes.
 fn all_of_text(alloc: Global, text: &[u8]) -> Result<RunDebuggers, ReplayError>
     ensures loads { Opens text.now result }
     ensures agrees { IfOk result (λ opened. Agrees opened.debugger []) }
     ensures follows { IfOk result (λ opened. Agrees opened.follower []) }
+    ensures before { IfOk result (λ opened. Agrees opened.before []) }
+    ensures alike { IfOk result (λ opened. steered_by opened.before ≡ steered_by opened.follower) }
     ensures table { IfOk result (λ opened. table_of opened.debugger ≡ []) }
     ensures mask { IfOk result (λ opened. mask_of opened.debugger ≡ every_kind) }
 {
     let debugger = debugger_of_text(alloc, text, KEPT, TraceMask(127))?;
     let names = debugger_of_text(alloc, text, 1, TraceMask(0))?;
     let follower = debugger_of_text(alloc, text, 1, TraceMask(0))?;
+    let before = debugger_of_text(alloc, text, 1, TraceMask(0))?;
+    one_reading();
     Ok(RunDebuggers {
         debugger,
         names,
         follower,
+        before,
     })
 }
 
-/// Reads a chart once and loads it three times. At most 1,048,577 bytes are taken from the reader. `Chart` is answered where the chart is
+/// Reads a chart once and loads it four times. At most 1,048,577 bytes are taken from the reader. `Chart` is answered where the chart is
 /// refused, `Read` where the reader failed, `Memory` where memory was refused.
 pub fn open_run<C: Read>(alloc: Global, chart: &mut C) -> Result<RunDebuggers, ReplayError>
     ensures agrees { IfOk result (λ opened. Agrees opened.debugger []) }
     ensures follows { IfOk result (λ opened. Agrees opened.follower []) }
+    ensures before { IfOk result (λ opened. Agrees opened.before []) }
+    ensures alike { IfOk result (λ opened. steered_by opened.before ≡ steered_by opened.follower) }
     ensures table { IfOk result (λ opened. table_of opened.debugger ≡ []) }
     ensures mask { IfOk result (λ opened. mask_of opened.debugger ≡ every_kind) }
     ensures loads { IfOk result (λ opened. OpensFrom (C.remaining chart.old, C.remaining chart.new) opened) }

@@ -197,11 +197,12 @@ fn keep_and_work<
     }
 }
 
-// Where lines and alarms go.
+// Where lines, alarms and what is shown go.
 #[derive(Drop)]
 struct Writers<W: Write, T: Write> {
     w: W,
     teller: Teller<T>,
+    shower: Teller<W>,
 }
 
 // What the thread that prints stands on.
@@ -232,25 +233,35 @@ fn print_all<R: Wait, W: Write, T: Write>(
 }
 
 // What printing comes to: the writer of lines is handed back.
-fn printed<R: Wait, W: Write, T: Write + Drop>(
+fn printed<R: Wait, W: Write + Drop, T: Write + Drop>(
     rt: &R,
     alloc: Global,
     bells: &Bells,
     held: Option<Watch>,
     writers: Writers<W, T>,
 ) -> (W, RunFaults) {
-    let Writers { w, teller } = writers;
+    let Writers { w, teller, shower } = writers;
     let Some(watch) = held else {
         return (w, RunFaults::none());
     };
-    let mut printing = Printing { watch, w, teller };
+    let mut printing = Printing {
+        watch,
+        w,
+        teller,
+        shower,
+    };
     let faults = print_all(rt, alloc, &mut printing, bells);
     let Printing {
         watch: _,
         w,
         teller: _,
+        shower,
     } = printing;
-    (w, faults)
+    if shower.has_failed {
+        (w, faults.with(RunFaults::of_write()))
+    } else {
+        (w, faults)
+    }
 }
 
 // Prints what the feed has beside a job, until the job is done and no row is left: what the job gave, the writer of lines, and what
@@ -320,13 +331,19 @@ pub fn run_threads<
         requires { IsSync R.row }
         ensures { IfSome result.ends (λ ends. length ends.items ≡ length posts.entry.items) }
     { keep_and_work(desk, posts, console, keeper, streams) };
-    let Printing { watch, w, teller } = printing;
+    let Printing {
+        watch,
+        w,
+        teller,
+        shower,
+    } = printing;
+    let writers = Writers { w, teller, shower };
     let board = Board {
         rt: desk.rt,
         alloc: desk.alloc,
         bells: desk.controller.bells(),
     };
-    match print_beside(board, Some(watch), Writers { w, teller }, job) {
+    match print_beside(board, Some(watch), writers, job) {
         Some((worked, w, print_faults)) => {
             let Worked {
                 keeper,

@@ -1,5 +1,6 @@
 //! Where a run reads and writes.
 
+use crate::picked::Picked;
 use crate::sfc_debug::trace_mask::TraceMask;
 use std::io::{Read, Write};
 
@@ -19,6 +20,10 @@ pub struct Asked<W: Write, T: Write> {
     pub w: W,
     /// Where alarms go.
     pub tells: T,
+    /// Where what is shown goes.
+    pub shower: W,
+    /// What is shown.
+    pub picked: Picked,
     /// Which commands have lines.
     pub wanted: TraceMask,
     /// How many commands may be held, from 1 to 1,048,576.

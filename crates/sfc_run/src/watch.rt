@@ -8,7 +8,7 @@ ghost use Rattle.sfc_run.specs.Alarms.{IsTold};
 ghost use Rattle.sfc_run.specs.Following.{debugger_in};
 ghost use Rattle.sfc_run.specs.Printing.{Gathers, Reaches, line_if, steered_of};
 
-use crate::alarms::Alarms;
+use crate::alarms::{Alarms, Told};
 use crate::draining::{Drained, Found, RowsEnded, look};
 use crate::sfc_debug::trace_mask::TraceMask;
 use crate::sfc_output::command::append_row;
@@ -35,8 +35,8 @@ pub struct Watch {
 pub struct Texts {
     /// Their lines.
     pub lines: Vec<u8>,
-    /// What is told of them.
-    pub alarms: Vec<u8>,
+    /// What is told and shown of them.
+    pub told: Told,
 }
 
 /// What a look for rows comes to.
@@ -72,11 +72,13 @@ impl Watch {
         ensures line { OnOk result (texts.new.lines.items ≡ texts.old.lines.items ++ line_if self.old.wanted (steered_of self.old) row) }
         ensures steered { steered_of self.new ≡ steered_of self.old }
         ensures told { (h : CommandHistory) → Agrees (debugger_in self.old.alarms.follower) h →
-            OnOk result ((behind : CommandHistory) × (text : List ℕ) × (texts.new.alarms.items ≡ texts.old.alarms.items ++ text)
-            × IsTold self.old.alarms self.new.alarms row h behind text) }
+            OnOk result ((behind : CommandHistory) × (text : List ℕ) × (shown : List ℕ)
+            × (texts.new.told.alarms.items ≡ texts.old.told.alarms.items ++ text)
+            × (texts.new.told.changes.items ≡ texts.old.told.changes.items ++ shown)
+            × IsTold self.old.alarms self.new.alarms row h behind text shown) }
     {
         self.append_line(&mut texts.lines, row)?;
-        self.alarms.take(alloc, &mut texts.alarms, row)
+        self.alarms.take(alloc, &mut texts.told, row)
     }
 
     /// Takes rows that have come, 256 at most, and puts their lines and what is told of them at the end of the texts; whether there were

@@ -5,6 +5,7 @@ use crate::lasting::Lasting;
 use crate::sfc_debug::trace_mask::TraceMask;
 use clap::builder::ValueParser;
 use clap::error::ErrorKind;
+use clap::parser::ValueSource;
 use clap::{Arg, ArgAction, ArgMatches, Command, Error};
 use sfc_lint::kind::kind_named;
 use sfc_replay::replay_error::ReplayError;
@@ -48,6 +49,12 @@ pub struct Running {
     pub history: usize,
     /// How long it lasts.
     pub lasting: Lasting,
+    /// Whether it is shown what changes.
+    pub changes: bool,
+    /// The names of variables that are shown where they change.
+    pub watched: Vec<String>,
+    /// What is shown at a fault and at the end, as NAME=VALUE.
+    pub at_end: Vec<String>,
 }
 
 /// What a drawing shows.
@@ -212,6 +219,11 @@ output: its number, and its line as 'replay' prints it. The last line is 'audit 
 stands why a command is refused, 'script line N' for a line that is no command, and, whatever --trace picks, each scan of a program that
 ended with a fault or hit a breakpoint, as 'replay' prints it, and overruns.
 
+With --show changes, a command that changes something has its line, and below it what it changed: the line of each program whose active
+steps, cleared transitions or executed actions are others than before, as 'replay' prints it, and 'Pump TRUE' for each output and each
+variable of --watch that reads another value. Other commands have lines only where --trace picks them. A program beside the machine takes
+its terminals from these lines, and with --at-end Pump=FALSE is told what is safe when a program has died.
+
 A session that starts a pump, halts it, reads, forces, lets go and ends, and what is printed of it, beside the lines of scans:
   ; start it                   7 T#1s_100ms INPUT Start TRUE
   INPUT Start TRUE             13 T#2s_100ms READ Pump TRUE
@@ -241,6 +253,8 @@ Exit status:
 Examples:
   sfcmon run examples/pump.chart
   sfcmon run --trace 126 examples/pump.chart
+  sfcmon run --show changes examples/pump.chart
+  sfcmon run --forever --watch Pump --at-end Pump=FALSE examples/pump.chart
   sfcmon run --for T#8h --trace 0 examples/pump.chart </dev/null
 
 docs/FORMATS.md says what each line is, docs/RUNNING.md how a machine is run.";
@@ -618,7 +632,32 @@ fn trace_argument<'a>(alloc: Global) -> Arg<'a> {
         .value_name("N")
         .value_parser(ValueParser::Unsigned(0, 127))
         .default_value("127")
-        .help("Which commands have lines: a sum of the numbers below, 0 to 127")
+        .help("Which commands have lines: a sum of the numbers below, 0 to 127; with --show or --watch none has without it")
+}
+
+// The argument by which it is shown what changes.
+fn show_argument<'a>(alloc: Global) -> Arg<'a> {
+    Arg::new(alloc, "show").long("show").value_name("changes").help(
+        "Shows each scan that changes steps, cleared transitions, executed actions or outputs, and what it changes",
+    )
+}
+
+// The argument that names variables that are shown where they change.
+fn watch_argument<'a>(alloc: Global) -> Arg<'a> {
+    Arg::new(alloc, "watch")
+        .long("watch")
+        .value_name("NAME,..")
+        .action(ArgAction::Append)
+        .help("Shows these variables where they change, each as NAME VALUE")
+}
+
+// The argument that says what is shown at a fault and at the end.
+fn at_end_argument<'a>(alloc: Global) -> Arg<'a> {
+    Arg::new(alloc, "at-end")
+        .long("at-end")
+        .value_name("NAME=VALUE,..")
+        .action(ArgAction::Append)
+        .help("Shows these values, each as NAME VALUE, where a fault ends a program's scan, and at the end")
 }
 
 // The argument that says how many commands may be held.
@@ -659,6 +698,9 @@ fn run_command<'a>(alloc: Global) -> Result<Command<'a>, AllocError> {
         .arg(history_argument(alloc))?
         .arg(for_argument(alloc))?
         .arg(forever_argument(alloc)?)?
+        .arg(show_argument(alloc))?
+        .arg(watch_argument(alloc))?
+        .arg(at_end_argument(alloc))?
         .arg(chart_argument(alloc))
 }
 
@@ -1088,11 +1130,41 @@ fn lasting_of(matches: &ArgMatches) -> Option<Lasting> {
     }
 }
 
+// Whether it is shown what changes; `None` where another word stands there.
+fn shows_changes(matches: &ArgMatches) -> Option<bool> {
+    match matches.get_str("show") {
+        None => Some(false),
+        Some("changes") => Some(true),
+        Some(_) => None,
+    }
+}
+
+// The names of an option that may be given several times, each with commas between its names.
+fn names_of(alloc: Global, matches: &ArgMatches, name: &str) -> Result<Vec<String>, AllocError> {
+    match matches.get_strs(name) {
+        Some(words) => names_in(alloc, words),
+        None => Ok(Vec::new(alloc)),
+    }
+}
+
+// Which commands of a run have lines: none where something is shown instead, and the mask isn't given.
+fn lines_of(matches: &ArgMatches, mask: u8, is_shown: bool) -> TraceMask {
+    if is_shown && matches.value_source("trace") != Some(ValueSource::CommandLine) {
+        TraceMask(0)
+    } else {
+        TraceMask(mask)
+    }
+}
+
 // A chart to be run, where one is named.
 fn run_request(alloc: Global, matches: &ArgMatches) -> Result<Request, Error> {
     let Some(lasting) = lasting_of(matches) else {
         return Err(invalid(alloc, "--for wants a time above zero, such as T#8h")?);
     };
+    let Some(changes) = shows_changes(matches) else {
+        return Err(invalid(alloc, "--show wants the word 'changes'")?);
+    };
+    let watched = names_of(alloc, matches, "watch")?;
     match (
         matches.get_str("FILE"),
         matches.get_one::<u8>("trace"),
@@ -1100,9 +1172,12 @@ fn run_request(alloc: Global, matches: &ArgMatches) -> Result<Request, Error> {
     ) {
         (Some(chart), Some(mask), Some(history)) => Ok(Request::Run(Running {
             chart: String::from_str(alloc, chart)?,
-            mask: TraceMask(mask),
+            mask: lines_of(matches, mask, changes || !watched.is_empty()),
             history,
             lasting,
+            changes,
+            watched,
+            at_end: names_of(alloc, matches, "at-end")?,
         })),
         _ => Ok(Request::Answered(2)),
     }
@@ -1189,10 +1264,7 @@ fn wave_request(alloc: Global, matches: &ArgMatches) -> Result<Request, AllocErr
     } else {
         Form::Dump
     };
-    let only = match matches.get_strs("only") {
-        Some(words) => names_in(alloc, words)?,
-        None => Vec::new(alloc),
-    };
+    let only = names_of(alloc, matches, "only")?;
     Ok(Request::Wave(Waving {
         chart: String::from_str(alloc, chart)?,
         script: String::from_str(alloc, script)?,

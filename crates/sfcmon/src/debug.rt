@@ -97,6 +97,7 @@ pub fn debug_file<R: Eprint + Files + AllocGlobal>(rt: &R, streams: Streams, cha
     let Streams {
         mut input,
         output,
+        shower: _,
         alarms: _,
         errors: _,
     } = streams;

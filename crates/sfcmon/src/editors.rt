@@ -57,6 +57,7 @@ pub fn serve_language<R: Eprint + Files + AllocGlobal>(rt: &R, streams: Streams)
     let Streams {
         mut input,
         mut output,
+        shower: _,
         alarms: _,
         errors: _,
     } = streams;
@@ -73,6 +74,7 @@ pub fn serve_debugger<R: Eprint + Files + AllocGlobal>(rt: &R, streams: Streams)
     let Streams {
         mut input,
         mut output,
+        shower: _,
         alarms: _,
         errors: _,
     } = streams;

@@ -5,6 +5,7 @@ use crate::lasting::{Lasting, LastingInput};
 use sfc_replay::check::{check_chart, list_chart};
 use sfc_replay::replay::{replay, replay_strict};
 use sfc_replay::replay_error::ReplayError;
+use sfc_run::picked::Picked;
 use sfc_run::run::run_chart;
 use sfc_run::streams::{Asked, Streams as RunStreams};
 use std::alloc::{AllocError, Global};
@@ -121,6 +122,8 @@ pub fn replay_files<R: Print + Eprint + Files + AllocGlobal>(
 pub struct Streams {
     pub input: Stdin,
     pub output: Stdout,
+    /// Standard output, for what is shown of a run.
+    pub shower: Stdout,
     /// Standard error, for what is told as it happens.
     pub alarms: Stderr,
     /// Standard error, for all else.
@@ -147,6 +150,24 @@ where
     run_chart(rt, rt.alloc(), chart, asked, &mut session)
 }
 
+// The bytes of words.
+fn bytes_of(alloc: Global, words: &[String]) -> Result<Vec<Vec<u8>>, AllocError> {
+    let mut texts = Vec::new(alloc);
+    for word in words {
+        texts.push(word.as_bytes().to_vec(alloc)?)?;
+    }
+    Ok(texts)
+}
+
+// What of a run is shown.
+fn picked_of(alloc: Global, running: &Running) -> Result<Picked, AllocError> {
+    Ok(Picked {
+        changes: running.changes,
+        watched: bytes_of(alloc, &running.watched)?,
+        at_end: bytes_of(alloc, &running.at_end)?,
+    })
+}
+
 /// Runs the chart of a file in real time, with a session on standard input: the exit status. A file that can't be opened is a read fault.
 pub fn run_file<R>(rt: &R, streams: Streams, running: &Running) -> u8
 where
@@ -168,12 +189,18 @@ where
     let Streams {
         mut input,
         output,
+        shower,
         alarms,
         mut errors,
     } = streams;
+    let Ok(picked) = picked_of(rt.alloc(), running) else {
+        return end_with(rt, ReplayError::Memory);
+    };
     let asked = Asked {
         w: output,
         tells: alarms,
+        shower,
+        picked,
         wanted: running.mask,
         history: running.history,
     };

@@ -116,6 +116,7 @@ fn main(rt: HostRuntime) -> ExitCode {
     let streams = Streams {
         input: rt.stdin(),
         output: rt.stdout(),
+        shower: rt.stdout(),
         alarms: rt.stderr(),
         errors: rt.stderr(),
     };

@@ -1,9 +1,9 @@
 use Rattle.sfc_run.specs.Printing.{Reaches}
-use Rattle.sfc_run.proofs.RowLines.{Told}
+use Rattle.sfc_run.proofs.RowLines.{HasTold}
 use Rattle.sfc_run.proofs.printing.print_rows.Given as goal
 
 abbrev pub invariant-rounds : goal.invariant-rounds
 invariant-rounds g l = record {
-  lines : Told g.W.Write.contents g.T.Write.contents l.initial.printing l.printing;
+  lines : HasTold g.W.Write.contents g.T.Write.contents l.initial.printing l.printing;
   known : Reaches l.initial.printing.watch.tail l.printing.watch.tail;
 }

@@ -32,12 +32,17 @@ returns-clause-lines g c =
         λ h agrees.
             let a = was.2.alarms h agrees in
             let told : c.deref.result.now ≡ a.1 =
-            c.deref.ensures.value ∙ a.2 ∙ ap (λ (t : List ℕ). t ++ a.1) c.new-2.ensures.items in (
+            c.deref.ensures.value ∙ a.3 ∙ ap (λ (t : List ℕ). t ++ a.1) c.new-2.ensures.items in
+            let shown : c.deref-3.result.now ≡ a.2 =
+            c.deref-3.ensures.value ∙ a.4 ∙ ap (λ (t : List ℕ). t ++ a.2) c.new-3.ensures.items in (
               a.0,
               a.1,
-              a.3,
+              a.2,
+              a.5,
               subst (λ (t : List ℕ). Passes c.tell.new.self.has_failed c.args.printing.now.teller.has_failed
                   (g.T.Write.contents c.args.printing.now.teller.w) (g.T.Write.contents c.tell.new.self.w) t) told c.tell.ensures,
+              subst (λ (t : List ℕ). Passes c.tell-2.new.self.has_failed c.args.printing.now.shower.has_failed
+                  (g.W.Write.contents c.args.printing.now.shower.w) (g.W.Write.contents c.tell-2.new.self.w) t) shown c.tell-2.ensures,
             ),
       ),
     )

@@ -6,4 +6,4 @@ ghosts-run_with-L-Ledger g a = record { name = a.blank.name; parts = a.blank.par
 
 abbrev pub ghosts-run_with-L-OpenedWith : goal.ghosts-run_with-L-OpenedWith
 ghosts-run_with-L-OpenedWith g a =
-    record { plant = plant_of a.opened.debugger; table = table_of a.opened.debugger; mask = mask_of a.opened.debugger; limit = a.asked.history }
+    record { plant = plant_of a.opened.debugger; table = table_of a.opened.debugger; mask = mask_of a.opened.debugger; limit = a.ready.asked.history }
