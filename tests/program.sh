@@ -761,6 +761,20 @@ wait "$number"
 status=$?
 [ "$status" = 143 ] && calm && [ ! -s "$work/out" ]
 note $? "without a session until a signal"
+# the scans of two tasks, one of them by an edge that comes twice, as their lines have them
+sed 's/TASK Main(.*PRIORITY := 1);/TASK Main(INTERVAL := T#20ms, PRIORITY := 1); TASK Edge(SINGLE := Start, PRIORITY := 2);/
+  s/PROGRAM Pump1 WITH Main : PumpControl;/PROGRAM Pump1 WITH Main : PumpControl; PROGRAM Pump2 WITH Edge : PumpControl;/' \
+  "$examples/pump.chart" >"$work/timed.chart"
+for line in 'INPUT Start TRUE' 'INPUT Start FALSE' 'INPUT Start TRUE' STOP 'SINGLE Main T#20ms' GO; do sleep 0.1; echo "$line"; done \
+  | "$program" run --timing "$work/timed.chart" >"$work/out" 2>"$work/err"
+status=${PIPESTATUS[1]}
+number='-?[0-9]+'
+ends 0 && grep -qxE "Main had $(grep -cE ' (SCAN|SINGLE) Main ' "$work/out") scans, $(grep -E ' (SCAN|SINGLE) Main ' "$work/out" | tail -n 1 | sed 's/.* //') overruns, \
+late by $number least, (over )?[0-9]+ median, (over )?[0-9]+ of 99 %, $number greatest microseconds" "$work/err" \
+  && grep -qxF 'Edge had 2 scans, 0 overruns' "$work/err" \
+  && sed -nE "s/^Main .* late by ($number) least, ([0-9]+) median, ([0-9]+) of 99 %, ($number) greatest.*/\\1 \\2 \\3 \\4/p" "$work/err" \
+  | awk '0 <= $1 && $1 <= $2 && $2 <= $3 && $3 <= $4 && $4 < 1000000 { good = 1 } END { exit !good }'
+note $? "how late scans were"
 # a program divides by an input once it is started; another one goes on
 cat >"$work/dying.chart" <<'CHART'
 PROGRAM Divide

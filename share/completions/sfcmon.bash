@@ -23,7 +23,7 @@ _sfcmon() {
     help:*) mapfile -t COMPREPLY < <(compgen -W "$commands" -- "$word") ;;
     why:-*) mapfile -t COMPREPLY < <(compgen -W '-h --help --all' -- "$word") ;;
     replay:-*) mapfile -t COMPREPLY < <(compgen -W '-h --help --strict' -- "$word") ;;
-    run:-*) mapfile -t COMPREPLY < <(compgen -W '-h --help --trace --history --for --forever --show --watch --at-end' -- "$word") ;;
+    run:-*) mapfile -t COMPREPLY < <(compgen -W '-h --help --trace --history --for --forever --show --watch --at-end --timing' -- "$word") ;;
     draw:-*) mapfile -t COMPREPLY < <(compgen -W '-h --help --program --after --cover --dot' -- "$word") ;;
     wave:-*) mapfile -t COMPREPLY < <(compgen -W '-h --help --raw --svg --only --gtkw' -- "$word") ;;
     cover:-*) mapfile -t COMPREPLY < <(compgen -W '-h --help --min' -- "$word") ;;

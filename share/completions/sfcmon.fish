@@ -36,6 +36,7 @@ complete -c sfcmon -n '__fish_seen_subcommand_from run' -l for -x -d 'ends so lo
 complete -c sfcmon -n '__fish_seen_subcommand_from run' -l show -x -a changes -d 'shows what changes'
 complete -c sfcmon -n '__fish_seen_subcommand_from run' -l watch -x -d 'variables that are shown where they change'
 complete -c sfcmon -n '__fish_seen_subcommand_from run' -l at-end -x -d 'NAME=VALUE, shown at a fault and at the end'
+complete -c sfcmon -n '__fish_seen_subcommand_from run' -l timing -d 'tells at the end how late scans were'
 complete -c sfcmon -n '__fish_seen_subcommand_from run' -l forever -d 'goes on until a signal ends the process'
 complete -c sfcmon -n '__fish_seen_subcommand_from draw' -l program -x -d 'draw this program type alone'
 complete -c sfcmon -n '__fish_seen_subcommand_from draw' -l after -r -d 'draw the instances behind a script'

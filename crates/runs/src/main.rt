@@ -26,6 +26,7 @@ fn main(rt: HostRuntime) -> ExitCode {
             watched: Vec::new(rt.alloc()),
             at_end: Vec::new(rt.alloc()),
         },
+        timing: false,
         wanted: TraceMask(0),
         history: 1_048_576,
     };

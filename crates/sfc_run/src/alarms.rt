@@ -16,6 +16,7 @@ use crate::follower::Follower;
 use crate::losses::Losses;
 use crate::overruns::OverrunsTold;
 use crate::screen::{Screen, is_end};
+use crate::timing::Timing;
 use crate::sfc_debug::debugger::Debugger;
 use crate::sfc_output::answer::append_answer;
 use crate::sfc_output::command::append_row;
@@ -37,6 +38,8 @@ pub struct Alarms {
     pub losses: Losses,
     /// What is shown where it changes.
     pub screen: Screen,
+    /// How late scans were, where that is measured.
+    pub timing: Timing,
 }
 
 /// What rows come to beside their lines.
@@ -222,6 +225,7 @@ impl Alarms {
     {
         let lost = self.follower.follow(row);
         let is_due = self.overruns.is_due(row);
+        self.timing.note(row);
         append_losses(&mut told.alarms, &mut self.losses, lost, row)?;
         append_alarm(alloc, &mut told.alarms, &self.follower, row, is_due)?;
         self.screen.show(alloc, &mut told.changes, &self.follower, row)

@@ -14,6 +14,7 @@
 //! - `run`: a chart from its bytes to the audit; `run_opening`: what it is opened with; `run_threads`: its threads.
 //! - `run_faults`: what went wrong in a run, with its exit status.
 //! - `session`: lines that are obeyed as they come; `streams`: where a run reads and writes.
+//! - `timing`: how late scans were.
 //! - `worker_ends`: why workers ended.
 #![tactic(auto)]
 
@@ -37,6 +38,7 @@ pub mod screen;
 pub mod session;
 pub mod streams;
 pub mod teller;
+pub mod timing;
 pub mod watch;
 mod worker_ends;
 

@@ -26,7 +26,7 @@ pub struct OverrunsTold {
 }
 
 // The task of a scan.
-fn task_of(command: Command) -> Option<TaskId>
+pub(crate) fn task_of(command: Command) -> Option<TaskId>
     ensures { result ≡ rules.task_of command }
 {
     match command {

@@ -25,6 +25,7 @@ use crate::session::Desk;
 use crate::sfc_debug::debugger::Debugger;
 use crate::streams::{Asked, Streams};
 use crate::teller::Teller;
+use crate::timing::Timing;
 use crate::watch::Watch;
 use crate::worker_ends::tell_ends;
 use sfc_base::write_fault::put_all;
@@ -32,6 +33,7 @@ use sfc_control::clock::Clock;
 use sfc_control::controller::Controller;
 use sfc_control::opened_with::OpenedWith;
 use sfc_control::tail::Tail;
+use sfc_plant::plant::Plant;
 use sfc_replay::replay_error::ReplayError;
 use std::alloc::{AllocError, Global};
 use std::io::{Read, Write};
@@ -115,6 +117,7 @@ fn finish<L: OpenedWith, C: Clock + Drop, W: Write + Drop>(
 struct Ready<W: Write, T: Write> {
     asked: Asked<W, T>,
     shows: Shows,
+    timing: Timing,
 }
 
 // What the thread that prints begins with: two debuggers, of which the second one follows a row behind.
@@ -130,12 +133,17 @@ fn printing_of<W: Write, T: Write>(
     ensures wanted { result.watch.wanted ≡ ready.asked.wanted }
     ensures writers { (result.w ≡ ready.asked.w) × (result.teller.w ≡ ready.asked.tells) × (result.shower.w ≡ ready.asked.shower) }
 {
-    let Ready { asked, shows } = ready;
+    let Ready {
+        asked,
+        shows,
+        timing,
+    } = ready;
     let Asked {
         w,
         tells,
         shower,
         picked: _,
+        timing: _,
         wanted,
         history: _,
     } = asked;
@@ -145,6 +153,7 @@ fn printing_of<W: Write, T: Write>(
         overruns: OverrunsTold::new(),
         losses: Losses::none(),
         screen: Screen::new(shows, before),
+        timing,
     };
     Printing {
         watch: Watch {
@@ -258,6 +267,15 @@ fn tell_faults<E: Write>(alloc: Global, faults: RunFaults, errors: &mut E) -> u8
     faults.status()
 }
 
+// What measures how late scans are, where that is asked for.
+fn timing_of(alloc: Global, plant: &Plant, is_asked: bool) -> Result<Timing, AllocError> {
+    if is_asked {
+        Timing::of(alloc, plant)
+    } else {
+        Ok(Timing::none(alloc))
+    }
+}
+
 // Tells of names that are wrong, where a fault of the writer is passed over: the exit status.
 fn tell_names<E: Write>(alloc: Global, fault: PickFault, picked: &Picked, errors: &mut E) -> u8
     ensures { IsRunStatus result }
@@ -281,7 +299,7 @@ fn tell_names<E: Write>(alloc: Global, fault: PickFault, picked: &Picked, errors
 /// Whatever is wanted, alarms are told as they happen: a scan of a program that a fault ended, and one that hit a breakpoint, by all of the
 /// lines that `replay` writes; overruns by the line of their scan, at most once a second for each task; how many commands were lost in the
 /// feed. What is picked is shown where it changes (`Screen::show`). What else is wrong is told on `errors`: why the chart is refused; a line that is no command, by its number; why a command is
-/// refused; at the end a task whose scans ended before the session did, and why, and a line for each fault of the run. Faults of these
+/// refused; at the end how late scans were, where that is asked for, a task whose scans ended before the session did, and why, and a line for each fault of the run. Faults of these
 /// writers are passed over. At most 1,048,577 bytes are taken from the chart. As many commands are held as is asked, at most: where half of
 /// them are, the run itself sends Epoch. The feed has room for 65,536 rows; a row that finds it full isn't written.
 ///
@@ -306,7 +324,14 @@ pub fn run_chart<
         Ok(shows) => shows,
         Err(fault) => return tell_names(alloc, fault, &asked.picked, streams.errors),
     };
-    let ready = Ready { asked, shows };
+    let Ok(timing) = timing_of(alloc, opened.names.resource().plant(), asked.timing) else {
+        return tell_faults(alloc, RunFaults::of_memory(), streams.errors);
+    };
+    let ready = Ready {
+        asked,
+        shows,
+        timing,
+    };
     let seats = opened.debugger.resource().plant().tasks().len() as u64 + 2;
     let ran = run_with::<Brand, R, S, W, T, E>(
         rt,

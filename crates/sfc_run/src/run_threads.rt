@@ -232,6 +232,18 @@ fn print_all<R: Wait, W: Write, T: Write>(
     }
 }
 
+// Tells how late scans were, where that was measured.
+fn tell_timing<W: Write, T: Write>(alloc: Global, printing: &mut Printing<W, T>) -> RunFaults {
+    let alarms = &printing.watch.alarms;
+    let plant = alarms.follower.debugger().resource().plant();
+    let mut text = Vec::new(alloc);
+    if alarms.timing.append_text(&mut text, plant).is_err() {
+        return RunFaults::of_memory();
+    }
+    printing.teller.tell(&text);
+    RunFaults::none()
+}
+
 // What printing comes to: the writer of lines is handed back.
 fn printed<R: Wait, W: Write + Drop, T: Write + Drop>(
     rt: &R,
@@ -251,6 +263,7 @@ fn printed<R: Wait, W: Write + Drop, T: Write + Drop>(
         shower,
     };
     let faults = print_all(rt, alloc, &mut printing, bells);
+    let faults = faults.with(tell_timing(alloc, &mut printing));
     let Printing {
         watch: _,
         w,

@@ -24,6 +24,8 @@ pub struct Asked<W: Write, T: Write> {
     pub shower: W,
     /// What is shown.
     pub picked: Picked,
+    /// Whether it is told at the end how late the scans of each task were.
+    pub timing: bool,
     /// Which commands have lines.
     pub wanted: TraceMask,
     /// How many commands may be held, from 1 to 1,048,576.

@@ -55,6 +55,8 @@ pub struct Running {
     pub watched: Vec<String>,
     /// What is shown at a fault and at the end, as NAME=VALUE.
     pub at_end: Vec<String>,
+    /// Whether it is told at the end how late scans were.
+    pub timing: bool,
 }
 
 /// What a drawing shows.
@@ -688,6 +690,14 @@ fn forever_argument<'a>(alloc: Global) -> Result<Arg<'a>, AllocError> {
         .conflicts_with("for")
 }
 
+// The argument by which it is told how late scans were.
+fn timing_argument<'a>(alloc: Global) -> Arg<'a> {
+    Arg::new(alloc, "timing")
+        .long("timing")
+        .action(ArgAction::SetTrue)
+        .help("Tells at the end, on standard error, how late the scans of each task were")
+}
+
 fn run_command<'a>(alloc: Global) -> Result<Command<'a>, AllocError> {
     Command::new(alloc, "run")
         .about(
@@ -701,6 +711,7 @@ fn run_command<'a>(alloc: Global) -> Result<Command<'a>, AllocError> {
         .arg(show_argument(alloc))?
         .arg(watch_argument(alloc))?
         .arg(at_end_argument(alloc))?
+        .arg(timing_argument(alloc))?
         .arg(chart_argument(alloc))
 }
 
@@ -1178,6 +1189,7 @@ fn run_request(alloc: Global, matches: &ArgMatches) -> Result<Request, Error> {
             changes,
             watched,
             at_end: names_of(alloc, matches, "at-end")?,
+            timing: matches.get_flag("timing"),
         })),
         _ => Ok(Request::Answered(2)),
     }

@@ -201,6 +201,7 @@ where
         tells: alarms,
         shower,
         picked,
+        timing: running.timing,
         wanted: running.mask,
         history: running.history,
     };
