@@ -40,7 +40,8 @@ alike_at one other (suc n) s e lt = elim (cases_eq s n) [
 pub alike_where : (xs ys : List Bool) (n : ℕ) (one other : ℕ → Bool) (b : Bool) → length xs ≡ n → length ys ≡ n
     → ((s : ℕ) → s < n → flag xs s ≡ one s) → ((s : ℕ) → s < n → flag ys s ≡ other s) → ((b ≡ true) ↔ (xs ≡ ys)) → b ≡ are_alike one other n
 alike_where xs ys n one other b ex ey shown told same =
-    same_from_decides {P = xs ≡ ys} b (are_alike one other n) (same.0, same.1)
-    (λ all. ext_get_or false xs ys (ex ∙ sym ey) (λ s lt. let under : s < n = omega arith in
-        shown s under ∙ alike_at one other n s all under ∙ sym (told s under)),
-     λ e. alike_from one other n (λ s lt. sym (shown s lt) ∙ ap (λ (zs : List Bool). flag zs s) e ∙ told s lt))
+    same_from_decides {P = xs ≡ ys} b (are_alike one other n) (same.0, same.1) (
+      λ all. ext_get_or false xs ys (ex ∙ sym ey) (λ s lt. let under : s < n = omega arith in
+          shown s under ∙ alike_at one other n s all under ∙ sym (told s under)),
+      λ e. alike_from one other n (λ s lt. sym (shown s lt) ∙ ap (λ (zs : List Bool). flag zs s) e ∙ told s lt),
+    )

@@ -207,7 +207,7 @@ impl Panel {
         passed: Passed<'_>,
         answer: &Answer,
     ) -> Result<(), AllocError>
-            ensures { (h g : History) → Stands passed.entry h g →
+        ensures { (h g : History) → Stands passed.entry h g →
             OnOk result (out.new.items ≡ out.old.items ++ changes.changes self.now (plant_of passed.entry.before.now)
             (state_of (plant_of passed.entry.before.now) h) (state_of (plant_of passed.entry.before.now) g) answer.now) }
     {

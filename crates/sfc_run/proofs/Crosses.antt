@@ -1,4 +1,4 @@
--- Which values may go to another thread: the end of a feed, a debugger that follows, what is read of a run, and what a thread's job captures.
+-- Which values may go to another thread: the end of a feed, a debugger that follows, what is shown, what is read of a run, and what a thread's job captures.
 use mir.Syntax.{Sym, Ty}
 use denote.Exit.{no}
 use denote.Param.{arg, param}
@@ -15,6 +15,7 @@ use Rattle.sfc_events.proofs.command.TraceRow.TheSendSync as row
 use Rattle.sfc_control.proofs.of_sfc_debug.Crosses.{debugger_send}
 use Rattle.sfc_control.specs.contracts.tail.Tail as Tail
 use Rattle.sfc_run.specs.contracts.follower.Follower as Follower
+use Rattle.sfc_run.specs.contracts.screen.Screen as Screen
 use Rattle.sfc_run.specs.contracts.watch.Watch as Watch
 
 tail_send : IsSend (Tail.the_field).row
@@ -23,8 +24,11 @@ tail_send = search (sendable, crosses, consumer.the_field_send, row.the_send) de
 follower_send : IsSend (Follower.the_field).row
 follower_send = search (sendable, debugger_send)
 
+screen_send : IsSend (Screen.the_field).row
+screen_send = search (sendable, crosses, debugger_send) depth 20
+
 pub watch_send : IsSend (Watch.the_field).row
-watch_send = search (sendable, crosses, follower_send, tail_send) depth 20
+watch_send = search (sendable, crosses, follower_send, screen_send, tail_send) depth 20
 
 -- A job that captures values of these types. Written out, since the prover's own search goes through all that a debugger is made of.
 pub job_send : (ν : Sym) (δ : Ty) (Ts : List RattleType) → AllSend (rows (parts Ts)) → IsSend (param 1 (arg δ no (TupleAt ν Ts)))

@@ -16,10 +16,10 @@ use crate::follower::Follower;
 use crate::losses::Losses;
 use crate::overruns::OverrunsTold;
 use crate::screen::{Screen, is_end};
-use crate::timing::Timing;
 use crate::sfc_debug::debugger::Debugger;
 use crate::sfc_output::answer::append_answer;
 use crate::sfc_output::command::append_row;
+use crate::timing::Timing;
 use sfc_base::ids::ProgId;
 use sfc_events::command::{Answer, TraceRow};
 use sfc_events::instance_set::InstanceSet;
@@ -211,12 +211,7 @@ impl Alarms {
     /// Beside it stands at the end what is shown of the row: what `Screen::show` says.
     ///
     /// The one error is that memory was refused.
-    pub fn take(
-        &mut self,
-        alloc: Global,
-        told: &mut Told,
-        row: TraceRow,
-    ) -> Result<(), AllocError>
+    pub fn take(&mut self, alloc: Global, told: &mut Told, row: TraceRow) -> Result<(), AllocError>
         ensures steered { steered_in self.new.follower ≡ steered_in self.old.follower }
         ensures told { (h : CommandHistory) → Agrees (debugger_in self.old.follower) h →
             OnOk result ((behind : CommandHistory) × (text : List ℕ) × (shown : List ℕ)
@@ -228,6 +223,7 @@ impl Alarms {
         self.timing.note(row);
         append_losses(&mut told.alarms, &mut self.losses, lost, row)?;
         append_alarm(alloc, &mut told.alarms, &self.follower, row, is_due)?;
-        self.screen.show(alloc, &mut told.changes, &self.follower, row)
+        self.screen
+            .show(alloc, &mut told.changes, &self.follower, row)
     }
 }

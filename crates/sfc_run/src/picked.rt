@@ -161,11 +161,7 @@ fn append_word(
 }
 
 // The lines of names with values.
-fn lines_of(
-    alloc: Global,
-    resource: &Resource,
-    words: &[Vec<u8>],
-) -> Result<Vec<u8>, PickFault> {
+fn lines_of(alloc: Global, resource: &Resource, words: &[Vec<u8>]) -> Result<Vec<u8>, PickFault> {
     let mut lines = Vec::new(alloc);
     for (place, word) in words.iter().enumerate() {
         if !append_word(alloc, &mut lines, resource, word)? {
@@ -177,11 +173,7 @@ fn lines_of(
 
 /// What of a run is shown: lines of programs and outputs where they are wanted, and the variables that are named. `NoVariable` and
 /// `NoValue` tell of the first name that is wrong, `Memory` that memory was refused.
-pub fn shows_of(
-    alloc: Global,
-    resource: &Resource,
-    picked: &Picked,
-) -> Result<Shows, PickFault>
+pub fn shows_of(alloc: Global, resource: &Resource, picked: &Picked) -> Result<Shows, PickFault>
     ensures shown { IfOk result (λ shows. rules.Picks (plant_of resource.now) picked.now shows) }
 {
     let variables = shown_variables(alloc, resource, picked.changes, &picked.watched)?;

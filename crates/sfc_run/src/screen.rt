@@ -90,7 +90,11 @@ fn append_headed(
 fn append_closing(out: &mut Vec<u8>, at_end: &[u8], row: TraceRow) -> Result<(), AllocError>
     ensures { OnOk result (out.new.items ≡ out.old.items ++ rules.closing_text (rules.closes row) at_end.now) }
 {
-    if closes(row) { append(out, at_end) } else { Ok(()) }
+    if closes(row) {
+        append(out, at_end)
+    } else {
+        Ok(())
+    }
 }
 
 // What has changed between two debuggers, where that is known.

@@ -634,14 +634,19 @@ fn trace_argument<'a>(alloc: Global) -> Arg<'a> {
         .value_name("N")
         .value_parser(ValueParser::Unsigned(0, 127))
         .default_value("127")
-        .help("Which commands have lines: a sum of the numbers below, 0 to 127; with --show or --watch none has without it")
+        .help(
+            "Which commands have lines: a sum of the numbers below, 0 to 127; with --show or --watch none has without it",
+        )
 }
 
 // The argument by which it is shown what changes.
 fn show_argument<'a>(alloc: Global) -> Arg<'a> {
-    Arg::new(alloc, "show").long("show").value_name("changes").help(
-        "Shows each scan that changes steps, cleared transitions, executed actions or outputs, and what it changes",
-    )
+    Arg::new(alloc, "show")
+        .long("show")
+        .value_name("changes")
+        .help(
+            "Shows each scan that changes steps, cleared transitions, executed actions or outputs, and what it changes",
+        )
 }
 
 // The argument that names variables that are shown where they change.
@@ -659,7 +664,9 @@ fn at_end_argument<'a>(alloc: Global) -> Arg<'a> {
         .long("at-end")
         .value_name("NAME=VALUE,..")
         .action(ArgAction::Append)
-        .help("Shows these values, each as NAME VALUE, where a fault ends a program's scan, and at the end")
+        .help(
+            "Shows these values, each as NAME VALUE, where a fault ends a program's scan, and at the end",
+        )
 }
 
 // The argument that says how many commands may be held.

@@ -14,5 +14,5 @@ returns c same earlier later old new shows told =
     (subst (λ (t : Tabled). length c.executed_flags-2.result.now ≡ length t.actions) same c.executed_flags-2.ensures.len)
     (λ s lt. c.executed_flags.ensures.each earlier old s lt shows)
     (subst (λ (t : Tabled). (s : ℕ) → s < length t.actions → flag c.executed_flags-2.result.now s ≡ is_action_executed t new s) same
-        (λ s lt. c.executed_flags-2.ensures.each later new s lt told))
+    (λ s lt. c.executed_flags-2.ensures.each later new s lt told))
     c.is_same.ensures

@@ -14,5 +14,5 @@ returns c same earlier later old new shows told =
     (subst (λ (t : Tabled). length c.active_flags-2.result.now ≡ length t.initial) same c.active_flags-2.ensures.len)
     (λ s lt. c.active_flags.ensures.each earlier old s lt shows)
     (subst (λ (t : Tabled). (s : ℕ) → s < length t.initial → flag c.active_flags-2.result.now s ≡ is_step_active t new s) same
-        (λ s lt. c.active_flags-2.ensures.each later new s lt told))
+    (λ s lt. c.active_flags-2.ensures.each later new s lt told))
     c.is_same.ensures

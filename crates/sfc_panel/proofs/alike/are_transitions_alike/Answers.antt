@@ -14,5 +14,5 @@ returns c same earlier later old new shows told =
     (subst (λ (t : Tabled). length c.cleared_flags-2.result.now ≡ length t.sides) same c.cleared_flags-2.ensures.len)
     (λ s lt. c.cleared_flags.ensures.each earlier old s lt shows)
     (subst (λ (t : Tabled). (s : ℕ) → s < length t.sides → flag c.cleared_flags-2.result.now s ≡ is_transition_cleared t new s) same
-        (λ s lt. c.cleared_flags-2.ensures.each later new s lt told))
+    (λ s lt. c.cleared_flags-2.ensures.each later new s lt told))
     c.is_same.ensures

@@ -13,7 +13,7 @@ returns c h g stand =
     let new = state_of plant g in
     let first = programs_shown c.args.self.now.programs plant old new c.args.answer.now in
     on_ok c.append_variables.result (λ e. e
-        ∙ ap (λ (ids : List VarId). c.append_shown.new.out.items ++ variable_changes plant old new ids) c.deref.ensures.value
-        ∙ ap (λ (xs : List ℕ). xs ++ variable_changes plant old new c.args.self.now.variables.items) (c.in_ok-append_shown.ensures h g stand)
-        ∙ append_assoc c.args.out.now.items first (variable_changes plant old new c.args.self.now.variables.items))
+    ∙ ap (λ (ids : List VarId). c.append_shown.new.out.items ++ variable_changes plant old new ids) c.deref.ensures.value
+    ∙ ap (λ (xs : List ℕ). xs ++ variable_changes plant old new c.args.self.now.variables.items) (c.in_ok-append_shown.ensures h g stand)
+    ∙ append_assoc c.args.out.now.items first (variable_changes plant old new c.args.self.now.variables.items))
     (c.append_variables.ensures h g stand)
