@@ -900,6 +900,38 @@ Lamp FALSE
 audit ok" ] && mentions "  Divide1 fault DivZero" err
 note $? "a fault shows what is safe, and so does the end"
 
+# ---- words that ask
+
+# asked LINE ..: a run of the pump with these lines, a quarter of a second after one another; leaves what is answered, without instants, and
+# of programs their active steps alone
+asked() {
+  for line in "$@"; do sleep 0.25; echo "$line"; done | "$program" run --trace 0 "$examples/pump.chart" >"$work/out" 2>"$work/err"
+  status=${PIPESTATUS[1]}
+  sed -E 's/T#[^ ,]+/../g; s/ [0-9]+ steps/ .. steps/; s/ cleared .*//; s/^[0-9]+ \.\./.. ../; s/^audit ok .*/audit ok/' "$work/out" >"$work/answers"
+}
+asked show 'INPUT Start TRUE' '; wait' SHOW ' image pump' 'IMAGE Pupm' STOP 'Show' 'TRACE 1' 'why Pump1 1' 'SHOWN'
+ends 0 && says "script line 11" && [ "$(cat "$work/answers")" = "instant .. run .. running
+  Pump1 .. steps Idle=..
+instant .. run .. running
+  Pump1 .. steps Pumping=..
+image Pump TRUE
+; no variable Pupm
+instant .. run .. halted
+  Pump1 .. steps Pumping=..
+.. .. STOP
+Pump1 TRANSITION 1 not enabled
+  step Idle isn't active
+  condition TRUE: Start AND NOT Stop
+    Start TRUE
+    Stop FALSE
+audit ok" ]
+note $? "words that ask in a run"
+asked LIST EXPLAIN 'EXPLAIN 36' help 'TRACE x'
+ends 0 && says "" && "$program" list "$examples/pump.chart" >"$work/listing" \
+  && head -n "$(wc -l <"$work/listing")" "$work/out" | cmp -s - "$work/listing" \
+  && mentions NotStopped out && mentions "Beside commands a session may ask" out && mentions "; TRACE, or TRACE and a number from 1 to 1024" out
+note $? "a listing, an explanation and help in a run"
+
 if command -v python3 >/dev/null; then
   PYTHONPATH=$top/share/python timeout 60 python3 "$examples/python/tank.py" "$program" >"$work/out" 2>"$work/err"
   status=$?

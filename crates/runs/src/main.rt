@@ -21,6 +21,7 @@ fn main(rt: HostRuntime) -> ExitCode {
         w: rt.stdout(),
         tells: rt.stderr(),
         shower: rt.stdout(),
+        answers: rt.stdout(),
         picked: Picked {
             changes: false,
             watched: Vec::new(rt.alloc()),

@@ -16,7 +16,7 @@ use Rattle.sfc_control.specs.Seats.{IsCalled}
 use Rattle.sfc_replay.specs.Reading.{Device, IsFront}
 use Rattle.sfc_replay.specs.sfc_output.Commands.{refusal_line}
 use Rattle.sfc_replay.specs.sfc_script.Lines.{lines_of}
-use Rattle.sfc_replay.specs.sfc_script.SessionLines.{session_line}
+use Rattle.sfc_run.specs.Asks.{run_line}
 use Rattle.sfc_replay.specs.sfc_script.declared.session_line.SessionLine.{SessionLine}
 use Rattle.sfc_replay.specs.sfc_script.declared.session_line.SessionLine.TheVariants.{Skipped, Says, Faulty}
 use Rattle.sfc_run.specs.declared.console.Console.{Console}
@@ -111,7 +111,7 @@ module _ {X C : Type 0} (names plant : PlantData) (table : List BreakCondition) 
   abbrev pub ObeysAll : ℕ → List (List ℕ) → Scene X C → Scene X C → Bool → Type 0
   ObeysAll number [] old new untold = (new ≡ old) × (untold ≡ false)
   ObeysAll number (line ∷ lines) old new untold =
-      (mid : Scene X C) × (here : Bool) × (behind : Bool) × Obeys number (session_line names line) old mid here
+      (mid : Scene X C) × (here : Bool) × (behind : Bool) × Obeys number (run_line names line) old mid here
       × ObeysAll (number + 1) lines mid new behind × (untold ≡ here || behind)
 
   -- Memory was refused at a line, and nothing is told of it. If it is a command, this was not called, or called and refused.
@@ -125,7 +125,7 @@ module _ {X C : Type 0} (names plant : PlantData) (table : List BreakCondition) 
   -- memory was refused before these lines, or at the first of them
   abbrev pub Stops : List (List ℕ) → Scene X C → Scene X C → Type 0
   Stops [] old new = Stays old new
-  Stops (line ∷ lines) old new = Stays old new ⊎ StopsAt (session_line names line) old new
+  Stops (line ∷ lines) old new = Stays old new ⊎ StopsAt (run_line names line) old new
 
   -- a front of the lines was obeyed, and then memory was refused
   pub record ObeysFront (number : ℕ) (lines : List (List ℕ)) (old new : Scene X C) (untold : Bool) : Type 0 where

@@ -10,6 +10,8 @@ pub mod Posting
 pub mod Consoles
 -- the epochs of a run itself
 pub mod Keeping
+-- which lines of a session ask how all stands
+pub mod Asks
 -- what a session tells
 pub mod SessionText
 -- what a session does with the lines that it reads

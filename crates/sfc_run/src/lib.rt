@@ -3,6 +3,7 @@
 //!
 //! - `alarms`: faults, hits, overruns and lost rows, which are told as they happen, over a debugger that follows the run (`follower`) and
 //!   by what was told of overruns (`overruns`) and of lost rows (`losses`).
+//! - `asks`: lines of a session that ask how all stands; `answering`: what they are answered.
 //! - `audit`: the close of a controller, and its line.
 //! - `console`: a seat whose commands a session says, with the receipts of those that were accepted.
 //! - `draining`: the end of the feed.
@@ -19,6 +20,8 @@
 #![tactic(auto)]
 
 pub mod alarms;
+mod answering;
+pub mod asks;
 pub mod audit;
 pub mod console;
 pub mod draining;

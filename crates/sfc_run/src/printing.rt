@@ -7,6 +7,8 @@ ghost use Rattle.sfc_run.specs.Printing.{Prints, Reaches};
 ghost use Rattle.sfc_run.specs.declared.printing.PrintFault.TheVariants.{Write as WriteVariant, Memory};
 
 use crate::alarms::Told;
+use crate::answering::answers_to;
+use crate::asks::Asks;
 use crate::draining::{Drained, RowsEnded};
 use crate::pace::LONG;
 use crate::teller::Teller;
@@ -54,6 +56,34 @@ pub struct Printing<W: Write, T: Write> {
     pub teller: Teller<T>,
     /// What is told what is shown.
     pub shower: Teller<W>,
+    /// What is told answers to lines that ask.
+    pub answers: Teller<W>,
+}
+
+/// What waits beside the rows of a feed.
+#[derive(Clone, Copy)]
+pub struct Beside<'a> {
+    /// What wakes who takes rows.
+    pub bells: &'a Bells,
+    /// Lines that ask how all stands.
+    pub asks: &'a Asks,
+}
+
+// Answers the lines that wait, by the debugger that follows, as it stands behind the rows that were taken.
+fn answer_asks<R: Wait, W: Write, T: Write>(
+    rt: &R,
+    alloc: Global,
+    printing: &mut Printing<W, T>,
+    asks: &Asks,
+) -> Result<(), AllocError>
+    ensures watch { printing.new.watch ≡ printing.old.watch }
+    ensures lines { printing.new.w ≡ printing.old.w }
+    ensures teller { printing.new.teller ≡ printing.old.teller }
+    ensures shower { printing.new.shower ≡ printing.old.shower }
+{
+    let text = answers_to(rt, alloc, &printing.watch.alarms.follower, asks)?;
+    printing.answers.tell(&text);
+    Ok(())
 }
 
 // Prints rows that have come, 256 at most, tells their alarms, and shows what has changed; what the look for them came to.
@@ -83,7 +113,7 @@ fn print_some<W: Write, T: Write>(
 
 /// Takes rows as they come and writes the line of each whose command is wanted: its number, and the line of its command. Beside it alarms
 /// are told, and behind the lines it is shown what has changed. It ends once it is told that no more rows come, and none is left; a look that was begun behind that word is what it answers.
-/// Where none has come it waits until its bell is rung.
+/// Where none has come it waits until its bell is rung, a tenth of a second at most. Lines that ask are answered behind the rows of a round.
 ///
 /// `Write` is answered where the writer failed or took no byte, `Memory` where memory was refused; then a front of the lines was
 /// written, and no more rows are taken. Faults of the writers of alarms and of what is shown are passed over.
@@ -91,7 +121,7 @@ pub fn print_rows<R: Wait, W: Write, T: Write>(
     rt: &R,
     alloc: Global,
     printing: &mut Printing<W, T>,
-    bells: &Bells,
+    beside: Beside<'_>,
 ) -> Result<Drained, PrintFault>
     ensures lines { Prints W.contents T.contents printing.old printing.new result }
     ensures known { OnOk result (IsPrefix (taken printing.old.watch.tail ++ coming printing.old.watch.tail)
@@ -99,13 +129,14 @@ pub fn print_rows<R: Wait, W: Write, T: Write>(
     ensures rest { OnOk result (coming printing.new.watch.tail ≡ []) }
 {
     'rounds: for _ in rt.forever() {
-        let ended = RowsEnded::of(bells);
+        let ended = RowsEnded::of(beside.bells);
         let some = print_some(alloc, printing, ended)?;
+        answer_asks(rt, alloc, printing, beside.asks)?;
         if let Some(drained) = some.drained {
             return Ok(drained);
         }
         if !some.some {
-            bells.wait_for_rows(rt, Duration::from_millis(LONG));
+            beside.bells.wait_for_rows(rt, Duration::from_millis(LONG));
         }
     }
     unreachable!()

@@ -8,6 +8,7 @@ ghost use Rattle.sfc_run.specs.Running.{IsRunStatus};
 ghost use Rattle.sfc_run.specs.Screens.{before_in};
 
 use crate::alarms::Alarms;
+use crate::asks::Asks;
 use crate::audit::{Returned, audit, gather, put_audit};
 use crate::console::Console;
 use crate::follower::Follower;
@@ -142,6 +143,7 @@ fn printing_of<W: Write, T: Write>(
         w,
         tells,
         shower,
+        answers,
         picked: _,
         timing: _,
         wanted,
@@ -164,6 +166,7 @@ fn printing_of<W: Write, T: Write>(
         w,
         teller: Teller::new(tells),
         shower: Teller::new(shower),
+        answers: Teller::new(answers),
     }
 }
 
@@ -219,12 +222,14 @@ fn run_with<
     let posts = posts_of(rt, alloc, seats, &clock, controller.bells())?;
     let mut console = Console::new(alloc, seat, clock);
     let printing = printing_of(tail, (follower, before), ready);
+    let asks = Asks::new(alloc)?;
     let left = {
         let desk = Desk {
             rt,
             alloc,
             controller: &controller,
             names: &names,
+            asks: &asks,
         };
         let seated = Seated {
             console: &mut console,

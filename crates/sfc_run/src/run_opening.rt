@@ -24,7 +24,7 @@ use std::sync::Wait;
 use std::sync::ledger::Ledger;
 use std::time;
 
-/// How many rows the debugger of a run keeps.
+/// How many rows the debugger of a run keeps, and the one that follows it.
 const KEPT: usize = 1024;
 
 /// The debugger of a run, and three of the same chart beside it.
@@ -52,7 +52,7 @@ fn all_of_text(alloc: Global, text: &[u8]) -> Result<RunDebuggers, ReplayError>
 {
     let debugger = debugger_of_text(alloc, text, KEPT, TraceMask(127))?;
     let names = debugger_of_text(alloc, text, 1, TraceMask(0))?;
-    let follower = debugger_of_text(alloc, text, 1, TraceMask(0))?;
+    let follower = debugger_of_text(alloc, text, KEPT, TraceMask(127))?;
     let before = debugger_of_text(alloc, text, 1, TraceMask(0))?;
     one_reading();
     Ok(RunDebuggers {

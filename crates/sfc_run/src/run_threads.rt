@@ -6,7 +6,7 @@ ghost use Rattle.std.specs.Thread.{IsSync};
 use crate::console::Console;
 use crate::keeper::{Keeper, Over};
 use crate::pace::Pace;
-use crate::printing::{PrintFault, Printing, print_rows};
+use crate::printing::{Beside, PrintFault, Printing, print_rows};
 use crate::real_time::RealTime;
 use crate::run_faults::RunFaults;
 use crate::session::{Desk, hold};
@@ -14,7 +14,6 @@ use crate::sfc_debug::trace_mask::TraceMask;
 use crate::streams::Streams;
 use crate::teller::Teller;
 use crate::watch::Watch;
-use sfc_control::bells::Bells;
 use sfc_control::clock::Clock;
 use sfc_control::controller::Controller;
 use sfc_control::crews::crew;
@@ -203,6 +202,7 @@ struct Writers<W: Write, T: Write> {
     w: W,
     teller: Teller<T>,
     shower: Teller<W>,
+    answers: Teller<W>,
 }
 
 // What the thread that prints stands on.
@@ -210,7 +210,7 @@ struct Writers<W: Write, T: Write> {
 struct Board<'b, R: Wait> {
     rt: &'b R,
     alloc: Global,
-    bells: &'b Bells,
+    beside: Beside<'b>,
 }
 
 // What printing comes to. Behind a fault of the writer of lines alarms are told all the same: no command has a line then.
@@ -218,15 +218,15 @@ fn print_all<R: Wait, W: Write, T: Write>(
     rt: &R,
     alloc: Global,
     printing: &mut Printing<W, T>,
-    bells: &Bells,
+    beside: Beside<'_>,
 ) -> RunFaults {
-    let faults = match print_rows(rt, alloc, printing, bells) {
+    let faults = match print_rows(rt, alloc, printing, beside) {
         Ok(_) => return RunFaults::none(),
         Err(PrintFault::Memory) => return RunFaults::of_memory(),
         Err(PrintFault::Write) => RunFaults::of_write(),
     };
     printing.watch.wanted = TraceMask(0);
-    match print_rows(rt, alloc, printing, bells) {
+    match print_rows(rt, alloc, printing, beside) {
         Err(PrintFault::Memory) => faults.with(RunFaults::of_memory()),
         Ok(_) | Err(PrintFault::Write) => faults,
     }
@@ -248,11 +248,16 @@ fn tell_timing<W: Write, T: Write>(alloc: Global, printing: &mut Printing<W, T>)
 fn printed<R: Wait, W: Write + Drop, T: Write + Drop>(
     rt: &R,
     alloc: Global,
-    bells: &Bells,
+    beside: Beside<'_>,
     held: Option<Watch>,
     writers: Writers<W, T>,
 ) -> (W, RunFaults) {
-    let Writers { w, teller, shower } = writers;
+    let Writers {
+        w,
+        teller,
+        shower,
+        answers,
+    } = writers;
     let Some(watch) = held else {
         return (w, RunFaults::none());
     };
@@ -261,14 +266,16 @@ fn printed<R: Wait, W: Write + Drop, T: Write + Drop>(
         w,
         teller,
         shower,
+        answers,
     };
-    let faults = print_all(rt, alloc, &mut printing, bells);
+    let faults = print_all(rt, alloc, &mut printing, beside);
     let faults = faults.with(tell_timing(alloc, &mut printing));
     let Printing {
         watch: _,
         w,
         teller: _,
         shower,
+        answers: _,
     } = printing;
     if shower.has_failed {
         (w, faults.with(RunFaults::of_write()))
@@ -298,7 +305,7 @@ fn print_beside<
     requires { F.pre job }
     ensures { IfSome result (λ done. F.post job done.0) }
 {
-    let Board { rt, alloc, bells } = board;
+    let Board { rt, alloc, beside } = board;
     thread::scope(
         thread::scope_env(),
         rt,
@@ -307,11 +314,11 @@ fn print_beside<
             requires job { F.pre job }
             ensures { IfSome result (λ done. F.post job done.0) }
         {
-            let Ok(child) = scope.spawn(move || printed(rt, alloc, bells, held, writers)) else {
+            let Ok(child) = scope.spawn(move || printed(rt, alloc, beside, held, writers)) else {
                 return None;
             };
             let done = job();
-            bells.end_rows();
+            beside.bells.end_rows();
             let (w, faults) = child.join(rt);
             Some((done, w, faults))
         },
@@ -349,12 +356,21 @@ pub fn run_threads<
         w,
         teller,
         shower,
+        answers,
     } = printing;
-    let writers = Writers { w, teller, shower };
+    let writers = Writers {
+        w,
+        teller,
+        shower,
+        answers,
+    };
     let board = Board {
         rt: desk.rt,
         alloc: desk.alloc,
-        bells: desk.controller.bells(),
+        beside: Beside {
+            bells: desk.controller.bells(),
+            asks: desk.asks,
+        },
     };
     match print_beside(board, Some(watch), writers, job) {
         Some((worked, w, print_faults)) => {

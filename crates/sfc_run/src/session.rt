@@ -7,7 +7,7 @@ ghost use Rattle.sfc_control.specs.sfc_debug.Agreement.{plant_of};
 ghost use Rattle.sfc_replay.specs.sfc_output.Commands.{refusal_line};
 ghost use Rattle.sfc_replay.specs.sfc_script.Arriving.{ended_line};
 ghost use Rattle.sfc_replay.specs.sfc_script.Lines.{lines_of};
-ghost use Rattle.sfc_replay.specs.sfc_script.SessionLines.{session_line};
+ghost use Rattle.sfc_run.specs.Asks.{run_line};
 ghost use Rattle.sfc_replay.specs.sfc_script.declared.session_line.SessionLine.TheVariants.{Says};
 ghost use Rattle.sfc_run.specs.Holding as holding;
 ghost use Rattle.sfc_run.specs.Holding.{EndsBy, Holds, ObeysLines, Tells, error_told, scene};
@@ -15,12 +15,13 @@ ghost use Rattle.sfc_run.specs.SessionText as text;
 ghost use Rattle.sfc_run.specs.Working.Walking as walking;
 ghost use Rattle.sfc_run.specs.Working.Walking.{ObeysOr, ObeysAllOr, PiecesOr, TellsEnd, TellsOr, WalksOr};
 
+use crate::asks::{Asks, read_run_line};
 use crate::console::Console;
 use crate::run_faults::RunFaults;
 use crate::sfc_debug::debugger::Debugger;
 use crate::sfc_output::command::append_refusal;
 use crate::sfc_script::laws::first_line_stays;
-use crate::sfc_script::session_line::{SessionLine, read_session_line};
+use crate::sfc_script::session_line::SessionLine;
 use sfc_base::write_fault::put_all;
 use sfc_control::call_error::CallError;
 use sfc_control::clock::Clock;
@@ -52,6 +53,8 @@ pub struct Desk<'a, L: OpenedWith, R: Wait> {
     pub controller: &'a Controller<L>,
     /// The debugger that gives the names. It is told nothing.
     pub names: &'a Debugger,
+    /// Where lines wait that ask how all stands.
+    pub asks: &'a Asks,
 }
 
 // A number, and the end of its line.
@@ -146,10 +149,11 @@ fn obey_line<'a, L: OpenedWith, R: Wait, C: Clock, E: Write>(
 ) -> Result<bool, AllocError>
     ensures number { number console.new.seat ≡ number console.old.seat }
     ensures obeyed { ObeysOr (plant_of desk.now.names.now) L.plant L.table L.limit C.reads line_number
-        (session_line (plant_of desk.now.names.now) line.now)
+        (run_line (plant_of desk.now.names.now) line.now)
         (scene console.old (E.contents errors.old)) (scene console.new (E.contents errors.new)) result }
 {
-    match read_session_line(desk.names.resource(), line) {
+    desk.asks.put(desk.rt, desk.alloc, line);
+    match read_run_line(desk.names.resource(), line) {
         SessionLine::Skipped => Ok(false),
         SessionLine::Faulty => tell_faulty(desk.alloc, line_number, errors),
         SessionLine::Says(command) => obey_command(desk, console, command, errors),

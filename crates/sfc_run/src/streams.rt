@@ -22,6 +22,8 @@ pub struct Asked<W: Write, T: Write> {
     pub tells: T,
     /// Where what is shown goes.
     pub shower: W,
+    /// Where answers to lines go that ask how all stands.
+    pub answers: W,
     /// What is shown.
     pub picked: Picked,
     /// Whether it is told at the end how late the scans of each task were.

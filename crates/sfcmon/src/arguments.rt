@@ -226,6 +226,8 @@ steps, cleared transitions or executed actions are others than before, as 'repla
 variable of --watch that reads another value. Other commands have lines only where --trace picks them. A program beside the machine takes
 its terminals from these lines, and with --at-end Pump=FALSE is told what is safe when a program has died.
 
+Lines that begin with SHOW, IMAGE, WHY, TRACE, LIST, EXPLAIN or HELP ask how all stands, as at the prompt of 'debug', and change nothing.
+
 A session that starts a pump, halts it, reads, forces, lets go and ends, and what is printed of it, beside the lines of scans:
   ; start it                   7 T#1s_100ms INPUT Start TRUE
   INPUT Start TRUE             13 T#2s_100ms READ Pump TRUE

@@ -98,6 +98,7 @@ pub fn debug_file<R: Eprint + Files + AllocGlobal>(rt: &R, streams: Streams, cha
         mut input,
         output,
         shower: _,
+        answers: _,
         alarms: _,
         errors: _,
     } = streams;

@@ -58,6 +58,7 @@ pub fn serve_language<R: Eprint + Files + AllocGlobal>(rt: &R, streams: Streams)
         mut input,
         mut output,
         shower: _,
+        answers: _,
         alarms: _,
         errors: _,
     } = streams;
@@ -75,6 +76,7 @@ pub fn serve_debugger<R: Eprint + Files + AllocGlobal>(rt: &R, streams: Streams)
         mut input,
         mut output,
         shower: _,
+        answers: _,
         alarms: _,
         errors: _,
     } = streams;

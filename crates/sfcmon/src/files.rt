@@ -124,6 +124,8 @@ pub struct Streams {
     pub output: Stdout,
     /// Standard output, for what is shown of a run.
     pub shower: Stdout,
+    /// Standard output, for what is answered in a run.
+    pub answers: Stdout,
     /// Standard error, for what is told as it happens.
     pub alarms: Stderr,
     /// Standard error, for all else.
@@ -190,6 +192,7 @@ where
         mut input,
         output,
         shower,
+        answers,
         alarms,
         mut errors,
     } = streams;
@@ -200,6 +203,7 @@ where
         w: output,
         tells: alarms,
         shower,
+        answers,
         picked,
         timing: running.timing,
         wanted: running.mask,

@@ -117,6 +117,7 @@ fn main(rt: HostRuntime) -> ExitCode {
         input: rt.stdin(),
         output: rt.stdout(),
         shower: rt.stdout(),
+        answers: rt.stdout(),
         alarms: rt.stderr(),
         errors: rt.stderr(),
     };

@@ -8,7 +8,7 @@ use Rattle.sfc_replay.specs.declared.replay_error.ReplayError.{ReplayError}
 use Rattle.sfc_replay.specs.declared.replay_error.ReplayError.TheVariants.{Memory}
 use Rattle.sfc_replay.specs.sfc_script.Arriving.{ended_line}
 use Rattle.sfc_replay.specs.sfc_script.Lines.{lines_of}
-use Rattle.sfc_replay.specs.sfc_script.SessionLines.{session_line}
+use Rattle.sfc_run.specs.Asks.{run_line}
 use Rattle.sfc_replay.specs.sfc_script.declared.session_line.SessionLine.{SessionLine}
 use Rattle.sfc_run.specs.declared.run_faults.RunFaults.{RunFaults}
 use Rattle.sfc_run.specs.declared.session.Waiting.{Waiting}
@@ -88,7 +88,7 @@ module _ {X C : Type 0} (names plant : PlantData) (table : List BreakCondition) 
     pub line : List ℕ
     pub behind : List ℕ
     pub next : Begins after.lines (line ∷ []) behind
-    pub stopped : StopsAt names plant table limit reads (session_line names line) mid new
+    pub stopped : StopsAt names plant table limit reads (run_line names line) mid new
 
   abbrev pub WalksOr : {A : Type 0} → Waiting → Waiting → Scene X C → Scene X C → Result A AllocError → Type 0
   WalksOr before after old new (Ok done) = WalksOn before.lines before after old new

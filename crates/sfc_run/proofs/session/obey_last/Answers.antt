@@ -1,7 +1,7 @@
 use Rattle.std.proofs.Common.{◌≡◌, ◌==◌, ◌+◌, ℕ, false, true, List, length, ap, subst, ◌∙◌, arith}
 use Rattle.sfc_control.specs.sfc_debug.Agreement.{plant_of}
 use Rattle.sfc_replay.specs.sfc_script.Lines.{lines_of}
-use Rattle.sfc_replay.specs.sfc_script.SessionLines.{session_line}
+use Rattle.sfc_run.specs.Asks.{run_line}
 use Rattle.sfc_run.specs.Holding.{scene}
 use Rattle.sfc_run.specs.Working.Walking.{ObeysOr}
 use Rattle.sfc_run.proofs.Obeying.{obeys_only}
@@ -20,4 +20,4 @@ returns-clause-obeyed g c =
     obeys_only names g.L.OpenedWith.plant g.L.OpenedWith.table g.L.OpenedWith.limit g.C.Clock.reads (waiting.obeyed + 1) c.saturating_add-last.result
     waiting.lines (lines_of waiting.lines) old new (last_alone waiting.lines some c.requires.left) numbered c.obey_line.result
     (subst (λ (line : List ℕ). ObeysOr names g.L.OpenedWith.plant g.L.OpenedWith.table g.L.OpenedWith.limit g.C.Clock.reads c.saturating_add-last.result
-    (session_line names line) old new c.obey_line.result) c.waiting-line.ensures c.obey_line.ensures.obeyed)
+    (run_line names line) old new c.obey_line.result) c.waiting-line.ensures c.obey_line.ensures.obeyed)

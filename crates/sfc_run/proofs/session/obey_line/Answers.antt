@@ -1,7 +1,7 @@
 use Rattle.std.proofs.Common.{◌≡◌, sym, ap, subst, ◌∙◌}
 use Rattle.sfc_plant.specs.Plants.{PlantData}
 use Rattle.sfc_control.specs.sfc_debug.Agreement.{plant_of}
-use Rattle.sfc_replay.specs.sfc_script.SessionLines.{session_line}
+use Rattle.sfc_run.specs.Asks.{run_line}
 use Rattle.sfc_replay.specs.sfc_script.declared.session_line.SessionLine.{SessionLine}
 use Rattle.sfc_replay.specs.sfc_script.declared.session_line.SessionLine.TheVariants.{Says}
 use Rattle.sfc_run.specs.Holding.{scene}
@@ -11,8 +11,8 @@ use Rattle.sfc_run.proofs.session.obey_line.Goals as goal
 pub returns-in-Says-clause-obeyed : goal.returns-in-Says-clause-obeyed
 returns-in-Says-clause-obeyed g c =
     let names = plant_of c.args.desk.now.names.now in
-    let said : Says c.in-Says.command ≡ session_line names c.args.line.now =
-    sym c.in-Says.is ∙ c.read_session_line.ensures ∙ ap (λ (plant : PlantData). session_line plant c.args.line.now) c.resource.ensures.plant in
+    let said : Says c.in-Says.command ≡ run_line names c.args.line.now =
+    sym c.in-Says.is ∙ c.read_run_line.ensures ∙ ap (λ (plant : PlantData). run_line plant c.args.line.now) c.resource.ensures.plant in
     subst (λ (line : SessionLine). ObeysOr names g.L.OpenedWith.plant g.L.OpenedWith.table g.L.OpenedWith.limit g.C.Clock.reads c.args.line_number line
     (scene c.args.console.now (g.E.Write.contents c.args.errors.now))
     (scene c.obey_command.new.console (g.E.Write.contents c.obey_command.new.errors)) c.obey_command.result) said
