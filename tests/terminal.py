@@ -1,7 +1,7 @@
 #!/usr/bin/env python3
 """terminal.py PROGRAM CHART: runs the chart in real time at a terminal: a session that is typed and ended by Ctrl-D, and a terminal that is
 closed. The chart's task is never due. Then the pump of the examples: it is started, read, halted by a breakpoint that a forced value leads to,
-let go and ended. Then what is told at a terminal of a chart and of a script that is refused, and of a file that isn't
+let go and ended; what changes is shown, and how it stands is asked. Then what is told at a terminal of a chart and of a script that is refused, and of a file that isn't
 there: the line that is told elsewhere, and behind it what `why` prints, or the name of the file. The last line is 'N passed, M failed'."""
 import os
 import pty
@@ -106,11 +106,11 @@ note(status == 3, f"a terminal that is closed: status {status}")
 
 
 pump = Typed(os.path.join(os.path.dirname(os.path.abspath(__file__)), "..", "examples", "pump.chart"))
-pump.shows(r"1 T#\S+ SCAN Main overruns \d+\n", "the first scan")
+pump.shows(r"1 T#\S+ SCAN Main overruns \d+\n  Pump1 1 steps Idle=T#0s cleared - run IdleLamp\nIdleLamp TRUE\n", "the first scan")
 pump.type("READ Pump")
 pump.shows(r"\n\d+ T#\S+ READ Pump FALSE\n", "what the pump reads at first")
 pump.type("INPUT Start TRUE")
-pump.shows(r"\n\d+ T#\S+ INPUT Start TRUE\n(?:.*\n)*?\d+ T#\S+ SCAN Main overruns \d+\n", "an input, and the scan behind it")
+pump.shows(r"\n\d+ T#\S+ INPUT Start TRUE\n(?:.*\n)*?\d+ T#\S+ SCAN Main overruns \d+\n  Pump1 .*\nPump TRUE\nIdleLamp FALSE\n", "an input, and the scan behind it")
 pump.type("READ Pump")
 pump.shows(r"\n\d+ T#\S+ READ Pump TRUE\n", "what the pump reads then")
 pump.type("NONSENSE")
@@ -119,6 +119,10 @@ pump.type("BREAK Pump1 STEP RunningOn")
 pump.shows(r"\n\d+ T#\S+ BREAK Pump1 STEP RunningOn\n", "a breakpoint")
 pump.type("FORCE Stop TRUE")
 pump.shows(r"SCAN Main overruns \d+ hit\n  Pump1 \d+ steps RunningOn=T#0s cleared 2 run Pump,RunOnLamp\n", "that is hit")
+pump.type("SHOW")
+pump.shows(r"\ninstant T#\S+ run T#\S+ halted\n  Pump1 \d+ steps RunningOn=T#0s cleared 2 run Pump,RunOnLamp\n", "how it stands")
+pump.type("WHY Pump1 3")
+pump.shows(r"\nPump1 TRANSITION 3 enabled\n  step RunningOn is active\n  condition FALSE: Start AND NOT Stop\n    Start TRUE\n    Stop TRUE\n", "why it stays")
 pump.type("SINGLE Main T#200ms")
 pump.shows(r"\n\d+ T#\S+ SINGLE Main T#200ms overruns \d+\n", "a single scan")
 pump.type("STOP")

@@ -45,6 +45,8 @@ pub struct Running {
     pub chart: String,
     /// Which commands have lines.
     pub mask: TraceMask,
+    /// Whether a word says so.
+    pub has_mask: bool,
     /// How many commands may be held.
     pub history: usize,
     /// How long it lasts.
@@ -223,7 +225,8 @@ ended with a fault or hit a breakpoint, as 'replay' prints it, and overruns.
 
 With --show changes, a command that changes something has its line, and below it what it changed: the line of each program whose active
 steps, cleared transitions or executed actions are others than before, as 'replay' prints it, and 'Pump TRUE' for each output and each
-variable of --watch that reads another value. Other commands have lines only where --trace picks them. A program beside the machine takes
+variable of --watch that reads another value. Other commands have lines only where --trace picks them. At a terminal this is
+so without a word too, unless --trace is given, and other commands than SCAN and SINGLE have lines. A program beside the machine takes
 its terminals from these lines, and with --at-end Pump=FALSE is told what is safe when a program has died.
 
 Lines that begin with SHOW, IMAGE, WHY, TRACE, LIST, EXPLAIN or HELP ask how all stands, as at the prompt of 'debug', and change nothing.
@@ -1168,8 +1171,8 @@ fn names_of(alloc: Global, matches: &ArgMatches, name: &str) -> Result<Vec<Strin
 }
 
 // Which commands of a run have lines: none where something is shown instead, and the mask isn't given.
-fn lines_of(matches: &ArgMatches, mask: u8, is_shown: bool) -> TraceMask {
-    if is_shown && matches.value_source("trace") != Some(ValueSource::CommandLine) {
+fn lines_of(mask: u8, is_given: bool, is_shown: bool) -> TraceMask {
+    if is_shown && !is_given {
         TraceMask(0)
     } else {
         TraceMask(mask)
@@ -1185,6 +1188,8 @@ fn run_request(alloc: Global, matches: &ArgMatches) -> Result<Request, Error> {
         return Err(invalid(alloc, "--show wants the word 'changes'")?);
     };
     let watched = names_of(alloc, matches, "watch")?;
+    let is_shown = changes || !watched.is_empty();
+    let is_given = matches.value_source("trace") == Some(ValueSource::CommandLine);
     match (
         matches.get_str("FILE"),
         matches.get_one::<u8>("trace"),
@@ -1192,7 +1197,8 @@ fn run_request(alloc: Global, matches: &ArgMatches) -> Result<Request, Error> {
     ) {
         (Some(chart), Some(mask), Some(history)) => Ok(Request::Run(Running {
             chart: String::from_str(alloc, chart)?,
-            mask: lines_of(matches, mask, changes || !watched.is_empty()),
+            mask: lines_of(mask, is_given, is_shown),
+            has_mask: is_given,
             history,
             lasting,
             changes,

@@ -2,6 +2,7 @@
 
 use crate::arguments::Running;
 use crate::lasting::{Lasting, LastingInput};
+use crate::sfc_debug::trace_mask::TraceMask;
 use sfc_replay::check::{check_chart, list_chart};
 use sfc_replay::replay::{replay, replay_strict};
 use sfc_replay::replay_error::ReplayError;
@@ -9,7 +10,7 @@ use sfc_run::picked::Picked;
 use sfc_run::run::run_chart;
 use sfc_run::streams::{Asked, Streams as RunStreams};
 use std::alloc::{AllocError, Global};
-use std::io::{Read, Stderr, Stdin, Stdout, Write};
+use std::io::{IsTerminal, Read, Stderr, Stdin, Stdout, Write};
 use std::rt::Files;
 use std::sync::Wait;
 use std::thread::Threads;
@@ -161,10 +162,30 @@ fn bytes_of(alloc: Global, words: &[String]) -> Result<Vec<Vec<u8>>, AllocError>
     Ok(texts)
 }
 
+// Whether it is shown what changes, and which commands have lines.
+struct Picks {
+    changes: bool,
+    mask: TraceMask,
+}
+
+// The same at a terminal, where no word says otherwise: what changes, and all commands but scans.
+fn at_terminal(running: &Running) -> Picks {
+    if running.has_mask {
+        return Picks {
+            changes: running.changes,
+            mask: running.mask,
+        };
+    }
+    Picks {
+        changes: running.changes || running.watched.is_empty(),
+        mask: TraceMask(126),
+    }
+}
+
 // What of a run is shown.
-fn picked_of(alloc: Global, running: &Running) -> Result<Picked, AllocError> {
+fn picked_of(alloc: Global, running: &Running, changes: bool) -> Result<Picked, AllocError> {
     Ok(Picked {
-        changes: running.changes,
+        changes,
         watched: bytes_of(alloc, &running.watched)?,
         at_end: bytes_of(alloc, &running.at_end)?,
     })
@@ -196,7 +217,15 @@ where
         alarms,
         mut errors,
     } = streams;
-    let Ok(picked) = picked_of(rt.alloc(), running) else {
+    let picks = if input.is_terminal() && output.is_terminal() {
+        at_terminal(running)
+    } else {
+        Picks {
+            changes: running.changes,
+            mask: running.mask,
+        }
+    };
+    let Ok(picked) = picked_of(rt.alloc(), running, picks.changes) else {
         return end_with(rt, ReplayError::Memory);
     };
     let asked = Asked {
@@ -206,7 +235,7 @@ where
         answers,
         picked,
         timing: running.timing,
-        wanted: running.mask,
+        wanted: picks.mask,
         history: running.history,
     };
     if running.lasting == Lasting::Input {
