@@ -1,6 +1,6 @@
 //! Which variables are shown.
 
-ghost use Rattle.std.specs.Prelude.{◌≡◌, ◌++◌, ◌<◌, Some, IfErr, IfOk, OnOk, length, map, option_map, slice_get};
+ghost use Rattle.std.specs.Prelude.{◌≡◌, ◌++◌, ◌<◌, Some, true, IfErr, IfOk, OnOk, length, map, option_map, slice_get};
 ghost use Rattle.sfc_output.specs.sfc_core.Agreement.{plant_of};
 ghost use Rattle.sfc_panel.specs.Watched as rules;
 ghost use Rattle.sfc_panel.specs.declared.watched.WatchError.TheVariants.{Memory};
@@ -49,7 +49,7 @@ fn lies_in_outputs(location: &Option<Location>) -> bool
 
 // Whether there is such a variable, and it is an output (2.4.1.1).
 fn is_output(variable: Option<&Variable>) -> bool
-    ensures { result ≡ rules.is_output (option_map (λ it. it.now) variable) }
+    ensures { result ≡ rules.is_output (option_map (λ it. it.now) variable.entry) }
 {
     match variable {
         Some(variable) => lies_in_outputs(&variable.location),
