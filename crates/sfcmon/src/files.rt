@@ -163,6 +163,7 @@ fn bytes_of(alloc: Global, words: &[String]) -> Result<Vec<Vec<u8>>, AllocError>
 }
 
 // Whether it is shown what changes, and which commands have lines.
+#[derive(Clone, Copy)]
 struct Picks {
     changes: bool,
     mask: TraceMask,
