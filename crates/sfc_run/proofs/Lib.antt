@@ -4,6 +4,8 @@ pub mod Crosses
 pub mod Ends
 -- lines of rows
 pub mod RowLines
+-- what is shown of a row
+pub mod Showing
 -- one post more
 pub mod Posting
 -- lines that were obeyed one after the other

@@ -30,7 +30,7 @@ told_agrees old new [] h behind text shown (same, now, none, empty) agrees =
     subst (λ (a : Alarms). Agrees (debugger_in a.follower) behind) (sym same)
     (subst (λ (x : CommandHistory). Agrees (debugger_in old.follower) x) (sym now) agrees)
 told_agrees old new (row ∷ rows) h behind text shown (mid, between, some, rest, seen, others, same, also, one, more) agrees =
-    told_agrees mid new rows between behind rest others more one.follows.agrees
+    told_agrees mid new rows between behind rest others more one.alarmed.follows.agrees
 
 told_then : (old mid new : Alarms) (a b : List TraceRow) (h between behind : CommandHistory) (some rest seen others : List ℕ)
     → AreTold old mid a h between some seen → AreTold mid new b between behind rest others

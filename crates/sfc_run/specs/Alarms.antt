@@ -76,16 +76,19 @@ told_text is_level is_due steered state row =
 abbrev pub alarm_text : ℕ → Bool → Bool → Steered → DebugState → TraceRow → List ℕ
 alarm_text lost is_level is_due steered state row = lost_text lost ++ told_text is_level is_due steered state row
 
--- A row was taken behind these commands; this was told of it, and that was shown; the debugger that follows stands behind those commands
--- then.
-pub record IsTold (old new : Alarms) (row : TraceRow) (h behind : CommandHistory) (text shown : List ℕ) : Type 0 where
+-- A row was taken behind these commands, and this was told of it; the debugger that follows stands behind those commands then.
+pub record IsAlarmed (old new : Alarms) (row : TraceRow) (h behind : CommandHistory) (text : List ℕ) : Type 0 where
   pub follows : Follows old.follower new.follower row h behind
   pub overruns : told_in new.overruns ≡ told_after (told_in old.overruns) row
   pub losses : new.losses ≡ losses_after old.losses (lost_before old.follower row) row.t (is_urgent row)
   pub told : text ≡ alarm_text (told_with old.losses (lost_before old.follower row) row.t (is_urgent row)) (is_level new.follower)
       (is_due (told_in old.overruns) row) (steered_in new.follower) ((output.debugger_of (steered_in new.follower)).state behind) row
+
+-- and that was shown of it
+pub record IsTold (old new : Alarms) (row : TraceRow) (h behind : CommandHistory) (text shown : List ℕ) : Type 0 where
+  pub alarmed : IsAlarmed old new row h behind text
   pub shows : new.screen.shows ≡ old.screen.shows
-  pub shown : Mirrors old.screen old.follower h →
+  pub changes : Mirrors old.screen old.follower h →
       (shown ≡ shown_text old.screen.shows (is_level new.follower) (steered_in new.follower) h behind row) × Mirrors new.screen new.follower behind
 
 -- Rows were taken one after the other; this was told of them, and that was shown.

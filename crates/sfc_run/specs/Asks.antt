@@ -8,14 +8,14 @@ use Rattle.sfc_replay.specs.sfc_script.declared.session_line.SessionLine.{Sessio
 use Rattle.sfc_replay.specs.sfc_script.declared.session_line.SessionLine.TheVariants.{Skipped}
 
 -- in any case of its letters
-abbrev pub asks : List ℕ → Bool
-asks word =
+abbrev pub is_question : List ℕ → Bool
+is_question word =
     same_word word (codes "SHOW") || same_word word (codes "IMAGE") || same_word word (codes "WHY") || same_word word (codes "TRACE")
     || same_word word (codes "LIST") || same_word word (codes "EXPLAIN") || same_word word (codes "HELP")
 
 abbrev pub asks_by : Option (List ℕ × List ℕ) → Bool
 asks_by None = false
-asks_by (Some w) = asks w.0
+asks_by (Some w) = is_question w.0
 
 -- by its first word
 abbrev pub is_asking : List ℕ → Bool

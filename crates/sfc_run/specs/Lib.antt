@@ -24,6 +24,8 @@ pub mod Overruns
 pub mod Losses
 -- what is shown where it changes
 pub mod Screens
+-- what that is, by names
+pub mod Picking
 -- what is told beside the lines
 pub mod Alarms
 -- what a look into the feed finds

@@ -8,7 +8,7 @@ ghost use Rattle.sfc_control.specs.sfc_debug.Histories.{CommandHistory};
 ghost use Rattle.sfc_control.specs.sfc_debug.Steered.{steered_by};
 ghost use Rattle.sfc_replay.specs.sfc_output.Output as output;
 ghost use Rattle.sfc_run.specs.Alarms as rules;
-ghost use Rattle.sfc_run.specs.Alarms.{IsTold};
+ghost use Rattle.sfc_run.specs.Alarms.{IsAlarmed, IsTold};
 ghost use Rattle.sfc_run.specs.Following.{debugger_in, is_level, steered_in};
 ghost use Rattle.sfc_run.specs.Losses.{losses_after, told_with};
 
@@ -202,6 +202,26 @@ fn append_alarm(
 }
 
 impl Alarms {
+    // Takes the next row of the feed, and puts at the end what is told of it.
+    fn take_alarm(
+        &mut self,
+        alloc: Global,
+        out: &mut Vec<u8>,
+        row: TraceRow,
+    ) -> Result<(), AllocError>
+        ensures steered { steered_in self.new.follower ≡ steered_in self.old.follower }
+        ensures screen { self.new.screen ≡ self.old.screen }
+        ensures told { (h : CommandHistory) → Agrees (debugger_in self.old.follower) h →
+            OnOk result ((behind : CommandHistory) × (text : List ℕ) × (out.new.items ≡ out.old.items ++ text)
+            × IsAlarmed self.old self.new row h behind text) }
+    {
+        let lost = self.follower.follow(row);
+        let is_due = self.overruns.is_due(row);
+        self.timing.note(row);
+        append_losses(out, &mut self.losses, lost, row)?;
+        append_alarm(alloc, out, &self.follower, row, is_due)
+    }
+
     /// Takes the next row of the feed, and puts at the end what is told of it. A scan of a program that a fault ended, and one that hit a
     /// breakpoint, is told with all its lines, as a replay writes them: which program it is, the kind of the fault, and where the others
     /// stand. Overruns are told by the line of the scan, at most once a second for each task. Before all of this it is told how many rows
@@ -218,11 +238,7 @@ impl Alarms {
             × (told.new.alarms.items ≡ told.old.alarms.items ++ text) × (told.new.changes.items ≡ told.old.changes.items ++ shown)
             × IsTold self.old self.new row h behind text shown) }
     {
-        let lost = self.follower.follow(row);
-        let is_due = self.overruns.is_due(row);
-        self.timing.note(row);
-        append_losses(&mut told.alarms, &mut self.losses, lost, row)?;
-        append_alarm(alloc, &mut told.alarms, &self.follower, row, is_due)?;
+        self.take_alarm(alloc, &mut told.alarms, row)?;
         self.screen
             .show(alloc, &mut told.changes, &self.follower, row)
     }

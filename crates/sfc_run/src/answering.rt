@@ -140,19 +140,27 @@ fn append_line(
     append_answer(alloc, out, follower.debugger(), word, text)
 }
 
-/// The answers to lines that wait, 64 at most. Where rows of the feed were lost, that is answered. The one error is that memory was refused.
-pub fn answers_to<R: Wait>(
+// The answers to lines that wait, 64 at most. The error is that memory was refused.
+fn append_answers<R: Wait>(
     rt: &R,
     alloc: Global,
+    out: &mut Vec<u8>,
     follower: &Follower,
     asks: &Asks,
-) -> Result<Vec<u8>, AllocError> {
-    let mut out = Vec::new(alloc);
+) -> Result<(), AllocError> {
     'lines: for _ in 0..ROUND {
         let Some(line) = asks.take(rt) else {
             break;
         };
-        append_line(alloc, &mut out, follower, &line)?;
+        append_line(alloc, out, follower, &line)?;
     }
-    Ok(out)
+    Ok(())
+}
+
+/// The answers to lines that wait, 64 at most. Where rows of the feed were lost, that is answered; where memory is refused, what comes
+/// before.
+pub fn answers_to<R: Wait>(rt: &R, alloc: Global, follower: &Follower, asks: &Asks) -> Vec<u8> {
+    let mut out = Vec::new(alloc);
+    let _ = append_answers(rt, alloc, &mut out, follower, asks);
+    out
 }

@@ -1,7 +1,7 @@
 //! Lines of a session that ask how all stands, on their way to the thread that prints.
 
 ghost use Rattle.std.specs.Prelude.{◌≡◌};
-ghost use Rattle.sfc_panel.specs.sfc_core.Agreement.{plant_of};
+ghost use Rattle.sfc_control.specs.sfc_core.Agreement.{plant_of};
 ghost use Rattle.sfc_run.specs.Asks as rules;
 
 use crate::sfc_core::resource::Resource;
@@ -22,8 +22,8 @@ pub struct Asks {
 }
 
 // Whether a word asks how all stands, in any case of its letters.
-fn asks(word: &[u8]) -> bool
-    ensures { result ≡ rules.asks word.now }
+fn is_question(word: &[u8]) -> bool
+    ensures { result ≡ rules.is_question word.now }
 {
     is_same_word(word, b"SHOW")
         || is_same_word(word, b"IMAGE")
@@ -39,12 +39,13 @@ pub fn is_asking(line: &[u8]) -> bool
     ensures { result ≡ rules.is_asking line.now }
 {
     match first_word(line) {
-        Some((word, _)) => asks(word),
+        Some((word, _)) => is_question(word),
         None => false,
     }
 }
 
 /// What a line of the session of a run says: one that asks says nothing to the run, and any other what `read_session_line` says.
+#[tactic(auto, unfolding(crate::specs::Asks::run_line))]
 pub fn read_run_line(resource: &Resource, line: &[u8]) -> SessionLine
     ensures { result ≡ rules.run_line (plant_of resource.now) line.now }
 {

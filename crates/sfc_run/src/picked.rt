@@ -1,7 +1,7 @@
 //! What of a run is shown, by names.
 
 ghost use Rattle.std.specs.Prelude.{◌≡◌, ◌++◌, IfOk, IfSome, OnOk};
-ghost use Rattle.sfc_panel.specs.sfc_core.Agreement.{plant_of};
+ghost use Rattle.sfc_control.specs.sfc_core.Agreement.{plant_of};
 ghost use Rattle.sfc_run.specs.Picking as rules;
 ghost use Rattle.sfc_run.specs.declared.picked.PickFault.TheVariants.{Memory};
 

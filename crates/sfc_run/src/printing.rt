@@ -69,23 +69,6 @@ pub struct Beside<'a> {
     pub asks: &'a Asks,
 }
 
-// Answers the lines that wait, by the debugger that follows, as it stands behind the rows that were taken.
-fn answer_asks<R: Wait, W: Write, T: Write>(
-    rt: &R,
-    alloc: Global,
-    printing: &mut Printing<W, T>,
-    asks: &Asks,
-) -> Result<(), AllocError>
-    ensures watch { printing.new.watch ≡ printing.old.watch }
-    ensures lines { printing.new.w ≡ printing.old.w }
-    ensures teller { printing.new.teller ≡ printing.old.teller }
-    ensures shower { printing.new.shower ≡ printing.old.shower }
-{
-    let text = answers_to(rt, alloc, &printing.watch.alarms.follower, asks)?;
-    printing.answers.tell(&text);
-    Ok(())
-}
-
 // Prints rows that have come, 256 at most, tells their alarms, and shows what has changed; what the look for them came to.
 fn print_some<W: Write, T: Write>(
     alloc: Global,
@@ -131,7 +114,8 @@ pub fn print_rows<R: Wait, W: Write, T: Write>(
     'rounds: for _ in rt.forever() {
         let ended = RowsEnded::of(beside.bells);
         let some = print_some(alloc, printing, ended)?;
-        answer_asks(rt, alloc, printing, beside.asks)?;
+        let answers = answers_to(rt, alloc, &printing.watch.alarms.follower, beside.asks);
+        printing.answers.tell(&answers);
         if let Some(drained) = some.drained {
             return Ok(drained);
         }

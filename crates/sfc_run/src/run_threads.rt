@@ -306,6 +306,7 @@ fn print_beside<
     ensures { IfSome result (λ done. F.post job done.0) }
 {
     let Board { rt, alloc, beside } = board;
+    let Beside { bells, asks } = beside;
     thread::scope(
         thread::scope_env(),
         rt,
@@ -314,11 +315,17 @@ fn print_beside<
             requires job { F.pre job }
             ensures { IfSome result (λ done. F.post job done.0) }
         {
-            let Ok(child) = scope.spawn(move || printed(rt, alloc, beside, held, writers)) else {
+            let Ok(child) = scope.spawn(move || printed(
+                rt,
+                alloc,
+                Beside { bells, asks },
+                held,
+                writers,
+            )) else {
                 return None;
             };
             let done = job();
-            beside.bells.end_rows();
+            bells.end_rows();
             let (w, faults) = child.join(rt);
             Some((done, w, faults))
         },

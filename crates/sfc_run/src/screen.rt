@@ -1,6 +1,6 @@
 //! What is shown of a run where it changes.
 
-ghost use Rattle.std.specs.Prelude.{◌≡◌, ◌++◌, ◌∷◌, ◌||◌, Ok, OnOk, true};
+ghost use Rattle.std.specs.Prelude.{◌≡◌, ◌++◌, ◌∷◌, ◌||◌, List, ℕ, Ok, OnOk, true};
 ghost use Rattle.std.specs.Bool.{OnTrue};
 ghost use Rattle.sfc_control.specs.sfc_debug.Agreement.{Agrees};
 ghost use Rattle.sfc_control.specs.sfc_debug.Histories.{CommandHistory};
@@ -105,9 +105,9 @@ fn append_changed(
     between: (&Debugger, &Debugger),
     answer: &Answer,
 ) -> Result<(), AllocError>
-    ensures { (h behind : CommandHistory) → steered_by between.1.now ≡ steered_by between.0.now → Agrees between.0.now h →
-        Agrees between.1.now behind → OnOk result (out.new.items ≡ out.old.items
-        ++ rules.changes_text panel.now (steered_by between.1.now) h behind answer.now) }
+    ensures { (h behind : CommandHistory) → steered_by between.entry.1.now ≡ steered_by between.entry.0.now → Agrees between.entry.0.now h →
+        Agrees between.entry.1.now behind → OnOk result (out.new.items ≡ out.old.items
+        ++ rules.changes_text panel.now (steered_by between.entry.1.now) h behind answer.now) }
 {
     let (before, behind) = between;
     let passed = Passed {
@@ -157,6 +157,7 @@ impl Screen {
     ) -> Result<(), AllocError>
         ensures shows { self.new.shows ≡ self.old.shows }
         ensures steered { steered_by (before_in self.new) ≡ steered_by (before_in self.old) }
+        ensures adds { OnOk result ((some : List ℕ) × (out.new.items ≡ out.old.items ++ some)) }
         ensures shown { (h behind : CommandHistory) → Sees self.old follower.now row h behind → OnOk result (
             (out.new.items ≡ out.old.items ++ rules.shown_text self.old.shows (is_level follower.now) (steered_in follower.now) h behind row)
             × (self.new.shows.is_on ≡ true → is_level follower.now ≡ true → Agrees (before_in self.new) behind)) }

@@ -40,11 +40,12 @@ fn interval_of(task: &Task) -> i64 {
     }
 }
 
-// A scan at this run instant is so late behind one at the other, -1 where there was none; the interval is above 0.
+// A scan at this run instant is so late behind one at the other, -1 where there was none.
 fn lateness(last: i64, t: i64, interval: i64) -> i64 {
-    let served = last
-        .saturating_sub(last.rem_euclid(interval))
-        .saturating_add(interval);
+    let Some(behind) = last.checked_rem_euclid(interval) else {
+        return 0;
+    };
+    let served = last.saturating_sub(behind).saturating_add(interval);
     t.saturating_sub(served)
 }
 

@@ -41,14 +41,6 @@ returns-in-Some-drained-clause-known g c =
     reached old new (reaches_on old c.rounds.printing.watch.tail new c.rounds.invariant.known c.in_ok-some.ensures.known)
     (c.in_ok-some.ensures.drained (subst (λ (o : Option Drained). IsSome o) (sym c.in-Some-drained.is) refl))
 
-pub rounds-preserved-then-not-some : goal.rounds-preserved-then-not-some
-rounds-preserved-then-not-some g c = record {
-  lines = told_more g.W.Write.contents g.T.Write.contents c.args.printing.now c.rounds.printing c.print_some.new.printing
-      c.rounds.invariant.lines c.in_ok-some.ensures.lines;
-  known = reaches_on c.args.printing.now.watch.tail c.rounds.printing.watch.tail c.print_some.new.printing.watch.tail
-      c.rounds.invariant.known c.in_ok-some.ensures.known;
-}
-
 pub rounds-preserved : goal.rounds-preserved
 rounds-preserved g c = record {
   lines = told_more g.W.Write.contents g.T.Write.contents c.args.printing.now c.rounds.printing c.print_some.new.printing
