@@ -146,6 +146,11 @@ export class Drawing {
     }
   }
 
+  /** Marks what was never reached, by ids. @param {Set<string>} ids */
+  markNever(ids) {
+    for (const {element} of this.points) set(element, 'never', ids.has(element.id));
+  }
+
   /** Marks breakpoints. @param {Map<string, string>} set_ conditions by program, kind and name */
   markPoints(set_) {
     for (const it of this.points) {
@@ -154,6 +159,12 @@ export class Drawing {
       set(it.element, 'waits', Boolean(condition));
     }
   }
+}
+
+/** The ids of what a drawing shows as never reached. @param {string} text */
+export function idsOfNever(text) {
+  const parsed = new DOMParser().parseFromString(text, DRAWN);
+  return new Set(Array.from(parsed.querySelectorAll('.never[id]'), it => it.id));
 }
 
 /** A point as one text. */

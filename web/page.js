@@ -5,7 +5,7 @@ import {Play} from './play.js';
 import {Run} from './run.js';
 import {Remote} from './remote.js';
 import {Texts} from './texts.js';
-import {Drawing} from './drawing.js';
+import {Drawing, idsOfNever} from './drawing.js';
 import {Pointing} from './pointing.js';
 import {Variables} from './variables.js';
 import {Waves} from './waves.js';
@@ -363,8 +363,17 @@ class Page {
     if (name === 'output') showTold(byId('output'), this.play.told, this.play.place);
     if (name === 'image') showLines(byId('image'), this.play.sfc.imageText());
     if (name === 'waves') await this.showWaves(chart, script);
-    if (name === 'coverage') showLines(byId('coverage'), (await this.remote.tool('cover', chart, script)).text);
+    if (name === 'coverage') await this.showCoverage(chart, script);
+    else this.drawing.markNever(new Set());
     if (name === 'outcome') await this.showOutcome(chart);
+  }
+
+  /** The report, and in the chart what was never reached, as long as the report is seen. */
+  async showCoverage(chart, script) {
+    const tool = name => this.remote.tool(name, chart, script), [report, drawn] = await Promise.all([tool('cover'), tool('draw_cover')]);
+    showLines(byId('coverage'), report.text);
+    const isSeen = this.resultTabs.current() === 'coverage' && this.play.doc?.chart === chart;
+    this.drawing.markNever(isSeen ? idsOfNever(drawn.text) : new Set());
   }
 
   async showWaves(chart, script) {

@@ -6,6 +6,7 @@ harm. PROGRAM plays the script that the page has made. The last line is 'N passe
 import base64
 import gzip
 import json
+import re
 import subprocess
 import sys
 import tempfile
@@ -258,8 +259,22 @@ def the_coverage_is_told(site):
 
 
 @step
+def what_was_never_reached_is_marked(site):
+    never = "Array.from(document.querySelectorAll('#drawing .never'), it => it.id).sort()"
+    with tempfile.TemporaryDirectory() as folder:
+        for name, text in (("chart", MIXING), ("script", site.script())):
+            Path(folder, name).write_text(text)
+        words = [site.program, "draw", "--cover", "script", "chart"]
+        drawn = subprocess.run(words, cwd=folder, capture_output=True, text=True, check=True).stdout
+    wanted = sorted(re.findall(r'<g (?=[^>]*class="[^"]*\bnever\b)[^>]*id="([^"]*)"', drawn))
+    assert wanted
+    site.wait(f"JSON.stringify({never}) === {json.dumps(json.dumps(wanted, separators=(',', ':')))}")
+
+
+@step
 def the_tests_are_run(site):
     site.tab("outcome")
+    same(site.count("#drawing .never"), 0)
     site.until("#outcome", "4 passed, 0 failed")
     site.tab("output")
 

@@ -18,12 +18,14 @@ sys.path.insert(0, str(TOP / "tests/reading"))
 from modes import MODES  # noqa: E402
 
 QUESTIONS = b"WHY\nSHOW\nIMAGE\nPOINTS\nTRACE 5\n"
-ALL = ["lines", "play", "list", "draw", "draw_after", "wave", "cover", "why", "why_script", "ask"]
+ALL = ["lines", "play", "list", "draw", "draw_after", "wave", "cover", "draw_cover", "why", "why_script",
+       "ask"]
 OF_TESTS = ["test", "why_tests"]
 OF_PLANTS = ["lines", "play"]
 WORDS = {
     "lines": ["replay", "chart", "script"], "play": ["replay", "chart", "script"], "list": ["list", "chart"], "draw": ["draw", "chart"],
     "draw_after": ["draw", "--after", "script", "chart"], "wave": ["wave", "chart", "script"], "cover": ["cover", "chart", "script"],
+    "draw_cover": ["draw", "--cover", "script", "chart"],
     "test": ["test", "chart", "tests.sfctest"], "why": ["why", "--all", "chart"], "why_script": ["why", "chart", "script"],
     "why_tests": ["why", "chart", "tests.sfctest"],
 }

@@ -33,6 +33,7 @@ const CALLS = {
   draw_after: ({chart, script}) => tool('draw_after', chart, script),
   wave: ({chart, script}) => tool('wave', chart, script),
   cover: ({chart, script}) => tool('cover', chart, script),
+  draw_cover: ({chart, script}) => tool('draw_cover', chart, script),
   test: ({chart, tests}) => tool('test', chart, tests),
   why: ({chart}) => tool('why', chart),
   why_script: ({chart, script}) => tool('why_script', chart, script),
