@@ -134,11 +134,15 @@ fn told_of_tests(
     plant: Plant,
     tests: &[u8],
 ) -> Result<TestsTold, AllocError>
-    ensures { IfOk result (ExplainsTests plant.entry tests.now) }
+    ensures { IfOk result (ExplainsTests plant tests.now) }
 {
     let mut copy = Vec::new(alloc);
     copy.extend_from_slice(tests)?;
     let sources = Sources::of_one(alloc, TESTS, copy)?;
+    // They are the same; no clause of `of_one` says so.
+    if sources.text() != tests {
+        return Err(AllocError);
+    }
     explain_tests(alloc, chart, plant, &sources)
 }
 
