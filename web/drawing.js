@@ -7,6 +7,9 @@ const DRAWN = 'image/svg+xml';
 /** The faults of sfc_program_state_t, by their numbers. */
 const FAULTS = ['', 'DivZero', 'Range', 'TwoTimed', 'SdWhileSl', 'SlWhileSd'];
 
+/** A drawing without its style: the page has one of its own for it, since its policy allows no other. @param {string} text */
+const parse = text => new DOMParser().parseFromString(text.replace(/<style>[^<]*<\/style>/, ''), DRAWN).documentElement;
+
 /** What of an instance is drawn, by the numbers of things. */
 class Instance {
   constructor(root, program, listing) {
@@ -67,8 +70,7 @@ export class Drawing {
 
   /** Puts a drawing of the program instances in place of the one that is there. @param {string} text */
   show(text, names) {
-    // The page has a style of its own for it, since its policy allows no other.
-    const parsed = new DOMParser().parseFromString(text.replace(/<style>[^<]*<\/style>/, ''), DRAWN).documentElement;
+    const parsed = parse(text);
     if (parsed.localName !== 'svg') return this.clear('');
     this.svg = document.importNode(parsed, true);
     this.svg.setAttribute('role', 'group');
@@ -163,8 +165,7 @@ export class Drawing {
 
 /** The ids of what a drawing shows as never reached. @param {string} text */
 export function idsOfNever(text) {
-  const parsed = new DOMParser().parseFromString(text, DRAWN);
-  return new Set(Array.from(parsed.querySelectorAll('.never[id]'), it => it.id));
+  return new Set(Array.from(parse(text).querySelectorAll('.never[id]'), it => it.id));
 }
 
 /** A point as one text. */
