@@ -1,5 +1,5 @@
 -- The texts that are told: by what was written.
-use Rattle.std.proofs.Common.{◌≡◌, ◌++◌, ℕ, List, [], Option, Some, None, Ok, Unit, sym, subst}
+use Rattle.std.proofs.Common.{◌≡◌, ◌++◌, ℕ, List, [], Option, Some, None, Ok, sym, subst}
 use Rattle.sfc_plant.specs.Plants.{PlantData}
 use Rattle.sfc_replay.specs.Acceptance.{Answers}
 use Rattle.sfc_replay.specs.Replay.{IsOutput, Replays}

@@ -1,5 +1,5 @@
 -- Why there is no text: by the errors of the crates below.
-use Rattle.std.proofs.Common.{◌≡◌, ℕ, List, [], Option, Some, None, Ok, Err, Unit, sym, subst}
+use Rattle.std.proofs.Common.{◌≡◌, ℕ, List, [], Option, Some, None, Ok, Err, sym, subst}
 use Rattle.sfc_drawing.specs.declared.drawing_error.DrawingError.{DrawingError}
 use Rattle.sfc_drawing.specs.declared.drawing_error.DrawingError.TheVariants as drawing
 use Rattle.sfc_plant.specs.Plants.{PlantData}
