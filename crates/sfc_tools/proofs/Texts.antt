@@ -1,9 +1,8 @@
 -- The texts that are told: by what was written.
-use Rattle.std.proofs.Common.{◌≡◌, ◌++◌, ℕ, List, [], Option, Some, None, Ok, sym, subst}
+use Rattle.std.proofs.Common.{◌≡◌, ℕ, List, [], Option, Some, None, Ok, sym, subst}
 use Rattle.sfc_plant.specs.Plants.{PlantData}
 use Rattle.sfc_replay.specs.Acceptance.{Answers}
 use Rattle.sfc_replay.specs.Replay.{IsOutput, Replays}
-use Rattle.sfc_replay.specs.sfc_instances.PlantState.{PlantState}
 use Rattle.sfc_replay.specs.sfc_load.Accepted.{IsAccepted}
 use Rattle.sfc_replay.specs.sfc_output.sfc_list.Listing.{listing}
 use Rattle.sfc_svg.specs.Drawn.{IsDrawingOf}

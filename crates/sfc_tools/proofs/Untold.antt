@@ -1,19 +1,15 @@
 -- Why there is no text: by the errors of the crates below.
-use Rattle.std.proofs.Common.{◌≡◌, ℕ, List, [], Option, Some, None, Ok, Err, sym, subst}
+use Rattle.std.proofs.Common.{ℕ, List, Option, Some, None, Err}
 use Rattle.sfc_drawing.specs.declared.drawing_error.DrawingError.{DrawingError}
 use Rattle.sfc_drawing.specs.declared.drawing_error.DrawingError.TheVariants as drawing
-use Rattle.sfc_plant.specs.Plants.{PlantData}
 use Rattle.sfc_replay.specs.Acceptance.{Accepts, Answers, IsRefusedFor}
 use Rattle.sfc_replay.specs.Opening.{IsScriptRefused, Opens}
 use Rattle.sfc_replay.specs.Reading.{Device}
-use Rattle.sfc_replay.specs.Replay.{IsOutput, Replays}
+use Rattle.sfc_replay.specs.Replay.{Replays}
 use Rattle.sfc_replay.specs.declared.replay_error.ReplayError.{ReplayError}
 use Rattle.sfc_replay.specs.declared.replay_error.ReplayError.TheVariants as replay
-use Rattle.sfc_replay.specs.sfc_load.Accepted.{IsAccepted}
 use Rattle.sfc_replay.specs.sfc_output.sfc_list.Listing.{listing}
-use Rattle.sfc_svg.specs.Drawn.{IsDrawingOf}
-use Rattle.sfc_svg.specs.Played.{DrawsAfter, IsLeft, OfPlay}
-use Rattle.sfc_svg.specs.Standing.{IsDrawingAt}
+use Rattle.sfc_svg.specs.Played.{DrawsAfter}
 use Rattle.sfc_svg.specs.Types.{DrawsTypes}
 use Rattle.sfc_svg.specs.declared.svg_error.SvgError.{SvgError}
 use Rattle.sfc_svg.specs.declared.svg_error.SvgError.TheVariants as svg
@@ -22,8 +18,6 @@ use Rattle.sfc_wave.specs.declared.wave_error.WaveError.TheVariants as wave
 use Rattle.sfc_tools.specs.declared.tool_error.ToolError.{ToolError}
 use Rattle.sfc_tools.specs.declared.tool_error.ToolError.TheVariants.{Replay, TooLarge}
 use Rattle.sfc_tools.specs.Codes.{of_drawing, of_replay, of_svg, of_wave}
-use Rattle.sfc_tools.specs.Drawings.{IsDrawing, IsDrawingBehind}
-use Rattle.sfc_tools.specs.Listings.{IsListing}
 use Rattle.sfc_tools.specs.Told.{IsForWant, IsUntold, IsUntoldOfBoth, OrTooLarge, read_of}
 use Rattle.sfc_tools.proofs.Taken.{of_both, of_chart}
 

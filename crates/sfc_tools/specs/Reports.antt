@@ -1,5 +1,5 @@
 -- What `why` prints: the pages of reports, one behind the other.
-use Rattle.std.specs.Prelude.{◌≡◌, ℕ, List, [], ◌∷◌, ◌++◌, codes, Option, Some, None, map, ⊤}
+use Rattle.std.specs.Prelude.{◌≡◌, ℕ, List, [], ◌∷◌, ◌++◌, codes, Option, Some, None, ⊤}
 use Rattle.sfc_explain.specs.declared.explanation.Explanation.{Explanation}
 use Rattle.sfc_plant.specs.Plants.{PlantData}
 use Rattle.sfc_replay.specs.sfc_load.Accepted.{IsAccepted}

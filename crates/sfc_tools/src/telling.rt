@@ -1,6 +1,7 @@
 //! Where the faults of charts, scripts and tests are.
 
 ghost use Rattle.std.specs.Prelude.{◌≡◌, ◌++◌, codes, IfOk, List, OnOk, ℕ};
+ghost use Rattle.sfc_cases.specs.Answers.{text_in};
 ghost use Rattle.sfc_why_tests.specs.Telling.{ExplainsTests};
 ghost use Rattle.sfc_tools.specs.Reports as told;
 ghost use Rattle.sfc_tools.specs.Reports.{ArePages, IsOfTold, IsPage, TellsFaults, TellsFaultsOfScript, TellsFaultsOfTests};
@@ -127,6 +128,19 @@ fn pages_of_tests(alloc: Global, said: &TestsTold) -> Result<Vec<u8>, AllocError
     }
 }
 
+// The tests as a file that includes no other. That it has their text is looked at: no clause of `of_one` says so.
+fn sources_of(alloc: Global, tests: &[u8]) -> Result<Sources, AllocError>
+    ensures { IfOk result (λ sources. text_in sources ≡ tests.now) }
+{
+    let mut copy = Vec::new(alloc);
+    copy.extend_from_slice(tests)?;
+    let sources = Sources::of_one(alloc, TESTS, copy)?;
+    if sources.text() != tests {
+        return Err(AllocError);
+    }
+    Ok(sources)
+}
+
 // What is told of tests over a plant, which is that of the chart.
 fn told_of_tests(
     alloc: Global,
@@ -136,13 +150,7 @@ fn told_of_tests(
 ) -> Result<TestsTold, AllocError>
     ensures { IfOk result (ExplainsTests plant tests.now) }
 {
-    let mut copy = Vec::new(alloc);
-    copy.extend_from_slice(tests)?;
-    let sources = Sources::of_one(alloc, TESTS, copy)?;
-    // They are the same; no clause of `of_one` says so.
-    if sources.text() != tests {
-        return Err(AllocError);
-    }
+    let sources = sources_of(alloc, tests)?;
     explain_tests(alloc, chart, plant, &sources)
 }
 

@@ -1,4 +1,4 @@
-use Rattle.std.proofs.Common.{◌≡◌, ◌∙◌, ◌++◌, ap, append_assoc, ℕ, List, subst, refl}
+use Rattle.std.proofs.Common.{◌∙◌, ◌++◌, ap, append_assoc, ℕ, List}
 use Rattle.sfc_replay.specs.sfc_script.Lines.{lines_of}
 use Rattle.sfc_tools.proofs.Answered.{all_answered, line_more}
 use Rattle.sfc_tools.proofs.asking.obey_all.Goals as goal

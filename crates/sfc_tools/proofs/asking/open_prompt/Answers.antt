@@ -1,6 +1,5 @@
 use Rattle.std.proofs.Common.{◌≡◌, List, [], ℕ, subst, sym}
 use Rattle.std.proofs.lemmas.Result.{err_from_is_err_and}
-use Rattle.sfc_prompt.specs.Prompts.{session_in}
 use Rattle.sfc_replay.specs.sfc_debug.Steered.{Steered}
 use Rattle.sfc_replay.specs.sfc_load.Accepted.{IsAccepted}
 use Rattle.sfc_session.specs.declared.session.Session.{Session}

@@ -1,4 +1,4 @@
-use Rattle.std.proofs.Common.{ℕ, List, Some}
+use Rattle.std.proofs.Common.{Some}
 use Rattle.std.proofs.lemmas.Result.{err_from_is_err_and}
 use Rattle.sfc_tools.proofs.Texts.{drawn}
 use Rattle.sfc_tools.proofs.Untold.{types_undrawn}

@@ -1,4 +1,4 @@
-use Rattle.std.proofs.Common.{◌≡◌, ◌++◌, take, drop}
+use Rattle.std.proofs.Common.{◌≡◌, ◌++◌, drop}
 use Rattle.sfc_tools.specs.Reports.{pages_of_tests}
 use Rattle.sfc_tools.proofs.telling.pages_of_lines.Given as goal
 
