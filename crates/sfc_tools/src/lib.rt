@@ -19,6 +19,6 @@ pub mod tool_error;
 pub mod waving;
 
 // What lies deeper, under a name of this crate.
+use sfc_debug::sfc_core;
 use sfc_output::sfc_debug;
 use sfc_replay::{sfc_output, sfc_script};
-use sfc_debug::sfc_core;

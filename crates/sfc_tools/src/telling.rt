@@ -19,7 +19,9 @@ use std::alloc::{AllocError, Global};
 
 /// The names that the texts have in reports.
 const CHART: &[u8] = b"chart";
+
 const SCRIPT: &[u8] = b"script";
+
 const TESTS: &[u8] = b"tests";
 
 // The page of a report of a text. A text in memory fails for nothing but want of memory.

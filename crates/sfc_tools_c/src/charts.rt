@@ -14,12 +14,7 @@ use std::alloc::Global;
 
 /// What `sfcmon why --all` prints of a chart, whose name is `chart`: where its faults are, and what mends them.
 #[unsafe(no_mangle)]
-pub extern "C" fn sfc_why(
-    alloc: Global,
-    chart: &[u8],
-    into: &mut [u8],
-    needed: &mut usize,
-) -> i32
+pub extern "C" fn sfc_why(alloc: Global, chart: &[u8], into: &mut [u8], needed: &mut usize) -> i32
     ensures { GivesWhat (TellsFaults chart.now) into.old into.new needed.new result }
 {
     give(why(alloc, chart), into, needed)
@@ -27,12 +22,7 @@ pub extern "C" fn sfc_why(
 
 /// The text that `sfcmon list` prints of a chart: all that it says, in one layout.
 #[unsafe(no_mangle)]
-pub extern "C" fn sfc_list(
-    alloc: Global,
-    chart: &[u8],
-    into: &mut [u8],
-    needed: &mut usize,
-) -> i32
+pub extern "C" fn sfc_list(alloc: Global, chart: &[u8], into: &mut [u8], needed: &mut usize) -> i32
     ensures { GivesWhat (TellsListing chart.now) into.old into.new needed.new result }
 {
     give(list(alloc, chart), into, needed)
@@ -40,12 +30,7 @@ pub extern "C" fn sfc_list(
 
 /// The drawing that `sfcmon draw` prints of a chart: its program types.
 #[unsafe(no_mangle)]
-pub extern "C" fn sfc_draw(
-    alloc: Global,
-    chart: &[u8],
-    into: &mut [u8],
-    needed: &mut usize,
-) -> i32
+pub extern "C" fn sfc_draw(alloc: Global, chart: &[u8], into: &mut [u8], needed: &mut usize) -> i32
     ensures { GivesWhat (TellsDrawing chart.now) into.old into.new needed.new result }
 {
     give(draw(alloc, chart), into, needed)
