@@ -164,6 +164,8 @@ quick() {
   beside "$limit" "drawing.sh 1" "$tests/drawing.sh" 1
   beside "$limit" "lint.sh 300 10" "$tests/lint.sh" 300 10
   beside "$limit" "reading/tests.py 200" python3 "$tests/reading/tests.py" "$program" 200
+  # what builds a page proves, so that the quick part takes one that is there
+  [ ! -e "$top/build/web/sfc.wasm" ] || WEB=$top/build/web beside "$limit" "web.sh quick" "$tests/web.sh" quick
   wait_for_all
 }
 
@@ -186,6 +188,7 @@ full() {
   in_both
   wait_for_all
   alone "$limit" c_library.sh "$tests/c_library.sh"
+  alone "$limit" "web.sh full" "$tests/web.sh" full
   [ ! -x "$tests/release.sh" ] || alone "$limit" release.sh "$tests/release.sh"
   if [ "$program" = "$top/crates/sfcmon/out/sfcmon" ]; then
     alone "$limit" bench/check.sh "$top/bench/check.sh"

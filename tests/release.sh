@@ -250,6 +250,18 @@ refused "without a library" "there is no libsfc.so in"
 mv "$work/moved" "$clone/build/c/libsfc.so"
 printf '#!/bin/sh\necho sfcmon 9.8.7\n' >"$clone/crates/sfcmon/out/sfcmon"
 refused "a program of another version" "the program isn't of the version $version"
+# build_page WORD: what stands for a page that tools/web has built
+build_page() {
+  local it
+  mkdir -p "$clone/build/web"
+  for it in index.html sfc.js sfc.wasm package.json; do echo "this is $it" >"$clone/build/web/$it"; done
+  echo "$1" >"$clone/build/web/of"
+}
+build_page unproved
+refused "a page in a browser of sources that nothing has proved" "isn't of the proved libraries"
+build_page proved && touch -d 2001-01-01 "$clone/build/web/sfc.wasm"
+refused "a page in a browser that is older than its sources" "is older than its sources"
+rm -r "$clone/build/web"
 export SFCMON=$program
 refused "a program from elsewhere" "from elsewhere"
 unset SFCMON
@@ -275,6 +287,15 @@ release "$clone"
 [ "$status" = 0 ] && what_about && has "$work/about" "at commit $(git -C "$clone" rev-parse HEAD~1)" \
   && has "$work/about" "commit     $(git -C "$clone" rev-parse HEAD)"
 note $? "a release whose gate ran on the same crates, before a page changed: $(cat "$work/err")"
+
+build_page proved
+release "$clone"
+zip=$made/zadorike-web-$version.zip
+[ "$status" = 0 ] && [ "$(wc -l <"$made/SHA256SUMS")" = 5 ] && python3 -m zipfile -e "$zip" "$work/zip" \
+  && [ "$(find "$work/zip" -type f | wc -l)" = 5 ] && has "$work/zip/zadorike-web-$version/ABOUT" "$(git -C "$clone" rev-parse HEAD)" \
+  && diff -r -x of -x ABOUT "$clone/build/web" "$work/zip/zadorike-web-$version" >"$work/differ"
+note $? "a release with the page for browsers: $(cat "$work/err")"
+rm -r "$clone/build/web"
 
 # ---- an install from a clone, and the version
 

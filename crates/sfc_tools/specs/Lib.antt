@@ -1,0 +1,16 @@
+-- The rules, in reading order.
+
+-- why there is no text, and the codes that say so
+pub mod Codes
+-- what a call tells
+pub mod Told
+-- what list, replay and draw print
+pub mod Listings
+pub mod Plays
+pub mod Drawings
+-- what why prints
+pub mod Reports
+-- what wave, cover and test print
+pub mod Runs
+-- what a prompt answers
+pub mod Answers
