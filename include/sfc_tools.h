@@ -21,7 +21,7 @@ enum { SFC_LARGE = -7 };
 /* ---- Faults, as `sfcmon why` tells them; `no fault` where there is none. The texts are named chart, script and tests. */
 
 /* All faults of a chart. */
-int32_t sfc_why(const uint8_t *chart, size_t chart_len, uint8_t *into, size_t into_len, size_t *needed);
+int32_t sfc_why_chart(const uint8_t *chart, size_t chart_len, uint8_t *into, size_t into_len, size_t *needed);
 /* The first fault of a script on a chart, or warnings. */
 int32_t sfc_why_script(const uint8_t *chart, size_t chart_len, const uint8_t *script, size_t script_len, uint8_t *into, size_t into_len,
                        size_t *needed);

@@ -41,7 +41,7 @@ export class Texts {
   async look() {
     clearTimeout(this.timer);
     const version = ++this.version, {chart, script, tests} = this.editors;
-    const inChart = await this.faults('why', chart.text);
+    const inChart = await this.faults('why_chart', chart.text);
     const isGood = !inChart.length;
     const inScript = isGood ? await this.faults('why_script', chart.text, script.text) : [];
     const inTests = isGood && tests.text.trim() ? await this.faults('why_tests', chart.text, tests.text) : [];

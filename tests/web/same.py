@@ -18,7 +18,7 @@ sys.path.insert(0, str(TOP / "tests/reading"))
 from modes import MODES  # noqa: E402
 
 QUESTIONS = b"WHY\nSHOW\nIMAGE\nPOINTS\nTRACE 5\n"
-ALL = ["lines", "play", "list", "draw", "draw_after", "wave", "cover", "draw_cover", "why", "why_script",
+ALL = ["lines", "play", "list", "draw", "draw_after", "wave", "cover", "draw_cover", "why_chart", "why_script",
        "ask"]
 OF_TESTS = ["test", "why_tests"]
 OF_PLANTS = ["lines", "play"]
@@ -26,7 +26,7 @@ WORDS = {
     "lines": ["replay", "chart", "script"], "play": ["replay", "chart", "script"], "list": ["list", "chart"], "draw": ["draw", "chart"],
     "draw_after": ["draw", "--after", "script", "chart"], "wave": ["wave", "chart", "script"], "cover": ["cover", "chart", "script"],
     "draw_cover": ["draw", "--cover", "script", "chart"],
-    "test": ["test", "chart", "tests.sfctest"], "why": ["why", "--all", "chart"], "why_script": ["why", "chart", "script"],
+    "test": ["test", "chart", "tests.sfctest"], "why_chart": ["why", "--all", "chart"], "why_script": ["why", "chart", "script"],
     "why_tests": ["why", "chart", "tests.sfctest"],
 }
 
@@ -99,7 +99,7 @@ def damaged(count, seed):
     for k in range(count):
         case = rng.choice(sound)
         which = rng.choice(["chart", "chart", "script"])
-        calls = ["play", "list", "why", "why_script"] + ["why_tests"] * ("tests" in case)
+        calls = ["play", "list", "why_chart", "why_script"] + ["why_tests"] * ("tests" in case)
         yield f"damaged {seed} {k}", {**case, which: damage(rng, case[which])}, calls
 
 

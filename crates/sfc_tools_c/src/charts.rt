@@ -14,7 +14,12 @@ use std::alloc::Global;
 
 /// What `sfcmon why --all` prints of a chart, whose name is `chart`: where its faults are, and what mends them.
 #[unsafe(no_mangle)]
-pub extern "C" fn sfc_why(alloc: Global, chart: &[u8], into: &mut [u8], needed: &mut usize) -> i32
+pub extern "C" fn sfc_why_chart(
+    alloc: Global,
+    chart: &[u8],
+    into: &mut [u8],
+    needed: &mut usize,
+) -> i32
     ensures { GivesWhat (TellsFaults chart.now) into.old into.new needed.new result }
 {
     give(why(alloc, chart), into, needed)
