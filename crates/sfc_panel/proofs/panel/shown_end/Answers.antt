@@ -19,7 +19,7 @@ returns-then-stands_as c h g stand =
     let own : tables_in before.result ≡ tables_of (chart_of plant c.args.program) =
     λ i. tables_of (chart_of (before.ensures.plant i) (before.ensures.instance i)) in
     let alike : c.stands_as.result ≡ stands_alike (tables_of (chart_of plant c.args.program))
-        ((state_of plant h).instance_state c.args.program.0) ((state_of plant g).instance_state c.args.program.0) =
+    ((state_of plant h).instance_state c.args.program.0) ((state_of plant g).instance_state c.args.program.0) =
     subst (λ t. c.stands_as.result ≡ stands_alike t ((state_of plant h).instance_state c.args.program.0)
     ((state_of plant g).instance_state c.args.program.0)) own
     (c.stands_as.ensures same (state_of plant h).changes (state_of plant g).changes ((state_of plant h).instance_state c.args.program.0)
@@ -39,7 +39,7 @@ returns-else-stands_as c h g stand =
     let own : tables_in before.result ≡ tables_of (chart_of plant c.args.program) =
     λ i. tables_of (chart_of (before.ensures.plant i) (before.ensures.instance i)) in
     let alike : c.stands_as.result ≡ stands_alike (tables_of (chart_of plant c.args.program))
-        ((state_of plant h).instance_state c.args.program.0) ((state_of plant g).instance_state c.args.program.0) =
+    ((state_of plant h).instance_state c.args.program.0) ((state_of plant g).instance_state c.args.program.0) =
     subst (λ t. c.stands_as.result ≡ stands_alike t ((state_of plant h).instance_state c.args.program.0)
     ((state_of plant g).instance_state c.args.program.0)) own
     (c.stands_as.ensures same (state_of plant h).changes (state_of plant g).changes ((state_of plant h).instance_state c.args.program.0)
