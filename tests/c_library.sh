@@ -47,6 +47,17 @@ grep -q '^[0-9]* us: pump off, 0 overruns$' "$work/loop"; note $? "what the loop
 export PYTHONPATH=$build
 python3 "$top/examples/python/test_mixing.py" >/dev/null; note $? "the tests of the mixing station"
 python3 "$here/c_library.py" "$top"/examples/*.chart; note $? "the scripts of examples/ by Python"
+python3 "$here/python_bench.py" "$top"; note $? "what sfc.py is for a bench"
+for example in response interlock two_tasks snapshots; do
+  python3 "$top/examples/python/$example.py" >"$work/example"; note $? "examples/python/$example.py"
+done
+if python3 -c 'import hypothesis, pytest' 2>/dev/null; then
+  (cd "$work" && python3 "$top/examples/python/planted_fault.py" >"$work/planted"); note $? "examples/python/planted_fault.py finds the planted fault"
+  (cd "$work" && python3 -m pytest -q -p no:cacheprovider "$top/examples/python/test_mixing.py" "$top/examples/python/test_any_input.py" >"$work/pytest")
+  note $? "the tests under pytest, with any inputs"
+else
+  echo "not asked, hypothesis and pytest aren't there: the tests that they run"
+fi
 
 echo "$passed passed, $failed failed"
 [ "$failed" = 0 ]

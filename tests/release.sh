@@ -100,6 +100,25 @@ loops() {
   note $? "$1: what the loop prints"
   [ "$(LD_LIBRARY_PATH=$1/lib "$work/bench" "$examples/pump.chart" Main 200000 1000 2>"$work/err")" = "1000 scans, 0 overruns" ]
   note $? "$1: what the bench prints"
+  if command -v cmake >/dev/null; then by_cmake "$@"; else pass_over cmake "$1: a loop by cmake"; fi
+}
+# by_cmake PREFIX: the loop by cmake, against each target that there is
+by_cmake() {
+  rm -rf "$work/cmake" && mkdir "$work/cmake"
+  cat >"$work/cmake/CMakeLists.txt" <<CMAKE
+cmake_minimum_required(VERSION 3.13)
+project(loop C)
+find_package(sfc $version REQUIRED)
+foreach(it sfc sfc_static)
+  if(TARGET sfc::\${it})
+    add_executable(with_\${it} "$1/share/doc/zadorike/examples/c/loop.c")
+    target_link_libraries(with_\${it} PRIVATE sfc::\${it})
+  endif()
+endforeach()
+CMAKE
+  cmake -S "$work/cmake" -B "$work/cmake/build" -DCMAKE_PREFIX_PATH="$1" >"$work/out" 2>&1 && cmake --build "$work/cmake/build" >"$work/out" 2>&1 \
+    && printf '' | LD_LIBRARY_PATH=$1/lib timeout 20 "$work/cmake/build/with_sfc_static" "$1/share/doc/zadorike/examples/pump.chart" >"$work/out"
+  note $? "$1: a loop by cmake"
 }
 # benches PREFIX PYTHON LIBRARY [FOLDER]: a bench in Python, with the module in the folder or of the environment, and this library
 benches() {

@@ -1,0 +1,16 @@
+"""Two tasks: a fast one and a slow one, scanned as their intervals and priorities say.
+
+    PYTHONPATH=build/c python3 examples/python/two_tasks.py"""
+
+import os
+
+from sfc import Plc, ms, time_text
+
+CHART = os.path.join(os.path.dirname(os.path.abspath(__file__)), "..", "belt.chart")
+
+with Plc.of(CHART) as plc:
+    did = plc.advance(ms(1000))
+    for line in plc.script().splitlines()[:4]:
+        print(line)
+    print(f"{did.scans} scans up to {time_text(plc.now)}, overruns {[plc.task_state(task).overruns for task in plc.names('task')]}")
+    assert [it.split()[2] for it in plc.script().splitlines()[:4]] == ["Fast", "Slow", "Fast", "Fast"]
