@@ -4,6 +4,7 @@ something differs."""
 
 import re
 import sys
+from datetime import timedelta
 from itertools import count
 
 from sfc import Plc, Refused, explain
@@ -19,7 +20,7 @@ def time(text):
 
 def value(text):
     words = {"TRUE": 1, "FALSE": 0}
-    return words[text.upper()] if text.upper() in words else time(text) if "#" in text else int(text)
+    return words[text.upper()] if text.upper() in words else timedelta(microseconds=time(text)) if "#" in text else int(text)
 
 
 def point(words):
@@ -109,7 +110,7 @@ def play_calls(base, script):
     said = [it.split() for it in script.splitlines() if it.split() and not it.split()[0].startswith(";")]
     lines = open(f"{base}.expect").read().splitlines()
     at, conditions = 0, count()
-    with Plc.of(f"{base}.chart", script.encode()) as plc:
+    with Plc.of(f"{base}.chart", script.encode(), raises=False) as plc:
         for words in said:
             compare(plc, words, conditions, lines[at])
             at += 1
@@ -126,7 +127,7 @@ def play_calls(base, script):
 
 def play_lines(base, script):
     """Line by line, to the byte."""
-    with Plc.of(f"{base}.chart", script.encode()) as plc:
+    with Plc.of(f"{base}.chart", script.encode(), raises=False) as plc:
         told = "".join(plc.command(line) for line in script.splitlines()) + plc.image_text()
     assert told == open(f"{base}.expect").read(), base
 

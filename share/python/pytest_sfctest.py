@@ -1,7 +1,9 @@
-"""pytest collects files of tests of charts, NAME.sfctest: each case is an item.
+"""pytest for charts: files of tests, NAME.sfctest, of which each case is an item; a fixture `plc`, which is a chart that runs; and the
+latest scans of each chart that a failed test had.
 
-Load it by `pytest -p pytest_sfctest`, or in a conftest.py by `pytest_plugins = ["pytest_sfctest"]`. A file is run on the chart of its name
-beside it, NAME.chart, or on the one that `sfc_chart` of pytest's configuration names. The program is sfcmon, or what SFCMON names.
+Load it by `pytest -p pytest_sfctest`, or in a conftest.py by `pytest_plugins = ["pytest_sfctest"]`. A file of tests is run on the chart of
+its name beside it, NAME.chart, or on the one that `sfc_chart` of pytest's configuration names. The program is sfcmon, or what SFCMON names.
+`plc` is that chart too, or the one of a mark `@pytest.mark.sfc_chart("pump.chart")`, a path from the test's folder on.
 """
 
 import os
@@ -12,6 +14,33 @@ import pytest
 
 def pytest_addoption(parser):
     parser.addini("sfc_chart", "the chart on which all files of tests are run", default="")
+
+
+def pytest_configure(config):
+    config.addinivalue_line("markers", "sfc_chart(path): the chart of the fixture plc, from the test's folder on")
+
+
+@pytest.fixture
+def plc(request):
+    """The chart, newly opened."""
+    from sfc import Plc
+
+    mark = request.node.get_closest_marker("sfc_chart")
+    path = request.path.parent / mark.args[0] if mark else request.config.getini("sfc_chart")
+    if not path:
+        pytest.fail("neither a mark sfc_chart nor the configuration names a chart", pytrace=False)
+    with Plc.of(str(path)) as opened:
+        yield opened
+
+
+@pytest.hookimpl(hookwrapper=True)
+def pytest_runtest_makereport(item, call):
+    """A failed test has the latest scans of its charts beside its message."""
+    report = (yield).get_result()
+    if call.when == "call" and report.failed:
+        for name, value in getattr(item, "funcargs", {}).items():
+            if hasattr(value, "last_scans"):
+                report.sections.append((f"latest scans of {name}", value.last_scans()))
 
 
 def pytest_collect_file(file_path, parent):
