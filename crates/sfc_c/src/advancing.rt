@@ -25,7 +25,7 @@ fn advance(plc: &mut Plc, until: i64) -> Advanced
     ensures end { IsEnd result }
 {
     let mut told = NOTHING;
-    'scans: for _ in 0..u64::MAX {
+    'scans: for _count in 0..u64::MAX {
         told = told.behind_next(next_scan(plc, until));
         if told.end != GOES_ON {
             return told;

@@ -2,9 +2,14 @@
 
 ghost use Rattle.std.specs.Prelude.{◌≡◌, ◌<◌, ◌≤◌, ◌⊎◌, ⊥, ℕ, All, [], IfOk, None, OnErr, length, pos, slice_get};
 ghost use Rattle.std.proofs.Props.{props};
-ghost use Rattle.sfc_replay.specs.sfc_debug.Agreement.{plant_of};
+ghost use Rattle.sfc_replay.specs.sfc_debug.Agreement.{Agrees, plant_of};
+ghost use Rattle.sfc_replay.specs.sfc_debug.Histories.{CommandHistory};
+ghost use Rattle.sfc_replay.specs.sfc_debug.Meaning.{IsAccepted};
 ghost use Rattle.sfc_replay.specs.sfc_debug.Openings.{IsOpeningFor};
+ghost use Rattle.sfc_replay.specs.sfc_debug.Steered.{steered_by};
+ghost use Rattle.sfc_replay.specs.sfc_debug.Verdict.{history_by};
 ghost use Rattle.sfc_replay.proofs.of_sfc_debug.Openings.{opening_prop};
+ghost use Rattle.sfc_session.specs.Sessions.{steered_after, waiting, waiting_verdict};
 
 use crate::saved::Saved;
 use crate::sfc_debug::break_condition::BreakCondition;
@@ -37,14 +42,37 @@ impl Drop for Plc {
     }
 }
 
+// A breakpoint with a condition, at a point and a raw instant.
+fn obey_break(
+    debugger: &mut Debugger,
+    placed: (Point, i64),
+    condition: BreakCondition,
+) -> Result<Result<Answer, Refusal>, AllocError>
+    ensures steered { IfOk result (λ answer. steered_by debugger.new ≡ steered_after answer (steered_by debugger.old) condition) }
+    ensures answer { (h : CommandHistory) → IsAccepted (steered_by debugger.old).plant (steered_by debugger.old).table h →
+        Agrees debugger.old h → IfOk result (λ answer. answer ≡ waiting_verdict (steered_by debugger.old) h placed condition) }
+    ensures agrees { (h : CommandHistory) → IsAccepted (steered_by debugger.old).plant (steered_by debugger.old).table h →
+        Agrees debugger.old h → IfOk result (λ answer. Agrees debugger.new
+        (history_by answer (waiting (steered_by debugger.old) placed condition) h)) }
+    ensures err_steered { OnErr result (steered_by debugger.new ≡ steered_by debugger.old) }
+    ensures err { (h : CommandHistory) → Agrees debugger.old h → OnErr result (Agrees debugger.new h) }
+{
+    let (point, raw) = placed;
+    let mut ticks = Ticks::new();
+    debugger.break_when(point, condition, raw, &mut ticks)
+}
+
 impl Plc {
+    ghost use Rattle.sfc_events.specs.declared.command.Command.{Command as CommandData};
     ghost use Rattle.sfc_replay.specs.sfc_debug.Agreement.{Agrees};
     ghost use Rattle.sfc_replay.specs.sfc_debug.Histories.{CommandHistory};
     ghost use Rattle.sfc_replay.specs.sfc_debug.Meaning.{IsAccepted};
     ghost use Rattle.sfc_replay.specs.sfc_debug.Verdict.{after, history_by, verdict};
+    ghost use Rattle.sfc_replay.specs.sfc_output.Output.{debugger_of};
+    ghost use Rattle.sfc_session.specs.Scanning as scanning;
     ghost use Rattle.sfc_session.specs.Sessions.{last_instant, steered_after, waiting, waiting_verdict};
     ghost use Rattle.sfc_c.specs.Codes as codes;
-    ghost use Rattle.sfc_c.specs.Resources.{IsPast, IsSaved, Stands, debugger_in, slots_in, steered_in};
+    ghost use Rattle.sfc_c.specs.Resources.{IsPast, IsSaved, Stands, debugger_in, instant_in, slots_in, steered_in};
 
     /// A resource with this debugger, which was told nothing.
     pub fn new(alloc: Global, debugger: Debugger) -> Plc
@@ -73,6 +101,28 @@ impl Plc {
         self.instant
     }
 
+    /// The raw instant of a run instant, where the resource runs on from the latest accepted command; as far as 64 bits go.
+    pub fn raw_of(&self, next: i64) -> i64
+        ensures { (h : CommandHistory) → Stands self.now h → result ≡ scanning.raw_of (last_instant h)
+            ((debugger_of (steered_in self.now)).state h).clock.instant next }
+    {
+        let stretch = next.saturating_sub(self.debugger.run_instant());
+        self.instant.saturating_add(stretch)
+    }
+
+    // Keeps the raw instant of a command that was answered so, where it was accepted.
+    fn note(&mut self, answer: Result<Answer, Refusal>, raw: i64)
+        ensures debugger { debugger_in self.new ≡ debugger_in self.old }
+        ensures instant { (command : CommandData) (h : CommandHistory) → instant_in self.old ≡ last_instant h →
+            instant_in self.new ≡ last_instant (history_by answer (command, raw) h) }
+        ensures slots { slots_in self.new ≡ slots_in self.old }
+    {
+        match answer {
+            Ok(_) => self.instant = raw,
+            Err(_) => {}
+        }
+    }
+
     /// One command at its raw instant: what it answers, or what it is refused for.
     pub fn obey(&mut self, timed: Timed) -> Result<Answer, Refusal>
         ensures steered { steered_in self.new ≡ steered_in self.old }
@@ -83,9 +133,7 @@ impl Plc {
         ensures slots { slots_in self.new ≡ slots_in self.old }
     {
         let answer = self.debugger.obey(timed);
-        if answer.is_ok() {
-            self.instant = timed.raw;
-        }
+        self.note(answer, timed.raw);
         answer
     }
 
@@ -176,13 +224,8 @@ impl Plc {
         ensures err { (h : CommandHistory) → Stands self.old h → OnErr result (Stands self.new h) }
         ensures slots { slots_in self.new ≡ slots_in self.old }
     {
-        let mut ticks = Ticks::new();
-        let answer = self
-            .debugger
-            .break_when(point, condition, raw, &mut ticks)?;
-        if answer.is_ok() {
-            self.instant = raw;
-        }
+        let answer = obey_break(&mut self.debugger, (point, raw), condition)?;
+        self.note(answer, raw);
         Ok(answer)
     }
 }

@@ -2,9 +2,7 @@
 
 ghost use Rattle.std.specs.Prelude.{◌≡◌};
 ghost use Rattle.sfc_replay.specs.sfc_debug.Histories.{CommandHistory};
-ghost use Rattle.sfc_replay.specs.sfc_output.Output.{debugger_of};
 ghost use Rattle.sfc_session.specs.Scanning as scanning;
-ghost use Rattle.sfc_session.specs.Sessions.{last_instant};
 ghost use Rattle.sfc_c.specs.Advancing as advancing;
 ghost use Rattle.sfc_c.specs.Advancing.{IsMade, MakesScan, TakesTurn};
 ghost use Rattle.sfc_c.specs.Resources.{Stands, slots_in, steered_in};
@@ -112,15 +110,6 @@ fn scan_at(plc: &mut Plc, raw: i64) -> Scan
     }
 }
 
-// The raw instant of a run instant, where the resource runs on from the latest accepted command; as far as 64 bits go.
-fn raw_of(plc: &Plc, next: i64) -> i64
-    ensures { (h : CommandHistory) → Stands plc.now h → result ≡ scanning.raw_of (last_instant h)
-        ((debugger_of (steered_in plc.now)).state h).clock.instant next }
-{
-    let stretch = next.saturating_sub(plc.debugger().run_instant());
-    plc.instant().saturating_add(stretch)
-}
-
 /// Makes the scan that comes next: of the task whose turn it is at the instant of the latest accepted command, or where it is no task's
 /// turn then, at the earliest next release of all tasks. None, and nothing changes, where none comes up to this raw instant, in microseconds.
 pub fn next_scan(plc: &mut Plc, until: i64) -> Option<Scan>
@@ -137,7 +126,7 @@ pub fn next_scan(plc: &mut Plc, until: i64) -> Option<Scan>
         Turn::Taken(made) => Some(made),
         Turn::NoTurn(None) => None,
         Turn::NoTurn(Some(next)) => {
-            let raw = raw_of(plc, next);
+            let raw = plc.raw_of(next);
             if raw <= until {
                 return Some(scan_at(plc, raw));
             }
