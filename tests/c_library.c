@@ -188,8 +188,8 @@ static void texts(void) {
     sfc_close(&plc);
 }
 
-static int text_is(int32_t code, const uint8_t *out, size_t needed, const char *wanted) {
-    return code == 0 && needed == strlen(wanted) && !memcmp(out, wanted, needed);
+static int text_is(int32_t code, const uint8_t *out, const size_t *needed, const char *wanted) {
+    return code == 0 && *needed == strlen(wanted) && !memcmp(out, wanted, *needed);
 }
 
 /* types and locations, of the pump and of the mixing station, as their charts declare them */
@@ -207,20 +207,20 @@ static void panel(void) {
     WANT(about.var_type == SFC_INT && about.area == SFC_NOWHERE && about.program == 0);
     WANT(sfc_about(&plc, (uint16_t)named(sfc_variable, &plc, "Tank1.DoseTime"), &about) == 0);
     WANT(about.var_type == SFC_TIME && about.area == SFC_NOWHERE && about.program == 0);
-    WANT(text_is(sfc_location(&plc, (uint16_t)named(sfc_variable, &plc, "Empty"), out, 6, &needed), out, needed, "%IX0.2"));
-    WANT(text_is(sfc_location(&plc, (uint16_t)named(sfc_variable, &plc, "ReadyLamp"), out, sizeof out, &needed), out, needed, "%QX0.4"));
-    WANT(text_is(sfc_location(&plc, (uint16_t)named(sfc_variable, &plc, "Tank1.Batches"), out, sizeof out, &needed), out, needed, ""));
+    WANT(text_is(sfc_location(&plc, (uint16_t)named(sfc_variable, &plc, "Empty"), out, 6, &needed), out, &needed, "%IX0.2"));
+    WANT(text_is(sfc_location(&plc, (uint16_t)named(sfc_variable, &plc, "ReadyLamp"), out, sizeof out, &needed), out, &needed, "%QX0.4"));
+    WANT(text_is(sfc_location(&plc, (uint16_t)named(sfc_variable, &plc, "Tank1.Batches"), out, sizeof out, &needed), out, &needed, ""));
     sfc_close(&plc);
 }
 
 /* a type, an area and a size each */
 static void places(void) {
     static const char chart[] = "PROGRAM P INITIAL_STEP S: END_STEP END_PROGRAM CONFIGURATION C RESOURCE R ON X VAR_GLOBAL "
-        "A AT %IB3 : INT; B AT %QW2.1.4 : INT; C AT %MD7 : DINT; D AT %ML9 : TIME; E AT %I5 : BOOL; F : DINT; END_VAR "
+        "A AT %IW3 : INT; B AT %QW2.1.4 : INT; C AT %MD7 : DINT; D : TIME; E AT %M5.0 : BOOL; F : DINT; END_VAR "
         "TASK T(INTERVAL := T#1ms, PRIORITY := 1); PROGRAM I WITH T : P; END_RESOURCE END_CONFIGURATION";
     static const struct { int32_t type, area; const char *at; } wanted[] = {
-        {SFC_INT, SFC_INPUT, "%IB3"}, {SFC_INT, SFC_OUTPUT, "%QW2.1.4"}, {SFC_DINT, SFC_MEMORY_AREA, "%MD7"},
-        {SFC_TIME, SFC_MEMORY_AREA, "%ML9"}, {SFC_BOOL, SFC_INPUT, "%IX5"}, {SFC_DINT, SFC_NOWHERE, ""}};
+        {SFC_INT, SFC_INPUT, "%IW3"}, {SFC_INT, SFC_OUTPUT, "%QW2.1.4"}, {SFC_DINT, SFC_MEMORY_AREA, "%MD7"},
+        {SFC_TIME, SFC_NOWHERE, ""}, {SFC_BOOL, SFC_MEMORY_AREA, "%MX5.0"}, {SFC_DINT, SFC_NOWHERE, ""}};
     sfc_handle_t plc = SFC_NONE;
     sfc_about_t about = {0};
     sfc_chart_fault_t wrong = {0};
@@ -231,7 +231,7 @@ static void places(void) {
     WANT(code == 0);
     for (uint16_t k = 0; k < 6; k++) {
         WANT(sfc_about(&plc, k, &about) == 0 && about.var_type == wanted[k].type && about.area == wanted[k].area && about.program == -1);
-        WANT(text_is(sfc_location(&plc, k, out, sizeof out, &needed), out, needed, wanted[k].at));
+        WANT(text_is(sfc_location(&plc, k, out, sizeof out, &needed), out, &needed, wanted[k].at));
     }
     sfc_close(&plc);
 }
@@ -380,7 +380,7 @@ void __wrap_free(void *at) {
 
 /* One call of each kind that takes memory: what it answers. */
 static int32_t asks(int kind, sfc_handle_t *plc, uint8_t *out, size_t room) {
-    static const char line[] = "T#700ms SCAN Main", wait[] = "Start AND NOT Stop";
+    static const char line[] = "T#800ms SCAN Main", wait[] = "Start AND NOT Stop";
     static sfc_next_scan_t next;
     static sfc_chart_fault_t wrong;
     size_t needed = 0;
@@ -399,14 +399,14 @@ static int32_t asks(int kind, sfc_handle_t *plc, uint8_t *out, size_t room) {
     }
 }
 
-/* With the n-th request refused each call answers -4, and all is as it was; with enough of them it answers 0. */
+/* With the n-th request and all behind it refused each call answers -4, and all is as it was; with enough granted it answers 0. */
 static void refusals(void) {
     static uint8_t out[1 << 16], one[4096], two[4096];
     sfc_advanced_t did = {0};
     size_t first = 0, second = 0;
     for (int kind = 0; kind < 11; kind++) {
         int32_t code = SFC_MEMORY;
-        for (long n = 0; code; n++) {
+        for (long n = 0; code; n += 1 + n / 16) {
             sfc_handle_t plc = SFC_NONE;
             sfc_status_t before = {0}, after = {0};
             long blocks = held;

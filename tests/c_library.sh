@@ -43,7 +43,7 @@ for chart in "$top"/examples/*.chart; do
 done
 sed 's/Pumping TO RunningOn/Pumpin TO RunningOn/' "$top/examples/pump.chart" >"$work/chart"
 "$work/try" why "$work/chart" >"$work/why"; note $? "the report of a chart"
-sed -n 1p "$work/why" | grep -qE '^chart:[0-9]+:[0-9]+: 9 Unknown: Pumpin; near: Pumping$'; note $? "what it says"
+sed -n 1p "$work/why" | grep -qE '^chart:15:19: 15 UnknownStep: Pumpin; near: Pumping$'; note $? "what it says"
 if [ -n "${SFCMON:-}" ]; then
   (cd "$work" && "$SFCMON" why chart >"$work/told"); cmp -s "$work/why" "$work/told"; note $? "the report is that of sfcmon why"
 else

@@ -14,7 +14,7 @@ TOP = sys.argv[1]
 PUMP, BELT, MIXING = (os.path.join(TOP, "examples", f"{name}.chart") for name in ("pump", "belt", "mixing"))
 FAULTY = b"""PROGRAM P VAR N : INT := 3; Q : INT; END_VAR INITIAL_STEP S: Count(N); END_STEP
 ACTION Count: N := N - 1; Q := 6 / N; END_ACTION END_PROGRAM CONFIGURATION C RESOURCE R ON X
-VAR_GLOBAL Wait AT %ID1 : TIME; Level AT %IW2 : INT; END_VAR
+VAR_GLOBAL Wait : TIME; Level AT %IW2 : INT; END_VAR
 TASK T(INTERVAL := T#10ms, PRIORITY := 1); PROGRAM I WITH T : P; END_RESOURCE END_CONFIGURATION"""
 
 
@@ -48,17 +48,18 @@ def names():
     assert (wrong.code, wrong.line, wrong.column, wrong.length) == (4, 3, 1, len("END_PROGRAM"))
     with open(PUMP, "rb") as file:
         text = file.read().replace(b"Pumping TO RunningOn", b"Pumpin TO RunningOn")
-    raises(sfc.ChartRefused, lambda: Plc(text), "9 Unknown: Pumpin; near: Pumping")
+    raises(sfc.ChartRefused, lambda: Plc(text), "chart:15:19: 15 UnknownStep: Pumpin; near: Pumping")
 
 
 def values():
     with Plc(FAULTY) as plc:
-        plc["Wait"], plc["Level"] = timedelta(seconds=1.5), -3
+        plc.force("Wait", timedelta(seconds=1.5))
+        plc["Level"] = -3
         assert plc["Wait"] == timedelta(seconds=1.5) and plc["Level"] == -3 and plc["I.N"] == 3 and plc.programs["I"]["N"] == 3
         assert plc.image() == {"Wait": ms(1500), "Level": -3, "I.N": 3, "I.Q": 0} and plc.about("I.N").program == "I"
         raises(sfc.NoValue, lambda: plc.input("Level", 40000), "no value of Level, which is of type INT")
         raises(sfc.NoValue, lambda: plc.input("Level", ms(1)), "T#1ms is no value of Level")
-        assert plc.read("Wait") == ms(1500) and plc.script().splitlines()[0] == "T#0s INPUT Wait T#1s_500ms"
+        assert plc.read("Wait") == ms(1500) and plc.script().splitlines()[0] == "T#0s FORCE Wait T#1s_500ms" and plc.forced("Wait")
     with Plc.of(PUMP) as plc:
         assert plc["Pump"] is False
     for micros, text in ((0, "T#0s"), (90_061_001_500, "T#1d_1h_1m_1s_1.5ms"), (-5000, "T#-5ms"), (60_000_000, "T#1m")):

@@ -100,6 +100,25 @@ loops() {
   note $? "$1: what the loop prints"
   [ "$(LD_LIBRARY_PATH=$1/lib "$work/bench" "$examples/pump.chart" Main 200000 1000 2>"$work/err")" = "1000 scans, 0 overruns" ]
   note $? "$1: what the bench prints"
+  if command -v cmake >/dev/null; then by_cmake "$@"; else pass_over cmake "$1: a loop by cmake"; fi
+}
+# by_cmake PREFIX: the loop by cmake, against each target that there is
+by_cmake() {
+  rm -rf "$work/cmake" && mkdir "$work/cmake"
+  cat >"$work/cmake/CMakeLists.txt" <<CMAKE
+cmake_minimum_required(VERSION 3.13)
+project(loop C)
+find_package(sfc $version REQUIRED)
+foreach(it sfc sfc_static)
+  if(TARGET sfc::\${it})
+    add_executable(with_\${it} "$1/share/doc/zadorike/examples/c/loop.c")
+    target_link_libraries(with_\${it} PRIVATE sfc::\${it})
+  endif()
+endforeach()
+CMAKE
+  cmake -S "$work/cmake" -B "$work/cmake/build" -DCMAKE_PREFIX_PATH="$1" >"$work/out" 2>&1 && cmake --build "$work/cmake/build" >"$work/out" 2>&1 \
+    && printf '' | LD_LIBRARY_PATH=$1/lib timeout 20 "$work/cmake/build/with_sfc_static" "$1/share/doc/zadorike/examples/pump.chart" >"$work/out"
+  note $? "$1: a loop by cmake"
 }
 # benches PREFIX PYTHON LIBRARY [FOLDER]: a bench in Python, with the module in the folder or of the environment, and this library
 benches() {
@@ -293,12 +312,12 @@ note $? "an install into a file"
 [ "$("$top/tools/version")" = "$version" ] && "$top/tools/version" --check >"$work/out"
 note $? "the version is the same everywhere: $(cat "$work/out")"
 git -C "$clone" grep -lE "(^|[^.0-9])${version//./\\.}([^.0-9]|$)" -- ':!*.antt' ':!CHANGELOG.md' >"$work/out"
-[ "$(xargs <"$work/out")" = "crates/sfcmon/src/arguments.rt editors/vscode/package.json share/man/man1/sfcmon.1" ]
+[ "$(xargs <"$work/out")" = "crates/sfc_c/src/version.rt crates/sfcmon/src/arguments.rt editors/vscode/package.json share/man/man1/sfcmon.1" ]
 note $? "where the version stands: $(xargs <"$work/out")"
 "$clone/tools/version" --set 9.8.7 && [ "$("$clone/tools/version")" = 9.8.7 ] \
   && [ "$("$clone/tools/version" --check | wc -l)" = 2 ] \
-  && [ "$(git -C "$clone" diff --numstat | awk '{ print $1, $2 }' | uniq -c | xargs)" = "3 1 1" ]
-note $? "a version that is set, in a line of three files; the list of changes waits for it"
+  && [ "$(git -C "$clone" diff --numstat | awk '{ print $1, $2 }' | uniq -c | xargs)" = "4 1 1" ]
+note $? "a version that is set, in a line of four files; the list of changes waits for it"
 "$clone/tools/version" --set "$version" && [ -z "$(git -C "$clone" status --porcelain)" ]
 note $? "the version that was"
 for word in '' 1.2 1.2.3.4 v1.2.3 1.2.x; do
