@@ -1,5 +1,5 @@
 -- Which scan comes next, and the scans of all tasks at their releases (2.7.2).
-use Rattle.std.specs.Prelude.{◌≡◌, ⊥, ℕ, ◌+◌, ◌-◌, ◌^◌, ◌==◌, Bool, cond, if◌then◌else◌, int_le, int_lt, ℤ, pos, negsuc}
+use Rattle.std.specs.Prelude.{◌≡◌, ℕ, ◌+◌, ◌-◌, ◌^◌, ◌==◌, Bool, cond, if◌then◌else◌, int_le, int_lt, ℤ, pos, negsuc}
 use Rattle.std.specs.Prelude.{Option, Some, None, option_map, Ok, Err}
 use Rattle.sfc_events.specs.declared.command.Answer.TheVariants.{Scanned}
 use Rattle.sfc_events.specs.declared.command.Command.TheVariants.{Scan}

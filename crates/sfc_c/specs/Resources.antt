@@ -1,5 +1,5 @@
 -- A resource: which commands it stands for, and what was saved of it.
-use Rattle.std.specs.Prelude.{◌≡◌, ⊥, List, [], ℤ, Option, Some, None}
+use Rattle.std.specs.Prelude.{◌≡◌, List, [], ℤ, Option, Some, None}
 use Rattle.sfc_replay.specs.sfc_debug.declared.debugger.Debugger.{Debugger}
 use Rattle.sfc_replay.specs.sfc_debug.Agreement.{Agrees}
 use Rattle.sfc_replay.specs.sfc_debug.Histories.{CommandHistory}

@@ -1,7 +1,6 @@
 -- Breakpoints with conditions that are read then.
 use Rattle.std.specs.Prelude.{◌≡◌, ⊤, List, [], ◌∷◌, ℕ, ℤ, Option, Some, None, Result, Ok, Err}
 use Rattle.sfc_base.specs.declared.ids.ProgId.{ProgId}
-use Rattle.sfc_plant.specs.Plants.{PlantData}
 use Rattle.sfc_events.specs.declared.command.Command.TheVariants.{BreakIf}
 use Rattle.sfc_events.specs.declared.command.Point.{Point}
 use Rattle.sfc_replay.specs.sfc_debug.declared.break_condition.BreakCondition.{BreakCondition}
@@ -11,11 +10,10 @@ use Rattle.sfc_replay.specs.sfc_debug.Verdict.{after, history_by, verdict}
 use Rattle.sfc_replay.specs.sfc_output.Output.{Verdict}
 use Rattle.sfc_replay.specs.sfc_script.declared.condition_error.ConditionError.{ConditionError}
 use Rattle.sfc_replay.specs.sfc_script.declared.condition_error.ConditionError.TheVariants as error
-use Rattle.sfc_replay.specs.sfc_script.Scripts.{ConditionReads}
 use Rattle.sfc_session.specs.Sessions.{steered_after, waiting, waiting_verdict}
 use Rattle.sfc_c.specs.declared.plc.Plc.{Plc}
 use Rattle.sfc_c.specs.declared.waiting.Found.{Found}
-use Rattle.sfc_c.specs.declared.waiting.Found.TheVariants.{Condition, NoProgram, Faulty, Memory}
+use Rattle.sfc_c.specs.declared.waiting.Found.TheVariants.{Condition, NoProgram, Faulty}
 use Rattle.sfc_c.specs.Codes.{code_of, no_expression, no_memory}
 use Rattle.sfc_c.specs.Handles.{Holds}
 
@@ -26,20 +24,13 @@ abbrev pub added_by : Found → Option (List BreakCondition)
 added_by (Condition condition) = Some (condition ∷ [])
 added_by NoProgram = Some []
 added_by Faulty = None
-added_by Memory = None
 
--- it is what checking gave; want of memory says nothing
+-- it is what checking gave; without memory nothing is found
 abbrev pub IsFound : Result BreakCondition ConditionError → Found → Type 0
-IsFound checked Memory = ⊤
 IsFound (Ok condition) found = added_by found ≡ Some (condition ∷ [])
 IsFound (Err (error.UnknownProgram place)) found = added_by found ≡ Some []
 IsFound (Err (error.Wrong place fault)) found = added_by found ≡ None
 IsFound (Err error.Memory) found = ⊤
-
--- what it is read as in a program instance; want of memory says nothing
-abbrev pub Reads : PlantData → ProgId → List ℕ → Found → Type 0
-Reads plant p text Memory = ⊤
-Reads plant p text found = ConditionReads plant 0 p text (added_by found)
 
 -- ---- what comes of it
 

@@ -1,6 +1,6 @@
 //! A resource, as a handle holds it.
 
-ghost use Rattle.std.specs.Prelude.{◌≡◌, ◌<◌, ◌≤◌, ◌⊎◌, ⊥, ℕ, All, [], IfOk, None, OnErr, length, pos, slice_get};
+ghost use Rattle.std.specs.Prelude.{◌≡◌, ◌<◌, ◌≤◌, ◌⊎◌, ℕ, All, [], IfOk, None, OnErr, length, pos, slice_get};
 ghost use Rattle.std.proofs.Props.{props};
 ghost use Rattle.sfc_replay.specs.sfc_debug.Agreement.{Agrees, plant_of};
 ghost use Rattle.sfc_replay.specs.sfc_debug.Histories.{CommandHistory};

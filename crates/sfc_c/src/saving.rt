@@ -1,6 +1,6 @@
 //! What a resource leaves, saved and gone back to.
 
-ghost use Rattle.std.specs.Prelude.{◌≡◌, ◌<◌, ◌≤◌, ◌⊎◌, ⊥, ℕ, None, Some, length, pos, slice_get};
+ghost use Rattle.std.specs.Prelude.{◌≡◌, ◌<◌, ◌≤◌, ◌⊎◌, ℕ, None, Some, length, pos, slice_get};
 ghost use Rattle.sfc_replay.specs.sfc_debug.Histories.{CommandHistory};
 ghost use Rattle.sfc_replay.specs.sfc_debug.Steered.{Steered};
 ghost use Rattle.sfc_c.specs.Codes as codes;

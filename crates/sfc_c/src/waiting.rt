@@ -1,7 +1,8 @@
 //! Breakpoints with conditions that are read then.
 
-ghost use Rattle.std.specs.Prelude.{◌≡◌, ◌⊎◌, ◌∷◌, [], List, None, Option, Some};
+ghost use Rattle.std.specs.Prelude.{◌≡◌, ◌≢◌, ◌⊎◌, ◌∷◌, [], IfOk, List, None, OnOk, Option, Some};
 ghost use Rattle.sfc_events.specs.declared.command.Point.{Point as PointData};
+ghost use Rattle.sfc_events.specs.declared.read_error.ReadErrorKind.TheVariants as kinds;
 ghost use Rattle.sfc_replay.specs.sfc_debug.declared.break_condition.BreakCondition.{BreakCondition as ConditionData};
 ghost use Rattle.sfc_replay.specs.sfc_debug.Histories.{CommandHistory};
 ghost use Rattle.sfc_replay.specs.sfc_debug.Meaning.{IsAccepted};
@@ -10,7 +11,7 @@ ghost use Rattle.sfc_replay.specs.sfc_script.Scripts.{ConditionReads};
 ghost use Rattle.sfc_c.specs.Codes as codes;
 ghost use Rattle.sfc_c.specs.Handles.{Holds};
 ghost use Rattle.sfc_c.specs.Resources.{Stands, slots_in, slots_of, steered_in};
-ghost use Rattle.sfc_c.specs.Waiting.{IsFound, IsIdle, Reads, Waits};
+ghost use Rattle.sfc_c.specs.Waiting.{IsFound, IsIdle, Waits, added_by};
 
 use crate::handle::Handle;
 use crate::plc::Plc;
@@ -27,7 +28,7 @@ use sfc_events::command::{Command, CondId, Point};
 use sfc_events::read_error::ReadErrorKind;
 use sfc_plant::plant::Plant;
 use sfc_text::read_expr::read_expr;
-use std::alloc::Global;
+use std::alloc::{AllocError, Global};
 
 /// What a text is as a condition in a program instance.
 pub enum Found {
@@ -37,38 +38,46 @@ pub enum Found {
     NoProgram,
     /// No condition.
     Faulty,
-    /// Memory was refused.
-    Memory,
 }
 
-// What an expression is that was checked.
-fn of_checked(checked: Result<BreakCondition, ConditionError>) -> Found
-    ensures { IsFound checked result }
+// The error where memory was refused to a reader.
+fn refuse_memory(kind: ReadErrorKind) -> Result<(), AllocError>
+    ensures { OnOk result (kind ≢ kinds.Memory) }
 {
-    match checked {
-        Ok(condition) => Found::Condition(condition),
-        Err(ConditionError::UnknownProgram(_)) => Found::NoProgram,
-        Err(ConditionError::Wrong(_, _)) => Found::Faulty,
-        Err(ConditionError::Memory) => Found::Memory,
+    match kind {
+        ReadErrorKind::Memory => Err(AllocError),
+        _ => Ok(()),
     }
 }
 
-// What a text is that is no expression.
-fn of_fault(kind: ReadErrorKind) -> Found {
-    match kind {
-        ReadErrorKind::Memory => Found::Memory,
-        _ => Found::Faulty,
+// What an expression is that was checked. The error is that memory was refused.
+fn of_checked(checked: Result<BreakCondition, ConditionError>) -> Result<Found, AllocError>
+    ensures { IfOk result (λ found. IsFound checked found) }
+{
+    match checked {
+        Ok(condition) => Ok(Found::Condition(condition)),
+        Err(ConditionError::UnknownProgram(_)) => Ok(Found::NoProgram),
+        Err(ConditionError::Wrong(_, _)) => Ok(Found::Faulty),
+        Err(ConditionError::Memory) => Err(AllocError),
     }
 }
 
 // The condition that a text is in a program instance, as that of a transition of its program type (2.6.3, 3.3). Where there is no such
-// instance the text is read all the same.
-fn read_condition(alloc: Global, plant: &Plant, program: ProgId, text: &[u8]) -> Found
-    ensures { Reads plant.now program text.now result }
+// instance the text is read all the same. The error is that memory was refused.
+fn read_condition(
+    alloc: Global,
+    plant: &Plant,
+    program: ProgId,
+    text: &[u8],
+) -> Result<Found, AllocError>
+    ensures { IfOk result (λ found. ConditionReads plant.now 0 program text.now (added_by found)) }
 {
     match read_expr(alloc, text) {
         Ok(expression) => of_checked(condition_of(alloc, plant, 0, program, &expression)),
-        Err(error) => of_fault(error.kind),
+        Err(error) => {
+            refuse_memory(error.kind)?;
+            Ok(Found::Faulty)
+        }
     }
 }
 
@@ -93,13 +102,13 @@ fn set_for(alloc: Global, plc: &mut Plc, place: Place, text: &[u8], t: i64) -> i
 {
     let plant = plc.debugger().resource().plant();
     match read_condition(alloc, plant, place.program, text) {
-        Found::Condition(condition) => set_waiting(plc, place.point, condition, t),
-        Found::NoProgram => code(plc.obey(Timed {
+        Ok(Found::Condition(condition)) => set_waiting(plc, place.point, condition, t),
+        Ok(Found::NoProgram) => code(plc.obey(Timed {
             command: Command::BreakIf(place.program, place.point, CondId(0)),
             raw: t,
         })),
-        Found::Faulty => NO_EXPRESSION,
-        Found::Memory => NO_MEMORY,
+        Ok(Found::Faulty) => NO_EXPRESSION,
+        Err(_) => NO_MEMORY,
     }
 }
 
