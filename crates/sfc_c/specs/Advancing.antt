@@ -1,5 +1,5 @@
 -- Which scan comes next, and the scans of all tasks at their releases (2.7.2).
-use Rattle.std.specs.Prelude.{◌≡◌, ℕ, ◌+◌, ◌-◌, ◌^◌, ◌==◌, Bool, cond, if◌then◌else◌, int_le, int_lt, ℤ, pos, negsuc}
+use Rattle.std.specs.Prelude.{◌≡◌, ◌⊎◌, ℕ, ◌+◌, ◌-◌, ◌^◌, ◌==◌, Bool, cond, if◌then◌else◌, int_le, int_lt, ℤ, pos, negsuc}
 use Rattle.std.specs.Prelude.{Option, Some, None, option_map, Ok, Err}
 use Rattle.sfc_events.specs.declared.command.Answer.TheVariants.{Scanned}
 use Rattle.sfc_events.specs.declared.command.Command.TheVariants.{Scan}
@@ -17,6 +17,8 @@ use Rattle.sfc_c.specs.declared.plc.Plc.{Plc}
 use Rattle.sfc_c.specs.declared.scanning.Scan.{Scan as Made}
 use Rattle.sfc_c.specs.declared.scanning.Turn.{Turn}
 use Rattle.sfc_c.specs.declared.scanning.Turn.TheVariants.{Taken, NoTurn}
+use Rattle.sfc_c.specs.Codes.{no_memory}
+use Rattle.sfc_c.specs.Readings.{Gives}
 use Rattle.sfc_c.specs.Resources.{Stands}
 
 -- ---- the next scan
@@ -86,6 +88,10 @@ told_of s h (Some timed) = told_scan (verdict s.plant s.table h timed.0 timed.1)
 -- what is told of the scan that comes next
 abbrev pub told_next : Steered → CommandHistory → Option NextScan
 told_next s h = told_of s h (next_scan s latest h)
+
+-- it is given, with 0, or -3 where there is none; or memory was refused
+abbrev pub IsGiven : Steered → CommandHistory → NextScan → NextScan → ℤ → Type 0
+IsGiven s h old new result = Gives (told_next s h) old new result ⊎ ((result ≡ no_memory) × (new ≡ old))
 
 -- ---- many scans
 

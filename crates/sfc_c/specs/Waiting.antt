@@ -1,5 +1,5 @@
 -- Breakpoints with conditions that are read then.
-use Rattle.std.specs.Prelude.{◌≡◌, ⊤, List, [], ◌∷◌, ℕ, ℤ, Option, Some, None, Result, Ok, Err}
+use Rattle.std.specs.Prelude.{◌≡◌, ◌⊎◌, ⊤, List, [], ◌∷◌, ℕ, ℤ, Option, Some, None, Result, Ok, Err}
 use Rattle.sfc_base.specs.declared.ids.ProgId.{ProgId}
 use Rattle.sfc_events.specs.declared.command.Command.TheVariants.{BreakIf}
 use Rattle.sfc_events.specs.declared.command.Point.{Point}
@@ -10,6 +10,7 @@ use Rattle.sfc_replay.specs.sfc_debug.Verdict.{after, history_by, verdict}
 use Rattle.sfc_replay.specs.sfc_output.Output.{Verdict}
 use Rattle.sfc_replay.specs.sfc_script.declared.condition_error.ConditionError.{ConditionError}
 use Rattle.sfc_replay.specs.sfc_script.declared.condition_error.ConditionError.TheVariants as error
+use Rattle.sfc_replay.specs.sfc_script.Scripts.{ConditionReads}
 use Rattle.sfc_session.specs.Sessions.{steered_after, waiting, waiting_verdict}
 use Rattle.sfc_c.specs.declared.plc.Plc.{Plc}
 use Rattle.sfc_c.specs.declared.waiting.Found.{Found}
@@ -52,6 +53,15 @@ Waits s h p placed (Some []) new result =
 Waits s h p placed (Some (condition ∷ more)) new result =
     (result ≡ code_of (waiting_verdict s h placed condition)) × IsSet s h placed condition (waiting_verdict s h placed condition) new
 
--- memory was refused, and nothing has happened
-abbrev pub IsIdle : Steered → CommandHistory → Option Plc → ℤ → Type 0
-IsIdle s h new result = (result ≡ no_memory) × Holds new s h
+-- the same; or memory was refused, and nothing has happened
+abbrev pub WaitsOr : Steered → CommandHistory → ProgId → Point × ℤ → Option (List BreakCondition) → Option Plc → ℤ → Type 0
+WaitsOr s h p placed added new result = Waits s h p placed added new result ⊎ ((result ≡ no_memory) × Holds new s h)
+
+-- by a text
+abbrev pub SetsBy : Steered → CommandHistory → ProgId → Point × ℤ → List ℕ → Option Plc → ℤ → Type 0
+SetsBy s h p placed text new result =
+    (added : Option (List BreakCondition)) × ConditionReads s.plant 0 p text added × WaitsOr s h p placed added new result
+
+-- where memory was refused to the reader, nothing has happened either
+abbrev pub Sets : Steered → CommandHistory → ProgId → Point × ℤ → List ℕ → Option Plc → ℤ → Type 0
+Sets s h p placed text new result = SetsBy s h p placed text new result ⊎ ((result ≡ no_memory) × Holds new s h)

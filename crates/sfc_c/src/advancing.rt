@@ -1,6 +1,6 @@
 //! The scans of all tasks at their releases, up to an instant (2.7.2).
 
-ghost use Rattle.std.specs.Prelude.{◌≡◌, None};
+ghost use Rattle.std.specs.Prelude.{◌≡◌, None, Some};
 ghost use Rattle.sfc_replay.specs.sfc_debug.Histories.{CommandHistory};
 ghost use Rattle.sfc_replay.specs.sfc_debug.Steered.{Steered};
 ghost use Rattle.sfc_c.specs.Advancing as advancing;
@@ -21,7 +21,7 @@ fn advance(plc: &mut Plc, until: i64) -> Advanced
     ensures steered { steered_in plc.new ≡ steered_in plc.old }
     ensures slots { slots_in plc.new ≡ slots_in plc.old }
     ensures advances { (h : CommandHistory) → Stands plc.old h →
-        (g : CommandHistory) × Advances (steered_in plc.old) until h g result × Stands plc.new g }
+        (g : CommandHistory) × Advances (steered_in plc.old) until h g result × Holds (Some plc.new) (steered_in plc.old) g }
     ensures end { IsEnd result }
 {
     let mut told = NOTHING;
@@ -47,13 +47,17 @@ pub extern "C" fn sfc_advance(
     into: &mut Advanced,
 ) -> i32
     ensures advances { (s : Steered) (h : CommandHistory) → Holds plc.old.value s h →
-        (g : CommandHistory) × Advances s until h g into.new × Holds plc.new.value s g × IsEnd into.new × (result ≡ advancing.code_of into.new) }
+        (g : CommandHistory) × Advances s until h g into.new × Holds plc.new.value s g }
+    ensures end { (s : Steered) (h : CommandHistory) → Holds plc.old.value s h → IsEnd into.new }
+    ensures code { (s : Steered) (h : CommandHistory) → Holds plc.old.value s h → result ≡ advancing.code_of into.new }
     ensures slots { slots_of plc.new.value ≡ slots_of plc.old.value }
     ensures closed { plc.old.value ≡ None → (result ≡ codes.closed) × (into.new ≡ into.old) }
 {
-    match plc.change(alloc, |plc| advance(plc, until)) {
+    match plc.take(alloc) {
         None => CLOSED,
-        Some(told) => {
+        Some(mut held) => {
+            let told = advance(&mut held, until);
+            plc.put(held, alloc);
             *into = told;
             told.code()
         }

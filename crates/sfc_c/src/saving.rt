@@ -26,9 +26,13 @@ pub extern "C" fn sfc_save(alloc: Global, plc: &mut Handle, number: u16) -> i32
         number ≤ length (slots_of plc.old.value) → (result ≡ pos 0) ⊎ (result ≡ codes.no_memory) }
     ensures closed { plc.old.value ≡ None → result ≡ codes.closed }
 {
-    match plc.change(alloc, |plc| plc.save(alloc, number as usize)) {
+    match plc.take(alloc) {
         None => CLOSED,
-        Some(code) => code,
+        Some(mut held) => {
+            let code = held.save(alloc, number as usize);
+            plc.put(held, alloc);
+            code
+        }
     }
 }
 
@@ -43,8 +47,12 @@ pub extern "C" fn sfc_restore(alloc: Global, plc: &mut Handle, number: u16) -> i
     ensures slots { slots_of plc.new.value ≡ slots_of plc.old.value }
     ensures closed { plc.old.value ≡ None → result ≡ codes.closed }
 {
-    match plc.change(alloc, |plc| plc.restore(number as usize)) {
+    match plc.take(alloc) {
         None => CLOSED,
-        Some(code) => code,
+        Some(mut held) => {
+            let code = held.restore(number as usize);
+            plc.put(held, alloc);
+            code
+        }
     }
 }

@@ -1,9 +1,8 @@
 //! Breakpoints with conditions that are read then.
 
-ghost use Rattle.std.specs.Prelude.{◌≡◌, ◌≢◌, ◌⊎◌, ◌∷◌, [], IfOk, List, None, OnOk, Option, Some};
+ghost use Rattle.std.specs.Prelude.{◌≡◌, ◌≢◌, ◌∷◌, [], IfOk, None, OnOk, Some};
 ghost use Rattle.sfc_events.specs.declared.command.Point.{Point as PointData};
 ghost use Rattle.sfc_events.specs.declared.read_error.ReadErrorKind.TheVariants as kinds;
-ghost use Rattle.sfc_replay.specs.sfc_debug.declared.break_condition.BreakCondition.{BreakCondition as ConditionData};
 ghost use Rattle.sfc_replay.specs.sfc_debug.Histories.{CommandHistory};
 ghost use Rattle.sfc_replay.specs.sfc_debug.Meaning.{IsAccepted};
 ghost use Rattle.sfc_replay.specs.sfc_debug.Steered.{Steered};
@@ -11,7 +10,7 @@ ghost use Rattle.sfc_replay.specs.sfc_script.Scripts.{ConditionReads};
 ghost use Rattle.sfc_c.specs.Codes as codes;
 ghost use Rattle.sfc_c.specs.Handles.{Holds};
 ghost use Rattle.sfc_c.specs.Resources.{Stands, slots_in, slots_of, steered_in};
-ghost use Rattle.sfc_c.specs.Waiting.{IsFound, IsIdle, Waits, added_by};
+ghost use Rattle.sfc_c.specs.Waiting.{IsFound, Sets, WaitsOr, added_by};
 
 use crate::handle::Handle;
 use crate::plc::Plc;
@@ -84,8 +83,8 @@ fn read_condition(
 // A breakpoint at a point that waits for a condition, at the raw instant t in microseconds: the code.
 fn set_waiting(plc: &mut Plc, point: Point, condition: BreakCondition, t: i64) -> i32
     ensures slots { slots_in plc.new ≡ slots_in plc.old }
-    ensures set { (s : Steered) (h : CommandHistory) → steered_in plc.old ≡ s → IsAccepted s.plant s.table h → Stands plc.old h →
-        Waits s h condition.program (point, t) (Some (condition ∷ [])) (Some plc.new) result ⊎ IsIdle s h (Some plc.new) result }
+    ensures set { (h : CommandHistory) → IsAccepted (steered_in plc.old).plant (steered_in plc.old).table h → Stands plc.old h →
+        WaitsOr (steered_in plc.old) h condition.program (point, t) (Some (condition ∷ [])) (Some plc.new) result }
 {
     match plc.break_when(point, condition, t) {
         Ok(answer) => code(answer),
@@ -96,9 +95,8 @@ fn set_waiting(plc: &mut Plc, point: Point, condition: BreakCondition, t: i64) -
 // The same of a text.
 fn set_for(alloc: Global, plc: &mut Plc, place: Place, text: &[u8], t: i64) -> i32
     ensures slots { slots_in plc.new ≡ slots_in plc.old }
-    ensures set { (s : Steered) (h : CommandHistory) → steered_in plc.old ≡ s → IsAccepted s.plant s.table h → Stands plc.old h →
-        ((added : Option (List ConditionData)) × ConditionReads s.plant 0 place.program text.now added
-        × Waits s h place.program (place.point, t) added (Some plc.new) result) ⊎ IsIdle s h (Some plc.new) result }
+    ensures set { (h : CommandHistory) → IsAccepted (steered_in plc.old).plant (steered_in plc.old).table h → Stands plc.old h →
+        Sets (steered_in plc.old) h place.program (place.point, t) text.now (Some plc.new) result }
 {
     let plant = plc.debugger().resource().plant();
     match read_condition(alloc, plant, place.program, text) {
@@ -127,8 +125,7 @@ pub extern "C" fn sfc_break_when(
 ) -> i32
     ensures set { (point : PointData) (s : Steered) (h : CommandHistory) → codes.point_of kind number ≡ Some point →
         Holds plc.old.value s h → IsAccepted s.plant s.table h →
-        ((added : Option (List ConditionData)) × ConditionReads s.plant 0 (record { 0 = program }) text.now added
-        × Waits s h (record { 0 = program }) (point, t) added plc.new.value result) ⊎ IsIdle s h plc.new.value result }
+        Sets s h (record { 0 = program }) (point, t) text.now plc.new.value result }
     ensures unknown { codes.point_of kind number ≡ None → (result ≡ codes.unknown) × (plc.new.value ≡ plc.old.value) }
     ensures slots { slots_of plc.new.value ≡ slots_of plc.old.value }
     ensures closed { (point : PointData) → codes.point_of kind number ≡ Some point → plc.old.value ≡ None → result ≡ codes.closed }
@@ -140,8 +137,12 @@ pub extern "C" fn sfc_break_when(
         program: ProgId(program),
         point,
     };
-    match plc.change(alloc, |plc| set_for(alloc, plc, place, text, t)) {
+    match plc.take(alloc) {
         None => CLOSED,
-        Some(code) => code,
+        Some(mut held) => {
+            let code = set_for(alloc, &mut held, place, text, t);
+            plc.put(held, alloc);
+            code
+        }
     }
 }
