@@ -40,3 +40,6 @@ all_push P xs x all one = All-append P xs (x ∷ []) all (only one)
     only : P x → All P (x ∷ [])
     only one zero d less = one
     only one (suc k) d less = grind arith
+
+pub all_put : {X : Type 0} (P : X → Type 0) (xs : List X) (n : ℕ) (x : X) → All P xs → P x → All P (slice_set xs n x)
+all_put P xs n x all one = All-set P xs n x one all

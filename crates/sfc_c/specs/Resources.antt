@@ -1,5 +1,5 @@
 -- A resource: which commands it stands for, and what was saved of it.
-use Rattle.std.specs.Prelude.{◌≡◌, List, [], ℤ, Option, Some, None}
+use Rattle.std.specs.Prelude.{◌≡◌, List, [], Option, Some, None}
 use Rattle.sfc_replay.specs.sfc_debug.declared.debugger.Debugger.{Debugger}
 use Rattle.sfc_replay.specs.sfc_debug.Agreement.{Agrees}
 use Rattle.sfc_replay.specs.sfc_debug.Histories.{CommandHistory}
@@ -17,10 +17,6 @@ debugger_in plc = plc.debugger
 -- what it steers
 abbrev pub steered_in : Plc → Steered
 steered_in plc = steered_by plc.debugger
-
--- the raw instant of its latest command
-abbrev pub instant_in : Plc → ℤ
-instant_in plc = plc.instant
 
 -- what was saved of it, by numbers from 0
 abbrev pub slots_in : Plc → List Saved

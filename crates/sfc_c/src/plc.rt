@@ -63,7 +63,6 @@ fn obey_break(
 }
 
 impl Plc {
-    ghost use Rattle.sfc_events.specs.declared.command.Command.{Command as CommandData};
     ghost use Rattle.sfc_replay.specs.sfc_debug.Agreement.{Agrees};
     ghost use Rattle.sfc_replay.specs.sfc_debug.Histories.{CommandHistory};
     ghost use Rattle.sfc_replay.specs.sfc_debug.Meaning.{IsAccepted};
@@ -72,7 +71,7 @@ impl Plc {
     ghost use Rattle.sfc_session.specs.Scanning as scanning;
     ghost use Rattle.sfc_session.specs.Sessions.{last_instant, steered_after, waiting, waiting_verdict};
     ghost use Rattle.sfc_c.specs.Codes as codes;
-    ghost use Rattle.sfc_c.specs.Resources.{IsPast, IsSaved, Stands, debugger_in, instant_in, slots_in, steered_in};
+    ghost use Rattle.sfc_c.specs.Resources.{IsPast, IsSaved, Stands, debugger_in, slots_in, steered_in};
 
     /// A resource with this debugger, which was told nothing.
     pub fn new(alloc: Global, debugger: Debugger) -> Plc
@@ -110,19 +109,6 @@ impl Plc {
         self.instant.saturating_add(stretch)
     }
 
-    // Keeps the raw instant of a command that was answered so, where it was accepted.
-    fn note(&mut self, answer: Result<Answer, Refusal>, raw: i64)
-        ensures debugger { debugger_in self.new ≡ debugger_in self.old }
-        ensures instant { (command : CommandData) (h : CommandHistory) → instant_in self.old ≡ last_instant h →
-            instant_in self.new ≡ last_instant (history_by answer (command, raw) h) }
-        ensures slots { slots_in self.new ≡ slots_in self.old }
-    {
-        match answer {
-            Ok(_) => self.instant = raw,
-            Err(_) => {}
-        }
-    }
-
     /// One command at its raw instant: what it answers, or what it is refused for.
     pub fn obey(&mut self, timed: Timed) -> Result<Answer, Refusal>
         ensures steered { steered_in self.new ≡ steered_in self.old }
@@ -132,9 +118,13 @@ impl Plc {
             Stands self.new (after (steered_in self.old).plant (steered_in self.old).table h timed) }
         ensures slots { slots_in self.new ≡ slots_in self.old }
     {
-        let answer = self.debugger.obey(timed);
-        self.note(answer, timed.raw);
-        answer
+        match self.debugger.obey(timed) {
+            Ok(answer) => {
+                self.instant = timed.raw;
+                Ok(answer)
+            }
+            Err(refusal) => Err(refusal),
+        }
     }
 
     /// What the commands so far leave for later ones. The one error is that memory was refused.
@@ -163,6 +153,7 @@ impl Plc {
 
     /// Saves what the commands so far leave under a number: in the place of what was saved under it, or as the next behind all others. It
     /// answers 0; -3 where the number is above that of the next, -4 where memory was refused, and then all is as it was.
+    #[tactic(auto, using(crate::proofs::Slots::set_here, crate::proofs::Slots::set_other, crate::proofs::Slots::push_here, crate::proofs::Slots::push_other, crate::proofs::Slots::all_put, crate::proofs::Slots::all_push))]
     pub fn save(&mut self, alloc: Global, number: usize) -> i32
         ensures steered { steered_in self.new ≡ steered_in self.old }
         ensures stands { (h : CommandHistory) → Stands self.old h → Stands self.new h }
@@ -191,6 +182,7 @@ impl Plc {
 
     /// Goes back to what was saved under a number: what the resource was told since counts no more. It takes no memory. -3 where nothing
     /// was saved under it.
+    #[tactic(auto, using(crate::proofs::Slots::one_of))]
     pub fn restore(&mut self, number: usize) -> i32
         ensures steered { steered_in self.new ≡ steered_in self.old }
         ensures restored { (h : CommandHistory) → IsSaved (steered_in self.old) h (slice_get (slots_in self.old) number) →
@@ -224,8 +216,13 @@ impl Plc {
         ensures err { (h : CommandHistory) → Stands self.old h → OnErr result (Stands self.new h) }
         ensures slots { slots_in self.new ≡ slots_in self.old }
     {
-        let answer = obey_break(&mut self.debugger, (point, raw), condition)?;
-        self.note(answer, raw);
-        Ok(answer)
+        match obey_break(&mut self.debugger, (point, raw), condition) {
+            Ok(Ok(answer)) => {
+                self.instant = raw;
+                Ok(Ok(answer))
+            }
+            Ok(Err(refusal)) => Ok(Err(refusal)),
+            Err(error) => Err(error),
+        }
     }
 }
