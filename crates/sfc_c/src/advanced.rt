@@ -108,10 +108,9 @@ impl Advanced {
     pub fn code(self) -> i32
         ensures { result ≡ advancing.code_of self }
     {
-        if self.scans == 0 && self.end > GOES_ON {
-            self.end
-        } else {
-            0
+        if self.scans != 0 || self.end <= GOES_ON {
+            return 0;
         }
+        self.end
     }
 }

@@ -67,7 +67,7 @@ fn earlier(first: Option<i64>, second: Option<i64>) -> Option<i64>
 }
 
 // A scan of a task at a raw instant.
-fn scan(plc: &mut Plc, task: TaskId, raw: i64) -> Scan
+fn make_scan(plc: &mut Plc, task: TaskId, raw: i64) -> Scan
     ensures steered { steered_in plc.new ≡ steered_in plc.old }
     ensures slots { slots_in plc.new ≡ slots_in plc.old }
     ensures made { (h : CommandHistory) → Stands plc.old h → IsMade (steered_in plc.old) h (advancing.scan_of task.0 raw) result plc.new }
@@ -88,7 +88,7 @@ fn take_turn(plc: &mut Plc, raw: i64) -> Turn
     let tasks = plc.debugger().resource().plant().tasks().len();
     let mut earliest = None;
     'tasks: for number in 0..tasks {
-        let made = scan(plc, TaskId(number as u8), raw);
+        let made = make_scan(plc, TaskId(number as u8), raw);
         if !is_out_of_turn(made.answer) {
             return Turn::Taken(made);
         }
@@ -106,7 +106,7 @@ fn scan_at(plc: &mut Plc, raw: i64) -> Scan
 {
     match take_turn(plc, raw) {
         Turn::Taken(made) => made,
-        Turn::NoTurn(_) => scan(plc, TaskId(0), raw),
+        Turn::NoTurn(_) => make_scan(plc, TaskId(0), raw),
     }
 }
 

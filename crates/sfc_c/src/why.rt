@@ -117,7 +117,7 @@ impl Drop for Telling {
 }
 
 // What is told of the text of a chart. The one error is that memory was refused.
-fn telling(alloc: Global, text: &[u8]) -> Result<Telling, AllocError>
+fn tell_of(alloc: Global, text: &[u8]) -> Result<Telling, AllocError>
     ensures { IfOk result (λ telling. (told : ToldData) × Explains text.now told × (telling.fault ≡ rules.fault_of told)
         × IsTextOf told telling.text.items) }
 {
@@ -143,7 +143,7 @@ pub extern "C" fn sfc_why(
     ensures { ((told : ToldData) × Explains text.now told × GivesTold told fault.new into.old into.new needed.new result)
         ⊎ TellsNothing fault.old fault.new into.old into.new needed.new result }
 {
-    match telling(alloc, text) {
+    match tell_of(alloc, text) {
         Ok(told) => {
             *fault = told.fault;
             give(told.text.as_slice(), into, needed)

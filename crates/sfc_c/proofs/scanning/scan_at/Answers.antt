@@ -17,8 +17,8 @@ returns-in-NoTurn-clause-made c = λ h stands.
     let old : Plc = c.take_turn.new.plc in
     let tries : TakesTurn st h at (NoTurn c.in-NoTurn.field-0) old =
     subst (λ (t : Turn). TakesTurn st h at t old) c.in-NoTurn.is (c.take_turn.ensures.takes h stands) in
-    let is : IsMade st h (scan_of 0 at) c.scan.result c.scan.new.plc =
-    subst (λ (s : Steered). IsMade s h (scan_of 0 at) c.scan.result c.scan.new.plc) c.take_turn.ensures.steered (c.scan.ensures.made h tries.2) in
+    let is : IsMade st h (scan_of 0 at) c.make_scan.result c.make_scan.new.plc =
+    subst (λ (s : Steered). IsMade s h (scan_of 0 at) c.make_scan.result c.make_scan.new.plc) c.take_turn.ensures.steered (c.make_scan.ensures.made h tries.2) in
     let same : scan_of 0 at ≡ scan_at st h at = ap (λ (o : Option ℕ). turn_scan o at) (sym tries.0) in
-    subst (λ (r : ℤ). IsMade st h (scan_at st h r) c.scan.result c.scan.new.plc) (to_z-of_z fits)
-    (subst (λ (t : TimedCommand). IsMade st h t c.scan.result c.scan.new.plc) same is)
+    subst (λ (r : ℤ). IsMade st h (scan_at st h r) c.make_scan.result c.make_scan.new.plc) (to_z-of_z fits)
+    (subst (λ (t : TimedCommand). IsMade st h t c.make_scan.result c.make_scan.new.plc) same is)

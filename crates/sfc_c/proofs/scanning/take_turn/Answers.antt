@@ -20,17 +20,17 @@ returns-then-not-is_out_of_turn-clause-takes c = λ h stands.
     let less : k < length st.plant.tasks =
     subst (λ (ts : List Task). k < length ts)
     (c.tasks-tasks.ensures.value ∙ ap (λ (p : PlantData). p.tasks) (c.plant.ensures ∙ c.resource.ensures.plant)) c.tasks-test.true in
-    let is : IsMade st h (scan_of k at) c.scan-made.result c.scan-made.new.plc =
-    subst (λ (s : Steered). IsMade s h (scan_of k at) c.scan-made.result c.scan-made.new.plc) c.tasks.invariant.steered
-    (c.scan-made.ensures.made h through.stands) in
-    subst (λ (r : ℤ). TakesTurn st h r (Taken c.scan-made.result) c.scan-made.new.plc) (to_z-of_z fits)
-    (through_here st h at c.tasks.plc c.scan-made.new.plc c.scan-made.result k c.tasks.earliest less through is
+    let is : IsMade st h (scan_of k at) c.make_scan-made.result c.make_scan-made.new.plc =
+    subst (λ (s : Steered). IsMade s h (scan_of k at) c.make_scan-made.result c.make_scan-made.new.plc) c.tasks.invariant.steered
+    (c.make_scan-made.ensures.made h through.stands) in
+    subst (λ (r : ℤ). TakesTurn st h r (Taken c.make_scan-made.result) c.make_scan-made.new.plc) (to_z-of_z fits)
+    (through_here st h at c.tasks.plc c.make_scan-made.new.plc c.make_scan-made.result k c.tasks.earliest less through is
     (sym c.is_out_of_turn.ensures ∙ c.if-not-is_out_of_turn.true))
 
 pub tasks-preserved : goal.tasks-preserved
 tasks-preserved c = record {
-  steered = c.scan-made.ensures.steered ∙ c.tasks.invariant.steered;
-  slots = c.scan-made.ensures.slots ∙ c.tasks.invariant.slots;
+  steered = c.make_scan-made.ensures.steered ∙ c.tasks.invariant.steered;
+  slots = c.make_scan-made.ensures.slots ∙ c.tasks.invariant.slots;
   through = λ h stands.
       let st : Steered = steered_in c.args.plc.now in
       let at : ℤ = to_z w64 (of_z w64 c.args.raw) in
@@ -39,13 +39,13 @@ tasks-preserved c = record {
       let less : k < length st.plant.tasks =
       subst (λ (ts : List Task). k < length ts)
       (c.tasks-tasks.ensures.value ∙ ap (λ (p : PlantData). p.tasks) (c.plant.ensures ∙ c.resource.ensures.plant)) c.tasks-test.true in
-      let is : IsMade st h (scan_of k at) c.scan-made.result c.scan-made.new.plc =
-      subst (λ (s : Steered). IsMade s h (scan_of k at) c.scan-made.result c.scan-made.new.plc) c.tasks.invariant.steered
-      (c.scan-made.ensures.made h through.stands) in
-      let earliest : earlier c.tasks.earliest (release_in c.scan-made.result.answer) ≡ c.earlier-earliest.result =
+      let is : IsMade st h (scan_of k at) c.make_scan-made.result c.make_scan-made.new.plc =
+      subst (λ (s : Steered). IsMade s h (scan_of k at) c.make_scan-made.result c.make_scan-made.new.plc) c.tasks.invariant.steered
+      (c.make_scan-made.ensures.made h through.stands) in
+      let earliest : earlier c.tasks.earliest (release_in c.make_scan-made.result.answer) ≡ c.earlier-earliest.result =
       sym (c.earlier-earliest.ensures ∙ ap (earlier c.tasks.earliest) c.release_in.ensures) in
-      subst (λ (o : Option ℤ). GoesThrough st h at c.scan-made.new.plc (k + 1) o) earliest
-      (through_more st h at c.tasks.plc c.scan-made.new.plc c.scan-made.result k c.tasks.earliest less through is
+      subst (λ (o : Option ℤ). GoesThrough st h at c.make_scan-made.new.plc (k + 1) o) earliest
+      (through_more st h at c.tasks.plc c.make_scan-made.new.plc c.make_scan-made.result k c.tasks.earliest less through is
       (sym c.is_out_of_turn.ensures ∙ c.if-not-is_out_of_turn.false));
 }
 
