@@ -1,6 +1,6 @@
 //! What is told of scans that were made one after the other.
 
-ghost use Rattle.std.specs.Prelude.{◌≡◌, ◌<◌, ◌+◌, ◌^◌};
+ghost use Rattle.std.specs.Prelude.{◌≡◌, ◌<◌, ◌-◌, ◌^◌};
 ghost use Rattle.sfc_c.specs.Advancing as advancing;
 
 use crate::scanning::{Scan, is_out_of_turn};
