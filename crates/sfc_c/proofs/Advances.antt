@@ -1,12 +1,11 @@
 -- Scans that come one after the other.
 use Rattle.std.proofs.Common.{◌≡◌, ◌∙◌, refl, sym, ap, subst, ℕ, ◌+◌, Option, Some, None, ℤ, pos, Ok, Err}
-use Rattle.sfc_events.specs.declared.command.Answer.{Answer}
 use Rattle.sfc_events.specs.declared.command.Answer.TheVariants as answers
 use Rattle.sfc_events.specs.declared.refusal.Refusal.{Refusal}
 use Rattle.sfc_events.specs.declared.refusal.Refusal.TheVariants as refusal
 use Rattle.sfc_replay.specs.sfc_debug.Histories.{CommandHistory, TimedCommand}
 use Rattle.sfc_replay.specs.sfc_debug.Steered.{Steered}
-use Rattle.sfc_replay.specs.sfc_output.Output.{debugger_of}
+use Rattle.sfc_replay.specs.sfc_output.Output.{Verdict, debugger_of}
 use Rattle.sfc_c.specs.declared.advanced.Advanced.{Advanced}
 use Rattle.sfc_c.specs.declared.plc.Plc.{Plc}
 use Rattle.sfc_c.specs.declared.scanning.Scan.{Scan as Made}
@@ -63,11 +62,15 @@ refused refusal.HistoryFull e = let f : pos 39 ≡ pos 3 = e in absurd (cc)
 refused refusal.Ended e = let f : pos 40 ≡ pos 3 = e in absurd (cc)
 refused refusal.NoSuchCondition e = let f : pos 42 ≡ pos 3 = e in absurd (cc)
 
+by_answer : (told : Advanced) (task : ℕ) (raw : ℤ) (v : Verdict) → (behind told (scan_of task raw) v).end ≡ goes_on
+    → (behind told (scan_of task raw) v).scans ≡ told.scans + 1
+by_answer told task raw (Ok (answers.Scanned ran faulted skipped overruns hits)) e = refl
+by_answer told task raw (Ok answers.Done) e = refl
+by_answer told task raw (Ok (answers.Value v)) e = refl
+by_answer told task raw (Err r) e = absurd (refused r e)
+
 -- where more come, one more was made
 pub one_more_made : (told : Advanced) (made : Option Made) → (behind_made told made).end ≡ goes_on
     → (behind_made told made).scans ≡ told.scans + 1
 one_more_made told None e = let f : pos 0 ≡ pos 3 = e in absurd (cc)
-one_more_made told (Some (record { task = task; raw = raw; answer = Ok (answers.Scanned ran faulted skipped overruns hits) })) e = refl
-one_more_made told (Some (record { task = task; raw = raw; answer = Ok answers.Done })) e = refl
-one_more_made told (Some (record { task = task; raw = raw; answer = Ok (answers.Value v) })) e = refl
-one_more_made told (Some (record { task = task; raw = raw; answer = Err r })) e = absurd (refused r e)
+one_more_made told (Some made) e = by_answer told made.task.0 made.raw made.answer e

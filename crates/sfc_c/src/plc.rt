@@ -8,7 +8,7 @@ ghost use Rattle.sfc_replay.specs.sfc_debug.Meaning.{IsAccepted};
 ghost use Rattle.sfc_replay.specs.sfc_debug.Openings.{IsOpeningFor};
 ghost use Rattle.sfc_replay.specs.sfc_debug.Steered.{steered_by};
 ghost use Rattle.sfc_replay.specs.sfc_debug.Verdict.{history_by};
-ghost use Rattle.sfc_replay.proofs.of_sfc_debug.Openings.{opening_prop};
+ghost use Rattle.sfc_debug.proofs.Openings.{opening_prop};
 ghost use Rattle.sfc_session.specs.Sessions.{steered_after, waiting, waiting_verdict};
 
 use crate::saved::Saved;

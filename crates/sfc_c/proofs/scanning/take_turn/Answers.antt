@@ -1,6 +1,7 @@
 use Rattle.std.proofs.Common.{rules, ◌≡◌, ◌∙◌, ◌+◌, ◌<◌, ◌≤◌, refl, sym, ap, subst, ℕ, ℤ, List, length, Option, w64, SFits, to_z, of_z, to_z-of_z}
 use Rattle.sfc_plant.specs.Plants.{PlantData}
 use Rattle.sfc_plant.specs.declared.task.Task.{Task}
+use Rattle.sfc_replay.specs.sfc_debug.Agreement.{plant_of}
 use Rattle.sfc_replay.specs.sfc_debug.Steered.{Steered}
 use Rattle.sfc_session.specs.Scanning.{earlier, release_in}
 use Rattle.sfc_c.specs.declared.plc.Plc.{Plc}
@@ -19,7 +20,7 @@ returns-then-not-is_out_of_turn-clause-takes c = λ h stands.
     let through = c.tasks.invariant.through h stands in
     let less : k < length st.plant.tasks =
     subst (λ (ts : List Task). k < length ts)
-    (c.tasks-tasks.ensures.value ∙ ap (λ (p : PlantData). p.tasks) (c.plant.ensures ∙ c.resource.ensures.plant)) c.tasks-test.true in
+    (c.tasks-tasks.ensures.value ∙ ap (λ (p : PlantData). p.tasks) (c.plant.ensures ∙ c.resource.ensures.plant ∙ ap plant_of c.debugger.ensures)) c.tasks-test.true in
     let is : IsMade st h (scan_of k at) c.make_scan-made.result c.make_scan-made.new.plc =
     subst (λ (s : Steered). IsMade s h (scan_of k at) c.make_scan-made.result c.make_scan-made.new.plc) c.tasks.invariant.steered
     (c.make_scan-made.ensures.made h through.stands) in
@@ -38,7 +39,7 @@ tasks-preserved c = record {
       let through = c.tasks.invariant.through h stands in
       let less : k < length st.plant.tasks =
       subst (λ (ts : List Task). k < length ts)
-      (c.tasks-tasks.ensures.value ∙ ap (λ (p : PlantData). p.tasks) (c.plant.ensures ∙ c.resource.ensures.plant)) c.tasks-test.true in
+      (c.tasks-tasks.ensures.value ∙ ap (λ (p : PlantData). p.tasks) (c.plant.ensures ∙ c.resource.ensures.plant ∙ ap plant_of c.debugger.ensures)) c.tasks-test.true in
       let is : IsMade st h (scan_of k at) c.make_scan-made.result c.make_scan-made.new.plc =
       subst (λ (s : Steered). IsMade s h (scan_of k at) c.make_scan-made.result c.make_scan-made.new.plc) c.tasks.invariant.steered
       (c.make_scan-made.ensures.made h through.stands) in
@@ -56,6 +57,6 @@ returns-clause-takes c = λ h stands.
     let at : ℤ = to_z w64 (of_z w64 c.args.raw) in
     let all : length st.plant.tasks ≤ c.tasks.number =
     subst (λ (ts : List Task). length ts ≤ c.tasks.number)
-    (c.tasks-tasks.ensures.value ∙ ap (λ (p : PlantData). p.tasks) (c.plant.ensures ∙ c.resource.ensures.plant)) c.tasks-test.false in
+    (c.tasks-tasks.ensures.value ∙ ap (λ (p : PlantData). p.tasks) (c.plant.ensures ∙ c.resource.ensures.plant ∙ ap plant_of c.debugger.ensures)) c.tasks-test.false in
     subst (λ (r : ℤ). TakesTurn st h r (NoTurn c.tasks.earliest) c.tasks.plc) (to_z-of_z fits)
     (through_all st h at c.tasks.plc c.tasks.number c.tasks.earliest all (c.tasks.invariant.through h stands))
