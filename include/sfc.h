@@ -9,7 +9,8 @@
  * - Each pointer is not NULL, also one to 0 bytes, and is aligned for its type. It points to initialised memory that is there
  *   during the call. What a call writes overlaps nothing else that the call is given. The library keeps no pointer.
  * - No call from a signal handler, and none is left by longjmp or by the cancelling of a thread.
- * - malloc, realloc and free are one allocator. Events, debugger commands by number and readers of numbers take no memory.
+ * - malloc, realloc and free are one allocator. Events, debugger commands by number, sfc_advance, sfc_restore and readers of numbers
+ *   take no memory.
  *
  * Instants and TIME values are in microseconds. An instant t is from 0 to 2^62, and not before that of an accepted command.
  * Variables, tasks, programs, steps, transitions and actions are counted from 0 in text order, and keep their numbers.
@@ -36,6 +37,7 @@ enum {
     SFC_MEMORY = -4,   /* memory was refused */
     SFC_NO_LINE = -5,  /* it is no line of a script */
     SFC_SHORT = -6,    /* the caller's array is too short */
+    SFC_NO_EXPRESSION = -7, /* the text is no condition of the program */
     SFC_NOT_DUE = 29,  /* sfc_scan: no release of the task waits; `next` tells the next one */
     SFC_YIELD = 30,    /* sfc_scan: another task goes first; `first` tells which */
     SFC_STOPPED = 34,  /* sfc_scan: the resource is halted */
@@ -48,6 +50,18 @@ enum { SFC_STEP = 0, SFC_TRANSITION = 1, SFC_ACTION = 2, SFC_VARIABLE = 3, SFC_T
 
 /* The condition of a breakpoint that waits for none. */
 enum { SFC_NO_CONDITION = 65535 };
+
+/* Types of variables, and where they lie. */
+enum { SFC_BOOL = 0, SFC_INT = 1, SFC_DINT = 2, SFC_TIME = 3 };
+enum { SFC_NOWHERE = 0, SFC_INPUT = 1, SFC_OUTPUT = 2, SFC_MEMORY_AREA = 3 };
+
+/* Why sfc_advance made no more scans: 0 to 3, or what the next scan is refused for, 24 to 42. */
+enum {
+    SFC_REACHED = 0, /* the next scan comes behind the instant, or none does */
+    SFC_HIT = 1,     /* the latest scan hit a breakpoint */
+    SFC_FAULT = 2,   /* the latest scan ended that of a program with a fault */
+    SFC_GOES_ON = 3  /* 2^64 - 1 were made */
+};
 
 /* Modes. */
 enum { SFC_RUNNING = 0, SFC_HALTED = 1, SFC_END = 2 };
@@ -64,6 +78,14 @@ typedef struct {
     int32_t limit; /* with fault 22, what there is too much of: 1 steps, 2 transitions, 3 associations, 4 variables, 5 programs,
                       6 tasks; else 0 */
 } sfc_text_fault_t;
+
+/* Why a text is no chart. */
+typedef struct {
+    size_t line;    /* the line, from 1; 0 where the text is a chart */
+    size_t column;  /* the column, from 1, in characters; 0 where the text is a chart */
+    size_t length;  /* how many bytes are at fault; 0 at the end of the text, and where it is the text as a whole */
+    int32_t number; /* the fault, from 1 to 22; 0 where the text is a chart */
+} sfc_chart_fault_t;
 
 /* What a command answered. After a refusal all but `next` and `first` is as where nothing is told. */
 typedef struct {
@@ -89,6 +111,28 @@ typedef struct {
     int64_t value;  /* BOOL as 0 or 1, a TIME in microseconds */
     int32_t forced; /* 1 where the variable is forced; else 0 */
 } sfc_variable_state_t;
+
+/* What a variable is. */
+typedef struct {
+    int32_t var_type; /* SFC_BOOL, SFC_INT, SFC_DINT or SFC_TIME */
+    int32_t area;     /* SFC_INPUT where it lies at %I, SFC_OUTPUT at %Q, SFC_MEMORY_AREA at %M; SFC_NOWHERE */
+    int32_t program;  /* the program that declares it; -1 for a global one */
+} sfc_about_t;
+
+/* The scan that comes next. */
+typedef struct {
+    int64_t instant; /* when, by the caller's clock */
+    int32_t task;    /* of which task */
+} sfc_next_scan_t;
+
+/* What was done up to an instant. */
+typedef struct {
+    uint64_t scans;   /* how many scans were made */
+    int64_t instant;  /* when the latest was, by the caller's clock; -1 where none was */
+    uint64_t faulted; /* a bit for each program whose scan the latest ended with a fault, the lowest for the first */
+    int32_t task;     /* the task of the latest; -1 where none was made */
+    int32_t end;      /* why no more were made: SFC_REACHED .. SFC_GOES_ON, or what the next is refused for */
+} sfc_advanced_t;
 
 /* How a task stands. */
 typedef struct {
@@ -117,12 +161,16 @@ typedef struct {
  * it held. */
 int32_t sfc_open(const uint8_t *text, size_t text_len, sfc_handle_t *plc);
 /* The same, with conditions for breakpoints: those that stand behind WHEN in this script (docs/FORMATS.md), numbered from 0 in
- * the order of its lines. Nothing else of the script counts. SFC_NO_LINE where one of its lines is no command. A resource has
- * the conditions of its opening; there is no way to add one later. */
+ * the order of its lines. Nothing else of the script counts. SFC_NO_LINE where one of its lines is no command. sfc_break_when
+ * adds others later. */
 int32_t sfc_open_with(const uint8_t *text, size_t text_len, const uint8_t *script, size_t script_len, sfc_handle_t *plc);
 /* The first fault of a text: its number, and where it is in `into`; 0 where the text is a chart; or SFC_MEMORY. */
 int32_t sfc_check(const uint8_t *text, size_t text_len, sfc_text_fault_t *into);
-/* Frees the resource, if the handle holds one. It may be called twice. */
+/* Why a text is no chart: its first fault as fields, and as the text of `sfcmon why`, in which the file is called `chart`. 0 where
+ * all is told, also of a chart, whose number is 0 and which has no text; SFC_SHORT, where the fields are told all the same; or
+ * SFC_MEMORY, where nothing is. */
+int32_t sfc_why(const uint8_t *text, size_t text_len, sfc_chart_fault_t *fault, uint8_t *into, size_t into_len, size_t *needed);
+/* Frees the resource, if the handle holds one, with all that was saved of it. It may be called twice. */
 void sfc_close(sfc_handle_t *plc);
 
 /* ---- Names. Letters are the same in any case. A number that is found is 0 or more; SFC_UNKNOWN where there is none. */
@@ -139,6 +187,11 @@ int32_t sfc_count(sfc_handle_t *plc, uint8_t kind, uint8_t program);
 /* The name of number n of a kind, as it was declared: of a variable as sfc_variable takes it; empty of a transition without a
  * name. SFC_UNKNOWN where there is no such number, SFC_SHORT, SFC_MEMORY. */
 int32_t sfc_name(sfc_handle_t *plc, uint8_t kind, uint8_t program, uint16_t number, uint8_t *into, size_t into_len, size_t *needed);
+
+/* What a variable is. SFC_UNKNOWN where there is none. */
+int32_t sfc_about(sfc_handle_t *plc, uint16_t var, sfc_about_t *into);
+/* Where a variable lies, as %IX0.0; nothing where it lies nowhere. SFC_UNKNOWN where there is none, SFC_SHORT, SFC_MEMORY. */
+int32_t sfc_location(sfc_handle_t *plc, uint16_t var, uint8_t *into, size_t into_len, size_t *needed);
 
 /* ---- Commands. Each is accepted, and has happened at t, or is refused, and nothing has changed. */
 
@@ -158,6 +211,9 @@ int32_t sfc_read(sfc_handle_t *plc, uint16_t var, int64_t t, sfc_reply_t *into);
 /* Sets a breakpoint at a point: a scan that hits it halts the resource. It waits for the condition of this number, of those of
  * sfc_open_with, or for none with SFC_NO_CONDITION. */
 int32_t sfc_break(sfc_handle_t *plc, uint8_t program, uint8_t kind, uint16_t number, uint16_t condition, int64_t t);
+/* The same with the condition that a text is: a BOOL expression, in which names are those of the conditions of the program's
+ * transitions. It gets the next number behind all others. SFC_NO_EXPRESSION where the text is no such condition, SFC_MEMORY. */
+int32_t sfc_break_when(sfc_handle_t *plc, uint8_t program, uint8_t kind, uint16_t number, const uint8_t *text, size_t text_len, int64_t t);
 int32_t sfc_unbreak(sfc_handle_t *plc, uint8_t program, uint8_t kind, uint16_t number, int64_t t);
 /* Halts the resource: its time stands still, and only sfc_single scans. */
 int32_t sfc_stop(sfc_handle_t *plc, int64_t t);
@@ -165,6 +221,26 @@ int32_t sfc_stop(sfc_handle_t *plc, int64_t t);
 int32_t sfc_go(sfc_handle_t *plc, int64_t t);
 /* No later command is accepted. */
 int32_t sfc_end(sfc_handle_t *plc, int64_t t);
+
+/* ---- All tasks. They go on from the latest accepted command. */
+
+/* Which task is scanned next, and when: where it is a task's turn at the instant of the latest command, that task then; else the
+ * one whose turn it is at the earliest next release of all tasks by their INTERVAL. SFC_UNKNOWN where none comes, as while the
+ * resource is halted; SFC_MEMORY. The resource stays as it is. */
+int32_t sfc_next(sfc_handle_t *plc, sfc_next_scan_t *into);
+/* Scans all tasks at each of their releases up to an instant, each scan as sfc_next tells it. It ends before the first scan behind
+ * the instant, and behind a scan that hits a breakpoint or ends that of a program with a fault. It answers 0, or where nothing was
+ * scanned what the next scan is refused for, as SFC_STOPPED; `end` tells that too. */
+int32_t sfc_advance(sfc_handle_t *plc, int64_t until, sfc_advanced_t *into);
+
+/* ---- Going back. What a resource leaves for later commands is saved under a number of the caller's, from 0 without a gap. */
+
+/* Saves it, in the place of what was saved under the number, or as the next behind all others. SFC_UNKNOWN where the number is above
+ * that of the next, SFC_MEMORY. Only a new number takes memory that stays. */
+int32_t sfc_save(sfc_handle_t *plc, uint16_t number);
+/* Goes back to what was saved under a number: values, forces, steps, breakpoints, the mode and the instants are those of then, and
+ * the count of accepted commands. SFC_UNKNOWN where nothing was. */
+int32_t sfc_restore(sfc_handle_t *plc, uint16_t number);
 
 /* ---- Text. */
 
@@ -178,6 +254,8 @@ int32_t sfc_image_text(sfc_handle_t *plc, uint8_t *into, size_t into_len, size_t
 /* What a fault or a refusal of this number means, with its usual cause and an example: the page of `sfcmon explain`.
  * SFC_UNKNOWN where there is none, SFC_SHORT, SFC_MEMORY. */
 int32_t sfc_explain(uint8_t number, uint8_t *into, size_t into_len, size_t *needed);
+/* The version of the library, as 1.2.3. SFC_SHORT. */
+int32_t sfc_version(uint8_t *into, size_t into_len, size_t *needed);
 
 /* ---- Readers. They want no instant and change nothing. Where the answer isn't 0 nothing is written. */
 
@@ -195,6 +273,11 @@ int32_t sfc_point_state(sfc_handle_t *plc, uint8_t program, uint8_t kind, uint16
 #if defined(__STDC_VERSION__) && __STDC_VERSION__ >= 201112L
 _Static_assert(sizeof(sfc_handle_t) == 8, "sfc_handle_t");
 _Static_assert(sizeof(sfc_text_fault_t) == 8 && offsetof(sfc_text_fault_t, limit) == 4, "sfc_text_fault_t");
+_Static_assert(sizeof(sfc_chart_fault_t) == 32 && offsetof(sfc_chart_fault_t, number) == 24, "sfc_chart_fault_t");
+_Static_assert(sizeof(sfc_about_t) == 12 && offsetof(sfc_about_t, program) == 8, "sfc_about_t");
+_Static_assert(sizeof(sfc_next_scan_t) == 16 && offsetof(sfc_next_scan_t, task) == 8, "sfc_next_scan_t");
+_Static_assert(sizeof(sfc_advanced_t) == 32 && offsetof(sfc_advanced_t, faulted) == 16 && offsetof(sfc_advanced_t, task) == 24
+               && offsetof(sfc_advanced_t, end) == 28, "sfc_advanced_t");
 _Static_assert(sizeof(sfc_reply_t) == 56 && offsetof(sfc_reply_t, next) == 32 && offsetof(sfc_reply_t, value) == 40
                && offsetof(sfc_reply_t, first) == 48 && offsetof(sfc_reply_t, hit) == 52, "sfc_reply_t");
 _Static_assert(sizeof(sfc_status_t) == 24 && offsetof(sfc_status_t, mode) == 16, "sfc_status_t");

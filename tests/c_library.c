@@ -51,6 +51,14 @@ static void misuse(void) {
     WANT(sfc_command(&plc, name, 5, out, sizeof out, &needed) == SFC_CLOSED && needed == 0);
     WANT(sfc_image_text(&plc, out, sizeof out, &needed) == SFC_CLOSED && needed == 0);
     WANT(sfc_image(&plc, image, 6) == SFC_CLOSED && image[0].value == 7 && sfc_task_state(&plc, 0, &task) == SFC_CLOSED);
+    sfc_about_t about = {7, 7, 7};
+    sfc_next_scan_t next = {7, 7};
+    sfc_advanced_t did = {7, 7, 7, 7, 7};
+    sfc_chart_fault_t wrong = {7, 7, 7, 7};
+    WANT(sfc_about(&plc, 0, &about) == SFC_CLOSED && about.var_type == 7 && sfc_next(&plc, &next) == SFC_CLOSED && next.task == 7);
+    WANT(sfc_location(&plc, 0, out, sizeof out, &needed) == SFC_CLOSED && needed == 0);
+    WANT(sfc_advance(&plc, 0, &did) == SFC_CLOSED && did.scans == 7 && sfc_save(&plc, 0) == SFC_CLOSED && sfc_restore(&plc, 0) == SFC_CLOSED);
+    WANT(sfc_break_when(&plc, 0, SFC_STEP, 0, name, 5, 0) == SFC_CLOSED && sfc_break_when(&plc, 0, 3, 0, name, 5, 0) == SFC_UNKNOWN);
     WANT(out[0] == 0);
 
     WANT(sfc_open(text, 0, &plc) == 4 && sfc_open(text, length / 2, &plc) == 4 && sfc_status(&plc, &status) == SFC_CLOSED);
@@ -86,9 +94,22 @@ static void misuse(void) {
     WANT(sfc_value(&plc, 65535, &value) == SFC_UNKNOWN && value == 7 && sfc_forced(&plc, 65535) == SFC_UNKNOWN);
     WANT(sfc_program_state(&plc, 9, &program) == SFC_UNKNOWN && sfc_point_state(&plc, 0, 3, 0, &point) == SFC_UNKNOWN);
     WANT(sfc_point_state(&plc, 9, SFC_STEP, 0, &point) == SFC_UNKNOWN && sfc_point_state(&plc, 0, SFC_ACTION, 999, &point) == SFC_UNKNOWN);
+    WANT(sfc_about(&plc, 65535, &about) == SFC_UNKNOWN && about.var_type == 7 && sfc_save(&plc, 1) == SFC_UNKNOWN);
+    WANT(sfc_location(&plc, 65535, out, sizeof out, &needed) == SFC_UNKNOWN && needed == 0 && sfc_restore(&plc, 0) == SFC_UNKNOWN);
+    WANT(sfc_location(&plc, (uint16_t)start, out, 5, &needed) == SFC_SHORT && needed == 6 && out[0] == 0);
+    WANT(sfc_break_when(&plc, 0, SFC_STEP, 0, name, 0, 0) == SFC_NO_EXPRESSION);
+    WANT(sfc_break_when(&plc, 0, SFC_STEP, 0, (const uint8_t *)"1 +", 3, 0) == SFC_NO_EXPRESSION);
+    WANT(sfc_break_when(&plc, 0, SFC_STEP, 0, (const uint8_t *)"Absent", 6, 0) == SFC_NO_EXPRESSION);
+    WANT(sfc_break_when(&plc, 0, SFC_STEP, 0, (const uint8_t *)"Idle.T", 6, 0) == SFC_NO_EXPRESSION);
+    WANT(sfc_break_when(&plc, 0, SFC_STEP, 999, name, 5, 0) == 37 && sfc_break_when(&plc, 9, SFC_STEP, 0, name, 5, 0) == 32);
+    WANT(sfc_break_when(&plc, 0, SFC_STEP, 0, name, 5, -1) == 33 && sfc_break(&plc, 0, SFC_STEP, 0, 0, 0) == 42);
+    WANT(sfc_why(name, 5, &wrong, out, 3, &needed) == SFC_SHORT && wrong.number == 4 && wrong.line == 1 && needed > sizeof out && out[0] == 0);
+    WANT(sfc_version(out, 1, &needed) == SFC_SHORT && needed == 5 && out[0] == 0);
     WANT(sfc_go(&plc, 0) == 36 && sfc_single(&plc, 0, 0, 0, &reply) == 36);
     WANT(sfc_status(&plc, &status) == 0 && status.accepted == 0 && status.instant == 0 && status.mode == SFC_RUNNING);
     WANT(sfc_end(&plc, 5) == 0 && sfc_scan(&plc, 0, 5, &reply) == SFC_ENDED);
+    WANT(sfc_next(&plc, &next) == SFC_UNKNOWN && next.task == 7 && sfc_advance(&plc, 1000000, &did) == SFC_ENDED);
+    WANT(did.scans == 0 && did.instant == -1 && did.task == -1 && did.faulted == 0 && did.end == SFC_ENDED);
     sfc_close(&plc);
     sfc_close(&plc);
     WANT(plc.at == NULL && sfc_status(&plc, &status) == SFC_CLOSED);
@@ -167,6 +188,258 @@ static void texts(void) {
     sfc_close(&plc);
 }
 
+static int text_is(int32_t code, const uint8_t *out, const size_t *needed, const char *wanted) {
+    return code == 0 && *needed == strlen(wanted) && !memcmp(out, wanted, *needed);
+}
+
+/* types and locations, of the pump and of the mixing station, as their charts declare them */
+static void panel(void) {
+    sfc_handle_t plc = SFC_NONE;
+    sfc_about_t about = {0};
+    uint8_t out[64];
+    size_t needed = 0;
+    WANT(sfc_open(text, length, &plc) == 0);
+    WANT(sfc_about(&plc, (uint16_t)named(sfc_variable, &plc, "Start"), &about) == 0);
+    WANT(about.var_type == SFC_BOOL && about.area == SFC_INPUT && about.program == -1);
+    WANT(sfc_about(&plc, (uint16_t)named(sfc_variable, &plc, "DrainValve"), &about) == 0);
+    WANT(about.var_type == SFC_BOOL && about.area == SFC_OUTPUT && about.program == -1);
+    WANT(sfc_about(&plc, (uint16_t)named(sfc_variable, &plc, "Tank1.Batches"), &about) == 0);
+    WANT(about.var_type == SFC_INT && about.area == SFC_NOWHERE && about.program == 0);
+    WANT(sfc_about(&plc, (uint16_t)named(sfc_variable, &plc, "Tank1.DoseTime"), &about) == 0);
+    WANT(about.var_type == SFC_TIME && about.area == SFC_NOWHERE && about.program == 0);
+    WANT(text_is(sfc_location(&plc, (uint16_t)named(sfc_variable, &plc, "Empty"), out, 6, &needed), out, &needed, "%IX0.2"));
+    WANT(text_is(sfc_location(&plc, (uint16_t)named(sfc_variable, &plc, "ReadyLamp"), out, sizeof out, &needed), out, &needed, "%QX0.4"));
+    WANT(text_is(sfc_location(&plc, (uint16_t)named(sfc_variable, &plc, "Tank1.Batches"), out, sizeof out, &needed), out, &needed, ""));
+    sfc_close(&plc);
+}
+
+/* a type, an area and a size each */
+static void places(void) {
+    static const char chart[] = "PROGRAM P INITIAL_STEP S: END_STEP END_PROGRAM CONFIGURATION C RESOURCE R ON X VAR_GLOBAL "
+        "A AT %IW3 : INT; B AT %QW2.1.4 : INT; C AT %MD7 : DINT; D : TIME; E AT %M5.0 : BOOL; F : DINT; END_VAR "
+        "TASK T(INTERVAL := T#1ms, PRIORITY := 1); PROGRAM I WITH T : P; END_RESOURCE END_CONFIGURATION";
+    static const struct { int32_t type, area; const char *at; } wanted[] = {
+        {SFC_INT, SFC_INPUT, "%IW3"}, {SFC_INT, SFC_OUTPUT, "%QW2.1.4"}, {SFC_DINT, SFC_MEMORY_AREA, "%MD7"},
+        {SFC_TIME, SFC_NOWHERE, ""}, {SFC_BOOL, SFC_MEMORY_AREA, "%MX5.0"}, {SFC_DINT, SFC_NOWHERE, ""}};
+    sfc_handle_t plc = SFC_NONE;
+    sfc_about_t about = {0};
+    sfc_chart_fault_t wrong = {0};
+    uint8_t out[4096];
+    size_t needed = 0;
+    int32_t code = sfc_open((const uint8_t *)chart, sizeof chart - 1, &plc);
+    if (code && sfc_why((const uint8_t *)chart, sizeof chart - 1, &wrong, out, sizeof out, &needed) == 0) fwrite(out, 1, needed, stderr);
+    WANT(code == 0);
+    for (uint16_t k = 0; k < 6; k++) {
+        WANT(sfc_about(&plc, k, &about) == 0 && about.var_type == wanted[k].type && about.area == wanted[k].area && about.program == -1);
+        WANT(text_is(sfc_location(&plc, k, out, sizeof out, &needed), out, &needed, wanted[k].at));
+    }
+    sfc_close(&plc);
+}
+
+/* Two tasks, of 10 and 20 ms, the faster one first where both wait (belt.chart). */
+static void tasks(void) {
+    static const struct { int64_t at; int32_t task; } wanted[] = {{0, 0}, {0, 1}, {10000, 0}, {20000, 0}, {20000, 1}, {30000, 0}};
+    sfc_handle_t plc = SFC_NONE, other = SFC_NONE;
+    sfc_next_scan_t next = {0};
+    sfc_advanced_t did = {0};
+    sfc_reply_t reply = {0};
+    sfc_status_t status = {0};
+    static uint8_t one[65536], two[65536];
+    size_t first = 0, second = 0;
+    WANT(sfc_open(text, length, &plc) == 0 && sfc_open(text, length, &other) == 0);
+    int fast = named(sfc_task, &plc, "Fast"), slow = named(sfc_task, &plc, "Slow");
+    WANT(fast == 0 && slow == 1);
+    for (size_t k = 0; k < sizeof wanted / sizeof *wanted; k++) {
+        WANT(sfc_next(&plc, &next) == 0 && next.instant == wanted[k].at && next.task == wanted[k].task);
+        WANT(sfc_scan(&plc, (uint8_t)next.task, next.instant, &reply) == 0);
+    }
+    WANT(sfc_advance(&other, -1, &did) == 0 && did.scans == 0 && did.end == SFC_REACHED && did.instant == -1 && did.task == -1);
+    WANT(sfc_advance(&other, 0, &did) == 0 && did.scans == 2 && did.end == SFC_REACHED && did.instant == 0 && did.task == slow);
+    WANT(sfc_advance(&other, 0, &did) == 0 && did.scans == 0 && did.end == SFC_REACHED);
+    WANT(sfc_advance(&other, 30000, &did) == 0 && did.scans == 4 && did.end == SFC_REACHED && did.instant == 30000 && did.task == fast);
+    WANT(did.faulted == 0);
+    WANT(sfc_image_text(&plc, one, sizeof one, &first) == 0 && sfc_image_text(&other, two, sizeof two, &second) == 0);
+    WANT(first == second && !memcmp(one, two, first));
+    WANT(sfc_next(&other, &next) == 0 && next.instant == 40000 && next.task == fast);
+    WANT(sfc_stop(&other, 35000) == 0 && sfc_next(&other, &next) == SFC_UNKNOWN && next.instant == 40000);
+    WANT(sfc_advance(&other, 100000, &did) == SFC_STOPPED && did.scans == 0 && did.end == SFC_STOPPED);
+    WANT(sfc_go(&other, 85000) == 0 && sfc_next(&other, &next) == 0 && next.instant == 90000 && next.task == fast);
+    WANT(sfc_advance(&other, 89999, &did) == 0 && did.scans == 0 && sfc_status(&other, &status) == 0 && status.instant == 35000);
+    WANT(sfc_advance(&other, 90000, &did) == 0 && did.scans == 2 && did.instant == 90000 && sfc_status(&other, &status) == 0);
+    WANT(status.instant == 40000 && status.accepted == 10);
+    sfc_close(&plc);
+    sfc_close(&other);
+}
+
+/* a hit and a fault end it: the pump's breakpoint, and a division by zero */
+static void ends(void) {
+    static const char chart[] = "PROGRAM P VAR N : INT := 3; Q : INT; END_VAR INITIAL_STEP S: Count(N); END_STEP "
+        "ACTION Count: N := N - 1; Q := 6 / N; END_ACTION END_PROGRAM CONFIGURATION C RESOURCE R ON X "
+        "TASK T(INTERVAL := T#10ms, PRIORITY := 1); PROGRAM I WITH T : P; PROGRAM J WITH T : P; END_RESOURCE END_CONFIGURATION";
+    sfc_handle_t plc = SFC_NONE;
+    sfc_advanced_t did = {0};
+    sfc_next_scan_t next = {0};
+    sfc_program_state_t program = {0};
+    WANT(sfc_open(text, length, &plc) == 0);
+    WANT(sfc_break_when(&plc, 0, SFC_STEP, 1, (const uint8_t *)"NOT Start", 9, 0) == 0);
+    WANT(sfc_input(&plc, 0, 1, 0) == 0 && sfc_advance(&plc, 1000000, &did) == 0 && did.scans == 6 && did.end == SFC_REACHED);
+    WANT(sfc_unbreak(&plc, 0, SFC_STEP, 1, 1000000) == 0 && sfc_input(&plc, 0, 0, 1000000) == 0 && sfc_input(&plc, 1, 1, 1000000) == 0);
+    WANT(sfc_break_when(&plc, 0, SFC_STEP, 2, (const uint8_t *)"Pump AND RunningOn.X", 20, 1000000) == 0);
+    WANT(sfc_advance(&plc, 9000000, &did) == 0 && did.end == SFC_HIT && did.instant == 1200000 && did.scans == 1 && did.task == 0);
+    WANT(sfc_next(&plc, &next) == SFC_UNKNOWN && sfc_advance(&plc, 9000000, &did) == SFC_STOPPED && did.end == SFC_STOPPED);
+    WANT(sfc_open((const uint8_t *)chart, sizeof chart - 1, &plc) == 0);
+    WANT(sfc_advance(&plc, 1000000, &did) == 0 && did.end == SFC_FAULT && did.scans == 3 && did.instant == 20000 && did.faulted == 3);
+    WANT(sfc_program_state(&plc, 1, &program) == 0 && program.fault == 1 && program.scans == 2);
+    WANT(sfc_advance(&plc, 1000000, &did) == 0 && did.end == SFC_REACHED && did.scans == 98 && did.faulted == 0 && did.instant == 1000000);
+    sfc_close(&plc);
+}
+
+/* what was saved is there again: values, forces, breakpoints, the mode, the instants; each number by itself */
+static void saves(void) {
+    static uint8_t before[4096], after[4096];
+    sfc_handle_t plc = SFC_NONE;
+    sfc_status_t status = {0}, then = {0};
+    sfc_advanced_t did = {0};
+    sfc_reply_t reply = {0};
+    size_t length_before = 0, length_after = 0;
+    int64_t value = 0;
+    WANT(sfc_open(text, length, &plc) == 0 && sfc_save(&plc, 0) == 0 && sfc_save(&plc, 2) == SFC_UNKNOWN && sfc_restore(&plc, 1) == SFC_UNKNOWN);
+    WANT(sfc_input(&plc, 0, 1, 0) == 0 && sfc_advance(&plc, 600000, &did) == 0 && did.scans == 4);
+    WANT(sfc_force(&plc, 1, 0, 700000) == 0 && sfc_break(&plc, 0, SFC_STEP, 2, SFC_NO_CONDITION, 700000) == 0 && sfc_stop(&plc, 700000) == 0);
+    WANT(sfc_save(&plc, 1) == 0 && sfc_status(&plc, &then) == 0 && sfc_image_text(&plc, before, sizeof before, &length_before) == 0);
+    WANT(sfc_go(&plc, 900000) == 0 && sfc_release(&plc, 1, 900000) == 0 && sfc_unbreak(&plc, 0, SFC_STEP, 2, 900000) == 0);
+    WANT(sfc_input(&plc, 0, 0, 900000) == 0 && sfc_input(&plc, 1, 1, 900000) == 0 && sfc_advance(&plc, 5000000, &did) == 0);
+    WANT(sfc_value(&plc, 2, &value) == 0 && value == 0 && sfc_restore(&plc, 1) == 0 && sfc_status(&plc, &status) == 0);
+    WANT(status.instant == then.instant && status.accepted == then.accepted && status.mode == SFC_HALTED && then.instant == 700000);
+    WANT(sfc_image_text(&plc, after, sizeof after, &length_after) == 0 && length_after == length_before && !memcmp(after, before, length_after));
+    WANT(sfc_forced(&plc, 1) == 1 && sfc_scan(&plc, 0, 800000, &reply) == SFC_STOPPED && sfc_go(&plc, 699999) == 28 && sfc_go(&plc, 700000) == 0);
+    WANT(sfc_restore(&plc, 0) == 0 && sfc_status(&plc, &status) == 0 && status.accepted == 0 && status.instant == 0 && status.mode == SFC_RUNNING);
+    WANT(sfc_value(&plc, 2, &value) == 0 && value == 0 && sfc_advance(&plc, 600000, &did) == 0 && did.scans == 4);
+    WANT(sfc_save(&plc, 0) == 0 && sfc_restore(&plc, 1) == 0 && sfc_status(&plc, &status) == 0 && status.instant == 700000);
+    WANT(sfc_restore(&plc, 0) == 0 && sfc_status(&plc, &status) == 0 && status.instant == 600000 && status.accepted == 4);
+    WANT(sfc_break_when(&plc, 0, SFC_STEP, 1, (const uint8_t *)"Start", 5, 600000) == 0 && sfc_restore(&plc, 1) == 0);
+    WANT(sfc_break(&plc, 0, SFC_STEP, 1, 0, 700000) == 0 && sfc_break(&plc, 0, SFC_STEP, 1, 1, 700000) == 42);
+    WANT(sfc_open(text, length, &plc) == 0 && sfc_restore(&plc, 0) == SFC_UNKNOWN);
+    sfc_close(&plc);
+}
+
+/* 1,000 values of the inputs from one snapshot, each as from the opening */
+static void forks(void) {
+    static uint8_t one[4096], two[4096];
+    sfc_handle_t plc = SFC_NONE, other = SFC_NONE;
+    sfc_advanced_t did = {0};
+    size_t first = 0, second = 0;
+    WANT(sfc_open(text, length, &plc) == 0 && sfc_advance(&plc, 400000, &did) == 0 && sfc_save(&plc, 0) == 0);
+    for (int k = 0; k < 1000; k++) {
+        WANT(sfc_restore(&plc, 0) == 0 && sfc_open(text, length, &other) == 0 && sfc_advance(&other, 400000, &did) == 0);
+        for (int step = 0; step < 3; step++) {
+            int64_t start = k >> step & 1, stop = k >> (step + 3) & 1, t = 400000 + 200000 * step + k;
+            WANT(sfc_input(&plc, 0, start, t) == 0 && sfc_input(&plc, 1, stop, t) == 0 && sfc_advance(&plc, t + 150000, &did) == 0);
+            WANT(sfc_input(&other, 0, start, t) == 0 && sfc_input(&other, 1, stop, t) == 0 && sfc_advance(&other, t + 150000, &did) == 0);
+        }
+        WANT(sfc_image_text(&plc, one, sizeof one, &first) == 0 && sfc_image_text(&other, two, sizeof two, &second) == 0);
+        WANT(first == second && !memcmp(one, two, first));
+    }
+    sfc_close(&plc);
+    sfc_close(&other);
+}
+
+/* ---- memory that is refused */
+
+void *__real_malloc(size_t size);
+void *__real_realloc(void *at, size_t size);
+void __real_free(void *at);
+void *__wrap_malloc(size_t size);
+void *__wrap_realloc(void *at, size_t size);
+void __wrap_free(void *at);
+
+/* How many requests are granted before all others are refused, and how many blocks are held; the library's and this file's own alone. */
+static long granted = -1, held;
+
+static int is_refused(void) {
+    if (granted < 0) return 0;
+    return granted == 0 || --granted < 0;
+}
+
+void *__wrap_malloc(size_t size) {
+    void *at = is_refused() ? NULL : __real_malloc(size);
+    __atomic_add_fetch(&held, at != NULL, __ATOMIC_SEQ_CST);
+    return at;
+}
+
+void *__wrap_realloc(void *at, size_t size) {
+    void *to = is_refused() ? NULL : __real_realloc(at, size);
+    __atomic_add_fetch(&held, !at && to, __ATOMIC_SEQ_CST);
+    return to;
+}
+
+void __wrap_free(void *at) {
+    __atomic_sub_fetch(&held, at != NULL, __ATOMIC_SEQ_CST);
+    __real_free(at);
+}
+
+/* One call of each kind that takes memory: what it answers. */
+static int32_t asks(int kind, sfc_handle_t *plc, uint8_t *out, size_t room) {
+    static const char line[] = "T#800ms SCAN Main", wait[] = "Start AND NOT Stop";
+    static sfc_next_scan_t next;
+    static sfc_chart_fault_t wrong;
+    size_t needed = 0;
+    switch (kind) {
+    case 0: return sfc_save(plc, 0);
+    case 1: return sfc_save(plc, 1);
+    case 2: return sfc_next(plc, &next);
+    case 3: return sfc_break_when(plc, 0, SFC_STEP, 2, (const uint8_t *)wait, sizeof wait - 1, 700000);
+    case 4: return sfc_command(plc, (const uint8_t *)line, sizeof line - 1, out, room, &needed);
+    case 5: return sfc_image_text(plc, out, room, &needed);
+    case 6: return sfc_name(plc, SFC_STEP, 0, 0, out, room, &needed);
+    case 7: return sfc_location(plc, 0, out, room, &needed);
+    case 8: return sfc_why(text, length / 2, &wrong, out, room, &needed);
+    case 9: return sfc_explain(29, out, room, &needed);
+    default: return sfc_open(text, length, plc);
+    }
+}
+
+/* With the n-th request and all behind it refused each call answers -4, and all is as it was; with enough granted it answers 0. */
+static void refusals(void) {
+    static uint8_t out[1 << 16], one[4096], two[4096];
+    sfc_advanced_t did = {0};
+    size_t first = 0, second = 0;
+    for (int kind = 0; kind < 11; kind++) {
+        int32_t code = SFC_MEMORY;
+        for (long n = 0; code; n += 1 + n / 16) {
+            sfc_handle_t plc = SFC_NONE;
+            sfc_status_t before = {0}, after = {0};
+            long blocks = held;
+            WANT(sfc_open(text, length, &plc) == 0 && sfc_input(&plc, 0, 1, 0) == 0 && sfc_advance(&plc, 600000, &did) == 0);
+            WANT(sfc_save(&plc, 0) == 0 && sfc_status(&plc, &before) == 0 && sfc_image_text(&plc, one, sizeof one, &first) == 0);
+            granted = n;
+            code = asks(kind, &plc, out, sizeof out);
+            WANT(sfc_advance(&plc, 600000, &did) == 0 && sfc_restore(&plc, 7) == SFC_UNKNOWN);
+            granted = -1;
+            WANT((code == 0 || code == SFC_MEMORY) && n < 100000);
+            if (code) {
+                WANT(sfc_status(&plc, &after) == 0 && after.accepted == before.accepted && after.instant == before.instant);
+                WANT(sfc_image_text(&plc, two, sizeof two, &second) == 0 && first == second && !memcmp(one, two, first));
+                WANT(sfc_restore(&plc, 1) == SFC_UNKNOWN && sfc_break(&plc, 0, SFC_STEP, 0, 0, 700000) == 42);
+                WANT(sfc_restore(&plc, 0) == 0 && sfc_advance(&plc, 800000, &did) == 0 && did.scans == 1);
+            }
+            sfc_close(&plc);
+            WANT(held == blocks);
+        }
+    }
+}
+
+/* prints the report of a text; its number is that of sfc_check */
+static void why(void) {
+    static uint8_t out[1 << 16];
+    size_t needed = 7;
+    sfc_chart_fault_t wrong = {7, 7, 7, 7};
+    sfc_text_fault_t fault = {0};
+    WANT(sfc_why(text, length, &wrong, out, sizeof out, &needed) == 0 && wrong.number == sfc_check(text, length, &fault));
+    WANT((wrong.number == 0) == (needed == 0) && (wrong.number == 0) == (wrong.line == 0) && (wrong.number == 0) == (wrong.column == 0));
+    fwrite(out, 1, needed, stdout);
+}
+
 /* plays a script line by line, and prints what replay prints */
 static void play(const char *path) {
     static uint8_t script[1 << 20], out[1 << 16];
@@ -216,6 +489,13 @@ static void damaged(long count) {
         sfc_text_fault_t fault = {0};
         WANT(code >= 0 && code <= 22 && (code == 0) == (plc.at != NULL) && sfc_check(other, n, &fault) == code);
         WANT((fault.line > 0) == (code >= 1 && code <= 7) && (fault.limit > 0) == (code == 22));
+        if (k % 10 == 0) {
+            static uint8_t out[1 << 16];
+            size_t needed = 0;
+            sfc_chart_fault_t wrong = {7, 7, 7, 7};
+            WANT(sfc_why(other, n, &wrong, out, sizeof out, &needed) == 0 && wrong.number == code && (needed == 0) == (code == 0));
+            WANT(wrong.line <= n + 1 && wrong.column <= n + 1 && wrong.length <= n);
+        }
         opened += code == 0;
         if (code == 0) WANT(sfc_scan(&plc, 0, 0, &reply) == 0 || reply.ran == 0);
         sfc_close(&plc);
@@ -251,6 +531,14 @@ int main(int argc, char **argv) {
     else if (!strcmp(argv[1], "fields")) fields();
     else if (!strcmp(argv[1], "texts")) texts();
     else if (!strcmp(argv[1], "play") && argc == 4) play(argv[3]);
+    else if (!strcmp(argv[1], "panel")) panel();
+    else if (!strcmp(argv[1], "places")) places();
+    else if (!strcmp(argv[1], "tasks")) tasks();
+    else if (!strcmp(argv[1], "ends")) ends();
+    else if (!strcmp(argv[1], "saves")) saves();
+    else if (!strcmp(argv[1], "forks")) forks();
+    else if (!strcmp(argv[1], "refusals")) refusals();
+    else if (!strcmp(argv[1], "why")) why();
     else if (!strcmp(argv[1], "threads")) threads();
     else if (!strcmp(argv[1], "damaged") && argc == 4) damaged(atol(argv[3]));
     else if (!strcmp(argv[1], "opens") && argc == 4) opens(atol(argv[3]));

@@ -24,22 +24,52 @@ exported=$("$top/tools/prototypes" "$top/crates/sfc_c" | sed 's/.* \(sfc_[a-z_]*
 note $? "what libsfc.so exports"
 echo '#include "sfc.h"' | c++ -x c++ -Wall -Wextra -Werror -pedantic -I "$build" -fsyntax-only -; note $? "the header as C++"
 
-cc -O1 -Wall -Wextra -Werror -pedantic -std=c11 -I "$build" "$here/c_library.c" "$build/libsfc.a" -lpthread -o "$work/try"
+wraps=-Wl,--wrap=malloc,--wrap=realloc,--wrap=free
+cc -O1 -Wall -Wextra -Werror -pedantic -std=c11 -I "$build" "$here/c_library.c" "$build/libsfc.a" "$wraps" -lpthread -o "$work/try"
 note $? "c_library.c"
 "$work/try" misuse "$top/examples/pump.chart"; note $? "misuse"
 "$work/try" fields "$top/examples/pump.chart"; note $? "each field of the structs"
 "$work/try" texts "$top/examples/pump.chart"; note $? "names, counts and texts"
+"$work/try" panel "$top/examples/mixing.chart"; note $? "types and locations"
+"$work/try" places "$top/examples/pump.chart"; note $? "each type, area and size"
+"$work/try" tasks "$top/examples/belt.chart"; note $? "two tasks, by what comes next and up to an instant"
+"$work/try" ends "$top/examples/pump.chart"; note $? "a hit and a fault end it, with conditions that are read then"
+"$work/try" saves "$top/examples/pump.chart"; note $? "what was saved is there again"
+"$work/try" forks "$top/examples/pump.chart"; note $? "1000 runs from one snapshot, each as from the opening"
+"$work/try" refusals "$top/examples/pump.chart"; note $? "each call with the n-th request for memory refused"
 for chart in "$top"/examples/*.chart; do
   "$work/try" play "$chart" "${chart%.chart}.script" >"$work/played" && cmp -s "$work/played" "${chart%.chart}.expect"
   note $? "the script of $(basename "$chart") by C, to the byte"
 done
+sed 's/Pumping TO RunningOn/Pumpin TO RunningOn/' "$top/examples/pump.chart" >"$work/chart"
+"$work/try" why "$work/chart" >"$work/why"; note $? "the report of a chart"
+sed -n 1p "$work/why" | grep -qE '^chart:15:19: 15 UnknownStep: Pumpin; near: Pumping$'; note $? "what it says"
+if [ -n "${SFCMON:-}" ]; then
+  (cd "$work" && "$SFCMON" why chart >"$work/told"); cmp -s "$work/why" "$work/told"; note $? "the report is that of sfcmon why"
+else
+  echo "not asked, SFCMON names no program: the report is that of sfcmon why"
+fi
 "$work/try" damaged "$top/examples/mixing.chart" 10000; note $? "10000 damaged texts"
 "$work/try" threads "$top/examples/pump.chart"; note $? "two handles in two threads"
+# clean WORD CHART..: a part of c_library.c under valgrind
+clean() { valgrind -q --error-exitcode=9 --leak-check=full --show-leak-kinds=all "$work/try" "$@"; }
 if command -v valgrind >/dev/null; then
-  valgrind -q --error-exitcode=9 --leak-check=full --show-leak-kinds=all "$work/try" opens "$top/examples/lamp.chart" 100000
-  note $? "100000 openings under valgrind"
+  clean opens "$top/examples/lamp.chart" 100000; note $? "100000 openings under valgrind"
+  for part in misuse fields texts ends saves refusals; do clean "$part" "$top/examples/pump.chart"; note $? "$part under valgrind"; done
+  clean tasks "$top/examples/belt.chart"; note $? "tasks under valgrind"
 else
-  echo "not asked, valgrind isn't there: 100000 openings under valgrind"
+  echo "not asked, valgrind isn't there: openings and each part under valgrind"
+fi
+if cc -fsanitize=address,undefined -O1 -std=c11 -I "$build" "$here/c_library.c" "$build/libsfc.a" "$wraps" -lpthread -o "$work/sane" 2>/dev/null; then
+  for part in misuse fields texts ends saves forks; do "$work/sane" "$part" "$top/examples/pump.chart"; note $? "$part with sanitizers"; done
+  "$work/sane" tasks "$top/examples/belt.chart" && "$work/sane" panel "$top/examples/mixing.chart"; note $? "tasks and types with sanitizers"
+  "$work/sane" damaged "$top/examples/mixing.chart" 2000; note $? "2000 damaged texts with sanitizers"
+else
+  echo "not asked, the compiler has no sanitizers: each part with them"
+fi
+if command -v c++ >/dev/null; then
+  c++ -Wall -Wextra -Werror -pedantic -std=c++17 -I "$build" "$here/c_library.cpp" "$build/libsfc.a" -o "$work/wrapped"; note $? "c_library.cpp"
+  "$work/wrapped" "$top/examples/pump.chart" "$top/examples/belt.chart"; note $? "the wrappers of sfc.hpp"
 fi
 [ "$("$build/bench" "$top/examples/pump.chart" Main 200000 1000000 2>/dev/null)" = "1000000 scans, 0 overruns" ]; note $? "the bench"
 printf '' | timeout 20 "$build/loop" "$top/examples/pump.chart" >"$work/loop"; note $? "the loop"
@@ -53,8 +83,8 @@ for example in response interlock two_tasks snapshots; do
 done
 if python3 -c 'import hypothesis, pytest' 2>/dev/null; then
   (cd "$work" && python3 "$top/examples/python/planted_fault.py" >"$work/planted"); note $? "examples/python/planted_fault.py finds the planted fault"
-  (cd "$work" && python3 -m pytest -q -p no:cacheprovider "$top/examples/python/test_mixing.py" "$top/examples/python/test_any_input.py" >"$work/pytest")
-  note $? "the tests under pytest, with any inputs"
+  (cd "$work" && PYTHONPATH="$build:$top/share/python" python3 -m pytest -q -p no:cacheprovider "$top/examples/python/test_mixing.py" \
+    "$top/examples/python/test_any_input.py" >"$work/pytest"); note $? "the tests under pytest, with any inputs"
 else
   echo "not asked, hypothesis and pytest aren't there: the tests that they run"
 fi

@@ -40,12 +40,15 @@ def names():
         plc.advance(0)
         early = raises(sfc.NotDue, lambda: plc.scan("Main", ms(50)), "SCAN Main at T#50ms", "next at T#200ms")
         assert early.reply.next == 200_000
-        raises(sfc.NoLine, lambda: plc.set_break("Pump1", "step", "Idle", condition="Strat"), "'Strat'")
+        raises(sfc.NoExpression, lambda: plc.set_break("Pump1", "step", "Idle", condition="Strat"), "'Strat'")
         assert [it.name for it in plc.inputs] == ["Start", "Stop"] and plc.about("%IX0.1").name == "Stop"
         assert plc.about("start").location == "%IX0.0" and plc.about("Pump").area == "output" and plc.about("Pump").program is None
         assert list(plc.programs) == ["Pump1"] and list(plc.programs["Pump1"].steps) == ["Idle", "Pumping", "RunningOn"]
-    wrong = raises(sfc.ChartRefused, lambda: Plc(b"PROGRAM P\n  STEP\nEND_PROGRAM"), "4 ChartRefused: Syntax in line 3")
-    assert (wrong.code, wrong.line, wrong.limit) == (4, 3, None)
+    wrong = raises(sfc.ChartRefused, lambda: Plc(b"PROGRAM P\n  STEP\nEND_PROGRAM"), "chart:3:1: 4 Syntax")
+    assert (wrong.code, wrong.line, wrong.column, wrong.length) == (4, 3, 1, len("END_PROGRAM"))
+    with open(PUMP, "rb") as file:
+        text = file.read().replace(b"Pumping TO RunningOn", b"Pumpin TO RunningOn")
+    raises(sfc.ChartRefused, lambda: Plc(text), "chart:15:19: 15 UnknownStep: Pumpin; near: Pumping")
 
 
 def values():
@@ -75,7 +78,7 @@ def faults():
 
 def clock():
     with Plc.of(PUMP) as plc:
-        assert plc.advance(ms(300)).scans == 2 and plc.now == 300_000
+        assert plc.advance(ms(300)).scans == 2 and plc.now == 300_000 and plc.next == (400_000, "Main")
         plc["Start"] = True
         assert plc.until("Pump", within=ms(200)) == ms(100) and plc.now == 400_000
         assert plc.programs["Pump1"].steps["Pumping"].active and plc.programs["Pump1"].active == ["Pumping"]
@@ -83,7 +86,7 @@ def clock():
         assert isinstance(late, AssertionError) and plc.now == 900_000
         plc.programs["Pump1"].steps["RunningOn"].break_here("Stop")
         plc["Stop"] = True
-        assert plc.advance(ms(1000)).end == sfc.HIT and plc.now == 1_000_000 and plc.mode == "halted"
+        assert plc.advance(ms(1000)).end == sfc.HIT and plc.now == 1_000_000 and plc.mode == "halted" and plc.next is None
         raises(sfc.Stopped, lambda: plc.advance(ms(1000)), "34 Stopped")
         plc.go()
         assert plc.programs["Pump1"].steps["RunningOn"].elapsed == timedelta() and plc.programs["Pump1"].transitions[1].happened
@@ -102,7 +105,9 @@ def going_back():
         others = [plc.snapshot() for _ in range(20)]
         plc.advance(ms(500))
         others[7].restore()
-        assert plc.image() == before and there.now == 100_000
+        assert plc.image() == before and plc._slots == 21
+        del others
+        assert plc.snapshot().number < 21 and there.number == 0
 
 
 def scripts(program):
@@ -131,10 +136,25 @@ def scripts(program):
             assert "hit" in "".join(again.command(line) for line in plc.script().splitlines())
 
 
+def conditions():
+    """Conditions by number, by text and in a line, also behind a snapshot, in the script that is saved."""
+    with open(PUMP, "rb") as file, Plc(file.read(), b"T#0s BREAK Pump1 STEP Pumping WHEN Start\n") as plc:
+        plc.set_break("Pump1", "step", "Pumping", condition=0)
+        there = plc.snapshot()
+        plc.set_break("Pump1", "transition", 0, condition="Stop AND NOT Start")
+        there.restore()
+        plc.command("T#10ms break Pump1 STEP Idle when Stop AND NOT Start")
+        assert plc.now == 10_000 and plc.script().splitlines() == [
+            "T#0s BREAK Pump1 STEP Pumping WHEN Start", "T#10ms break Pump1 STEP Idle when Stop AND NOT Start"]
+        plc["Start"] = True
+        assert plc.advance(ms(1000)).end == sfc.HIT and plc.script().splitlines()[-1] == "T#200ms SCAN Main"
+
+
 names()
 values()
+conditions()
 faults()
 clock()
 going_back()
 scripts(os.environ.get("SFCMON"))
-assert sfc.explain(29).startswith("29 NotDue")
+assert sfc.version().count(".") == 2 and sfc.explain(29).startswith("29 NotDue")

@@ -148,9 +148,10 @@ export class Drawing {
     }
   }
 
-  /** Marks what was never reached, by ids. @param {Set<string>} ids */
+  /** Marks what was never reached, by ids, and meanwhile not what is cleared; null marks none. @param {Set<string> | null} ids */
   markNever(ids) {
-    for (const {element} of this.points) set(element, 'never', ids.has(element.id));
+    this.host.classList.toggle('covered', ids !== null);
+    for (const {element} of this.points) set(element, 'never', Boolean(ids?.has(element.id)));
   }
 
   /** Marks breakpoints. @param {Map<string, string>} set_ conditions by program, kind and name */

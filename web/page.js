@@ -364,7 +364,7 @@ class Page {
     if (name === 'image') showLines(byId('image'), this.play.sfc.imageText());
     if (name === 'waves') await this.showWaves(chart, script);
     if (name === 'coverage') await this.showCoverage(chart, script);
-    else this.drawing.markNever(new Set());
+    else this.drawing.markNever(null);
     if (name === 'outcome') await this.showOutcome(chart);
   }
 
@@ -373,7 +373,7 @@ class Page {
     const tool = name => this.remote.tool(name, chart, script), [report, drawn] = await Promise.all([tool('cover'), tool('draw_cover')]);
     showLines(byId('coverage'), report.text);
     const isSeen = this.resultTabs.current() === 'coverage' && this.play.doc?.chart === chart;
-    this.drawing.markNever(isSeen ? idsOfNever(drawn.text) : new Set());
+    this.drawing.markNever(isSeen ? idsOfNever(drawn.text) : null);
   }
 
   async showWaves(chart, script) {

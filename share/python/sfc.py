@@ -16,6 +16,7 @@ from __future__ import annotations
 import ctypes as c
 import os
 import re
+import weakref
 from datetime import timedelta
 from difflib import get_close_matches
 from typing import Any, Callable, Iterator, NamedTuple, Optional, Union
@@ -28,7 +29,7 @@ AREAS = [None, "input", "output", "memory"]
 SCAN_FAULTS = [None, "DivZero", "Range", "TwoTimed", "SdWhileSl", "SlWhileSd"]
 LIMITS = [None, "Steps", "Transitions", "Associations", "Variables", "Instances", "Tasks"]
 RANGES = [(0, 1), (-(2**15), 2**15 - 1), (-(2**31), 2**31 - 1), (-(2**62), 2**62)]
-REACHED, HIT, FAULT = range(3)
+REACHED, HIT, FAULT, GOES_ON = range(4)
 
 Time = Union[int, timedelta]
 Value = Union[bool, int, timedelta]
@@ -73,6 +74,10 @@ class TextFault(c.Structure):
     _fields_ = [("line", c.c_uint32), ("limit", c.c_int32)]
 
 
+class ChartFault(c.Structure):
+    _fields_ = [("line", c.c_size_t), ("column", c.c_size_t), ("length", c.c_size_t), ("number", c.c_int32)]
+
+
 class Reply(c.Structure):
     _fields_ = [(it, c.c_uint64) for it in ("ran", "faulted", "skipped", "overruns")]
     _fields_ += [("next", c.c_int64), ("value", c.c_int64), ("first", c.c_int32), ("hit", c.c_int32)]
@@ -84,6 +89,18 @@ class Status(c.Structure):
 
 class VariableState(c.Structure):
     _fields_ = [("value", c.c_int64), ("forced", c.c_int32)]
+
+
+class About(c.Structure):
+    _fields_ = [("var_type", c.c_int32), ("area", c.c_int32), ("program", c.c_int32)]
+
+
+class NextScan(c.Structure):
+    _fields_ = [("instant", c.c_int64), ("task", c.c_int32)]
+
+
+class Advanced(c.Structure):
+    _fields_ = [("scans", c.c_uint64), ("instant", c.c_int64), ("faulted", c.c_uint64), ("task", c.c_int32), ("end", c.c_int32)]
 
 
 class TaskState(c.Structure):
@@ -108,13 +125,16 @@ class Refused(Exception):
 
 
 class ChartRefused(Refused):
-    """The text is no chart: `code` by docs/FORMATS.md, with the reader's line, or what there is too much of; else None. `sfcmon why` tells
-    more."""
+    """The text is no chart: `code` by docs/FORMATS.md, the line and the column of what is at fault, how many bytes that has, what there is
+    too much of, and the report of `sfcmon why`, which says what may be meant."""
 
-    def __init__(self, code: int, line: Optional[int] = None, limit: Optional[str] = None):
-        name = explain(code).split("\n", 1)[0].partition(" ")[2]
-        super().__init__(code, told=name + (f" in line {line}" if line else "") + (f", {limit}" if limit else ""))
-        self.line, self.limit = line, limit
+    def __init__(self, fault: ChartFault, limit: Optional[str], report: str):
+        super().__init__(fault.number, told=report.split("\n", 1)[0])
+        self.line, self.column, self.length = fault.line, fault.column, fault.length
+        self.limit, self.report = limit, report
+
+    def __str__(self) -> str:
+        return self.report.rstrip("\n")
 
 
 class ScanFault(Exception):
@@ -125,14 +145,6 @@ class ScanFault(Exception):
         self.faults, self.instant = faults, instant
 
 
-class Advanced(NamedTuple):
-    """What was done up to an instant: how many scans were made, when the latest was, and why no more were: REACHED, HIT or FAULT."""
-
-    scans: int
-    instant: Optional[int]
-    end: int
-
-
 class TimedOut(AssertionError):
     """What was waited for didn't come in time."""
 
@@ -141,14 +153,14 @@ def _named(*names: str) -> list[type[Refused]]:
     return [type(name, (Refused,), {"__doc__": "A refusal of this name."}) for name in names]
 
 
-Closed, NoValue, NotFound, OutOfMemory, NoLine, Short = _LIBRARY = _named(
-    "Closed", "NoValue", "NotFound", "OutOfMemory", "NoLine", "Short")
+Closed, NoValue, NotFound, OutOfMemory, NoLine, Short, NoExpression = _LIBRARY = _named(
+    "Closed", "NoValue", "NotFound", "OutOfMemory", "NoLine", "Short", "NoExpression")
 (UnknownVar, ValueType, NotInput, NotForced, ClockBack, NotDue, Yield, UnknownTask, UnknownProgram, InstantRange, Stopped, NotRunning,
  NotStopped, NoSuchPoint, TooManyPoints, HistoryFull, Ended, AuditMismatch, NoSuchCondition) = _COMMANDS = _named(
     "UnknownVar", "ValueType", "NotInput", "NotForced", "ClockBack", "NotDue", "Yield", "UnknownTask", "UnknownProgram", "InstantRange",
     "Stopped", "NotRunning", "NotStopped", "NoSuchPoint", "TooManyPoints", "HistoryFull", "Ended", "AuditMismatch", "NoSuchCondition")
 _CLASSES = {-1 - k: it for k, it in enumerate(_LIBRARY)} | {24 + k: it for k, it in enumerate(_COMMANDS)}
-SHORT, UNKNOWN, NO_VALUE = -6, -3, -2
+NO_EXPRESSION, SHORT, NO_LINE, UNKNOWN, NO_VALUE = -7, -6, -5, -3, -2
 
 
 def _path() -> str:
@@ -164,12 +176,15 @@ def _load() -> Any:
     var, byte, reply = c.c_uint16, c.c_uint8, c.POINTER(Reply)
     kinds = {
         "open": [*text, plc], "open_with": [*text, *text, plc], "check": [*text, c.POINTER(TextFault)], "close": [plc],
+        "why": [*text, c.POINTER(ChartFault), *out], "version": out,
         "variable": [plc, *text], "task": [plc, *text], "program": [plc, *text], "point": [plc, byte, byte, *text],
-        "count": [plc, byte, byte], "name": [plc, byte, byte, var, *out],
+        "count": [plc, byte, byte], "name": [plc, byte, byte, var, *out], "about": [plc, var, c.POINTER(About)],
+        "location": [plc, var, *out],
         "scan": [plc, byte, t, reply], "single": [plc, byte, t, t, reply], "input": [plc, var, t, t], "force": [plc, var, t, t],
         "release": [plc, var, t], "reset": [plc, byte, t], "read": [plc, var, t, reply], "break": [plc, byte, byte, var, var, t],
-        "unbreak": [plc, byte, byte, var, t], "stop": [plc, t], "go": [plc, t], "end": [plc, t],
-        "command": [plc, *text, *out], "image_text": [plc, *out], "explain": [byte, *out],
+        "break_when": [plc, byte, byte, var, *text, t], "unbreak": [plc, byte, byte, var, t], "stop": [plc, t], "go": [plc, t],
+        "end": [plc, t], "next": [plc, c.POINTER(NextScan)], "advance": [plc, t, c.POINTER(Advanced)], "save": [plc, var],
+        "restore": [plc, var], "command": [plc, *text, *out], "image_text": [plc, *out], "explain": [byte, *out],
         "value": [plc, var, c.POINTER(t)], "forced": [plc, var], "image": [plc, c.POINTER(VariableState), c.c_size_t],
         "status": [plc, c.POINTER(Status)], "task_state": [plc, byte, c.POINTER(TaskState)],
         "program_state": [plc, byte, c.POINTER(ProgramState)], "point_state": [plc, byte, byte, var, c.POINTER(PointState)],
@@ -200,13 +215,20 @@ def _text(call: Any, *given: Any) -> tuple[int, str]:
         room = needed.value
 
 
+def version() -> str:
+    """The version of the library."""
+    return _text(_LIB.sfc_version)[1]
+
+
 def check(text: bytes) -> Optional[ChartRefused]:
     """The first fault of a text, as a ChartRefused; None where it is a chart."""
-    fault = TextFault()
-    code = _LIB.sfc_check(text, len(text), fault)
-    if code < 0:
-        _done(code)
-    return ChartRefused(code, fault.line or None, LIMITS[fault.limit]) if code else None
+    fault, place = ChartFault(), TextFault()
+    code, report = _text(_LIB.sfc_why, text, len(text), fault)
+    _done(code)
+    if not fault.number:
+        return None
+    _LIB.sfc_check(text, len(text), place)
+    return ChartRefused(fault, LIMITS[place.limit], report)
 
 
 def explain(number: int) -> str:
@@ -230,7 +252,7 @@ def fixture(path: str, script: bytes = b"") -> Any:
 
 class Variable(NamedTuple):
     """What a variable is: its name and number, its type, whether it is an "input", an "output" or "memory" and where, as %IX0.0, and the
-    program that declares it; None where it lies nowhere, and for a global one. The type of a whole number that lies nowhere is "DINT"."""
+    program that declares it; None where it lies nowhere, and for a global one."""
 
     name: str
     number: int
@@ -360,15 +382,16 @@ class Programs:
 
 
 class Snapshot:
-    """What a resource was at an instant. `restore` goes back there, as often as one likes; `with plc.snapshot():` goes back at its end. It is
-    the commands until then, which are given once more to a resource that is opened anew."""
+    """What a resource was at an instant. `restore` goes back there, as often as one likes; `with plc.snapshot():` goes back at its end."""
 
-    def __init__(self, plc: Plc):
-        self._plc, self.now, self._history = plc, plc.now, plc._history[:]
+    def __init__(self, plc: Plc, number: int):
+        self._plc, self.number = plc, number
+        self.now, self._history = plc.now, plc._history[:]
+        self._end = weakref.finalize(self, plc._free.append, number)
 
     def restore(self) -> None:
         """Goes back."""
-        self._plc._restore(self.now, self._history)
+        self._plc._restore(self)
 
     def __enter__(self) -> Snapshot:
         return self
@@ -377,17 +400,14 @@ class Snapshot:
         self.restore()
 
 
-_LOCATED = re.compile(r"(\w+)\s+AT\s+(%[IQM][XBWDL]?[\d.]+)\s*:\s*(\w+)", re.I)
+_WHEN = re.compile(r"\sWHEN\s", re.I)
 
 
-class _Command(NamedTuple):
-    """A command that was accepted: its call, what it was given, its instant and its words."""
+class _Did(NamedTuple):
+    """A command that was accepted, as a line of a script; or how many scans came next, one after the other."""
 
-    call: Any
-    given: tuple[int, ...]
-    reply: bool
-    at: int
-    words: str
+    line: str
+    scans: int = 0
 
 
 class Plc:
@@ -397,34 +417,19 @@ class Plc:
     def __init__(self, text: bytes, script: bytes = b"", raises: bool = True):
         """Opens the chart, with the conditions behind WHEN in the script, which breakpoints may wait for."""
         self.handle, self.now, self.raises = Handle(), 0, raises
-        self._text, self._conditions = text, script
-        self._history: list[_Command] = []
-        self._open()
-        self.variables = self._declared()
+        self._given = (text, script)
+        self._conditions = [_WHEN.split(it, 1)[1] for it in script.decode("utf-8").splitlines() if _WHEN.search(it)]
+        self._history: list[_Did] = []
+        self._free: list[int] = []
+        self._slots = 0
+        code = _LIB.sfc_open_with(text, len(text), script, len(script), self.handle)
+        if code > 0:
+            raise check(text) or Refused(code)
+        _done(code, told="a line of the script is no command" if code == NO_LINE else "")
+        self.variables = {name: self._about(number, name) for number, name in enumerate(self.names("variable"))}
         self._folded = {name.lower(): it for name, it in self.variables.items()}
         self._tasks = self.names("task")
         self.programs = Programs(self)
-
-    def _open(self) -> None:
-        code = _LIB.sfc_open_with(self._text, len(self._text), self._conditions, len(self._conditions), self.handle)
-        if code > 0:
-            raise check(self._text) or Refused(code)
-        _done(code, told="a line of the script is no command" if code == -5 else "")
-
-    def _declared(self) -> dict[str, Variable]:
-        """What each variable is: its type by its value, and where it lies by its declaration, as the library finds it there."""
-        places = {}
-        for name, place, kind in _LOCATED.findall(re.sub(r"\(\*.*?\*\)", " ", self._text.decode("latin-1"), flags=re.S)):
-            number = _LIB.sfc_variable(self.handle, place.encode(), len(place))
-            if number >= 0 and number == _LIB.sfc_variable(self.handle, name.encode(), len(name)):
-                places[number] = place.upper() if place[2].isalpha() else f"{place[:2].upper()}X{place[2:]}", kind.upper()
-        found = {}
-        for number, line in enumerate(self.image_text().splitlines()):
-            _, name, value, *_ = line.split(" ")
-            location, kind = places.get(number, (None, "BOOL" if value in ("TRUE", "FALSE") else "TIME" if "#" in value else "DINT"))
-            area = {"I": "input", "Q": "output", "M": "memory"}[location[1]] if location else None
-            found[name] = Variable(name, number, kind, area, location, name.partition(".")[0] if "." in name else None)
-        return found
 
     @classmethod
     def of(cls, path: str, script: bytes = b"", raises: bool = True) -> Plc:
@@ -443,6 +448,14 @@ class Plc:
         _LIB.sfc_close(self.handle)
 
     # -- names
+
+    def _about(self, number: int, name: str) -> Variable:
+        about = About()
+        _done(_LIB.sfc_about(self.handle, number, about))
+        code, location = _text(_LIB.sfc_location, self.handle, number)
+        _done(code)
+        program = None if about.program < 0 else self.names("program")[about.program]
+        return Variable(name, number, TYPES[about.var_type], AREAS[about.area], location or None, program)
 
     def _found(self, number: int, kind: str, name: str, program: Optional[str] = None) -> int:
         if number >= 0:
@@ -502,9 +515,12 @@ class Plc:
         code = call(self.handle, *given, at, *([] if reply is None else [reply]))
         if code:
             _done(code, reply, f"{words} at {time_text(at)}" + self._told(code, reply))
-        self.now = max(self.now, at)
-        self._history.append(_Command(call, given, reply is not None, at, words))
+        self._accepted(at, words)
         return reply
+
+    def _accepted(self, at: int, words: str) -> None:
+        self.now = max(self.now, at)
+        self._history.append(_Did(f"{time_text(at)} {words}"))
 
     def _told(self, code: int, reply: Optional[Reply]) -> str:
         """What the reply to a refused command tells."""
@@ -565,28 +581,22 @@ class Plc:
 
     def set_break(self, program: str, kind: str, name: Union[str, int], t: Optional[Time] = None,
                   condition: Union[int, str, None] = NO_CONDITION) -> None:
-        """Sets a breakpoint, which waits for a condition: one of the script of the opening by its number, or one by its text."""
+        """Sets a breakpoint, which waits for a condition: one by its text, or one that is there by its number. Those of the script of the
+        opening come first, and each that was given as a text behind them."""
         place, words = self.point(program, kind, name), self._place("BREAK", program, kind, name)
         if isinstance(condition, str):
-            condition = self._condition(f"T#0s {words} WHEN {condition}")
+            self._break_when(place, words, condition, self.now if t is None else micros(t))
+            return
         number = NO_CONDITION if condition is None else condition
-        self._command(getattr(_LIB, "sfc_break"), words if number == NO_CONDITION else f"{words} WHEN {self._texts()[number]}", *place, number, t=t)
+        named = f" WHEN {self._conditions[number]}" if number < len(self._conditions) else ""
+        self._command(getattr(_LIB, "sfc_break"), words + named, *place, number, t=t)
 
-    def _texts(self) -> list[str]:
-        lines = self._conditions.decode("utf-8").splitlines()
-        return [re.split(r"\sWHEN\s", it, maxsplit=1, flags=re.I)[1] for it in lines if re.search(r"\sWHEN\s", it, re.I)]
-
-    def _condition(self, line: str) -> int:
-        """The number of the condition of a line, for which the resource is opened anew, and all is given to it once more."""
-        before, number = self._conditions, len(self._texts())
-        self._conditions = before + (b"" if before.endswith(b"\n") or not before else b"\n") + line.encode() + b"\n"
-        try:
-            self._open()
-        except NoLine as it:
-            self._conditions = before
-            raise NoLine(it.code, told=f"{line.partition(' WHEN ')[2]!r} is no condition there") from None
-        self._restore(self.now, self._history)
-        return number
+    def _break_when(self, place: tuple[int, int, int], words: str, condition: str, at: int) -> None:
+        text = condition.encode()
+        code = _LIB.sfc_break_when(self.handle, *place, text, len(text), at)
+        _done(code, None, f"{condition!r} is no condition there" if code == NO_EXPRESSION else f"{words} at {time_text(at)}")
+        self._conditions.append(condition)
+        self._accepted(at, f"{words} WHEN {condition}")
 
     def _place(self, verb: str, program: str, kind: str, name: Union[str, int]) -> str:
         named = name if isinstance(name, str) else name + 1 if kind == "transition" else self.names(kind, program)[name]
@@ -614,56 +624,32 @@ class Plc:
         if code < 0:
             _done(code, told=line)
         if code == 0 and text:
-            at = _instant(line.split()[0])
-            self.now = max(self.now, at)
-            self._history.append(_Command(None, (), False, at, line.strip()))
+            self.now = max(self.now, _instant(line.split()[0]))
+            self._history.append(_Did(line.strip()))
         return text
 
     # -- all tasks
 
-    def _turn(self, at: int) -> tuple[Optional[Reply], Optional[int]]:
-        """Scans the task whose turn it is at an instant: its reply; or None, and how long it is until the next release of all tasks."""
-        nexts = []
-        for task, name in enumerate(self._tasks):
-            reply = Reply()
-            code = _LIB.sfc_scan(self.handle, task, at, reply)
-            if code == 0:
-                self._history.append(_Command(_LIB.sfc_scan, (task,), True, at, f"SCAN {name}"))
-                return reply, None
-            if code == 29 and reply.next >= 0:
-                nexts.append(reply.next)
-            elif code not in (29, 30):
-                _done(code, reply, f"SCAN {name} at {time_text(at)}")
-        return None, min(nexts) if nexts else None
-
-    def _steps(self, until: int) -> Iterator[tuple[Reply, int]]:
-        """Makes the scans of all tasks at their releases up to an instant, one after the other: what each answers, and when it was."""
-        at = self.now
-        while at <= until:
-            reply, coming = self._turn(at)
-            if reply is not None:
-                self.now = at
-                yield reply, at
-            elif coming is None:
-                return
-            else:
-                at = self._raw_of(coming)
-
-    def _raw_of(self, run: int) -> int:
-        """The instant of a run instant, where the resource runs on from the latest command."""
-        latest = self._history[-1].at if self._history else 0
-        return latest + run - self.status().instant
+    @property
+    def next(self) -> Optional[tuple[int, str]]:
+        """The instant of the scan that comes next, and its task; None where none comes."""
+        into = NextScan()
+        code = _LIB.sfc_next(self.handle, into)
+        if code == UNKNOWN:
+            return None
+        _done(code)
+        return into.instant, self._tasks[into.task]
 
     def _advance(self, until: int) -> Advanced:
         """All scans up to an instant. The clock goes there, or to a scan that hits a breakpoint or ends with a fault."""
-        scans, instant = 0, None
-        for reply, instant in self._steps(until):
-            scans += 1
-            if reply.faulted or reply.hit:
-                self._faults(reply.faulted, instant)
-                return Advanced(scans, instant, HIT if reply.hit else FAULT)
-        self.now = max(self.now, until)
-        return Advanced(scans, instant, REACHED)
+        did = Advanced()
+        code = _LIB.sfc_advance(self.handle, until, did)
+        _done(code, told=f"a scan up to {time_text(until)}")
+        if did.scans:
+            self._history.append(_Did("", did.scans))
+        self.now = max(self.now, did.instant if did.end in (HIT, FAULT) else until)
+        self._faults(did.faulted if did.end == FAULT else 0, did.instant)
+        return did
 
     def advance(self, duration: Time) -> Advanced:
         """Lets the clock go on by a duration: all tasks are scanned at each of their releases until then. A scan that hits a breakpoint ends
@@ -675,15 +661,15 @@ class Plc:
         answers how long that took. TimedOut where it doesn't hold within a duration."""
         holds = (lambda plc: plc[condition]) if isinstance(condition, str) else condition
         began, last = self.now, self.now + micros(within)
-        if holds(self):
-            return timedelta()
-        for reply, instant in self._steps(last):
-            self._faults(reply.faulted, instant)
-            if reply.hit or holds(self):
-                return timedelta(microseconds=self.now - began)
-        self.now = max(self.now, last)
-        named = condition if isinstance(condition, str) else getattr(condition, "__name__", "the condition")
-        raise TimedOut(f"{named} isn't so within {time_text(within)}, from {time_text(began)} on\n{self.last_scans()}")
+        while not holds(self):
+            coming = self.next
+            if coming is None or coming[0] > last:
+                self._advance(last)
+                named = condition if isinstance(condition, str) else getattr(condition, "__name__", "the condition")
+                raise TimedOut(f"{named} isn't so within {time_text(within)}, from {time_text(began)} on\n{self.last_scans()}")
+            if self._advance(coming[0]).end == HIT:
+                break
+        return timedelta(microseconds=self.now - began)
 
     def run(self, task: str, until: Time) -> None:
         """Scans one task at each release by its interval from now on up to this instant, while the resource runs."""
@@ -697,26 +683,50 @@ class Plc:
 
     def snapshot(self) -> Snapshot:
         """What the resource is now, to go back to."""
-        return Snapshot(self)
+        number = self._free.pop() if self._free else self._slots
+        code = _LIB.sfc_save(self.handle, number)
+        if code:
+            if number < self._slots:
+                self._free.append(number)
+            _done(code)
+        self._slots = max(self._slots, number + 1)
+        return Snapshot(self, number)
 
     def restore(self, snapshot: Snapshot) -> None:
         """Goes back to a snapshot of this Plc."""
         snapshot.restore()
 
-    def _restore(self, now: int, history: list[_Command]) -> None:
-        self._open()
-        for it in history:
-            if it.call is None:
-                _text(_LIB.sfc_command, self.handle, it.words.encode(), len(it.words.encode()))
-            else:
-                it.call(self.handle, *it.given, it.at, *([Reply()] if it.reply else []))
-        self.now, self._history = now, history[:]
+    def _restore(self, snapshot: Snapshot) -> None:
+        _done(_LIB.sfc_restore(self.handle, snapshot.number))
+        self.now, self._history = snapshot.now, snapshot._history[:]
 
     # -- history
 
     def script(self) -> str:
         """What was done, as a script: a replay of it on the chart does the same."""
-        return "".join(f"{it.words}\n" if it.call is None else f"{time_text(it.at)} {it.words}\n" for it in self._history)
+        with Plc(*self._given, raises=False) as again:
+            return "".join(f"{line}\n" for line, _ in again._again(self._history))
+
+    def _again(self, history: list[_Did]) -> Iterator[tuple[str, str]]:
+        """Does all of it here: each line of a script, and what `replay` prints for it."""
+        for did in history:
+            if did.line:
+                yield did.line, self._obey(did.line)
+            for _ in range(did.scans):
+                instant, task = self.next or (self.now, self._tasks[0])
+                line = f"{time_text(instant)} SCAN {task}"
+                yield line, self._obey(line)
+
+    def _obey(self, line: str) -> str:
+        """Obeys a line, whose condition may be one that isn't there yet; nothing is printed then."""
+        try:
+            return self.command(line)
+        except NotFound:
+            words, condition = _WHEN.split(line, 1)
+            at, _, program, kind, name = words.split()
+            number = int(name) - 1 if name.isdigit() else name
+            self.set_break(program, kind.lower(), number, _instant(at), condition)
+            return ""
 
     def save(self, path: str) -> None:
         """Writes what was done as a script, for `sfcmon replay CHART PATH`."""
@@ -725,9 +735,8 @@ class Plc:
 
     def last_scans(self, count: int = 5) -> str:
         """The lines that `sfcmon replay` prints for the latest scans."""
-        lines = self.script().splitlines()
-        with Plc(self._text, self._conditions, raises=False) as again:
-            told = [again.command(line) for line in lines]
+        with Plc(*self._given, raises=False) as again:
+            told = [text for _, text in again._again(self._history)]
         return "".join([it for it in told if " SCAN " in it or " SINGLE " in it][-count:])
 
     # -- readers

@@ -19,15 +19,15 @@ use Rattle.std.specs.Prelude.{Option, Some, None}
 use Rattle.std.specs.Box.Ownership.{box_owns}
 use Rattle.std.specs.contracts.impls.GlobalAllocator.TheImpl.{ghosts}
 use Rattle.std.proofs.GlobalToken.{dealloc_token-Testable}
-use Rattle.sfc_replay.specs.sfc_debug.declared.debugger.Debugger.{Debugger}
-use Rattle.sfc_replay.specs.sfc_debug.contracts.debugger.Debugger.{the_row}
+use Rattle.sfc_c.specs.declared.plc.Plc.{Plc}
+use Rattle.sfc_c.specs.contracts.plc.Plc.{the_row}
 use Rattle.sfc_c.specs.Held.{heap, held}
 use Rattle.sfc_c.specs.contracts.handle.Handle as handle
 
 abbrev pub word : Ptr → Val
 word p = vstruct (vcons (ptr_val p) vnil)
 
-abbrev pub boxed : Ptr → Debugger → base.Fml.Fml
+abbrev pub boxed : Ptr → Plc → base.Fml.Fml
 boxed p x = box_owns (ghosts.dealloc_token heap) the_row p x
 
 module _ {M : Type 1} {𝓤 : Ura M} {𝓛 : Logic 𝓤} {K : Type 0} {Γ : List (Item 𝓤)} {G : Goal 𝓤 𝓛.H} where
@@ -35,14 +35,14 @@ module _ {M : Type 1} {𝓤 : Ura M} {𝓛 : Logic 𝓤} {K : Type 0} {Γ : List
   handle_out t d vs k =
       fsplit t $ fpick t (λ vss. fsplit t $ feq_l t (λ ev. fsplit t $ feq_l t (λ ep. drop t $ k (subst (λ (ps : List Val). vs ≡ vstruct (of_list (ps ++ [])) ∷ []) ep ev))))
 
-  pub handle_in : K → (p : Ptr) (x : Option Debugger)
+  pub handle_in : K → (p : Ptr) (x : Option Plc)
       → Step K 𝓛 (‵ ((handle.the_row).own_val (record { at = p; value = x }) (word p ∷ [])) ∷ Γ) G (‵ (held p x) ∷ Γ) G
   handle_in t p x = step (λ s.
       nothing t $ feq_i t (List Val) (ptr_val p ∷ []) (ptr_val p ∷ []) refl $ fjoin t $ feq_i t (List Val) (word p ∷ []) (word p ∷ []) refl $ fjoin t $
       fpack t (Valss (RawPtr ∷ [])) (within (shape handle.the_type) (p, tt) (word p ∷ [])) (ptr_val p ∷ [], tt) $ fjoin t $ s)
 
-  pub either : K → (p : Ptr) (x : Option Debugger) → (p ≡ null_ptr → x ≡ None → Seq K 𝓛 Γ G)
-      → ((b o : ℕ) (y : Debugger) → p ≡ block_ptr b o → x ≡ Some y → Testable (block_ptr b o) → Seq K 𝓛 (‵ (boxed (block_ptr b o) y) ∷ Γ) G) → Seq K 𝓛 (‵ (held p x) ∷ Γ) G
+  pub either : K → (p : Ptr) (x : Option Plc) → (p ≡ null_ptr → x ≡ None → Seq K 𝓛 Γ G)
+      → ((b o : ℕ) (y : Plc) → p ≡ block_ptr b o → x ≡ Some y → Testable (block_ptr b o) → Seq K 𝓛 (‵ (boxed (block_ptr b o) y) ∷ Γ) G) → Seq K 𝓛 (‵ (held p x) ∷ Γ) G
   either t p None none one = fpick t (λ e. drop t $ none e refl)
   either t p (Some x) none one =
       in_a_block t p (λ q. boxed q x) (fst∗ 𝓤 (never 𝓤) (sem 𝓛 (ghosts.dealloc_token heap (bare (lone the_row.mir)) null_ptr))) (λ b o e.

@@ -48,6 +48,10 @@ no_line = negsuc 4
 abbrev pub too_short : ℤ
 too_short = negsuc 5
 
+-- the text is no condition
+abbrev pub no_expression : ℤ
+no_expression = negsuc 6
+
 -- ---- answers
 
 -- 0, or the number of the refusal

@@ -1,5 +1,7 @@
 -- The rules, in reading order.
 
+-- which commands a resource stands for, and what was saved of it
+pub mod Resources
 -- what a handle owns
 pub mod Held
 -- what C reads of answers, values and points; the library's own codes
@@ -20,3 +22,11 @@ pub mod Texts
 pub mod Lines
 -- explanations by number
 pub mod Explanations
+-- which scan comes next, and the scans of all tasks at their releases
+pub mod Advancing
+-- what a variable is, and where it lies
+pub mod About
+-- breakpoints with conditions that are read then
+pub mod Waiting
+-- why a chart is refused, as text and as fields
+pub mod Whys

@@ -5,7 +5,6 @@ use Rattle.sfc_base.specs.declared.ids.ProgId.{ProgId}
 use Rattle.sfc_events.specs.declared.command.Command.TheVariants.{BreakIf}
 use Rattle.sfc_events.specs.declared.command.Point.{Point}
 use Rattle.sfc_replay.specs.sfc_debug.declared.break_condition.BreakCondition.{BreakCondition}
-use Rattle.sfc_replay.specs.sfc_debug.declared.debugger.Debugger.{Debugger}
 use Rattle.sfc_replay.specs.sfc_debug.Histories.{CommandHistory, TimedCommand}
 use Rattle.sfc_replay.specs.sfc_debug.States.{state_of}
 use Rattle.sfc_replay.specs.sfc_debug.Verdict.{verdict, after}
@@ -15,6 +14,7 @@ use Rattle.sfc_replay.specs.sfc_debug.Steered.{Steered}
 use Rattle.sfc_c.specs.declared.asked.Asked.{Asked}
 use Rattle.sfc_c.specs.declared.asked.Asked.TheVariants.{Nothing, Says, NoLine, NoCondition, NoMemory}
 use Rattle.sfc_c.specs.declared.obeying.Obeyed.{Obeyed}
+use Rattle.sfc_c.specs.declared.plc.Plc.{Plc}
 use Rattle.sfc_c.specs.declared.obeying.Obeyed.TheVariants.{Done, Short, OutOfMemory}
 use Rattle.sfc_c.specs.Codes.{code_of, unknown, no_memory, no_line, too_short}
 use Rattle.sfc_c.specs.Handles.{Holds}
@@ -56,12 +56,12 @@ told_lines s h timed =
     lines_at s (state_of s.plant s.table (after s.plant s.table h timed)) timed.0 (verdict s.plant s.table h timed.0 timed.1)
 
 -- nothing was written, and nothing has happened
-abbrev pub IsIdle : Steered → CommandHistory → List ℕ → List ℕ → ℕ → Option Debugger → Type 0
+abbrev pub IsIdle : Steered → CommandHistory → List ℕ → List ℕ → ℕ → Option Plc → Type 0
 IsIdle s h old new needed held = (new ≡ old) × (needed ≡ 0) × Holds held s h
 
 -- The command was answered, and its lines are written; or they are longer than the buffer, or memory was refused, and it
 -- hasn't happened.
-abbrev pub Obeys : Steered → CommandHistory → TimedCommand → List ℕ → List ℕ → ℕ → Option Debugger → Obeyed → Type 0
+abbrev pub Obeys : Steered → CommandHistory → TimedCommand → List ℕ → List ℕ → ℕ → Option Plc → Obeyed → Type 0
 Obeys s h timed old new needed held (Done answer) =
     (answer ≡ verdict s.plant s.table h timed.0 timed.1)
     × GivesText (told_lines s h timed) old new needed (pos 0) × Holds held s (after s.plant s.table h timed)
@@ -74,7 +74,7 @@ number_of Short = too_short
 number_of OutOfMemory = no_memory
 
 -- what comes of what the line asks
-abbrev pub Does : Steered → CommandHistory → Asked → List ℕ → List ℕ → ℕ → Option Debugger → ℤ → Type 0
+abbrev pub Does : Steered → CommandHistory → Asked → List ℕ → List ℕ → ℕ → Option Plc → ℤ → Type 0
 Does s h (Says command t) old new needed held result =
     (obeyed : Obeyed) × Obeys s h (command, t) old new needed held obeyed × (result ≡ number_of obeyed)
 Does s h Nothing old new needed held result = (result ≡ pos 0) × IsIdle s h old new needed held

@@ -9,6 +9,7 @@ ghost use Rattle.sfc_replay.specs.sfc_debug.Histories.{CommandHistory};
 ghost use Rattle.sfc_replay.specs.sfc_debug.Steered.{Steered};
 ghost use Rattle.sfc_c.specs.Codes as codes;
 ghost use Rattle.sfc_c.specs.Handles.{Answers, Follows, Holds, Replies};
+ghost use Rattle.sfc_c.specs.Resources.{slots_of};
 
 use crate::handle::Handle;
 use crate::number::value_of_number;
@@ -29,9 +30,10 @@ fn tell(alloc: Global, plc: &mut Handle, command: Command, t: i64, into: &mut Re
     ensures code { Answers plc.old.value command t result }
     ensures reply { Replies plc.old.value command t into.new }
     ensures kept { Follows plc.old.value plc.new.value command t }
+    ensures slots { slots_of plc.new.value ≡ slots_of plc.old.value }
     ensures closed { plc.old.value ≡ None → result ≡ codes.closed }
 {
-    match plc.change(alloc, |debugger| debugger.obey(Timed { command, raw: t })) {
+    match plc.change(alloc, |plc| plc.obey(Timed { command, raw: t })) {
         None => CLOSED,
         Some(answered) => {
             *into = telling(answered);
@@ -44,6 +46,7 @@ fn tell(alloc: Global, plc: &mut Handle, command: Command, t: i64, into: &mut Re
 fn order(alloc: Global, plc: &mut Handle, command: Command, t: i64) -> i32
     ensures code { Answers plc.old.value command t result }
     ensures kept { Follows plc.old.value plc.new.value command t }
+    ensures slots { slots_of plc.new.value ≡ slots_of plc.old.value }
     ensures closed { plc.old.value ≡ None → result ≡ codes.closed }
 {
     let mut into = NOTHING;
@@ -90,6 +93,7 @@ pub extern "C" fn sfc_scan(
     ensures code { Answers plc.old.value (commands.Scan (record { 0 = task })) t result }
     ensures reply { Replies plc.old.value (commands.Scan (record { 0 = task })) t into.new }
     ensures kept { Follows plc.old.value plc.new.value (commands.Scan (record { 0 = task })) t }
+    ensures slots { slots_of plc.new.value ≡ slots_of plc.old.value }
     ensures closed { plc.old.value ≡ None → result ≡ codes.closed }
 {
     tell(alloc, plc, Command::Scan(TaskId(task)), t, into)
@@ -108,6 +112,7 @@ pub extern "C" fn sfc_single(
     ensures code { Answers plc.old.value (commands.Single (record { 0 = task }) delta) t result }
     ensures reply { Replies plc.old.value (commands.Single (record { 0 = task }) delta) t into.new }
     ensures kept { Follows plc.old.value plc.new.value (commands.Single (record { 0 = task }) delta) t }
+    ensures slots { slots_of plc.new.value ≡ slots_of plc.old.value }
     ensures closed { plc.old.value ≡ None → result ≡ codes.closed }
 {
     tell(alloc, plc, Command::Single(TaskId(task), delta), t, into)
@@ -125,6 +130,7 @@ pub extern "C" fn sfc_input(alloc: Global, plc: &mut Handle, var: u16, value: i6
     ensures no_value { (s : Steered) (h : CommandHistory) → Holds plc.old.value s h →
         codes.value_of_number (codes.type_of s.plant (record { 0 = var })) value ≡ None →
         (result ≡ codes.no_value) × (plc.new.value ≡ plc.old.value) }
+    ensures slots { slots_of plc.new.value ≡ slots_of plc.old.value }
     ensures closed { plc.old.value ≡ None → result ≡ codes.closed }
 {
     match value_at(alloc, plc, VarId(var), value) {
@@ -145,6 +151,7 @@ pub extern "C" fn sfc_force(alloc: Global, plc: &mut Handle, var: u16, value: i6
     ensures no_value { (s : Steered) (h : CommandHistory) → Holds plc.old.value s h →
         codes.value_of_number (codes.type_of s.plant (record { 0 = var })) value ≡ None →
         (result ≡ codes.no_value) × (plc.new.value ≡ plc.old.value) }
+    ensures slots { slots_of plc.new.value ≡ slots_of plc.old.value }
     ensures closed { plc.old.value ≡ None → result ≡ codes.closed }
 {
     match value_at(alloc, plc, VarId(var), value) {
@@ -158,6 +165,7 @@ pub extern "C" fn sfc_force(alloc: Global, plc: &mut Handle, var: u16, value: i6
 pub extern "C" fn sfc_release(alloc: Global, plc: &mut Handle, var: u16, t: i64) -> i32
     ensures code { Answers plc.old.value (commands.Release (record { 0 = var })) t result }
     ensures kept { Follows plc.old.value plc.new.value (commands.Release (record { 0 = var })) t }
+    ensures slots { slots_of plc.new.value ≡ slots_of plc.old.value }
     ensures closed { plc.old.value ≡ None → result ≡ codes.closed }
 {
     order(alloc, plc, Command::Release(VarId(var)), t)
@@ -168,6 +176,7 @@ pub extern "C" fn sfc_release(alloc: Global, plc: &mut Handle, var: u16, t: i64)
 pub extern "C" fn sfc_reset(alloc: Global, plc: &mut Handle, program: u8, t: i64) -> i32
     ensures code { Answers plc.old.value (commands.Reset (record { 0 = program })) t result }
     ensures kept { Follows plc.old.value plc.new.value (commands.Reset (record { 0 = program })) t }
+    ensures slots { slots_of plc.new.value ≡ slots_of plc.old.value }
     ensures closed { plc.old.value ≡ None → result ≡ codes.closed }
 {
     order(alloc, plc, Command::Reset(ProgId(program)), t)
@@ -185,6 +194,7 @@ pub extern "C" fn sfc_read(
     ensures code { Answers plc.old.value (commands.Read (record { 0 = var })) t result }
     ensures reply { Replies plc.old.value (commands.Read (record { 0 = var })) t into.new }
     ensures kept { Follows plc.old.value plc.new.value (commands.Read (record { 0 = var })) t }
+    ensures slots { slots_of plc.new.value ≡ slots_of plc.old.value }
     ensures closed { plc.old.value ≡ None → result ≡ codes.closed }
 {
     tell(alloc, plc, Command::Read(VarId(var)), t, into)
@@ -207,6 +217,7 @@ pub extern "C" fn sfc_break(
     ensures kept { (point : PointData) → codes.point_of kind number ≡ Some point →
         Follows plc.old.value plc.new.value (codes.break_of (record { 0 = program }) point condition) t }
     ensures unknown { codes.point_of kind number ≡ None → (result ≡ codes.unknown) × (plc.new.value ≡ plc.old.value) }
+    ensures slots { slots_of plc.new.value ≡ slots_of plc.old.value }
     ensures closed { (point : PointData) → codes.point_of kind number ≡ Some point → plc.old.value ≡ None → result ≡ codes.closed }
 {
     match point_of(kind, number) {
@@ -230,6 +241,7 @@ pub extern "C" fn sfc_unbreak(
     ensures kept { (point : PointData) → codes.point_of kind number ≡ Some point →
         Follows plc.old.value plc.new.value (commands.Unbreak (record { 0 = program }) point) t }
     ensures unknown { codes.point_of kind number ≡ None → (result ≡ codes.unknown) × (plc.new.value ≡ plc.old.value) }
+    ensures slots { slots_of plc.new.value ≡ slots_of plc.old.value }
     ensures closed { (point : PointData) → codes.point_of kind number ≡ Some point → plc.old.value ≡ None → result ≡ codes.closed }
 {
     match point_of(kind, number) {
@@ -243,6 +255,7 @@ pub extern "C" fn sfc_unbreak(
 pub extern "C" fn sfc_stop(alloc: Global, plc: &mut Handle, t: i64) -> i32
     ensures code { Answers plc.old.value commands.Stop t result }
     ensures kept { Follows plc.old.value plc.new.value commands.Stop t }
+    ensures slots { slots_of plc.new.value ≡ slots_of plc.old.value }
     ensures closed { plc.old.value ≡ None → result ≡ codes.closed }
 {
     order(alloc, plc, Command::Stop, t)
@@ -253,6 +266,7 @@ pub extern "C" fn sfc_stop(alloc: Global, plc: &mut Handle, t: i64) -> i32
 pub extern "C" fn sfc_go(alloc: Global, plc: &mut Handle, t: i64) -> i32
     ensures code { Answers plc.old.value commands.Go t result }
     ensures kept { Follows plc.old.value plc.new.value commands.Go t }
+    ensures slots { slots_of plc.new.value ≡ slots_of plc.old.value }
     ensures closed { plc.old.value ≡ None → result ≡ codes.closed }
 {
     order(alloc, plc, Command::Go, t)
@@ -263,6 +277,7 @@ pub extern "C" fn sfc_go(alloc: Global, plc: &mut Handle, t: i64) -> i32
 pub extern "C" fn sfc_end(alloc: Global, plc: &mut Handle, t: i64) -> i32
     ensures code { Answers plc.old.value commands.End t result }
     ensures kept { Follows plc.old.value plc.new.value commands.End t }
+    ensures slots { slots_of plc.new.value ≡ slots_of plc.old.value }
     ensures closed { plc.old.value ≡ None → result ≡ codes.closed }
 {
     order(alloc, plc, Command::End, t)

@@ -75,9 +75,9 @@ pub extern "C" fn sfc_image(alloc: Global, plc: &mut Handle, into: &mut [Variabl
 {
     match plc.take(alloc) {
         None => CLOSED,
-        Some(debugger) => {
-            let code = image_in(&debugger, into);
-            plc.put(debugger, alloc);
+        Some(held) => {
+            let code = image_in(held.debugger(), into);
+            plc.put(held, alloc);
             code
         }
     }

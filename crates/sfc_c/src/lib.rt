@@ -7,10 +7,19 @@
 //! - `finding`: numbers by names; `locating`: variables by locations; `naming`: counts and names; `kind`: what has a name.
 //! - `reading`: what is read without a command; `showing`: steps, transitions and actions; `image`: all variables; `tasks`: tasks.
 //! - `explaining`: what numbers mean.
-//! - `handle`: a debugger on the heap, as one word that C keeps; `loose`: a box as its pointer.
+//! - `about`: what a variable is, and where it lies.
+//! - `next`: the scan that comes next; `advancing`: scans up to an instant, `advanced`: what is told of them; `scanning`: how they are made.
+//! - `saving`: what a resource leaves, saved and gone back to.
+//! - `waiting`: breakpoints with conditions that are read then.
+//! - `why`: why a chart is refused, as text and as fields.
+//! - `version`: the version.
+//! - `handle`: a resource on the heap, as one word that C keeps; `loose`: a box as its pointer; `plc`: a resource; `saved`: what it leaves.
 //! - `number`, `status`, `giving`: what C reads of values and calls, and texts for a caller's buffer.
 #![tactic(auto)]
 
+pub mod about;
+pub mod advanced;
+pub mod advancing;
 mod asked;
 pub mod commands;
 pub mod explaining;
@@ -24,17 +33,25 @@ pub mod life;
 mod locating;
 mod loose;
 pub mod naming;
+pub mod next;
 mod number;
 mod obeying;
 mod opening;
+pub mod plc;
 mod point;
 pub mod reading;
 pub mod reply;
 mod same;
+pub mod saved;
+pub mod saving;
+mod scanning;
 pub mod scripting;
 pub mod showing;
 mod status;
 pub mod tasks;
+pub mod version;
+pub mod waiting;
+pub mod why;
 
 // What lies deeper, under a name of this crate.
 use sfc_core::sfc_instances::sfc_instance;

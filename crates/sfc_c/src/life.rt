@@ -8,6 +8,7 @@ ghost use Rattle.sfc_c.specs.declared.fault.Fault.{Fault as FaultData};
 ghost use Rattle.sfc_c.specs.Faults as faults;
 ghost use Rattle.sfc_c.specs.Faults.{Finds, Refuses, RefusesBoth, SaysConditions};
 ghost use Rattle.sfc_c.specs.Handles.{Holds, without_conditions};
+ghost use Rattle.sfc_c.specs.Resources.{slots_of};
 
 use crate::fault::{TextFault, number_found, told_fault};
 use crate::handle::Handle;
@@ -20,6 +21,7 @@ use std::alloc::Global;
 pub extern "C" fn sfc_open(alloc: Global, text: &[u8], plc: &mut Handle) -> i32
     ensures opened { result ≡ pos 0 →
         (plant : PlantData) × IsAccepted text.now plant × Holds plc.new.value (without_conditions plant) [] }
+    ensures slots { result ≡ pos 0 → slots_of plc.new.value ≡ [] }
     ensures refused { (result ≡ pos 0 → ⊥) → plc.new.value ≡ plc.old.value }
     ensures fault { (result ≡ pos 0 → ⊥) → (fault : FaultData) × Refuses text.now fault × (result ≡ faults.number_of fault) }
 {
@@ -38,6 +40,7 @@ pub extern "C" fn sfc_open(alloc: Global, text: &[u8], plc: &mut Handle) -> i32
 pub extern "C" fn sfc_open_with(alloc: Global, text: &[u8], script: &[u8], plc: &mut Handle) -> i32
     ensures opened { result ≡ pos 0 → (s : Steered) × IsAccepted text.now s.plant
         × SaysConditions s.plant script.now (Ok s.table) × Holds plc.new.value s [] }
+    ensures slots { result ≡ pos 0 → slots_of plc.new.value ≡ [] }
     ensures refused { (result ≡ pos 0 → ⊥) → plc.new.value ≡ plc.old.value }
     ensures fault { (result ≡ pos 0 → ⊥) →
         (fault : FaultData) × RefusesBoth text.now script.now fault × (result ≡ faults.number_of fault) }

@@ -1,21 +1,17 @@
 //! Lines of scripts, obeyed.
 
-ghost use Rattle.std.specs.Prelude.{◌≡◌, ◌++◌, Some, OnOk, IfOk, IfSome};
-ghost use Rattle.sfc_replay.specs.sfc_debug.Agreement.{Agrees, plant_of, table_of};
+ghost use Rattle.std.specs.Prelude.{◌≡◌, ◌++◌, Some, OnOk, IfOk};
 ghost use Rattle.sfc_replay.specs.sfc_debug.Histories.{CommandHistory};
-ghost use Rattle.sfc_replay.specs.sfc_debug.Openings.{IsOpeningFor, past_of};
-ghost use Rattle.sfc_replay.specs.sfc_debug.Past.{debug_past};
 ghost use Rattle.sfc_replay.specs.sfc_debug.Verdict.{after, verdict};
-ghost use Rattle.sfc_replay.specs.sfc_debug.Steered.{steered_by};
 ghost use Rattle.sfc_c.specs.declared.asked.Asked.{Asked as AskedData};
 ghost use Rattle.sfc_c.specs.Lines as lines;
 ghost use Rattle.sfc_c.specs.Lines.{Obeys, told_lines};
+ghost use Rattle.sfc_c.specs.Resources.{Stands, slots_in, steered_in};
 
 use crate::asked::{Asked, asked_by};
 use crate::giving::give;
+use crate::plc::Plc;
 use crate::reply::code;
-use crate::sfc_debug::debugger::Debugger;
-use crate::sfc_debug::opening::DebugOpening;
 use crate::sfc_debug::timed::Timed;
 use crate::sfc_output::answer::append_answer;
 use crate::status::{NO_LINE, NO_MEMORY, TOO_SHORT, UNKNOWN};
@@ -37,62 +33,48 @@ pub enum Obeyed {
 // One command, and its lines.
 fn obey_and_tell(
     alloc: Global,
-    debugger: &mut Debugger,
+    plc: &mut Plc,
     timed: Timed,
     out: &mut Vec<u8>,
 ) -> Result<Result<Answer, Refusal>, AllocError>
-    ensures plant { plant_of debugger.new ≡ plant_of debugger.old }
-    ensures table { table_of debugger.new ≡ table_of debugger.old }
-    ensures answer { (h : CommandHistory) → Agrees debugger.old h →
-        IfOk result (λ answer. answer ≡ verdict (plant_of debugger.old) (table_of debugger.old) h timed.0 timed.1) }
-    ensures agrees { (h : CommandHistory) → Agrees debugger.old h →
-        Agrees debugger.new (after (plant_of debugger.old) (table_of debugger.old) h timed) }
-    ensures lines { (h : CommandHistory) → Agrees debugger.old h →
-        OnOk result (out.new.items ≡ out.old.items ++ told_lines (steered_by debugger.old) h timed) }
+    ensures steered { steered_in plc.new ≡ steered_in plc.old }
+    ensures slots { slots_in plc.new ≡ slots_in plc.old }
+    ensures answer { (h : CommandHistory) → Stands plc.old h →
+        IfOk result (λ answer. answer ≡ verdict (steered_in plc.old).plant (steered_in plc.old).table h timed.0 timed.1) }
+    ensures stands { (h : CommandHistory) → Stands plc.old h →
+        Stands plc.new (after (steered_in plc.old).plant (steered_in plc.old).table h timed) }
+    ensures lines { (h : CommandHistory) → Stands plc.old h →
+        OnOk result (out.new.items ≡ out.old.items ++ told_lines (steered_in plc.old) h timed) }
 {
-    let answer = debugger.obey(timed);
-    append_answer(alloc, out, debugger, timed.command, answer)?;
+    let answer = plc.obey(timed);
+    append_answer(alloc, out, plc.debugger(), timed.command, answer)?;
     Ok(answer)
-}
-
-// What the debugger keeps of its commands; None where memory was refused.
-fn saved(alloc: Global, debugger: &Debugger) -> Option<DebugOpening>
-    ensures sizes { IfSome result (λ opening. IsOpeningFor (plant_of debugger.now) opening) }
-    ensures saved { IfSome result (λ opening. (h : CommandHistory) → Agrees debugger.now h →
-        past_of (plant_of debugger.now) opening ≡ debug_past (plant_of debugger.now) (table_of debugger.now) h) }
-{
-    match DebugOpening::new(alloc, debugger) {
-        Ok(mut opening) => {
-            debugger.save(&mut opening);
-            Some(opening)
-        }
-        Err(_) => None,
-    }
 }
 
 // The command, and its lines to the buffer; it happens only where they are written.
 fn obey_into(
     alloc: Global,
-    debugger: &mut Debugger,
+    plc: &mut Plc,
     timed: Timed,
     into: &mut [u8],
     needed: &mut usize,
 ) -> Obeyed
-    ensures steered { steered_by debugger.new ≡ steered_by debugger.old }
-    ensures obeyed { (h : CommandHistory) → Agrees debugger.old h →
-        Obeys (steered_by debugger.old) h timed into.old into.new needed.new (Some debugger.new) result }
+    ensures steered { steered_in plc.new ≡ steered_in plc.old }
+    ensures slots { slots_in plc.new ≡ slots_in plc.old }
+    ensures obeyed { (h : CommandHistory) → Stands plc.old h →
+        Obeys (steered_in plc.old) h timed into.old into.new needed.new (Some plc.new) result }
 {
     *needed = 0;
-    let Some(opening) = saved(alloc, debugger) else {
+    let Ok(saved) = plc.keep(alloc) else {
         return Obeyed::OutOfMemory;
     };
     let mut out = Vec::new(alloc);
-    let Ok(answer) = obey_and_tell(alloc, debugger, timed, &mut out) else {
-        debugger.restore(&opening);
+    let Ok(answer) = obey_and_tell(alloc, plc, timed, &mut out) else {
+        plc.go_back(&saved);
         return Obeyed::OutOfMemory;
     };
     if give(out.as_slice(), into, needed) != 0 {
-        debugger.restore(&opening);
+        plc.go_back(&saved);
         return Obeyed::Short;
     }
     Obeyed::Done(answer)
@@ -109,24 +91,32 @@ fn number_of(obeyed: Obeyed) -> i32
     }
 }
 
+// What a line asks of a resource.
+fn asked_of(alloc: Global, plc: &Plc, line: &[u8]) -> Asked
+    ensures { lines.Asks (steered_in plc.now) line.now result }
+{
+    asked_by(alloc, plc.debugger(), line)
+}
+
 /// What a line asks is done, and its lines are written to the buffer: the code.
 pub fn obey_line(
     alloc: Global,
-    debugger: &mut Debugger,
+    plc: &mut Plc,
     line: &[u8],
     into: &mut [u8],
     needed: &mut usize,
 ) -> i32
-    ensures steered { steered_by debugger.new ≡ steered_by debugger.old }
-    ensures does { (h : CommandHistory) → Agrees debugger.old h → (asked : AskedData) × lines.Asks (steered_by debugger.old) line.now asked
-        × lines.Does (steered_by debugger.old) h asked into.old into.new needed.new (Some debugger.new) result }
+    ensures steered { steered_in plc.new ≡ steered_in plc.old }
+    ensures slots { slots_in plc.new ≡ slots_in plc.old }
+    ensures does { (h : CommandHistory) → Stands plc.old h → (asked : AskedData) × lines.Asks (steered_in plc.old) line.now asked
+        × lines.Does (steered_in plc.old) h asked into.old into.new needed.new (Some plc.new) result }
 {
     *needed = 0;
-    match asked_by(alloc, debugger, line) {
+    match asked_of(alloc, plc, line) {
         Asked::Nothing => 0,
         Asked::Says(command, t) => {
             let timed = Timed { command, raw: t };
-            number_of(obey_into(alloc, debugger, timed, into, needed))
+            number_of(obey_into(alloc, plc, timed, into, needed))
         }
         Asked::NoLine => NO_LINE,
         Asked::NoCondition => UNKNOWN,

@@ -2,12 +2,13 @@
 
 ghost use Rattle.std.specs.Prelude.{◌≡◌, [], IfOk, IfErr, Ok};
 ghost use Rattle.sfc_replay.specs.sfc_debug.Agreement.{Agrees};
-ghost use Rattle.sfc_replay.specs.sfc_debug.Steered.{steered_by};
 ghost use Rattle.sfc_replay.specs.sfc_load.Accepted.{IsAccepted};
 ghost use Rattle.sfc_c.specs.Faults as faults;
+ghost use Rattle.sfc_c.specs.Resources.{Stands, debugger_in, slots_in, steered_in};
 ghost use Rattle.sfc_c.specs.Faults.{Finds, Refuses, RefusesBoth, SaysConditions};
 
 use crate::fault::Fault;
+use crate::plc::Plc;
 use crate::sfc_debug::debugger::Debugger;
 use crate::sfc_debug::trace_mask::TraceMask;
 use sfc_replay::chart::plant_of_text;
@@ -38,23 +39,26 @@ pub fn fault_of(alloc: Global, text: &[u8]) -> Option<Fault>
     }
 }
 
-// The debugger on the heap.
-fn boxed(alloc: Global, debugger: Debugger) -> Result<Box<Debugger>, Fault>
-    ensures same { IfOk result (λ made. made.value ≡ debugger) }
+// A resource with this debugger, on the heap.
+fn boxed(alloc: Global, debugger: Debugger) -> Result<Box<Plc>, Fault>
+    ensures debugger { IfOk result (λ made. debugger_in made.value ≡ debugger) }
+    ensures stands { Agrees debugger [] → IfOk result (λ made. Stands made.value []) }
+    ensures slots { IfOk result (λ made. slots_in made.value ≡ []) }
     ensures fault { IfErr result (λ fault. fault ≡ faults.out_of_memory) }
 {
-    match Box::new(alloc, debugger) {
+    match Box::new(alloc, Plc::new(alloc, debugger)) {
         Ok(made) => Ok(made),
         Err(_) => Err(Fault::Memory),
     }
 }
 
-/// A debugger that runs the plant that the text is, without conditions; or the text's first fault.
+/// A resource that runs the plant that the text is, without conditions; or the text's first fault.
 #[tactic(auto, using(crate::proofs::Refused::refused))]
-pub fn open(alloc: Global, text: &[u8]) -> Result<Box<Debugger>, Fault>
-    ensures opened { IfOk result (λ made. IsAccepted text.now (steered_by made.value).plant) }
-    ensures table { IfOk result (λ made. (steered_by made.value).table ≡ []) }
-    ensures agrees { IfOk result (λ made. Agrees made.value []) }
+pub fn open(alloc: Global, text: &[u8]) -> Result<Box<Plc>, Fault>
+    ensures opened { IfOk result (λ made. IsAccepted text.now (steered_in made.value).plant) }
+    ensures table { IfOk result (λ made. (steered_in made.value).table ≡ []) }
+    ensures stands { IfOk result (λ made. Stands made.value []) }
+    ensures slots { IfOk result (λ made. slots_in made.value ≡ []) }
     ensures fault { IfErr result (λ fault. Refuses text.now fault) }
 {
     match debugger_of_text(alloc, text, 1, TraceMask(0)) {
@@ -66,10 +70,11 @@ pub fn open(alloc: Global, text: &[u8]) -> Result<Box<Debugger>, Fault>
 /// The same with the conditions that stand behind WHEN in a script, in the order of its lines; or the text's first fault, or Line where
 /// the script has a line that is no command.
 #[tactic(auto, using(crate::proofs::Refused::both_refused))]
-pub fn open_with(alloc: Global, text: &[u8], script: &[u8]) -> Result<Box<Debugger>, Fault>
-    ensures opened { IfOk result (λ made. IsAccepted text.now (steered_by made.value).plant) }
-    ensures table { IfOk result (λ made. SaysConditions (steered_by made.value).plant script.now (Ok (steered_by made.value).table)) }
-    ensures agrees { IfOk result (λ made. Agrees made.value []) }
+pub fn open_with(alloc: Global, text: &[u8], script: &[u8]) -> Result<Box<Plc>, Fault>
+    ensures opened { IfOk result (λ made. IsAccepted text.now (steered_in made.value).plant) }
+    ensures table { IfOk result (λ made. SaysConditions (steered_in made.value).plant script.now (Ok (steered_in made.value).table)) }
+    ensures stands { IfOk result (λ made. Stands made.value []) }
+    ensures slots { IfOk result (λ made. slots_in made.value ≡ []) }
     ensures fault { IfErr result (λ fault. RefusesBoth text.now script.now fault) }
 {
     match open_both(alloc, text, script) {

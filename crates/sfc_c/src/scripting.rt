@@ -10,6 +10,7 @@ ghost use Rattle.sfc_c.specs.declared.asked.Asked.{Asked as AskedData};
 ghost use Rattle.sfc_c.specs.Codes as codes;
 ghost use Rattle.sfc_c.specs.Handles.{Holds, events_of};
 ghost use Rattle.sfc_c.specs.Lines as lines;
+ghost use Rattle.sfc_c.specs.Resources.{slots_of};
 ghost use Rattle.sfc_c.specs.Texts.{GivesOr, IsNone, Tells};
 
 use crate::giving::give_or;
@@ -36,6 +37,7 @@ pub extern "C" fn sfc_command(
 ) -> i32
     ensures does { (s : Steered) (h : CommandHistory) → Holds plc.old.value s h → (asked : AskedData) × lines.Asks s line.now asked
         × lines.Does s h asked into.old into.new needed.new plc.new.value result }
+    ensures slots { slots_of plc.new.value ≡ slots_of plc.old.value }
     ensures closed { plc.old.value ≡ None → IsNone codes.closed into.old into.new needed.new result }
 {
     match plc.take(alloc) {
@@ -43,9 +45,9 @@ pub extern "C" fn sfc_command(
             *needed = 0;
             CLOSED
         }
-        Some(mut debugger) => {
-            let code = obey_line(alloc, &mut debugger, line, into, needed);
-            plc.put(debugger, alloc);
+        Some(mut held) => {
+            let code = obey_line(alloc, &mut held, line, into, needed);
+            plc.put(held, alloc);
             code
         }
     }

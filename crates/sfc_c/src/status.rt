@@ -17,3 +17,6 @@ pub const NO_LINE: i32 = -5;
 
 /// The caller's array is too short, and nothing was done.
 pub const TOO_SHORT: i32 = -6;
+
+/// The text is no condition of the program instance, and nothing was done.
+pub const NO_EXPRESSION: i32 = -7;

@@ -24,6 +24,8 @@ impl Archive for NoArchive {
     fn keep(&mut self, _name: &str, _script: &[u8], _may_replace: bool) -> Kept {
         Kept::Failed
     }
+
+    fn record(&mut self, _script: &[u8]) {}
 }
 
 // A prompt at which nothing was said, on the plant that a chart is.

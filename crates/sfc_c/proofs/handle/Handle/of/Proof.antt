@@ -22,7 +22,7 @@ use Rattle.std.specs.contracts.alloc.Global as heap_type
 use Rattle.std.proofs.alloc.Global.TheLaws as heap_laws
 use Rattle.std.specs.contracts.impls.GlobalAllocator.TheImpl.{ghosts}
 use Rattle.std.proofs.raw_atomic.Walks.{proved_at, leaves}
-use Rattle.sfc_replay.specs.sfc_debug.contracts.debugger.Debugger.{the_row}
+use Rattle.sfc_c.specs.contracts.plc.Plc.{the_row}
 use Rattle.sfc_c.proofs.Values.{both, Loose, loose_good, loose_out}
 use Rattle.sfc_c.proofs.Handles.{word, handle_in}
 use Rattle.sfc_c.specs.contracts.handle.Handle.of as f
