@@ -26,6 +26,8 @@ impl Archive for Scripts<'_> {
             Err(_) => Kept::Failed,
         }
     }
+
+    fn record(&mut self, _script: &[u8]) {}
 }
 
 /// How a session on a chart ends that has these lines. Behind what it writes stand the scripts that it saves.

@@ -9,13 +9,14 @@ use std::alloc::AllocError;
 const ALL: &[u8] = b"\
 A line is a command of a script, with an instant in front or without one, or one of the prompt's own words.
   SCAN [task]                        scans a task at its next release, or the task that goes first
-  SINGLE task duration               scans a task of a halted resource
+  SINGLE task [duration]             scans a task of a halted resource
   INPUT, FORCE variable value        gives a value
   RELEASE, READ variable             ends a force, reads a value
   BREAK program point [WHEN condition], UNBREAK program point
   STOP, GO, RESET program, EPOCH, END
   UNTIL [IN program] condition       scans until it is TRUE
   AGAIN [n]                          the last step again; an empty line does it once
+  ALL UNTIL .., ALL AGAIN ..         the same, and each scan is shown
   SHOW, IMAGE [variable], POINTS, TRACE [n], LIST [name]
   WHY [program [transition]]         why transitions aren't cleared
   EXPLAIN number or name             what a refusal or a fault means
@@ -30,7 +31,7 @@ struct Topic {
     text: &'static [u8],
 }
 
-const TOPICS: [Topic; 25] = [
+const TOPICS: [Topic; 26] = [
     Topic {
         word: b"SCAN",
         text: b"\
@@ -97,6 +98,7 @@ GO: lets a halted resource run on.
         word: b"SINGLE",
         text: b"\
 SINGLE task duration: scans the task of a halted resource, due or not, after so much of the resource's time. It stays halted.
+SINGLE task: the same after one INTERVAL of the task, where it has one.
 ",
     },
     Topic {
@@ -116,14 +118,22 @@ END: no command behind it is accepted. QUIT ends the session.
         text: b"\
 UNTIL condition, UNTIL IN program condition: scans as SCAN does until the condition is TRUE, at most 100,000 times. It stands in the program
 instance, as that of a transition; IN may be left out where there is one instance. A scan that is refused, hits a breakpoint or ends with a
-fault ends it before.
+fault ends it before. Shown are scans in which a program changed, and the last one; ALL UNTIL .. shows each.
 ",
     },
     Topic {
         word: b"AGAIN",
         text: b"\
 AGAIN, AGAIN n: the last SCAN or SINGLE again, once or n times, at most 100,000. A scan that is refused, hits a breakpoint or ends with a
-fault ends it before. An empty line does it once.
+fault ends it before. An empty line does it once. Of several scans those are shown in which a program changed, and the last one; ALL AGAIN n
+shows each.
+",
+    },
+    Topic {
+        word: b"ALL",
+        text: b"\
+ALL UNTIL .., ALL AGAIN n: as UNTIL and AGAIN, and each scan is shown, also where no program has other active steps, cleared a transition or
+executes other actions.
 ",
     },
     Topic {
@@ -172,8 +182,8 @@ EXPLAIN number, EXPLAIN name: what a refusal or a fault means.
     Topic {
         word: b"SAVE",
         text: b"\
-SAVE file: writes the accepted commands with their instants: a script of which replay writes the lines that were written here. A file
-that is there and wasn't saved here stays as it is; SAVE file! replaces it.
+SAVE file: writes the accepted commands with their instants: a script of which replay writes the lines that were written here, and those of
+scans that weren't shown. A file that is there and wasn't saved here stays as it is; SAVE file! replaces it.
 ",
     },
     Topic {

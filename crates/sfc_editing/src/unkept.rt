@@ -10,4 +10,6 @@ impl Archive for Unkept {
     fn keep(&mut self, _name: &str, _script: &[u8], _may_replace: bool) -> Kept {
         Kept::Failed
     }
+
+    fn record(&mut self, _script: &[u8]) {}
 }

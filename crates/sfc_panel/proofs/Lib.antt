@@ -2,3 +2,5 @@
 pub mod Sets
 -- what follows from what holds where there is a value
 pub mod Follow
+-- shots of the first programs, and one more
+pub mod Shots

@@ -45,3 +45,19 @@ alike_where xs ys n one other b ex ey shown told same =
           shown s under ∙ alike_at one other n s all under ∙ sym (told s under)),
       λ e. alike_from one other n (λ s lt. sym (shown s lt) ∙ ap (λ (zs : List Bool). flag zs s) e ∙ told s lt),
     )
+
+-- ---- three at once
+
+pub first_apart : (b x y z : Bool) → b ≡ x → b ≡ false → b ≡ (x && (y && z))
+first_apart b true y z is e = absurd (let bad : true ≡ false = sym is ∙ e in cc)
+first_apart b false y z is e = is
+
+pub second_apart : (b x y z : Bool) → x ≡ true → b ≡ y → b ≡ false → b ≡ (x && (y && z))
+second_apart b true true z e is f = absurd (let bad : true ≡ false = sym is ∙ f in cc)
+second_apart b true false z e is f = is
+second_apart b false y z e is f = absurd (let bad : false ≡ true = e in cc)
+
+pub third_left : (b x y z : Bool) → x ≡ true → y ≡ true → b ≡ z → b ≡ (x && (y && z))
+third_left b true true z e f is = is
+third_left b true false z e f is = absurd (let bad : false ≡ true = f in cc)
+third_left b false y z e f is = absurd (let bad : false ≡ true = e in cc)

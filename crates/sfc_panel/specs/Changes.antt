@@ -1,11 +1,9 @@
 -- What of a loaded chart is shown where it changes (our choice of format).
-use Rattle.std.specs.Prelude.{ℕ, ◌≡◌, zero, suc, ◌<◌, nat_lt, nat_eq, Bool, true, false, ◌&&◌, if◌then◌else◌, List, [], ◌∷◌, ◌++◌, codes, flat_map, length}
-use Rattle.std.specs.Prelude.{Option, None, Some}
+use Rattle.std.specs.Prelude.{ℕ, ◌≡◌, zero, suc, nat_lt, nat_eq, Bool, true, false, ◌&&◌, if◌then◌else◌, List, [], ◌∷◌, ◌++◌, codes, length}
+use Rattle.std.specs.Prelude.{Option, None, Some, is_none}
 use Rattle.std.specs.Bool.{beq}
 use Rattle.std.specs.Cmp.Lexicographic.{pointwise}
-use Rattle.sfc_base.specs.declared.ids.ProgId.{ProgId}
 use Rattle.sfc_base.specs.declared.ids.VarId.{VarId}
-use Rattle.sfc_base.specs.declared.value.Value.{Value}
 use Rattle.sfc_events.specs.InstanceSets.{has}
 use Rattle.sfc_events.specs.declared.command.Answer.{Answer}
 use Rattle.sfc_events.specs.declared.command.Answer.TheVariants.{Scanned}
@@ -67,6 +65,11 @@ line_of plant new k (Some scan_end) = program_line plant (record { 0 = k }) (new
 -- its line as a replay writes it, where it is shown
 abbrev pub program_change : PlantData → PlantState → PlantState → Answer → ℕ → List ℕ
 program_change plant old new answer k = line_of plant new k (shown_end plant old new answer k)
+
+-- of none of the first n programs a line is shown
+abbrev pub shows_none : PlantData → PlantState → PlantState → Answer → ℕ → Bool
+shows_none plant old new answer zero = true
+shows_none plant old new answer (suc n) = shows_none plant old new answer n && is_none (shown_end plant old new answer n)
 
 -- the lines of the first n programs that are shown
 abbrev pub program_changes : PlantData → PlantState → PlantState → Answer → ℕ → List ℕ

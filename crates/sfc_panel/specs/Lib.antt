@@ -4,3 +4,5 @@
 pub mod Changes
 -- which variables are shown
 pub mod Watched
+-- programs as they stood
+pub mod Pictures

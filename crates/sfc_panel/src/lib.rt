@@ -2,11 +2,13 @@
 //!
 //! - `alike`: whether a program stands as another one.
 //! - `panel`: what is shown, and the lines of what has changed.
+//! - `picture`: programs as they stood.
 //! - `watched`: which variables are shown.
 #![tactic(auto)]
 
 mod alike;
 pub mod panel;
+pub mod picture;
 pub mod watched;
 
 // What lies deeper, under a name of this crate.

@@ -1,7 +1,6 @@
 -- Bytes that have come and wait, line by line.
-use Rattle.std.proofs.Common.{◌≡◌, ◌∙◌, refl, sym, ap, subst, ℕ, suc, ◌+◌, ◌-◌, ◌<◌, ◌≤◌, ◌==◌, nat_lt, arith, Bool, true, false, if◌then◌else◌, List, [], ◌∷◌, ◌++◌, length, drop, append_assoc, Option, Some, None}
-use Rattle.std.proofs.lemmas.Bool.Decides.{nat_tests}
-use Rattle.std.proofs.lemmas.List.{append-nil, length-append}
+use Rattle.std.proofs.Common.{◌≡◌, ◌∙◌, refl, sym, ap, ℕ, ◌+◌, ◌≤◌, ◌==◌, arith, Bool, true, false, if◌then◌else◌, List, [], ◌∷◌, ◌++◌, length, Some, None}
+use Rattle.std.proofs.lemmas.List.{length-append}
 use Rattle.sfc_asking.specs.sfc_script.Arriving.{ended_by, ended_line, is_lf, without_cr}
 use Rattle.sfc_asking.specs.sfc_script.Lines.{lines_of, split_before}
 use Rattle.sfc_asking.proofs.of_sfc_script.Splits.{last_line, split_more, split_stop}

@@ -28,17 +28,19 @@ module _ (st : Steered) (h : CommandHistory) (condition : BreakCondition) where
 
 -- what is under way, where the text was read so
 pub begins : (plant : PlantData) (text : List ℕ) (p : ProgId) (condition : List ℕ) (read : Option (List BreakCondition)) (wanted : Wanted)
-    (old : Option Course) → asked plant text ≡ Some (p, condition) → ConditionReads plant 0 p condition read
-    → until_by read old ≡ wanted_course wanted old → BeginsUntil plant (asked plant text) old (wanted_course wanted old)
-begins plant text p condition read wanted old is reads same =
-    subst (λ (o : Option (ProgId × List ℕ)). BeginsUntil plant o old (wanted_course wanted old)) (sym is) (read, reads, sym same)
+    (old : Option Course) (all : Bool) → asked plant text ≡ Some (p, condition) → ConditionReads plant 0 p condition read
+    → until_by read all old ≡ wanted_course wanted all old → BeginsUntil plant (asked plant text) all old (wanted_course wanted all old)
+begins plant text p condition read wanted old all is reads same =
+    subst (λ (o : Option (ProgId × List ℕ)). BeginsUntil plant o all old (wanted_course wanted all old)) (sym is) (read, reads, sym same)
 
 -- the same over an equal plant
-pub wanted_there : (p q : PlantData) (text : List ℕ) (wanted other : Wanted) (old new : Option Course) → p ≡ q → wanted ≡ other
-    → wanted_course other old ≡ new → BeginsUntil p (asked p text) old (wanted_course wanted old) → BeginsUntil q (asked q text) old new
-wanted_there p q text wanted other old new same is gives begins =
-    subst (λ (plant : PlantData). BeginsUntil plant (asked plant text) old new) same
-    (subst (λ (course : Option Course). BeginsUntil p (asked p text) old course) (ap (λ (w : Wanted). wanted_course w old) is ∙ gives) begins)
+pub wanted_there : (p q : PlantData) (text : List ℕ) (wanted other : Wanted) (all : Bool) (old new : Option Course) → p ≡ q → wanted ≡ other
+    → wanted_course other all old ≡ new → BeginsUntil p (asked p text) all old (wanted_course wanted all old)
+    → BeginsUntil q (asked q text) all old new
+wanted_there p q text wanted other all old new same is gives begins =
+    subst (λ (plant : PlantData). BeginsUntil plant (asked plant text) all old new) same
+    (subst (λ (course : Option Course). BeginsUntil p (asked p text) all old course) (ap (λ (w : Wanted). wanted_course w all old) is ∙ gives)
+    begins)
 
 pub whatever : {X E : Type 0} (result : Result X E) (P : Type 0) → P → OnOk result P
 whatever (Ok x) P has = has

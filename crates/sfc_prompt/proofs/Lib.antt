@@ -7,6 +7,8 @@ pub mod Texts
 pub mod Ordering
 -- what a session writes, piece by piece
 pub mod Telling
+-- steps of which nothing is shown
+pub mod Hiding
 -- what a session has written since its opening
 pub mod Transcripts
 -- a session whose answers are written one after the other

@@ -1,5 +1,5 @@
 -- What the line of a script says that a session writes for an order.
-use Rattle.std.proofs.Common.{◌≡◌, ◌∙◌, refl, sym, ap, subst, ℕ, zero, suc, ◌<◌, ◌≤◌, ◌^◌, nat_lt, cond, arith, Bool, true, false, List, [], ◌∷◌, ◌++◌, append_assoc, length, codes, ℤ, Option, Some, None, Ok, Err, rules}
+use Rattle.std.proofs.Common.{◌≡◌, ◌∙◌, refl, sym, ap, subst, ℕ, zero, suc, ◌<◌, ◌≤◌, nat_lt, cond, arith, Bool, true, false, List, [], ◌∷◌, ◌++◌, append_assoc, length, codes, ℤ, Option, Some, None, Ok, Err, rules}
 use Rattle.std.specs.Option.{option_and_then, option_map}
 use Rattle.std.specs.Prelude.{IsOk, if◌then◌else◌, is_none, slice_get, unsigned_abs, unwrap_or, ⊤}
 use Rattle.std.proofs.lemmas.Bool.Decides.{nat_tests}
@@ -44,7 +44,7 @@ use Rattle.sfc_asking.specs.sfc_output.Output.{Verdict, debugger_of}
 use Rattle.sfc_session.specs.declared.step.Step.{Step}
 use Rattle.sfc_session.specs.declared.step.Step.TheVariants as steps
 use Rattle.sfc_prompt.specs.Lines.{Said, Nothing, Remark, Says, Asks}
-use Rattle.sfc_prompt.specs.Orders.{Order, Gives, Waits, Shows, command_order, free_scan, is_scan_alone, order_by, order_of, takes}
+use Rattle.sfc_prompt.specs.Orders.{Order, Gives, Waits, Shows, command_order, free_scan, order_by, order_of, other_step, step_order}
 use Rattle.sfc_prompt.specs.Pieces.{AreNamed, IsNamed, IsSaid, line_text}
 use Rattle.sfc_session.specs.Scanning.{first_scan_after, scan_after, step_after}
 use Rattle.sfc_session.specs.Sessions.{last_instant, waiting, waiting_verdict, with_one_more, words_of}
@@ -313,7 +313,15 @@ never_there st h conditional raw reads ok =
     unknown st.plant conditional.place.program conditional.text reads
     (program_there st.plant st.table h raw conditional.place.program conditional.place.point (record { 0 = 0 }) ok)
 
-module _ (st : Steered) (h : CommandHistory) (instant : Option ℤ) (text : List ℕ) (one : is_one_line text ≡ true) where
+pub step_says : (st : Steered) (h : CommandHistory) → IsAccepted st.plant st.table h → (step : Step) → AreNamed st.plant
+    → IsOk ((debugger_of st).verdict h (step_after st h step))
+    → IsSaid st.plant (length st.table) (step_after st h step) [] (words_of st (step_after st h step).0)
+step_says st h accepted steps.First named ok = scan_said st h (first_scan_after st h).1 named (task_first st h) ok
+step_says st h accepted (steps.Task task) named ok = scan_said st h (scan_after st h task).1 named task ok
+step_says st h accepted (steps.Single task micros) named ok = single_said st h (last_instant h) named accepted task micros ok
+
+module _ (st : Steered) (h : CommandHistory) (accepted : IsAccepted st.plant st.table h) (instant : Option ℤ) (text : List ℕ)
+    (one : is_one_line text ≡ true) where
   says_command : (command : Command) (free : Option TaskId) → command_of st.plant text ≡ Some command
       → OrderSays st h (command_order st h instant text command free)
   says_command command (Some task) is = λ named ok. scan_said st h (scan_after st h task).1 named task ok
@@ -321,31 +329,20 @@ module _ (st : Steered) (h : CommandHistory) (instant : Option ℤ) (text : List
       let raw : ℤ = unwrap_or instant (last_instant h) in
       plain_said st.plant (length st.table) command raw text (raw_small st.plant st.table h command raw ok) one is
 
-  says_first : OrderSays st h (takes st (first_scan_after st h))
-  says_first = λ named ok. scan_said st h (first_scan_after st h).1 named (task_first st h) ok
-
   says_text : (c : Option Command) (d : Option Conditional) → command_of st.plant text ≡ c → conditional_of st.plant text ≡ d
       → OrderSays st h (order_by st h instant text c d)
   says_text (Some command) d is has = says_command command (free_scan instant command) is
   says_text None (Some conditional) is has = (one, is, has)
-  says_text None None is has = by (is_scan_alone instant text)
+  says_text None None is has = says_step (other_step st.plant instant text)
     where
-      by : (t : Bool) → OrderSays st h (if t then takes st (first_scan_after st h) else Shows)
-      by true = says_first
-      by false = tt
+      says_step : (o : Option Step) → OrderSays st h (step_order st h o)
+      says_step None = tt
+      says_step (Some step) = λ named ok. step_says st h accepted step named ok
 
-pub order_says : (st : Steered) (h : CommandHistory) (said : Said) → HasLine said → OrderSays st h (order_of st h said)
-order_says st h (Says instant text) one =
-    says_text st h instant text one (command_of st.plant text) (conditional_of st.plant text) refl refl
-order_says st h (Asks word text) one = tt
-order_says st h Remark one = tt
-order_says st h Nothing one = tt
-
--- ---- steps
-
-pub step_says : (st : Steered) (h : CommandHistory) → IsAccepted st.plant st.table h → (step : Step) → AreNamed st.plant
-    → IsOk ((debugger_of st).verdict h (step_after st h step))
-    → IsSaid st.plant (length st.table) (step_after st h step) [] (words_of st (step_after st h step).0)
-step_says st h accepted steps.First named ok = scan_said st h (first_scan_after st h).1 named (task_first st h) ok
-step_says st h accepted (steps.Task task) named ok = scan_said st h (scan_after st h task).1 named task ok
-step_says st h accepted (steps.Single task micros) named ok = single_said st h (last_instant h) named accepted task micros ok
+pub order_says : (st : Steered) (h : CommandHistory) → IsAccepted st.plant st.table h → (said : Said) → HasLine said
+    → OrderSays st h (order_of st h said)
+order_says st h accepted (Says instant text) one =
+    says_text st h accepted instant text one (command_of st.plant text) (conditional_of st.plant text) refl refl
+order_says st h accepted (Asks word text) one = tt
+order_says st h accepted Remark one = tt
+order_says st h accepted Nothing one = tt

@@ -1,5 +1,5 @@
 -- Lines that are taken as a reader gives them, and what is written for them.
-use Rattle.std.proofs.Common.{◌≡◌, ◌∙◌, ◌<◌, ◌^◌, refl, sym, ap, subst, arith, ◌+◌, ℕ, length, length-append, Bool, true, false, List, [], ◌∷◌, ◌++◌, append_assoc, inl, inr, Option, Some, None, Result, Ok, Err}
+use Rattle.std.proofs.Common.{◌≡◌, ◌∙◌, ◌<◌, ◌^◌, refl, sym, ap, subst, arith, ◌+◌, ℕ, length, length-append, Bool, true, false, List, [], ◌∷◌, ◌++◌, append_assoc, inl, Option, Some, None, Result, Ok, Err}
 use Rattle.std.proofs.lemmas.List.{append-nil}
 use Rattle.std.specs.Io.KnownBytes.{Appends, Consumes, IsAtEnd}
 use Rattle.sfc_asking.specs.sfc_script.Arriving.{ended_line}
@@ -13,7 +13,7 @@ use Rattle.sfc_prompt.specs.declared.prompt.Flow.{Flow}
 use Rattle.sfc_prompt.specs.declared.prompt.Flow.TheVariants.{GoesOn, Ends}
 use Rattle.sfc_prompt.specs.declared.prompt.Prompt.{Prompt}
 use Rattle.sfc_prompt.specs.Desks.{Leaves, ReadsOut, Serves, WalksOff, WalksOut, WritesBy}
-use Rattle.sfc_prompt.specs.Private.Waiting.{TakesEnded, Waits}
+use Rattle.sfc_prompt.specs.Private.Waiting.{TakesEnded}
 use Rattle.sfc_prompt.specs.Walks.{Invites, Walks, WalksInto, flow_after}
 use Rattle.sfc_prompt.proofs.Walking.{flow_ended, flow_more, into_all, into_then, invites_none, walk_ended, walk_invited, walk_then}
 

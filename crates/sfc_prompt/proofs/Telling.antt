@@ -1,5 +1,5 @@
 -- What a session writes, piece by piece.
-use Rattle.std.proofs.Common.{◌≡◌, ◌∙◌, refl, sym, ap, subst, ℕ, ◌+◌, List, [], ◌∷◌, ◌++◌, length, append_assoc, Option, Some, None, Result, Ok, Err, ℤ, arith}
+use Rattle.std.proofs.Common.{◌≡◌, ◌∙◌, refl, sym, ap, subst, ℕ, ◌+◌, List, [], ◌∷◌, ◌++◌, length, append_assoc, Bool, true, false, Option, Some, None, Result, Ok, Err, ℤ, arith}
 use Rattle.std.specs.Prelude.{IsOk, OnOk}
 use Rattle.std.proofs.lemmas.List.{append-nil, length-append}
 use Rattle.sfc_events.specs.declared.command.Command.TheVariants.{BreakIf}
@@ -13,8 +13,8 @@ use Rattle.sfc_asking.specs.sfc_script.Commands.{Conditional}
 use Rattle.sfc_asking.specs.sfc_script.Scripts.{ConditionReads}
 use Rattle.sfc_asking.specs.sfc_output.Output.{Verdict, command_lines, debugger_of, text_of}
 use Rattle.sfc_session.specs.declared.session.Session.{Session}
-use Rattle.sfc_prompt.specs.Orders.{BreaksBy, IsShown, Obeys, Order, Gives, Waits, Shows}
-use Rattle.sfc_prompt.specs.Pieces.{Piece, Accepted, Other, piece_text, written, history_after, said, saved, added, AreNamed, AreSaid, IsSaid}
+use Rattle.sfc_prompt.specs.Orders.{BreaksBy, Hints, IsShown, Obeys, Order, Gives, Waits, Shows, halted_note, is_stopped}
+use Rattle.sfc_prompt.specs.Pieces.{Piece, Accepted, Hidden, Other, piece_text, written, history_after, said, saved, added, AreNamed, AreSaid, IsSaid}
 use Rattle.sfc_session.specs.declared.step.Step.{Step}
 use Rattle.sfc_session.specs.Scanning.{step_after}
 use Rattle.sfc_session.specs.Sessions.{HasSaid, IsGiven, IsTaken, IsWaiting, lines_by, script_after, script_in, script_line, steered_after, steered_in}
@@ -32,16 +32,21 @@ written-append (piece ∷ a) b =
 history-append : (h : CommandHistory) (a b : List Piece) → history_after h (a ++ b) ≡ history_after (history_after h a) b
 history-append h [] b = refl
 history-append h (Accepted timed conditions words text ∷ a) b = history-append (timed ∷ h) a b
+history-append h (Hidden timed words text ∷ a) b = history-append (timed ∷ h) a b
 history-append h (Other text ∷ a) b = history-append h a b
 
 said-append : (a b : List Piece) → said (a ++ b) ≡ said a ++ said b
 said-append [] b = refl
 said-append (Accepted timed conditions words text ∷ a) b = ap (λ rest. text ++ rest) (said-append a b) ∙ sym (append_assoc text (said a) (said b))
+said-append (Hidden timed words text ∷ a) b = ap (λ rest. text ++ rest) (said-append a b) ∙ sym (append_assoc text (said a) (said b))
 said-append (Other text ∷ a) b = said-append a b
 
 saved-append : (a b : List Piece) → saved (a ++ b) ≡ saved a ++ saved b
 saved-append [] b = refl
 saved-append (Accepted timed conditions words text ∷ a) b =
+    ap (λ rest. script_line timed.1 words ++ rest) (saved-append a b)
+    ∙ sym (append_assoc (script_line timed.1 words) (saved a) (saved b))
+saved-append (Hidden timed words text ∷ a) b =
     ap (λ rest. script_line timed.1 words ++ rest) (saved-append a b)
     ∙ sym (append_assoc (script_line timed.1 words) (saved a) (saved b))
 saved-append (Other text ∷ a) b = saved-append a b
@@ -50,6 +55,7 @@ added-append : (a b : List Piece) → added (a ++ b) ≡ added a ++ added b
 added-append [] b = refl
 added-append (Accepted timed conditions words text ∷ a) b =
     ap (λ rest. conditions ++ rest) (added-append a b) ∙ sym (append_assoc conditions (added a) (added b))
+added-append (Hidden timed words text ∷ a) b = added-append a b
 added-append (Other text ∷ a) b = added-append a b
 
 further : (k : ℕ) (more rest : List BreakCondition) → k + length more + length rest ≡ k + length (more ++ rest)
@@ -61,6 +67,7 @@ says-append plant k (Accepted timed conditions words text ∷ a) b one two = (
   one.0,
   says-append plant (k + length conditions) a b one.1 (subst (λ (n : ℕ). AreSaid plant n b) (sym (further k conditions (added a))) two),
 )
+says-append plant k (Hidden timed words text ∷ a) b one two = (one.0, says-append plant k a b one.1 two)
 says-append plant k (Other text ∷ a) b one two = says-append plant k a b one two
 
 -- ---- sessions
@@ -130,6 +137,22 @@ goes_by st new timed conditions words (Err refusal) h lines script more steered 
   says = λ named. tt;
 }
 
+-- one that was accepted and isn't shown
+hides_by : (st : Steered) (new : Session) (timed : TimedCommand) (words : List ℕ) (v : Verdict) (h : CommandHistory) (lines script more : List ℕ)
+    → IsOk v → steered_in new ≡ st → HasSaid new (history_by v timed h) (with_lines v lines more)
+    → script_in new ≡ script_after v script timed.1 words → (AreNamed st.plant → IsOk v → IsSaid st.plant (length st.table) timed [] words)
+    → HasGoneOn st h lines script [] new
+hides_by st new timed words (Ok answer) h lines script more ok steered has is says = record {
+  pieces = Hidden timed words more ∷ [];
+  whole = refl;
+  said = subst (λ (l : List ℕ). HasSaid new (timed ∷ h) l) (ap (λ l. lines ++ l) (sym (append-nil more))) has;
+  script = is ∙ ap (λ s. script ++ s) (sym (append-nil (script_line timed.1 words)));
+  plant = ap (λ (s : Steered). s.plant) steered;
+  table = ap (λ (s : Steered). s.table) steered ∙ sym (append-nil st.table);
+  says = λ named. (says named refl, tt);
+}
+hides_by st new timed words (Err refusal) h lines script more ok steered has is says = absurd (let bad : false ≡ true = ok in cc)
+
 -- no condition joins the table
 joins_none : (v : Verdict) (st : Steered) → st ≡ joined_by v st []
 joins_none (Ok answer) st = ap (λ (t : List BreakCondition). record { plant = st.plant; table = t }) (sym (append-nil st.table))
@@ -154,6 +177,18 @@ module _ (old new : Session) (before behind : List ℕ) (h : CommandHistory) (li
         more,
         given.written,
         goes_by st new timed [] words v h lines (script_in old) more (given.steered ∙ joins_none v st) given.said
+            (given.script ∙ ap (λ (w : Verdict). script_after w (script_in old) timed.1 words) given.answer) says,
+      )
+
+  pub goes_hidden : (told : Verdict) (timed : TimedCommand) (words : List ℕ) → IsOk told → IsGiven old new before behind told h lines timed words
+      → (AreNamed st.plant → IsOk ((debugger_of st).verdict h timed) → IsSaid st.plant (length st.table) timed [] words)
+      → GoesOn old new before before h lines
+  goes_hidden told timed words ok given says =
+      let v : Verdict = (debugger_of st).verdict h timed in
+      let more : List ℕ = command_lines (debugger_of st) (text_of st) h timed in (
+        [],
+        sym (append-nil before),
+        hides_by st new timed words v h lines (script_in old) more (subst (λ (w : Verdict). IsOk w) given.answer ok) given.steered given.said
             (given.script ∙ ap (λ (w : Verdict). script_after w (script_in old) timed.1 words) given.answer) says,
       )
 
@@ -198,12 +233,6 @@ module _ (old new : Session) (before behind : List ℕ) (h : CommandHistory) (li
       (λ named ok. absurd (never_there st h conditional raw reads ok))
   goes_breaking conditional raw words None says reads broken = goes_shown broken
 
-  -- whatever a line says
-  pub goes_obeyed : (order : Order) → OrderSays st h order → Obeys old new before behind h lines order → GoesOn old new before behind h lines
-  goes_obeyed (Gives timed words) says obeyed = goes_given obeyed.0 timed words obeyed.1 says
-  goes_obeyed (Waits conditional raw words) says obeyed = goes_breaking conditional raw words obeyed.0 says obeyed.1 obeyed.2
-  goes_obeyed Shows says obeyed = goes_shown obeyed
-
 -- one after the other
 pub goes_more : (a b d : Session) (x y z : List ℕ) (h : CommandHistory) (lines : List ℕ) → GoesOn a b x y h lines → Puts b d y z
     → GoesOn a d x z h lines
@@ -225,6 +254,23 @@ puts_text session x y text is h lines has =
 pub puts_nothing : (session : Session) (x : List ℕ) → Puts session session x x
 puts_nothing session x = puts_text session x x [] (sym (append-nil x))
 
+-- what serves was told behind it, or nothing
+pub hinted : (old new : Session) (before middle behind : List ℕ) (h : CommandHistory) (lines : List ℕ) (b : Bool) → Hints b middle behind
+    → GoesOn old new before middle h lines → GoesOn old new before behind h lines
+hinted old new before middle behind h lines true is on =
+    goes_more old new new before middle behind h lines on (puts_text new middle behind halted_note is)
+hinted old new before middle behind h lines false is on = subst (λ (t : List ℕ). GoesOn old new before t h lines) (sym is) on
+
+-- whatever a line says
+pub goes_obeyed : (old new : Session) (before behind : List ℕ) (h : CommandHistory) (lines : List ℕ) (order : Order)
+    → OrderSays (steered_in old) h order → Obeys old new before behind h lines order → GoesOn old new before behind h lines
+goes_obeyed old new before behind h lines (Gives timed words) says obeyed =
+    hinted old new before obeyed.1 behind h lines (is_stopped obeyed.0) obeyed.3
+    (goes_given old new before obeyed.1 h lines obeyed.0 timed words obeyed.2 says)
+goes_obeyed old new before behind h lines (Waits conditional raw words) says obeyed =
+    goes_breaking old new before behind h lines conditional raw words obeyed.0 says obeyed.1 obeyed.2
+goes_obeyed old new before behind h lines Shows says obeyed = goes_shown old new before behind h lines obeyed
+
 -- a step that was taken, whatever was accepted before
 pub puts_taken : (old new : Session) (x y : List ℕ) (told : Verdict) (step : Step)
     → ((h : CommandHistory) (lines : List ℕ) → HasSaid old h lines → IsTaken old new x y told h lines (step_after (steered_in old) h step))
@@ -232,6 +278,15 @@ pub puts_taken : (old new : Session) (x y : List ℕ) (told : Verdict) (step : S
 puts_taken old new x y told step taken h lines has =
     let timed : TimedCommand = step_after (steered_in old) h step in
     goes_given old new x y h lines told timed (words_of (steered_in old) timed.0) (taken h lines has)
+    (step_says (steered_in old) h has.accepted step)
+
+-- the same of one that was accepted and isn't shown
+pub puts_hidden : (old new : Session) (x y : List ℕ) (told : Verdict) (step : Step) → IsOk told
+    → ((h : CommandHistory) (lines : List ℕ) → HasSaid old h lines → IsTaken old new x y told h lines (step_after (steered_in old) h step))
+    → Puts old new x x
+puts_hidden old new x y told step ok taken h lines has =
+    let timed : TimedCommand = step_after (steered_in old) h step in
+    goes_hidden old new x y h lines told timed (words_of (steered_in old) timed.0) ok (taken h lines has)
     (step_says (steered_in old) h has.accepted step)
 
 -- ---- of what a call returned

@@ -1,7 +1,8 @@
 -- The text of a line is one line: it has no LF, and no CR at its end.
 use Rattle.std.proofs.Common.{◌≡◌, ◌∙◌, refl, sym, ap, subst, ℕ, ℤ, ◌==◌, Bool, true, false, not, ◌&&◌, ◌||◌, List, [], ◌∷◌, ◌++◌, Option, Some, None}
 use Rattle.std.specs.List.{AllByRecursion}
-use Rattle.std.specs.Prelude.{if◌then◌else◌, reverse}
+use Rattle.std.specs.Prelude.{codes, if◌then◌else◌, reverse}
+use Rattle.sfc_base.specs.Case.{same_word}
 use Rattle.std.proofs.lemmas.List.{reverse-append}
 use Rattle.sfc_tokens.specs.Lexing.DurationWords.{duration_value}
 use Rattle.sfc_asking.specs.sfc_script.Arriving.{is_lf}
@@ -9,7 +10,7 @@ use Rattle.sfc_asking.specs.sfc_script.Commands.{begins_comment}
 use Rattle.sfc_asking.specs.sfc_script.Lines.{first_word, is_blank, is_one_line, split_before}
 use Rattle.sfc_asking.proofs.of_sfc_script.PlainInstants.{ArePlain}
 use Rattle.sfc_prompt.specs.declared.line.Word.{Word}
-use Rattle.sfc_prompt.specs.Lines.{Said, Nothing, Remark, Says, Asks, line_said, own_word, said_behind, said_by}
+use Rattle.sfc_prompt.specs.Lines.{Said, Nothing, Remark, Says, Asks, first_of_all, line_said, own_word, said_behind, said_by, said_of_all, said_otherwise}
 use Rattle.sfc_prompt.specs.Words.{before_lf, from_end, from_word, is_ending, trimmed}
 
 abbrev pub NoLf : List ℕ → Type 0
@@ -123,20 +124,31 @@ HasLine (Asks word text) = Unit {0}
 HasLine Remark = Unit {0}
 HasLine Nothing = Unit {0}
 
-line_by : (text rest : List ℕ) (instant : Option ℤ) (word : Option Word) → is_one_line text ≡ true → NoLf rest
-    → HasLine (said_by text rest instant word)
-line_by text rest (Some instant) word one none = one_trimmed rest none
-line_by text rest None (Some word) one none = tt
-line_by text rest None None one none = one
+line_of_all : (text : List ℕ) (o : Option (Word × List ℕ)) → is_one_line text ≡ true → HasLine (said_of_all text o)
+line_of_all text None one = one
+line_of_all text (Some w) one = tt
+
+line_otherwise : (text first rest : List ℕ) → is_one_line text ≡ true → HasLine (said_otherwise text first rest)
+line_otherwise text first rest one = by (same_word first (codes "ALL"))
+  where
+    by : (t : Bool) → HasLine (if t then said_of_all text (first_of_all rest) else Says None text)
+    by true = line_of_all text (first_of_all rest) one
+    by false = one
+
+line_by : (text first rest : List ℕ) (instant : Option ℤ) (word : Option Word) → is_one_line text ≡ true → NoLf rest
+    → HasLine (said_by text first rest instant word)
+line_by text first rest (Some instant) word one none = one_trimmed rest none
+line_by text first rest None (Some word) one none = tt
+line_by text first rest None None one none = line_otherwise text first rest one
 
 line_behind : (text : List ℕ) (o : Option (List ℕ × List ℕ)) → first_word text ≡ o → is_one_line text ≡ true → NoLf text
     → HasLine (said_behind text o)
 line_behind text None e one none = tt
 line_behind text (Some w) e one none = by (begins_comment w.0)
   where
-    by : (t : Bool) → HasLine (if t then Remark else said_by text w.1 (duration_value w.0) (own_word w.0))
+    by : (t : Bool) → HasLine (if t then Remark else said_by text w.0 w.1 (duration_value w.0) (own_word w.0))
     by true = tt
-    by false = line_by text w.1 (duration_value w.0) (own_word w.0) one (first_nolf text w e none)
+    by false = line_by text w.0 w.1 (duration_value w.0) (own_word w.0) one (first_nolf text w e none)
 
 pub has_line : (line : List ℕ) → HasLine (line_said line)
 has_line line =

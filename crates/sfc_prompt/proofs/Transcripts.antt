@@ -14,7 +14,7 @@ use Rattle.sfc_asking.specs.sfc_output.Output.{closing_lines, commands_lines, de
 use Rattle.sfc_replay.specs.Replay.{played_on}
 use Rattle.sfc_session.specs.declared.session.Session.{Session}
 use Rattle.sfc_session.specs.Sessions.{script_in, script_line, steered_in}
-use Rattle.sfc_prompt.specs.Pieces.{Piece, Accepted, Other, added, commands, history_after, saved, line_text, AreSaid}
+use Rattle.sfc_prompt.specs.Pieces.{Piece, Accepted, Hidden, Other, added, commands, history_after, saved, line_text, AreSaid}
 use Rattle.sfc_prompt.specs.Transcripts.{HasGoneOn, IsReplayed, IsTranscript, opened_on}
 use Rattle.sfc_prompt.proofs.Named.{are_named}
 use Rattle.sfc_session.proofs.Saying.{replayed, written}
@@ -22,6 +22,9 @@ use Rattle.sfc_session.proofs.Saying.{replayed, written}
 turned : (pieces : List Piece) (h : CommandHistory) → history_after h pieces ≡ reverse (commands pieces) ++ h
 turned [] h = refl
 turned (Accepted timed conditions words text ∷ pieces) h =
+    turned pieces (timed ∷ h) ∙ sym (append_assoc (reverse (commands pieces)) (timed ∷ []) h)
+    ∙ ap (λ (g : List TimedCommand). g ++ h) (sym (reverse-append (timed ∷ []) (commands pieces)))
+turned (Hidden timed words text ∷ pieces) h =
     turned pieces (timed ∷ h) ∙ sym (append_assoc (reverse (commands pieces)) (timed ∷ []) h)
     ∙ ap (λ (g : List TimedCommand). g ++ h) (sym (reverse-append (timed ∷ []) (commands pieces)))
 turned (Other text ∷ pieces) h = turned pieces h
@@ -64,6 +67,16 @@ lines_read plant n k (Accepted timed conditions words text ∷ pieces) says =
     let one : ScriptData = record { commands = timed ∷ []; table = conditions } in
     subst (λ (lines : List (List ℕ)). LinesRead plant n k lines (Ok (script_of (Accepted timed conditions words text ∷ pieces)))) (sym first)
     (Some one, says.0.says, (Ok (script_of pieces), lines_read plant (suc n) (k + length conditions) pieces says.1, refl))
+lines_read plant n k (Hidden timed words text ∷ pieces) says =
+    let line : List ℕ = line_text timed.1 words in
+    let first : lines_of (saved (Hidden timed words text ∷ pieces)) ≡ line ∷ lines_of (saved pieces) =
+    ap lines_of (ended timed.1 words (saved pieces)) ∙ in_front line (saved pieces) says.0.whole in
+    let one : ScriptData = record { commands = timed ∷ []; table = [] } in
+    let rest : LinesRead plant (suc n) (k + 0) (lines_of (saved pieces)) (Ok (script_of pieces)) =
+    subst (λ (m : ℕ). LinesRead plant (suc n) m (lines_of (saved pieces)) (Ok (script_of pieces))) (omega arith)
+    (lines_read plant (suc n) k pieces says.1) in
+    subst (λ (lines : List (List ℕ)). LinesRead plant n k lines (Ok (script_of (Hidden timed words text ∷ pieces)))) (sym first)
+    (Some one, says.0.says, (Ok (script_of pieces), rest, refl))
 
 script_read : (plant : PlantData) (pieces : List Piece) → AreSaid plant 0 pieces → length (saved pieces) ≤ 1048576
     → ScriptReads plant (saved pieces) (Ok (script_of pieces))

@@ -5,7 +5,7 @@ use Rattle.sfc_prompt.specs.declared.prompt.Flow.{Flow}
 use Rattle.sfc_prompt.specs.declared.prompt.Flow.TheVariants.{GoesOn, Ends}
 use Rattle.sfc_prompt.specs.declared.prompt.Prompt.{Prompt}
 use Rattle.sfc_prompt.specs.Prompts.{course_in}
-use Rattle.sfc_prompt.specs.Walks.{AnswersInto, BreaksAt, BreaksLine, IfOn, Invites, IsAnswered, IsNext, StepsInto, TakesAll, TakesLine, TakesPart, TakesSome, TakesSteps}
+use Rattle.sfc_prompt.specs.Walks.{AnswersInto, BreaksAt, BreaksLine, IfOn, Invites, IsAnswered, IsNext, StepsInto, TakesAll, TakesLine, TakesSome, TakesSteps}
 use Rattle.sfc_prompt.specs.Walks.{Walks, WalksInto, flow_after, flow_behind, flow_line, invitations, is_long}
 
 -- ---- steps

@@ -1,5 +1,5 @@
 -- What a line at a prompt says (our choice of format).
-use Rattle.std.specs.Prelude.{ℕ, if◌then◌else◌, List, codes, ℤ, Option, Some, None}
+use Rattle.std.specs.Prelude.{ℕ, if◌then◌else◌, List, codes, ℤ, Option, Some, None, option_map, option_and_then}
 use Rattle.std.specs.Option.{option_or}
 use Rattle.sfc_base.specs.Case.{same_word}
 use Rattle.sfc_tokens.specs.Lexing.DurationWords.{duration_value}
@@ -52,16 +52,34 @@ telling_word word =
 abbrev pub own_word : List ℕ → Option Word
 own_word word = option_or (showing_word word) (option_or (doing_word word) (telling_word word))
 
+-- a word behind ALL
+abbrev pub all_word : List ℕ → Option Word
+all_word word =
+    if same_word word (codes "UNTIL") then Some words.AllUntil else
+    if same_word word (codes "AGAIN") then Some words.AllAgain else None
+
+-- the word behind ALL, if it is such a one, with what stands behind it
+abbrev pub first_of_all : List ℕ → Option (Word × List ℕ)
+first_of_all rest = option_and_then (λ w. option_map (λ word. (word, w.1)) (all_word w.0)) (first_word rest)
+
+abbrev pub said_of_all : List ℕ → Option (Word × List ℕ) → Said
+said_of_all text None = Says None text
+said_of_all text (Some w) = Asks w.0 (trimmed w.1)
+
+-- ALL and such a word, or what should be a command
+abbrev pub said_otherwise : List ℕ → List ℕ → List ℕ → Said
+said_otherwise text first rest = if same_word first (codes "ALL") then said_of_all text (first_of_all rest) else Says None text
+
 -- by what its first word is: an instant, or else a word of the prompt's own
-abbrev pub said_by : List ℕ → List ℕ → Option ℤ → Option Word → Said
-said_by text rest (Some instant) word = Says (Some instant) (trimmed rest)
-said_by text rest None (Some word) = Asks word (trimmed rest)
-said_by text rest None None = Says None text
+abbrev pub said_by : List ℕ → List ℕ → List ℕ → Option ℤ → Option Word → Said
+said_by text first rest (Some instant) word = Says (Some instant) (trimmed rest)
+said_by text first rest None (Some word) = Asks word (trimmed rest)
+said_by text first rest None None = said_otherwise text first rest
 
 abbrev pub said_behind : List ℕ → Option (List ℕ × List ℕ) → Said
 said_behind text None = Nothing
 said_behind text (Some w) =
-    if begins_comment w.0 then Remark else said_by text w.1 (duration_value w.0) (own_word w.0)
+    if begins_comment w.0 then Remark else said_by text w.0 w.1 (duration_value w.0) (own_word w.0)
 
 abbrev pub text_said : List ℕ → Said
 text_said text = said_behind text (first_word text)

@@ -1,5 +1,5 @@
--- What a session writes, piece by piece: the lines of each command that it accepts, and between them refusals, notes and what is shown; and
--- what the script of these commands says, where it is read again.
+-- What a session writes, piece by piece: the lines of each command that it accepts, but of steps in which nothing changed, and between them
+-- refusals, notes and what is shown; and what the script of these commands says, where it is read again.
 use Rattle.std.specs.Prelude.{◌≡◌, ℕ, ◌<◌, ◌+◌, true, ⊤, List, [], ◌∷◌, ◌++◌, length, codes, ℤ, Some}
 use Rattle.sfc_base.specs.Names.{IsName}
 use Rattle.sfc_base.specs.TimeText.{time_text}
@@ -17,11 +17,14 @@ use Rattle.sfc_session.specs.Sessions.{script_line}
 pub data Piece : Type 0 where
   -- what is said of a command that was accepted, and before it the conditions that joined the table with the command, and its words
   Accepted : TimedCommand → List BreakCondition → List ℕ → List ℕ → Piece
+  -- a step that was accepted, with its words and what is said of it, which isn't shown
+  Hidden : TimedCommand → List ℕ → List ℕ → Piece
   -- anything else
   Other : List ℕ → Piece
 
 abbrev pub piece_text : Piece → List ℕ
 piece_text (Accepted timed conditions words text) = text
+piece_text (Hidden timed words text) = []
 piece_text (Other text) = text
 
 -- the whole of it
@@ -33,30 +36,35 @@ written (piece ∷ pieces) = piece_text piece ++ written pieces
 abbrev pub history_after : CommandHistory → List Piece → CommandHistory
 history_after h [] = h
 history_after h (Accepted timed conditions words text ∷ pieces) = history_after (timed ∷ h) pieces
+history_after h (Hidden timed words text ∷ pieces) = history_after (timed ∷ h) pieces
 history_after h (Other text ∷ pieces) = history_after h pieces
 
 -- what is said of them
 abbrev pub said : List Piece → List ℕ
 said [] = []
 said (Accepted timed conditions words text ∷ pieces) = text ++ said pieces
+said (Hidden timed words text ∷ pieces) = text ++ said pieces
 said (Other text ∷ pieces) = said pieces
 
 -- their lines of the script, in order
 abbrev pub saved : List Piece → List ℕ
 saved [] = []
 saved (Accepted timed conditions words text ∷ pieces) = script_line timed.1 words ++ saved pieces
+saved (Hidden timed words text ∷ pieces) = script_line timed.1 words ++ saved pieces
 saved (Other text ∷ pieces) = saved pieces
 
 -- the commands that were accepted, in order
 abbrev pub commands : List Piece → List TimedCommand
 commands [] = []
 commands (Accepted timed conditions words text ∷ pieces) = timed ∷ commands pieces
+commands (Hidden timed words text ∷ pieces) = timed ∷ commands pieces
 commands (Other text ∷ pieces) = commands pieces
 
 -- the conditions that joined the table, in order
 abbrev pub added : List Piece → List BreakCondition
 added [] = []
 added (Accepted timed conditions words text ∷ pieces) = conditions ++ added pieces
+added (Hidden timed words text ∷ pieces) = added pieces
 added (Other text ∷ pieces) = added pieces
 
 -- ---- its script, read again
@@ -83,4 +91,5 @@ abbrev pub AreSaid : PlantData → ℕ → List Piece → Type 0
 AreSaid plant k [] = ⊤
 AreSaid plant k (Accepted timed conditions words text ∷ pieces) =
     IsSaid plant k timed conditions words × AreSaid plant (k + length conditions) pieces
+AreSaid plant k (Hidden timed words text ∷ pieces) = IsSaid plant k timed [] words × AreSaid plant k pieces
 AreSaid plant k (Other text ∷ pieces) = AreSaid plant k pieces

@@ -20,4 +20,8 @@ pub trait Archive {
     /// Keeps a script under this name, in place of one that was kept here before; of any file only where it may replace others. Where it
     /// isn't kept, what was there stays.
     fn keep(&mut self, name: &str, script: &[u8], may_replace: bool) -> Kept;
+
+    /// Takes the script of all that was accepted so far, before what was answered is written: it begins with what it was before. It is for one
+    /// who records a session as it goes.
+    fn record(&mut self, script: &[u8]);
 }

@@ -1,12 +1,12 @@
 //! Steps that are taken one after the other: until a condition is TRUE, or so often.
 
-ghost use Rattle.std.specs.Prelude.{◌≡◌, ◌<◌, ◌-◌, true, IfOk, IsFalse, IsTrue, List, ℕ, MatchOption, None, OnOk, Option, Some};
+ghost use Rattle.std.specs.Prelude.{◌≡◌, ◌<◌, ◌-◌, true, Bool, IfOk, IsFalse, IsTrue, List, ℕ, MatchOption, None, OnOk, Option, Some};
 ghost use Rattle.sfc_asking.specs.sfc_debug.Histories.{CommandHistory};
 ghost use Rattle.sfc_asking.specs.sfc_debug.Hits.{is_met};
 ghost use Rattle.sfc_asking.specs.sfc_instance.Views.{environment_in};
 ghost use Rattle.sfc_prompt.specs.declared.course.Course.{Course};
 ghost use Rattle.sfc_prompt.specs.Courses as courses;
-ghost use Rattle.sfc_prompt.specs.Courses.{BeginsUntil, asked, begun, holds_after, is_met_after, is_over_after, most, wanted_course};
+ghost use Rattle.sfc_prompt.specs.Courses.{BeginsUntil, asked, begun, hides_after, holds_after, is_met_after, is_over_after, most, wanted_course};
 ghost use Rattle.sfc_prompt.specs.Notes.{Adds};
 ghost use Rattle.sfc_session.specs.declared.step.Step.TheVariants.{First};
 ghost use Rattle.sfc_session.specs.Sessions.{HasSaid, steered_in};
@@ -36,6 +36,8 @@ const MOST: u64 = 100_000;
 pub struct Course {
     /// The step that is taken.
     pub step: Step,
+    /// Whether each is shown; else those are in which something changed, and the last one.
+    pub shows_all: bool,
     /// The condition until which it is taken, if there is one.
     pub condition: Option<BreakCondition>,
     /// How many are left at most.
@@ -49,6 +51,7 @@ impl Drop for Course {
     fn drop(self) {
         let Course {
             step: _,
+            shows_all: _,
             condition: _,
             left: _,
             taken: _,
@@ -58,11 +61,12 @@ impl Drop for Course {
 
 impl Course {
     /// So many steps.
-    pub fn of_steps(step: Step, count: u64) -> Course
-        ensures { result ≡ begun step None count }
+    pub fn of_steps(step: Step, count: u64, shows_all: bool) -> Course
+        ensures { result ≡ begun step None count shows_all }
     {
         Course {
             step,
+            shows_all,
             condition: None,
             left: count,
             taken: 0,
@@ -70,11 +74,12 @@ impl Course {
     }
 
     /// Scans of the task that goes first, until the condition is TRUE, at most 100,000.
-    pub fn until(condition: BreakCondition) -> Course
-        ensures { result ≡ begun First (Some condition) most }
+    pub fn until(condition: BreakCondition, shows_all: bool) -> Course
+        ensures { result ≡ begun First (Some condition) most shows_all }
     {
         Course {
             step: Step::First,
+            shows_all,
             condition: Some(condition),
             left: MOST,
             taken: 0,
@@ -108,20 +113,31 @@ impl Course {
         self.is_met(session)
     }
 
+    /// Whether a step is not shown behind which this is left of them, where nothing changed in it: each is shown, or it was the last one.
+    pub fn hides(&self, session: &Session, is_quiet: bool) -> bool
+        ensures { (h : CommandHistory) (lines : List ℕ) → HasSaid session.now h lines →
+            result ≡ hides_after (steered_in session.now) h self.now is_quiet }
+    {
+        !self.shows_all && is_quiet && !self.is_over(session)
+    }
+
     /// With one step more behind it.
     pub fn behind_step(self, is_taken: bool) -> Course
         ensures step { result.step ≡ self.step }
+        ensures shows { result.shows_all ≡ self.shows_all }
         ensures condition { result.condition ≡ self.condition }
         ensures left { result.left ≡ self.left - 1 }
     {
         let Course {
             step,
+            shows_all,
             condition,
             left,
             taken,
         } = self;
         Course {
             step,
+            shows_all,
             condition,
             left: left.saturating_sub(1),
             taken: taken.saturating_add(u64::from(is_taken)),
@@ -283,7 +299,8 @@ pub enum Wanted {
 /// The condition that stands behind UNTIL: in the program instance that is named behind `IN`, or in the one that there is. The error is that
 /// memory was refused.
 pub fn read_wanted(alloc: Global, plant: &Plant, text: &[u8]) -> Result<Wanted, AllocError>
-    ensures { (old : Option Course) → IfOk result (λ wanted. BeginsUntil plant.now (asked plant.now text.now) old (wanted_course wanted old)) }
+    ensures { (old : Option Course) (all : Bool) → IfOk result (λ wanted.
+        BeginsUntil plant.now (asked plant.now text.now) all old (wanted_course wanted all old)) }
 {
     let Some(asked) = find_asked(plant, text) else {
         return Ok(Wanted::Several);

@@ -48,13 +48,14 @@ struct Held<W: Write, A: Archive> {
 }
 
 impl<W: Write, A: Archive> Held<W, A> {
-    // Writes what waits, and flushes the writer.
+    // Has the session recorded, writes what waits, and flushes the writer.
     fn pass(&mut self) -> Result<(), ReplayError>
         ensures prompt { self.new.prompt ≡ self.old.prompt }
         ensures session { session_in self.new.prompt ≡ session_in self.old.prompt }
         ensures empty { OnOk result (self.new.text.items ≡ []) }
         ensures written { Writes (W.contents self.old.w) (W.contents self.new.w) result self.old.text.items }
     {
+        self.archive.record(self.prompt.session().script());
         put_all(&mut self.w, &self.text)?;
         self.text.clear();
         match self.w.flush() {

@@ -32,8 +32,12 @@ pub enum Word {
     Help,
     /// Scans until a condition is TRUE.
     Until,
+    /// The same, of which each is shown.
+    AllUntil,
     /// The last step, once or more.
     Again,
+    /// The same, of which each is shown.
+    AllAgain,
     /// The accepted commands go to a file.
     Save,
     /// The end.
@@ -115,6 +119,19 @@ fn own_word(word: &[u8]) -> Option<Word>
     showing_word(word).or(doing_word(word).or(telling_word(word)))
 }
 
+// The word behind ALL, of whose scans each is shown.
+fn all_word(word: &[u8]) -> Option<Word>
+    ensures { result ≡ lines.all_word word.now }
+{
+    if is_same_word(word, b"UNTIL") {
+        Some(Word::AllUntil)
+    } else if is_same_word(word, b"AGAIN") {
+        Some(Word::AllAgain)
+    } else {
+        None
+    }
+}
+
 // Whether the word begins a comment.
 fn begins_comment(word: &[u8]) -> bool
     ensures { result ≡ commands.begins_comment word.now }
@@ -125,16 +142,40 @@ fn begins_comment(word: &[u8]) -> bool
     }
 }
 
+// What a text says behind whose first word, which is ALL, this stands.
+fn read_all<'a>(text: &'a [u8], behind: &'a [u8]) -> Line<'a>
+    ensures { as_said result ≡ lines.said_of_all text.now (lines.first_of_all behind.now) }
+{
+    let Some((word, rest)) = first_word(behind) else {
+        return Line::Says(None, text);
+    };
+    match all_word(word) {
+        Some(asked) => Line::Asks(asked, trimmed(rest)),
+        None => Line::Says(None, text),
+    }
+}
+
+// What a text says whose first word is no word of the prompt's own by itself.
+fn read_other<'a>(text: &'a [u8], word: &'a [u8], rest: &'a [u8]) -> Line<'a>
+    ensures { as_said result ≡ lines.said_otherwise text.now word.now rest.now }
+{
+    if is_same_word(word, b"ALL") {
+        read_all(text, rest)
+    } else {
+        Line::Says(None, text)
+    }
+}
+
 // What a text says whose first word this is, with what stands behind it.
 fn read_behind<'a>(text: &'a [u8], word: &'a [u8], rest: &'a [u8]) -> Line<'a>
-    ensures { as_said result ≡ lines.said_by text.now rest.now (duration_value word.now) (lines.own_word word.now) }
+    ensures { as_said result ≡ lines.said_by text.now word.now rest.now (duration_value word.now) (lines.own_word word.now) }
 {
     if let Some(instant) = duration(word) {
         return Line::Says(Some(instant), trimmed(rest));
     }
     match own_word(word) {
         Some(asked) => Line::Asks(asked, trimmed(rest)),
-        None => Line::Says(None, text),
+        None => read_other(text, word, rest),
     }
 }
 

@@ -1,19 +1,27 @@
 //! Lines that are obeyed one by one.
 
-ghost use Rattle.std.specs.Prelude.{◌≡◌, ◌<◌, false, OnOk, IfOk, Some, None, is_some};
+ghost use Rattle.std.specs.Prelude.{◌≡◌, ◌<◌, ◌||◌, ◌==◌, false, List, ℕ, OnOk, IfOk, Some, None, is_some, take};
+ghost use Rattle.sfc_asking.specs.sfc_debug.Histories.{CommandHistory};
+ghost use Rattle.sfc_panel.specs.Pictures.{IsPicture};
+ghost use Rattle.sfc_prompt.specs.Courses as courses;
+ghost use Rattle.sfc_prompt.specs.Courses.{state_after};
 ghost use Rattle.sfc_prompt.specs.Lines.{as_said};
 ghost use Rattle.sfc_prompt.specs.Notes.{Adds};
 ghost use Rattle.sfc_prompt.specs.Prompts as prompts;
+ghost use Rattle.sfc_session.specs.Sessions.{HasSaid, steered_in};
 
 use crate::archive::{Archive, Kept};
 use crate::course::{Course, Wanted, again_count, read_wanted};
 use crate::expression::append_fault;
 use crate::line::{Line, Word, read_line};
 use crate::showing::shown;
-use crate::spoken::{Spoken, say};
+use crate::spoken::{Spoken, append_hint, say};
 use crate::words::trimmed;
 use sfc_asking::note::{append_named, append_note};
+use sfc_events::command::Answer;
+use sfc_events::refusal::Refusal;
 use sfc_page::append::append;
+use sfc_panel::picture::Picture;
 use sfc_session::session::Session;
 use sfc_session::step::{Step, ends_steps, take};
 use std::alloc::{AllocError, Global};
@@ -80,6 +88,35 @@ fn append_unkept(
     append_named(out, b"can't be saved to ", &named)
 }
 
+// How all programs stand.
+fn picture_of(alloc: Global, session: &Session) -> Result<Picture, AllocError>
+    ensures { (h : CommandHistory) (lines : List ℕ) → HasSaid session.now h lines →
+        IfOk result (λ picture. IsPicture (steered_in session.now).plant (state_after (steered_in session.now) h) picture) }
+{
+    Picture::of(alloc, session.debugger().resource())
+}
+
+// Whether all programs stand as before a scan that was answered so.
+fn is_quiet(session: &Session, picture: &Picture, answer: Result<Answer, Refusal>) -> bool
+    ensures { (h g : CommandHistory) (lines : List ℕ) → HasSaid session.now g lines →
+        IsPicture (steered_in session.now).plant (state_after (steered_in session.now) h) picture.now →
+        result ≡ courses.is_quiet (steered_in session.now) h g answer }
+{
+    match answer {
+        Ok(answer) => picture.shows_none(session.debugger().resource(), &answer),
+        Err(_) => false,
+    }
+}
+
+// Leaves what was put from a place on, or takes it back.
+fn keep(out: &mut Vec<u8>, begin: usize, hides: bool)
+    ensures { out.new.items ≡ courses.shown_by hides (take begin out.old.items) out.old.items }
+{
+    if hides {
+        out.truncate(begin);
+    }
+}
+
 /// A session, the step that was last taken in it, and the steps that are under way.
 pub struct Prompt {
     alloc: Global,
@@ -102,16 +139,12 @@ impl Drop for Prompt {
 
 #[tactic(auto, unfolding(crate::specs::Prompts::session_in, crate::specs::Prompts::course_in, crate::specs::Prompts::last_in))]
 impl Prompt {
-    ghost use Rattle.std.specs.Prelude.{List, ℕ};
-    ghost use Rattle.sfc_asking.specs.sfc_debug.Histories.{CommandHistory};
     ghost use Rattle.sfc_prompt.specs.declared.course.Course.{Course};
-    ghost use Rattle.sfc_prompt.specs.Courses as courses;
     ghost use Rattle.sfc_prompt.specs.Courses.{Begins, BeginsUntil, IsBehindStep, StepsOn, asked, is_over_after, step_behind};
     ghost use Rattle.sfc_prompt.specs.Lines.{Asks, as_said, line_said};
     ghost use Rattle.sfc_prompt.specs.Orders.{IsShown, Obeys, order_of, text_order, text_step};
     ghost use Rattle.std.specs.Option.{option_or};
     ghost use Rattle.sfc_prompt.specs.Prompts.{course_in, last_in, session_in};
-    ghost use Rattle.sfc_session.specs.Sessions.{HasSaid, steered_in};
     ghost use Rattle.sfc_prompt.specs.Transcripts.{Puts};
 
     /// A prompt at which nothing was said.
@@ -171,47 +204,48 @@ impl Prompt {
         }
     }
 
-    // The last step again, so often.
-    fn repeat(&mut self, count: u64, out: &mut Vec<u8>) -> Result<(), AllocError>
+    // The last step again, so often, and whether each is shown.
+    fn repeat(&mut self, count: u64, shows_all: bool, out: &mut Vec<u8>) -> Result<(), AllocError>
         ensures session { session_in self.new ≡ session_in self.old }
         ensures last { last_in self.new ≡ last_in self.old }
-        ensures course { course_in self.new ≡ courses.again (last_in self.old) count (course_in self.old) }
+        ensures course { course_in self.new ≡ courses.again (last_in self.old) count shows_all (course_in self.old) }
         ensures adds { OnOk result (Adds out.old.items out.new.items) }
     {
         match self.last {
             Some(step) => {
-                self.course = Some(Course::of_steps(step, count));
+                self.course = Some(Course::of_steps(step, count, shows_all));
                 Ok(())
             }
             None => append_note(out, b"there was no SCAN or SINGLE yet"),
         }
     }
 
-    // The last step again, so often as the text says, or once.
-    fn again(&mut self, text: &[u8], out: &mut Vec<u8>) -> Result<(), AllocError>
+    // The last step again, so often as the text says, or once, and whether each of several is shown.
+    fn again(&mut self, text: &[u8], shows_all: bool, out: &mut Vec<u8>) -> Result<(), AllocError>
         ensures session { session_in self.new ≡ session_in self.old }
         ensures last { last_in self.new ≡ last_in self.old }
-        ensures course { course_in self.new ≡ courses.again_by (courses.again_count text.now) (last_in self.old) (course_in self.old) }
+        ensures course { course_in self.new
+            ≡ courses.again_by (courses.again_count text.now) shows_all (last_in self.old) (course_in self.old) }
         ensures adds { OnOk result (Adds out.old.items out.new.items) }
     {
         match again_count(text) {
-            Some(count) => self.repeat(count, out),
+            Some(count) => self.repeat(count, shows_all || count == 1, out),
             None => append_note(out, b"AGAIN, or AGAIN and a number from 1 to 100000"),
         }
     }
 
-    // Scans until a condition is TRUE.
-    fn until(&mut self, text: &[u8], out: &mut Vec<u8>) -> Result<(), AllocError>
+    // Scans until a condition is TRUE, and whether each is shown.
+    fn until(&mut self, text: &[u8], shows_all: bool, out: &mut Vec<u8>) -> Result<(), AllocError>
         ensures session { session_in self.new ≡ session_in self.old }
         ensures last { last_in self.new ≡ last_in self.old }
         ensures course { OnOk result (BeginsUntil (steered_in (session_in self.old)).plant
-            (asked (steered_in (session_in self.old)).plant text.now) (course_in self.old) (course_in self.new)) }
+            (asked (steered_in (session_in self.old)).plant text.now) shows_all (course_in self.old) (course_in self.new)) }
         ensures adds { OnOk result (Adds out.old.items out.new.items) }
     {
         let plant = self.session.debugger().resource().plant();
         match read_wanted(self.alloc, plant, text)? {
             Wanted::Until(condition) => {
-                self.course = Some(Course::until(condition));
+                self.course = Some(Course::until(condition, shows_all));
                 Ok(())
             }
             Wanted::Several => append_note(
@@ -249,8 +283,10 @@ impl Prompt {
     {
         match word {
             Word::Quit => quit(text, out),
-            Word::Until => self.until(text, out),
-            Word::Again => self.again(text, out),
+            Word::Until => self.until(text, false, out),
+            Word::AllUntil => self.until(text, true, out),
+            Word::Again => self.again(text, false, out),
+            Word::AllAgain => self.again(text, true, out),
             Word::Save => self.save(text, archive, out),
             _ => self.show(word, text, out),
         }
@@ -273,7 +309,7 @@ impl Prompt {
     {
         match line {
             Line::Comment => Ok(()),
-            Line::Empty => self.repeat(1, out),
+            Line::Empty => self.repeat(1, true, out),
             Line::Says(instant, text) => self.say(Spoken { instant, text }, out),
             Line::Asks(word, text) => self.ask(word, text, archive, out),
         }
@@ -313,11 +349,17 @@ impl Prompt {
         ensures left { course_in self.old ≡ None → 0 < course.left → OnOk result (IsBehindStep course (course_in self.new)) }
         ensures last { last_in self.new ≡ last_in self.old }
     {
+        let begin = out.len();
+        let picture = picture_of(self.alloc, &self.session)?;
         let answer = take(self.alloc, &mut self.session, course.step, out)?;
         let course = course.behind_step(answer.is_ok());
         if ends_steps(answer) {
+            append_hint(out, answer)?;
             return course.append_end(out, &self.session);
         }
+        let is_quiet = is_quiet(&self.session, &picture, answer);
+        let hides = course.hides(&self.session, is_quiet);
+        keep(out, begin, hides);
         self.course = Some(course);
         Ok(())
     }

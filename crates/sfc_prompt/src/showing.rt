@@ -115,6 +115,8 @@ fn append_shown(
         Word::Why => why(alloc, session, text, out),
         Word::Explain => explain(text, out),
         Word::Help => append_help(out, text),
-        Word::Until | Word::Again | Word::Save | Word::Quit => Ok(()),
+        Word::Until | Word::AllUntil | Word::Again | Word::AllAgain | Word::Save | Word::Quit => Ok(
+            (),
+        ),
     }
 }

@@ -77,17 +77,23 @@ fn trace(
         magnitude(word, KEPT)
     };
     match most {
-        Some(most) => {
+        Some(most) if most > 0 => {
             let rows = newest(alloc, debugger, most)?;
             append_trace(out, debugger, &rows, most as usize)
         }
-        None => append_note(out, b"TRACE, or TRACE and a number from 1 to 1024"),
+        _ => append_note(out, b"TRACE, or TRACE and a number from 1 to 1024"),
     }
 }
 
 // What a refusal or a fault means.
 fn explain(out: &mut Vec<u8>, text: &[u8]) -> Result<(), AllocError> {
     let (word, _) = parted(text);
+    if word.is_empty() {
+        return append_note(
+            out,
+            b"EXPLAIN and the number or the name of a refusal or a fault",
+        );
+    }
     let number = magnitude(word, 255).map(|number| number as u8);
     append_explanation(out, number, word)
 }

@@ -1,4 +1,4 @@
-use Rattle.std.proofs.Common.{◌≡◌, ◌∙◌, refl, sym, subst, List, length}
+use Rattle.std.proofs.Common.{◌≡◌, ◌∙◌, refl, sym, subst}
 use Rattle.sfc_output.specs.sfc_core.Agreement.{plant_of}
 use Rattle.sfc_output.specs.sfc_core.PlantState.{state_of}
 use Rattle.sfc_output.specs.sfc_instance.Views.{Shows, instance_in, plant_in, tables_in}

@@ -8,14 +8,14 @@ use Rattle.sfc_prompt.proofs.Courses.{begins}
 use Rattle.sfc_prompt.proofs.course.read_wanted.Goals as goal
 
 pub returns-in-Condition : goal.returns-in-Condition
-returns-in-Condition c old =
+returns-in-Condition c old all =
     let a = c.in-Some.asked in
     begins c.args.plant.now c.args.text.now a.program a.text.now (added_by (Condition c.in-Condition.condition))
-    (Until c.in-Condition.condition) old c.in-Some.ensures
+    (Until c.in-Condition.condition) old all c.in-Some.ensures
     (subst (λ (f : Found). ConditionReads c.args.plant.now 0 a.program a.text.now (added_by f)) c.in-Condition.is c.in_ok-condition.ensures) refl
 
 pub returns-in-NoProgram : goal.returns-in-NoProgram
-returns-in-NoProgram c old =
+returns-in-NoProgram c old all =
     let a = c.in-Some.asked in
-    begins c.args.plant.now c.args.text.now a.program a.text.now (added_by NoProgram) Several old c.in-Some.ensures
+    begins c.args.plant.now c.args.text.now a.program a.text.now (added_by NoProgram) Several old all c.in-Some.ensures
     (subst (λ (f : Found). ConditionReads c.args.plant.now 0 a.program a.text.now (added_by f)) c.in-NoProgram.is c.in_ok-condition.ensures) refl

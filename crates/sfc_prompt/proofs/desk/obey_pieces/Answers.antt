@@ -1,6 +1,5 @@
-use Rattle.std.proofs.Common.{◌≡◌, ◌∙◌, ◌<◌, refl, sym, ap, subst, ◌+◌, arith, ℕ, List, [], ◌++◌, length, length-append, None, Ok}
+use Rattle.std.proofs.Common.{◌≡◌, ◌∙◌, refl, subst, ◌+◌, arith, ℕ, List, [], ◌++◌, None}
 use Rattle.std.specs.Io.KnownBytes.{IsAtEnd}
-use Rattle.std.proofs.lemmas.List.{append-nil}
 use Rattle.std.proofs.lemmas.Result.{err_from_is_err_and}
 use Rattle.sfc_asking.specs.sfc_script.Arriving.{ended_line}
 use Rattle.sfc_prompt.specs.declared.prompt.Flow.{Flow}

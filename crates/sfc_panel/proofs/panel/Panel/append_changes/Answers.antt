@@ -1,4 +1,4 @@
-use Rattle.std.proofs.Common.{◌≡◌, ◌++◌, ◌∙◌, ap, subst, List, length, ℕ, append_assoc}
+use Rattle.std.proofs.Common.{◌++◌, ◌∙◌, ap, List, ℕ, append_assoc}
 use Rattle.sfc_base.specs.declared.ids.VarId.{VarId}
 use Rattle.sfc_output.specs.sfc_core.Agreement.{plant_of}
 use Rattle.sfc_output.specs.sfc_core.PlantState.{state_of}

@@ -1,4 +1,4 @@
-use Rattle.std.proofs.Common.{◌≡◌, ◌∙◌, sym, ap, ◌==◌, true, false, length, ℕ}
+use Rattle.std.proofs.Common.{◌≡◌, ◌∙◌, sym, ap, ◌==◌, true, false, length}
 use Rattle.sfc_prompt.proofs.Waits.{last_some}
 use Rattle.sfc_prompt.proofs.arrived.Arrived.last.Goals as goal
 use Rattle.sfc_prompt.proofs.arrived.Arrived.last.Goals.{else-is_empty-via-then-is_empty+else-not-self, else-is_empty-via-else-is_empty}

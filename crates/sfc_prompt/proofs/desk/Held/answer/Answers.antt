@@ -1,4 +1,4 @@
-use Rattle.std.proofs.Common.{◌≡◌, refl, sym, subst, ℕ, List, [], inl, inr}
+use Rattle.std.proofs.Common.{refl, sym, subst, ℕ, List, [], inl, inr}
 use Rattle.std.proofs.lemmas.Result.{err_from_is_err_and}
 use Rattle.sfc_prompt.specs.declared.prompt.Prompt.{Prompt}
 use Rattle.sfc_prompt.specs.Prompts.{session_in}

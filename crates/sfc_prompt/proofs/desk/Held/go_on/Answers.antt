@@ -1,10 +1,9 @@
-use Rattle.std.proofs.Common.{◌≡◌, ◌∙◌, sym, [], ◌++◌, true, false}
+use Rattle.std.proofs.Common.{◌≡◌, ◌∙◌, sym, [], ◌++◌, true}
 use Rattle.std.specs.Prelude.{is_some}
 use Rattle.std.proofs.lemmas.Result.{err_from_is_err_and}
 use Rattle.sfc_base.proofs.Written.{Appends-more, Appends-none, front_second}
-use Rattle.sfc_prompt.specs.declared.prompt.Prompt.{Prompt}
 use Rattle.sfc_prompt.specs.Prompts.{course_in, session_in}
-use Rattle.sfc_prompt.proofs.Stepping.{fewer, none_of}
+use Rattle.sfc_prompt.proofs.Stepping.{none_of}
 use Rattle.sfc_prompt.proofs.Walking.{steps_more, steps_none, steps_then}
 use Rattle.sfc_prompt.proofs.Writing.{breaks_then, told_nothing, told_then}
 use Rattle.sfc_prompt.proofs.desk.Held.go_on.Goals as goal

@@ -1,5 +1,4 @@
-use Rattle.std.proofs.Common.{◌≡◌, refl, sym, subst, [], Bool, true, false, codes}
-use Rattle.sfc_prompt.specs.Desks.{WritesBy}
+use Rattle.std.proofs.Common.{sym, subst, [], Bool, codes}
 use Rattle.sfc_prompt.specs.Prompts.{session_in}
 use Rattle.sfc_prompt.specs.Walks.{Invites}
 use Rattle.sfc_base.proofs.Written.{Appends-none}

@@ -1,5 +1,5 @@
-use Rattle.std.proofs.Common.{◌≡◌, refl, sym, subst, [], Bool, true, false, inr, codes}
-use Rattle.sfc_prompt.specs.Desks.{Leaves, WritesBy}
+use Rattle.std.proofs.Common.{refl, sym, subst, [], Bool, inr, codes}
+use Rattle.sfc_prompt.specs.Desks.{Leaves}
 use Rattle.sfc_prompt.specs.Prompts.{session_in}
 use Rattle.sfc_base.proofs.Written.{Appends-none}
 use Rattle.sfc_prompt.proofs.Serving.{leaves_none, writes_text}

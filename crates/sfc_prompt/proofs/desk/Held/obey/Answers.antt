@@ -1,7 +1,6 @@
-use Rattle.std.proofs.Common.{◌≡◌, ◌++◌}
+use Rattle.std.proofs.Common.{◌++◌}
 use Rattle.std.proofs.lemmas.Result.{err_from_is_err_and}
 use Rattle.sfc_base.proofs.Written.{Appends-more, front_second}
-use Rattle.sfc_prompt.specs.declared.prompt.Prompt.{Prompt}
 use Rattle.sfc_prompt.specs.Prompts.{session_in}
 use Rattle.sfc_prompt.proofs.Walking.{all_taken, answers_break, part_then}
 use Rattle.sfc_prompt.proofs.Writing.{breaks_then, told_then}

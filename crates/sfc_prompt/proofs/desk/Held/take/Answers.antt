@@ -1,4 +1,4 @@
-use Rattle.std.proofs.Common.{◌≡◌, refl, sym, subst, ℕ, Bool, true, false, List, Result}
+use Rattle.std.proofs.Common.{◌≡◌, refl, sym, subst, Bool}
 use Rattle.std.proofs.lemmas.Result.{err_from_is_err_and}
 use Rattle.sfc_prompt.specs.declared.prompt.Flow.TheVariants.{GoesOn}
 use Rattle.sfc_prompt.specs.Desks.{WritesBy}

@@ -1,4 +1,4 @@
-use Rattle.std.proofs.Common.{◌≡◌, sym, subst, ℕ, List, ◌++◌, Result}
+use Rattle.std.proofs.Common.{sym, subst}
 use Rattle.std.proofs.lemmas.Result.{err_from_is_err_and}
 use Rattle.sfc_asking.specs.sfc_script.Lines.{lines_of}
 use Rattle.sfc_prompt.specs.declared.prompt.Prompt.{Prompt}

@@ -1,4 +1,4 @@
-use Rattle.std.proofs.Common.{◌≡◌, ◌∙◌, sym, subst, ap, [], ◌++◌, ◌<◌, ◌-◌, arith, ℕ, List, Bool, length}
+use Rattle.std.proofs.Common.{◌≡◌, subst, [], ◌++◌, ℕ, List, Bool}
 use Rattle.std.proofs.lemmas.Result.{err_from_is_err_and}
 use Rattle.sfc_base.proofs.Written.{Appends-more, Appends-none, front_second}
 use Rattle.sfc_prompt.specs.declared.prompt.Flow.{Flow}

@@ -1,6 +1,5 @@
-use Rattle.std.proofs.Common.{◌≡◌, refl, sym, subst, ℕ, List, []}
+use Rattle.std.proofs.Common.{refl, sym, subst, ℕ, List, []}
 use Rattle.std.proofs.lemmas.Result.{err_from_is_err_and}
-use Rattle.sfc_asking.specs.sfc_script.Lines.{lines_of}
 use Rattle.sfc_base.proofs.Written.{Appends-none}
 use Rattle.sfc_prompt.specs.Prompts.{session_in}
 use Rattle.sfc_prompt.specs.Walks.{Walks, WalksInto}

@@ -1,5 +1,4 @@
-use Rattle.std.proofs.Common.{◌≡◌, ◌∙◌, refl, sym, ap, subst, ℕ, ◌<◌, ◌==◌, arith, Bool, true, false, ◌||◌, List, Option, Some, None, rules}
-use Rattle.std.proofs.lemmas.Bool.Decides.{nat_tests}
+use Rattle.std.proofs.Common.{◌≡◌, ◌∙◌, refl, sym, ap, subst, ℕ, ◌<◌, Bool, true, false, List, Some, None, rules}
 use Rattle.sfc_asking.specs.sfc_debug.Steered.{Steered}
 use Rattle.sfc_prompt.specs.declared.course.Course.{Course}
 use Rattle.sfc_session.specs.declared.session.Session.{Session}

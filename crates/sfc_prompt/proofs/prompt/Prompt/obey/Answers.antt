@@ -14,4 +14,4 @@ returns-clause-puts g c h lines said =
     subst (λ (s : Said). HasLine s) (sym c.read_line-said.ensures) (has_line c.args.line.now) in
     goes_obeyed (session_in c.args.self.now) (session_in c.obey_line.new.self) c.args.out.now.items c.obey_line.new.out.items h lines
     (order_of (steered_in (session_in c.args.self.now)) h (as_said c.read_line-said.result))
-    (order_says (steered_in (session_in c.args.self.now)) h (as_said c.read_line-said.result) line) (c.in_ok-obey_line.ensures.obeys h lines said)
+    (order_says (steered_in (session_in c.args.self.now)) h said.accepted (as_said c.read_line-said.result) line) (c.in_ok-obey_line.ensures.obeys h lines said)
