@@ -2,43 +2,79 @@
 
 use crate::finding::Findings;
 use crate::kind::Kind;
-use crate::networks::Searched;
-use crate::view::{View, step_id};
+use crate::view::View;
 use sfc_base::ids::ActionId;
 use sfc_base::qualifier::TimedQualifier;
-use sfc_base::references::StepId;
+use sfc_flags::flags::Flags;
 use sfc_outline::item::Item;
 use sfc_page::append::append;
 use sfc_plant::association::{Qualifier, Target};
+use sfc_tables::step_action::StepAction;
+use sfc_tables::tables::Tables;
 use std::alloc::{AllocError, Global};
 
-/// The most pairs of associations with a time that are looked at in one chart.
-const MOST: usize = 20_000;
-
-// An association, with its step and its number among those of the chart.
-#[derive(Clone, Copy)]
-struct Entry {
-    step: StepId,
-    number: usize,
-    target: Target,
-    qualifier: Qualifier,
+// Whether it is this qualifier with a time.
+fn is(qualifier: Qualifier, wanted: TimedQualifier) -> bool {
+    match qualifier {
+        Qualifier::Timed(timed, _) => timed == wanted,
+        _ => false,
+    }
 }
 
-// All associations of a chart, in text order.
-fn entries_of(alloc: Global, view: &View<'_>) -> Result<Vec<Entry>, AllocError> {
-    let mut entries = Vec::new(alloc);
-    for (place, step) in view.steps().iter().enumerate() {
-        for association in step.associations.as_slice() {
-            let number = entries.len();
-            entries.push(Entry {
-                step: step_id(place),
-                number,
-                target: association.target,
-                qualifier: association.qualifier,
-            })?;
+// Whether it stores the action.
+fn is_stored(qualifier: Qualifier) -> bool {
+    qualifier == Qualifier::Set
+        || is(qualifier, TimedQualifier::StoredDelayed)
+        || is(qualifier, TimedQualifier::DelayedStored)
+        || is(qualifier, TimedQualifier::StoredLimited)
+}
+
+// What the associations of one action are together.
+#[derive(Clone, Copy)]
+struct Block {
+    // The place of the first that stores it.
+    first_stored: Option<usize>,
+    is_reset: bool,
+    is_delayed: bool,
+}
+
+impl Block {
+    // Of no association.
+    fn new() -> Block {
+        Block {
+            first_stored: None,
+            is_reset: false,
+            is_delayed: false,
         }
     }
-    Ok(entries)
+
+    // Takes the association at a place.
+    fn take(&mut self, place: usize, qualifier: Qualifier) {
+        if is_stored(qualifier) && self.first_stored.is_none() {
+            self.first_stored = Some(place);
+        }
+        self.is_reset = self.is_reset || qualifier == Qualifier::Reset;
+        self.is_delayed = self.is_delayed || is(qualifier, TimedQualifier::StoredDelayed);
+    }
+}
+
+// The block of each action, by its number.
+fn blocks_of(alloc: Global, tables: &Tables) -> Result<Vec<Block>, AllocError> {
+    let mut blocks = vec![in alloc; Block::new(); tables.actions()]?;
+    for (place, association) in tables.step_actions().iter().enumerate() {
+        if let Some(block) = blocks.get_mut(association.action.0) {
+            block.take(place, association.qualifier);
+        }
+    }
+    Ok(blocks)
+}
+
+/// An association by its place, with the block of its action.
+#[derive(Clone, Copy)]
+struct Entry {
+    place: usize,
+    association: StepAction,
+    block: Block,
 }
 
 impl Entry {
@@ -46,178 +82,133 @@ impl Entry {
     fn item(&self, view: &View<'_>) -> Item {
         Item::Association {
             program: view.number,
-            association: self.number,
+            association: self.place,
         }
     }
 
-    // Whether it has a time.
-    fn is_timed(&self) -> bool {
-        matches!(self.qualifier, Qualifier::Timed(_, _))
-    }
-
-    // Whether it is this qualifier with a time.
-    fn is(&self, wanted: TimedQualifier) -> bool {
-        match self.qualifier {
-            Qualifier::Timed(timed, _) => timed == wanted,
-            _ => false,
+    // Whether its step both sets and resets the action, and this is the one that resets it.
+    fn is_set_beside(&self, tables: &Tables) -> bool {
+        if self.association.qualifier != Qualifier::Reset {
+            return false;
         }
+        let step = self.association.step;
+        (step.0 as usize) < tables.steps()
+            && tables.of_step(step).iter().any(|other| other.qualifier == Qualifier::Set
+                && other.action == self.association.action)
     }
 
-    // Whether it stores the action.
-    fn is_stored(&self) -> bool {
-        self.qualifier == Qualifier::Set
-            || self.is(TimedQualifier::StoredDelayed)
-            || self.is(TimedQualifier::DelayedStored)
-            || self.is(TimedQualifier::StoredLimited)
+    // Whether it is SL of an action that has SD too.
+    fn is_limited_beside(&self) -> bool {
+        self.block.is_delayed && is(self.association.qualifier, TimedQualifier::StoredLimited)
+    }
+
+    // Whether it is the first that stores an action which nothing resets.
+    fn is_forever(&self) -> bool {
+        self.block.first_stored == Some(self.place) && !self.block.is_reset
     }
 }
 
-// Adds a qualifier and the step that has it.
-fn add_entry(told: &mut Vec<u8>, view: &View<'_>, entry: &Entry) -> Result<(), AllocError> {
-    append(told, entry.qualifier.letters())?;
-    append(told, b" in step ")?;
-    append(told, view.step(entry.step))
-}
-
-// Tells a pair of associations with a time that may be active together.
-fn tell_two_timed(
+// Tells that a step sets and resets an action.
+fn tell_set_and_reset(
     findings: &mut Findings,
     view: &View<'_>,
-    first: &Entry,
-    second: &Entry,
+    entry: &Entry,
+    name: &[u8],
 ) -> Result<(), AllocError> {
-    let alloc = findings.alloc();
-    let name = view.target(alloc, first.target)?;
-    let mut told = Vec::new(alloc);
-    append(&mut told, b"action ")?;
-    append(&mut told, &name)?;
-    append(&mut told, b" has ")?;
-    add_entry(&mut told, view, second)?;
-    append(&mut told, b" while ")?;
-    add_entry(&mut told, view, first)?;
-    append(
-        &mut told,
-        b" may be active: a scan with both faults by TwoTimed",
-    )?;
-    findings.tell_text(Kind::TwoTimed, second.item(view), told)
+    let step = view.step(entry.association.step);
+    findings.tell(
+        Kind::SetAndReset,
+        entry.item(view),
+        &[b"step ", step, b" sets and resets action ", name],
+    )
 }
 
-// Whether the steps of both may be active together.
-fn may_meet(searched: &Searched, first: &Entry, second: &Entry) -> bool {
-    searched.are_together(first.step, second.step)
-}
-
-// Tells the associations with a time of one action that may be active together, the second of each pair once. It answers whether it
-// gave up, since there are too many pairs.
-fn tell_timed(
+// Tells that an action is stored both delayed and limited.
+fn tell_limited(
     findings: &mut Findings,
     view: &View<'_>,
-    searched: &Searched,
-    entries: &[Entry],
-) -> Result<bool, AllocError> {
-    let mut left = MOST;
-    for (place, second) in entries.iter().enumerate() {
-        if !second.is_timed() {
-            continue;
-        }
-        for first in entries.iter().take(place) {
-            if !first.is_timed() || first.target != second.target {
-                continue;
-            }
-            if left == 0 {
-                return Ok(true);
-            }
-            left = left.saturating_sub(1);
-            if may_meet(searched, first, second) {
-                tell_two_timed(findings, view, first, second)?;
-                break;
-            }
-        }
-    }
-    Ok(false)
+    entry: &Entry,
+    name: &[u8],
+) -> Result<(), AllocError> {
+    findings.tell(
+        Kind::DelayedAndLimited,
+        entry.item(view),
+        &[
+            b"action ",
+            name,
+            b" has SD and SL: one that comes while the other is stored is a fault",
+        ],
+    )
 }
 
-// Whether the entry is the first one of its action that is stored.
-fn is_first_stored(entries: &[Entry], entry: &Entry) -> bool {
-    for other in entries {
-        if other.target == entry.target && other.is_stored() {
-            return other.number == entry.number;
-        }
-    }
-    false
-}
-
-// Whether the action has an R.
-fn is_reset(entries: &[Entry], target: Target) -> bool {
-    entries.iter().any(|entry| entry.target == target && entry.qualifier == Qualifier::Reset)
-}
-
-// Whether its step has an association of the same action with this qualifier.
-fn has_beside(entries: &[Entry], entry: &Entry, wanted: Qualifier) -> bool {
-    entries.iter().any(|other| other.step == entry.step
-        && other.target == entry.target
-        && other.qualifier == wanted)
-}
-
-// Whether the action has SD.
-fn has_delayed(entries: &[Entry], target: Target) -> bool {
-    entries.iter().any(|entry| entry.target == target && entry.is(TimedQualifier::StoredDelayed))
+// Tells that an action is stored and never reset.
+fn tell_forever(
+    findings: &mut Findings,
+    view: &View<'_>,
+    entry: &Entry,
+    name: &[u8],
+) -> Result<(), AllocError> {
+    let mut told = Vec::new(findings.alloc());
+    append(&mut told, b"action ")?;
+    append(&mut told, name)?;
+    append(&mut told, b" has ")?;
+    append(&mut told, entry.association.qualifier.letters())?;
+    append(&mut told, b" and no R: it acts once in its life")?;
+    findings.tell_text(Kind::StoredForever, entry.item(view), told)
 }
 
 // Tells what is wrong with one association by itself.
 fn tell_entry(
     findings: &mut Findings,
     view: &View<'_>,
-    entries: &[Entry],
+    tables: &Tables,
     entry: &Entry,
 ) -> Result<(), AllocError> {
-    let alloc = findings.alloc();
-    let name = view.target(alloc, entry.target)?;
-    if entry.qualifier == Qualifier::Reset && has_beside(entries, entry, Qualifier::Set) {
-        let step = view.step(entry.step);
-        findings.tell(
-            Kind::SetAndReset,
-            entry.item(view),
-            &[b"step ", step, b" sets and resets action ", &name],
-        )?;
+    let (beside, limited, forever) = (
+        entry.is_set_beside(tables),
+        entry.is_limited_beside(),
+        entry.is_forever(),
+    );
+    if !beside && !limited && !forever {
+        return Ok(());
     }
-    if entry.is(TimedQualifier::StoredLimited) && has_delayed(entries, entry.target) {
-        findings.tell(
-            Kind::DelayedAndLimited,
-            entry.item(view),
-            &[
-                b"action ",
-                &name,
-                b" has SD and SL: one that comes while the other is stored is a fault",
-            ],
-        )?;
+    let name = view.action(findings.alloc(), tables, entry.association.action)?;
+    if beside {
+        tell_set_and_reset(findings, view, entry, &name)?;
     }
-    if is_first_stored(entries, entry) && !is_reset(entries, entry.target) {
-        let letters = entry.qualifier.letters();
-        findings.tell(
-            Kind::StoredForever,
-            entry.item(view),
-            &[
-                b"action ",
-                &name,
-                b" has ",
-                letters,
-                b" and no R: it acts once in its life",
-            ],
-        )?;
+    if limited {
+        tell_limited(findings, view, entry, &name)?;
+    }
+    if forever {
+        tell_forever(findings, view, entry, &name)?;
     }
     Ok(())
+}
+
+// The declared actions that some step is associated with.
+fn associated(alloc: Global, view: &View<'_>, tables: &Tables) -> Result<Flags, AllocError> {
+    let mut found = Flags::new(alloc, view.chart().actions.as_slice().len())?;
+    for association in tables.step_actions() {
+        if association.action.0 < tables.actions() {
+            if let Target::Declared(ActionId(place)) = tables.target(association.action) {
+                if place < found.count() {
+                    found.set(place, true);
+                }
+            }
+        }
+    }
+    Ok(found)
 }
 
 // Tells each declared action that no step is associated with.
 fn tell_unassociated(
     findings: &mut Findings,
     view: &View<'_>,
-    entries: &[Entry],
+    tables: &Tables,
 ) -> Result<(), AllocError> {
+    let found = associated(findings.alloc(), view, tables)?;
     for (place, action) in view.chart().actions.as_slice().iter().enumerate() {
-        let target = Target::Declared(ActionId(place));
-        if entries.iter().any(|entry| entry.target == target) {
+        if place < found.count() && found.get(place) {
             continue;
         }
         let item = Item::Action {
@@ -236,17 +227,22 @@ fn tell_unassociated(
     Ok(())
 }
 
-/// Tells what is wrong with the associations of a program type; whether it gave up, since there are too many with a time. The one error
-/// is that memory was refused.
+/// Tells what is wrong with the associations of a program type, each by itself. The one error is that memory was refused.
 pub fn tell_associations(
     findings: &mut Findings,
     view: &View<'_>,
-    searched: &Searched,
-) -> Result<bool, AllocError> {
-    let entries = entries_of(findings.alloc(), view)?;
-    for entry in &entries {
-        tell_entry(findings, view, &entries, entry)?;
+    tables: &Tables,
+) -> Result<(), AllocError> {
+    let blocks = blocks_of(findings.alloc(), tables)?;
+    for (place, association) in tables.step_actions().iter().enumerate() {
+        if let Some(block) = blocks.get(association.action.0) {
+            let entry = Entry {
+                place,
+                association: *association,
+                block: *block,
+            };
+            tell_entry(findings, view, tables, &entry)?;
+        }
     }
-    tell_unassociated(findings, view, &entries)?;
-    tell_timed(findings, view, searched, &entries)
+    tell_unassociated(findings, view, tables)
 }

@@ -30,6 +30,15 @@ pub struct Bound {
     pub is_time: bool,
 }
 
+/// Where a condition reads an atom.
+#[derive(Clone, Copy, Debug, PartialEq, Eq)]
+pub struct Leaf {
+    // The place of the atom.
+    place: usize,
+    // Whether it is the opposite of the atom.
+    is_opposite: bool,
+}
+
 /// The atoms of conditions, each once.
 #[derive(Drop)]
 pub struct Atoms {
@@ -74,77 +83,83 @@ impl Atoms {
             && atom.text.as_slice() == wanted.text.as_slice())
     }
 
-    // Puts an atom, where it isn't there.
-    fn put(&mut self, atom: Atom) -> Result<(), AllocError> {
-        if self.find(&atom).is_some() {
-            return Ok(());
+    // Puts an atom, where it isn't there; its place, which none has where there are too many.
+    fn put(&mut self, atom: Atom) -> Result<usize, AllocError> {
+        if let Some(place) = self.find(&atom) {
+            return Ok(place);
         }
-        if self.list.len() >= MOST {
+        let place = self.list.len();
+        if place >= MOST {
             self.is_full = true;
-            return Ok(());
+            return Ok(usize::MAX);
         }
         self.list.push(atom)?;
+        Ok(place)
+    }
+
+    // Puts the atom that an expression is, and where it is read.
+    fn take_atom(
+        &mut self,
+        alloc: Global,
+        view: &View<'_>,
+        expr: &Expr,
+        leaves: &mut Vec<Leaf>,
+    ) -> Result<(), AllocError> {
+        let place = match atom_in(alloc, view, expr)? {
+            Some(atom) => self.put(atom)?,
+            None => usize::MAX,
+        };
+        leaves.push(Leaf {
+            place,
+            is_opposite: is_opposite(expr),
+        })?;
         Ok(())
     }
 
-    /// Puts the atoms of an expression. The one error is that memory was refused.
-    pub fn take(&mut self, alloc: Global, view: &View<'_>, expr: &Expr) -> Result<(), AllocError> {
+    /// Puts the atoms of an expression, and where it reads them, from left to right. The one error is that memory was refused.
+    pub fn take(
+        &mut self,
+        alloc: Global,
+        view: &View<'_>,
+        expr: &Expr,
+        leaves: &mut Vec<Leaf>,
+    ) -> Result<(), AllocError> {
         match expr {
             Expr::Literal(_) => Ok(()),
-            Expr::Not(inner) => self.take(alloc, view, inner),
+            Expr::Not(inner) => self.take(alloc, view, inner, leaves),
             Expr::Binary(_, VarType::Bool, left, right) => {
-                self.take(alloc, view, left)?;
-                self.take(alloc, view, right)
+                self.take(alloc, view, left, leaves)?;
+                self.take(alloc, view, right, leaves)
             }
-            _ => match atom_in(alloc, view, expr)? {
-                Some(atom) => self.put(atom),
-                None => Ok(()),
-            },
+            _ => self.take_atom(alloc, view, expr, leaves),
         }
     }
+}
 
-    /// What an expression gives where the atoms are as the bits say. The one error is that memory was refused.
-    pub fn value(
-        &self,
-        alloc: Global,
-        view: &View<'_>,
-        expr: &Expr,
-        bits: u32,
-    ) -> Result<bool, AllocError> {
-        match expr {
-            Expr::Literal(value) => Ok(value.is_true()),
-            Expr::Not(inner) => Ok(!self.value(alloc, view, inner, bits)?),
-            Expr::Binary(operator, VarType::Bool, left, right) => {
-                let left = self.value(alloc, view, left, bits)?;
-                let right = self.value(alloc, view, right, bits)?;
-                Ok(joined(*operator, left, right))
-            }
-            _ => self.atom_value(alloc, view, expr, bits),
+/// What an expression gives that reads these atoms, where they are as the bits say; and those that are left.
+pub fn value<'a>(expr: &Expr, leaves: &'a [Leaf], bits: u32) -> (bool, &'a [Leaf]) {
+    match expr {
+        Expr::Literal(value) => (value.is_true(), leaves),
+        Expr::Not(inner) => {
+            let (inner, rest) = value(inner, leaves, bits);
+            (!inner, rest)
         }
-    }
-
-    // What an atom gives, or its opposite.
-    fn atom_value(
-        &self,
-        alloc: Global,
-        view: &View<'_>,
-        expr: &Expr,
-        bits: u32,
-    ) -> Result<bool, AllocError> {
-        let Some(atom) = atom_in(alloc, view, expr)? else {
-            return Ok(false);
-        };
-        let Some(place) = self.find(&atom) else {
-            return Ok(false);
-        };
-        Ok(is_on(bits, place) != is_opposite(expr))
+        Expr::Binary(operator, VarType::Bool, left, right) => {
+            let (left, rest) = value(left, leaves, bits);
+            let (right, rest) = value(right, rest, bits);
+            (joined(*operator, left, right), rest)
+        }
+        _ => match leaves.split_first() {
+            Some((leaf, rest)) => (is_on(bits, leaf.place) != leaf.is_opposite, rest),
+            None => (false, leaves),
+        },
     }
 }
 
 /// Whether the bit at this place is set.
 pub fn is_on(bits: u32, place: usize) -> bool {
     let mut rest = bits;
-    for _ in 0..place {
+    for _ in 0..place.min(32) {
         rest /= 2;
     }
     rest % 2 == 1

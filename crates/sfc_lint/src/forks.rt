@@ -1,5 +1,6 @@
 //! Simultaneous sequences that nothing joins (2.6.5).
 
+use crate::budget::Budget;
 use crate::finding::Findings;
 use crate::kind::Kind;
 use crate::view::View;
@@ -10,8 +11,29 @@ use sfc_outline::item::Item;
 use sfc_tables::tables::Tables;
 use std::alloc::{AllocError, Global};
 
-/// The most sequences that are followed in one chart.
-const MOST: usize = 20_000;
+// Of each step the transitions that it precedes.
+fn behind_steps(alloc: Global, tables: &Tables) -> Result<Vec<Vec<TransitionId>>, AllocError> {
+    let mut behind: Vec<Vec<TransitionId>> = Vec::new(alloc);
+    for _ in 0..tables.steps() {
+        behind.push(Vec::new(alloc))?;
+    }
+    for number in 0..tables.transitions() {
+        let transition = TransitionId(number as u16);
+        for step in tables.preceding(transition) {
+            if let Some(list) = behind.get_mut(step.0 as usize) {
+                list.push(transition)?;
+            }
+        }
+    }
+    Ok(behind)
+}
+
+/// A chart, and of each step the transitions that it precedes.
+#[derive(Clone, Copy)]
+struct Ways<'a> {
+    tables: &'a Tables,
+    behind: &'a [Vec<TransitionId>],
+}
 
 // Marks a step, and puts it last where it wasn't marked.
 fn reach(marks: &mut Flags, reached: &mut Vec<StepId>, step: StepId) -> Result<(), AllocError> {
@@ -23,37 +45,62 @@ fn reach(marks: &mut Flags, reached: &mut Vec<StepId>, step: StepId) -> Result<(
     Ok(())
 }
 
-// Reaches the steps behind the transitions that a step is before.
-fn go_on(
-    tables: &Tables,
-    marks: &mut Flags,
-    reached: &mut Vec<StepId>,
-    step: StepId,
-) -> Result<(), AllocError> {
-    for number in 0..tables.transitions() {
-        let transition = TransitionId(number as u16);
-        if tables.preceding(transition).contains(&step) {
-            for next in tables.following(transition) {
-                reach(marks, reached, *next)?;
-            }
+impl Ways<'_> {
+    // Reaches the steps behind a transition.
+    fn pass(
+        &self,
+        marks: &mut Flags,
+        reached: &mut Vec<StepId>,
+        transition: TransitionId,
+    ) -> Result<(), AllocError> {
+        if transition.0 as usize >= self.tables.transitions() {
+            return Ok(());
         }
+        for next in self.tables.following(transition) {
+            reach(marks, reached, *next)?;
+        }
+        Ok(())
     }
-    Ok(())
-}
 
-// The steps to which transitions lead from a step, itself among them.
-fn reached_from(alloc: Global, tables: &Tables, step: StepId) -> Result<Flags, AllocError> {
-    let mut marks = Flags::new(alloc, tables.steps())?;
-    let mut reached = Vec::new(alloc);
-    reach(&mut marks, &mut reached, step)?;
-    for place in 0..tables.steps() {
-        let Some(one) = reached.get(place) else {
-            break;
+    // Reaches the steps behind the transitions that a step is before.
+    fn go_on(
+        &self,
+        marks: &mut Flags,
+        reached: &mut Vec<StepId>,
+        step: StepId,
+    ) -> Result<(), AllocError> {
+        let Some(list) = self.behind.get(step.0 as usize) else {
+            return Ok(());
         };
-        let one = *one;
-        go_on(tables, &mut marks, &mut reached, one)?;
+        for transition in list {
+            self.pass(marks, reached, *transition)?;
+        }
+        Ok(())
     }
-    Ok(marks)
+
+    // The steps to which transitions lead from a step, itself among them.
+    fn reached_from(&self, alloc: Global, step: StepId) -> Result<Flags, AllocError> {
+        let mut marks = Flags::new(alloc, self.tables.steps())?;
+        let mut reached = Vec::new(alloc);
+        reach(&mut marks, &mut reached, step)?;
+        for place in 0..self.tables.steps() {
+            let Some(one) = reached.get(place) else {
+                break;
+            };
+            let one = *one;
+            self.go_on(&mut marks, &mut reached, one)?;
+        }
+        Ok(marks)
+    }
+
+    // Whether nothing joins the sequences that begin with these steps.
+    fn never_join(&self, alloc: Global, following: &[StepId]) -> Result<bool, AllocError> {
+        let mut sequences = Vec::new(alloc);
+        for step in following {
+            sequences.push(self.reached_from(alloc, *step)?)?;
+        }
+        Ok(!are_joined(self.tables, &sequences))
+    }
 }
 
 // Whether two of these sequences lead to two of these steps: the pairs of a sequence and a step to which it leads are neither all of one
@@ -89,50 +136,57 @@ fn are_joined(tables: &Tables, sequences: &[Flags]) -> bool {
     false
 }
 
-// Whether nothing joins the sequences that begin with these steps.
-fn never_join(alloc: Global, tables: &Tables, following: &[StepId]) -> Result<bool, AllocError> {
-    let mut sequences = Vec::new(alloc);
-    for step in following {
-        sequences.push(reached_from(alloc, tables, *step)?)?;
-    }
-    Ok(!are_joined(tables, &sequences))
+// Tells a transition whose sequences nothing joins.
+fn tell_fork(
+    findings: &mut Findings,
+    view: &View<'_>,
+    transition: TransitionId,
+    following: &[StepId],
+) -> Result<(), AllocError> {
+    let name = view.transition(findings.alloc(), transition)?;
+    let steps = view.step_list(findings.alloc(), following)?;
+    let item = Item::Transition {
+        program: view.number,
+        transition: transition.0 as usize,
+    };
+    findings.tell(
+        Kind::NotJoined,
+        item,
+        &[
+            b"nothing joins the sequences that transition ",
+            &name,
+            b" begins: ",
+            &steps,
+        ],
+    )
 }
 
-/// Tells each transition that begins several sequences together of which no two are joined; whether it gave up before the last one,
-/// since there are too many. The one error is that memory was refused.
+/// Tells each transition that begins several sequences together of which no two are joined; whether it gave up before the last one, as
+/// the budget didn't allow it. The one error is that memory was refused.
 pub fn tell_forks(
     findings: &mut Findings,
     view: &View<'_>,
     tables: &Tables,
+    budget: &mut Budget,
 ) -> Result<bool, AllocError> {
-    let mut left = MOST;
+    let alloc = findings.alloc();
+    let behind = behind_steps(alloc, tables)?;
+    let ways = Ways {
+        tables,
+        behind: &behind,
+    };
+    let looks = tables.steps().saturating_add(tables.transitions());
     for number in 0..tables.transitions() {
         let transition = TransitionId(number as u16);
         let following = tables.following(transition);
         if following.len() < 2 {
             continue;
         }
-        if following.len() > left {
+        if !budget.take(following.len(), looks) {
             return Ok(true);
         }
-        left = left.saturating_sub(following.len());
-        if never_join(findings.alloc(), tables, following)? {
-            let name = view.transition(findings.alloc(), transition)?;
-            let steps = view.step_list(findings.alloc(), following)?;
-            let item = Item::Transition {
-                program: view.number,
-                transition: number,
-            };
-            findings.tell(
-                Kind::NotJoined,
-                item,
-                &[
-                    b"nothing joins the sequences that transition ",
-                    &name,
-                    b" begins: ",
-                    &steps,
-                ],
-            )?;
+        if ways.never_join(alloc, following)? {
+            tell_fork(findings, view, transition, following)?;
         }
     }
     Ok(false)

@@ -1,15 +1,18 @@
 //! All warnings of a text.
 
 use crate::associations::tell_associations;
+use crate::budget::Budget;
 use crate::expressions::{tell_bodies, tell_conditions};
-use crate::finding::{Finding, Findings, Site};
+use crate::finding::{Finding, Findings};
 use crate::forks::tell_forks;
 use crate::kind::Kind;
 use crate::names::{tell_cases, tell_near};
 use crate::networks::Searched;
-use crate::pragmas::{Allowed, allowed_by};
+use crate::places::Places;
+use crate::pragmas::allowed_by;
 use crate::selections::tell_selections;
 use crate::tasks::tell_tasks;
+use crate::timed::tell_timed;
 use crate::view::View;
 use crate::writers::tell_variables;
 use sfc_outline::outline::{Outline, outline_of_plant};
@@ -54,21 +57,22 @@ fn tables_at(alloc: Global, plant: &Plant, number: usize) -> Result<Option<Table
 fn tell_program(
     findings: &mut Findings,
     view: &View<'_>,
-    limit: usize,
+    budget: &mut Budget,
 ) -> Result<bool, AllocError> {
     let alloc = findings.alloc();
     let Some(tables) = tables_at(alloc, view.plant, view.number)? else {
         return Ok(false);
     };
-    let searched = Searched::of(alloc, &tables, limit)?;
-    searched.tell(findings, view, &tables)?;
-    let forks = tell_forks(findings, view, &tables)?;
-    let timed = tell_associations(findings, view, &searched)?;
+    let searched = Searched::of(alloc, &tables, budget)?;
+    let networks = searched.tell(findings, view, &tables, budget)?;
+    let forks = tell_forks(findings, view, &tables, budget)?;
+    tell_associations(findings, view, &tables)?;
+    tell_timed(findings, view, &tables, &searched)?;
     tell_conditions(findings, view)?;
     tell_bodies(findings, view)?;
-    let selections = tell_selections(findings, view)?;
-    tell_near(findings, view.plant, view)?;
-    Ok(searched.gave_up() || forks || timed || selections)
+    let selections = tell_selections(findings, view, budget)?;
+    let names = tell_near(findings, view.plant, view, budget)?;
+    Ok(networks || forks || selections || names)
 }
 
 // The program types of a plant.
@@ -84,31 +88,6 @@ fn views_of(alloc: Global, plant: &Plant) -> Result<Vec<View<'_>>, AllocError> {
     Ok(views)
 }
 
-// Where a warning stands.
-fn span_of(outline: &Outline, finding: &Finding) -> Span {
-    match finding.site {
-        Site::Bytes(span) => span,
-        Site::Item(item) => match outline.entry_of(item) {
-            Some(entry) => entry.name.unwrap_or(entry.span),
-            None => Span { from: 0, to: 0 },
-        },
-    }
-}
-
-// Whether the bytes lie in an element that begins at a byte.
-fn lies_in(outline: &Outline, from: u32, span: Span) -> bool {
-    outline.entries.iter().any(|entry| entry.span.from == from
-        && from <= span.from
-        && span.to <= entry.span.to)
-}
-
-// Whether the text allows the warning.
-fn is_allowed(outline: &Outline, allowed: &[Allowed], kind: Kind, span: Span) -> bool {
-    allowed
-        .iter()
-        .any(|one| one.kind == kind && lies_in(outline, one.from, span))
-}
-
 // The warnings that a text doesn't allow, in text order.
 fn placed(
     alloc: Global,
@@ -116,14 +95,18 @@ fn placed(
     outline: &Outline,
     findings: Vec<Finding>,
 ) -> Result<Vec<Warning>, AllocError> {
+    if findings.is_empty() {
+        return Ok(Vec::new(alloc));
+    }
     let Ok(found) = tokens(alloc, text) else {
         return Err(AllocError);
     };
     let allowed = allowed_by(alloc, text, &found)?;
+    let places = Places::of(alloc, outline)?;
     let mut list = Vec::new(alloc);
     for finding in findings {
-        let span = span_of(outline, &finding);
-        if !is_allowed(outline, &allowed, finding.kind, span) {
+        let span = places.span_of(&finding);
+        if !places.is_allowed(&allowed, finding.kind, span) {
             let Finding {
                 kind,
                 site: _,
@@ -142,21 +125,22 @@ fn placed(
     Ok(list)
 }
 
-/// The warnings of a text that was read as this tree and loaded as this plant, but those that it allows. Each network is searched up to so
-/// many sets of active steps. The one error is that memory was refused.
+/// The warnings of a text that was read as this tree and loaded as this plant, but those that it allows, as far as the budget goes. The
+/// one error is that memory was refused.
 pub fn lint(
     alloc: Global,
     text: &[u8],
     source: &Source,
     plant: &Plant,
-    limit: usize,
+    budget: Budget,
 ) -> Result<Warnings, AllocError> {
     let outline = outline_of_plant(alloc, text, source, plant)?;
     let views = views_of(alloc, plant)?;
     let mut findings = Findings::new(alloc);
     let mut given_up = Vec::new(alloc);
+    let mut budget = budget;
     for view in &views {
-        if tell_program(&mut findings, view, limit)? {
+        if tell_program(&mut findings, view, &mut budget)? {
             if !given_up.is_empty() {
                 given_up.extend_from_slice(b", ")?;
             }

@@ -1,7 +1,9 @@
 //! Names that are easily taken for one another (2.1.2).
 
+use crate::budget::Budget;
 use crate::finding::{Findings, Site};
 use crate::kind::Kind;
+use crate::near::nearest;
 use crate::view::View;
 use sfc_outline::item::Item;
 use sfc_outline::mention::{Declared, Mention};
@@ -10,11 +12,8 @@ use sfc_plant::plant::Plant;
 use sfc_tokens::span::Span;
 use std::alloc::AllocError;
 
-/// The shortest name that is held to others.
-const SHORTEST: usize = 4;
-
-/// The most names of one space that are held to one another.
-const MOST: usize = 1_500;
+/// How many looks a byte of a name takes.
+const LOOKS: usize = 20;
 
 /// The most names that are told to be written in another case.
 const MOST_CASES: usize = 200;
@@ -26,74 +25,38 @@ struct Named<'a> {
     item: Item,
 }
 
-// How many bytes two names have in common from the front, where case counts for nothing.
-fn common_front(one: &[u8], other: &[u8]) -> usize {
-    let mut count = 0usize;
-    for (a, b) in one.iter().zip(other) {
-        if !a.eq_ignore_ascii_case(b) {
-            return count;
-        }
-        count = count.saturating_add(1);
+// Tells the names of a space that are near to an earlier one, each once; whether the budget didn't allow it.
+fn tell_space(
+    findings: &mut Findings,
+    space: &[Named<'_>],
+    budget: &mut Budget,
+) -> Result<bool, AllocError> {
+    let alloc = findings.alloc();
+    let mut names = Vec::new(alloc);
+    let mut bytes = 0usize;
+    for named in space {
+        names.push(named.name)?;
+        bytes = bytes.saturating_add(named.name.len());
     }
-    count
-}
-
-// Whether the names are alike behind so many bytes of each.
-fn is_same_behind(one: &[u8], other: &[u8], passed: usize, other_passed: usize) -> bool {
-    let (Some(one), Some(other)) = (one.get(passed..), other.get(other_passed..)) else {
-        return false;
-    };
-    one.eq_ignore_ascii_case(other)
-}
-
-// Whether the byte at the place is a letter, and not the last byte.
-fn is_inner_letter(name: &[u8], place: usize) -> bool {
-    place.saturating_add(1) < name.len() && name.get(place).is_some_and(u8::is_ascii_alphabetic)
-}
-
-// Whether two names differ in one letter alone, which isn't the last one: another letter in its place, or none.
-fn are_near(one: &[u8], other: &[u8]) -> bool {
-    if one.len() < SHORTEST || other.len() < SHORTEST {
-        return false;
+    if !budget.take(bytes, LOOKS) {
+        return Ok(true);
     }
-    let place = common_front(one, other);
-    let next = place.saturating_add(1);
-    if one.len() == other.len() {
-        return is_inner_letter(one, place)
-            && is_inner_letter(other, place)
-            && is_same_behind(one, other, next, next);
+    for (second, first) in space.iter().zip(nearest(alloc, &names)?) {
+        let Some(first) = first.and_then(|first| space.get(first)) else {
+            continue;
+        };
+        findings.tell(
+            Kind::NearNames,
+            second.item,
+            &[
+                second.name,
+                b" differs from ",
+                first.name,
+                b" in one letter",
+            ],
+        )?;
     }
-    if one.len() == other.len().saturating_add(1) {
-        return is_inner_letter(one, place) && is_same_behind(one, other, next, place);
-    }
-    other.len() == one.len().saturating_add(1)
-        && is_inner_letter(other, place)
-        && is_same_behind(one, other, place, next)
-}
-
-// Tells the names of a space that are near to an earlier one, each once.
-fn tell_space(findings: &mut Findings, names: &[Named<'_>]) -> Result<(), AllocError> {
-    if names.len() > MOST {
-        return Ok(());
-    }
-    for (place, second) in names.iter().enumerate() {
-        for first in names.iter().take(place) {
-            if are_near(first.name, second.name) {
-                findings.tell(
-                    Kind::NearNames,
-                    second.item,
-                    &[
-                        second.name,
-                        b" differs from ",
-                        first.name,
-                        b" in one letter",
-                    ],
-                )?;
-                break;
-            }
-        }
-    }
-    Ok(())
+    Ok(false)
 }
 
 // Tells the near names of the variables that a program type sees.
@@ -101,7 +64,8 @@ fn tell_near_variables(
     findings: &mut Findings,
     plant: &Plant,
     view: &View<'_>,
-) -> Result<(), AllocError> {
+    budget: &mut Budget,
+) -> Result<bool, AllocError> {
     let mut names = Vec::new(findings.alloc());
     for global in view.program.externals.as_slice() {
         if let Some(variable) = plant.globals().get(global.0) {
@@ -120,11 +84,15 @@ fn tell_near_variables(
             },
         })?;
     }
-    tell_space(findings, &names)
+    tell_space(findings, &names, budget)
 }
 
 // Tells the near names of the steps of a program type.
-fn tell_near_steps(findings: &mut Findings, view: &View<'_>) -> Result<(), AllocError> {
+fn tell_near_steps(
+    findings: &mut Findings,
+    view: &View<'_>,
+    budget: &mut Budget,
+) -> Result<bool, AllocError> {
     let mut names = Vec::new(findings.alloc());
     for (place, step) in view.steps().iter().enumerate() {
         names.push(Named {
@@ -135,17 +103,20 @@ fn tell_near_steps(findings: &mut Findings, view: &View<'_>) -> Result<(), Alloc
             },
         })?;
     }
-    tell_space(findings, &names)
+    tell_space(findings, &names, budget)
 }
 
-/// Tells the names of a program type that differ in one letter. The one error is that memory was refused.
+/// Tells the names of a program type that differ in one letter; whether it gave up, as the budget didn't allow it. The one error is that
+/// memory was refused.
 pub fn tell_near(
     findings: &mut Findings,
     plant: &Plant,
     view: &View<'_>,
-) -> Result<(), AllocError> {
-    tell_near_variables(findings, plant, view)?;
-    tell_near_steps(findings, view)
+    budget: &mut Budget,
+) -> Result<bool, AllocError> {
+    let variables = tell_near_variables(findings, plant, view, budget)?;
+    let steps = tell_near_steps(findings, view, budget)?;
+    Ok(variables || steps)
 }
 
 // The bytes of a text.

@@ -1,6 +1,7 @@
 //! Transitions of one step whose conditions may be TRUE together (2.6.5).
 
-use crate::atoms::{Atom, Atoms, is_on};
+use crate::atoms::{Atom, Atoms, Leaf, is_on, value};
+use crate::budget::Budget;
 use crate::finding::Findings;
 use crate::kind::Kind;
 use crate::view::{View, transition_id};
@@ -12,6 +13,9 @@ use std::alloc::{AllocError, Global};
 
 /// The most pairs of transitions that are looked at in one chart.
 const MOST: usize = 2_000;
+
+/// How many looks it takes to see whether two conditions are TRUE in one way.
+const LOOKS: usize = 100;
 
 /// The least and the greatest number that an operand can be.
 const LEAST: i64 = -4_611_686_018_427_387_904;
@@ -91,14 +95,6 @@ fn is_possible(atoms: &[Atom], bits: u32) -> bool {
     atoms.iter().all(|atom| atom.bound.is_none() || has_room(atoms, bits, &atom.text))
 }
 
-// Whether the two share a step before them.
-fn share(one: &Transition, other: &Transition) -> bool {
-    one.preceding
-        .as_slice()
-        .iter()
-        .any(|step| other.preceding.as_slice().contains(step))
-}
-
 // How a comparison is written that is TRUE, or FALSE.
 fn sign_of(operator: Operator, is_true: bool) -> &'static [u8] {
     match (operator, is_true) {
@@ -136,32 +132,55 @@ fn told_atoms(alloc: Global, atoms: &[Atom], bits: u32) -> Result<Vec<u8>, Alloc
     Ok(told)
 }
 
-// The first way in which the atoms can be so that both conditions are TRUE; None where there is none, or there are too many atoms.
-fn both_true(
+// What became of a pair of transitions.
+enum Looked {
+    // In no way both are TRUE, as far as can be seen.
+    Apart,
+    // The first way in which both are TRUE, in words.
+    Together(Vec<u8>),
+    // The budget didn't allow to look.
+    GaveUp,
+}
+
+// Whether a condition is TRUE that reads these atoms, where they are as the bits say.
+fn is_true(transition: &Transition, leaves: &[Leaf], bits: u32) -> bool {
+    let (value, _) = value(transition.condition.expr(), leaves, bits);
+    value
+}
+
+// Looks for the first way in which the atoms can be so that both conditions are TRUE; where there are too many atoms, for none.
+fn look_at(
     alloc: Global,
     view: &View<'_>,
-    one: &Transition,
-    other: &Transition,
-) -> Result<Option<Vec<u8>>, AllocError> {
-    let mut atoms = Atoms::new(alloc);
-    atoms.take(alloc, view, one.condition.expr())?;
-    atoms.take(alloc, view, other.condition.expr())?;
-    if atoms.is_full || view.instance().is_none() {
-        return Ok(None);
+    (one, other): (&Transition, &Transition),
+    budget: &mut Budget,
+) -> Result<Looked, AllocError> {
+    let (mut atoms, mut leaves, mut other_leaves) = (
+        Atoms::new(alloc),
+        Vec::new(alloc),
+        Vec::new(alloc),
+    );
+    atoms.take(alloc, view, one.condition.expr(), &mut leaves)?;
+    atoms.take(alloc, view, other.condition.expr(), &mut other_leaves)?;
+    if atoms.is_full {
+        return Ok(Looked::Apart);
     }
     let mut ways = 1u32;
     for _ in 0..atoms.list.len() {
         ways = ways.saturating_mul(2);
     }
     for bits in 0..ways.min(65_536) {
-        if is_possible(&atoms.list, bits)
-            && atoms.value(alloc, view, one.condition.expr(), bits)?
-            && atoms.value(alloc, view, other.condition.expr(), bits)?
+        if !budget.take(LOOKS, 1) {
+            return Ok(Looked::GaveUp);
+        }
+        if is_true(one, &leaves, bits)
+            && is_true(other, &other_leaves, bits)
+            && is_possible(&atoms.list, bits)
         {
-            return Ok(Some(told_atoms(alloc, &atoms.list, bits)?));
+            return Ok(Looked::Together(told_atoms(alloc, &atoms.list, bits)?));
         }
     }
-    Ok(None)
+    Ok(Looked::Apart)
 }
 
 // Tells a pair of transitions that may be TRUE together.
@@ -196,25 +215,96 @@ fn tell_pair(
     findings.add_line(&[b"where: ", way])
 }
 
-/// Tells the pairs of transitions that share a step before them, have no PRIORITY, and may be TRUE together, as far as they are made of at
-/// most 16 atoms; whether it gave up, since there are too many pairs. The one error is that memory was refused.
-pub fn tell_selections(findings: &mut Findings, view: &View<'_>) -> Result<bool, AllocError> {
-    let mut left = MOST;
-    for (second, other) in view.transitions().iter().enumerate() {
-        if other.priority.is_some() {
+// The transitions without a PRIORITY that each step is before, by their places.
+fn behind_steps(alloc: Global, view: &View<'_>) -> Result<Vec<Vec<usize>>, AllocError> {
+    let mut behind: Vec<Vec<usize>> = Vec::new(alloc);
+    for _ in view.steps() {
+        behind.push(Vec::new(alloc))?;
+    }
+    for (place, transition) in view.transitions().iter().enumerate() {
+        if transition.priority.is_some() {
             continue;
         }
-        for (first, one) in view.transitions().iter().take(second).enumerate() {
-            if one.priority.is_some() || !share(one, other) {
-                continue;
+        for step in transition.preceding.as_slice() {
+            if let Some(list) = behind.get_mut(step.0 as usize) {
+                list.push(place)?;
             }
-            if left == 0 {
-                return Ok(true);
-            }
-            left = left.saturating_sub(1);
-            if let Some(way) = both_true(findings.alloc(), view, one, other)? {
-                tell_pair(findings, view, first, second, &way)?;
-            }
+        }
+    }
+    Ok(behind)
+}
+
+// The transitions without a PRIORITY that stand before the one at a place and share a step with it, by their places.
+fn before(
+    alloc: Global,
+    behind: &[Vec<usize>],
+    place: usize,
+    transition: &Transition,
+) -> Result<Vec<usize>, AllocError> {
+    let mut found = Vec::new(alloc);
+    for step in transition.preceding.as_slice() {
+        let Some(list) = behind.get(step.0 as usize) else {
+            continue;
+        };
+        let count = list.partition_point(|other| *other < place);
+        found.extend_from_slice(list.get(..count).unwrap_or(&[]))?;
+    }
+    if transition.preceding.as_slice().len() > 1 {
+        found.sort_unstable();
+        found.dedup();
+    }
+    Ok(found)
+}
+
+// Tells the pairs of one transition, which stands at a place, with those before it; whether it gave up. It takes the pairs from those that
+// are left.
+fn tell_pairs(
+    findings: &mut Findings,
+    view: &View<'_>,
+    (place, firsts): (usize, &[usize]),
+    left: &mut usize,
+    budget: &mut Budget,
+) -> Result<bool, AllocError> {
+    let Some(other) = view.transitions().get(place) else {
+        return Ok(false);
+    };
+    for first in firsts {
+        let Some(one) = view.transitions().get(*first) else {
+            continue;
+        };
+        if *left == 0 {
+            return Ok(true);
+        }
+        *left = left.saturating_sub(1);
+        match look_at(findings.alloc(), view, (one, other), budget)? {
+            Looked::Apart => {}
+            Looked::Together(way) => tell_pair(findings, view, *first, place, &way)?,
+            Looked::GaveUp => return Ok(true),
+        }
+    }
+    Ok(false)
+}
+
+/// Tells the pairs of transitions that share a step before them, have no PRIORITY, and may be TRUE together, as far as they are made of at
+/// most 16 atoms; whether it gave up, since there are too many pairs, or the budget doesn't allow to look at them. The one error is that
+/// memory was refused.
+pub fn tell_selections(
+    findings: &mut Findings,
+    view: &View<'_>,
+    budget: &mut Budget,
+) -> Result<bool, AllocError> {
+    if view.instance().is_none() {
+        return Ok(false);
+    }
+    let behind = behind_steps(findings.alloc(), view)?;
+    let mut left = MOST;
+    for (place, transition) in view.transitions().iter().enumerate() {
+        if transition.priority.is_some() {
+            continue;
+        }
+        let firsts = before(findings.alloc(), &behind, place, transition)?;
+        if tell_pairs(findings, view, (place, &firsts), &mut left, budget)? {
+            return Ok(true);
         }
     }
     Ok(false)

@@ -2,6 +2,7 @@
 
 use crate::view::View;
 use sfc_base::references::{GlobalId, Variable};
+use sfc_base::ticks::Ticks;
 use sfc_expr::expr::Expr;
 use sfc_expr::statement::{Branch, Statement};
 use sfc_flags::flags::Flags;
@@ -75,6 +76,19 @@ impl Marks {
         match variable {
             Variable::Global(global) => mark(&mut self.globals, global.0),
             Variable::Local(local) => mark(&mut self.locals, local.0),
+        }
+    }
+
+    /// Sets the flags of the global variables that are marked.
+    pub fn add_globals_to(&self, flags: &mut Flags) {
+        let mut ticks = Ticks::new();
+        let mut from = 0usize;
+        for _ in 0..self.globals.count() {
+            let Some(place) = self.globals.next_set(from, &mut ticks) else {
+                return;
+            };
+            mark(flags, place);
+            from = place.saturating_add(1);
         }
     }
 

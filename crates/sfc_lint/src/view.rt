@@ -1,15 +1,15 @@
 //! A program type that is looked at.
 
-use sfc_base::ids::{ProgId, TransitionId};
+use sfc_base::ids::{ActionNumber, ProgId, TransitionId};
 use sfc_base::references::{StepId, Variable};
 use sfc_expr::expr::Expr;
 use sfc_list::list_expr::list_expr;
 use sfc_page::append::{append, append_number};
-use sfc_plant::association::Target;
 use sfc_plant::chart::{Chart, Step, Transition};
 use sfc_plant::names::Names;
 use sfc_plant::plant::Plant;
 use sfc_plant::program_type::ProgramType;
+use sfc_tables::tables::Tables;
 use std::alloc::{AllocError, Global};
 
 /// The step at this place.
@@ -65,10 +65,15 @@ impl<'a> View<'a> {
         Vec::from_slice(alloc, names.variable(variable))
     }
 
-    /// The name of an action or of the variable of a Boolean one. The one error is that memory was refused.
-    pub fn target(&self, alloc: Global, target: Target) -> Result<Vec<u8>, AllocError> {
+    /// The name of an action or of the variable of a Boolean one, by its number. The one error is that memory was refused.
+    pub fn action(
+        &self,
+        alloc: Global,
+        tables: &Tables,
+        action: ActionNumber,
+    ) -> Result<Vec<u8>, AllocError> {
         let names = Names::new(self.plant.globals(), self.program);
-        Vec::from_slice(alloc, names.target(target))
+        Vec::from_slice(alloc, tables.action_name(&names, action))
     }
 
     /// The number of a transition, from 1, and its name if it has one. The one error is that memory was refused.

@@ -6,11 +6,12 @@ use crate::usage::{Usage, Write};
 use crate::view::View;
 use sfc_base::location::Area;
 use sfc_base::references::{GlobalId, LocalId, Variable};
+use sfc_flags::flags::Flags;
 use sfc_outline::item::Item;
 use sfc_page::append::append;
 use sfc_plant::plant::Plant;
 use sfc_plant::variable::Variable as Declared;
-use std::alloc::AllocError;
+use std::alloc::{AllocError, Global};
 
 // The declaration of a variable of a program type.
 fn declared<'a>(view: &View<'a>, variable: Variable) -> Option<&'a Declared> {
@@ -182,9 +183,13 @@ fn releases(plant: &Plant, global: GlobalId) -> bool {
     plant.tasks().iter().any(|task| task.single == Some(global))
 }
 
-// Whether a program type names the variable.
-fn is_named(usages: &[Usage], global: usize) -> bool {
-    usages.iter().any(|usage| usage.named.has(Variable::Global(GlobalId(global))))
+// The global variables that some program type names.
+fn named_globals(alloc: Global, plant: &Plant, usages: &[Usage]) -> Result<Flags, AllocError> {
+    let mut named = Flags::new(alloc, plant.globals().len())?;
+    for usage in usages {
+        usage.named.add_globals_to(&mut named);
+    }
+    Ok(named)
 }
 
 // Tells the global variables that nobody uses.
@@ -193,8 +198,10 @@ fn tell_unused_globals(
     plant: &Plant,
     usages: &[Usage],
 ) -> Result<(), AllocError> {
+    let named = named_globals(findings.alloc(), plant, usages)?;
     for (place, variable) in plant.globals().iter().enumerate() {
-        if is_named(usages, place) || releases(plant, GlobalId(place)) {
+        let is_named = place < named.count() && named.get(place);
+        if is_named || releases(plant, GlobalId(place)) {
             continue;
         }
         let name = variable.name.spelling();

@@ -4,7 +4,7 @@ use crate::answer::Answer;
 use crate::asked::Asked;
 use crate::documents::Document;
 use crate::language::Language;
-use crate::positions::{Position, position_of};
+use crate::positions::{Position, columns, position_of};
 use serde_json::{Value, json};
 use sfc_names::chart::tokens_of;
 use sfc_names::folds::blocks_of;
@@ -70,19 +70,68 @@ struct Told {
     kind: usize,
 }
 
-// What is told of a word; None where it isn't one line.
-fn told_of(document: &Document, painted: Painted) -> Option<Told> {
-    let at = position_at(document, painted.span.from)?;
-    let to = position_at(document, painted.span.to)?;
-    let length = to.character.checked_sub(at.character)?;
-    if at.line != to.line {
-        return None;
+/// A walk over a document, from place to place.
+#[derive(Clone, Copy)]
+struct Walk<'a> {
+    document: &'a Document,
+    byte: usize,
+    at: Position,
+}
+
+impl<'a> Walk<'a> {
+    // It begins at the front.
+    fn new(document: &'a Document) -> Walk<'a> {
+        Walk {
+            document,
+            byte: 0,
+            at: Position {
+                line: 0,
+                character: 0,
+            },
+        }
     }
-    Some(Told {
-        at,
-        length,
-        kind: kind_number(painted.paint),
-    })
+
+    // The bytes between two places.
+    fn between(&self, from: usize, to: usize) -> &'a [u8] {
+        self.document.text.get(from..to).unwrap_or(b"")
+    }
+
+    // Goes on to a byte: where it stands.
+    fn go_to(&mut self, byte: usize) -> Position {
+        let next = self.at.line.saturating_add(1);
+        let is_behind = match self.document.starts.get(next) {
+            Some(start) => *start <= byte,
+            None => false,
+        };
+        if is_behind || byte < self.byte {
+            let lines = self.document.starts.partition_point(|start| *start <= byte);
+            let line = lines.saturating_sub(1);
+            let start = self.document.starts.get(line).copied().unwrap_or(0);
+            self.at = Position {
+                line,
+                character: columns(self.between(start, byte)),
+            };
+        } else {
+            let behind = columns(self.between(self.byte, byte));
+            self.at.character = self.at.character.saturating_add(behind);
+        }
+        self.byte = byte;
+        self.at
+    }
+
+    // What is told of a word; None where it isn't in one line.
+    fn told_of(&mut self, painted: Painted) -> Option<Told> {
+        let (from, to) = (painted.span.from as usize, painted.span.to as usize);
+        let word = self.document.text.get(from..to)?;
+        if word.contains(&b'\n') || word.contains(&b'\r') {
+            return None;
+        }
+        Some(Told {
+            at: self.go_to(from),
+            length: columns(word),
+            kind: kind_number(painted.paint),
+        })
+    }
 }
 
 // Puts the five numbers of a word last, behind one that begins at a place.
@@ -111,12 +160,10 @@ pub fn semantic_tokens(asked: &Asked<'_>) -> Result<Answer, AllocError> {
         return Ok(Answer::nothing());
     };
     let mut data = Vec::new(alloc);
-    let mut before = Position {
-        line: 0,
-        character: 0,
-    };
+    let mut walk = Walk::new(asked.document);
+    let mut before = walk.at;
     for painted in painted_words(alloc, chart)? {
-        if let Some(told) = told_of(asked.document, painted) {
+        if let Some(told) = walk.told_of(painted) {
             put_word(alloc, before, told, &mut data)?;
             before = told.at;
         }

@@ -108,9 +108,9 @@ pub fn byte_of(text: &[u8], starts: &[usize], position: Position) -> usize
     from + bytes_before(line, position.character)
 }
 
-// How many columns these bytes have.
+/// How many columns these bytes have.
 #[tactic(auto, unfolding(crate::specs::Positions::columns))]
-fn columns(bytes: &[u8]) -> usize
+pub fn columns(bytes: &[u8]) -> usize
     ensures { result ≡ positions.columns 0 bytes.now }
 {
     let mut count = 0usize;

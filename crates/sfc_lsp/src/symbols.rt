@@ -39,10 +39,14 @@ fn tree_value(
     let name = name_value(alloc, chart, declaration)?;
     let range = range_value(alloc, document, Span::of(declaration.span))?;
     let selection = range_value(alloc, document, Span::of(declaration.name))?;
+    let kind = kind_number(declaration.sort);
+    if inner.is_empty() {
+        return json!(in alloc; {"kind": kind, "name": name, "range": range, "selectionRange": selection});
+    }
     let children = Value::Array(inner);
     json!(in alloc; {
         "children": children,
-        "kind": (kind_number(declaration.sort)),
+        "kind": kind,
         "name": name,
         "range": range,
         "selectionRange": selection

@@ -8,6 +8,7 @@ use crate::chart::Chart;
 use crate::diagnostic::{Diagnostic, Severity};
 use crate::faults::reports_of;
 use sfc_explain::explanation::Explanation;
+use sfc_lint::budget::Budget;
 use sfc_lint::kind::Kind;
 use sfc_lint::lint::{Warning, lint};
 use sfc_page::append::{append, append_number};
@@ -19,8 +20,8 @@ use sfc_why::report::Report;
 use sfc_why::script::{ScriptTold, explain_script};
 use std::alloc::{AllocError, Global};
 
-/// How many sets of active steps of a network are looked at for warnings.
-const LIMIT: usize = 10_000;
+/// The most warnings that are shown of a chart.
+const MOST: usize = 1_000;
 
 // The bytes of a place in a text.
 fn span_of(text: &[u8], place: Place) -> Span
@@ -170,12 +171,12 @@ fn warning_of(alloc: Global, warning: &Warning) -> Result<Diagnostic, AllocError
     })
 }
 
-// What is shown of warnings of a chart.
+// What is shown of warnings of a chart; of many the first ones.
 fn warnings_of(alloc: Global, warnings: &[Warning]) -> Result<Vec<Diagnostic>, AllocError>
     ensures { IfOk result (λ found. AreWarnings found.items) }
 {
     let mut found = Vec::new(alloc);
-    for warning in warnings {
+    for warning in warnings.get(..MOST).unwrap_or(warnings) {
         found.push(warning_of(alloc, warning)?)?;
     }
     Ok(found)
@@ -191,7 +192,7 @@ fn lint_of(alloc: Global, text: &[u8], chart: Option<&Chart>) -> Result<Vec<Diag
     let Some(plant) = &chart.plant else {
         return Ok(Vec::new(alloc));
     };
-    let warnings = lint(alloc, text, &chart.source, plant, LIMIT)?;
+    let warnings = lint(alloc, text, &chart.source, plant, Budget::of_an_editor())?;
     warnings_of(alloc, &warnings.list)
 }
 

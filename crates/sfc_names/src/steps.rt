@@ -9,6 +9,20 @@ use sfc_page::append::append;
 use sfc_tokens::span::Span;
 use std::alloc::{AllocError, Global};
 
+/// The most transitions, and the most associations, that are shown one below the other.
+const MOST: usize = 20;
+
+// The innermost of what is declared in whose bytes a byte stands.
+fn entry_around(chart: &Chart, place: u32) -> Option<&Entry> {
+    let entries = chart.outline.entries.as_slice();
+    let count = entries.partition_point(|entry| entry.span.from <= place);
+    entries
+        .get(..count)?
+        .iter()
+        .rev()
+        .find(|entry| entry.span.from <= place && place < entry.span.to)
+}
+
 // The transition on whose side a step is named, where the side is the one that is asked for.
 fn transition_beside(item: Item, is_into: bool) -> Option<Item> {
     match item {
@@ -32,12 +46,12 @@ fn transition_beside(item: Item, is_into: bool) -> Option<Item> {
 
 // The transition that names a step at these bytes, where it leads into it, or out of it.
 fn transition_at(chart: &Chart, span: Span, is_into: bool) -> Option<&Entry> {
-    let side = chart.outline.entry_at(span.from)?;
+    let side = entry_around(chart, span.from)?;
     let transition = transition_beside(side.item, is_into)?;
     chart.outline.entry_of(transition)
 }
 
-// The transitions that lead into a step, or out of it, as lines.
+// The transitions that lead into a step, or out of it, as lines; of many the first ones.
 fn transitions_of(
     alloc: Global,
     chart: &Chart,
@@ -45,10 +59,17 @@ fn transitions_of(
     is_into: bool,
 ) -> Result<Vec<u8>, AllocError> {
     let mut lines = Vec::new(alloc);
+    let mut left = MOST;
     for span in chart.outline.mentions_of(alloc, step)? {
-        if let Some(transition) = transition_at(chart, span, is_into) {
-            append(&mut lines, &lines_at(alloc, chart, transition.span)?)?;
+        let Some(transition) = transition_at(chart, span, is_into) else {
+            continue;
+        };
+        if left == 0 {
+            append(&mut lines, b"...\n")?;
+            return Ok(lines);
         }
+        left = left.saturating_sub(1);
+        append(&mut lines, &lines_at(alloc, chart, transition.span)?)?;
     }
     Ok(lines)
 }
@@ -86,14 +107,18 @@ pub fn tell_step(card: &mut Card, chart: &Chart, step: Item) -> Result<(), Alloc
 
 // The step in which an association stands.
 fn step_around(chart: &Chart, place: u32) -> Option<Item> {
-    for entry in &chart.outline.entries {
-        if let Item::Step { .. } = entry.item {
-            if entry.span.from <= place && place < entry.span.to {
-                return Some(entry.item);
-            }
-        }
+    let entries = chart.outline.entries.as_slice();
+    let count = entries.partition_point(|entry| entry.span.from <= place);
+    let step = entries
+        .get(..count)?
+        .iter()
+        .rev()
+        .find(|entry| matches!(entry.item, Item::Step { .. }))?;
+    if place < step.span.to {
+        Some(step.item)
+    } else {
+        None
     }
-    None
 }
 
 // Puts a line last of the association in which an action is named, if it is one.
@@ -103,7 +128,7 @@ fn put_association(
     chart: &Chart,
     place: u32,
 ) -> Result<(), AllocError> {
-    let Some(entry) = chart.outline.entry_at(place) else {
+    let Some(entry) = entry_around(chart, place) else {
         return Ok(());
     };
     let Item::Association { .. } = entry.item else {
@@ -117,12 +142,16 @@ fn put_association(
     Ok(())
 }
 
-/// Tells which steps have an action. The one error is that memory was refused.
+/// Tells which steps have an action; of many the first ones. The one error is that memory was refused.
 pub fn tell_action(card: &mut Card, chart: &Chart, action: Item) -> Result<(), AllocError> {
     let alloc = card.alloc();
     let mut lines = Vec::new(alloc);
-    for span in chart.outline.mentions_of(alloc, action)? {
+    let mentions = chart.outline.mentions_of(alloc, action)?;
+    for span in mentions.iter().take(MOST) {
         put_association(&mut lines, alloc, chart, span.from)?;
+    }
+    if mentions.len() > MOST {
+        append(&mut lines, b"...\n")?;
     }
     show_below(card, b"steps that have it:", lines)
 }
