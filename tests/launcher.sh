@@ -13,6 +13,7 @@ source "$(dirname "${BASH_SOURCE[0]}")/common.sh"
 source "$top/tests/launcher/kit.sh"
 work=$(mktemp -d)
 trap 'rm -rf "$work"' EXIT
+mode=${1:-full}
 clone="$work/a clone" own_path=$PATH status=0
 kit="$work/a kit" lamp=$top/examples/lamp
 export XDG_CACHE_HOME=$work/cache
@@ -64,8 +65,8 @@ try_builds() {
   [ "$(stat -c %s "$("$clone/tools/unproved" --quiet --module)")" = 200000 ]; note $? "tools/unproved --module prints that of the module"
 }
 
-# How long a start takes: the least of twenty, in milliseconds. Where the machine is busy with more than it has processors for, what counts
-# is the time of a processor.
+# How long a start takes: the least of twenty, in milliseconds. Quick, beside other scripts, what counts is the time of a processor, and
+# twice of it is allowed, since two threads may share one core; alone it is the time that passes.
 try_time() {
   local least=9999 busy=9999 i took TIMEFORMAT='%R %U %S'
   for ((i = 0; i < 20; i++)); do
@@ -73,12 +74,15 @@ try_time() {
     read -r -a took <"$work/time"
     took=("${took[@]/./}")
     if is_lamp && ((10#${took[0]} < least)); then least=$((10#${took[0]})); fi
-    if ((10#${took[1]} + 10#${took[2]} < busy)); then busy=$((10#${took[1]} + 10#${took[2]})); fi
+    if is_lamp && ((10#${took[1]} + 10#${took[2]} < busy)); then busy=$((10#${took[1]} + 10#${took[2]})); fi
   done
   echo "a start and the replay of the lamp take $least ms, and $busy ms of a processor"
-  ((least <= 100)) || { ((busy <= 100)) && is_busy; }; note $? "a start takes no more than 100 ms"
+  if [ "$mode" = quick ]; then
+    ((busy <= 200)); note $? "a start takes no more than 200 ms of a processor beside other scripts"
+  else
+    ((least <= 100)); note $? "a start takes no more than 100 ms"
+  fi
 }
-is_busy() { awk -v most="$(nproc)" '{ exit !($1 > most) }' /proc/loadavg; }
 
 try_terminal() {
   python3 "$top/tests/prompt.py" "$clone/sfcmon" "$lamp.chart" "$work" >"$work/told"
@@ -367,5 +371,5 @@ quick() {
 : >"$work/none"
 copy_clone
 quick
-if [ "${1:-full}" = full ]; then try_kit; fi
+if [ "$mode" = full ]; then try_kit; fi
 tell_counts

@@ -962,31 +962,67 @@ at_terminal "runs at a terminal" "$here/terminal.py" "$program" "$work/edge.char
 
 # typed SESSION CHART: debug with this session, from a pipe; leaves out, err and status
 typed() { printf '%s' "$1" | "$program" debug "$2" >"$work/out" 2>"$work/err"; status=${PIPESTATUS[1]}; }
-# the scripts of the examples, line by line, are answered as a replay of them; so is what the session saves, but for what was refused
+# the scripts of the examples, line by line, are answered as a replay of them, but for notes; so is what the session saves, but for what was
+# refused
 for example in "$examples"/*.chart; do
   { cat "${example%.chart}.script"; printf '\nIMAGE\nSAVE %s!\n' "$work/saved.script"; } | sed '/^ *$/d' >"$work/session"
   "$program" debug "$example" <"$work/session" >"$work/out" 2>"$work/err"
   status=$?
-  ends 0 && says "" && last "; saved to $work/saved.script" && sed '$d' "$work/out" | cmp -s - "${example%.chart}.expect"
+  ends 0 && says "" && last "; saved to $work/saved.script" && grep -v '^;' "$work/out" | cmp -s - "${example%.chart}.expect"
   note $? "$(basename "$example"), by hand"
   run replay "$example" "$work/saved.script"
   ends 0 && says "" && grep -v '^refused' "${example%.chart}.expect" | cmp -s - "$work/out"
   note $? "$(basename "$example"), by hand and saved"
 done
-# sessions whose lines have no instants are saved as scripts that a replay answers alike, but for refusals, notes and what is shown
+# sessions whose lines have no instants are saved as scripts that a replay answers alike, but for refusals, notes and what is shown; what is
+# recorded meanwhile is the same script
 while read -r name session; do
   # shellcheck disable=SC2059 # its line ends
   { printf "$session"; printf 'IMAGE\nSAVE %s !\n' "$work/saved.script"; } >"$work/session"
-  "$program" debug "$examples/$name.chart" <"$work/session" 2>"$work/err" | grep -v '^[;r]' >"$work/played"
+  rm -f "$work/recorded.script"
+  "$program" debug --record "$work/recorded.script" "$examples/$name.chart" <"$work/session" 2>"$work/err" | grep -v '^[;r]' >"$work/played"
   run replay "$examples/$name.chart" "$work/saved.script"
-  ends 0 && says "" && [ -s "$work/saved.script" ] && cmp -s "$work/played" "$work/out"
+  ends 0 && says "" && [ -s "$work/saved.script" ] && cmp -s "$work/played" "$work/out" && cmp -s "$work/saved.script" "$work/recorded.script"
   note $? "a session with $name.chart, saved"
 done <<'SESSIONS'
-mixing SCAN\nINPUT Start TRUE\nINPUT Full TRUE\nUNTIL Mixing.X\nSTOP\nSINGLE Main T#70ms\n\n\nGO\nAGAIN 7\nSCAN Main\n
-pump BREAK Pump1 STEP Pumping WHEN Start\nINPUT Start TRUE\nAGAIN\nUNTIL FALSE\nGO\nEPOCH\nINPUT Stop TRUE\nAGAIN 3\nT#1h SCAN Main\nSCAN\n
+mixing SCAN\nINPUT Start TRUE\nINPUT Full TRUE\nALL UNTIL Mixing.X\nSTOP\nSINGLE Main T#70ms\n\nSINGLE Main\n\nGO\nall again 7\nSCAN Main\n
+pump BREAK Pump1 STEP Pumping WHEN Start\nINPUT Start TRUE\nAGAIN\nALL UNTIL FALSE\nGO\nEPOCH\nINPUT Stop TRUE\nALL AGAIN 3\nT#1h SCAN Main\nSCAN\n
 press break press1 step Open when TRUE (* at once *)\nbreak press1 step Open when not TRUE\nSCAN\nGO\nFOO\nEND\nSCAN\n
-commissioning SCAN\nAGAIN 20\nT#1m READ nothing\n\n\n
+commissioning SCAN\nALL AGAIN 20\nT#1m READ nothing\n\n\n
 SESSIONS
+# without ALL some scans aren't shown, which stand in the script; each other line is that of a replay
+typed $'SCAN\nAGAIN 9\nINPUT Start TRUE\nINPUT Full TRUE\nUNTIL Mixing.X\nIMAGE\nSAVE '"$work/saved.script!" "$examples/mixing.chart"
+grep -v '^;' "$work/out" >"$work/played"
+run replay "$examples/mixing.chart" "$work/saved.script"
+ends 0 && says "" && ! diff "$work/played" "$work/out" | grep -q '^<' && [ "$(grep -c SCAN "$work/played")" -lt "$(grep -c SCAN "$work/out")" ]
+note $? "scans that aren't shown"
+cp "$chart" "$work/kept.chart"
+run debug --record "$work/kept.chart" "$chart"
+ends 3 && is_silent && says "error: $work/kept.chart is there; --record writes a new file" && cmp -s "$chart" "$work/kept.chart"
+note $? "a session isn't recorded over a file"
+rm -f "$work/recorded.script"
+run debug --record "$work/recorded.script" "$work/dark.chart"
+ends 1 && is_silent && [ ! -e "$work/recorded.script" ]
+note $? "a chart that is refused leaves no record"
+printf 'SCAN\nSAVE %s!\nSCAN\n' "$work/recorded.script" | "$program" debug --record "$work/recorded.script" "$chart" >"$work/out" 2>"$work/err"
+status=$?
+ends 0 && says "" && mentions "; saved to $work/recorded.script" out && [ "$(wc -l <"$work/recorded.script")" = 2 ]
+note $? "a session that is saved where it is recorded"
+fails "a session that can't be recorded" 3 "/nowhere/at/all: write fault" debug --record /nowhere/at/all "$chart"
+# a session that is killed has been recorded up to its last answer
+mkfifo "$work/typing"
+rm -f "$work/recorded.script"
+"$program" debug --record "$work/recorded.script" "$chart" <"$work/typing" >"$work/out" 2>"$work/err" &
+held=$!
+exec 9>"$work/typing"
+printf 'SCAN\nREAD Lamp\nSCAN\n' >&9
+for _ in {1..100}; do [ "$(grep -c SCAN "$work/out")" = 2 ] && break; sleep 0.1; done
+kill -9 "$held"
+wait "$held" 2>/dev/null
+exec 9>&-
+run replay "$chart" "$work/recorded.script"
+ends 0 && says "" && [ "$(wc -l <"$work/recorded.script")" = 3 ] && [ "$(grep -vc '^image' "$work/out")" -ge 3 ]
+note $? "a session that was killed is recorded"
 typed $'SCAN\nSAVE /nowhere/at/all\nREAD Lamp' "$chart"
 ends 0 && says "" && mentions "; can't be saved to /nowhere/at/all: the folder isn't there" out && last "T#0s READ Lamp TRUE"
 note $? "a script that can't be saved, and a session that goes on"

@@ -1,10 +1,13 @@
 #!/usr/bin/env python3
 """prompt.py PROGRAM CHART FOLDER: steps a chart by hand at a terminal: a session that is typed and ended by QUIT, one that is ended by Ctrl-D,
 and one that Ctrl-C ends. The chart is examples/lamp.chart; the folder is for what is saved. The last line is 'N passed, M failed'."""
+import fcntl
 import os
 import pty
 import signal
+import subprocess
 import sys
+import termios
 import time
 
 program, chart, folder = sys.argv[1:4]
@@ -21,10 +24,11 @@ def note(is_so, title):
 
 
 def start():
-    """The program at a terminal of its own: its number, and the other end."""
-    child, end = pty.fork()
-    if child == 0:
-        os.execv(program, [program, "debug", chart])
+    """The program at a terminal of its own: its process, and the other end. The inner end stays open here too, so that nothing that the
+    terminal still has is lost when the program ends."""
+    end, inner = pty.openpty()
+    child = subprocess.Popen([program, "debug", chart], stdin=inner, stdout=inner, stderr=inner, start_new_session=True,
+                             preexec_fn=lambda: fcntl.ioctl(0, termios.TIOCSCTTY, 0))
     return child, end
 
 
@@ -46,13 +50,11 @@ def read_until(end, text):
 
 def status_of(child):
     """The exit status, or minus the signal, or None after ten seconds."""
-    for _ in range(100):
-        done, status = os.waitpid(child, os.WNOHANG)
-        if done:
-            return os.waitstatus_to_exitcode(status)
-        time.sleep(0.1)
-    os.kill(child, signal.SIGKILL)
-    return None
+    try:
+        return child.wait(10)
+    except subprocess.TimeoutExpired:
+        child.kill()
+        return None
 
 
 def said(end, line):

@@ -333,12 +333,12 @@ note $? "an install into a file"
 [ "$("$top/tools/version")" = "$version" ] && "$top/tools/version" --check >"$work/out"
 note $? "the version is the same everywhere: $(cat "$work/out")"
 git -C "$clone" grep -lE "(^|[^.0-9])${version//./\\.}([^.0-9]|$)" -- ':!*.antt' ':!CHANGELOG.md' >"$work/out"
-[ "$(xargs <"$work/out")" = "crates/sfcmon/src/arguments.rt editors/vscode/package.json share/man/man1/sfcmon.1" ]
+[ "$(xargs <"$work/out")" = "crates/sfc_c/src/version.rt crates/sfcmon/src/arguments.rt editors/vscode/package.json share/man/man1/sfcmon.1" ]
 note $? "where the version stands: $(xargs <"$work/out")"
 "$clone/tools/version" --set 9.8.7 && [ "$("$clone/tools/version")" = 9.8.7 ] \
   && [ "$("$clone/tools/version" --check | wc -l)" = 2 ] \
-  && [ "$(git -C "$clone" diff --numstat | awk '{ print $1, $2 }' | uniq -c | xargs)" = "3 1 1" ]
-note $? "a version that is set, in a line of three files; the list of changes waits for it"
+  && [ "$(git -C "$clone" diff --numstat | awk '{ print $1, $2 }' | uniq -c | xargs)" = "4 1 1" ]
+note $? "a version that is set, in a line of four files; the list of changes waits for it"
 "$clone/tools/version" --set "$version" && [ -z "$(git -C "$clone" status --porcelain)" ]
 note $? "the version that was"
 for word in '' 1.2 1.2.3.4 v1.2.3 1.2.x; do

@@ -3,6 +3,7 @@
 closed. The chart's task is never due. Then the pump of the examples: it is started, read, halted by a breakpoint that a forced value leads to,
 let go and ended; what changes is shown, and how it stands is asked. Then what is told at a terminal of a chart and of a script that is refused, and of a file that isn't
 there: the line that is told elsewhere, and behind it what `why` prints, or the name of the file. The last line is 'N passed, M failed'."""
+import fcntl
 import os
 import pty
 import re
@@ -11,11 +12,13 @@ import signal
 import subprocess
 import sys
 import tempfile
+import termios
 import time
 
 program, chart = sys.argv[1:3]
 here = os.getcwd()
 passed = failed = 0
+MARK = b"\x1e"
 
 
 def note(is_so, title):
@@ -28,19 +31,21 @@ def note(is_so, title):
 
 
 def start(chart=chart):
-    """The program at a terminal of its own, which it may outlive: its number, and the other end."""
-    child, end = pty.fork()
-    if child == 0:
+    """The program at a terminal of its own, which it may outlive: its process, and both ends. As long as ours holds the inner end too, nothing
+    that the terminal still has is lost when the program ends."""
+    def leads():
         signal.signal(signal.SIGHUP, signal.SIG_IGN)
-        os.execv(program, [program, "run", chart])
-    return child, end
+        fcntl.ioctl(0, termios.TIOCSCTTY, 0)
+    end, inner = pty.openpty()
+    child = subprocess.Popen([program, "run", chart], stdin=inner, stdout=inner, stderr=inner, start_new_session=True, preexec_fn=leads)
+    return child, end, inner
 
 
 class Typed:
     """A run to which lines are typed, and what its terminal has shown and wasn't looked at yet."""
 
     def __init__(self, chart):
-        self.child, self.end = start(chart)
+        self.child, self.end, self.inner = start(chart)
         self.text = ""
 
     def type(self, line):
@@ -69,39 +74,38 @@ class Typed:
 
 def status_of(child):
     """The exit status, or None after ten seconds."""
-    for _ in range(100):
-        done, status = os.waitpid(child, os.WNOHANG)
-        if done:
-            return os.waitstatus_to_exitcode(status)
-        time.sleep(0.1)
-    os.kill(child, signal.SIGKILL)
-    return None
-
-
-def read_all(end):
-    text = b""
     try:
-        while piece := os.read(end, 4096):
-            text += piece
-    except OSError:
-        pass
-    return text.decode()
+        return child.wait(10)
+    except subprocess.TimeoutExpired:
+        child.kill()
+        return None
 
 
-child, end = start()
+def rest_of(end, inner):
+    """What is still to be read behind a program that ended, up to a mark that is written behind it."""
+    os.write(inner, MARK)
+    text = b""
+    while not text.endswith(MARK):
+        text += os.read(end, 4096)
+    os.close(end)
+    os.close(inner)
+    return text[:-1].decode().replace("\r\n", "\n")
+
+
+child, end, inner = start()
 time.sleep(0.3)
 os.write(end, b"STOP\n")
 time.sleep(0.3)
 os.write(end, b"\x04")
-text = read_all(end).replace("\r\n", "\n").replace("^D\b\b", "")
-note(re.fullmatch(r"STOP\n1 T#\S+ STOP\n2 T#\S+ END\naudit ok 2\n", text), "a session that is typed: " + repr(text))
 note(status_of(child) == 0, "the status of a session that is typed")
-os.close(end)
+text = rest_of(end, inner).replace("^D\b\b", "")
+note(re.fullmatch(r"STOP\n1 T#\S+ STOP\n2 T#\S+ END\naudit ok 2\n", text), "a session that is typed: " + repr(text))
 
-child, end = start()
+child, end, inner = start()
 time.sleep(0.3)
 os.close(end)
 status = status_of(child)
+os.close(inner)
 note(status == 3, f"a terminal that is closed: status {status}")
 
 
@@ -136,17 +140,14 @@ os.write(pump.end, b"\x04")
 pump.shows(r"audit ok \d+\n", "the audit")
 note(status_of(pump.child) == 0, "the status of the pump")
 os.close(pump.end)
+os.close(pump.inner)
 
 
 def errors_at_terminal(words):
     """What is told on standard error, which is a terminal."""
     end, inner = pty.openpty()
-    with subprocess.Popen([program, *words], stdin=subprocess.DEVNULL, stdout=subprocess.DEVNULL, stderr=inner) as child:
-        os.close(inner)
-        text = read_all(end).replace("\r\n", "\n")
-        child.wait()
-    os.close(end)
-    return text
+    subprocess.run([program, *words], stdin=subprocess.DEVNULL, stdout=subprocess.DEVNULL, stderr=inner, timeout=20)
+    return rest_of(end, inner)
 
 
 def errors_elsewhere(words):

@@ -17,6 +17,10 @@ _sfcmon() {
     fi
   done
   COMPREPLY=()
+  if [ "$command:${COMP_WORDS[COMP_CWORD-1]}" = run:--show ]; then
+    COMPREPLY=(changes)
+    return
+  fi
   case $command:$word in
     :-*) mapfile -t COMPREPLY < <(compgen -W '-h --help -V --version' -- "$word") ;;
     :*) mapfile -t COMPREPLY < <(compgen -W "$commands" -- "$word") ;;
@@ -24,6 +28,7 @@ _sfcmon() {
     why:-*) mapfile -t COMPREPLY < <(compgen -W '-h --help --all' -- "$word") ;;
     replay:-*) mapfile -t COMPREPLY < <(compgen -W '-h --help --strict' -- "$word") ;;
     run:-*) mapfile -t COMPREPLY < <(compgen -W '-h --help --trace --history --for --forever --show --watch --at-end --timing' -- "$word") ;;
+    debug:-*) mapfile -t COMPREPLY < <(compgen -W '-h --help --record' -- "$word") ;;
     draw:-*) mapfile -t COMPREPLY < <(compgen -W '-h --help --program --after --cover --dot' -- "$word") ;;
     wave:-*) mapfile -t COMPREPLY < <(compgen -W '-h --help --raw --svg --only --gtkw' -- "$word") ;;
     cover:-*) mapfile -t COMPREPLY < <(compgen -W '-h --help --min' -- "$word") ;;

@@ -45,6 +45,7 @@ complete -c sfcmon -n '__fish_seen_subcommand_from draw' -l dot -d 'for dot of G
 complete -c sfcmon -n '__fish_seen_subcommand_from wave' -l raw -d 'show the instants of the script'
 complete -c sfcmon -n '__fish_seen_subcommand_from wave' -l svg -d 'print a picture in SVG'
 complete -c sfcmon -n '__fish_seen_subcommand_from wave' -l only -x -d 'show these signals alone'
+complete -c sfcmon -n '__fish_seen_subcommand_from debug' -l record -r -d 'write the accepted commands to a new file as they come'
 complete -c sfcmon -n '__fish_seen_subcommand_from wave' -l gtkw -r -d 'write a save file of GTKWave'
 complete -c sfcmon -n '__fish_seen_subcommand_from cover' -l min -x -d 'end with status 1 where less was reached, in percent'
 complete -c sfcmon -n '__fish_seen_subcommand_from lint' -l deny -x -d 'end with status 1 where there is such a warning'

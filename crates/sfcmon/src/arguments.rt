@@ -38,6 +38,15 @@ pub struct Asking {
     pub all: bool,
 }
 
+/// A chart to be stepped by hand.
+#[derive(Drop)]
+pub struct Debugging {
+    /// The name of the chart's file.
+    pub chart: String,
+    /// The name of the new file to which the accepted commands go as they come.
+    pub record: Option<String>,
+}
+
 /// A chart to be run in real time.
 #[derive(Drop)]
 pub struct Running {
@@ -174,8 +183,8 @@ pub enum Request {
     Replay(Playing),
     /// A chart to be run in real time, with a session on standard input.
     Run(Running),
-    /// A chart to be stepped by hand, by the name of its file.
-    Debug { chart: String },
+    /// A chart to be stepped by hand.
+    Debug(Debugging),
     /// An editor, to be served by the Language Server Protocol on standard input and standard output.
     Lsp,
     /// An editor, to be served by the Debug Adapter Protocol on standard input and standard output.
@@ -272,6 +281,7 @@ Each line is a command of a script, with its instant in front or without one, or
   SCAN                            scans the task that goes first, at its release; SCAN TASK goes on to the next release of the task
   AGAIN [N]                       the last SCAN or SINGLE again; an empty line does it once
   UNTIL [IN PROGRAM] CONDITION    scans until the condition is TRUE
+  ALL AGAIN .., ALL UNTIL ..      the same, and each scan is shown; else those in which something changed, and the last
   SHOW, IMAGE [VARIABLE], POINTS, TRACE [N], LIST [NAME]
   WHY [PROGRAM [TRANSITION]]      why transitions aren't cleared
   EXPLAIN NUMBER, HELP [WORD]
@@ -354,7 +364,8 @@ Examples:
   sfcmon why examples/lamp.chart examples/lamp.script
   sfcmon why examples/lamp.chart examples/lamp.sfctest
 
-docs/FORMATS.md says what each line is, docs/LANGUAGE.md describes the text of charts. 'editors' has files for VS Code and Vim.";
+docs/FORMATS.md says what each line is, docs/LANGUAGE.md describes the text of charts. 'editors' has files for VS Code, Neovim, Emacs and
+Vim.";
 
 // What stands at the end of the help on `lint`.
 const LINT_NOTES: &str = "\
@@ -423,7 +434,8 @@ dot is a program of Graphviz. docs/FORMATS.md says what is drawn how.";
 const WAVE_NOTES: &str = "\
 Signals, in the scope of the resource: mode.Running; TASK.scan, up at each scan, and TASK.overruns; each global variable, and VARIABLE.forced.
 In the scope of each program instance: its local variables; STEP.X and STEP.T, as of its latest scan; ACTION.Q and ACTION.A; and steps.active, the
-names of its active steps. A TIME is a number of microseconds, and so is an instant. Instants are run instants, so that a halt takes no time; with --raw they are those of the script.
+names of its active steps. A TIME is a number of microseconds, and so is an instant. Instants are run instants, so that a halt takes no time;
+with --raw they are those of the script.
 
 Exit status:
   0  the whole script was played; what was refused isn't shown
@@ -613,7 +625,16 @@ fn debug_command<'a>(alloc: Global) -> Result<Command<'a>, AllocError> {
     Command::new(alloc, "debug")
         .about("Steps a chart by hand in virtual time, with a session on standard input")
         .after_help(DEBUG_NOTES)
+        .arg(debug_record_argument(alloc))?
         .arg(chart_argument(alloc))
+}
+
+// The argument that names the file in which a session is recorded.
+fn debug_record_argument<'a>(alloc: Global) -> Arg<'a> {
+    Arg::new(alloc, "record")
+        .long("record")
+        .value_name("SCRIPT")
+        .help("Writes the accepted commands to a new file as they come, a script for 'replay'")
 }
 
 fn lsp_command<'a>(alloc: Global) -> Command<'a> {
@@ -1213,10 +1234,10 @@ fn run_request(alloc: Global, matches: &ArgMatches) -> Result<Request, Error> {
 // A chart to be stepped by hand, where one is named.
 fn debug_request(alloc: Global, matches: &ArgMatches) -> Result<Request, AllocError> {
     match matches.get_str("FILE") {
-        Some(chart) => {
-            let chart = String::from_str(alloc, chart)?;
-            Ok(Request::Debug { chart })
-        }
+        Some(chart) => Ok(Request::Debug(Debugging {
+            chart: String::from_str(alloc, chart)?,
+            record: option_of(alloc, matches, "record")?,
+        })),
         None => Ok(Request::Answered(2)),
     }
 }

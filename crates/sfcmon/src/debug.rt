@@ -1,13 +1,38 @@
 //! A chart that is stepped by hand.
 
-use crate::files::{Streams, end_with};
+use crate::arguments::Debugging;
+use crate::files::{Streams, end_with, end_with_file};
 use sfc_prompt::archive::{Archive, Kept};
 use sfc_prompt::desk::{Desk, hold};
 use sfc_replay::replay_error::ReplayError;
 use std::alloc::{AllocError, Global};
-use std::io::IsTerminal;
+use std::fs::File;
+use std::io::{IsTerminal, Write};
 use std::rt::Files;
 use std::{fs, io};
+
+/// A file to which a script is written as it grows.
+#[derive(Drop)]
+struct Record<F: Write> {
+    name: String,
+    file: F,
+    // How many bytes were written.
+    len: usize,
+}
+
+impl<F: Write> Record<F> {
+    // Writes what a script has behind what was written of it.
+    fn follow(&mut self, script: &[u8]) -> io::Result<()> {
+        let more = script.get(self.len..).unwrap_or_default();
+        if more.is_empty() {
+            return Ok(());
+        }
+        self.file.write_all(more)?;
+        self.file.flush()?;
+        self.len = script.len();
+        Ok(())
+    }
+}
 
 /// Files, by their names.
 #[derive(Drop)]
@@ -16,15 +41,45 @@ pub struct FileArchive<'a, R: Files> {
     pub alloc: Global,
     // The files that were written here.
     written: Vec<String>,
+    // The file in which the session is recorded.
+    record: Option<Record<R::File>>,
 }
 
 impl<'a, R: Files> FileArchive<'a, R> {
-    /// No file was written yet.
+    /// No file was written yet, and nothing is recorded.
     pub fn new(rt: &'a R, alloc: Global) -> FileArchive<'a, R> {
         FileArchive {
             rt,
             alloc,
             written: Vec::new(alloc),
+            record: None,
+        }
+    }
+
+    // The session is recorded in a file of this name, which mustn't be there.
+    fn record_to(&mut self, name: &str) -> io::Result<()> {
+        let kept = String::from_str(self.alloc, name)?;
+        let file = File::create_new(self.rt, name)?;
+        self.record = Some(Record {
+            name: kept,
+            file,
+            len: 0,
+        });
+        Ok(())
+    }
+
+    // Whether the session is recorded in the file of this name.
+    fn records(&self, name: &str) -> bool {
+        match &self.record {
+            Some(record) => record.name.as_str() == name,
+            None => false,
+        }
+    }
+
+    // Takes the file away in which a session was to be recorded that never began.
+    fn forget_record(&mut self) {
+        if let Some(record) = self.record.take() {
+            let _ = fs::remove_file(self.rt, record.name.as_str());
         }
     }
 
@@ -67,8 +122,12 @@ fn part_name(alloc: Global, name: &str) -> Result<String, AllocError> {
     Ok(part)
 }
 
-impl<R: Files> Archive for FileArchive<'_, R> {
+impl<R: Files + Eprint> Archive for FileArchive<'_, R> {
     fn keep(&mut self, name: &str, script: &[u8], may_replace: bool) -> Kept {
+        // What is recorded there is this script.
+        if self.records(name) {
+            return Kept::Kept;
+        }
         if !may_replace && self.is_foreign(name) {
             return Kept::Foreign;
         }
@@ -86,13 +145,51 @@ impl<R: Files> Archive for FileArchive<'_, R> {
             Err(error) => kept_by(&error),
         }
     }
+
+    fn record(&mut self, script: &[u8]) {
+        let Some(record) = &mut self.record else {
+            return;
+        };
+        if record.follow(script).is_err() {
+            let _ = eprintln!(self.rt; "error: the session can't be recorded any more");
+            self.record = None;
+        }
+    }
 }
 
-/// Holds a session on the chart of a file: the exit status. Its lines come from standard input, and its answers go to standard output. A file
-/// that can't be opened is a read fault.
-pub fn debug_file<R: Eprint + Files + AllocGlobal>(rt: &R, streams: Streams, chart: &str) -> u8 {
-    let Ok(mut chart) = fs::open(rt, chart) else {
+// An archive that records the session in the file that is named, if one is; or the exit status where that can't be written anew.
+fn archive_of<'a, R: Eprint + Files + AllocGlobal>(
+    rt: &'a R,
+    record: Option<&str>,
+) -> Result<FileArchive<'a, R>, u8> {
+    let mut archive = FileArchive::new(rt, rt.alloc());
+    let Some(name) = record else {
+        return Ok(archive);
+    };
+    match archive.record_to(name) {
+        Ok(()) => Ok(archive),
+        Err(error) if error.kind() == io::ErrorKind::AlreadyExists => {
+            let _ = eprintln!(rt; "error: {name} is there; --record writes a new file");
+            Err(ReplayError::Write.status())
+        }
+        Err(_) => Err(end_with_file(rt, name, ReplayError::Write)),
+    }
+}
+
+/// Holds a session on the chart of a file: the exit status. Its lines come from standard input, and its answers go to standard output. What it
+/// accepts goes to the file to be recorded in, if one is named, line by line as it comes. A file that can't be opened is a read fault, and one
+/// that can't be written a write fault.
+pub fn debug_file<R: Eprint + Files + AllocGlobal>(
+    rt: &R,
+    streams: Streams,
+    debugging: &Debugging,
+) -> u8 {
+    let Ok(mut chart) = fs::open(rt, debugging.chart.as_str()) else {
         return end_with(rt, ReplayError::Read);
+    };
+    let archive = match archive_of(rt, debugging.record.as_ref().map(|name| name.as_str())) {
+        Ok(archive) => archive,
+        Err(status) => return status,
     };
     let Streams {
         mut input,
@@ -105,11 +202,16 @@ pub fn debug_file<R: Eprint + Files + AllocGlobal>(rt: &R, streams: Streams, cha
     let desk = Desk {
         is_terminal: input.is_terminal() && output.is_terminal(),
         answers: output,
-        archive: FileArchive::new(rt, rt.alloc()),
+        archive,
     };
-    let (_, held) = hold(rt.alloc(), &mut chart, &mut input, desk);
+    let (mut desk, held) = hold(rt.alloc(), &mut chart, &mut input, desk);
     match held {
         Ok(()) => 0,
-        Err(error) => end_with(rt, error),
+        Err(error) => {
+            if let ReplayError::Chart(_) = error {
+                desk.archive.forget_record();
+            }
+            end_with(rt, error)
+        }
     }
 }

@@ -25,7 +25,7 @@ fn read_file<R: Files>(
     bytes_or_none(read_to_end(archive.alloc, &mut file))
 }
 
-impl<R: Files> Desk for FileArchive<'_, R> {
+impl<R: Files + Eprint> Desk for FileArchive<'_, R> {
     fn read(&mut self, path: &str) -> Result<Option<Vec<u8>>, AllocError> {
         read_file(self, path)
     }

@@ -3,13 +3,14 @@
 use crate::arguments::Linting;
 use crate::files::end_with;
 use sfc_base::write_fault::{WriteFault, put_all};
+use sfc_lint::budget::Budget;
 use sfc_lint::kind::{Kind, kind_named};
 use sfc_lint::lint::{Warning, Warnings, lint};
 use sfc_lint::sfc_page::time_text::put_decimal;
 use sfc_lint::sfc_text::read::read;
 use sfc_replay::input::read_to_end;
 use sfc_replay::replay_error::ReplayError;
-use sfc_why::position::position_behind;
+use sfc_why::position::{Position, position_behind};
 use sfc_why::sfc_script::sfc_load::load::load;
 use std::alloc::Global;
 use std::io::{Read, Write};
@@ -17,7 +18,7 @@ use std::rt::Files;
 use std::{fs, io};
 
 // The warnings of a text.
-fn warnings_of(alloc: Global, text: &[u8], limit: usize) -> Result<Warnings, ReplayError> {
+fn warnings_of(alloc: Global, text: &[u8], budget: Budget) -> Result<Warnings, ReplayError> {
     let source = match read(alloc, text) {
         Ok(source) => source,
         Err(error) => return Err(ReplayError::from(error)),
@@ -26,7 +27,7 @@ fn warnings_of(alloc: Global, text: &[u8], limit: usize) -> Result<Warnings, Rep
         Ok(plant) => plant,
         Err(error) => return Err(ReplayError::from(error)),
     };
-    Ok(lint(alloc, text, &source, &plant, limit)?)
+    Ok(lint(alloc, text, &source, &plant, budget)?)
 }
 
 // Whether one of these words names the kind.
@@ -41,15 +42,34 @@ fn is_denied(linting: &Linting, kind: Kind) -> bool {
     names(&linting.denied, kind) || linting.denied.iter().any(|word| word.as_str() == "all")
 }
 
+/// The last line end before a warning, so that what stands before it isn't looked at once more.
+#[derive(Clone, Copy)]
+struct LineEnd {
+    // The byte of it; the front of the text before the first.
+    at: usize,
+    // How many stand before it.
+    before: usize,
+}
+
+impl LineEnd {
+    // Where a byte stands that isn't before the line end, which goes on to the last one before that byte.
+    fn position(&mut self, text: &[u8], byte: usize) -> Position {
+        let front = text.get(self.at..byte).unwrap_or(b"");
+        let Position { line, column } = position_behind(front);
+        let place = Position {
+            line: self.before.saturating_add(line),
+            column,
+        };
+        if let Some(last) = front.iter().rposition(|byte| *byte == b'\n') {
+            self.at = self.at.saturating_add(last);
+            self.before = place.line.saturating_sub(2);
+        }
+        place
+    }
+}
+
 // Writes where a warning stands: the file, the line and the column.
-fn put_place<W: Write>(
-    file: &[u8],
-    text: &[u8],
-    warning: &Warning,
-    writer: &mut W,
-) -> Result<(), WriteFault> {
-    let front = text.get(..warning.span.from as usize).unwrap_or(b"");
-    let position = position_behind(front);
+fn put_place<W: Write>(file: &[u8], position: Position, writer: &mut W) -> Result<(), WriteFault> {
     put_all(writer, file)?;
     put_all(writer, b":")?;
     put_decimal(position.line as u64, writer)?;
@@ -60,11 +80,11 @@ fn put_place<W: Write>(
 // Writes a warning.
 fn put_warning<W: Write>(
     file: &[u8],
-    text: &[u8],
+    position: Position,
     warning: &Warning,
     writer: &mut W,
 ) -> Result<(), WriteFault> {
-    put_place(file, text, warning, writer)?;
+    put_place(file, position, writer)?;
     put_all(writer, b": warning ")?;
     put_all(writer, warning.kind.code().as_bytes())?;
     put_all(writer, b": ")?;
@@ -100,11 +120,13 @@ fn put_warnings<W: Write>(
 ) -> Result<u8, WriteFault> {
     let mut status = 0;
     let mut is_told = false;
+    let mut line_end = LineEnd { at: 0, before: 0 };
     for warning in &warnings.list {
         if names(&linting.allowed, warning.kind) {
             continue;
         }
-        put_warning(linting.chart.as_bytes(), text, warning, writer)?;
+        let position = line_end.position(text, warning.span.from as usize);
+        put_warning(linting.chart.as_bytes(), position, warning, writer)?;
         is_told = true;
         if is_denied(linting, warning.kind) {
             status = 1;
@@ -125,7 +147,7 @@ fn lint_chart<C: Read, W: Write>(
     writer: &mut W,
 ) -> Result<u8, ReplayError> {
     let text = read_to_end(alloc, chart)?;
-    let warnings = warnings_of(alloc, &text, linting.limit)?;
+    let warnings = warnings_of(alloc, &text, Budget::of_sets(linting.limit))?;
     Ok(put_warnings(linting, &text, &warnings, writer)?)
 }
 

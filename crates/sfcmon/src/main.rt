@@ -86,7 +86,7 @@ where
         Request::Why(asking) => why::explain_fault(rt, asking),
         Request::Replay(playing) => replay(rt, playing),
         Request::Run(running) => files::run_file(rt, streams, running),
-        Request::Debug { chart } => debug::debug_file(rt, streams, chart.as_str()),
+        Request::Debug(debugging) => debug::debug_file(rt, streams, debugging),
         Request::Lsp => editors::serve_language(rt, streams),
         Request::Dap => editors::serve_debugger(rt, streams),
         Request::Draw(drawing) => draw::draw_file(rt, drawing),

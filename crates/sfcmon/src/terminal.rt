@@ -25,9 +25,8 @@ fn add_all<'a>(names: &mut Vec<&'a str>, more: &'a [String]) -> Result<(), Alloc
 fn names_of(alloc: Global, request: &Request) -> Result<Vec<&str>, AllocError> {
     let mut names = Vec::new(alloc);
     match request {
-        Request::Check { chart } | Request::List { chart } | Request::Debug { chart } => {
-            names.push(chart.as_str())?;
-        }
+        Request::Check { chart } | Request::List { chart } => names.push(chart.as_str())?,
+        Request::Debug(debugging) => names.push(debugging.chart.as_str())?,
         Request::Replay(playing) => {
             names.push(playing.chart.as_str())?;
             names.push(playing.script.as_str())?;
