@@ -24,6 +24,7 @@ class Page:
         self.session = {"sessionId": self.ask("Target.attachToTarget", targetId=target, flatten=True)["sessionId"]}
         for domain in ("Page", "Runtime", "Log", "Network"):
             self.ask(f"{domain}.enable")
+        self.ask("Performance.enable", timeDomain="threadTicks")
         self.ask("Page.navigate", url=f"file://{os.path.abspath(file)}")
         self.until("document.readyState === 'complete' && document.body.dataset.ready === '1'")
 
@@ -61,6 +62,11 @@ class Page:
         if "exceptionDetails" in told:
             self.end(f"{code}: {told['exceptionDetails'].get('exception', {}).get('description')}")
         return told["result"].get("value")
+
+    def busy(self) -> float:
+        """The processor time that the page itself has taken, in milliseconds."""
+        told = self.ask("Performance.getMetrics")["metrics"]
+        return next(it["value"] for it in told if it["name"] == "TaskDuration") * 1000
 
     def until(self, code: str, seconds=20):
         """Waits until an expression is true."""
