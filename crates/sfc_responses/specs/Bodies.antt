@@ -1,5 +1,5 @@
 -- What a response tells (Language Server Protocol: DocumentSymbol, SemanticTokens). The members are in the order of their keys.
-use Rattle.std.specs.Prelude.{ℕ, List, [], ◌∷◌, codes, string_bytes}
+use Rattle.std.specs.Prelude.{ℕ, ◌==◌, if◌then◌else◌, List, [], ◌∷◌, length, codes, string_bytes}
 use Rattle.serde_json.specs.Data.{Data, Items, Members, array, item, member, no_items, no_members, number, object, string, unsigned}
 use Rattle.sfc_responses.specs.declared.body.Body.{Body}
 use Rattle.sfc_responses.specs.declared.body.Body.TheVariants as body
@@ -42,13 +42,9 @@ symbols_of (symbol ∷ symbols) = item (symbol_of symbol) (symbols_of symbols)
 abbrev pub nest_of : Symbol → List Symbol → Data
 nest_of symbol inner = object (member (codes "children") (array (symbols_of inner)) (members_of symbol))
 
--- the same where some stand in it
-abbrev pub nest_if : Symbol → List Symbol → Data
-nest_if symbol [] = symbol_of symbol
-nest_if symbol (first ∷ others) = nest_of symbol (first ∷ others)
-
+-- a symbol with those in it, if there are any
 abbrev pub group_of : Group → Data
-group_of group = nest_if group.head group.inner.items
+group_of group = if length group.inner.items == 0 then symbol_of group.head else nest_of group.head group.inner.items
 
 abbrev pub groups_of : List Group → Items
 groups_of [] = no_items

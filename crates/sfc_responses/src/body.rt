@@ -8,5 +8,5 @@ pub enum Body<'a> {
     /// What a document declares, in order.
     Symbols(&'a [Group]),
     /// Numbers, under the name `data`: of the words of a document, five for each.
-    Data(&'a [u32]),
+    Data(&'a [usize]),
 }

@@ -58,7 +58,7 @@ fn begin(out: &mut Writer, id: &Value) -> Result<bool, AllocError>
 
 // What is told, as a value.
 fn value_of(alloc: Global, body: Body<'_>) -> Result<Value, AllocError>
-    ensures { IfOk result (λ value. view value ≡ bodies.body_of body) }
+    ensures { IfOk result (λ value. view value ≡ bodies.body_of body.entry) }
 {
     let mut out = Writer::new(Vec::new(alloc));
     put_body(&mut out, body)?;
@@ -76,7 +76,7 @@ pub fn respond_body(
     outbox: &mut Outbox,
 ) -> Result<(), AllocError>
     requires { IsId (view id.now) }
-    ensures put { OnOk result (PutsMessage outbox.old outbox.new (answers.success_of (view id.now) (bodies.body_of body))) }
+    ensures put { OnOk result (PutsMessage outbox.old outbox.new (answers.success_of (view id.now) (bodies.body_of body.entry))) }
     ensures responds { OnOk result (Puts outbox.old outbox.new (Responds (view id.now))) }
     ensures unchanged { OnErr result (outbox.new ≡ outbox.old) }
 {

@@ -134,20 +134,20 @@ fn put_groups(out: &mut Writer, groups: &[Group]) -> Result<(), AllocError>
 }
 
 // Writes numbers, and the end of their list.
-fn put_numbers(out: &mut Writer, numbers: &[u32]) -> Result<(), AllocError>
+fn put_numbers(out: &mut Writer, numbers: &[usize]) -> Result<(), AllocError>
     ensures ok { OnOk result (WritesItems (bodies.counts_of numbers.now) out.old.tokens out.new.tokens) }
     ensures before { out.new.before ≡ out.old.before }
 {
     let mut rest = numbers;
     'all: while let Some((number, behind)) = rest.split_first() {
-        out.u64(u64::from(*number))?;
+        out.u64(*number as u64)?;
         rest = behind;
     }
     out.end_array()
 }
 
 // Writes an object whose one member is a list of numbers.
-fn put_data(out: &mut Writer, numbers: &[u32]) -> Result<(), AllocError>
+fn put_data(out: &mut Writer, numbers: &[usize]) -> Result<(), AllocError>
     ensures ok { OnOk result (WritesValue (bodies.data_of numbers.now) out.old.tokens out.new.tokens) }
     ensures before { out.new.before ≡ out.old.before }
 {
@@ -160,7 +160,7 @@ fn put_data(out: &mut Writer, numbers: &[u32]) -> Result<(), AllocError>
 
 /// Writes what is told.
 pub fn put_body(out: &mut Writer, body: Body<'_>) -> Result<(), AllocError>
-    ensures ok { OnOk result (WritesValue (bodies.body_of body) out.old.tokens out.new.tokens) }
+    ensures ok { OnOk result (WritesValue (bodies.body_of body.entry) out.old.tokens out.new.tokens) }
     ensures before { out.new.before ≡ out.old.before }
 {
     match body {
