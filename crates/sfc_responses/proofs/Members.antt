@@ -1,5 +1,5 @@
 -- Members of an object and items of a list, written one after the other.
-use Rattle.std.proofs.Common.{◌≡◌, ◌≤◌, ◌<◌, ◌^◌, ℕ, length, List, [], ◌∷◌, ◌++◌, Some, codes, decimal, option_map, option_and_then, refl, ap, ap₂, ◌∙◌, subst, arith, append_assoc}
+use Rattle.std.proofs.Common.{◌≡◌, ◌<◌, ◌^◌, ℕ, length, List, [], ◌∷◌, ◌++◌, Some, codes, decimal, option_map, option_and_then, refl, ap, ap₂, ◌∙◌, subst, arith, append_assoc}
 use Rattle.json.specs.Json as json
 use Rattle.json.specs.Token.{Token, begin_array, begin_object, end_array, end_object, key, number as number_token, string as string_token}
 use Rattle.json.specs.Tree as tree
@@ -81,4 +81,4 @@ opens id old first second third mid begun one two named value last v =
     let rest = next_member (codes "result") value no_members third last (last ++ end_object ∷ []) three (last_member last (last ++ end_object ∷ []) refl) in
     let rests = next_member (codes "jsonrpc") (string (codes "2.0")) tail second third (last ++ end_object ∷ []) two rest in
     whole_object (member (codes "id") id (member (codes "jsonrpc") (string (codes "2.0")) tail)) old first (last ++ end_object ∷ []) begun
-        (next_member (codes "id") id (member (codes "jsonrpc") (string (codes "2.0")) tail) first second (last ++ end_object ∷ []) one rests) refl
+    (next_member (codes "id") id (member (codes "jsonrpc") (string (codes "2.0")) tail) first second (last ++ end_object ∷ []) one rests) refl

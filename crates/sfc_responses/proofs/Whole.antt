@@ -1,17 +1,17 @@
 -- Texts of whole messages.
-use Rattle.std.proofs.Common.{◌≡◌, ◌≤◌, ◌==◌, ◌∙◌, ℕ, Bool, true, false, if◌then◌else◌, length, List, [], ◌∷◌, Some, refl, sym, ap, arith, append-nil}
+use Rattle.std.proofs.Common.{◌≡◌, ◌≤◌, ◌==◌, ◌∙◌, ℕ, Bool, true, false, if◌then◌else◌, length, List, [], ◌∷◌, Some, sym, ap, arith, append-nil}
 use Rattle.std.specs.Prelude.{IsUtf8, option_and_then, unwrap_or}
 use Rattle.json.specs.Json as json
 use Rattle.json.specs.Lex.{tokens}
 use Rattle.json.specs.Print.{print}
 use Rattle.json.specs.Token.{Token}
 use Rattle.json.proofs.Printed.Trees.{value-json_tokens}
-use Rattle.serde_json.specs.Data.{Data, Items, Num, array, depth, float, item, items_depth, negative, no_items, null, unsigned}
+use Rattle.serde_json.specs.Data.{Data, Num, depth, float, items_depth, negative, null, unsigned}
 use Rattle.serde_json.specs.Find.{as_u64}
 use Rattle.serde_json.specs.Read.{max_depth, of_json, read}
-use Rattle.serde_json.specs.Written.{WritesValue, compact_text, has_float}
+use Rattle.serde_json.specs.Written.{WritesValue}
 use Rattle.serde_json.proofs.Texts.{print-outline, tokens_from_order}
-use Rattle.sfc_responses.specs.Bodies.{body_of, counts_of, group_of, groups_of, nest_of, symbol_of, symbols_of}
+use Rattle.sfc_responses.specs.Bodies.{body_of, counts_of, groups_of, nest_of, symbol_of, symbols_of}
 use Rattle.sfc_responses.specs.declared.body.Body.{Body}
 use Rattle.sfc_responses.specs.declared.body.Body.TheVariants as body
 use Rattle.sfc_responses.specs.declared.symbol.Group.{Group}
@@ -31,7 +31,7 @@ same_data one other e = ap (λ o. unwrap_or o null) e
 pub read_back : (d : Data) (ts : List Token) → WritesValue d [] ts → tokens (print ts) ≡ ts → depth d ≤ max_depth → read (print ts) ≡ Some d
 read_back d ts w same shallow =
     ap (λ r. option_and_then of_json (option_and_then (λ p. json.if_last p.0 p.1) r))
-        (ap (json.value max_depth) (same ∙ w.1 ∙ sym (append-nil _)) ∙ value-json_tokens w.0 max_depth [] (omega (arith, w.3))) ∙ w.2
+    (ap (json.value max_depth) (same ∙ w.1 ∙ sym (append-nil _)) ∙ value-json_tokens w.0 max_depth [] (omega (arith, w.3))) ∙ w.2
 
 pub written : (d : Data) (ts : List Token) → WritesValue d [] ts → tokens (print ts) ≡ ts → IsUtf8 (print ts) → depth d ≤ max_depth → IsWritten d (print ts)
 written d ts w same utf8 shallow = record {

@@ -1,7 +1,6 @@
 use Rattle.std.proofs.Common.{◌≡◌, ◌∙◌, ◌++◌, [], ◌∷◌, ap, arith, rules, subst, sym}
 use Rattle.std.proofs.lemmas.Result.{on_ok_weaker}
 use Rattle.json.specs.Print.{print}
-use Rattle.json.specs.Token.{end_object}
 use Rattle.serde_json.specs.View.{view}
 use Rattle.serde_json.specs.Written.{WritesValue}
 use Rattle.sfc_responses.specs.Bodies.{body_of}

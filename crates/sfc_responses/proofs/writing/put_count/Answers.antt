@@ -1,6 +1,6 @@
-use Rattle.std.proofs.Common.{◌≡◌, List, [], ◌∷◌, ◌++◌, arith, rules, codes}
+use Rattle.std.proofs.Common.{◌≡◌, [], ◌∷◌, ◌++◌, arith, rules}
 use Rattle.std.proofs.lemmas.Result.{on_ok_weaker}
-use Rattle.json.specs.Token.{Token, key}
+use Rattle.json.specs.Token.{key}
 use Rattle.sfc_responses.proofs.Members.{writes_count}
 use Rattle.sfc_responses.proofs.writing.put_count.Goals as goal
 

@@ -9,6 +9,6 @@ pub returns-clause-ok : goal.returns-clause-ok
 returns-clause-ok c =
     let numbers = counts_of c.args.numbers.now in
     on_ok_weaker c.end_object.result (λ e.
-      whole_object (member (codes "data") (array numbers) no_members) _ _ _ c.in_ok-begin_object.ensures.ok
-          (next_member _ _ no_members _ _ _ (whole_array numbers _ _ _ (rw c.in_ok-key.ensures.ok at c.in_ok-begin_array.ensures.ok) c.in_ok-put_numbers.ensures.ok) (last_member _ _ e)) refl
+    whole_object (member (codes "data") (array numbers) no_members) _ _ _ c.in_ok-begin_object.ensures.ok
+    (next_member _ _ no_members _ _ _ (whole_array numbers _ _ _ (rw c.in_ok-key.ensures.ok at c.in_ok-begin_array.ensures.ok) c.in_ok-put_numbers.ensures.ok) (last_member _ _ e)) refl
     ) c.end_object.ensures.ok

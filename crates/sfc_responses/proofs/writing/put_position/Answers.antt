@@ -11,6 +11,6 @@ returns-clause-ok c =
     let line = count place.line in
     let rest = member (codes "line") line no_members in
     on_ok_weaker c.end_object.result (λ e.
-      whole_object (member (codes "character") (count place.character) rest) _ _ _ (rw c.in_ok-key.ensures.ok at c.in_ok-begin_object.ensures.ok)
-          (next_member _ _ rest _ _ _ c.in_ok-put_count.ensures.ok (next_member _ _ no_members _ _ _ c.in_ok-put_count-2.ensures.ok (last_member _ _ e))) refl
+    whole_object (member (codes "character") (count place.character) rest) _ _ _ (rw c.in_ok-key.ensures.ok at c.in_ok-begin_object.ensures.ok)
+    (next_member _ _ rest _ _ _ c.in_ok-put_count.ensures.ok (next_member _ _ no_members _ _ _ c.in_ok-put_count-2.ensures.ok (last_member _ _ e))) refl
     ) c.end_object.ensures.ok

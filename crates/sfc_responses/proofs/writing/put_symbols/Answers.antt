@@ -14,5 +14,5 @@ all-preserved c = record {
 
 pub returns-clause-ok : goal.returns-clause-ok
 returns-clause-ok c = on_ok_weaker c.end_array.result (λ e.
-  c.all.invariant.ok _ (subst (λ xs. WritesItems (symbols_of xs) c.all.out.tokens c.end_array.new.self.tokens) (nothing_left c.all.rest.now c.in_default.ensures.cases) (last_item _ _ e))
-) c.end_array.ensures.ok
+    c.all.invariant.ok _ (subst (λ xs. WritesItems (symbols_of xs) c.all.out.tokens c.end_array.new.self.tokens) (nothing_left c.all.rest.now c.in_default.ensures.cases) (last_item _ _ e))
+    ) c.end_array.ensures.ok
