@@ -1,7 +1,7 @@
 -- Texts as clients change them (Language Server Protocol).
 use Rattle.std.specs.Prelude.{ℕ, nat_lt, if◌then◌else◌, List, [], ◌++◌, length, take, drop}
-use Rattle.sfc_lsp.specs.declared.positions.Position.{Position}
-use Rattle.sfc_lsp.specs.declared.positions.Range.{Range}
+use Rattle.sfc_responses.specs.declared.position.Position.{Position}
+use Rattle.sfc_responses.specs.declared.position.Range.{Range}
 use Rattle.sfc_lsp.specs.Positions.{byte_at, line_starts}
 
 -- the bytes before a place, and from it on

@@ -1,6 +1,6 @@
 -- Places in texts (Language Server Protocol): lines and columns, both counted from 0.
 use Rattle.std.specs.Prelude.{◌≡◌, ℕ, suc, ◌+◌, ◌-◌, ◌<◌, ◌≤◌, nat_lt, Bool, ◌==◌, ◌||◌, ◌&&◌, not, if◌then◌else◌, List, [], ◌∷◌, length, take, drop, Option, Some, None, slice_get}
-use Rattle.sfc_lsp.specs.declared.positions.Position.{Position}
+use Rattle.sfc_responses.specs.declared.position.Position.{Position}
 
 -- LF and CR end lines, and CR LF is one end
 abbrev pub is_end : ℕ → Bool

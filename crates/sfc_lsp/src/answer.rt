@@ -1,6 +1,7 @@
 //! What a request is answered.
 
 use serde_json::Value;
+use sfc_responses::symbol::Group;
 use sfc_wire::error_code::ErrorCode;
 
 /// What a request is answered.
@@ -8,6 +9,10 @@ use sfc_wire::error_code::ErrorCode;
 pub enum Answer {
     /// It was done: what it gave.
     Done(Value),
+    /// It was done: what the document declares.
+    Symbols(Vec<Group>),
+    /// It was done: numbers under the name `data`.
+    Data(Vec<usize>),
     /// It was not, for a reason.
     Refused(ErrorCode, &'static str),
 }

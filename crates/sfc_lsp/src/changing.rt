@@ -4,8 +4,9 @@ ghost use Rattle.std.specs.Prelude.{◌≡◌, IfOk};
 ghost use Rattle.sfc_lsp.specs.Changes as changes;
 
 use crate::params::{member, range_in, text_in};
-use crate::positions::{Range, byte_of, line_starts};
+use crate::positions::{byte_of, line_starts};
 use serde_json::Value;
+use sfc_responses::position::Range;
 use std::alloc::{AllocError, Global};
 
 // The bytes of a text before a byte; all of it where it has no more.

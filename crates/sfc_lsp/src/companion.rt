@@ -1,6 +1,6 @@
 //! The chart that a script or tests are for.
 
-use crate::documents::{Document, Documents, Heading};
+use crate::documents::{Document, Documents};
 use crate::shelf::Shelf;
 use crate::uris::{path_of, with_ending};
 use std::alloc::{AllocError, Global};
@@ -42,7 +42,7 @@ fn shelved<S: Shelf>(
         return Ok(None);
     };
     match shelf.read(path.as_str())? {
-        Some(text) => Ok(Some(Document::new(alloc, Heading::of_chart(), text, None)?)),
+        Some(text) => Ok(Some(Document::in_file(alloc, text)?)),
         None => Ok(None),
     }
 }

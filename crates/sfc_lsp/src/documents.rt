@@ -7,6 +7,8 @@ use crate::language::Language;
 use crate::positions::line_starts;
 use indexmap::IndexMap;
 use sfc_names::chart::Chart;
+use sfc_names::diagnosing::{Diagnosed, diagnose_chart};
+use sfc_names::diagnostic::Diagnostic;
 use std::alloc::{AllocError, Global};
 
 /// What is known of a document beside its text.
@@ -37,13 +39,19 @@ pub struct Document {
     pub chart: Option<Chart>,
     /// Whether the chart is that of the text.
     pub is_current: bool,
+    /// The faults and warnings of a chart that is open; of scripts and tests they are found when they are wanted, since they go by another
+    /// text too.
+    pub shown: Vec<Diagnostic>,
 }
 
-// The chart that a text is; None where it is none, and of other texts.
-fn chart_of(alloc: Global, language: Language, text: &[u8]) -> Result<Option<Chart>, AllocError> {
+// What is read of a text, and the faults and warnings of a chart.
+fn diagnosed(alloc: Global, language: Language, text: &[u8]) -> Result<Diagnosed, AllocError> {
     match language {
-        Language::Chart => Chart::of(alloc, text),
-        Language::Script | Language::Tests => Ok(None),
+        Language::Chart => diagnose_chart(alloc, text),
+        Language::Script | Language::Tests => Ok(Diagnosed {
+            chart: None,
+            list: Vec::new(alloc),
+        }),
     }
 }
 
@@ -59,7 +67,7 @@ impl Document {
         ensures heading { IfOk result (λ document. document.heading ≡ heading) }
     {
         let starts = line_starts(alloc, &text)?;
-        let chart = chart_of(alloc, heading.language, &text)?;
+        let Diagnosed { chart, list } = diagnosed(alloc, heading.language, &text)?;
         let is_current = chart.is_some();
         let chart = if is_current { chart } else { before };
         Ok(Document {
@@ -68,6 +76,24 @@ impl Document {
             starts,
             chart,
             is_current,
+            shown: list,
+        })
+    }
+
+    /// A chart that stands in a file: none of its faults and warnings are looked for. The one error is that memory was refused.
+    pub fn in_file(alloc: Global, text: Vec<u8>) -> Result<Document, AllocError>
+        ensures { IfOk result (λ document. document.text ≡ text) }
+    {
+        let starts = line_starts(alloc, &text)?;
+        let chart = Chart::of(alloc, &text)?;
+        let is_current = chart.is_some();
+        Ok(Document {
+            heading: Heading::of_chart(),
+            text,
+            starts,
+            chart,
+            is_current,
+            shown: Vec::new(alloc),
         })
     }
 

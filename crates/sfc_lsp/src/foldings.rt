@@ -4,12 +4,13 @@ use crate::answer::Answer;
 use crate::asked::Asked;
 use crate::documents::Document;
 use crate::language::Language;
-use crate::positions::{Position, columns, position_of};
+use crate::positions::{columns, position_of};
 use serde_json::{Value, json};
 use sfc_names::chart::tokens_of;
 use sfc_names::folds::blocks_of;
 use sfc_names::paints::{Paint, Painted, painted_words};
 use sfc_names::sfc_tokens::span::Span;
+use sfc_responses::position::Position;
 use std::alloc::{AllocError, Global};
 
 // Where a byte of a document stands.
@@ -135,12 +136,7 @@ impl<'a> Walk<'a> {
 }
 
 // Puts the five numbers of a word last, behind one that begins at a place.
-fn put_word(
-    alloc: Global,
-    before: Position,
-    told: Told,
-    data: &mut Vec<Value>,
-) -> Result<(), AllocError> {
+fn put_word(before: Position, told: Told, data: &mut Vec<usize>) -> Result<(), AllocError> {
     let lines = told.at.line.saturating_sub(before.line);
     let columns = if lines == 0 {
         told.at.character.saturating_sub(before.character)
@@ -148,7 +144,7 @@ fn put_word(
         told.at.character
     };
     for number in [lines, columns, told.length, told.kind, 0] {
-        data.push(json!(in alloc; number)?)?;
+        data.push(number)?;
     }
     Ok(())
 }
@@ -164,11 +160,9 @@ pub fn semantic_tokens(asked: &Asked<'_>) -> Result<Answer, AllocError> {
     let mut before = walk.at;
     for painted in painted_words(alloc, chart)? {
         if let Some(told) = walk.told_of(painted) {
-            put_word(alloc, before, told, &mut data)?;
+            put_word(before, told, &mut data)?;
             before = told.at;
         }
     }
-    let data = Value::Array(data);
-    let value = json!(in alloc; {"data": data})?;
-    Ok(Answer::Done(value))
+    Ok(Answer::Data(data))
 }

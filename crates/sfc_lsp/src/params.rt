@@ -1,7 +1,7 @@
 //! The parameters of messages.
 
-use crate::positions::{Position, Range};
 use serde_json::Value;
+use sfc_responses::position::{Position, Range};
 
 /// A member of an object; None where it is no object, or hasn't it.
 pub fn member<'a>(value: Option<&'a Value>, name: &str) -> Option<&'a Value> {

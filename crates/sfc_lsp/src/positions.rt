@@ -5,21 +5,8 @@ ghost use Rattle.std.specs.Prelude.{◌≡◌, ◌≤◌, IfOk, IfSome, length};
 ghost use Rattle.sfc_lsp.specs.Positions as positions;
 ghost use Rattle.sfc_lsp.specs.Positions.{IsPosition};
 
+use sfc_responses::position::Position;
 use std::alloc::{AllocError, Global};
-
-/// A line and a column.
-#[derive(Clone, Copy, Debug, PartialEq, Eq)]
-pub struct Position {
-    pub line: usize,
-    pub character: usize,
-}
-
-/// What stands between two places.
-#[derive(Clone, Copy, Debug, PartialEq, Eq)]
-pub struct Range {
-    pub from: Position,
-    pub to: Position,
-}
 
 // Whether a line ends behind a byte that these stand behind: with LF, CR LF or CR.
 fn ends_line(byte: u8, behind: &[u8]) -> bool

@@ -9,6 +9,8 @@ ghost use Rattle.sfc_wire.specs.RpcAnswered.{AreCalls, Responds};
 
 use crate::answer::Answer;
 use serde_json::{Map, Value};
+use sfc_responses::body::Body;
+use sfc_responses::responding::respond_body;
 use sfc_wire::error_code::ErrorCode;
 use sfc_wire::rpc_outbox::{refuse, respond, tell};
 use sfc_wire::sfc_frames::outbox::Outbox;
@@ -73,6 +75,8 @@ pub fn put_answer(
             let reason = "the response would nest too deep";
             refuse(alloc, id, ErrorCode::InternalError, reason, outbox)
         }
+        Answer::Symbols(groups) => respond_body(alloc, id, Body::Symbols(&groups), outbox),
+        Answer::Data(numbers) => respond_body(alloc, id, Body::Data(&numbers), outbox),
         Answer::Refused(code, reason) => refuse(alloc, id, code, reason, outbox),
     }
 }

@@ -22,7 +22,7 @@ use crate::shelf::Shelf;
 use crate::symbols::{all_symbols, document_symbols};
 use crate::testing::tests_over;
 use serde_json::Value;
-use sfc_names::diagnosing::{diagnose_chart, diagnose_script};
+use sfc_names::diagnosing::diagnose_script;
 use sfc_names::diagnostic::Diagnostic;
 use sfc_why::chart::{Told, explain_chart};
 use sfc_wire::error_code::ErrorCode;
@@ -151,7 +151,7 @@ impl<'a, S: Shelf> LspServer<'a, S> {
             return Ok(None);
         };
         let found = match document.language() {
-            Language::Chart => diagnose_chart(self.alloc, &document.text, document.current())?,
+            Language::Chart => return Ok(Some(published_value(self.alloc, uri, document, &document.shown)?)),
             Language::Script => {
                 let companion = companion_of(self.alloc, &self.documents, self.shelf, uri)?;
                 diagnostics_of_script(self.alloc, document, companion.as_ref())?

@@ -3,11 +3,12 @@
 use crate::answer::Answer;
 use crate::asked::Asked;
 use crate::documents::{Document, Documents};
-use crate::values::{location_value, range_value, text_value};
+use crate::values::{location_value, range_of, text_value};
 use serde_json::{Value, json};
 use sfc_names::chart::Chart;
 use sfc_names::declarations::{Declaration, Sort, declarations_of};
 use sfc_names::sfc_places::span::Span;
+use sfc_responses::symbol::{Group, Symbol};
 use std::alloc::{AllocError, Global};
 
 // The number of the protocol for a kind of things.
@@ -29,63 +30,37 @@ fn name_value(alloc: Global, chart: &Chart, declaration: Declaration) -> Result<
     text_value(alloc, chart.bytes(declaration.label))
 }
 
-// A thing, with those in it.
-fn tree_value(
+// A thing, as it is told.
+fn told_of(
     alloc: Global,
     (document, chart): (&Document, &Chart),
     declaration: Declaration,
-    inner: Vec<Value>,
-) -> Result<Value, AllocError> {
-    let name = name_value(alloc, chart, declaration)?;
-    let range = range_value(alloc, document, Span::of(declaration.span))?;
-    let selection = range_value(alloc, document, Span::of(declaration.name))?;
-    let kind = kind_number(declaration.sort);
-    if inner.is_empty() {
-        return json!(in alloc; {"kind": kind, "name": name, "range": range, "selectionRange": selection});
-    }
-    let children = Value::Array(inner);
-    json!(in alloc; {
-        "children": children,
-        "kind": kind,
-        "name": name,
-        "range": range,
-        "selectionRange": selection
+) -> Result<Symbol, AllocError> {
+    Ok(Symbol {
+        kind: kind_number(declaration.sort),
+        name: String::from_utf8_lossy(alloc, chart.bytes(declaration.label))?,
+        range: range_of(document, Span::of(declaration.span)),
+        selection: range_of(document, Span::of(declaration.name)),
     })
 }
 
-// The things that stand in the one before these, up to the next that stands in none.
-fn inner_values(
-    alloc: Global,
-    (document, chart): (&Document, &Chart),
-    behind: &[Declaration],
-) -> Result<Vec<Value>, AllocError> {
-    let mut inner = Vec::new(alloc);
-    for declaration in behind {
-        if !declaration.is_inner {
-            return Ok(inner);
-        }
-        let none = Vec::new(alloc);
-        inner.push(tree_value(alloc, (document, chart), *declaration, none)?)?;
-    }
-    Ok(inner)
-}
-
 // All things, each with those in it.
-fn tree_values(
+fn groups_of(
     alloc: Global,
     (document, chart): (&Document, &Chart),
-    declarations: &[Declaration],
-) -> Result<Vec<Value>, AllocError> {
-    let mut list = Vec::new(alloc);
-    let mut rest = declarations;
-    'all: while let Some((declaration, behind)) = rest.split_first() {
-        if !declaration.is_inner {
-            let inner = inner_values(alloc, (document, chart), behind)?;
-            list.push(tree_value(alloc, (document, chart), *declaration, inner)?)?;
+) -> Result<Vec<Group>, AllocError> {
+    let mut groups: Vec<Group> = Vec::new(alloc);
+    for declaration in declarations_of(alloc, chart)? {
+        let symbol = told_of(alloc, (document, chart), declaration)?;
+        match groups.last_mut() {
+            Some(group) if declaration.is_inner => group.inner.push(symbol)?,
+            _ => groups.push(Group {
+                head: symbol,
+                inner: Vec::new(alloc),
+            })?,
         }
-        rest = behind;
     }
-    Ok(list)
+    Ok(groups)
 }
 
 // A thing with its place.
@@ -149,9 +124,7 @@ pub fn document_symbols(asked: &Asked<'_>) -> Result<Answer, AllocError> {
         put_symbols(alloc, (asked.uri, asked.document, chart), b"", &mut list)?;
         return Ok(Answer::Done(Value::Array(list)));
     }
-    let declarations = declarations_of(alloc, chart)?;
-    let list = tree_values(alloc, (asked.document, chart), &declarations)?;
-    Ok(Answer::Done(Value::Array(list)))
+    Ok(Answer::Symbols(groups_of(alloc, (asked.document, chart))?))
 }
 
 /// What all documents that are open declare in whose names a word stands. The one error is that memory was refused.

@@ -1,9 +1,10 @@
 //! Values of messages that several answers have.
 
 use crate::documents::Document;
-use crate::positions::{Position, position_of};
+use crate::positions::position_of;
 use serde_json::{Value, json};
 use sfc_names::sfc_places::span::Span;
+use sfc_responses::position::{Position, Range};
 use std::alloc::{AllocError, Global};
 
 /// Bytes as a text; those that are no characters become others. The one error is that memory was refused.
@@ -29,10 +30,19 @@ fn place_of(document: &Document, byte: usize) -> Position {
     }
 }
 
+/// What stands between two bytes of a document.
+pub fn range_of(document: &Document, span: Span) -> Range {
+    Range {
+        from: place_of(document, span.from),
+        to: place_of(document, span.to),
+    }
+}
+
 /// A range, by its bytes. The one error is that memory was refused.
 pub fn range_value(alloc: Global, document: &Document, span: Span) -> Result<Value, AllocError> {
-    let from = position_value(alloc, place_of(document, span.from))?;
-    let to = position_value(alloc, place_of(document, span.to))?;
+    let range = range_of(document, span);
+    let from = position_value(alloc, range.from)?;
+    let to = position_value(alloc, range.to)?;
     json!(in alloc; {"end": to, "start": from})
 }
 

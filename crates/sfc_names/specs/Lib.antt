@@ -1,5 +1,7 @@
 -- The rules, in reading order.
 
+-- charts that were read
+pub mod Charts
 -- what is shown of a chart
 pub mod Diagnosing
 -- texts that say the same

@@ -2,6 +2,10 @@
 
 ghost use Rattle.std.specs.Prelude.{◌≡◌, IfOk, IfSome, Ok};
 ghost use Rattle.sfc_outline.specs.Places.{bytes};
+ghost use Rattle.sfc_names.specs.Charts.{IsBuilt};
+ghost use Rattle.sfc_script.specs.sfc_load.Accepted.{IsAccepted};
+ghost use Rattle.sfc_text.specs.Reads.{TextReads};
+ghost use Rattle.sfc_text.specs.Trees.{source_of as tree_of};
 ghost use Rattle.sfc_tokens.specs.Texts.{TextLexes};
 ghost use Rattle.sfc_tokens.specs.Tokens.{kinds};
 
@@ -41,7 +45,9 @@ impl Drop for Chart {
 }
 
 // The plant that a tree is, if it can be loaded.
-fn plant_of(alloc: Global, source: &Source) -> Result<Option<Plant>, AllocError> {
+fn plant_of(alloc: Global, source: &Source) -> Result<Option<Plant>, AllocError>
+    ensures { IfOk result (λ found. IfSome found (IsBuilt source.now)) }
+{
     match load(alloc, source) {
         Ok(plant) => Ok(Some(plant)),
         Err(LoadError::Memory) => Err(AllocError),
@@ -61,7 +67,9 @@ pub fn tokens_of(alloc: Global, text: &[u8]) -> Result<Option<Vec<Token>>, Alloc
 }
 
 // The tree of a text, if it can be read.
-fn source_of(alloc: Global, text: &[u8]) -> Result<Option<Source>, AllocError> {
+fn source_of(alloc: Global, text: &[u8]) -> Result<Option<Source>, AllocError>
+    ensures { IfOk result (λ found. IfSome found (λ source. TextReads text.now (Ok (tree_of source)))) }
+{
     match read(alloc, text) {
         Ok(source) => Ok(Some(source)),
         Err(error) if error.kind == ReadErrorKind::Memory => Err(AllocError),
@@ -72,7 +80,8 @@ fn source_of(alloc: Global, text: &[u8]) -> Result<Option<Source>, AllocError> {
 impl Chart {
     /// The chart that a text is; None where it can't be read. The one error is that memory was refused.
     pub fn of(alloc: Global, text: &[u8]) -> Result<Option<Chart>, AllocError>
-        ensures { IfOk result (λ found. IfSome found (λ chart. chart.text.items ≡ text.now)) }
+        ensures text { IfOk result (λ found. IfSome found (λ chart. chart.text.items ≡ text.now)) }
+        ensures plant { IfOk result (λ found. IfSome found (λ chart. IfSome chart.plant (IsAccepted text.now))) }
     {
         let Some(tokens) = tokens_of(alloc, text)? else {
             return Ok(None);

@@ -1,8 +1,9 @@
 //! All faults and warnings of a text.
 
-ghost use Rattle.std.specs.Prelude.{◌≡◌, IfOk};
+ghost use Rattle.std.specs.Prelude.{◌≡◌, IfOk, IfSome};
 ghost use Rattle.sfc_names.specs.Diagnosing as diagnosing;
 ghost use Rattle.sfc_names.specs.Diagnosing.{AreFaults, AreWarnings, DiagnosesChart, IsFault, IsWarning};
+ghost use Rattle.sfc_script.specs.sfc_load.Accepted.{IsAccepted};
 
 use crate::chart::Chart;
 use crate::diagnostic::{Diagnostic, Severity};
@@ -14,6 +15,7 @@ use sfc_lint::lint::{Warning, lint};
 use sfc_page::append::{append, append_number};
 use sfc_places::span::Span;
 use sfc_plant::plant::Plant;
+use sfc_text::tree::Source;
 use sfc_why::page::explanation_of;
 use sfc_why::place::Place;
 use sfc_why::report::Report;
@@ -183,33 +185,60 @@ fn warnings_of(alloc: Global, warnings: &[Warning]) -> Result<Vec<Diagnostic>, A
 }
 
 // What is shown of the warnings of a chart that has no fault.
-fn lint_of(alloc: Global, text: &[u8], chart: Option<&Chart>) -> Result<Vec<Diagnostic>, AllocError>
+fn lint_of(
+    alloc: Global,
+    text: &[u8],
+    source: &Source,
+    plant: &Plant,
+) -> Result<Vec<Diagnostic>, AllocError>
     ensures { IfOk result (λ found. AreWarnings found.items) }
 {
-    let Some(chart) = chart else {
-        return Ok(Vec::new(alloc));
-    };
-    let Some(plant) = &chart.plant else {
-        return Ok(Vec::new(alloc));
-    };
-    let warnings = lint(alloc, text, &chart.source, plant, Budget::of_an_editor())?;
+    let warnings = lint(alloc, text, source, plant, Budget::of_an_editor())?;
     warnings_of(alloc, &warnings.list)
 }
 
-/// What is shown of a chart: its faults, as `reports_of` has them; where it has none, its warnings. The chart is the one
-/// that the text is, where it can be read. The one error is that memory was refused.
-pub fn diagnose_chart(
-    alloc: Global,
-    text: &[u8],
-    chart: Option<&Chart>,
-) -> Result<Vec<Diagnostic>, AllocError>
+// What is shown of the faults of a text.
+fn faults_in(alloc: Global, text: &[u8]) -> Result<Vec<Diagnostic>, AllocError>
     ensures { IfOk result (λ found. DiagnosesChart text.now found.items) }
 {
     let reports = reports_of(alloc, text)?;
-    if reports.is_empty() {
-        return lint_of(alloc, text, chart);
-    }
     faults_of(alloc, text, &reports)
+}
+
+/// What was read of a chart, and what is shown of it.
+#[derive(Drop)]
+pub struct Diagnosed {
+    /// The chart that the text is, where it can be read.
+    pub chart: Option<Chart>,
+    pub list: Vec<Diagnostic>,
+}
+
+// What is shown of a chart that was read of the text.
+fn diagnose_read(alloc: Global, text: &[u8], chart: Chart) -> Result<Diagnosed, AllocError>
+    ensures { IfSome chart.plant (IsAccepted text.now) → IfOk result (λ found. DiagnosesChart text.now found.list.items) }
+{
+    let list = match &chart.plant {
+        Some(plant) => lint_of(alloc, text, &chart.source, plant)?,
+        None => faults_in(alloc, text)?,
+    };
+    Ok(Diagnosed {
+        chart: Some(chart),
+        list,
+    })
+}
+
+/// What is shown of a chart, and what was read of it: its faults, as `reports_of` has them; where it has none, its warnings. The one
+/// error is that memory was refused.
+pub fn diagnose_chart(alloc: Global, text: &[u8]) -> Result<Diagnosed, AllocError>
+    ensures { IfOk result (λ found. DiagnosesChart text.now found.list.items) }
+{
+    match Chart::of(alloc, text)? {
+        Some(chart) => diagnose_read(alloc, text, chart),
+        None => Ok(Diagnosed {
+            chart: None,
+            list: faults_in(alloc, text)?,
+        }),
+    }
 }
 
 // What is shown of warnings of a script.

@@ -1,0 +1,8 @@
+use Rattle.std.proofs.lemmas.Result.{on_ok_weaker}
+use Rattle.sfc_responses.specs.Bodies.{groups_of}
+use Rattle.sfc_responses.proofs.Members.{whole_array}
+use Rattle.sfc_responses.proofs.writing.put_body.Goals as goal
+
+pub returns-in_ok-begin_array-in-Symbols-clause-ok : goal.returns-in_ok-begin_array-in-Symbols-clause-ok
+returns-in_ok-begin_array-in-Symbols-clause-ok c = on_ok_weaker c.put_groups.result
+    (λ r. rw c.in-Symbols.is (whole_array (groups_of c.in-Symbols.groups.now) _ _ _ c.in_ok-begin_array-in-Symbols.ensures.ok r)) c.put_groups.ensures.ok

@@ -1,0 +1,3 @@
+-- what a response tells
+pub mod Bodies
+pub mod Private

@@ -1,0 +1,12 @@
+//! What a response tells.
+
+use crate::symbol::Group;
+
+/// What a response tells.
+#[derive(Clone, Copy)]
+pub enum Body<'a> {
+    /// What a document declares, in order.
+    Symbols(&'a [Group]),
+    /// Numbers, under the name `data`: of the words of a document, five for each.
+    Data(&'a [usize]),
+}
