@@ -151,7 +151,12 @@ impl<'a, S: Shelf> LspServer<'a, S> {
             return Ok(None);
         };
         let found = match document.language() {
-            Language::Chart => return Ok(Some(published_value(self.alloc, uri, document, &document.shown)?)),
+            Language::Chart => return Ok(Some(published_value(
+                self.alloc,
+                uri,
+                document,
+                &document.shown,
+            )?)),
             Language::Script => {
                 let companion = companion_of(self.alloc, &self.documents, self.shelf, uri)?;
                 diagnostics_of_script(self.alloc, document, companion.as_ref())?
