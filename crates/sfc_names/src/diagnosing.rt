@@ -214,17 +214,13 @@ pub struct Diagnosed {
 }
 
 // What is shown of a chart that was read of the text.
-fn diagnose_read(alloc: Global, text: &[u8], chart: Chart) -> Result<Diagnosed, AllocError>
-    ensures { IfSome chart.plant (IsAccepted text.now) → IfOk result (λ found. DiagnosesChart text.now found.list.items) }
+fn shown_of(alloc: Global, text: &[u8], chart: &Chart) -> Result<Vec<Diagnostic>, AllocError>
+    ensures { IfSome chart.now.plant (IsAccepted text.now) → IfOk result (λ found. DiagnosesChart text.now found.items) }
 {
-    let list = match &chart.plant {
-        Some(plant) => lint_of(alloc, text, &chart.source, plant)?,
-        None => faults_in(alloc, text)?,
-    };
-    Ok(Diagnosed {
-        chart: Some(chart),
-        list,
-    })
+    match &chart.plant {
+        Some(plant) => lint_of(alloc, text, &chart.source, plant),
+        None => faults_in(alloc, text),
+    }
 }
 
 /// What is shown of a chart, and what was read of it: its faults, as `reports_of` has them; where it has none, its warnings. The one
@@ -233,11 +229,17 @@ pub fn diagnose_chart(alloc: Global, text: &[u8]) -> Result<Diagnosed, AllocErro
     ensures { IfOk result (λ found. DiagnosesChart text.now found.list.items) }
 {
     match Chart::of(alloc, text)? {
-        Some(chart) => diagnose_read(alloc, text, chart),
-        None => Ok(Diagnosed {
-            chart: None,
-            list: faults_in(alloc, text)?,
-        }),
+        Some(chart) => {
+            let list = shown_of(alloc, text, &chart)?;
+            Ok(Diagnosed {
+                chart: Some(chart),
+                list,
+            })
+        }
+        None => {
+            let list = faults_in(alloc, text)?;
+            Ok(Diagnosed { chart: None, list })
+        }
     }
 }
 
