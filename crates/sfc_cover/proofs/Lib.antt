@@ -6,3 +6,5 @@ pub mod TaskScans
 pub mod Playing
 -- lists of what is at numbers, one number more
 pub mod Ranges
+-- shares, one mark after the other
+pub mod Counting

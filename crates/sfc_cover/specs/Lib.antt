@@ -6,5 +6,9 @@ pub mod Beside
 pub mod Stages
 -- what scripts never reach, as marks of a drawing
 pub mod Unreached
+-- how much was reached: numbers of marks
+pub mod Shares
+-- the report
+pub mod Reports
 -- What private clauses cite.
 pub mod Private

@@ -9,7 +9,7 @@ ghost use Rattle.sfc_replay.specs.sfc_tables.Tables.{tables_of};
 ghost use Rattle.sfc_cover.specs.Unreached as unreached;
 
 use crate::reach::Reach;
-use crate::reached::{Reached, TransitionReach};
+use crate::reached::TransitionReach;
 use crate::sfc_tables::step_action::StepAction;
 use crate::sfc_tables::tables::Tables;
 use sfc_base::ids::{ActionNumber, ProgId, TypeId};
@@ -38,22 +38,12 @@ fn is_marked(flags: &[bool], number: usize) -> bool
 
 // ---- transitions
 
-// Whether a transition that was reached so far was cleared (2.6.5).
-fn is_cleared(reached: Reached) -> bool
-    ensures { result ≡ unreached.is_cleared reached }
-{
-    match reached {
-        Reached::Never | Reached::Enabled | Reached::True => false,
-        Reached::Cleared => true,
-    }
-}
-
 // Whether the transition with this number was cleared.
 fn was_cleared(transitions: &[TransitionReach], number: usize) -> bool
     ensures { result ≡ unreached.was_cleared (slice_get transitions.now number) }
 {
     match transitions.get(number) {
-        Some(transition) => is_cleared(transition.reached),
+        Some(transition) => transition.reached.is_cleared(),
         None => false,
     }
 }

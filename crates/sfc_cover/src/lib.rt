@@ -8,7 +8,7 @@
 //! - `fault_counts`: which faults ended scans.
 //! - `follow`: program instances beside a debugger.
 //! - `look`: what is seen of an instance before a scan and behind it.
-//! - `page`: the report; `sheet`: the lines of a program type in it.
+//! - `page`: the report; `sheet`: the lines of a program type in it; `part`: what stands between the parts of a share.
 //! - `reach`, `reached`: what was reached of an instance, and how far a transition.
 //! - `shadow`: program instances that are told events, one scan of an instance at a time.
 //! - `share`: shares and percents.
@@ -24,6 +24,7 @@ mod fault_counts;
 pub mod follow;
 mod look;
 mod page;
+mod part;
 mod reach;
 mod reached;
 mod shadow;

@@ -1,5 +1,10 @@
 //! The report of what was reached.
 
+ghost use Rattle.std.specs.Prelude.{◌≡◌, IfOk};
+ghost use Rattle.sfc_cover.specs.Reports.{IsReport};
+ghost use Rattle.sfc_cover.specs.Shares as shares;
+ghost use Rattle.sfc_cover.specs.Stages.{reaches_in};
+
 use crate::elements::Elements;
 use crate::fault_counts::FaultCounts;
 use crate::reach::Reach;
@@ -138,20 +143,34 @@ fn append_types(
 }
 
 /// What was reached of all program instances together.
-pub fn total_of(watch: &Watch) -> Share {
+pub fn total_of(watch: &Watch) -> Share
+    ensures { result ≡ shares.total_of (reaches_in watch.now) }
+{
     let mut share = Share::none();
-    for reach in watch.reaches() {
+    let mut rest = watch.reaches();
+    'reaches: while let Some((reach, others)) = rest.split_first() {
         share = share.plus(reach.share());
+        rest = others;
     }
     share
 }
 
-/// The report of what was reached of a plant: the total, a block for each program instance, and one for each program type that has several
-/// instances or none. The one error is that memory was refused.
-pub fn report_of(alloc: Global, plant: &Plant, watch: &Watch) -> Result<Vec<u8>, AllocError> {
+// The blocks of all program instances, and of the program types that have several or none.
+fn blocks_of(alloc: Global, plant: &Plant, watch: &Watch) -> Result<Vec<u8>, AllocError> {
     let mut out = Vec::new(alloc);
-    append_share(&mut out, b"total", total_of(watch))?;
     append_instances(&mut out, plant, watch)?;
     append_types(alloc, &mut out, plant, watch)?;
+    Ok(out)
+}
+
+/// The report of what was reached of a plant: the total, a block for each program instance, and one for each program type that has several
+/// instances or none. The one error is that memory was refused.
+pub fn report_of(alloc: Global, plant: &Plant, watch: &Watch) -> Result<Vec<u8>, AllocError>
+    ensures { IfOk result (λ text. IsReport (reaches_in watch.now) text.items) }
+{
+    let mut out = Vec::new(alloc);
+    append_share(&mut out, b"total", total_of(watch))?;
+    let blocks = blocks_of(alloc, plant, watch)?;
+    append(&mut out, &blocks)?;
     Ok(out)
 }

@@ -1,8 +1,11 @@
 //! What of a program instance was reached.
 
+ghost use Rattle.std.specs.Prelude.{◌≡◌};
+ghost use Rattle.sfc_cover.specs.Shares as shares;
+
 use crate::elements::Elements;
 use crate::fault_counts::FaultCounts;
-use crate::reached::{Reached, TransitionReach};
+use crate::reached::TransitionReach;
 use crate::share::Share;
 use sfc_base::ids::TransitionId;
 use std::alloc::{AllocError, Global};
@@ -66,10 +69,14 @@ fn join_transitions(own: &mut [TransitionReach], others: &[TransitionReach]) {
 }
 
 // How many are marked.
-fn share_of(flags: &[bool]) -> Share {
+fn share_of(flags: &[bool]) -> Share
+    ensures { result ≡ shares.share_of flags.now }
+{
     let mut share = Share::none();
-    for flag in flags {
+    let mut rest = flags;
+    'flags: while let Some((flag, others)) = rest.split_first() {
         share = share.with(*flag);
+        rest = others;
     }
     share
 }
@@ -114,31 +121,43 @@ impl Reach {
     }
 
     /// The steps that were active.
-    pub fn step_share(&self) -> Share {
+    pub fn step_share(&self) -> Share
+        ensures { result ≡ shares.steps_of self.now }
+    {
         share_of(&self.steps)
     }
 
     /// The transitions that were cleared.
-    pub fn transition_share(&self) -> Share {
+    pub fn transition_share(&self) -> Share
+        ensures { result ≡ shares.transitions_of self.now }
+    {
         let mut share = Share::none();
-        for transition in &self.transitions {
-            share = share.with(transition.reached == Reached::Cleared);
+        let mut rest = self.transitions.as_slice();
+        'transitions: while let Some((transition, others)) = rest.split_first() {
+            share = share.with(transition.reached.is_cleared());
+            rest = others;
         }
         share
     }
 
     /// The actions that were executed.
-    pub fn action_share(&self) -> Share {
+    pub fn action_share(&self) -> Share
+        ensures { result ≡ shares.actions_of self.now }
+    {
         share_of(&self.actions)
     }
 
     /// The branches of IFs that were taken.
-    pub fn arm_share(&self) -> Share {
+    pub fn arm_share(&self) -> Share
+        ensures { result ≡ shares.branches_of self.now }
+    {
         share_of(&self.arms)
     }
 
     /// All of these together.
-    pub fn share(&self) -> Share {
+    pub fn share(&self) -> Share
+        ensures { result ≡ shares.whole_of self.now }
+    {
         self.step_share()
             .plus(self.transition_share())
             .plus(self.action_share())

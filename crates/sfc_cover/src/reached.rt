@@ -1,5 +1,8 @@
 //! How far a transition was reached.
 
+ghost use Rattle.std.specs.Prelude.{◌≡◌};
+ghost use Rattle.sfc_cover.specs.Unreached as unreached;
+
 use sfc_base::ids::TransitionId;
 
 /// How far a transition was reached, in the order of these (2.6.3, 2.6.5).
@@ -23,6 +26,16 @@ impl Reached {
             Reached::Enabled => 1,
             Reached::True => 2,
             Reached::Cleared => 3,
+        }
+    }
+
+    /// Whether it was cleared (2.6.5).
+    pub fn is_cleared(self) -> bool
+        ensures { result ≡ unreached.is_cleared self }
+    {
+        match self {
+            Reached::Never | Reached::Enabled | Reached::True => false,
+            Reached::Cleared => true,
         }
     }
 

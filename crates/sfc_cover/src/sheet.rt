@@ -1,7 +1,11 @@
 //! What of a program type was reached, and what was not, as lines of a report.
 
+ghost use Rattle.std.specs.Prelude.{◌≡◌, ◌++◌, OnOk};
+ghost use Rattle.sfc_cover.specs.Reports as reports;
+
 use crate::arms::{Arm, ArmKind, Arms};
 use crate::elements::Elements;
+use crate::part::{Part, append_part};
 use crate::reach::Reach;
 use crate::reached::{Reached, TransitionReach};
 use crate::sfc_tables::tables::Tables;
@@ -24,17 +28,36 @@ pub struct Sheet<'a> {
     reach: &'a Reach,
 }
 
+// Puts percents, rounded down.
+#[tactic(auto, unfolding(crate::specs::Reports::percent_text))]
+fn append_percent(out: &mut Vec<u8>, share: Share) -> Result<(), AllocError>
+    ensures { OnOk result (out.new.items ≡ out.old.items ++ reports.percent_text share) }
+{
+    append_part(out, Part::Blank)?;
+    append_number(out, share.percent())?;
+    append_part(out, Part::Percent)
+}
+
+// Puts how many of how many, and the percents.
+#[tactic(auto, unfolding(crate::specs::Reports::counts_text))]
+fn append_counts(out: &mut Vec<u8>, share: Share) -> Result<(), AllocError>
+    ensures { OnOk result (out.new.items ≡ out.old.items ++ reports.counts_text share) }
+{
+    append_number(out, share.reached)?;
+    append_part(out, Part::Of)?;
+    append_number(out, share.all)?;
+    append_percent(out, share)
+}
+
 /// Puts a share: how many of how many, and the percents, rounded down. The one error is that memory was refused; then a front of it may
 /// stand there.
-pub fn append_share(out: &mut Vec<u8>, word: &[u8], share: Share) -> Result<(), AllocError> {
+#[tactic(auto, unfolding(crate::specs::Reports::share_text))]
+pub fn append_share(out: &mut Vec<u8>, word: &[u8], share: Share) -> Result<(), AllocError>
+    ensures { OnOk result (out.new.items ≡ out.old.items ++ reports.share_text word.now share) }
+{
     append(out, word)?;
-    append(out, b" ")?;
-    append_number(out, share.reached)?;
-    append(out, b" of ")?;
-    append_number(out, share.all)?;
-    append(out, b" ")?;
-    append_number(out, share.percent())?;
-    append(out, b"%\n")
+    append_part(out, Part::Blank)?;
+    append_counts(out, share)
 }
 
 // Puts a share of something of which there is any.

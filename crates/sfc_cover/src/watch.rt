@@ -25,7 +25,7 @@ impl Drop for Watch {
 ghost use Rattle.std.specs.Prelude.{◌≡◌, ◌<◌, ◌≤ℤ◌, ◌^◌, pos, length, IfOk};
 ghost use Rattle.sfc_replay.specs.sfc_instance.Views.{plant_in};
 ghost use Rattle.sfc_replay.specs.sfc_instances.Agreement.{AreInstancesOf};
-ghost use Rattle.sfc_cover.specs.Stages.{IsWatchOf};
+ghost use Rattle.sfc_cover.specs.Stages.{IsWatchOf, reaches_in};
 
 use crate::look::{look_before, note_after, program_of};
 use crate::sfc_instance::program_view::ProgramView;
@@ -49,6 +49,7 @@ fn unreached(
     Ok(reaches)
 }
 
+#[tactic(auto, unfolding(crate::specs::Stages::reaches_in))]
 impl Watch {
     /// Nothing of the plant was reached. All memory that a script needs is taken here; the one error is that memory was refused.
     pub fn new(alloc: Global, plant: &Plant) -> Result<Watch, AllocError>
@@ -85,7 +86,7 @@ impl Watch {
 
     /// What was reached of each instance, by number.
     pub(crate) fn reaches(&self) -> &[Reach]
-        ensures { result.now ≡ self.now.reaches.items }
+        ensures { result.now ≡ reaches_in self.now }
     {
         self.reaches.as_slice()
     }
