@@ -99,19 +99,23 @@ class Server:
             length = int(value) if name.lower() == b"content-length" else length
         return self.process.stdout.read(length)
 
-    def ask(self, method: str, params) -> bytes:
+    def ask(self, method: str, params) -> tuple:
+        """How many milliseconds the answer of a request takes, and its bytes."""
         self.number += 1
-        self.send(method, params, self.number)
-        body = self.message()
-        assert json.loads(body).get("id") == self.number, body[:300]
-        return body
+        return self.timed(method, params, lambda told: told.get("id") == self.number, self.number)
 
-    def tell(self, method: str, params) -> bytes:
-        """A notification that changes a text: the diagnostics behind it."""
-        self.send(method, params)
+    def tell(self, method: str, params) -> tuple:
+        """The same of a notification that changes a text: of the diagnostics behind it."""
+        return self.timed(method, params, lambda told: told.get("method") == "textDocument/publishDiagnostics")
+
+    def timed(self, method: str, params, is_right, number=None) -> tuple:
+        """The time ends with the last byte; what came is looked at behind it."""
+        begin = time.perf_counter()
+        self.send(method, params, number)
         body = self.message()
-        assert json.loads(body).get("method") == "textDocument/publishDiagnostics", body[:300]
-        return body
+        took = (time.perf_counter() - begin) * 1000
+        assert is_right(json.loads(body)), body[:300]
+        return took, len(body)
 
 
 def requests(text: str) -> dict:
@@ -137,26 +141,33 @@ def change(text: str, turn: int) -> dict:
     return {"textDocument": {"uri": URI, "version": turn + 2}, "contentChanges": [{"range": {"start": at, "end": at}, "text": "x"}]}
 
 
-def timed(action) -> tuple:
-    """How many milliseconds an action takes, and the bytes that came."""
-    begin = time.perf_counter()
-    body = action()
-    return (time.perf_counter() - begin) * 1000, len(body)
+def server_of(command: list, text: str, has_inner: bool) -> tuple:
+    """A server for which a text is open, and what opening it took; its client takes symbols with those in them, or one behind the other."""
+    server = Server(command)
+    symbols = {"textDocument": {"documentSymbol": {"hierarchicalDocumentSymbolSupport": has_inner}}}
+    server.ask("initialize", {"processId": None, "rootUri": None, "capabilities": symbols})
+    server.send("initialized", {})
+    opened = {"textDocument": {"uri": URI, "languageId": "sfc-chart", "version": 1, "text": text}}
+    return server, server.tell("textDocument/didOpen", opened)
+
+
+def end(server: Server):
+    server.ask("shutdown", None)
+    server.send("exit", None)
+    server.process.wait()
 
 
 def rows_of(command: list, text: str, turns: int) -> list:
     """Each request with what it took, in a server of its own."""
-    server, rows = Server(command), []
-    server.ask("initialize", {"processId": None, "rootUri": None, "capabilities": {}})
-    server.send("initialized", {})
-    opened = {"textDocument": {"uri": URI, "languageId": "sfc-chart", "version": 1, "text": text}}
-    rows.append(("didOpen", [timed(lambda: server.tell("textDocument/didOpen", opened))]))
-    rows.append(("didChange", [timed(lambda turn=turn: server.tell("textDocument/didChange", change(text, turn))) for turn in range(turns)]))
+    server, opened = server_of(command, text, True)
+    rows = [("didOpen", [opened])]
+    rows.append(("didChange", [server.tell("textDocument/didChange", change(text, turn)) for turn in range(turns)]))
     for method, params in requests(text).items():
-        rows.append((method, [timed(lambda: server.ask("textDocument/" + method, params)) for _ in range(turns)]))
-    server.ask("shutdown", None)
-    server.send("exit", None)
-    server.process.wait()
+        rows.append((method, [server.ask("textDocument/" + method, params) for _ in range(turns)]))
+    end(server)
+    server, _ = server_of(command, text, False)
+    rows.append(("documentSymbol, a list", [server.ask("textDocument/documentSymbol", {"textDocument": {"uri": URI}}) for _ in range(turns)]))
+    end(server)
     return rows
 
 

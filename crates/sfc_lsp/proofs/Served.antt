@@ -1,12 +1,12 @@
 -- A client whose messages were answered one by one.
-use Rattle.std.proofs.Common.{◌≡◌, ℕ, List, [], ◌∷◌, ◌++◌, Option, Some, None, Result, Ok, ap, refl, ◌∙◌, subst}
+use Rattle.std.proofs.Common.{◌≡◌, ℕ, List, [], ◌∷◌, Option, Some, None, Result, Ok, ap, refl, ◌∙◌, subst}
 use Rattle.std.specs.Io.KnownBytes.{IsAtEnd, prepend_known}
 use Rattle.sfc_frames.specs.Serving.{BeginsKnown, IsServed, Talks}
 use Rattle.sfc_frames.specs.declared.serving.Flow.{Flow}
 use Rattle.sfc_frames.specs.declared.serving.ServeFault.{ServeFault}
 use Rattle.sfc_frames.specs.declared.serving.Flow.TheVariants.{GoesOn}
 use Rattle.sfc_wire.specs.RpcAnswered.{Answers}
-use Rattle.sfc_lsp.specs.Serving.{AreAnswered, IsAnswered, ServesEach}
+use Rattle.sfc_lsp.specs.Serving.{AreAnswered, ServesEach}
 
 -- by the rules for one, in whatever states
 are_answered : {S : Type 0} (old : S) (messages told : List (List ℕ)) (flow : Flow) (new : S)

@@ -33,7 +33,7 @@ fn diagnostic_value(
         "message": message,
         "range": range,
         "severity": (severity_number(diagnostic.severity)),
-        "source": (diagnostic.source),
+        "source": (diagnostic.origin.name()),
         "tags": tags
     })
 }

@@ -6,7 +6,7 @@ ghost use Rattle.sfc_names.specs.Diagnosing.{AreFaults, AreWarnings, DiagnosesCh
 ghost use Rattle.sfc_script.specs.sfc_load.Accepted.{IsAccepted};
 
 use crate::chart::Chart;
-use crate::diagnostic::{Diagnostic, Severity};
+use crate::diagnostic::{Diagnostic, Origin, Severity};
 use crate::faults::reports_of;
 use sfc_explain::explanation::Explanation;
 use sfc_lint::budget::Budget;
@@ -123,7 +123,7 @@ fn diagnostic_of(
         span: span_of(text, report.place),
         severity,
         code,
-        source: "sfcmon",
+        origin: Origin::Reading,
         message,
         is_unused: false,
     })
@@ -167,7 +167,7 @@ fn warning_of(alloc: Global, warning: &Warning) -> Result<Diagnostic, AllocError
         span: Span::of(warning.span),
         severity: Severity::Warning,
         code: code_of_kind(alloc, warning.kind)?,
-        source: "sfcmon lint",
+        origin: Origin::Lint,
         message,
         is_unused: is_unused(warning.kind),
     })

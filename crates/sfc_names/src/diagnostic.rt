@@ -9,6 +9,24 @@ pub enum Severity {
     Warning,
 }
 
+/// What tells of a fault or of a warning.
+#[derive(Clone, Copy, Debug, PartialEq, Eq)]
+pub enum Origin {
+    /// What reads and loads texts.
+    Reading,
+    Lint,
+}
+
+impl Origin {
+    /// Its name.
+    pub fn name(self) -> &'static str {
+        match self {
+            Origin::Reading => "sfcmon",
+            Origin::Lint => "sfcmon lint",
+        }
+    }
+}
+
 /// A fault or a warning of a text.
 pub struct Diagnostic {
     /// The bytes of the text that it is told of.
@@ -17,7 +35,7 @@ pub struct Diagnostic {
     /// Its number and its name.
     pub code: Vec<u8>,
     /// What tells it.
-    pub source: &'static str,
+    pub origin: Origin,
     /// What is wrong, in lines.
     pub message: Vec<u8>,
     /// Whether it is told of what could be left out.
@@ -31,7 +49,7 @@ impl Drop for Diagnostic {
             span: _,
             severity: _,
             code: _,
-            source: _,
+            origin: _,
             message: _,
             is_unused: _,
         } = self;

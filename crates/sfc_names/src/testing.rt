@@ -3,7 +3,7 @@
 use crate::chart::Chart;
 use crate::completion::{Candidate, Candidates, Sort};
 use crate::diagnosing::message_of;
-use crate::diagnostic::{Diagnostic, Severity};
+use crate::diagnostic::{Diagnostic, Origin, Severity};
 use crate::names::{Space, find_in, program_of_instance};
 use sfc_base::case::is_same_word;
 use sfc_base::run::{Alphabet, has};
@@ -240,7 +240,7 @@ fn diagnostic_of(
         span: shown_at(text, sources, fault),
         severity: Severity::Error,
         code: Vec::from_slice(alloc, b"script line")?,
-        source: "sfcmon",
+        origin: Origin::Reading,
         message: message_of(alloc, &fault.report, None)?,
         is_unused: false,
     })
@@ -260,7 +260,7 @@ pub fn including_fault(
         span: including_line(text),
         severity: Severity::Error,
         code: Vec::from_slice(alloc, b"script line")?,
-        source: "sfcmon",
+        origin: Origin::Reading,
         message,
         is_unused: false,
     })

@@ -1,4 +1,4 @@
-use Rattle.std.proofs.Common.{◌≡◌, length}
+use Rattle.std.proofs.Common.{length}
 use Rattle.sfc_frames.specs.Serving.{Puts}
 use Rattle.sfc_wire.specs.RpcAnswered.{AreCalls}
 use Rattle.sfc_lsp.proofs.putting.put_published.Given as goal
