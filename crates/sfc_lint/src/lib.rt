@@ -1,8 +1,8 @@
 //! What a chart surely or probably does wrong (IEC 61131-3:2003, 2.4 to 2.7): warnings of a chart that loads.
 //!
 //! - `kind`: the kinds of warnings; `finding`: a warning, and the list of them; `view`: a program type that is looked at.
-//! - `lint`: all warnings of a text, in text order; `budget`: how much is looked at; `pragmas`: the warnings that a text allows; `places`:
-//!   where they stand.
+//! - `reading`: what was read of a text; `lint`: all its warnings, in text order; `budget`: how much is looked at; `pragmas`: the warnings
+//!   that a text allows; `places`: where they stand.
 //! - `networks`, `forks`: what the networks of a chart do (2.6.2, 2.6.5); `runs`: how a run is told.
 //! - `associations`, `timed`: action blocks (2.6.4); `expressions`: conditions and bodies (3.3); `constant`: values that are always the same.
 //! - `selections`: transitions of one step that may be TRUE together (2.6.5); `atoms`: what their conditions are made of.
@@ -25,6 +25,7 @@ mod near;
 mod networks;
 mod places;
 mod pragmas;
+pub mod reading;
 mod runs;
 mod selections;
 mod tasks;

@@ -10,16 +10,14 @@ use crate::names::{tell_cases, tell_near};
 use crate::networks::Searched;
 use crate::places::Places;
 use crate::pragmas::allowed_by;
+use crate::reading::Reading;
 use crate::selections::tell_selections;
 use crate::tasks::tell_tasks;
 use crate::timed::tell_timed;
 use crate::view::View;
 use crate::writers::tell_variables;
-use sfc_outline::outline::{Outline, outline_of_plant};
 use sfc_plant::plant::Plant;
 use sfc_tables::tables::Tables;
-use sfc_text::tree::Source;
-use sfc_tokens::lex::tokens;
 use sfc_tokens::span::Span;
 use std::alloc::{AllocError, Global};
 
@@ -91,18 +89,14 @@ fn views_of(alloc: Global, plant: &Plant) -> Result<Vec<View<'_>>, AllocError> {
 // The warnings that a text doesn't allow, in text order.
 fn placed(
     alloc: Global,
-    text: &[u8],
-    outline: &Outline,
+    reading: Reading<'_>,
     findings: Vec<Finding>,
 ) -> Result<Vec<Warning>, AllocError> {
     if findings.is_empty() {
         return Ok(Vec::new(alloc));
     }
-    let Ok(found) = tokens(alloc, text) else {
-        return Err(AllocError);
-    };
-    let allowed = allowed_by(alloc, text, &found)?;
-    let places = Places::of(alloc, outline)?;
+    let allowed = allowed_by(alloc, reading.text, reading.tokens)?;
+    let places = Places::of(alloc, reading.outline)?;
     let mut list = Vec::new(alloc);
     for finding in findings {
         let span = places.span_of(&finding);
@@ -125,16 +119,14 @@ fn placed(
     Ok(list)
 }
 
-/// The warnings of a text that was read as this tree and loaded as this plant, but those that it allows, as far as the budget goes. The
-/// one error is that memory was refused.
+/// The warnings of a text of which this was read, and which was loaded as this plant, but those that it allows, as far as the budget
+/// goes. The one error is that memory was refused.
 pub fn lint(
     alloc: Global,
-    text: &[u8],
-    source: &Source,
+    reading: Reading<'_>,
     plant: &Plant,
     budget: Budget,
 ) -> Result<Warnings, AllocError> {
-    let outline = outline_of_plant(alloc, text, source, plant)?;
     let views = views_of(alloc, plant)?;
     let mut findings = Findings::new(alloc);
     let mut given_up = Vec::new(alloc);
@@ -148,8 +140,8 @@ pub fn lint(
         }
     }
     tell_variables(&mut findings, plant, &views)?;
-    tell_cases(&mut findings, text, &outline)?;
+    tell_cases(&mut findings, reading.text, reading.outline)?;
     tell_tasks(&mut findings, plant)?;
-    let list = placed(alloc, text, &outline, findings.list)?;
+    let list = placed(alloc, reading, findings.list)?;
     Ok(Warnings { list, given_up })
 }

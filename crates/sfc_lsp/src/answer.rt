@@ -1,7 +1,7 @@
 //! What a request is answered.
 
 use serde_json::Value;
-use sfc_responses::symbol::Group;
+use sfc_responses::symbol::{Group, Located};
 use sfc_wire::error_code::ErrorCode;
 
 /// What a request is answered.
@@ -11,6 +11,8 @@ pub enum Answer {
     Done(Value),
     /// It was done: what the document declares.
     Symbols(Vec<Group>),
+    /// It was done: what documents declare.
+    List(Vec<Located>),
     /// It was done: numbers under the name `data`.
     Data(Vec<usize>),
     /// It was not, for a reason.

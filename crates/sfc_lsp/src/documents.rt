@@ -55,6 +55,30 @@ fn diagnosed(alloc: Global, language: Language, text: &[u8]) -> Result<Diagnosed
     }
 }
 
+// A document of which this was read; the chart of before stays where none was.
+fn document_of(
+    heading: Heading,
+    text: Vec<u8>,
+    starts: Vec<usize>,
+    found: Diagnosed,
+    before: Option<Chart>,
+) -> Document
+    ensures text { result.text ≡ text }
+    ensures heading { result.heading ≡ heading }
+{
+    let Diagnosed { chart, list } = found;
+    let is_current = chart.is_some();
+    let chart = if is_current { chart } else { before };
+    Document {
+        heading,
+        text,
+        starts,
+        chart,
+        is_current,
+        shown: list,
+    }
+}
+
 impl Document {
     /// A document with this text. The chart of before stays where this text can't be read. The one error is that memory was refused.
     pub fn new(
@@ -67,17 +91,8 @@ impl Document {
         ensures heading { IfOk result (λ document. document.heading ≡ heading) }
     {
         let starts = line_starts(alloc, &text)?;
-        let Diagnosed { chart, list } = diagnosed(alloc, heading.language, &text)?;
-        let is_current = chart.is_some();
-        let chart = if is_current { chart } else { before };
-        Ok(Document {
-            heading,
-            text,
-            starts,
-            chart,
-            is_current,
-            shown: list,
-        })
+        let found = diagnosed(alloc, heading.language, &text)?;
+        Ok(document_of(heading, text, starts, found, before))
     }
 
     /// A chart that stands in a file: none of its faults and warnings are looked for. The one error is that memory was refused.
@@ -85,16 +100,11 @@ impl Document {
         ensures { IfOk result (λ document. document.text ≡ text) }
     {
         let starts = line_starts(alloc, &text)?;
-        let chart = Chart::of(alloc, &text)?;
-        let is_current = chart.is_some();
-        Ok(Document {
-            heading: Heading::of_chart(),
-            text,
-            starts,
-            chart,
-            is_current,
-            shown: Vec::new(alloc),
-        })
+        let found = Diagnosed {
+            chart: Chart::of(alloc, &text)?,
+            list: Vec::new(alloc),
+        };
+        Ok(document_of(Heading::of_chart(), text, starts, found, None))
     }
 
     /// What it is written in.

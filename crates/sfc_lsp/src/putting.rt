@@ -76,6 +76,7 @@ pub fn put_answer(
             refuse(alloc, id, ErrorCode::InternalError, reason, outbox)
         }
         Answer::Symbols(groups) => respond_body(alloc, id, Body::Symbols(&groups), outbox),
+        Answer::List(symbols) => respond_body(alloc, id, Body::List(&symbols), outbox),
         Answer::Data(numbers) => respond_body(alloc, id, Body::Data(&numbers), outbox),
         Answer::Refused(code, reason) => refuse(alloc, id, code, reason, outbox),
     }

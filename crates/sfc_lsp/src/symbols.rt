@@ -3,12 +3,11 @@
 use crate::answer::Answer;
 use crate::asked::Asked;
 use crate::documents::{Document, Documents};
-use crate::values::{location_value, range_of, text_value};
-use serde_json::{Value, json};
+use crate::values::range_of;
 use sfc_names::chart::Chart;
 use sfc_names::declarations::{Declaration, Sort, declarations_of};
 use sfc_names::sfc_places::span::Span;
-use sfc_responses::symbol::{Group, Symbol};
+use sfc_responses::symbol::{Group, Located, Symbol};
 use std::alloc::{AllocError, Global};
 
 // The number of the protocol for a kind of things.
@@ -23,11 +22,6 @@ fn kind_number(sort: Sort) -> u32 {
         Sort::Instance => 19,
         Sort::Transition => 24,
     }
-}
-
-// What a thing is called.
-fn name_value(alloc: Global, chart: &Chart, declaration: Declaration) -> Result<Value, AllocError> {
-    text_value(alloc, chart.bytes(declaration.label))
 }
 
 // A thing, as it is told.
@@ -63,21 +57,19 @@ fn groups_of(
     Ok(groups)
 }
 
-// A thing with its place.
-fn symbol_value(
+// A thing with its document, and what it stands in.
+fn located_of(
     alloc: Global,
     (uri, document, chart): (&str, &Document, &Chart),
     declaration: Declaration,
     around: &[u8],
-) -> Result<Value, AllocError> {
-    let name = name_value(alloc, chart, declaration)?;
-    let location = location_value(alloc, uri, document, Span::of(declaration.name))?;
-    let around = text_value(alloc, around)?;
-    json!(in alloc; {
-        "containerName": around,
-        "kind": (kind_number(declaration.sort)),
-        "location": location,
-        "name": name
+) -> Result<Located, AllocError> {
+    Ok(Located {
+        around: String::from_utf8_lossy(alloc, around)?,
+        kind: kind_number(declaration.sort),
+        name: String::from_utf8_lossy(alloc, chart.bytes(declaration.label))?,
+        uri: String::from_str(alloc, uri)?,
+        range: range_of(document, Span::of(declaration.name)),
     })
 }
 
@@ -95,7 +87,7 @@ fn put_symbols(
     alloc: Global,
     (uri, document, chart): (&str, &Document, &Chart),
     word: &[u8],
-    list: &mut Vec<Value>,
+    list: &mut Vec<Located>,
 ) -> Result<(), AllocError> {
     let mut around: &[u8] = b"";
     for declaration in declarations_of(alloc, chart)? {
@@ -104,7 +96,7 @@ fn put_symbols(
             around = b"";
         }
         if is_in(word, name) {
-            list.push(symbol_value(alloc, (uri, document, chart), declaration, around)?)?;
+            list.push(located_of(alloc, (uri, document, chart), declaration, around)?)?;
         }
         if !declaration.is_inner {
             around = name;
@@ -122,7 +114,7 @@ pub fn document_symbols(asked: &Asked<'_>) -> Result<Answer, AllocError> {
     if !asked.client.has_inner_symbols {
         let mut list = Vec::new(alloc);
         put_symbols(alloc, (asked.uri, asked.document, chart), b"", &mut list)?;
-        return Ok(Answer::Done(Value::Array(list)));
+        return Ok(Answer::List(list));
     }
     Ok(Answer::Symbols(groups_of(alloc, (asked.document, chart))?))
 }
@@ -136,5 +128,5 @@ pub fn all_symbols(alloc: Global, documents: &Documents, word: &str) -> Result<A
             put_symbols(alloc, at, word.as_bytes(), &mut list)?;
         }
     }
-    Ok(Answer::Done(Value::Array(list)))
+    Ok(Answer::List(list))
 }

@@ -22,11 +22,10 @@ use sfc_tokens::span::Span;
 use sfc_tokens::token::Token;
 use std::alloc::{AllocError, Global};
 
-/// A text that was read: its tokens, its tree, where it declares and names what, and the plant that it is, where it can be loaded.
+/// A text that was read: its tokens, where it declares and names what, and the plant that it is, where it can be loaded.
 pub struct Chart {
     pub text: Vec<u8>,
     pub tokens: Vec<Token>,
-    pub source: Source,
     pub outline: Outline,
     pub plant: Option<Plant>,
 }
@@ -37,7 +36,6 @@ impl Drop for Chart {
         let Chart {
             text: _,
             tokens: _,
-            source: _,
             outline: _,
             plant: _,
         } = self;
@@ -94,7 +92,6 @@ impl Chart {
         Ok(Some(Chart {
             text: Vec::from_slice(alloc, text)?,
             tokens,
-            source,
             outline,
             plant,
         }))

@@ -12,10 +12,10 @@ use sfc_explain::explanation::Explanation;
 use sfc_lint::budget::Budget;
 use sfc_lint::kind::Kind;
 use sfc_lint::lint::{Warning, lint};
+use sfc_lint::reading::Reading;
 use sfc_page::append::{append, append_number};
 use sfc_places::span::Span;
 use sfc_plant::plant::Plant;
-use sfc_text::tree::Source;
 use sfc_why::page::explanation_of;
 use sfc_why::place::Place;
 use sfc_why::report::Report;
@@ -185,15 +185,15 @@ fn warnings_of(alloc: Global, warnings: &[Warning]) -> Result<Vec<Diagnostic>, A
 }
 
 // What is shown of the warnings of a chart that has no fault.
-fn lint_of(
-    alloc: Global,
-    text: &[u8],
-    source: &Source,
-    plant: &Plant,
-) -> Result<Vec<Diagnostic>, AllocError>
+fn lint_of(alloc: Global, chart: &Chart, plant: &Plant) -> Result<Vec<Diagnostic>, AllocError>
     ensures { IfOk result (λ found. AreWarnings found.items) }
 {
-    let warnings = lint(alloc, text, source, plant, Budget::of_an_editor())?;
+    let reading = Reading {
+        text: &chart.text,
+        tokens: &chart.tokens,
+        outline: &chart.outline,
+    };
+    let warnings = lint(alloc, reading, plant, Budget::of_an_editor())?;
     warnings_of(alloc, &warnings.list)
 }
 
@@ -218,7 +218,7 @@ fn shown_of(alloc: Global, text: &[u8], chart: &Chart) -> Result<Vec<Diagnostic>
     ensures { IfSome chart.now.plant (IsAccepted text.now) → IfOk result (λ found. DiagnosesChart text.now found.items) }
 {
     match &chart.plant {
-        Some(plant) => lint_of(alloc, text, &chart.source, plant),
+        Some(plant) => lint_of(alloc, chart, plant),
         None => faults_in(alloc, text),
     }
 }

@@ -11,10 +11,11 @@ use Rattle.serde_json.specs.Find.{as_u64}
 use Rattle.serde_json.specs.Read.{max_depth, of_json, read}
 use Rattle.serde_json.specs.Written.{WritesValue}
 use Rattle.serde_json.proofs.Texts.{print-outline, tokens_from_order}
-use Rattle.sfc_responses.specs.Bodies.{body_of, counts_of, groups_of, nest_of, symbol_of, symbols_of}
+use Rattle.sfc_responses.specs.Bodies.{body_of, counts_of, groups_of, list_of, nest_of, symbol_of, symbols_of}
 use Rattle.sfc_responses.specs.declared.body.Body.{Body}
 use Rattle.sfc_responses.specs.declared.body.Body.TheVariants as body
 use Rattle.sfc_responses.specs.declared.symbol.Group.{Group}
+use Rattle.sfc_responses.specs.declared.symbol.Located.{Located}
 use Rattle.sfc_responses.specs.declared.symbol.Symbol.{Symbol}
 use Rattle.sfc_wire.specs.Texts.{IsWritten}
 
@@ -54,10 +55,15 @@ groups_depth : (groups : List Group) → items_depth (groups_of groups) ≤ 5
 groups_depth [] = omega arith
 groups_depth (group ∷ groups) = omega (arith, either_depth (length group.inner.items == 0) group.head group.inner.items, groups_depth groups)
 
+list_depth : (symbols : List Located) → items_depth (list_of symbols) ≤ 4
+list_depth [] = omega arith
+list_depth (symbol ∷ symbols) = omega (arith, list_depth symbols)
+
 counts_depth : (numbers : List ℕ) → items_depth (counts_of numbers) ≤ 0
 counts_depth [] = omega arith
 counts_depth (n ∷ ns) = omega (arith, counts_depth ns)
 
 pub body_depth : (body : Body) → depth (body_of body) ≤ 6
 body_depth (body.Symbols groups) = omega (arith, groups_depth groups.now)
+body_depth (body.List symbols) = omega (arith, list_depth symbols.now)
 body_depth (body.Data numbers) = omega (arith, counts_depth numbers.now)

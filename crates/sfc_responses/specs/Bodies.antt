@@ -1,4 +1,4 @@
--- What a response tells (Language Server Protocol: DocumentSymbol, SemanticTokens). The members are in the order of their keys.
+-- What a response tells (Language Server Protocol: DocumentSymbol, SymbolInformation, SemanticTokens). The members are in the order of their keys.
 use Rattle.std.specs.Prelude.{ℕ, ◌==◌, if◌then◌else◌, List, [], ◌∷◌, length, codes, string_bytes}
 use Rattle.serde_json.specs.Data.{Data, Items, Members, array, item, member, no_items, no_members, number, object, string, unsigned}
 use Rattle.sfc_responses.specs.declared.body.Body.{Body}
@@ -6,6 +6,7 @@ use Rattle.sfc_responses.specs.declared.body.Body.TheVariants as body
 use Rattle.sfc_responses.specs.declared.position.Position.{Position}
 use Rattle.sfc_responses.specs.declared.position.Range.{Range}
 use Rattle.sfc_responses.specs.declared.symbol.Group.{Group}
+use Rattle.sfc_responses.specs.declared.symbol.Located.{Located}
 use Rattle.sfc_responses.specs.declared.symbol.Symbol.{Symbol}
 
 abbrev pub count : ℕ → Data
@@ -50,6 +51,22 @@ abbrev pub groups_of : List Group → Items
 groups_of [] = no_items
 groups_of (group ∷ groups) = item (group_of group) (groups_of groups)
 
+abbrev pub location_of : Located → Data
+location_of symbol = object
+    (member (codes "range") (range_of symbol.range)
+    (member (codes "uri") (text (string_bytes symbol.uri)) no_members))
+
+abbrev pub located_of : Located → Data
+located_of symbol = object
+    (member (codes "containerName") (text (string_bytes symbol.around))
+    (member (codes "kind") (count symbol.kind)
+    (member (codes "location") (location_of symbol)
+    (member (codes "name") (text (string_bytes symbol.name)) no_members))))
+
+abbrev pub list_of : List Located → Items
+list_of [] = no_items
+list_of (symbol ∷ symbols) = item (located_of symbol) (list_of symbols)
+
 abbrev pub counts_of : List ℕ → Items
 counts_of [] = no_items
 counts_of (n ∷ ns) = item (count n) (counts_of ns)
@@ -59,4 +76,5 @@ data_of numbers = object (member (codes "data") (array (counts_of numbers)) no_m
 
 abbrev pub body_of : Body → Data
 body_of (body.Symbols groups) = array (groups_of groups.now)
+body_of (body.List symbols) = array (list_of symbols.now)
 body_of (body.Data numbers) = data_of numbers.now

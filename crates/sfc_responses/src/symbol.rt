@@ -17,3 +17,14 @@ pub struct Group {
     pub head: Symbol,
     pub inner: Vec<Symbol>,
 }
+
+/// Something that a document declares, as a list of several documents has it: what it stands in, the protocol's number for its kind, its
+/// name, the document, and where its name stands there.
+#[derive(Drop)]
+pub struct Located {
+    pub around: String,
+    pub kind: u32,
+    pub name: String,
+    pub uri: String,
+    pub range: Range,
+}

@@ -8,7 +8,7 @@ ghost use Rattle.sfc_responses.specs.Private.Members.{WritesMember, WritesRest};
 
 use crate::body::Body;
 use crate::position::{Position, Range};
-use crate::symbol::{Group, Symbol};
+use crate::symbol::{Group, Located, Symbol};
 use json::Writer;
 use std::alloc::AllocError;
 
@@ -133,6 +133,44 @@ fn put_groups(out: &mut Writer, groups: &[Group]) -> Result<(), AllocError>
     out.end_array()
 }
 
+// Writes a member that is a place in a document.
+fn put_location(out: &mut Writer, symbol: &Located) -> Result<(), AllocError>
+    ensures ok { OnOk result (WritesMember (codes "location") (bodies.location_of symbol.now) out.old.tokens out.new.tokens) }
+    ensures before { out.new.before ≡ out.old.before }
+{
+    out.key("location")?;
+    out.begin_object()?;
+    put_range(out, "range", symbol.range)?;
+    put_text(out, "uri", symbol.uri.as_str())?;
+    out.end_object()
+}
+
+// Writes a symbol with its document.
+fn put_located(out: &mut Writer, symbol: &Located) -> Result<(), AllocError>
+    ensures ok { OnOk result (WritesValue (bodies.located_of symbol.now) out.old.tokens out.new.tokens) }
+    ensures before { out.new.before ≡ out.old.before }
+{
+    out.begin_object()?;
+    put_text(out, "containerName", symbol.around.as_str())?;
+    put_count(out, "kind", symbol.kind as usize)?;
+    put_location(out, symbol)?;
+    put_text(out, "name", symbol.name.as_str())?;
+    out.end_object()
+}
+
+// Writes symbols with their documents, and the end of their list.
+fn put_list(out: &mut Writer, symbols: &[Located]) -> Result<(), AllocError>
+    ensures ok { OnOk result (WritesItems (bodies.list_of symbols.now) out.old.tokens out.new.tokens) }
+    ensures before { out.new.before ≡ out.old.before }
+{
+    let mut rest = symbols;
+    'all: while let Some((symbol, behind)) = rest.split_first() {
+        put_located(out, symbol)?;
+        rest = behind;
+    }
+    out.end_array()
+}
+
 // Writes numbers, and the end of their list.
 fn put_numbers(out: &mut Writer, numbers: &[usize]) -> Result<(), AllocError>
     ensures ok { OnOk result (WritesItems (bodies.counts_of numbers.now) out.old.tokens out.new.tokens) }
@@ -167,6 +205,10 @@ pub fn put_body(out: &mut Writer, body: Body<'_>) -> Result<(), AllocError>
         Body::Symbols(groups) => {
             out.begin_array()?;
             put_groups(out, groups)
+        }
+        Body::List(symbols) => {
+            out.begin_array()?;
+            put_list(out, symbols)
         }
         Body::Data(numbers) => put_data(out, numbers),
     }

@@ -6,10 +6,14 @@ use sfc_base::write_fault::{WriteFault, put_all};
 use sfc_lint::budget::Budget;
 use sfc_lint::kind::{Kind, kind_named};
 use sfc_lint::lint::{Warning, Warnings, lint};
+use sfc_lint::reading::Reading;
 use sfc_lint::sfc_page::time_text::put_decimal;
 use sfc_lint::sfc_text::read::read;
+use sfc_outline::outline::{Outline, outline_of};
+use sfc_plant::plant::Plant;
 use sfc_replay::input::read_to_end;
 use sfc_replay::replay_error::ReplayError;
+use sfc_tokens::lex::tokens;
 use sfc_why::position::{Position, position_behind};
 use sfc_why::sfc_script::sfc_load::load::load;
 use std::alloc::Global;
@@ -17,8 +21,8 @@ use std::io::{Read, Write};
 use std::rt::Files;
 use std::{fs, io};
 
-// The warnings of a text.
-fn warnings_of(alloc: Global, text: &[u8], budget: Budget) -> Result<Warnings, ReplayError> {
+// What a text declares and names, and the plant that it is.
+fn outlined(alloc: Global, text: &[u8]) -> Result<(Outline, Plant), ReplayError> {
     let source = match read(alloc, text) {
         Ok(source) => source,
         Err(error) => return Err(ReplayError::from(error)),
@@ -27,7 +31,22 @@ fn warnings_of(alloc: Global, text: &[u8], budget: Budget) -> Result<Warnings, R
         Ok(plant) => plant,
         Err(error) => return Err(ReplayError::from(error)),
     };
-    Ok(lint(alloc, text, &source, &plant, budget)?)
+    Ok((outline_of(alloc, text, &source)?, plant))
+}
+
+// The warnings of a text.
+fn warnings_of(alloc: Global, text: &[u8], budget: Budget) -> Result<Warnings, ReplayError> {
+    let (outline, plant) = outlined(alloc, text)?;
+    let tokens = match tokens(alloc, text) {
+        Ok(tokens) => tokens,
+        Err(error) => return Err(ReplayError::from(error)),
+    };
+    let reading = Reading {
+        text,
+        tokens: &tokens,
+        outline: &outline,
+    };
+    Ok(lint(alloc, reading, &plant, budget)?)
 }
 
 // Whether one of these words names the kind.
