@@ -96,7 +96,7 @@ fn placed(
         return Ok(Vec::new(alloc));
     }
     let allowed = allowed_by(alloc, reading.text, reading.tokens)?;
-    let places = Places::of(alloc, reading.outline)?;
+    let places = Places::of(alloc, reading.outline, &findings, &allowed)?;
     let mut list = Vec::new(alloc);
     for finding in findings {
         let span = places.span_of(&finding);

@@ -22,9 +22,9 @@ struct Numbered {
 /// Where what a text declares stands, found by what it is.
 #[derive(Drop)]
 pub struct Places {
-    // by their numbers
+    // of those that are told of, by their numbers
     entries: Vec<Numbered>,
-    // the bytes of elements, by where they begin
+    // the bytes of elements, by where they begin; none where no warning is allowed
     elements: Vec<Span>,
 }
 
@@ -81,21 +81,60 @@ fn key_of(item: Item) -> u64 {
         .wrapping_add(own as u64)
 }
 
-impl Places {
-    /// Those of an outline. The one error is that memory was refused.
-    pub fn of(alloc: Global, outline: &Outline) -> Result<Places, AllocError> {
-        let mut entries = Vec::new(alloc);
-        let mut elements = Vec::new(alloc);
-        for entry in &outline.entries {
-            entries.push(Numbered {
-                key: key_of(entry.item),
-                entry: *entry,
-            })?;
-            elements.push(entry.span)?;
+// The numbers of what is told of, in rising order.
+fn keys_of(alloc: Global, findings: &[Finding]) -> Result<Vec<u64>, AllocError> {
+    let mut keys = Vec::new(alloc);
+    for finding in findings {
+        if let Site::Item(item) = finding.site {
+            keys.push(key_of(item))?;
         }
-        entries.sort_by_key(|numbered| numbered.key)?;
-        elements.sort_by_key(|span| span.from)?;
-        Ok(Places { entries, elements })
+    }
+    keys.sort()?;
+    Ok(keys)
+}
+
+// The entries with these numbers, which rise, by their numbers.
+fn numbered(alloc: Global, entries: &[Entry], keys: &[u64]) -> Result<Vec<Numbered>, AllocError> {
+    let mut found = Vec::new(alloc);
+    for entry in entries {
+        let key = key_of(entry.item);
+        if keys.binary_search(&key).is_ok() {
+            found.push(Numbered { key, entry: *entry })?;
+        }
+    }
+    found.sort_by_key(|numbered| numbered.key)?;
+    Ok(found)
+}
+
+// The bytes of elements, by where they begin.
+fn elements_of(alloc: Global, entries: &[Entry]) -> Result<Vec<Span>, AllocError> {
+    let mut elements = Vec::new(alloc);
+    for entry in entries {
+        elements.push(entry.span)?;
+    }
+    elements.sort_by_key(|span| span.from)?;
+    Ok(elements)
+}
+
+impl Places {
+    /// Those of an outline of which something is told, and where some warnings are allowed those of all elements. The one error is that
+    /// memory was refused.
+    pub fn of(
+        alloc: Global,
+        outline: &Outline,
+        findings: &[Finding],
+        allowed: &[Allowed],
+    ) -> Result<Places, AllocError> {
+        let keys = keys_of(alloc, findings)?;
+        let elements = if allowed.is_empty() {
+            Vec::new(alloc)
+        } else {
+            elements_of(alloc, &outline.entries)?
+        };
+        Ok(Places {
+            entries: numbered(alloc, &outline.entries, &keys)?,
+            elements,
+        })
     }
 
     // Where something is declared.

@@ -81,7 +81,9 @@ pub fn allowed_by(
     let mut from = 0usize;
     for token in tokens {
         let between = text.get(from..token.span.from as usize).unwrap_or(b"");
-        put_between(&mut allowed, between, token.span.from)?;
+        if between.contains(&b'{') {
+            put_between(&mut allowed, between, token.span.from)?;
+        }
         from = token.span.to as usize;
     }
     Ok(allowed)
