@@ -94,7 +94,11 @@ fn keys_of(alloc: Global, findings: &[Finding]) -> Result<Vec<u64>, AllocError> 
 }
 
 // The entries with these numbers, which rise, by their numbers.
-fn numbered(alloc: Global, entries: &[Entry], keys: &[u64]) -> Result<Vec<Numbered>, AllocError> {
+fn entries_with(
+    alloc: Global,
+    entries: &[Entry],
+    keys: &[u64],
+) -> Result<Vec<Numbered>, AllocError> {
     let mut found = Vec::new(alloc);
     for entry in entries {
         let key = key_of(entry.item);
@@ -132,7 +136,7 @@ impl Places {
             elements_of(alloc, &outline.entries)?
         };
         Ok(Places {
-            entries: numbered(alloc, &outline.entries, &keys)?,
+            entries: entries_with(alloc, &outline.entries, &keys)?,
             elements,
         })
     }
