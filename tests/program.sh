@@ -900,6 +900,18 @@ Lamp FALSE
 audit ok" ] && mentions "  Divide1 fault DivZero" err
 note $? "a fault shows what is safe, and so does the end"
 
+# ---- runs that are recorded
+
+if command -v python3 >/dev/null; then
+  python3 "$here/recorded.py" "$program" 2 "$(date +%s)" >"$work/out" 2>"$work/err"
+  status=$?
+  add_counts "$work/out" || note 1 "runs that are recorded"
+else
+  echo "not asked, python3 isn't there: runs that are recorded"
+fi
+usage "--record-size without --record" "error:" run --record-size 4096 "$chart"
+for size in 1023 x ''; do usage "--record-size '$size'" "error:" run --record "$work/unmade" --record-size "$size" "$chart"; done
+
 # ---- words that ask
 
 # asked LINE ..: a run of the pump with these lines, a quarter of a second after one another; leaves what is answered, without instants, and

@@ -18,6 +18,7 @@ use crate::overruns::OverrunsTold;
 use crate::picked::{PickFault, Picked, shows_of};
 use crate::printing::{PrintFault, Printing};
 use crate::real_time::RealTime;
+use crate::recording::Recorder;
 use crate::run_faults::RunFaults;
 use crate::run_opening::{RunDebuggers, open_run, posts_of};
 use crate::run_threads::{Left, Seated, run_threads};
@@ -115,24 +116,26 @@ fn finish<L: OpenedWith, C: Clock + Drop, W: Write + Drop>(
 
 // What is asked of a run, with what is shown of it.
 #[derive(Drop)]
-struct Ready<W: Write, T: Write> {
-    asked: Asked<W, T>,
+struct Ready<W: Write, T: Write, F: Write> {
+    asked: Asked<W, T, F>,
     shows: Shows,
     timing: Timing,
 }
 
 // What the thread that prints begins with: two debuggers, of which the second one follows a row behind.
-fn printing_of<W: Write, T: Write>(
+fn printing_of<W: Write, T: Write, F: Write>(
     tail: Tail,
     followers: (Debugger, Debugger),
-    ready: Ready<W, T>,
-) -> Printing<W, T>
+    ready: Ready<W, T, F>,
+) -> Printing<W, T, F>
     ensures tail { result.watch.tail ≡ tail }
     ensures follower { debugger_in result.watch.alarms.follower ≡ followers.0 }
     ensures before { before_in result.watch.alarms.screen ≡ followers.1 }
     ensures shows { result.watch.alarms.screen.shows ≡ ready.shows }
     ensures wanted { result.watch.wanted ≡ ready.asked.wanted }
     ensures writers { (result.w ≡ ready.asked.w) × (result.teller.w ≡ ready.asked.tells) × (result.shower.w ≡ ready.asked.shower) }
+    ensures recorder { (result.recorder.file.w ≡ ready.asked.record) × (result.recorder.notes.w ≡ ready.asked.notes) }
+    ensures recording { result.watch.alarms.recording ≡ ready.asked.recording }
 {
     let Ready {
         asked,
@@ -144,6 +147,9 @@ fn printing_of<W: Write, T: Write>(
         tells,
         shower,
         answers,
+        record,
+        notes,
+        recording,
         picked: _,
         timing: _,
         wanted,
@@ -155,6 +161,7 @@ fn printing_of<W: Write, T: Write>(
         overruns: OverrunsTold::new(),
         losses: Losses::none(),
         screen: Screen::new(shows, before),
+        recording,
         timing,
     };
     Printing {
@@ -167,6 +174,7 @@ fn printing_of<W: Write, T: Write>(
         teller: Teller::new(tells),
         shower: Teller::new(shower),
         answers: Teller::new(answers),
+        recorder: Recorder::new(record, notes),
     }
 }
 
@@ -178,13 +186,14 @@ fn run_with<
     S: Read,
     W: Write + Send + Drop,
     T: Write + Send + Drop,
+    F: Write + Send + Drop,
     E: Write,
 >(
     rt: &R,
     alloc: Global,
     blank: Blank,
     opened: RunDebuggers,
-    ready: Ready<W, T>,
+    ready: Ready<W, T, F>,
     streams: &mut Streams<'_, S, E>,
 ) -> Result<RunFaults, AllocError>
     requires name { blank.name ≡ L.name }
@@ -317,8 +326,15 @@ pub fn run_chart<
     S: Read,
     W: Write + Send + Drop,
     T: Write + Send + Drop,
+    F: Write + Send + Drop,
     E: Write,
->(rt: &R, alloc: Global, chart: &mut C, asked: Asked<W, T>, streams: &mut Streams<'_, S, E>) -> u8
+>(
+    rt: &R,
+    alloc: Global,
+    chart: &mut C,
+    asked: Asked<W, T, F>,
+    streams: &mut Streams<'_, S, E>,
+) -> u8
     ensures { IsRunStatus result }
 {
     let opened = match open_run(alloc, chart) {
@@ -338,7 +354,7 @@ pub fn run_chart<
         timing,
     };
     let seats = opened.debugger.resource().plant().tasks().len() as u64 + 2;
-    let ran = run_with::<Brand, R, S, W, T, E>(
+    let ran = run_with::<Brand, R, S, W, T, F, E>(
         rt,
         alloc,
         Blank::new(seats),
