@@ -220,7 +220,7 @@ record_script : (steered : Steered) (rows : List TraceRow) → AreKept steered [
 record_script steered rows kept short =
     let fits : nat_lt 1048576 (length (record_text steered rows)) ≡ false = grind (arith, nat_tests) in
     subst (λ (b : Bool). MatchBool b (◌≡◌ {A = Result ScriptData ℕ} (Ok (script_of rows)) (Err 0))
-        (LinesRead steered.plant 1 0 (lines_of (record_text steered rows)) (Ok (script_of rows))))
+    (LinesRead steered.plant 1 0 (lines_of (record_text steered rows)) (Ok (script_of rows))))
     (sym fits) (record_reads steered [] 1 rows kept)
 
 -- ---- a replay of it
@@ -244,7 +244,7 @@ module _ (steered : Steered) where
       let s = debugger_of steered in
       let after = accepted (s.verdict h (command_of row)) (command_of row) h row so in
       (λ i. (text_of steered).command (s.state (after i)) (command_of row) (so i)
-          ++ commands_lines s (text_of steered) (after i) (map command_of rows))
+      ++ commands_lines s (text_of steered) (after i) (map command_of rows))
       ∙ ap (λ (t : List ℕ). (text_of steered).command (s.state (command_of row ∷ h)) (command_of row) (Ok row.answer) ++ t)
       (written (command_of row ∷ h) rows more)
 

@@ -15,6 +15,7 @@ ghost use Rattle.sfc_run.specs.Losses.{losses_after, told_with};
 use crate::follower::Follower;
 use crate::losses::Losses;
 use crate::overruns::OverrunsTold;
+use crate::points::Points;
 use crate::recording::Recording;
 use crate::screen::{Screen, is_end};
 use crate::sfc_debug::debugger::Debugger;
@@ -41,6 +42,8 @@ pub struct Alarms {
     pub screen: Screen,
     /// Whether commands are recorded.
     pub recording: Recording,
+    /// The commands that set and took breakpoints.
+    pub points: Points,
     /// How late scans were, where that is measured.
     pub timing: Timing,
 }
@@ -224,6 +227,7 @@ impl Alarms {
         let lost = self.follower.follow(row);
         let is_due = self.overruns.is_due(row);
         self.timing.note(row);
+        self.points.note(row)?;
         append_losses(out, &mut self.losses, lost, row)?;
         append_alarm(alloc, out, &self.follower, row, is_due)
     }

@@ -122,7 +122,7 @@ pub fn print_rows<R: Wait, W: Write, T: Write, F: Write>(
     'rounds: for _ in rt.forever() {
         let ended = RowsEnded::of(beside.bells);
         let some = print_some(alloc, printing, ended)?;
-        let answers = answers_to(rt, alloc, &printing.watch.alarms.follower, beside.asks);
+        let answers = answers_to(rt, alloc, &printing.watch.alarms, beside.asks);
         printing.answers.tell(&answers);
         if let Some(drained) = some.drained {
             return Ok(drained);

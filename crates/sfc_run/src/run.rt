@@ -16,6 +16,7 @@ use crate::keeper::Keeper;
 use crate::losses::Losses;
 use crate::overruns::OverrunsTold;
 use crate::picked::{PickFault, Picked, shows_of};
+use crate::points::Points;
 use crate::printing::{PrintFault, Printing};
 use crate::real_time::RealTime;
 use crate::recording::Recorder;
@@ -25,6 +26,7 @@ use crate::run_threads::{Left, Seated, run_threads};
 use crate::screen::{Screen, Shows};
 use crate::session::Desk;
 use crate::sfc_debug::debugger::Debugger;
+use crate::stopwatch::{Stopwatch, append_longest, stopwatches};
 use crate::streams::{Asked, Streams};
 use crate::teller::Teller;
 use crate::timing::Timing;
@@ -124,6 +126,7 @@ struct Ready<W: Write, T: Write, F: Write> {
 
 // What the thread that prints begins with: two debuggers, of which the second one follows a row behind.
 fn printing_of<W: Write, T: Write, F: Write>(
+    alloc: Global,
     tail: Tail,
     followers: (Debugger, Debugger),
     ready: Ready<W, T, F>,
@@ -162,6 +165,7 @@ fn printing_of<W: Write, T: Write, F: Write>(
         losses: Losses::none(),
         screen: Screen::new(shows, before),
         recording,
+        points: Points::none(alloc),
         timing,
     };
     Printing {
@@ -175,6 +179,26 @@ fn printing_of<W: Write, T: Write, F: Write>(
         shower: Teller::new(shower),
         answers: Teller::new(answers),
         recorder: Recorder::new(record, notes),
+    }
+}
+
+// Tells how long the longest scans were, where that is asked for; faults of the writer are passed over.
+fn tell_longest<E: Write>(
+    alloc: Global,
+    plant: &Plant,
+    watches: Option<&[Stopwatch]>,
+    errors: &mut E,
+) -> RunFaults {
+    let Some(watches) = watches else {
+        return RunFaults::none();
+    };
+    let mut text = Vec::new(alloc);
+    match append_longest(&mut text, plant, watches) {
+        Ok(()) => {
+            let _ = put_all(errors, &text);
+            RunFaults::none()
+        }
+        Err(_) => RunFaults::of_memory(),
     }
 }
 
@@ -228,9 +252,11 @@ fn run_with<
         console: Console::new(alloc, own, clock.another()),
         most: limit / 2,
     };
-    let posts = posts_of(rt, alloc, seats, &clock, controller.bells())?;
+    let watches = stopwatches(alloc, names.resource().plant())?;
+    let posts = posts_of(alloc, seats, &clock, controller.bells(), &watches)?;
     let mut console = Console::new(alloc, seat, clock);
-    let printing = printing_of(tail, (follower, before), ready);
+    let timed = ready.asked.timing;
+    let printing = printing_of(alloc, tail, (follower, before), ready);
     let asks = Asks::new(alloc)?;
     let left = {
         let desk = Desk {
@@ -246,6 +272,12 @@ fn run_with<
         };
         run_threads(&desk, posts, seated, printing, streams)
     };
+    let longest = if timed {
+        Some(watches.as_slice())
+    } else {
+        None
+    };
+    let told = tell_longest(alloc, names.resource().plant(), longest, streams.errors);
     let ended = match &left.ends {
         Some(ends) => tell_ends(
             alloc,
@@ -255,7 +287,11 @@ fn run_with<
         ),
         None => RunFaults::none(),
     };
-    Ok(finish(alloc, controller, console, left).with(ended))
+    Ok(
+        finish(alloc, controller, console, left)
+            .with(told)
+            .with(ended),
+    )
 }
 
 // Tells an error, where a fault of the writer is passed over: the exit status.
@@ -313,7 +349,7 @@ fn tell_names<E: Write>(alloc: Global, fault: PickFault, picked: &Picked, errors
 /// Whatever is wanted, alarms are told as they happen: a scan of a program that a fault ended, and one that hit a breakpoint, by all of the
 /// lines that `replay` writes; overruns by the line of their scan, at most once a second for each task; how many commands were lost in the
 /// feed. What is picked is shown where it changes (`Screen::show`). What else is wrong is told on `errors`: why the chart is refused; a line that is no command, by its number; why a command is
-/// refused; at the end how late scans were, where that is asked for, a task whose scans ended before the session did, and why, and a line for each fault of the run. Faults of these
+/// refused; at the end how late scans were and how long the longest ones took, where that is asked for, a task whose scans ended before the session did, and why, and a line for each fault of the run. Faults of these
 /// writers are passed over. At most 1,048,577 bytes are taken from the chart. As many commands are held as is asked, at most: where half of
 /// them are, the run itself sends Epoch. The feed has room for 65,536 rows; a row that finds it full isn't written.
 ///

@@ -245,7 +245,8 @@ its terminals from these lines, and with --at-end Pump=FALSE is told what is saf
 With --record SCRIPT each accepted command goes to a new file as it comes, a line of a script: 'sfcmon replay FILE SCRIPT' prints what the run
 has answered. With --record-size the files SCRIPT, SCRIPT.2, SCRIPT.3 and so on are the script, one behind the other.
 
-Lines that begin with SHOW, IMAGE, WHY, TRACE, LIST, EXPLAIN or HELP ask how all stands, as at the prompt of 'debug', and change nothing.
+Lines that begin with SHOW, IMAGE, WHY, POINTS, TRACE, LIST, EXPLAIN or HELP ask how all stands, as at the prompt of 'debug', and change
+nothing.
 
 A session that starts a pump, halts it, reads, forces, lets go and ends, and what is printed of it, beside the lines of scans:
   ; start it                   7 T#1s_100ms INPUT Start TRUE
@@ -736,7 +737,7 @@ fn timing_argument<'a>(alloc: Global) -> Arg<'a> {
     Arg::new(alloc, "timing")
         .long("timing")
         .action(ArgAction::SetTrue)
-        .help("Tells at the end, on standard error, how late the scans of each task were")
+        .help("Tells at the end, on standard error, how late the scans of each task were, and how long the longest took")
 }
 
 // The argument that names the file in which a run is recorded.

@@ -206,16 +206,7 @@ fn run_recorded<R, C, F>(
     (record, recording): (F, Recording),
 ) -> u8
 where
-    R: Threads
-        + Wait
-        + time::Clock
-        + Sync
-        + Eprint
-        + AllocGlobal
-        + Copy
-        + Drop
-        + Send
-        + 'static,
+    R: Threads + Wait + time::Clock + Sync + Eprint + AllocGlobal + Copy + Drop + Send + 'static,
     C: Read,
     F: Write + Send + Drop,
 {

@@ -3,11 +3,10 @@
 use sfc_replay::replay_error::ReplayError;
 use sfc_run::recording::Recording;
 use std::alloc::{AllocError, Global};
-use std::fs;
 use std::fs::File;
-use std::io;
 use std::io::{ErrorKind, Write};
 use std::rt::Files;
+use std::{fs, io};
 
 /// The files of a record, one behind the other: the first has its name, and the k-th, from 2 on, `.k` behind that. None of them was there
 /// before. A part begins where a line does.
