@@ -1,5 +1,5 @@
 -- What was recorded of rows, and what a replay of it writes.
-use Rattle.std.proofs.Common.{◌≡◌, ◌∙◌, refl, sym, ap, subst, ℕ, suc, ◌+◌, ◌≤◌, ◌==◌, ◌&&◌, nat_lt, arith, Bool, true, false, if◌then◌else◌, List, [], ◌∷◌, ◌++◌, length, map, append_assoc, Some, None, Option, Result, Ok, Err, codes, ⊤}
+use Rattle.std.proofs.Common.{◌≡◌, ◌∙◌, refl, sym, ap, subst, ℕ, suc, ◌+◌, ◌≤◌, ◌==◌, ◌&&◌, nat_lt, arith, Bool, true, false, if◌then◌else◌, List, [], ◌∷◌, ◌++◌, length, map, length-append, append_assoc, Some, None, Result, Ok, Err, codes, ⊤}
 use mathlib.Core.List.{IsPrefix}
 use Rattle.std.specs.Prelude.{MatchBool}
 use Rattle.std.proofs.lemmas.Bool.Decides.{nat_tests}
@@ -50,8 +50,8 @@ ended old new (row ∷ rows) h behind text shown bytes
     (mid, between, some, rest, seen, others, put, puts, same, also, too, told, more) off =
     let still : mid.recording ≡ old.recording = told.recorded.ended off in
     let mid_off : goes_on mid.recording ≡ false = ap goes_on still ∙ off in
-    let then = ended mid new rows between behind rest others puts more mid_off in
-    (too ∙ (λ i. told.recorded.none mid_off i ++ then.0 i), then.1)
+    let later = ended mid new rows between behind rest others puts more mid_off in
+    (too ∙ (λ i. told.recorded.none mid_off i ++ later.0 i), later.1)
 
 kept_rows : (old new : Alarms) (rows : List TraceRow) (h behind : CommandHistory) (text shown bytes : List ℕ)
     → AreTold old new rows h behind text shown bytes → Kept (steered_in old.follower) h new.recording rows bytes
@@ -60,17 +60,14 @@ kept_rows old new [] h behind text shown bytes (same, now, none, empty, nothing)
 kept_rows old new (row ∷ rows) h behind text shown bytes
     (mid, between, some, rest, seen, others, put, puts, same, also, too, told, more) = by (goes_on mid.recording) refl
   where
-    st : Steered
-    st = steered_in old.follower
-
     by : (on : Bool) → goes_on mid.recording ≡ on → Kept (steered_in old.follower) h new.recording (row ∷ rows) bytes
     by false off =
-        let then = ended mid new rows between behind rest others puts more off in
+        let later = ended mid new rows between behind rest others puts more off in
         record {
           front = [];
           of_rows = (row ∷ rows, refl);
-          whole = λ on. absurd (let bad : true ≡ false = sym on ∙ then.1 in cc);
-          lines = too ∙ (λ i. told.recorded.none off i ++ then.0 i);
+          whole = λ on. absurd (let bad : true ≡ false = sym on ∙ later.1 in cc);
+          lines = too ∙ (λ i. told.recorded.none off i ++ later.0 i);
           kept = tt;
         }
     by true on =
@@ -78,29 +75,27 @@ kept_rows old new (row ∷ rows) h behind text shown bytes
         let level = told.alarmed.follows.level line.1 in
         let steered : steered_in mid.follower ≡ steered_in old.follower = told.alarmed.follows.steered in
         let after = kept_rows mid new rows between behind rest others puts more in
-        let then : Kept (steered_in old.follower) (command_of row ∷ h) new.recording rows puts =
+        let later : Kept (steered_in old.follower) (command_of row ∷ h) new.recording rows puts =
         subst (λ (s : Steered). Kept s (command_of row ∷ h) new.recording rows puts) steered
         (subst (λ (x : CommandHistory). Kept (steered_in mid.follower) x new.recording rows puts) level.2 after) in
         let is_line : put ≡ record_line (steered_in old.follower) row = line.2 ∙ ap (λ (s : Steered). record_line s row) steered in
         record {
-          front = row ∷ then.front;
-          of_rows = (then.of_rows.0, ap (λ (x : List TraceRow). row ∷ x) then.of_rows.1);
-          whole = λ all. ap (λ (x : List TraceRow). row ∷ x) (then.whole all);
-          lines = too ∙ (λ i. is_line i ++ then.lines i);
+          front = row ∷ later.front;
+          of_rows = (later.of_rows.0, ap (λ (x : List TraceRow). row ∷ x) later.of_rows.1);
+          whole = λ all. ap (λ (x : List TraceRow). row ∷ x) (later.whole all);
+          lines = too ∙ (λ i. is_line i ++ later.lines i);
           kept = (
             level.3,
-            (
-              subst (λ (s : Steered). IsReadBack s.plant (record_line s row) row) steered
-                  (subst (λ (b : List ℕ). IsReadBack (steered_in mid.follower).plant b row) line.2 line.3),
-              then.kept,
-            ),
+            subst (λ (s : Steered). IsReadBack s.plant (record_line s row) row) steered
+                (subst (λ (b : List ℕ). IsReadBack (steered_in mid.follower).plant b row) line.2 line.3),
+            later.kept,
           );
         }
 
 -- a front of them
 kept_front : (steered : Steered) (h : CommandHistory) (cut rest : List TraceRow) → AreKept steered h (cut ++ rest) → AreKept steered h cut
 kept_front steered h [] rest kept = tt
-kept_front steered h (row ∷ cut) rest (so, (back, more)) = (so, (back, kept_front steered (command_of row ∷ h) cut rest more))
+kept_front steered h (row ∷ cut) rest (so, back, more) = (so, back, kept_front steered (command_of row ∷ h) cut rest more)
 
 -- ---- the lines of a text that ends with a line, and of what stands behind it
 
@@ -112,7 +107,7 @@ in_line_some : (b : ℕ) (lines : List (List ℕ)) → in_line b lines ≡ [] �
 in_line_some b [] e = absurd (let bad : ◌≡◌ {A = List (List ℕ)} ((b ∷ []) ∷ []) [] = e in cc)
 in_line_some b (line ∷ lines) e = absurd (let bad : ◌≡◌ {A = List (List ℕ)} ((b ∷ line) ∷ lines) [] = e in cc)
 
-by_byte : (lf cr : Bool) (b : ℕ) (rest : List (List ℕ)) → List (List ℕ)
+abbrev by_byte : (lf cr : Bool) (b : ℕ) (rest : List (List ℕ)) → List (List ℕ)
 by_byte lf cr b rest = if lf then [] ∷ rest else if cr then rest else in_line b rest
 
 some_by : (lf cr : Bool) (b : ℕ) (rest : List (List ℕ)) → (rest ≡ [] → ⊥) → by_byte lf cr b rest ≡ [] → ⊥
@@ -158,27 +153,27 @@ module _ (plant : PlantData) where
 
   joins : (n m k : ℕ) (lines more : List (List ℕ)) (a b : ScriptData) → Reads n k lines a
       → ((i : ℕ) → Reads i (k + length a.table) more b) → Reads m k (lines ++ more) (joined a b)
-  joins n m k [] more a b reads then =
+  joins n m k [] more a b reads later =
       let nothing : a ≡ nothing_said = by reads in
       subst (λ (x : ScriptData). Reads m k more (joined x b)) (sym nothing)
-      (subst (λ (j : ℕ). Reads m j more b) (omega arith) (subst (λ (x : ScriptData). Reads m (k + length x.table) more b) nothing (then m)))
+      (subst (λ (j : ℕ). Reads m j more b) (omega arith) (subst (λ (x : ScriptData). Reads m (k + length x.table) more b) nothing (later m)))
     where
       by : ◌≡◌ {A = Result ScriptData ℕ} (Ok a) (Ok nothing_said) → a ≡ nothing_said
       by e = cc
-  joins n m k (line ∷ lines) more a b (None, (reads, e)) then = absurd (by e)
+  joins n m k (line ∷ lines) more a b (None, reads, e) later = absurd (by e)
     where
       by : ◌≡◌ {A = Result ScriptData ℕ} (Ok a) (Err n) → ⊥
       by e = cc
-  joins n m k (line ∷ lines) more a b (Some first, (reads, (Err j, (others, e)))) then = absurd (by e)
+  joins n m k (line ∷ lines) more a b (Some first, reads, (Err j, others, e)) later = absurd (by e)
     where
       by : ◌≡◌ {A = Result ScriptData ℕ} (Ok a) (Err j) → ⊥
       by e = cc
-  joins n m k (line ∷ lines) more a b (Some first, (reads, (Ok rest, (others, e)))) then =
+  joins n m k (line ∷ lines) more a b (Some first, reads, (Ok rest, others, e)) later =
       let is : a ≡ joined first rest = by e in
       let behind : Reads (suc m) (k + length first.table) (lines ++ more) (joined rest b) =
       joins (suc n) (suc m) (k + length first.table) lines more rest b others
-      (λ i. subst (λ (j : ℕ). Reads i j more b) (lengths (ap (λ (x : ScriptData). length x.table) is)) (then i)) in
-      (Some first, (reads, (Ok (joined rest b), (behind, ap (λ (x : ScriptData). Ok (joined x b)) is ∙ regrouped))))
+      (λ i. subst (λ (j : ℕ). Reads i j more b) (lengths (ap (λ (x : ScriptData). length x.table) is)) (later i)) in
+      (Some first, reads, (Ok (joined rest b), behind, ap (λ (x : ScriptData). Ok (joined x b)) is ∙ regrouped))
     where
       by : ◌≡◌ {A = Result ScriptData ℕ} (Ok a) (Ok (joined first rest)) → a ≡ joined first rest
       by e = cc
@@ -208,7 +203,7 @@ script_of rows = record { commands = map command_of rows; table = [] }
 record_reads : (steered : Steered) (h : CommandHistory) (n : ℕ) (rows : List TraceRow) → AreKept steered h rows
     → LinesRead steered.plant n 0 (lines_of (record_text steered rows)) (Ok (script_of rows))
 record_reads steered h n [] kept = refl
-record_reads steered h n (row ∷ rows) (so, (back, more)) =
+record_reads steered h n (row ∷ rows) (so, back, more) =
     subst (λ (lines : List (List ℕ)). LinesRead steered.plant n 0 lines (Ok (script_of (row ∷ rows))))
     (sym (line_more steered row (record_text steered rows)))
     (joins steered.plant 1 n 0 (lines_of (record_line steered row)) (lines_of (record_text steered rows)) (only row) (script_of rows)
@@ -232,7 +227,7 @@ module _ (steered : Steered) where
   played : (h : CommandHistory) (rows : List TraceRow) → AreKept steered h rows
       → session_after (debugger_of steered) h (map command_of rows) ≡ behind_rows h rows
   played h [] kept = refl
-  played h (row ∷ rows) (so, (back, more)) =
+  played h (row ∷ rows) (so, back, more) =
       ap (λ (x : CommandHistory). session_after (debugger_of steered) x (map command_of rows))
       (accepted ((debugger_of steered).verdict h (command_of row)) (command_of row) h row so)
       ∙ played (command_of row ∷ h) rows more
@@ -240,7 +235,7 @@ module _ (steered : Steered) where
   written : (h : CommandHistory) (rows : List TraceRow) → AreKept steered h rows
       → commands_lines (debugger_of steered) (text_of steered) h (map command_of rows) ≡ answered_lines steered h rows
   written h [] kept = refl
-  written h (row ∷ rows) (so, (back, more)) =
+  written h (row ∷ rows) (so, back, more) =
       let s = debugger_of steered in
       let after = accepted (s.verdict h (command_of row)) (command_of row) h row so in
       (λ i. (text_of steered).command (s.state (after i)) (command_of row) (so i)
