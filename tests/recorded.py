@@ -17,7 +17,7 @@ from pathlib import Path
 
 program, seconds, seed = sys.argv[1], float(sys.argv[2]), int(sys.argv[3])
 passed = failed = 0
-PART = 8192
+PART = 2048
 CHART = """PROGRAM Divide
   VAR n : INT := 7; END_VAR
   INITIAL_STEP Rest: END_STEP
@@ -58,10 +58,11 @@ END_RESOURCE END_CONFIGURATION
 LINES = [
     "INPUT Start TRUE", "INPUT Start FALSE", "INPUT Held TRUE", "INPUT Held FALSE", "INPUT Parts {}", "INPUT Parts 0", "FORCE Start TRUE",
     "RELEASE Start", "FORCE Lamp FALSE", "RELEASE Lamp", "FORCE Long T#{}ms", "FORCE Long T#1s_2.5ms", "RELEASE Long", "FORCE Count -{}",
-    "RELEASE Count", "READ Lamp", "READ Divide1.n", "READ Long", "RESET Divide1", "RESET Blink1", "RESET Divide2", "STOP", "SINGLE Main T#20ms",
-    "SINGLE Fast T#{}ms", "SINGLE Edge T#0s", "GO", "GO", "BREAK Divide1 STEP Share", "UNBREAK Divide1 STEP Share", "BREAK Divide1 ACTION Work",
-    "UNBREAK Divide1 ACTION Work", "BREAK Divide1 TRANSITION Done", "UNBREAK Divide1 TRANSITION 2", "BREAK Blink1 ACTION Lamp",
-    "UNBREAK Blink1 ACTION Lamp", "EPOCH", "no command", "INPUT Nowhere 1", "SCAN Main",
+    "RELEASE Count", "FORCE Divide1.n -{}", "RELEASE divide1.N", "FORCE Long T#-1d_2h_{}ms", "READ Lamp", "READ Divide1.n", "READ Long",
+    "RESET Divide1", "RESET Blink1", "RESET Divide2", "STOP", "SINGLE Main T#20ms", "SINGLE Fast T#{}ms", "SINGLE Edge T#0s", "GO", "GO",
+    "BREAK Divide1 STEP Share", "UNBREAK Divide1 STEP Share", "BREAK Divide1 ACTION Work", "UNBREAK Divide1 ACTION Work",
+    "BREAK Divide1 TRANSITION Done", "UNBREAK Divide1 TRANSITION 2", "BREAK Blink1 ACTION Lamp", "UNBREAK Blink1 ACTION Lamp", "EPOCH",
+    "no command", "INPUT Nowhere 1", "SCAN Main",
 ]
 
 
@@ -200,6 +201,21 @@ def fail_writes(folder):
          "a part of a record that is there")
 
 
+def close_output(folder):
+    """Standard output is closed: the run is recorded to its end all the same."""
+    chart, record = folder / "run.chart", folder / "closed.record"
+    child = subprocess.Popen([program, "run", "--for", "T#1s", "--record", record, chart], stdin=subprocess.DEVNULL, stdout=subprocess.PIPE,
+                             stderr=subprocess.PIPE)
+    child.stdout.readline()
+    child.stdout.close()
+    told = child.stderr.read().decode()
+    status = child.wait()
+    done, out, _ = play(chart, record)
+    kept = record.read_text().splitlines()
+    note(status == 3 and told.endswith("write fault\n") and "record" not in told and done == 0 and kept[-1].endswith(" END")
+         and len(commands_of(out)) == len(kept) > 50, "a record beside an output that is closed")
+
+
 def lose_lines(folder):
     """Nobody takes the lines for a while: where the feed is full the record ends."""
     chart, record = folder / "fast.chart", folder / "fast.record"
@@ -222,6 +238,7 @@ with tempfile.TemporaryDirectory() as name:
     record_whole(Path(name))
     refuse_files(Path(name))
     fail_writes(Path(name))
+    close_output(Path(name))
     lose_lines(Path(name))
 print(f"{passed} passed, {failed} failed")
 sys.exit(failed > 0)
