@@ -102,12 +102,13 @@ fn print_some<W: Write, T: Write, F: Write>(
 }
 
 /// Takes rows as they come and writes the line of each whose command is wanted: its number, and the line of its command. Beside it alarms
-/// are told, and behind the lines it is shown what has changed; before all of that commands are recorded, where they are. It ends once it is told that no more rows come, and none is left; a look that was begun behind that word is what it answers.
-/// Where none has come it waits until its bell is rung, a tenth of a second at most. Lines that ask are answered behind the rows of a round.
+/// are told, and behind the lines it is shown what has changed; before all of that commands are recorded, where they are. It ends once it is
+/// told that no more rows come, and none is left; a look that was begun behind that word is what it answers. Where none has come it waits
+/// until its bell is rung, a tenth of a second at most. Lines that ask are answered behind the rows of a round.
 ///
 /// `Write` is answered where the writer failed or took no byte, `Memory` where memory was refused; then a front of the lines was
-/// written, and no more rows are taken. Faults of the writers of alarms and of what is shown are passed over; that of a record
-/// is told, and then nothing more is recorded.
+/// written, and no more rows are taken. Faults of the writers of alarms and of what is shown are passed over; that of a record is told, and
+/// then nothing more is recorded.
 pub fn print_rows<R: Wait, W: Write, T: Write, F: Write>(
     rt: &R,
     alloc: Global,
