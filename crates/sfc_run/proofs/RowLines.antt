@@ -339,7 +339,7 @@ reached old new all rest = (all.0, all.1 ∙ ap (λ t. taken new ++ t) rest ∙ 
 noted_by : (was is : Bool) (note : Option (List ℕ)) → is ≡ (was || is_some note)
     → ((text : List ℕ) → note ≡ Some text → (failed : Bool) × (recording : Recording) × (end_note failed recording ≡ Some text))
     → IsNote was is (told_note was note)
-noted_by true is note e by = subst (λ (b : Bool). IsNote true b []) (sym e) refl
+noted_by true is _ e by = subst (λ (b : Bool). IsNote true b []) (sym e) refl
 noted_by false is None e by = subst (λ (b : Bool). IsNote false b []) (sym e) refl
 noted_by false is (Some text) e by = subst (λ (b : Bool). IsNote false b text) (sym e) (by text refl)
 

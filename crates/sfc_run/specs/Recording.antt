@@ -60,7 +60,7 @@ end_note false recording = end_reason recording
 
 -- once, where it wasn't told before
 abbrev pub told_note : Bool → Option (List ℕ) → List ℕ
-told_note true note = []
+told_note true _ = []
 told_note false None = []
 told_note false (Some text) = text
 
