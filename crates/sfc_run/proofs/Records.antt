@@ -48,10 +48,10 @@ ended old new [] h behind text shown bytes (same, now, none, empty, nothing) off
     (nothing, ap (λ (a : Alarms). goes_on a.recording) same ∙ off)
 ended old new (row ∷ rows) h behind text shown bytes
     (mid, between, some, rest, seen, others, put, puts, same, also, too, told, more) off =
-    let still : mid.recording ≡ old.recording = told.recorded.ended off in
+    let still : mid.recording ≡ old.recording = told.records.ended off in
     let mid_off : goes_on mid.recording ≡ false = ap goes_on still ∙ off in
     let later = ended mid new rows between behind rest others puts more mid_off in
-    (too ∙ (λ i. told.recorded.none mid_off i ++ later.0 i), later.1)
+    (too ∙ (λ i. told.records.none mid_off i ++ later.0 i), later.1)
 
 kept_rows : (old new : Alarms) (rows : List TraceRow) (h behind : CommandHistory) (text shown bytes : List ℕ)
     → AreTold old new rows h behind text shown bytes → Kept (steered_in old.follower) h new.recording rows bytes
@@ -67,11 +67,11 @@ kept_rows old new (row ∷ rows) h behind text shown bytes
           front = [];
           of_rows = (row ∷ rows, refl);
           whole = λ on. absurd (let bad : true ≡ false = sym on ∙ later.1 in cc);
-          lines = too ∙ (λ i. told.recorded.none off i ++ later.0 i);
+          lines = too ∙ (λ i. told.records.none off i ++ later.0 i);
           kept = tt;
         }
     by true on =
-        let line = told.recorded.line on in
+        let line = told.records.line on in
         let level = told.alarmed.follows.level line.1 in
         let steered : steered_in mid.follower ≡ steered_in old.follower = told.alarmed.follows.steered in
         let after = kept_rows mid new rows between behind rest others puts more in

@@ -91,7 +91,7 @@ pub record IsTold (old new : Alarms) (row : TraceRow) (h behind : CommandHistory
   pub shows : new.screen.shows ≡ old.screen.shows
   pub changes : Mirrors old.screen old.follower h →
       (shown ≡ shown_text old.screen.shows (is_level new.follower) (steered_in new.follower) h behind row) × Mirrors new.screen new.follower behind
-  pub recorded : IsRecorded old.recording new.recording new.follower row recorded
+  pub records : IsRecorded old.recording new.recording new.follower row recorded
 
 -- Rows were taken one after the other; this was told of them, and that was shown and recorded.
 abbrev pub AreTold : Alarms → Alarms → List TraceRow → CommandHistory → CommandHistory → List ℕ → List ℕ → List ℕ → Type 0

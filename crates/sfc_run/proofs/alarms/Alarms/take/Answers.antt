@@ -37,7 +37,7 @@ returns-clause-told c h agrees =
                   ∙ ap (λ (s : Screen). c.args.told.now.changes.items ++ text s.shows) screen),
               record { steered = c.in_ok-show.ensures.steered ∙ (sees m).steered; agrees = done.1 },
             );
-        recorded = subst (λ (r : Recording). IsRecorded r c.take.new.self mid.follower c.args.row put.0)
+        records = subst (λ (r : Recording). IsRecorded r c.take.new.self mid.follower c.args.row put.0)
             c.in_ok-take_alarm.ensures.recording put.2;
       },
     ))
