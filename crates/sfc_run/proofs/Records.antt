@@ -53,44 +53,51 @@ ended old new (row ∷ rows) h behind text shown bytes
     let later = ended mid new rows between behind rest others puts more mid_off in
     (too ∙ (λ i. told.records.none mid_off i ++ later.0 i), later.1)
 
+-- a row more in front of those that were recorded so
+kept_row : (old mid new : Alarms) (row : TraceRow) (rows : List TraceRow) (h between : CommandHistory) (some seen put puts bytes : List ℕ)
+    → IsTold old mid row h between some seen put → bytes ≡ put ++ puts
+    → Kept (steered_in mid.follower) between new.recording rows puts
+    → (goes_on mid.recording ≡ false → (puts ≡ []) × (goes_on new.recording ≡ false))
+    → (on : Bool) → goes_on mid.recording ≡ on → Kept (steered_in old.follower) h new.recording (row ∷ rows) bytes
+kept_row old mid new row rows h between some seen put puts bytes told too after stopped false off =
+    let later = stopped off in
+    record {
+      front = [];
+      of_rows = (row ∷ rows, refl);
+      whole = λ on. absurd (let bad : true ≡ false = sym on ∙ later.1 in cc);
+      lines = too ∙ (λ i. told.records.none off i ++ later.0 i);
+      kept = tt;
+    }
+kept_row old mid new row rows h between some seen put puts bytes told too after stopped true on =
+    let line = told.records.line on in
+    let level = told.alarmed.follows.level line.1 in
+    let steered : steered_in mid.follower ≡ steered_in old.follower = told.alarmed.follows.steered in
+    let later : Kept (steered_in old.follower) (command_of row ∷ h) new.recording rows puts =
+    subst (λ (s : Steered). Kept s (command_of row ∷ h) new.recording rows puts) steered
+    (subst (λ (x : CommandHistory). Kept (steered_in mid.follower) x new.recording rows puts) level.2 after) in
+    let is_line : put ≡ record_line (steered_in old.follower) row = line.2 ∙ ap (λ (s : Steered). record_line s row) steered in
+    record {
+      front = row ∷ later.front;
+      of_rows = (later.of_rows.0, ap (λ (x : List TraceRow). row ∷ x) later.of_rows.1);
+      whole = λ all. ap (λ (x : List TraceRow). row ∷ x) (later.whole all);
+      lines = too ∙ (λ i. is_line i ++ later.lines i);
+      kept = (
+        level.3,
+        subst (λ (s : Steered). IsReadBack s.plant (record_line s row) row) steered
+            (subst (λ (b : List ℕ). IsReadBack (steered_in mid.follower).plant b row) line.2 line.3),
+        later.kept,
+      );
+    }
+
 kept_rows : (old new : Alarms) (rows : List TraceRow) (h behind : CommandHistory) (text shown bytes : List ℕ)
     → AreTold old new rows h behind text shown bytes → Kept (steered_in old.follower) h new.recording rows bytes
 kept_rows old new [] h behind text shown bytes (same, now, none, empty, nothing) =
     record { front = []; of_rows = ([], refl); whole = λ on. refl; lines = nothing; kept = tt }
 kept_rows old new (row ∷ rows) h behind text shown bytes
-    (mid, between, some, rest, seen, others, put, puts, same, also, too, told, more) = by (goes_on mid.recording) refl
-  where
-    by : (on : Bool) → goes_on mid.recording ≡ on → Kept (steered_in old.follower) h new.recording (row ∷ rows) bytes
-    by false off =
-        let later = ended mid new rows between behind rest others puts more off in
-        record {
-          front = [];
-          of_rows = (row ∷ rows, refl);
-          whole = λ on. absurd (let bad : true ≡ false = sym on ∙ later.1 in cc);
-          lines = too ∙ (λ i. told.records.none off i ++ later.0 i);
-          kept = tt;
-        }
-    by true on =
-        let line = told.records.line on in
-        let level = told.alarmed.follows.level line.1 in
-        let steered : steered_in mid.follower ≡ steered_in old.follower = told.alarmed.follows.steered in
-        let after = kept_rows mid new rows between behind rest others puts more in
-        let later : Kept (steered_in old.follower) (command_of row ∷ h) new.recording rows puts =
-        subst (λ (s : Steered). Kept s (command_of row ∷ h) new.recording rows puts) steered
-        (subst (λ (x : CommandHistory). Kept (steered_in mid.follower) x new.recording rows puts) level.2 after) in
-        let is_line : put ≡ record_line (steered_in old.follower) row = line.2 ∙ ap (λ (s : Steered). record_line s row) steered in
-        record {
-          front = row ∷ later.front;
-          of_rows = (later.of_rows.0, ap (λ (x : List TraceRow). row ∷ x) later.of_rows.1);
-          whole = λ all. ap (λ (x : List TraceRow). row ∷ x) (later.whole all);
-          lines = too ∙ (λ i. is_line i ++ later.lines i);
-          kept = (
-            level.3,
-            subst (λ (s : Steered). IsReadBack s.plant (record_line s row) row) steered
-                (subst (λ (b : List ℕ). IsReadBack (steered_in mid.follower).plant b row) line.2 line.3),
-            later.kept,
-          );
-        }
+    (mid, between, some, rest, seen, others, put, puts, same, also, too, told, more) =
+    kept_row old mid new row rows h between some seen put puts bytes told too
+    (kept_rows mid new rows between behind rest others puts more) (ended mid new rows between behind rest others puts more)
+    (goes_on mid.recording) refl
 
 -- a front of them
 kept_front : (steered : Steered) (h : CommandHistory) (cut rest : List TraceRow) → AreKept steered h (cut ++ rest) → AreKept steered h cut

@@ -13,6 +13,7 @@ use crate::follower::Follower;
 use crate::sfc_core::resource::Resource;
 use crate::sfc_debug::debugger::Debugger;
 use crate::sfc_output::command::append_command;
+use crate::sfc_script::laws::one_script;
 use crate::sfc_script::script::{Script, ScriptError, read_script};
 use crate::teller::Teller;
 use sfc_events::command::{Answer, TraceRow};
@@ -56,6 +57,7 @@ fn is_read_back(
     ensures yes { IfOk result (λ is. OnTrue is (IsReadBack (plant_of resource.now) line.now row)) }
     ensures no { IfOk result (λ is. OnFalse is (IsReadBack (plant_of resource.now) line.now row → ⊥)) }
 {
+    one_script();
     match read_script(alloc, resource, line) {
         Ok(script) => Ok(says(&script, row)),
         Err(ScriptError::Faulty(_)) => Ok(false),
