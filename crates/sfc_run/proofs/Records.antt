@@ -1,27 +1,23 @@
 -- What was recorded of rows, and what a replay of it writes.
-use Rattle.std.proofs.Common.{◌≡◌, ◌∙◌, refl, sym, ap, subst, ℕ, suc, ◌+◌, ◌≤◌, ◌==◌, ◌&&◌, nat_lt, arith, Bool, true, false, if◌then◌else◌, List, [], ◌∷◌, ◌++◌, length, map, length-append, append_assoc, Some, None, Result, Ok, Err, codes, ⊤}
+use Rattle.std.proofs.Common.{◌≡◌, ◌∙◌, refl, sym, ap, subst, ℕ, suc, ◌+◌, ◌≤◌, ◌==◌, ◌&&◌, nat_lt, arith, Bool, true, false, if◌then◌else◌, List, [], ◌∷◌, ◌++◌, length, map, length-append, append_assoc, Some, None, Result, Ok, Err}
 use mathlib.Core.List.{IsPrefix}
-use Rattle.std.specs.Prelude.{MatchBool}
+use Rattle.std.specs.Bool.{MatchBool, ⊤}
 use Rattle.std.proofs.lemmas.Bool.Decides.{nat_tests}
-use Rattle.std.proofs.lemmas.List.{append-nil}
 use Rattle.sfc_base.specs.TimeText.{time_text}
 use Rattle.sfc_events.specs.declared.command.TraceRow.{TraceRow}
-use Rattle.sfc_page.specs.Values.{line_end}
 use Rattle.sfc_plant.specs.Plants.{PlantData}
 use Rattle.sfc_control.specs.sfc_debug.Histories.{CommandHistory, TimedCommand}
 use Rattle.sfc_control.specs.sfc_debug.Steered.{Steered}
 use Rattle.sfc_control.specs.sfc_debug.Verdict.{history_by}
-use Rattle.sfc_replay.specs.Replay.{IsOutput, played_on}
 use Rattle.sfc_replay.specs.sfc_load.Accepted.{IsAccepted}
 use Rattle.sfc_replay.specs.sfc_output.Commands.{command_text}
-use Rattle.sfc_replay.specs.sfc_output.Output.{Verdict, closing_lines, commands_lines, debugger_of, lines_of_play, session_after, text_of}
-use Rattle.sfc_replay.specs.sfc_script.Commands.{said_of}
+use Rattle.sfc_replay.specs.sfc_output.Output.{Verdict, closing_lines, commands_lines, debugger_of, session_after, text_of}
 use Rattle.sfc_replay.specs.sfc_script.Lines.{begins_with_lf, in_line, lines_of}
-use Rattle.sfc_replay.specs.sfc_script.Scripts.{Continues, LineReads, LinesRead, ScriptData, ScriptReads, and_then, joined, nothing_said}
+use Rattle.sfc_replay.specs.sfc_script.Scripts.{LinesRead, ScriptData, ScriptReads, and_then, joined, nothing_said}
 use Rattle.sfc_run.specs.Alarms.{AreTold, IsTold}
-use Rattle.sfc_run.specs.Following.{AnswersSo, command_of, is_level, steered_in}
+use Rattle.sfc_run.specs.Following.{AnswersSo, command_of, steered_in}
 use Rattle.sfc_run.specs.Recording.{IsReadBack, goes_on, only, record_line, record_text}
-use Rattle.sfc_run.specs.Records.{IsRecordOf, answered_lines, behind_rows, opened_on, run_lines}
+use Rattle.sfc_run.specs.Records.{IsRecordOf, answered_lines, behind_rows, opened_on}
 use Rattle.sfc_run.specs.declared.alarms.Alarms.{Alarms}
 use Rattle.sfc_run.specs.declared.recording.Recording.{Recording}
 
@@ -147,10 +143,7 @@ line_more : (steered : Steered) (row : TraceRow) (rest : List ℕ)
     → lines_of (record_line steered row ++ rest) ≡ lines_of (record_line steered row) ++ lines_of rest
 line_more steered row rest =
     let text : List ℕ = time_text row.raw ++ command_text steered row.command in
-    let split : record_line steered row ≡ text ++ 10 ∷ [] =
-    sym (append_assoc (time_text row.raw) (command_text steered row.command) line_end) in
-    ap (λ (t : List ℕ). lines_of (t ++ rest)) split ∙ ap lines_of (append_assoc text (10 ∷ []) rest) ∙ lines_more text rest
-    ∙ ap (λ (t : List ℕ). lines_of t ++ lines_of rest) (sym split)
+    ap lines_of (append_assoc text (10 ∷ []) rest) ∙ lines_more text rest
 
 -- ---- what lines say, and then others
 

@@ -1,5 +1,5 @@
 -- The record of a run: its accepted commands as a script (our choice of format).
-use Rattle.std.specs.Prelude.{ℕ, ◌≡◌, Bool, true, false, ◌||◌, List, [], ◌∷◌, ◌++◌, Option, Some, None, is_some, Ok, codes}
+use Rattle.std.specs.Prelude.{ℕ, ◌≡◌, Bool, true, false, List, [], ◌∷◌, ◌++◌, Option, Some, None, Ok, codes}
 use Rattle.sfc_base.specs.TimeText.{time_text}
 use Rattle.sfc_events.specs.declared.command.TraceRow.{TraceRow}
 use Rattle.sfc_page.specs.Values.{line_end}

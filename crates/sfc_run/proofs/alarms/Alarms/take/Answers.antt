@@ -1,4 +1,4 @@
-use Rattle.std.proofs.Common.{◌≡◌, ◌∙◌, ◌++◌, List, ℕ, ap, refl, sym, subst}
+use Rattle.std.proofs.Common.{◌≡◌, ◌∙◌, ◌++◌, ap, sym, subst}
 use Rattle.std.proofs.lemmas.List.{append_cancel_left}
 use Rattle.sfc_run.specs.Recording.{IsRecorded}
 use Rattle.sfc_run.specs.Screens.{Mirrors, shown_text}
