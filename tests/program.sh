@@ -740,7 +740,7 @@ status=$?
 took=$(since "$begin")
 exec 7<&-
 ends 0 && calm && counted && mentions " READ Pump FALSE" out && [ "$took" -ge 1000 ] &&
-  tail -n 2 "$work/out" | head -n 1 | grep -qE ' T#(1s|9[0-9][0-9])[^ ]* END$'
+  tail -n 2 "$work/out" | head -n 1 | grep -qE ' T#1s[^ ]* END$'
 note $? "a second with a session that doesn't end"
 begin=$(date +%s%N)
 printf 'READ Pump' | "$program" run --for T#1s --trace 64 "$examples/pump.chart" >"$work/out" 2>"$work/err"
@@ -775,6 +775,8 @@ late by $number least, (over )?[0-9]+ median, (over )?[0-9]+ of 99 %, $number gr
   && sed -nE "s/^Main .* late by ($number) least, ([0-9]+) median, ([0-9]+) of 99 %, ($number) greatest.*/\\1 \\2 \\3 \\4/p" "$work/err" \
   | awk '0 <= $1 && $1 <= $2 && $2 <= $3 && $3 <= $4 && $4 < 1000000 { good = 1 } END { exit !good }'
 note $? "how late scans were"
+[ "$(sed -nE 's/^the longest scan of (Main|Edge) took [0-9]{1,6} microseconds$/\1/p' "$work/err")" = $'Main\nEdge' ]
+note $? "how long scans took"
 # a program divides by an input once it is started; another one goes on
 cat >"$work/dying.chart" <<'CHART'
 PROGRAM Divide
@@ -900,6 +902,18 @@ Lamp FALSE
 audit ok" ] && mentions "  Divide1 fault DivZero" err
 note $? "a fault shows what is safe, and so does the end"
 
+# ---- runs that are recorded
+
+if command -v python3 >/dev/null; then
+  python3 "$here/recorded.py" "$program" 2 "$(date +%s)" >"$work/out" 2>"$work/err"
+  status=$?
+  add_counts "$work/out" || note 1 "runs that are recorded"
+else
+  echo "not asked, python3 isn't there: runs that are recorded"
+fi
+usage "--record-size without --record" "error:" run --record-size 4096 "$chart"
+for size in 1023 x ''; do usage "--record-size '$size'" "error:" run --record "$work/unmade" --record-size "$size" "$chart"; done
+
 # ---- words that ask
 
 # asked LINE ..: a run of the pump with these lines, a quarter of a second after one another; leaves what is answered, without instants, and
@@ -926,6 +940,12 @@ Pump1 TRANSITION 1 not enabled
     Stop FALSE
 audit ok" ]
 note $? "words that ask in a run"
+asked POINTS 'BREAK Pump1 STEP Pumping' 'BREAK Pump1 TRANSITION 2' 'UNBREAK Pump1 STEP Pumping' 'BREAK Pump1 STEP Idle' points
+ends 0 && calm && [ "$(cat "$work/answers")" = "; no breakpoint is set
+.. BREAK Pump1 TRANSITION 2
+.. BREAK Pump1 STEP Idle
+audit ok" ]
+note $? "the breakpoints that are set in a run"
 asked LIST EXPLAIN 'EXPLAIN 36' help 'TRACE x'
 ends 0 && says "" && "$program" list "$examples/pump.chart" >"$work/listing" \
   && head -n "$(wc -l <"$work/listing")" "$work/out" | cmp -s - "$work/listing" \

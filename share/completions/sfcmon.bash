@@ -27,7 +27,7 @@ _sfcmon() {
     help:*) mapfile -t COMPREPLY < <(compgen -W "$commands" -- "$word") ;;
     why:-*) mapfile -t COMPREPLY < <(compgen -W '-h --help --all' -- "$word") ;;
     replay:-*) mapfile -t COMPREPLY < <(compgen -W '-h --help --strict' -- "$word") ;;
-    run:-*) mapfile -t COMPREPLY < <(compgen -W '-h --help --trace --history --for --forever --show --watch --at-end --timing' -- "$word") ;;
+    run:-*) mapfile -t COMPREPLY < <(compgen -W '-h --help --trace --history --for --forever --show --watch --at-end --timing --record --record-size' -- "$word") ;;
     debug:-*) mapfile -t COMPREPLY < <(compgen -W '-h --help --record' -- "$word") ;;
     draw:-*) mapfile -t COMPREPLY < <(compgen -W '-h --help --program --after --cover --dot' -- "$word") ;;
     wave:-*) mapfile -t COMPREPLY < <(compgen -W '-h --help --raw --svg --only --gtkw' -- "$word") ;;

@@ -37,6 +37,8 @@ complete -c sfcmon -n '__fish_seen_subcommand_from run' -l show -x -a changes -d
 complete -c sfcmon -n '__fish_seen_subcommand_from run' -l watch -x -d 'variables that are shown where they change'
 complete -c sfcmon -n '__fish_seen_subcommand_from run' -l at-end -x -d 'NAME=VALUE, shown at a fault and at the end'
 complete -c sfcmon -n '__fish_seen_subcommand_from run' -l timing -d 'tells at the end how late scans were'
+complete -c sfcmon -n '__fish_seen_subcommand_from run' -l record -r -d 'write the accepted commands to a new file as they come'
+complete -c sfcmon -n '__fish_seen_subcommand_from run' -l record-size -x -d 'how many bytes the file has at most, 1024 or more'
 complete -c sfcmon -n '__fish_seen_subcommand_from run' -l forever -d 'goes on until a signal ends the process'
 complete -c sfcmon -n '__fish_seen_subcommand_from draw' -l program -x -d 'draw this program type alone'
 complete -c sfcmon -n '__fish_seen_subcommand_from draw' -l after -r -d 'draw the instances behind a script'

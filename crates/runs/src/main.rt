@@ -4,6 +4,7 @@
 
 use crate::sfc_debug::trace_mask::TraceMask;
 use sfc_run::picked::Picked;
+use sfc_run::recording::Recording;
 use sfc_run::run::run_chart;
 use sfc_run::sfc_control::sfc_debug;
 use sfc_run::streams::{Asked, Streams};
@@ -22,6 +23,9 @@ fn main(rt: HostRuntime) -> ExitCode {
         tells: rt.stderr(),
         shower: rt.stdout(),
         answers: rt.stdout(),
+        record: rt.stdout(),
+        notes: rt.stderr(),
+        recording: Recording::Off,
         picked: Picked {
             changes: false,
             watched: Vec::new(rt.alloc()),

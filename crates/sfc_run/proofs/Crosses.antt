@@ -16,6 +16,7 @@ use Rattle.sfc_control.proofs.of_sfc_debug.Crosses.{debugger_send}
 use Rattle.sfc_control.specs.contracts.tail.Tail as Tail
 use Rattle.sfc_run.specs.contracts.alarms.Alarms as Alarms
 use Rattle.sfc_run.specs.contracts.follower.Follower as Follower
+use Rattle.sfc_run.specs.contracts.points.Points as Points
 use Rattle.sfc_run.specs.contracts.screen.Screen as Screen
 use Rattle.sfc_run.specs.contracts.timing.Timing as Timing
 use Rattle.sfc_run.specs.contracts.watch.Watch as Watch
@@ -29,11 +30,14 @@ follower_send = search (sendable, debugger_send)
 screen_send : IsSend (Screen.the_field).row
 screen_send = search (sendable, crosses, debugger_send) depth 20
 
+points_send : IsSend (Points.the_field).row
+points_send = search (sendable, crosses, row.the_send) depth 20
+
 timing_send : IsSend (Timing.the_field).row
 timing_send = search (sendable, crosses) depth 20
 
 alarms_send : IsSend (Alarms.the_field).row
-alarms_send = search (sendable, crosses, follower_send, screen_send, timing_send) depth 20
+alarms_send = search (sendable, crosses, follower_send, screen_send, points_send, timing_send) depth 20
 
 pub watch_send : IsSend (Watch.the_field).row
 watch_send = search (sendable, crosses, alarms_send, tail_send) depth 20

@@ -4,6 +4,8 @@ pub mod Crosses
 pub mod Ends
 -- lines of rows
 pub mod RowLines
+-- what was recorded of rows
+pub mod Records
 -- what is shown of a row
 pub mod Showing
 -- one post more

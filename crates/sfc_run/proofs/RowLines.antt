@@ -1,5 +1,5 @@
 -- Rows that were taken one after the other, their lines, and what was told of them.
-use Rattle.std.proofs.Common.{◌≡◌, ℕ, ◌<◌, List, [], ◌∷◌, ◌++◌, Bool, true, false, Option, refl, sym, ap, subst, ◌∙◌, append_assoc, append-nil, length, arith}
+use Rattle.std.proofs.Common.{◌≡◌, ℕ, ◌<◌, List, [], ◌∷◌, ◌++◌, Bool, true, false, Option, Some, None, ◌||◌, is_some, refl, sym, ap, subst, ◌∙◌, append_assoc, append-nil, length, arith}
 use mathlib.Core.List.{IsPrefix}
 use Rattle.std.specs.Io.KnownBytes.{Appends}
 use Rattle.std.proofs.KnownBytes.{Appends-nil, Appends-trans}
@@ -13,51 +13,72 @@ use Rattle.sfc_control.specs.sfc_debug.Steered.{Steered}
 use Rattle.sfc_control.specs.sfc_debug.declared.trace_mask.TraceMask.{TraceMask}
 use Rattle.sfc_run.specs.Alarms.{AreTold, IsTold}
 use Rattle.sfc_run.specs.Following.{debugger_in}
-use Rattle.sfc_run.specs.Printing.{line_if, rows_text, Takes, Reaches, ReadsAlike, Passes, Puts, Tells, steered_of}
+use Rattle.sfc_run.specs.Printing.{line_if, rows_text, IsEndTold, Notes, Takes, Reaches, ReadsAlike, Passes, Puts, Tells, steered_of}
 use Rattle.sfc_run.specs.Printing as printing
+use Rattle.sfc_run.specs.Recording.{IsNote, end_note, told_note}
 use Rattle.sfc_run.specs.declared.alarms.Alarms.{Alarms}
 use Rattle.sfc_run.specs.declared.alarms.Told.{Told}
 use Rattle.sfc_run.specs.declared.printing.Printing.{Printing}
+use Rattle.sfc_run.specs.declared.recording.Recorder.{Recorder}
+use Rattle.sfc_run.specs.declared.recording.Recording.{Recording}
 use Rattle.sfc_run.specs.declared.watch.Texts.{Texts}
 use Rattle.sfc_run.specs.declared.watch.Watch.{Watch}
 
 -- ---- what is told of rows, and then of more
 
 -- the debugger that follows stands behind those commands then
-told_agrees : (old new : Alarms) (rows : List TraceRow) (h behind : CommandHistory) (text shown : List ℕ)
-    → AreTold old new rows h behind text shown → Agrees (debugger_in old.follower) h → Agrees (debugger_in new.follower) behind
-told_agrees old new [] h behind text shown (same, now, none, empty) agrees =
+told_agrees : (old new : Alarms) (rows : List TraceRow) (h behind : CommandHistory) (text shown recorded : List ℕ)
+    → AreTold old new rows h behind text shown recorded → Agrees (debugger_in old.follower) h → Agrees (debugger_in new.follower) behind
+told_agrees old new [] h behind text shown recorded (same, now, none, empty, nothing) agrees =
     subst (λ (a : Alarms). Agrees (debugger_in a.follower) behind) (sym same)
     (subst (λ (x : CommandHistory). Agrees (debugger_in old.follower) x) (sym now) agrees)
-told_agrees old new (row ∷ rows) h behind text shown (mid, between, some, rest, seen, others, same, also, one, more) agrees =
-    told_agrees mid new rows between behind rest others more one.alarmed.follows.agrees
+told_agrees old new (row ∷ rows) h behind text shown recorded (mid, between, some, rest, seen, others, put, puts, same, also, too, one, more) agrees =
+    told_agrees mid new rows between behind rest others puts more one.alarmed.follows.agrees
 
-told_then : (old mid new : Alarms) (a b : List TraceRow) (h between behind : CommandHistory) (some rest seen others : List ℕ)
-    → AreTold old mid a h between some seen → AreTold mid new b between behind rest others
-    → AreTold old new (a ++ b) h behind (some ++ rest) (seen ++ others)
-told_then old mid new [] b h between behind some rest seen others (same, now, none, empty) more =
-    subst (λ (t : List ℕ). AreTold old new b h behind (t ++ rest) (seen ++ others)) (sym none)
-    (subst (λ (t : List ℕ). AreTold old new b h behind rest (t ++ others)) (sym empty)
-    (subst (λ (x : CommandHistory). AreTold old new b x behind rest others) now
-    (subst (λ (m : Alarms). AreTold m new b between behind rest others) same more)))
-told_then old mid new (row ∷ a) b h between behind some rest seen others (first, after, one, more, look, looks, same, also, is_told, told) then = (
-  first,
-  after,
-  one,
-  more ++ rest,
-  look,
-  looks ++ others,
-  ap (λ (t : List ℕ). t ++ rest) same ∙ append_assoc one more rest,
-  ap (λ (t : List ℕ). t ++ others) also ∙ append_assoc look looks others,
-  is_told,
-  told_then first mid new a b after between behind more rest looks others told then,
-)
+told_then : (old mid new : Alarms) (a b : List TraceRow) (h between behind : CommandHistory) (some rest seen others put puts : List ℕ)
+    → AreTold old mid a h between some seen put → AreTold mid new b between behind rest others puts
+    → AreTold old new (a ++ b) h behind (some ++ rest) (seen ++ others) (put ++ puts)
+told_then old mid new [] b h between behind some rest seen others put puts (same, now, none, empty, nothing) more =
+    subst (λ (t : List ℕ). AreTold old new b h behind (t ++ rest) (seen ++ others) (put ++ puts)) (sym none)
+    (subst (λ (t : List ℕ). AreTold old new b h behind rest (t ++ others) (put ++ puts)) (sym empty)
+    (subst (λ (t : List ℕ). AreTold old new b h behind rest others (t ++ puts)) (sym nothing)
+    (subst (λ (x : CommandHistory). AreTold old new b x behind rest others puts) now
+    (subst (λ (m : Alarms). AreTold m new b between behind rest others puts) same more))))
+told_then old mid new (row ∷ a) b h between behind some rest seen others put puts
+    (first, after, one, more, look, looks, line, lines, same, also, too, is_told, told) then = (
+      first,
+      after,
+      one,
+      more ++ rest,
+      look,
+      looks ++ others,
+      line,
+      lines ++ puts,
+      ap (λ (t : List ℕ). t ++ rest) same ∙ append_assoc one more rest,
+      ap (λ (t : List ℕ). t ++ others) also ∙ append_assoc look looks others,
+      ap (λ (t : List ℕ). t ++ puts) too ∙ append_assoc line lines puts,
+      is_told,
+      told_then first mid new a b after between behind more rest looks others lines puts told then,
+    )
 
 -- a row by itself
-told_one : (old new : Alarms) (row : TraceRow) (h behind : CommandHistory) (text shown : List ℕ)
-    → IsTold old new row h behind text shown → AreTold old new (row ∷ []) h behind text shown
-told_one old new row h behind text shown told =
-    (new, behind, text, [], shown, [], sym (append-nil text), sym (append-nil shown), told, (refl, refl, refl, refl))
+told_one : (old new : Alarms) (row : TraceRow) (h behind : CommandHistory) (text shown recorded : List ℕ)
+    → IsTold old new row h behind text shown recorded → AreTold old new (row ∷ []) h behind text shown recorded
+told_one old new row h behind text shown recorded told = (
+  new,
+  behind,
+  text,
+  [],
+  shown,
+  [],
+  recorded,
+  [],
+  sym (append-nil text),
+  sym (append-nil shown),
+  sym (append-nil recorded),
+  told,
+  (refl, refl, refl, refl, refl),
+)
 
 -- ---- rows and their lines
 
@@ -87,13 +108,15 @@ alarms_then : (old mid new : Watch) (a b : List TraceRow) (before text after : T
     → printing.Alarms old mid a before text → printing.Alarms mid new b text after → printing.Alarms old new (a ++ b) before after
 alarms_then old mid new a b before text after one two h agrees =
     let first = one h agrees in
-    let then = two first.0 (told_agrees old.alarms mid.alarms a h first.0 first.1 first.2 first.5 agrees) in (
+    let then = two first.0 (told_agrees old.alarms mid.alarms a h first.0 first.1 first.2 first.3 first.7 agrees) in (
       then.0,
       first.1 ++ then.1,
       first.2 ++ then.2,
-      then.3 ∙ ap (λ (t : List ℕ). t ++ then.1) first.3 ∙ append_assoc before.alarms.items first.1 then.1,
-      then.4 ∙ ap (λ (t : List ℕ). t ++ then.2) first.4 ∙ append_assoc before.changes.items first.2 then.2,
-      told_then old.alarms mid.alarms new.alarms a b h first.0 then.0 first.1 then.1 first.2 then.2 first.5 then.5,
+      first.3 ++ then.3,
+      then.4 ∙ ap (λ (t : List ℕ). t ++ then.1) first.4 ∙ append_assoc before.alarms.items first.1 then.1,
+      then.5 ∙ ap (λ (t : List ℕ). t ++ then.2) first.5 ∙ append_assoc before.changes.items first.2 then.2,
+      then.6 ∙ ap (λ (t : List ℕ). t ++ then.3) first.6 ∙ append_assoc before.record.items first.3 then.3,
+      told_then old.alarms mid.alarms new.alarms a b h first.0 then.0 first.1 then.1 first.2 then.2 first.3 then.3 first.7 then.7,
     )
 
 pub puts_then : (old mid new : Watch) (a b : List TraceRow) (before text after : Texts)
@@ -117,7 +140,16 @@ none_yet watch texts = (
   record {
     alike = (refl, refl);
     lines = sym (append-nil texts.lines.items);
-    alarms = λ h agrees. (h, [], [], sym (append-nil texts.told.alarms.items), sym (append-nil texts.told.changes.items), (refl, refl, refl, refl));
+    alarms = λ h agrees. (
+      h,
+      [],
+      [],
+      [],
+      sym (append-nil texts.told.alarms.items),
+      sym (append-nil texts.told.changes.items),
+      sym (append-nil texts.told.record.items),
+      (refl, refl, refl, refl, refl),
+    );
   },
 )
 
@@ -125,9 +157,10 @@ none_yet watch texts = (
 pub one_more : (old mid new : Watch) (before text after : Texts) (row : TraceRow) → Along old mid before text
     → Takes mid.tail new.tail (row ∷ []) → ReadsAlike mid new
     → after.lines.items ≡ text.lines.items ++ line_if mid.wanted (steered_of mid) row
-    → ((h : CommandHistory) → Agrees (debugger_in mid.alarms.follower) h → (behind : CommandHistory) × (some : List ℕ) × (seen : List ℕ)
+    → ((h : CommandHistory) → Agrees (debugger_in mid.alarms.follower) h
+    → (behind : CommandHistory) × (some : List ℕ) × (seen : List ℕ) × (put : List ℕ)
     × (after.told.alarms.items ≡ text.told.alarms.items ++ some) × (after.told.changes.items ≡ text.told.changes.items ++ seen)
-    × IsTold mid.alarms new.alarms row h behind some seen)
+    × (after.told.record.items ≡ text.told.record.items ++ put) × IsTold mid.alarms new.alarms row h behind some seen put)
     → Along old new before after
 one_more old mid new before text after row was takes alike line told = (
   was.0 ++ row ∷ [],
@@ -137,7 +170,7 @@ one_more old mid new before text after row was takes alike line told = (
     lines = line ∙ ap (λ (t : List ℕ). text.lines.items ++ t) (sym (append-nil (line_if mid.wanted (steered_of mid) row)));
     alarms = λ h agrees.
         let t = told h agrees in
-        (t.0, t.1, t.2, t.3, t.4, told_one mid.alarms new.alarms row h t.0 t.1 t.2 t.5);
+        (t.0, t.1, t.2, t.3, t.4, t.5, t.6, told_one mid.alarms new.alarms row h t.0 t.1 t.2 t.3 t.7);
   }),
 )
 
@@ -166,29 +199,55 @@ nothing_passed : (had : Bool) (written : Option (List ℕ)) → Passes had had w
 nothing_passed false written = (refl, Appends-nil written)
 nothing_passed true written = Appends-nil written
 
-module _ {W T : Type 0} (wc : W → Option (List ℕ)) (tc : T → Option (List ℕ)) where
-  tells_then : (old mid new : Printing W T) (a b : List TraceRow) → Tells wc tc old mid a → Tells wc tc mid new b → Tells wc tc old new (a ++ b)
+-- a note, and then another one: no other, where there was one
+note_then : (was mid is : Bool) (some rest : List ℕ) → IsNote was mid some → IsNote mid is rest → IsNote was is (some ++ rest)
+note_then false false is some rest one two = subst (λ (t : List ℕ). IsNote false is (t ++ rest)) (sym one) two
+note_then false true true some rest one two =
+    (one.0, one.1, one.2 ∙ ap (λ (t : List ℕ). Some t) (sym (ap (λ (t : List ℕ). some ++ t) two ∙ append-nil some)))
+note_then false true false some rest one two = absurd two
+note_then true false is some rest one two = absurd one
+note_then true true is some rest one two = subst (λ (t : List ℕ). IsNote true is (t ++ rest)) (sym one) two
+
+no_note : (was : Bool) → IsNote was was []
+no_note false = refl
+no_note true = refl
+
+module _ {W T F : Type 0} (wc : W → Option (List ℕ)) (tc : T → Option (List ℕ)) (fc : F → Option (List ℕ)) where
+  tells_then : (old mid new : Printing W T F) (a b : List TraceRow)
+      → Tells wc tc fc old mid a → Tells wc tc fc mid new b → Tells wc tc fc old new (a ++ b)
   tells_then old mid new a b one two h agrees =
       let first = one h agrees in
-      let then = two first.0 (told_agrees old.watch.alarms mid.watch.alarms a h first.0 first.1 first.2 first.3 agrees) in (
+      let then = two first.0 (told_agrees old.watch.alarms mid.watch.alarms a h first.0 first.1 first.2 first.3 first.4 agrees) in (
         then.0,
         first.1 ++ then.1,
         first.2 ++ then.2,
-        told_then old.watch.alarms mid.watch.alarms new.watch.alarms a b h first.0 then.0 first.1 then.1 first.2 then.2 first.3 then.3,
+        first.3 ++ then.3,
+        told_then old.watch.alarms mid.watch.alarms new.watch.alarms a b h first.0 then.0 first.1 then.1 first.2 then.2 first.3 then.3 first.4 then.4,
         passes_then old.teller.has_failed mid.teller.has_failed new.teller.has_failed (tc old.teller.w) (tc mid.teller.w) (tc new.teller.w)
-            first.1 then.1 first.4 then.4,
+            first.1 then.1 first.5 then.5,
         passes_then old.shower.has_failed mid.shower.has_failed new.shower.has_failed (wc old.shower.w) (wc mid.shower.w) (wc new.shower.w)
-            first.2 then.2 first.5 then.5,
+            first.2 then.2 first.6 then.6,
+        passes_then old.recorder.file.has_failed mid.recorder.file.has_failed new.recorder.file.has_failed
+            (fc old.recorder.file.w) (fc mid.recorder.file.w) (fc new.recorder.file.w) first.3 then.3 first.7 then.7,
       )
 
-  -- some rows were taken, their lines written, and their alarms told
-  abbrev pub HasTold : Printing W T → Printing W T → Type 0
+  notes_then : (old mid new : Printing W T F) → Notes wc tc fc old mid → Notes wc tc fc mid new → Notes wc tc fc old new
+  notes_then old mid new one two = (
+    one.0 ++ two.0,
+    note_then old.recorder.is_told mid.recorder.is_told new.recorder.is_told one.0 two.0 one.1 two.1,
+    passes_then old.recorder.notes.has_failed mid.recorder.notes.has_failed new.recorder.notes.has_failed
+        (tc old.recorder.notes.w) (tc mid.recorder.notes.w) (tc new.recorder.notes.w) one.0 two.0 one.2 two.2,
+    λ was. two.3 (one.3 was),
+  )
+
+  -- some rows were taken, their lines written, their alarms told, and they were recorded
+  abbrev pub HasTold : Printing W T F → Printing W T F → Type 0
   HasTold old new =
       (rows : List TraceRow) × Takes old.watch.tail new.watch.tail rows
       × Appends (wc old.w) (wc new.w) (rows_text old.watch.wanted (steered_of old.watch) rows)
-      × (ReadsAlike old.watch new.watch × Tells wc tc old new rows)
+      × (ReadsAlike old.watch new.watch × Tells wc tc fc old new rows × Notes wc tc fc old new)
 
-  pub told_none : (printing : Printing W T) → HasTold printing printing
+  pub told_none : (printing : Printing W T F) → HasTold printing printing
   told_none printing = (
     [],
     sym (append-nil (taken printing.watch.tail)),
@@ -199,25 +258,37 @@ module _ {W T : Type 0} (wc : W → Option (List ℕ)) (tc : T → Option (List 
         h,
         [],
         [],
-        (refl, refl, refl, refl),
+        [],
+        (refl, refl, refl, refl, refl),
         nothing_passed printing.teller.has_failed (tc printing.teller.w),
         nothing_passed printing.shower.has_failed (wc printing.shower.w),
+        nothing_passed printing.recorder.file.has_failed (fc printing.recorder.file.w),
+      ),
+      (
+        [],
+        no_note printing.recorder.is_told,
+        nothing_passed printing.recorder.notes.has_failed (tc printing.recorder.notes.w),
+        λ was. was,
       ),
     ),
   )
 
-  pub told_more : (old mid new : Printing W T) → HasTold old mid → HasTold mid new → HasTold old new
+  pub told_more : (old mid new : Printing W T F) → HasTold old mid → HasTold mid new → HasTold old new
   told_more old mid new was more = (
     was.0 ++ more.0,
     takes_more old.watch.tail mid.watch.tail new.watch.tail was.0 more.0 was.1 more.1,
     subst (λ (t : List ℕ). Appends (wc old.w) (wc new.w) t) (rows_then old.watch mid.watch was.0 more.0 was.3.0)
         (Appends-trans (wc old.w) (wc mid.w) (wc new.w) (rows_text old.watch.wanted (steered_of old.watch) was.0)
         (rows_text mid.watch.wanted (steered_of mid.watch) more.0) was.2 more.2),
-    (alike_then old.watch mid.watch new.watch was.3.0 more.3.0, tells_then old mid new was.0 more.0 was.3.1 more.3.1),
+    (
+      alike_then old.watch mid.watch new.watch was.3.0 more.3.0,
+      tells_then old mid new was.0 more.0 was.3.1 more.3.1,
+      notes_then old mid new was.3.2 more.3.2,
+    ),
   )
 
   -- behind lines that were written, a front of others before a fault
-  pub told_front : (old mid new : Printing W T) → HasTold old mid → (rows : List TraceRow) → Takes mid.watch.tail new.watch.tail rows
+  pub told_front : (old mid new : Printing W T F) → HasTold old mid → (rows : List TraceRow) → Takes mid.watch.tail new.watch.tail rows
       → AppendsFront (wc mid.w) (wc new.w) (rows_text mid.watch.wanted (steered_of mid.watch) rows)
       → (all : List TraceRow) × Takes old.watch.tail new.watch.tail all
       × AppendsFront (wc old.w) (wc new.w) (rows_text old.watch.wanted (steered_of old.watch) all)
@@ -262,3 +333,25 @@ reaches_end old new none same rest =
 -- and then all that was known has been taken
 pub reached : (old new : Tail) → Reaches old new → coming new ≡ [] → IsPrefix (taken old ++ coming old) (taken new)
 reached old new all rest = (all.0, all.1 ∙ ap (λ t. taken new ++ t) rest ∙ append-nil (taken new))
+
+-- ---- the end of a record
+
+noted_by : (was is : Bool) (note : Option (List ℕ)) → is ≡ (was || is_some note)
+    → ((text : List ℕ) → note ≡ Some text → (failed : Bool) × (recording : Recording) × (end_note failed recording ≡ Some text))
+    → IsNote was is (told_note was note)
+noted_by true is _ e by = subst (λ (b : Bool). IsNote true b []) (sym e) refl
+noted_by false is None e by = subst (λ (b : Bool). IsNote false b []) (sym e) refl
+noted_by false is (Some text) e by = subst (λ (b : Bool). IsNote false b text) (sym e) (by text refl)
+
+-- it is told once
+pub noted : (was is failed : Bool) (recording : Recording) → is ≡ (was || is_some (end_note failed recording))
+    → IsNote was is (told_note was (end_note failed recording))
+noted was is failed recording e = noted_by was is (end_note failed recording) e (λ text same. (failed, recording, same))
+
+either_true : (was more : Bool) → more ≡ true → (was || more) ≡ true
+either_true false more e = e
+either_true true more e = refl
+
+pub end_told : {F T : Type 0} (was : Bool) (recorder : Recorder F T) (recording : Recording)
+    → recorder.is_told ≡ (was || is_some (end_note recorder.file.has_failed recording)) → IsEndTold recorder recording
+end_told was recorder recording e is = e ∙ either_true was (is_some (end_note recorder.file.has_failed recording)) is

@@ -18,6 +18,7 @@ use Rattle.sfc_run.specs.declared.follower.Follower.{Follower}
 use Rattle.sfc_run.specs.Following.{Follows, is_level, newest_in, steered_in}
 use Rattle.sfc_run.specs.Losses.{losses_after, told_with}
 use Rattle.sfc_run.specs.Overruns.{is_due, told_after, told_in}
+use Rattle.sfc_run.specs.Recording.{IsRecorded}
 use Rattle.sfc_run.specs.Screens.{Mirrors, is_end, shown_text}
 
 -- a program's scan ended with a fault, or a breakpoint was hit
@@ -84,17 +85,19 @@ pub record IsAlarmed (old new : Alarms) (row : TraceRow) (h behind : CommandHist
   pub told : text ≡ alarm_text (told_with old.losses (lost_before old.follower row) row.t (is_urgent row)) (is_level new.follower)
       (is_due (told_in old.overruns) row) (steered_in new.follower) ((output.debugger_of (steered_in new.follower)).state behind) row
 
--- and that was shown of it
-pub record IsTold (old new : Alarms) (row : TraceRow) (h behind : CommandHistory) (text shown : List ℕ) : Type 0 where
+-- and that was shown and recorded of it
+pub record IsTold (old new : Alarms) (row : TraceRow) (h behind : CommandHistory) (text shown recorded : List ℕ) : Type 0 where
   pub alarmed : IsAlarmed old new row h behind text
   pub shows : new.screen.shows ≡ old.screen.shows
   pub changes : Mirrors old.screen old.follower h →
       (shown ≡ shown_text old.screen.shows (is_level new.follower) (steered_in new.follower) h behind row) × Mirrors new.screen new.follower behind
+  pub records : IsRecorded old.recording new.recording new.follower row recorded
 
--- Rows were taken one after the other; this was told of them, and that was shown.
-abbrev pub AreTold : Alarms → Alarms → List TraceRow → CommandHistory → CommandHistory → List ℕ → List ℕ → Type 0
-AreTold old new [] h behind text shown = (new ≡ old) × (behind ≡ h) × (text ≡ []) × (shown ≡ [])
-AreTold old new (row ∷ rows) h behind text shown =
+-- Rows were taken one after the other; this was told of them, and that was shown and recorded.
+abbrev pub AreTold : Alarms → Alarms → List TraceRow → CommandHistory → CommandHistory → List ℕ → List ℕ → List ℕ → Type 0
+AreTold old new [] h behind text shown recorded = (new ≡ old) × (behind ≡ h) × (text ≡ []) × (shown ≡ []) × (recorded ≡ [])
+AreTold old new (row ∷ rows) h behind text shown recorded =
     (mid : Alarms) × (between : CommandHistory) × (some : List ℕ) × (rest : List ℕ) × (seen : List ℕ) × (others : List ℕ)
-    × (text ≡ some ++ rest) × (shown ≡ seen ++ others)
-    × IsTold old mid row h between some seen × AreTold mid new rows between behind rest others
+    × (put : List ℕ) × (more : List ℕ)
+    × (text ≡ some ++ rest) × (shown ≡ seen ++ others) × (recorded ≡ put ++ more)
+    × IsTold old mid row h between some seen put × AreTold mid new rows between behind rest others more

@@ -10,8 +10,8 @@ use Rattle.sfc_replay.specs.sfc_script.declared.session_line.SessionLine.TheVari
 -- in any case of its letters
 abbrev pub is_question : List ℕ → Bool
 is_question word =
-    same_word word (codes "SHOW") || same_word word (codes "IMAGE") || same_word word (codes "WHY") || same_word word (codes "TRACE")
-    || same_word word (codes "LIST") || same_word word (codes "EXPLAIN") || same_word word (codes "HELP")
+    same_word word (codes "SHOW") || same_word word (codes "IMAGE") || same_word word (codes "WHY") || same_word word (codes "POINTS")
+    || same_word word (codes "TRACE") || same_word word (codes "LIST") || same_word word (codes "EXPLAIN") || same_word word (codes "HELP")
 
 abbrev pub asks_by : Option (List ℕ × List ℕ) → Bool
 asks_by None = false

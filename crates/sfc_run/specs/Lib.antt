@@ -26,8 +26,12 @@ pub mod Losses
 pub mod Screens
 -- what that is, by names
 pub mod Picking
+-- the record of a run
+pub mod Recording
 -- what is told beside the lines
 pub mod Alarms
+-- what a replay of the record writes
+pub mod Records
 -- what a look into the feed finds
 pub mod Draining
 -- what is printed of the feed

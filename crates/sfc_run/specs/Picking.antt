@@ -1,5 +1,5 @@
 -- What of a run is shown, by names (our choice).
-use Rattle.std.specs.Prelude.{ℕ, ◌≡◌, Bool, not, ◌||◌, List, ◌++◌, length, map, Some, codes, nat_eq}
+use Rattle.std.specs.Prelude.{ℕ, ◌≡◌, not, ◌||◌, List, ◌++◌, length, map, Some, codes, nat_eq}
 use Rattle.sfc_base.specs.declared.ids.VarId.{VarId}
 use Rattle.sfc_base.specs.declared.value.Value.{Value}
 use Rattle.sfc_base.specs.Values as base

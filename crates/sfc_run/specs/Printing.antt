@@ -1,5 +1,5 @@
 -- What is printed of the feed, and what is told beside it.
-use Rattle.std.specs.Prelude.{ℕ, ◌≡◌, Bool, true, false, List, [], ◌∷◌, ◌++◌, Option, Result, Ok, Err, OnOk, if◌then◌else◌}
+use Rattle.std.specs.Prelude.{ℕ, ◌≡◌, Bool, true, false, List, [], ◌∷◌, ◌++◌, Option, Result, OnOk, if◌then◌else◌, is_some}
 use mathlib.Core.List.{IsPrefix}
 use Rattle.std.specs.Io.KnownBytes.{Appends}
 use Rattle.sfc_base.specs.Writing.{AppendsFront, Writes}
@@ -15,7 +15,10 @@ use Rattle.sfc_replay.specs.sfc_output.Commands.{row_line}
 use Rattle.sfc_run.specs.Alarms.{AreTold}
 use Rattle.sfc_run.specs.Following.{debugger_in, steered_in}
 use Rattle.sfc_run.specs.declared.alarms.Told.{Told}
+use Rattle.sfc_run.specs.Recording.{IsNote, end_note}
 use Rattle.sfc_run.specs.declared.printing.Printing.{Printing}
+use Rattle.sfc_run.specs.declared.recording.Recorder.{Recorder}
+use Rattle.sfc_run.specs.declared.recording.Recording.{Recording}
 use Rattle.sfc_run.specs.declared.watch.Texts.{Texts}
 use Rattle.sfc_run.specs.declared.watch.Watch.{Watch}
 
@@ -44,12 +47,14 @@ steered_of watch = steered_in watch.alarms.follower
 abbrev pub ReadsAlike : Watch → Watch → Type 0
 ReadsAlike old new = (new.wanted ≡ old.wanted) × (steered_of new ≡ steered_of old)
 
--- What is told of rows, and what is shown, stand behind the two texts.
+-- What is told of rows, what is shown, and what is recorded stand behind the three texts.
 abbrev pub Alarms : Watch → Watch → List TraceRow → Told → Told → Type 0
 Alarms old new rows before after =
-    (h : CommandHistory) → Agrees (debugger_in old.alarms.follower) h → (behind : CommandHistory) × (text : List ℕ) × (shown : List ℕ)
+    (h : CommandHistory) → Agrees (debugger_in old.alarms.follower) h
+    → (behind : CommandHistory) × (text : List ℕ) × (shown : List ℕ) × (recorded : List ℕ)
     × (after.alarms.items ≡ before.alarms.items ++ text) × (after.changes.items ≡ before.changes.items ++ shown)
-    × AreTold old.alarms new.alarms rows h behind text shown
+    × (after.record.items ≡ before.record.items ++ recorded)
+    × AreTold old.alarms new.alarms rows h behind text shown recorded
 
 -- The lines of rows, their alarms and what is shown of them stand behind the texts.
 pub record Puts (old new : Watch) (rows : List TraceRow) (before after : Texts) : Type 0 where
@@ -70,18 +75,35 @@ Passes false had before after text = (had ≡ false) × Appends before after tex
 Passes true false before after text = AppendsFront before after text
 Passes true true before after text = Appends before after []
 
-module _ {W T : Type 0} (contents_of_lines : W → Option (List ℕ)) (contents_of_alarms : T → Option (List ℕ)) where
-  -- the alarms of rows and what is shown of them were passed on, as far as they could be
-  abbrev pub Tells : Printing W T → Printing W T → List TraceRow → Type 0
+-- it was told that nothing more is recorded, where that is so
+abbrev pub IsEndTold : {F T : Type 0} → Recorder F T → Recording → Type 0
+IsEndTold recorder recording = is_some (end_note recorder.file.has_failed recording) ≡ true → recorder.is_told ≡ true
+
+module _ {W T F : Type 0} (contents_of_lines : W → Option (List ℕ)) (contents_of_alarms : T → Option (List ℕ))
+    (contents_of_record : F → Option (List ℕ)) where
+  -- the alarms of rows, what is shown of them and what is recorded were passed on, as far as they could be
+  abbrev pub Tells : Printing W T F → Printing W T F → List TraceRow → Type 0
   Tells old new rows =
-      (h : CommandHistory) → Agrees (debugger_in old.watch.alarms.follower) h → (behind : CommandHistory) × (text : List ℕ) × (shown : List ℕ)
-      × AreTold old.watch.alarms new.watch.alarms rows h behind text shown
+      (h : CommandHistory) → Agrees (debugger_in old.watch.alarms.follower) h
+      → (behind : CommandHistory) × (text : List ℕ) × (shown : List ℕ) × (recorded : List ℕ)
+      × AreTold old.watch.alarms new.watch.alarms rows h behind text shown recorded
       × Passes new.teller.has_failed old.teller.has_failed (contents_of_alarms old.teller.w) (contents_of_alarms new.teller.w) text
       × Passes new.shower.has_failed old.shower.has_failed (contents_of_lines old.shower.w) (contents_of_lines new.shower.w) shown
+      × Passes new.recorder.file.has_failed old.recorder.file.has_failed
+      (contents_of_record old.recorder.file.w) (contents_of_record new.recorder.file.w) recorded
 
-  -- Some rows were taken and their lines written: all, or a front of them before a fault. Where there was none, their alarms were told.
-  abbrev pub Prints : Printing W T → Printing W T → {X E : Type 0} → Result X E → Type 0
+  -- It was told, once, that nothing more is recorded, where that is so.
+  abbrev pub Notes : Printing W T F → Printing W T F → Type 0
+  Notes old new =
+      (text : List ℕ) × IsNote old.recorder.is_told new.recorder.is_told text
+      × Passes new.recorder.notes.has_failed old.recorder.notes.has_failed
+      (contents_of_alarms old.recorder.notes.w) (contents_of_alarms new.recorder.notes.w) text
+      × (IsEndTold old.recorder old.watch.alarms.recording → IsEndTold new.recorder new.watch.alarms.recording)
+
+  -- Some rows were taken and their lines written: all, or a front of them before a fault. Where there was none, their alarms were told, and
+  -- they were recorded.
+  abbrev pub Prints : Printing W T F → Printing W T F → {X E : Type 0} → Result X E → Type 0
   Prints old new result =
       (rows : List TraceRow) × Takes old.watch.tail new.watch.tail rows
       × Writes (contents_of_lines old.w) (contents_of_lines new.w) result (rows_text old.watch.wanted (steered_of old.watch) rows)
-      × OnOk result (ReadsAlike old.watch new.watch × Tells old new rows)
+      × OnOk result (ReadsAlike old.watch new.watch × Tells old new rows × Notes old new)

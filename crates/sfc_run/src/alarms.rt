@@ -1,5 +1,5 @@
-//! What a run tells beside its lines: scans that a fault ended, breakpoints that were hit, overruns, rows of the feed that were lost; and
-//! what it shows where it changes.
+//! What a run tells beside its lines: scans that a fault ended, breakpoints that were hit, overruns, rows of the feed that were lost; what
+//! it shows where it changes; and what it records.
 
 ghost use Rattle.std.specs.Prelude.{◌≡◌, ◌<◌, ◌++◌, List, ℕ, OnOk, length};
 ghost use Rattle.sfc_events.specs.InstanceSets.{has};
@@ -15,6 +15,8 @@ ghost use Rattle.sfc_run.specs.Losses.{losses_after, told_with};
 use crate::follower::Follower;
 use crate::losses::Losses;
 use crate::overruns::OverrunsTold;
+use crate::points::Points;
+use crate::recording::Recording;
 use crate::screen::{Screen, is_end};
 use crate::sfc_debug::debugger::Debugger;
 use crate::sfc_output::answer::append_answer;
@@ -27,7 +29,7 @@ use sfc_page::append::{append, append_number};
 use sfc_plant::plant::Plant;
 use std::alloc::{AllocError, Global};
 
-/// What stands behind the alarms of a run: a debugger that follows it, what was told of overruns, and what is shown.
+/// What stands behind the alarms of a run: a debugger that follows it, what was told of overruns, what is shown, and what is recorded.
 #[derive(Drop)]
 pub struct Alarms {
     /// The debugger that follows.
@@ -38,6 +40,10 @@ pub struct Alarms {
     pub losses: Losses,
     /// What is shown where it changes.
     pub screen: Screen,
+    /// Whether commands are recorded.
+    pub recording: Recording,
+    /// The commands that set and took breakpoints.
+    pub points: Points,
     /// How late scans were, where that is measured.
     pub timing: Timing,
 }
@@ -49,6 +55,8 @@ pub struct Told {
     pub alarms: Vec<u8>,
     /// What is shown of them.
     pub changes: Vec<u8>,
+    /// What is recorded of them.
+    pub record: Vec<u8>,
 }
 
 // Whether a program's scan ended with a fault, or a breakpoint was hit.
@@ -211,6 +219,7 @@ impl Alarms {
     ) -> Result<(), AllocError>
         ensures steered { steered_in self.new.follower ≡ steered_in self.old.follower }
         ensures screen { self.new.screen ≡ self.old.screen }
+        ensures recording { self.new.recording ≡ self.old.recording }
         ensures told { (h : CommandHistory) → Agrees (debugger_in self.old.follower) h →
             OnOk result ((behind : CommandHistory) × (text : List ℕ) × (out.new.items ≡ out.old.items ++ text)
             × IsAlarmed self.old self.new row h behind text) }
@@ -218,6 +227,7 @@ impl Alarms {
         let lost = self.follower.follow(row);
         let is_due = self.overruns.is_due(row);
         self.timing.note(row);
+        self.points.note(row)?;
         append_losses(out, &mut self.losses, lost, row)?;
         append_alarm(alloc, out, &self.follower, row, is_due)
     }
@@ -228,18 +238,20 @@ impl Alarms {
     /// were lost, if some were, at most once a second but for such a scan and END; from then on, how programs stand isn't known, and the
     /// line of the scan is told, with the names of the programs that ended with a fault.
     ///
-    /// Beside it stands at the end what is shown of the row: what `Screen::show` says.
+    /// Beside it stands at the end what is shown of the row: what `Screen::show` says; and what is recorded of it: what `Recording::take` says.
     ///
     /// The one error is that memory was refused.
     pub fn take(&mut self, alloc: Global, told: &mut Told, row: TraceRow) -> Result<(), AllocError>
         ensures steered { steered_in self.new.follower ≡ steered_in self.old.follower }
         ensures told { (h : CommandHistory) → Agrees (debugger_in self.old.follower) h →
-            OnOk result ((behind : CommandHistory) × (text : List ℕ) × (shown : List ℕ)
+            OnOk result ((behind : CommandHistory) × (text : List ℕ) × (shown : List ℕ) × (recorded : List ℕ)
             × (told.new.alarms.items ≡ told.old.alarms.items ++ text) × (told.new.changes.items ≡ told.old.changes.items ++ shown)
-            × IsTold self.old self.new row h behind text shown) }
+            × (told.new.record.items ≡ told.old.record.items ++ recorded) × IsTold self.old self.new row h behind text shown recorded) }
     {
         self.take_alarm(alloc, &mut told.alarms, row)?;
         self.screen
-            .show(alloc, &mut told.changes, &self.follower, row)
+            .show(alloc, &mut told.changes, &self.follower, row)?;
+        self.recording
+            .take(alloc, &mut told.record, &self.follower, row)
     }
 }

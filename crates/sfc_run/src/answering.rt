@@ -1,7 +1,7 @@
 //! What lines that ask how all stands are answered, by the debugger that follows a run.
 
+use crate::alarms::Alarms;
 use crate::asks::Asks;
-use crate::follower::Follower;
 use crate::sfc_debug::debugger::Debugger;
 use crate::sfc_script::number::magnitude;
 use crate::sfc_script::split::{first_word, without_cr};
@@ -9,6 +9,7 @@ use sfc_asking::explaining::append_explanation;
 use sfc_asking::image::append_image;
 use sfc_asking::listing::append_listing;
 use sfc_asking::note::append_note;
+use sfc_asking::points::append_points;
 use sfc_asking::show::append_show;
 use sfc_asking::trace::append_trace;
 use sfc_asking::why::append_why;
@@ -33,6 +34,7 @@ Beside commands a session may ask, and nothing changes by it:
 SHOW                            the instants, the mode, and how each program stands
 IMAGE [VARIABLE]                what a variable reads, or each
 WHY [PROGRAM [TRANSITION]]      why transitions aren't cleared
+POINTS                          the breakpoints that are set
 TRACE [N]                       the newest accepted commands
 LIST [NAME]                     the chart, or a part of it
 EXPLAIN NUMBER                  what a refusal or a fault means
@@ -102,10 +104,11 @@ fn explain(out: &mut Vec<u8>, text: &[u8]) -> Result<(), AllocError> {
 fn append_answer(
     alloc: Global,
     out: &mut Vec<u8>,
-    debugger: &Debugger,
+    alarms: &Alarms,
     word: &[u8],
     text: &[u8],
 ) -> Result<(), AllocError> {
+    let debugger = alarms.follower.debugger();
     let resource = debugger.resource();
     let (first, rest) = parted(text);
     if is_same_word(word, b"SHOW") {
@@ -116,6 +119,9 @@ fn append_answer(
     }
     if is_same_word(word, b"WHY") {
         return append_why(alloc, out, resource, first, parted(rest).0);
+    }
+    if is_same_word(word, b"POINTS") {
+        return append_points(alloc, out, debugger, alarms.points.rows());
     }
     if is_same_word(word, b"TRACE") {
         return trace(alloc, out, debugger, text);
@@ -133,17 +139,17 @@ fn append_answer(
 fn append_line(
     alloc: Global,
     out: &mut Vec<u8>,
-    follower: &Follower,
+    alarms: &Alarms,
     line: &[u8],
 ) -> Result<(), AllocError> {
-    if !follower.is_level() {
+    if !alarms.follower.is_level() {
         return append_note(
             out,
             b"lines of the feed were lost, so it isn't known how all stands",
         );
     }
     let (word, text) = parted(without_cr(line));
-    append_answer(alloc, out, follower.debugger(), word, text)
+    append_answer(alloc, out, alarms, word, text)
 }
 
 // The answers to lines that wait, 64 at most. The error is that memory was refused.
@@ -151,22 +157,22 @@ fn append_answers<R: Wait>(
     rt: &R,
     alloc: Global,
     out: &mut Vec<u8>,
-    follower: &Follower,
+    alarms: &Alarms,
     asks: &Asks,
 ) -> Result<(), AllocError> {
     'lines: for _ in 0..ROUND {
         let Some(line) = asks.take(rt) else {
             break;
         };
-        append_line(alloc, out, follower, &line)?;
+        append_line(alloc, out, alarms, &line)?;
     }
     Ok(())
 }
 
 /// The answers to lines that wait, 64 at most. Where rows of the feed were lost, that is answered; where memory is refused, what comes
 /// before.
-pub fn answers_to<R: Wait>(rt: &R, alloc: Global, follower: &Follower, asks: &Asks) -> Vec<u8> {
+pub fn answers_to<R: Wait>(rt: &R, alloc: Global, alarms: &Alarms, asks: &Asks) -> Vec<u8> {
     let mut out = Vec::new(alloc);
-    let _ = append_answers(rt, alloc, &mut out, follower, asks);
+    let _ = append_answers(rt, alloc, &mut out, alarms, asks);
     out
 }

@@ -28,6 +28,7 @@ fn is_question(word: &[u8]) -> bool
     is_same_word(word, b"SHOW")
         || is_same_word(word, b"IMAGE")
         || is_same_word(word, b"WHY")
+        || is_same_word(word, b"POINTS")
         || is_same_word(word, b"TRACE")
         || is_same_word(word, b"LIST")
         || is_same_word(word, b"EXPLAIN")

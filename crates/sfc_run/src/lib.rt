@@ -8,14 +8,17 @@
 //! - `console`: a seat whose commands a session says, with the receipts of those that were accepted.
 //! - `draining`: the end of the feed.
 //! - `keeper`: the epochs of a run itself, which keep its history short.
+//! - `laws`: what holds of what was recorded.
 //! - `pace`: the gate of a worker that scans as long as it may.
+//! - `points`: commands that set and take breakpoints.
 //! - `printing`: the lines of the feed; `watch`: what is read of it; `teller`: where alarms go.
 //! - `screen`: what is shown where it changes; `picked`: what that is, by names.
 //! - `real_time`: the clock of a run.
+//! - `recording`: its accepted commands as a script.
 //! - `run`: a chart from its bytes to the audit; `run_opening`: what it is opened with; `run_threads`: its threads.
 //! - `run_faults`: what went wrong in a run, with its exit status.
 //! - `session`: lines that are obeyed as they come; `streams`: where a run reads and writes.
-//! - `timing`: how late scans were.
+//! - `timing`: how late scans were; `stopwatch`: how long they took.
 //! - `worker_ends`: why workers ended.
 #![tactic(auto)]
 
@@ -27,18 +30,22 @@ pub mod console;
 pub mod draining;
 pub mod follower;
 mod keeper;
+pub mod laws;
 pub mod losses;
 pub mod overruns;
 pub mod pace;
 pub mod picked;
+pub mod points;
 pub mod printing;
 pub mod real_time;
+pub mod recording;
 pub mod run;
 pub mod run_faults;
 mod run_opening;
 mod run_threads;
 pub mod screen;
 pub mod session;
+pub mod stopwatch;
 pub mod streams;
 pub mod teller;
 pub mod timing;

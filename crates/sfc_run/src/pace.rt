@@ -35,6 +35,7 @@ const LOOKS: u32 = 10_000;
 #[derive(Drop)]
 pub struct Pace<'a, R: Wait + time::Clock> {
     rt: &'a R,
+    // That of the worker, with its stopwatch.
     clock: RealTime<'a, R>,
     bells: &'a Bells,
     task: TaskId,
@@ -43,10 +44,10 @@ pub struct Pace<'a, R: Wait + time::Clock> {
 }
 
 impl<'a, R: Wait + time::Clock> Pace<'a, R> {
-    /// The gate of the task's worker, by the clock of the run.
-    pub fn new(rt: &'a R, clock: RealTime<'a, R>, bells: &'a Bells, task: TaskId) -> Pace<'a, R> {
+    /// The gate of the task's worker, by the clock of the run with the stopwatch of the task.
+    pub fn new(clock: RealTime<'a, R>, bells: &'a Bells, task: TaskId) -> Pace<'a, R> {
         Pace {
-            rt,
+            rt: clock.runtime(),
             clock,
             bells,
             task,
@@ -117,7 +118,8 @@ impl<'a, R: Wait + time::Clock> Gate for Pace<'a, R> {
 
     fn turn(&mut self, last: Turn) -> bool {
         match last {
-            Turn::First | Turn::Done(_) => {}
+            Turn::First => {}
+            Turn::Done(_) => self.clock.end_scan(),
             Turn::Waits(Some(raw)) => self.wait_until(raw),
             Turn::Waits(None) | Turn::Yielded(_) | Turn::Halted => self.wait(),
         }

@@ -11,6 +11,7 @@ use crate::answering::answers_to;
 use crate::asks::Asks;
 use crate::draining::{Drained, RowsEnded};
 use crate::pace::LONG;
+use crate::recording::Recorder;
 use crate::teller::Teller;
 use crate::watch::{Look, Texts, Watch};
 use sfc_base::write_fault::{WriteFault, put_all};
@@ -45,9 +46,9 @@ impl From<WriteFault> for PrintFault {
     }
 }
 
-/// What is read of a run, and where its lines, its alarms and what is shown go.
+/// What is read of a run, and where its lines, its alarms, what is shown and what is recorded go.
 #[derive(Drop)]
-pub struct Printing<W: Write, T: Write> {
+pub struct Printing<W: Write, T: Write, F: Write> {
     /// What is read.
     pub watch: Watch,
     /// What lines are written to.
@@ -58,6 +59,8 @@ pub struct Printing<W: Write, T: Write> {
     pub shower: Teller<W>,
     /// What is told answers to lines that ask.
     pub answers: Teller<W>,
+    /// What records commands.
+    pub recorder: Recorder<F, T>,
 }
 
 /// What waits beside the rows of a feed.
@@ -69,13 +72,13 @@ pub struct Beside<'a> {
     pub asks: &'a Asks,
 }
 
-// Prints rows that have come, 256 at most, tells their alarms, and shows what has changed; what the look for them came to.
-fn print_some<W: Write, T: Write>(
+// Records rows that have come, 256 at most, prints them, tells their alarms, and shows what has changed; what the look for them came to.
+fn print_some<W: Write, T: Write, F: Write>(
     alloc: Global,
-    printing: &mut Printing<W, T>,
+    printing: &mut Printing<W, T, F>,
     ended: Option<RowsEnded>,
 ) -> Result<Look, PrintFault>
-    ensures lines { Prints W.contents T.contents printing.old printing.new result }
+    ensures lines { Prints W.contents T.contents F.contents printing.old printing.new result }
     ensures known { OnOk result (Reaches printing.old.watch.tail printing.new.watch.tail) }
     ensures rest { IfOk result (λ found. found.some ≡ false → coming printing.new.watch.tail ≡ []) }
     ensures drained { IfOk result (λ found. IsSome found.drained → coming printing.new.watch.tail ≡ []) }
@@ -85,9 +88,13 @@ fn print_some<W: Write, T: Write>(
         told: Told {
             alarms: Vec::new(alloc),
             changes: Vec::new(alloc),
+            record: Vec::new(alloc),
         },
     };
     let some = printing.watch.append_rows(alloc, &mut texts, ended)?;
+    printing
+        .recorder
+        .write(&texts.told.record, printing.watch.alarms.recording);
     printing.teller.tell(&texts.told.alarms);
     put_all(&mut printing.w, &texts.lines)?;
     printing.shower.tell(&texts.told.changes);
@@ -95,18 +102,20 @@ fn print_some<W: Write, T: Write>(
 }
 
 /// Takes rows as they come and writes the line of each whose command is wanted: its number, and the line of its command. Beside it alarms
-/// are told, and behind the lines it is shown what has changed. It ends once it is told that no more rows come, and none is left; a look that was begun behind that word is what it answers.
-/// Where none has come it waits until its bell is rung, a tenth of a second at most. Lines that ask are answered behind the rows of a round.
+/// are told, and behind the lines it is shown what has changed; before all of that commands are recorded, where they are. It ends once it is
+/// told that no more rows come, and none is left; a look that was begun behind that word is what it answers. Where none has come it waits
+/// until its bell is rung, a tenth of a second at most. Lines that ask are answered behind the rows of a round.
 ///
 /// `Write` is answered where the writer failed or took no byte, `Memory` where memory was refused; then a front of the lines was
-/// written, and no more rows are taken. Faults of the writers of alarms and of what is shown are passed over.
-pub fn print_rows<R: Wait, W: Write, T: Write>(
+/// written, and no more rows are taken. Faults of the writers of alarms and of what is shown are passed over; that of a record is told, and
+/// then nothing more is recorded.
+pub fn print_rows<R: Wait, W: Write, T: Write, F: Write>(
     rt: &R,
     alloc: Global,
-    printing: &mut Printing<W, T>,
+    printing: &mut Printing<W, T, F>,
     beside: Beside<'_>,
 ) -> Result<Drained, PrintFault>
-    ensures lines { Prints W.contents T.contents printing.old printing.new result }
+    ensures lines { Prints W.contents T.contents F.contents printing.old printing.new result }
     ensures known { OnOk result (IsPrefix (taken printing.old.watch.tail ++ coming printing.old.watch.tail)
         (taken printing.new.watch.tail)) }
     ensures rest { OnOk result (coming printing.new.watch.tail ≡ []) }
@@ -114,7 +123,7 @@ pub fn print_rows<R: Wait, W: Write, T: Write>(
     'rounds: for _ in rt.forever() {
         let ended = RowsEnded::of(beside.bells);
         let some = print_some(alloc, printing, ended)?;
-        let answers = answers_to(rt, alloc, &printing.watch.alarms.follower, beside.asks);
+        let answers = answers_to(rt, alloc, &printing.watch.alarms, beside.asks);
         printing.answers.tell(&answers);
         if let Some(drained) = some.drained {
             return Ok(drained);

@@ -5,16 +5,18 @@ ghost use Rattle.std.specs.Time.{instant_nanos};
 ghost use Rattle.std.specs.Duration.{as_nanos};
 ghost use Rattle.sfc_run.specs.RealTime.{micros_between, nanos_of, nanos_until};
 
+use crate::stopwatch::Stopwatch;
 use sfc_control::clock::Clock;
 use std::time;
 use std::time::{Duration, Instant};
 
 /// A clock that counts microseconds from its start, by the runtime's monotonic clock. Where that can't be read, the reading is 2^63 - 1,
-/// past each instant that a command may have.
+/// past each instant that a command may have. That of a task's thread has a stopwatch, which its readings begin.
 #[derive(Drop)]
 pub struct RealTime<'a, R: time::Clock> {
     rt: &'a R,
     start: Option<Instant>,
+    watch: Option<&'a Stopwatch>,
 }
 
 // The microseconds from one reading to another, at most 2^63 - 1; 0 where the clock went back.
@@ -54,6 +56,7 @@ impl<'a, R: time::Clock> RealTime<'a, R> {
         RealTime {
             rt,
             start: Instant::now(rt).ok(),
+            watch: None,
         }
     }
 
@@ -76,6 +79,36 @@ impl<'a, R: time::Clock> RealTime<'a, R> {
         RealTime {
             rt: self.rt,
             start: self.start,
+            watch: self.watch,
+        }
+    }
+
+    /// Another clock with the same start, and this stopwatch.
+    pub fn with_watch(&self, watch: Option<&'a Stopwatch>) -> RealTime<'a, R> {
+        RealTime {
+            rt: self.rt,
+            start: self.start,
+            watch,
+        }
+    }
+
+    /// The runtime.
+    pub fn runtime(&self) -> &'a R {
+        self.rt
+    }
+
+    // The reading now.
+    fn reading(&self) -> i64 {
+        match (self.start, Instant::now(self.rt)) {
+            (Some(start), Ok(now)) => micros_from(start, now),
+            _ => i64::MAX,
+        }
+    }
+
+    /// The call for which the clock was read last was a scan, and has ended: the stopwatch stops.
+    pub fn end_scan(&self) {
+        if let Some(watch) = self.watch {
+            watch.end(self.reading());
         }
     }
 }
@@ -84,9 +117,10 @@ impl<'a, R: time::Clock> Clock for RealTime<'a, R> {
     ghost reads = { λ old raw new. new ≡ old };
 
     fn now(&mut self) -> i64 {
-        match (self.start, Instant::now(self.rt)) {
-            (Some(start), Ok(now)) => micros_from(start, now),
-            _ => i64::MAX,
+        let now = self.reading();
+        if let Some(watch) = self.watch {
+            watch.begin(now);
         }
+        now
     }
 }

@@ -16,14 +16,17 @@ use crate::keeper::Keeper;
 use crate::losses::Losses;
 use crate::overruns::OverrunsTold;
 use crate::picked::{PickFault, Picked, shows_of};
+use crate::points::Points;
 use crate::printing::{PrintFault, Printing};
 use crate::real_time::RealTime;
+use crate::recording::Recorder;
 use crate::run_faults::RunFaults;
 use crate::run_opening::{RunDebuggers, open_run, posts_of};
 use crate::run_threads::{Left, Seated, run_threads};
 use crate::screen::{Screen, Shows};
 use crate::session::Desk;
 use crate::sfc_debug::debugger::Debugger;
+use crate::stopwatch::{Stopwatch, append_longest, stopwatches};
 use crate::streams::{Asked, Streams};
 use crate::teller::Teller;
 use crate::timing::Timing;
@@ -115,24 +118,27 @@ fn finish<L: OpenedWith, C: Clock + Drop, W: Write + Drop>(
 
 // What is asked of a run, with what is shown of it.
 #[derive(Drop)]
-struct Ready<W: Write, T: Write> {
-    asked: Asked<W, T>,
+struct Ready<W: Write, T: Write, F: Write> {
+    asked: Asked<W, T, F>,
     shows: Shows,
     timing: Timing,
 }
 
 // What the thread that prints begins with: two debuggers, of which the second one follows a row behind.
-fn printing_of<W: Write, T: Write>(
+fn printing_of<W: Write, T: Write, F: Write>(
+    alloc: Global,
     tail: Tail,
     followers: (Debugger, Debugger),
-    ready: Ready<W, T>,
-) -> Printing<W, T>
+    ready: Ready<W, T, F>,
+) -> Printing<W, T, F>
     ensures tail { result.watch.tail ≡ tail }
     ensures follower { debugger_in result.watch.alarms.follower ≡ followers.0 }
     ensures before { before_in result.watch.alarms.screen ≡ followers.1 }
     ensures shows { result.watch.alarms.screen.shows ≡ ready.shows }
     ensures wanted { result.watch.wanted ≡ ready.asked.wanted }
     ensures writers { (result.w ≡ ready.asked.w) × (result.teller.w ≡ ready.asked.tells) × (result.shower.w ≡ ready.asked.shower) }
+    ensures recorder { (result.recorder.file.w ≡ ready.asked.record) × (result.recorder.notes.w ≡ ready.asked.notes) }
+    ensures recording { result.watch.alarms.recording ≡ ready.asked.recording }
 {
     let Ready {
         asked,
@@ -144,6 +150,9 @@ fn printing_of<W: Write, T: Write>(
         tells,
         shower,
         answers,
+        record,
+        notes,
+        recording,
         picked: _,
         timing: _,
         wanted,
@@ -155,6 +164,8 @@ fn printing_of<W: Write, T: Write>(
         overruns: OverrunsTold::new(),
         losses: Losses::none(),
         screen: Screen::new(shows, before),
+        recording,
+        points: Points::none(alloc),
         timing,
     };
     Printing {
@@ -167,6 +178,27 @@ fn printing_of<W: Write, T: Write>(
         teller: Teller::new(tells),
         shower: Teller::new(shower),
         answers: Teller::new(answers),
+        recorder: Recorder::new(record, notes),
+    }
+}
+
+// Tells how long the longest scans were, where that is asked for; faults of the writer are passed over.
+fn tell_longest<E: Write>(
+    alloc: Global,
+    plant: &Plant,
+    watches: Option<&[Stopwatch]>,
+    errors: &mut E,
+) -> RunFaults {
+    let Some(watches) = watches else {
+        return RunFaults::none();
+    };
+    let mut text = Vec::new(alloc);
+    match append_longest(&mut text, plant, watches) {
+        Ok(()) => {
+            let _ = put_all(errors, &text);
+            RunFaults::none()
+        }
+        Err(_) => RunFaults::of_memory(),
     }
 }
 
@@ -178,13 +210,14 @@ fn run_with<
     S: Read,
     W: Write + Send + Drop,
     T: Write + Send + Drop,
+    F: Write + Send + Drop,
     E: Write,
 >(
     rt: &R,
     alloc: Global,
     blank: Blank,
     opened: RunDebuggers,
-    ready: Ready<W, T>,
+    ready: Ready<W, T, F>,
     streams: &mut Streams<'_, S, E>,
 ) -> Result<RunFaults, AllocError>
     requires name { blank.name ≡ L.name }
@@ -219,9 +252,11 @@ fn run_with<
         console: Console::new(alloc, own, clock.another()),
         most: limit / 2,
     };
-    let posts = posts_of(rt, alloc, seats, &clock, controller.bells())?;
+    let watches = stopwatches(alloc, names.resource().plant())?;
+    let posts = posts_of(alloc, seats, &clock, controller.bells(), &watches)?;
     let mut console = Console::new(alloc, seat, clock);
-    let printing = printing_of(tail, (follower, before), ready);
+    let timed = ready.asked.timing;
+    let printing = printing_of(alloc, tail, (follower, before), ready);
     let asks = Asks::new(alloc)?;
     let left = {
         let desk = Desk {
@@ -237,6 +272,12 @@ fn run_with<
         };
         run_threads(&desk, posts, seated, printing, streams)
     };
+    let longest = if timed {
+        Some(watches.as_slice())
+    } else {
+        None
+    };
+    let told = tell_longest(alloc, names.resource().plant(), longest, streams.errors);
     let ended = match &left.ends {
         Some(ends) => tell_ends(
             alloc,
@@ -246,7 +287,11 @@ fn run_with<
         ),
         None => RunFaults::none(),
     };
-    Ok(finish(alloc, controller, console, left).with(ended))
+    Ok(
+        finish(alloc, controller, console, left)
+            .with(told)
+            .with(ended),
+    )
 }
 
 // Tells an error, where a fault of the writer is passed over: the exit status.
@@ -304,7 +349,7 @@ fn tell_names<E: Write>(alloc: Global, fault: PickFault, picked: &Picked, errors
 /// Whatever is wanted, alarms are told as they happen: a scan of a program that a fault ended, and one that hit a breakpoint, by all of the
 /// lines that `replay` writes; overruns by the line of their scan, at most once a second for each task; how many commands were lost in the
 /// feed. What is picked is shown where it changes (`Screen::show`). What else is wrong is told on `errors`: why the chart is refused; a line that is no command, by its number; why a command is
-/// refused; at the end how late scans were, where that is asked for, a task whose scans ended before the session did, and why, and a line for each fault of the run. Faults of these
+/// refused; at the end how late scans were and how long the longest ones took, where that is asked for, a task whose scans ended before the session did, and why, and a line for each fault of the run. Faults of these
 /// writers are passed over. At most 1,048,577 bytes are taken from the chart. As many commands are held as is asked, at most: where half of
 /// them are, the run itself sends Epoch. The feed has room for 65,536 rows; a row that finds it full isn't written.
 ///
@@ -317,8 +362,15 @@ pub fn run_chart<
     S: Read,
     W: Write + Send + Drop,
     T: Write + Send + Drop,
+    F: Write + Send + Drop,
     E: Write,
->(rt: &R, alloc: Global, chart: &mut C, asked: Asked<W, T>, streams: &mut Streams<'_, S, E>) -> u8
+>(
+    rt: &R,
+    alloc: Global,
+    chart: &mut C,
+    asked: Asked<W, T, F>,
+    streams: &mut Streams<'_, S, E>,
+) -> u8
     ensures { IsRunStatus result }
 {
     let opened = match open_run(alloc, chart) {
@@ -338,7 +390,7 @@ pub fn run_chart<
         timing,
     };
     let seats = opened.debugger.resource().plant().tasks().len() as u64 + 2;
-    let ran = run_with::<Brand, R, S, W, T, E>(
+    let ran = run_with::<Brand, R, S, W, T, F, E>(
         rt,
         alloc,
         Blank::new(seats),

@@ -10,6 +10,7 @@ use crate::pace::Pace;
 use crate::real_time::RealTime;
 use crate::sfc_debug::debugger::Debugger;
 use crate::sfc_debug::trace_mask::TraceMask;
+use crate::stopwatch::Stopwatch;
 use sfc_base::ids::TaskId;
 use sfc_control::bells::Bells;
 use sfc_control::post::Post;
@@ -78,14 +79,14 @@ pub fn open_run<C: Read>(alloc: Global, chart: &mut C) -> Result<RunDebuggers, R
     all_of_text(alloc, &text)
 }
 
-/// A post for each seat: the task of the same number, which is scanned as often as it may be, by the clock. The one error is that memory
-/// was refused, and then the seats are given up.
+/// A post for each seat: the task of the same number, which is scanned as often as it may be, by the clock, and by the stopwatch of that
+/// number. The one error is that memory was refused, and then the seats are given up.
 pub fn posts_of<'a, L: Ledger, R: Wait + time::Clock>(
-    rt: &'a R,
     alloc: Global,
     seats: Vec<Seat<L>>,
     clock: &RealTime<'a, R>,
     bells: &'a Bells,
+    watches: &'a [Stopwatch],
 ) -> Result<Vec<Post<L, Pace<'a, R>, RealTime<'a, R>>>, AllocError>
     requires { length seats.items ≤ 24 }
     ensures { IfOk result (λ posts. ArePostsOf seats.items posts.items) }
@@ -94,8 +95,8 @@ pub fn posts_of<'a, L: Ledger, R: Wait + time::Clock>(
     let mut number = 0u8;
     'seats: for seat in seats {
         let task = TaskId(number);
-        let gate = Pace::new(rt, clock.another(), bells, task);
-        let clock = clock.another();
+        let clock = clock.with_watch(watches.get(number as usize));
+        let gate = Pace::new(clock.another(), bells, task);
         posts.push(Post {
             task,
             seat,

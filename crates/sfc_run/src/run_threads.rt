@@ -8,6 +8,7 @@ use crate::keeper::{Keeper, Over};
 use crate::pace::Pace;
 use crate::printing::{Beside, PrintFault, Printing, print_rows};
 use crate::real_time::RealTime;
+use crate::recording::Recorder;
 use crate::run_faults::RunFaults;
 use crate::session::{Desk, hold};
 use crate::sfc_debug::trace_mask::TraceMask;
@@ -196,13 +197,14 @@ fn keep_and_work<
     }
 }
 
-// Where lines, alarms and what is shown go.
+// Where lines, alarms, what is shown and what is recorded go.
 #[derive(Drop)]
-struct Writers<W: Write, T: Write> {
+struct Writers<W: Write, T: Write, F: Write> {
     w: W,
     teller: Teller<T>,
     shower: Teller<W>,
     answers: Teller<W>,
+    recorder: Recorder<F, T>,
 }
 
 // What the thread that prints stands on.
@@ -214,10 +216,10 @@ struct Board<'b, R: Wait> {
 }
 
 // What printing comes to. Behind a fault of the writer of lines alarms are told all the same: no command has a line then.
-fn print_all<R: Wait, W: Write, T: Write>(
+fn print_all<R: Wait, W: Write, T: Write, F: Write>(
     rt: &R,
     alloc: Global,
-    printing: &mut Printing<W, T>,
+    printing: &mut Printing<W, T, F>,
     beside: Beside<'_>,
 ) -> RunFaults {
     let faults = match print_rows(rt, alloc, printing, beside) {
@@ -233,7 +235,10 @@ fn print_all<R: Wait, W: Write, T: Write>(
 }
 
 // Tells how late scans were, where that was measured.
-fn tell_timing<W: Write, T: Write>(alloc: Global, printing: &mut Printing<W, T>) -> RunFaults {
+fn tell_timing<W: Write, T: Write, F: Write>(
+    alloc: Global,
+    printing: &mut Printing<W, T, F>,
+) -> RunFaults {
     let alarms = &printing.watch.alarms;
     let plant = alarms.follower.debugger().resource().plant();
     let mut text = Vec::new(alloc);
@@ -245,18 +250,19 @@ fn tell_timing<W: Write, T: Write>(alloc: Global, printing: &mut Printing<W, T>)
 }
 
 // What printing comes to: the writer of lines is handed back.
-fn printed<R: Wait, W: Write + Drop, T: Write + Drop>(
+fn printed<R: Wait, W: Write + Drop, T: Write + Drop, F: Write + Drop>(
     rt: &R,
     alloc: Global,
     beside: Beside<'_>,
     held: Option<Watch>,
-    writers: Writers<W, T>,
+    writers: Writers<W, T, F>,
 ) -> (W, RunFaults) {
     let Writers {
         w,
         teller,
         shower,
         answers,
+        recorder,
     } = writers;
     let Some(watch) = held else {
         return (w, RunFaults::none());
@@ -267,6 +273,7 @@ fn printed<R: Wait, W: Write + Drop, T: Write + Drop>(
         teller,
         shower,
         answers,
+        recorder,
     };
     let faults = print_all(rt, alloc, &mut printing, beside);
     let faults = faults.with(tell_timing(alloc, &mut printing));
@@ -276,6 +283,7 @@ fn printed<R: Wait, W: Write + Drop, T: Write + Drop>(
         teller: _,
         shower,
         answers: _,
+        recorder: _,
     } = printing;
     if shower.has_failed {
         (w, faults.with(RunFaults::of_write()))
@@ -294,16 +302,17 @@ fn print_beside<
     R: Threads + Wait + Sync,
     W: Write + Send + Drop,
     T: Write + Send + Drop,
+    F: Write + Send + Drop,
     D,
-    F: FnOnce() -> D + Drop,
+    J: FnOnce() -> D + Drop,
 >(
     board: Board<'b, R>,
     held: Option<Watch>,
-    writers: Writers<W, T>,
-    job: F,
+    writers: Writers<W, T, F>,
+    job: J,
 ) -> Option<(D, W, RunFaults)>
-    requires { F.pre job }
-    ensures { IfSome result (λ done. F.post job done.0) }
+    requires { J.pre job }
+    ensures { IfSome result (λ done. J.post job done.0) }
 {
     let Board { rt, alloc, beside } = board;
     let Beside { bells, asks } = beside;
@@ -312,8 +321,8 @@ fn print_beside<
         rt,
         |scope| -> Option<(D, W, RunFaults)>
             requires sync { IsSync R.row }
-            requires job { F.pre job }
-            ensures { IfSome result (λ done. F.post job done.0) }
+            requires job { J.pre job }
+            ensures { IfSome result (λ done. J.post job done.0) }
         {
             let Ok(child) = scope.spawn(move || printed(
                 rt,
@@ -343,12 +352,13 @@ pub fn run_threads<
     S: Read,
     W: Write + Send + Drop,
     T: Write + Send + Drop,
+    F: Write + Send + Drop,
     E: Write,
 >(
     desk: &Desk<'d, L, R>,
     posts: Vec<Post<L, Pace<'p, R>, RealTime<'p, R>>>,
     seated: Seated<'_, L, C>,
-    printing: Printing<W, T>,
+    printing: Printing<W, T, F>,
     streams: &mut Streams<'_, S, E>,
 ) -> Left<L, C, W>
     ensures { IfSome result.ends (λ ends. length ends.items ≡ length posts.entry.items) }
@@ -364,12 +374,14 @@ pub fn run_threads<
         teller,
         shower,
         answers,
+        recorder,
     } = printing;
     let writers = Writers {
         w,
         teller,
         shower,
         answers,
+        recorder,
     };
     let board = Board {
         rt: desk.rt,

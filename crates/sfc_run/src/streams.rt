@@ -1,6 +1,7 @@
 //! Where a run reads and writes.
 
 use crate::picked::Picked;
+use crate::recording::Recording;
 use crate::sfc_debug::trace_mask::TraceMask;
 use std::io::{Read, Write};
 
@@ -15,7 +16,7 @@ pub struct Streams<'s, S: Read, E: Write> {
 
 /// What is asked of a run.
 #[derive(Drop)]
-pub struct Asked<W: Write, T: Write> {
+pub struct Asked<W: Write, T: Write, F: Write> {
     /// Where lines go.
     pub w: W,
     /// Where alarms go.
@@ -24,6 +25,12 @@ pub struct Asked<W: Write, T: Write> {
     pub shower: W,
     /// Where answers to lines go that ask how all stands.
     pub answers: W,
+    /// Where accepted commands are recorded as a script.
+    pub record: F,
+    /// Where it is told that they aren't recorded any more.
+    pub notes: T,
+    /// Whether they are recorded.
+    pub recording: Recording,
     /// What is shown.
     pub picked: Picked,
     /// Whether it is told at the end how late the scans of each task were.

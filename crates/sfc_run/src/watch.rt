@@ -35,7 +35,7 @@ pub struct Watch {
 pub struct Texts {
     /// Their lines.
     pub lines: Vec<u8>,
-    /// What is told and shown of them.
+    /// What is told, shown and recorded of them.
     pub told: Told,
 }
 
@@ -72,10 +72,11 @@ impl Watch {
         ensures line { OnOk result (texts.new.lines.items ≡ texts.old.lines.items ++ line_if self.old.wanted (steered_of self.old) row) }
         ensures steered { steered_of self.new ≡ steered_of self.old }
         ensures told { (h : CommandHistory) → Agrees (debugger_in self.old.alarms.follower) h →
-            OnOk result ((behind : CommandHistory) × (text : List ℕ) × (shown : List ℕ)
+            OnOk result ((behind : CommandHistory) × (text : List ℕ) × (shown : List ℕ) × (recorded : List ℕ)
             × (texts.new.told.alarms.items ≡ texts.old.told.alarms.items ++ text)
             × (texts.new.told.changes.items ≡ texts.old.told.changes.items ++ shown)
-            × IsTold self.old.alarms self.new.alarms row h behind text shown) }
+            × (texts.new.told.record.items ≡ texts.old.told.record.items ++ recorded)
+            × IsTold self.old.alarms self.new.alarms row h behind text shown recorded) }
     {
         self.append_line(&mut texts.lines, row)?;
         self.alarms.take(alloc, &mut texts.told, row)

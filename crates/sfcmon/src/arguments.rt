@@ -68,6 +68,10 @@ pub struct Running {
     pub at_end: Vec<String>,
     /// Whether it is told at the end how late scans were.
     pub timing: bool,
+    /// The name of the new file to which the accepted commands go as they come.
+    pub record: Option<String>,
+    /// How many bytes each part of that has at most.
+    pub record_size: usize,
 }
 
 /// What a drawing shows.
@@ -238,7 +242,11 @@ variable of --watch that reads another value. Other commands have lines only whe
 so without a word too, unless --trace is given, and other commands than SCAN and SINGLE have lines. A program beside the machine takes
 its terminals from these lines, and with --at-end Pump=FALSE is told what is safe when a program has died.
 
-Lines that begin with SHOW, IMAGE, WHY, TRACE, LIST, EXPLAIN or HELP ask how all stands, as at the prompt of 'debug', and change nothing.
+With --record SCRIPT each accepted command goes to a new file as it comes, a line of a script: 'sfcmon replay FILE SCRIPT' prints what the run
+has answered. With --record-size the files SCRIPT, SCRIPT.2, SCRIPT.3 and so on are the script, one behind the other.
+
+Lines that begin with SHOW, IMAGE, WHY, POINTS, TRACE, LIST, EXPLAIN or HELP ask how all stands, as at the prompt of 'debug', and change
+nothing.
 
 A session that starts a pump, halts it, reads, forces, lets go and ends, and what is printed of it, beside the lines of scans:
   ; start it                   7 T#1s_100ms INPUT Start TRUE
@@ -263,7 +271,7 @@ Exit status:
   0  the run has ended, and its audit is right
   1  the chart is refused, a program stood faulted at the end, scans of a task ended early, or the audit found a mismatch
   2  the words of the command line are wrong
-  3  the file or standard input can't be read, or standard output can't be written
+  3  the file or standard input can't be read, or standard output can't be written; or the script of --record is there already
   4  memory or a thread was refused
 
 Examples:
@@ -272,6 +280,7 @@ Examples:
   sfcmon run --show changes examples/pump.chart
   sfcmon run --forever --watch Pump --at-end Pump=FALSE examples/pump.chart
   sfcmon run --for T#8h --trace 0 examples/pump.chart </dev/null
+  sfcmon run --record night.script examples/pump.chart
 
 docs/FORMATS.md says what each line is, docs/RUNNING.md how a machine is run.";
 
@@ -728,7 +737,27 @@ fn timing_argument<'a>(alloc: Global) -> Arg<'a> {
     Arg::new(alloc, "timing")
         .long("timing")
         .action(ArgAction::SetTrue)
-        .help("Tells at the end, on standard error, how late the scans of each task were")
+        .help("Tells at the end, on standard error, how late the scans of each task were, and how long the longest took")
+}
+
+// The argument that names the file in which a run is recorded.
+fn run_record_argument<'a>(alloc: Global) -> Arg<'a> {
+    Arg::new(alloc, "record")
+        .long("record")
+        .value_name("SCRIPT")
+        .help("Writes the accepted commands to a new file as they come, a script for 'replay'")
+}
+
+// The argument that says how long a part of a record is.
+fn record_size_argument<'a>(alloc: Global) -> Result<Arg<'a>, AllocError> {
+    Arg::new(alloc, "record-size")
+        .long("record-size")
+        .value_name("BYTES")
+        .value_parser(ValueParser::Unsigned(1024, 1_099_511_627_776))
+        .help(
+            "How many bytes SCRIPT has at most, 1024 or more; SCRIPT.2, SCRIPT.3 and so on go on with it",
+        )
+        .requires_arg("record")
 }
 
 fn run_command<'a>(alloc: Global) -> Result<Command<'a>, AllocError> {
@@ -745,6 +774,8 @@ fn run_command<'a>(alloc: Global) -> Result<Command<'a>, AllocError> {
         .arg(watch_argument(alloc))?
         .arg(at_end_argument(alloc))?
         .arg(timing_argument(alloc))?
+        .arg(run_record_argument(alloc))?
+        .arg(record_size_argument(alloc)?)?
         .arg(chart_argument(alloc))
 }
 
@@ -1200,6 +1231,13 @@ fn lines_of(mask: u8, is_given: bool, is_shown: bool) -> TraceMask {
     }
 }
 
+// How many bytes a part of a record has at most.
+fn record_size_of(matches: &ArgMatches) -> usize {
+    matches
+        .get_one::<usize>("record-size")
+        .unwrap_or(usize::MAX)
+}
+
 // A chart to be run, where one is named.
 fn run_request(alloc: Global, matches: &ArgMatches) -> Result<Request, Error> {
     let Some(lasting) = lasting_of(matches) else {
@@ -1226,6 +1264,8 @@ fn run_request(alloc: Global, matches: &ArgMatches) -> Result<Request, Error> {
             watched,
             at_end: names_of(alloc, matches, "at-end")?,
             timing: matches.get_flag("timing"),
+            record: option_of(alloc, matches, "record")?,
+            record_size: record_size_of(matches),
         })),
         _ => Ok(Request::Answered(2)),
     }

@@ -197,6 +197,7 @@ pub fn debug_file<R: Eprint + Files + AllocGlobal>(
         shower: _,
         answers: _,
         alarms: _,
+        notes: _,
         errors: _,
     } = streams;
     let desk = Desk {

@@ -60,6 +60,7 @@ pub fn serve_language<R: Eprint + Files + AllocGlobal>(rt: &R, streams: Streams)
         shower: _,
         answers: _,
         alarms: _,
+        notes: _,
         errors: _,
     } = streams;
     let alloc = rt.alloc();
@@ -78,6 +79,7 @@ pub fn serve_debugger<R: Eprint + Files + AllocGlobal>(rt: &R, streams: Streams)
         shower: _,
         answers: _,
         alarms: _,
+        notes: _,
         errors: _,
     } = streams;
     let alloc = rt.alloc();

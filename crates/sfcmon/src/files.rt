@@ -2,11 +2,13 @@
 
 use crate::arguments::Running;
 use crate::lasting::{Lasting, LastingInput};
+use crate::run_record::{forget_empty, parts_of};
 use crate::sfc_debug::trace_mask::TraceMask;
 use sfc_replay::check::{check_chart, list_chart};
 use sfc_replay::replay::{replay, replay_strict};
 use sfc_replay::replay_error::ReplayError;
 use sfc_run::picked::Picked;
+use sfc_run::recording::Recording;
 use sfc_run::run::run_chart;
 use sfc_run::streams::{Asked, Streams as RunStreams};
 use std::alloc::{AllocError, Global};
@@ -129,22 +131,25 @@ pub struct Streams {
     pub answers: Stdout,
     /// Standard error, for what is told as it happens.
     pub alarms: Stderr,
+    /// Standard error, for the end of a record.
+    pub notes: Stderr,
     /// Standard error, for all else.
     pub errors: Stderr,
 }
 
 // Runs a chart whose session comes from this input: the exit status.
-fn run_beside<R, C, S>(
+fn run_beside<R, C, S, F>(
     rt: &R,
     chart: &mut C,
     input: &mut S,
-    asked: Asked<Stdout, Stderr>,
+    asked: Asked<Stdout, Stderr, F>,
     errors: &mut Stderr,
 ) -> u8
 where
     R: Threads + Wait + time::Clock + Sync + AllocGlobal,
     C: Read,
     S: Read,
+    F: Write + Send + Drop,
 {
     let mut session = RunStreams {
         commands: input,
@@ -192,30 +197,26 @@ fn picked_of(alloc: Global, running: &Running, changes: bool) -> Result<Picked, 
     })
 }
 
-/// Runs the chart of a file in real time, with a session on standard input: the exit status. A file that can't be opened is a read fault.
-pub fn run_file<R>(rt: &R, streams: Streams, running: &Running) -> u8
+// Runs a chart, with a session on standard input, and records it: the exit status.
+fn run_recorded<R, C, F>(
+    rt: &R,
+    chart: &mut C,
+    streams: Streams,
+    running: &Running,
+    (record, recording): (F, Recording),
+) -> u8
 where
-    R: Threads
-        + Wait
-        + time::Clock
-        + Sync
-        + Eprint
-        + Files
-        + AllocGlobal
-        + Copy
-        + Drop
-        + Send
-        + 'static,
+    R: Threads + Wait + time::Clock + Sync + Eprint + AllocGlobal + Copy + Drop + Send + 'static,
+    C: Read,
+    F: Write + Send + Drop,
 {
-    let Ok(mut chart) = fs::open(rt, running.chart.as_str()) else {
-        return end_with(rt, ReplayError::Read);
-    };
     let Streams {
         mut input,
         output,
         shower,
         answers,
         alarms,
+        notes,
         mut errors,
     } = streams;
     let picks = if input.is_terminal() && output.is_terminal() {
@@ -234,16 +235,50 @@ where
         tells: alarms,
         shower,
         answers,
+        record,
+        notes,
+        recording,
         picked,
         timing: running.timing,
         wanted: picks.mask,
         history: running.history,
     };
     if running.lasting == Lasting::Input {
-        return run_beside(rt, &mut chart, &mut input, asked, &mut errors);
+        return run_beside(rt, chart, &mut input, asked, &mut errors);
     }
     match LastingInput::open(rt, rt.alloc(), input, running.lasting) {
-        Ok(mut input) => run_beside(rt, &mut chart, &mut input, asked, &mut errors),
+        Ok(mut input) => run_beside(rt, chart, &mut input, asked, &mut errors),
         Err(error) => end_with(rt, error),
     }
+}
+
+/// Runs the chart of a file in real time, with a session on standard input: the exit status. Its accepted commands go to the file to be
+/// recorded in, if one is named, and its further parts. A file that can't be opened is a read fault, and one that can't be written anew a
+/// write fault.
+pub fn run_file<R>(rt: &R, streams: Streams, running: &Running) -> u8
+where
+    R: Threads
+        + Wait
+        + time::Clock
+        + Sync
+        + Eprint
+        + Files
+        + AllocGlobal
+        + Copy
+        + Drop
+        + Send
+        + 'static,
+    R::File: Send,
+{
+    let Ok(mut chart) = fs::open(rt, running.chart.as_str()) else {
+        return end_with(rt, ReplayError::Read);
+    };
+    let name = running.record.as_ref().map(|name| name.as_str());
+    let record = match parts_of(rt, name, running.record_size) {
+        Ok(record) => record,
+        Err(status) => return status,
+    };
+    let status = run_recorded(rt, &mut chart, streams, running, record);
+    forget_empty(rt, name);
+    status
 }

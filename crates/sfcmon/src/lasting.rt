@@ -164,7 +164,9 @@ impl Line {
 pub struct LastingInput<'a, R: Wait + time::Clock> {
     rt: &'a R,
     mailbox: Arc<Mailbox>,
-    // When its time is over; `None` where it never is.
+    lasting: Lasting,
+    // Whether its time has begun, and when it is over; `None` where it never is.
+    has_begun: bool,
     until: Option<Instant>,
     line: Line,
 }
@@ -178,24 +180,23 @@ fn in_time<R: time::Clock>(rt: &R, lasting: Lasting) -> io::Result<Option<Instan
 }
 
 impl<'a, R: Threads + Wait + time::Clock + Copy + Drop + Send + 'static> LastingInput<'a, R> {
-    /// The input is read by a thread of its own, which nobody waits for. Its time begins now. `Memory` is answered where memory or a thread
-    /// was refused, `Read` where the clock can't be read.
+    /// The input is read by a thread of its own, which nobody waits for. Its time begins where it is read first, behind the start of the run's
+    /// clock. The one error is that memory or a thread was refused.
     pub fn open(
         rt: &'a R,
         alloc: Global,
         input: Stdin,
         lasting: Lasting,
     ) -> Result<LastingInput<'a, R>, ReplayError> {
-        let Ok(until) = in_time(rt, lasting) else {
-            return Err(ReplayError::Read);
-        };
         let (mailbox, theirs) = two_of(alloc)?;
         let own = *rt;
         match thread::spawn(rt, move || bring(own, input, theirs)) {
             Ok(_) => Ok(LastingInput {
                 rt,
                 mailbox,
-                until,
+                lasting,
+                has_begun: false,
+                until: None,
                 line: Line::Begins,
             }),
             Err(_) => Err(ReplayError::Memory),
@@ -204,6 +205,15 @@ impl<'a, R: Threads + Wait + time::Clock + Copy + Drop + Send + 'static> Lasting
 }
 
 impl<'a, R: Wait + time::Clock> LastingInput<'a, R> {
+    // Its time begins, where it hasn't. The error is that the clock can't be read.
+    fn begin(&mut self) -> io::Result<()> {
+        if !self.has_begun {
+            self.until = in_time(self.rt, self.lasting)?;
+            self.has_begun = true;
+        }
+        Ok(())
+    }
+
     // How long is waited at most; `None` where its time is over, or the clock can't be read.
     fn left(&self) -> Option<Duration> {
         let long = Duration::from_millis(LONG);
@@ -234,6 +244,7 @@ impl<'a, R: Wait + time::Clock> LastingInput<'a, R> {
 
 impl<'a, R: Wait + time::Clock> Read for LastingInput<'a, R> {
     fn read(&mut self, buf: &mut [u8]) -> io::Result<usize> {
+        self.begin()?;
         'looks: for _ in self.rt.forever() {
             if self.line == Line::Ended || buf.is_empty() {
                 return Ok(0);

@@ -12,6 +12,7 @@
 //! - `lasting`: input of a run that lasts longer, or shorter, than its input.
 //! - `lint`: warnings of a chart.
 //! - `report`: reports of charts and scripts.
+//! - `run_record`: the files in which a run is recorded.
 //! - `terminal`: what is told beside, where standard error is a terminal.
 //! - `testing`: tests of a chart; `test_desk`: what is done with their commands.
 //! - `wave`: runs as waveforms.
@@ -29,6 +30,7 @@ mod files;
 mod lasting;
 mod lint;
 mod report;
+mod run_record;
 mod terminal;
 mod test_desk;
 mod testing;
@@ -78,6 +80,7 @@ where
         + Drop
         + Send
         + 'static,
+    R::File: Send,
 {
     match request {
         Request::Check { chart } => files::check_file(rt, chart.as_str()),
@@ -119,6 +122,7 @@ fn main(rt: HostRuntime) -> ExitCode {
         shower: rt.stdout(),
         answers: rt.stdout(),
         alarms: rt.stderr(),
+        notes: rt.stderr(),
         errors: rt.stderr(),
     };
     let status = serve(&rt, streams, &request);

@@ -7,7 +7,7 @@ use Rattle.sfc_run.proofs.printing.print_rows.Goals as goal
 
 pub rounds-init : goal.rounds-init
 rounds-init g c = record {
-  lines = told_none g.W.Write.contents g.T.Write.contents c.args.printing.now;
+  lines = told_none g.W.Write.contents g.T.Write.contents g.F.Write.contents c.args.printing.now;
   known = reaches_same c.args.printing.now.watch.tail;
 }
 
@@ -15,7 +15,7 @@ pub returns-in_err-some-clause-lines : goal.returns-in_err-some-clause-lines
 returns-in_err-some-clause-lines g c =
     let p = err_from_is_err_and c.from_residual.result c.from_residual.ensures.1 in
     let more = c.in_err-some.ensures.lines in
-    let all = told_front g.W.Write.contents g.T.Write.contents c.args.printing.now c.rounds.printing c.print_some.new.printing
+    let all = told_front g.W.Write.contents g.T.Write.contents g.F.Write.contents c.args.printing.now c.rounds.printing c.print_some.new.printing
     c.rounds.invariant.lines more.0 more.1 more.2 in
     (all.0, all.1, rw p.1 all.2, rw p.1 tt)
 
@@ -31,7 +31,7 @@ returns-in_err-some-clause-rest g c =
 
 pub returns-in-Some-drained-clause-lines : goal.returns-in-Some-drained-clause-lines
 returns-in-Some-drained-clause-lines g c =
-    told_more g.W.Write.contents g.T.Write.contents c.args.printing.now c.rounds.printing c.print_some.new.printing
+    told_more g.W.Write.contents g.T.Write.contents g.F.Write.contents c.args.printing.now c.rounds.printing c.print_some.new.printing
     c.rounds.invariant.lines c.in_ok-some.ensures.lines
 
 pub returns-in-Some-drained-clause-known : goal.returns-in-Some-drained-clause-known
@@ -43,7 +43,7 @@ returns-in-Some-drained-clause-known g c =
 
 pub rounds-preserved : goal.rounds-preserved
 rounds-preserved g c = record {
-  lines = told_more g.W.Write.contents g.T.Write.contents c.args.printing.now c.rounds.printing c.print_some.new.printing
+  lines = told_more g.W.Write.contents g.T.Write.contents g.F.Write.contents c.args.printing.now c.rounds.printing c.print_some.new.printing
       c.rounds.invariant.lines c.in_ok-some.ensures.lines;
   known = reaches_on c.args.printing.now.watch.tail c.rounds.printing.watch.tail c.print_some.new.printing.watch.tail
       c.rounds.invariant.known c.in_ok-some.ensures.known;

@@ -1,4 +1,4 @@
-use Rattle.std.proofs.Common.{◌≡◌, ◌∙◌, Ok, ap, refl, sym}
+use Rattle.std.proofs.Common.{◌≡◌, ◌∙◌, Ok, ap, sym}
 use Rattle.sfc_control.specs.sfc_debug.Agreement.{plant_of, table_of}
 use Rattle.sfc_replay.specs.sfc_load.Built as built
 use Rattle.sfc_run.proofs.run_opening.all_of_text.Goals as goal

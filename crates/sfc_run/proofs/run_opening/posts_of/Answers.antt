@@ -16,7 +16,7 @@ pub seats-preserved : goal.seats-preserved
 seats-preserved g c =
     let seat = c.in-Some.seat in
     let post : Post g.row.L.Denot (Pace g.row.R.Denot) (RealTime g.row.R.Denot) =
-    record { task = record { 0 = c.seats.number }; seat = seat; gate = c.new-gate.result; clock = c.another-clock.result } in
+    record { task = record { 0 = c.seats.number }; seat = seat; gate = c.new-gate.result; clock = c.with_watch-clock.result } in
     let task : ℕ → TaskId = λ n. record { 0 = n } in
     let own : post.task ≡ task (min (length c.seats.yielded) 255) = ap task c.seats.invariant.number in
     record {

@@ -1,4 +1,4 @@
-use Rattle.std.proofs.Common.{◌≡◌, ◌∙◌, ◌++◌, Bool, List, ℕ, ap, append_assoc}
+use Rattle.std.proofs.Common.{◌∙◌, ◌++◌, Bool, List, ℕ, ap, append_assoc}
 use Rattle.sfc_replay.specs.sfc_output.Output.{debugger_of}
 use Rattle.sfc_run.specs.Alarms.{is_urgent, lost_text, told_text}
 use Rattle.sfc_run.specs.Following.{is_level, steered_in}

@@ -25,8 +25,10 @@ spawn-requires-send-F g c κs within =
     let held : IsSend (Option.the_row Watch.the_row) = search (sendable, watch_send) depth 12 in
     let lines : IsSend (param 1 g.row.W) = search in
     let alarms : IsSend (param 2 g.row.T) = search in
-    let both = writers.the_send (param 1 g.row.W) (param 2 g.row.T) lines alarms in
+    let kept : IsSend (param 3 g.row.F) = search in
+    let all = writers.the_send (param 1 g.row.W) (param 2 g.row.T) (param 3 g.row.F) lines alarms kept in
     job_send _ _
     (ShrRef (named 5) κs.1.1.1.1.1.0 (param 0 g.row.R) ∷ Global.the_row ∷ ShrRef (named 6) κs.1.1.1.1.1.1.0 Bells.the_row
-    ∷ ShrRef (named 7) κs.1.1.1.1.1.1.1.0 Asks.the_row ∷ Option.the_row Watch.the_row ∷ Writers.the_row (param 1 g.row.W) (param 2 g.row.T) ∷ [])
-    (runtime κs.1.1.1.1.1.0, (send, (rung κs.1.1.1.1.1.1.0, (asked κs.1.1.1.1.1.1.1.0, (held, (both, tt))))))
+    ∷ ShrRef (named 7) κs.1.1.1.1.1.1.1.0 Asks.the_row ∷ Option.the_row Watch.the_row
+    ∷ Writers.the_row (param 1 g.row.W) (param 2 g.row.T) (param 3 g.row.F) ∷ [])
+    (runtime κs.1.1.1.1.1.0, (send, (rung κs.1.1.1.1.1.1.0, (asked κs.1.1.1.1.1.1.1.0, (held, (all, tt))))))
