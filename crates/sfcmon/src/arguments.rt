@@ -737,7 +737,9 @@ fn timing_argument<'a>(alloc: Global) -> Arg<'a> {
     Arg::new(alloc, "timing")
         .long("timing")
         .action(ArgAction::SetTrue)
-        .help("Tells at the end, on standard error, how late the scans of each task were, and how long the longest took")
+        .help(
+            "Tells at the end, on standard error, how late the scans of each task were, and how long the longest took",
+        )
 }
 
 // The argument that names the file in which a run is recorded.
