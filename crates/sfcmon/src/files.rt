@@ -2,7 +2,6 @@
 
 use crate::arguments::Running;
 use crate::lasting::{Lasting, LastingInput};
-use crate::run_record::{forget_empty, parts_of};
 use crate::sfc_debug::trace_mask::TraceMask;
 use sfc_replay::check::{check_chart, list_chart};
 use sfc_replay::replay::{replay, replay_strict};
@@ -252,10 +251,9 @@ where
     }
 }
 
-/// Runs the chart of a file in real time, with a session on standard input: the exit status. Its accepted commands go to the file to be
-/// recorded in, if one is named, and its further parts. A file that can't be opened is a read fault, and one that can't be written anew a
-/// write fault.
-pub fn run_file<R>(rt: &R, streams: Streams, running: &Running) -> u8
+/// Runs the chart of a file in real time, with a session on standard input, and records it: the exit status. A file that can't be opened is
+/// a read fault.
+pub fn run_file<R, F>(rt: &R, streams: Streams, running: &Running, record: (F, Recording)) -> u8
 where
     R: Threads
         + Wait
@@ -268,17 +266,10 @@ where
         + Drop
         + Send
         + 'static,
-    R::File: Send,
+    F: Write + Send + Drop,
 {
     let Ok(mut chart) = fs::open(rt, running.chart.as_str()) else {
         return end_with(rt, ReplayError::Read);
     };
-    let name = running.record.as_ref().map(|name| name.as_str());
-    let record = match parts_of(rt, name, running.record_size) {
-        Ok(record) => record,
-        Err(status) => return status,
-    };
-    let status = run_recorded(rt, &mut chart, streams, running, record);
-    forget_empty(rt, name);
-    status
+    run_recorded(rt, &mut chart, streams, running, record)
 }

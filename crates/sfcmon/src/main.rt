@@ -39,9 +39,12 @@ mod why;
 
 use arguments::{Playing, Request, read_words, refuse_words};
 use files::Streams;
+use run_record::{forget_empty, parts_of};
 use sfc_replay::replay_error::ReplayError;
+use sfc_run::recording::Recording;
 use sfc_why::sfc_explain;
 use sfc_why::sfc_script::sfc_debug;
+use std::io::Write;
 use std::process::ExitCode;
 use std::rt::Files;
 use std::sync::Wait;
@@ -65,8 +68,19 @@ fn replay<R: Print + Eprint + Files + AllocGlobal>(rt: &R, playing: &Playing) ->
     )
 }
 
-// Does what is asked for: the exit status.
-fn serve<R>(rt: &R, streams: Streams, request: &Request) -> u8
+// The name of the file in which a run is recorded, if one is asked for, and how many bytes a part of it has at most.
+fn record_of(request: &Request) -> (Option<&str>, usize) {
+    match request {
+        Request::Run(running) => (
+            running.record.as_ref().map(|name| name.as_str()),
+            running.record_size,
+        ),
+        _ => (None, 0),
+    }
+}
+
+// Does what is asked for: the exit status. The accepted commands of a run are recorded there.
+fn serve<R, F>(rt: &R, streams: Streams, request: &Request, record: (F, Recording)) -> u8
 where
     R: Threads
         + Wait
@@ -80,7 +94,7 @@ where
         + Drop
         + Send
         + 'static,
-    R::File: Send,
+    F: Write + Send + Drop,
 {
     match request {
         Request::Check { chart } => files::check_file(rt, chart.as_str()),
@@ -88,7 +102,7 @@ where
         Request::List { chart } => files::list_file(rt, chart.as_str()),
         Request::Why(asking) => why::explain_fault(rt, asking),
         Request::Replay(playing) => replay(rt, playing),
-        Request::Run(running) => files::run_file(rt, streams, running),
+        Request::Run(running) => files::run_file(rt, streams, running, record),
         Request::Debug(debugging) => debug::debug_file(rt, streams, debugging),
         Request::Lsp => editors::serve_language(rt, streams),
         Request::Dap => editors::serve_debugger(rt, streams),
@@ -116,6 +130,11 @@ fn request_of(rt: &HostRuntime) -> Request {
 
 fn main(rt: HostRuntime) -> ExitCode {
     let request = request_of(&rt);
+    let (name, most) = record_of(&request);
+    let record = match parts_of(&rt, name, most) {
+        Ok(record) => record,
+        Err(status) => return ExitCode::from(status),
+    };
     let streams = Streams {
         input: rt.stdin(),
         output: rt.stdout(),
@@ -125,7 +144,8 @@ fn main(rt: HostRuntime) -> ExitCode {
         notes: rt.stderr(),
         errors: rt.stderr(),
     };
-    let status = serve(&rt, streams, &request);
+    let status = serve(&rt, streams, &request, record);
+    forget_empty(&rt, name);
     let mut errors = rt.stderr();
     terminal::tell_more(&rt, &mut errors, status, &request);
     ExitCode::from(status)
