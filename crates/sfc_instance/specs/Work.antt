@@ -35,8 +35,13 @@ action_work chart (Declared id) = 2 + body_nodes (body_in (slice_get chart.actio
 abbrev pub actions_work : Chart → List Target → ℕ
 actions_work chart targets = sum_by (action_work chart) targets
 
+-- what the actions handle among so many variables: themselves, and the variables that are then kept or given up; after a fault they
+-- are gone through once more for the statement that has it
+abbrev pub acting_work : Tabled → Chart → ℕ → ℕ
+acting_work tables chart variables = 2 * (actions_work chart tables.actions + variables)
+
 -- A scan of a program instance among so many variables: the conditions, the times of the associations, steps and action
--- control on a copy, the actions, and the variables that are then kept or given up.
+-- control on a copy, and the actions.
 abbrev pub scan_work : Tabled → Chart → ℕ → ℕ
 scan_work tables chart variables =
     condition_work tables chart tables.ranked
@@ -44,20 +49,20 @@ scan_work tables chart variables =
     + copy_work tables
     + advance_work tables
     + control_work tables
-    + actions_work chart tables.actions
-    + variables
+    + acting_work tables chart variables
 
 -- ---- how much that is at most, of a chart among so many variables
 
--- the nodes of its conditions, and the statements of its bodies with the nodes of their expressions
+-- the nodes of its conditions, and twice the statements of its bodies with the nodes of their expressions
 abbrev pub nodes_in : Chart → ℕ
 nodes_in chart =
-    sum_by (λ (t : Transition). nodes t.condition) chart.transitions + sum_by (λ (a : Action). body_nodes a.body) chart.actions
+    sum_by (λ (t : Transition). nodes t.condition) chart.transitions + 2 * sum_by (λ (a : Action). body_nodes a.body) chart.actions
 
--- eight times its steps, transitions, links, associations and actions, twice the variables, and each node once
+-- eight times its steps, transitions, links and associations, ten times its actions, twice the variables, and the nodes
 abbrev pub scan_limit : Chart → ℕ → ℕ
 scan_limit chart variables =
     let tables = tables_of chart in
-    8 * (length tables.initial + length tables.sides + links tables + length tables.associations + length tables.actions)
+    8 * (length tables.initial + length tables.sides + links tables + length tables.associations)
+    + 10 * length tables.actions
     + 2 * variables
     + nodes_in chart

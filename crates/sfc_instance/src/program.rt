@@ -2,6 +2,7 @@
 
 ghost use Rattle.std.specs.Prelude.{◌≤ℤ◌, ◌^◌, pos};
 
+use crate::fault_place::FaultPlace;
 use crate::moved::Moved;
 use crate::program_context::ProgramContext;
 use crate::scan_end::ScanEnd;
@@ -150,6 +151,7 @@ impl Program {
         let mut ticks = Ticks::new();
         self.run.now.copy_from(tables, &other.run.now, &mut ticks);
         self.run.moved = Moved::All;
+        self.run.place = other.run.place;
         self.fresh.copy_from(tables, &other.fresh, &mut ticks);
         self.scans = other.scans;
         self.at = other.at;
@@ -206,6 +208,16 @@ impl Program {
         ensures { (tables : Tabled) (instance_state : InstanceState) → ProgramAgrees tables self.now instance_state → result ≡ instance_state.fault }
     {
         self.fault
+    }
+
+    /// Where the fault is that ended a scan since its latest reset, if one did.
+    pub(crate) fn fault_place(&self) -> Option<FaultPlace>
+        ensures { (tables : Tabled) (instance_state : InstanceState) → ProgramAgrees tables self.now instance_state → result ≡ instance_state.place }
+    {
+        match self.fault {
+            Some(_) => self.run.place,
+            None => None,
+        }
     }
 
     /// Whether the step is active (2.6.2).
