@@ -13,14 +13,17 @@ first_none fault [] none = refl
 first_none fault (x ∷ xs) none = ap (λ o. or_else (fault_with x.action o) (first_in fault xs)) (none x.action.0) ∙ first_none fault xs none
 
 -- the first fault is one of its action
+same_some : (one found : ActionFault) → Some one ≡ Some found → one ≡ found
+same_some one found e = cc
+
+first_by : (fault : ℕ → Option ControlFault) (x : StepAction) (xs : List StepAction) (found : ActionFault) (o : Option ControlFault)
+    → fault x.action.0 ≡ o → (first_in fault xs ≡ Some found → fault found.action.0 ≡ Some found.fault)
+    → or_else (fault_with x.action o) (first_in fault xs) ≡ Some found → fault found.action.0 ≡ Some found.fault
+first_by fault x xs found None is later e = later e
+first_by fault x xs found (Some f) is later e =
+    subst (λ (one : ActionFault). fault one.action.0 ≡ Some one.fault) (same_some (record { action = x.action; fault = f }) found e) is
+
 pub first_of : (fault : ℕ → Option ControlFault) (xs : List StepAction) (found : ActionFault) → first_in fault xs ≡ Some found
     → fault found.action.0 ≡ Some found.fault
 first_of fault [] found e = absurd cc
-first_of fault (x ∷ xs) found e = by (fault x.action.0) refl e where
-  by : (o : Option ControlFault) → fault x.action.0 ≡ o → or_else (fault_with x.action o) (first_in fault xs) ≡ Some found
-      → fault found.action.0 ≡ Some found.fault
-  by None is e = first_of fault xs found e
-  by (Some f) is e = subst (λ (one : ActionFault). fault one.action.0 ≡ Some one.fault) (same (record { action = x.action; fault = f }) e) is
-
-  same : (one : ActionFault) → Some one ≡ Some found → one ≡ found
-  same one e = cc
+first_of fault (x ∷ xs) found e = first_by fault x xs found (fault x.action.0) refl (first_of fault xs found) e

@@ -1,6 +1,6 @@
 //! What the definitions mean: each law is a function with an empty body, whose contract is the law.
 
-ghost use Rattle.std.specs.Prelude.{◌≡◌, ◌<◌, ◌≤◌, ℕ, ℤ, false, List, All, length, None, Some};
+ghost use Rattle.std.specs.Prelude.{◌≡◌, ◌<◌, ◌≤◌, ℕ, ℤ, false, List, All, length, is_some, None, Some};
 ghost use Rattle.sfc_base.specs.declared.ids.ProgId.{ProgId};
 ghost use Rattle.sfc_plant.specs.declared.chart.Chart.{Chart};
 ghost use Rattle.sfc_tables.specs.Tables.{Tabled, tables_of};
@@ -19,7 +19,9 @@ ghost use Rattle.sfc_instance.specs.Past.{instance_past, past_in};
 ghost use Rattle.sfc_plant.specs.Plants.{PlantData};
 ghost use Rattle.sfc_image.specs.Changes.{Change};
 ghost use Rattle.sfc_instance.specs.declared.scan_fault.ScanFault.{ScanFault};
-ghost use Rattle.sfc_instance.specs.Life.{InstanceState, latest_instant};
+ghost use Rattle.sfc_instance.specs.declared.fault_place.FaultPlace.{FaultPlace};
+ghost use Rattle.sfc_instance.specs.FaultPlaces.{IsFoundAt};
+ghost use Rattle.sfc_instance.specs.Life.{InstanceState, fresh, latest_instant};
 ghost use Rattle.sfc_image.specs.Types.{BeginsTyped, GivesType};
 ghost use Rattle.sfc_instance.specs.ProgramScan.{after_scan, environment};
 ghost use Rattle.sfc_instance.specs.Types.{IsTypedInstance, IsInstant, AreInstants};
@@ -34,6 +36,24 @@ pub fn nothing_stays_of_a_fault()
     ensures variables { (plant : PlantData) (p : ProgId) (instance_state : InstanceState) (changes : List Change) (t : ℤ) (f : ScanFault) →
         (after_scan plant p instance_state changes t).instance_state.fault ≡ Some f →
         (after_scan plant p instance_state changes t).changes ≡ changes }
+{}
+
+/// A place stands exactly where a fault does: at the opening and after a reset, and after a scan where it did before it.
+pub fn placed()
+    ensures fresh { is_some fresh.place ≡ is_some fresh.fault }
+    ensures scan { (plant : PlantData) (p : ProgId) (instance_state : InstanceState) (changes : List Change) (t : ℤ) →
+        is_some instance_state.place ≡ is_some instance_state.fault →
+        is_some (after_scan plant p instance_state changes t).instance_state.place
+        ≡ is_some (after_scan plant p instance_state changes t).instance_state.fault }
+{}
+
+/// At the place of a scan's fault that fault is found again: in the condition of an enabled transition, in the control block of an
+/// action, or in a statement of a body that is executed over what the actions before it left (2.6.3, 2.6.4.1, 2.6.4.5).
+pub fn found_again()
+    ensures { (plant : PlantData) (p : ProgId) (instance_state : InstanceState) (changes : List Change) (t : ℤ) (f : ScanFault) →
+        instance_state.fault ≡ None → (after_scan plant p instance_state changes t).instance_state.fault ≡ Some f →
+        (there : FaultPlace) × ((after_scan plant p instance_state changes t).instance_state.place ≡ Some there)
+        × IsFoundAt plant p instance_state.life changes t there f }
 {}
 
 /// A scan gives each variable that it writes a value of its type, where all that was given before was so, the actions
@@ -53,8 +73,8 @@ pub fn faulted_instance_stays()
         instance_state.fault ≡ Some f → (after_scan plant p instance_state changes t).instance_state ≡ instance_state }
 {}
 
-/// A scan handles at most eight times the steps, transitions, links, associations and actions of the chart, twice the
-/// variables of the plant, and each node of its conditions and bodies once, whatever came before it.
+/// A scan handles at most eight times the steps, transitions, links and associations of the chart, ten times its actions, twice the
+/// variables of the plant, each node of its conditions once, and each of its bodies twice, whatever came before it.
 pub fn bounded_scan()
     ensures { (chart : Chart) (variables : ℕ) → scan_work (tables_of chart) chart variables ≤ scan_limit chart variables }
 {}
@@ -129,4 +149,6 @@ pub fn past_answers()
         instance_past tables instance_state ≡ instance_past tables other → scan_count instance_state ≡ scan_count other }
     ensures fault { (tables : Tabled) (instance_state other : InstanceState) →
         instance_past tables instance_state ≡ instance_past tables other → instance_state.fault ≡ other.fault }
+    ensures place { (tables : Tabled) (instance_state other : InstanceState) →
+        instance_past tables instance_state ≡ instance_past tables other → instance_state.place ≡ other.place }
 {}

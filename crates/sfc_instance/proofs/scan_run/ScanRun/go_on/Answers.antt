@@ -16,7 +16,8 @@ returns-in-Err-clause-agrees c plant life changes context state h =
     let agreed = c.follow.ensures.agrees life state in
     let fault_is : result_err c.advance.result ≡ control.first_fault tables (control_scans tables (row ∷ life)) =
     simp (to_z-of_z, c.ranges.t) at (c.advance.ensures.fault life state) in
-    control_ends plant c.args.context context life changes c.args.t row c.in-Err.fault c.swap.new.x c.args.image.now
+    control_ends plant c.args.context context life changes c.args.t row (record { action = c.in-Err.action; fault = c.in-Err.fault }) c.swap.new.x
+    c.args.image.now
     (ap result_err (sym c.in-Err.is) ∙ fault_is) (subst (λ (x : State). StateAgrees tables x life) (sym c.swap.ensures.x_after) agreed) h
 
 pub returns-in-Err-finish-clause-agrees : goal.returns-in-Err-finish-clause-agrees
@@ -30,7 +31,7 @@ returns-in-Err-finish-clause-agrees c plant life changes context state h =
     let advanced : StateAgrees tables c.advance.new.self (row ∷ life) =
     simp (to_z-of_z, c.ranges.t) at (on_ok c.advance.result _ on c.advance.ensures.agrees life state) in
     body_ends plant c.args.context context life changes c.args.t row c.in-Err-finish.fault c.finish.result c.follow.new.self c.finish.new.self.now
-    c.finish.new.image (ap result_err (sym c.in-Ok.is) ∙ fault_is) c.in-Err-finish.is (c.finish.ensures.now (row ∷ life) advanced)
+    c.finish.new.image c.finish.new.self.place (ap result_err (sym c.in-Ok.is) ∙ fault_is) c.in-Err-finish.is (c.finish.ensures.now (row ∷ life) advanced)
     (simp (to_z-of_z, c.ranges.t) at (c.finish.ensures.agrees plant (row ∷ life) changes context advanced h)) agreed
 
 pub returns-in-Ok-finish-clause-agrees : goal.returns-in-Ok-finish-clause-agrees
@@ -44,5 +45,5 @@ returns-in-Ok-finish-clause-agrees c plant life changes context state h =
     let advanced : StateAgrees tables c.advance.new.self (row ∷ life) =
     simp (to_z-of_z, c.ranges.t) at (on_ok c.advance.result _ on c.advance.ensures.agrees life state) in
     ends_well plant c.args.context context life changes c.args.t row c.in-Ok-finish.field-0 c.finish.result c.follow.new.self c.finish.new.self.now
-    c.finish.new.image (ap result_err (sym c.in-Ok.is) ∙ fault_is) c.in-Ok-finish.is (c.finish.ensures.now (row ∷ life) advanced)
+    c.finish.new.image c.finish.new.self.place (ap result_err (sym c.in-Ok.is) ∙ fault_is) c.in-Ok-finish.is (c.finish.ensures.now (row ∷ life) advanced)
     (simp (to_z-of_z, c.ranges.t) at (c.finish.ensures.agrees plant (row ∷ life) changes context advanced h))

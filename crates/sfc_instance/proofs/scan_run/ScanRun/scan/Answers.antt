@@ -15,8 +15,8 @@ returns-in-Err-clause-agrees c plant life changes context state h =
     c.read.ensures.fault plant life changes context state h
     ∙ ap (λ (x : ℤ). condition_fault tables c.args.context.chart.now (environment plant c.args.context.instance life changes x false) life tables.ranked)
     (to_z-of_z c.ranges.t) in
-    condition_ends plant c.args.context context life changes c.args.t (next_row plant c.args.context.instance life changes c.args.t) c.in-Err.fault
-    c.args.self.now.now c.args.image.now (ap result_err (sym c.in-Err.is) ∙ fault_is) state h
+    condition_ends plant c.args.context context life changes c.args.t (next_row plant c.args.context.instance life changes c.args.t)
+    (record { transition = c.in-Err.transition; fault = c.in-Err.fault }) c.args.self.now.now c.args.image.now (ap result_err (sym c.in-Err.is) ∙ fault_is) state h
 
 pub returns-in-Ok-clause-agrees : goal.returns-in-Ok-clause-agrees
 returns-in-Ok-clause-agrees c plant life changes context state h =
@@ -31,7 +31,7 @@ returns-in-Ok-clause-agrees c plant life changes context state h =
     ap (row_in c.read.new.self) (sym (to_z-of_z c.ranges.t)) ∙ on_ok c.read.result _ on c.read.ensures.row plant life changes context state h
     ∙ ap (next_row plant c.args.context.instance life changes) (to_z-of_z c.ranges.t) in
     let done = subst (λ (x : ℤ). HasScanned plant tables life changes (row_in c.read.new.self x) c.go_on.new.self.now c.go_on.new.image c.go_on.result
-    (with_row plant c.args.context.instance life changes x (row_in c.read.new.self x))) (to_z-of_z c.ranges.t)
+    c.go_on.new.self.place (with_row plant c.args.context.instance life changes x (row_in c.read.new.self x))) (to_z-of_z c.ranges.t)
     (c.go_on.ensures.agrees plant life changes context state h) in
-    goes_on plant c.args.context context life changes c.args.t (row_in c.read.new.self c.args.t) c.go_on.result c.go_on.new.self.now c.go_on.new.image
+    goes_on plant c.args.context context life changes c.args.t (row_in c.read.new.self c.args.t) c.go_on.result c.go_on.new.self.place c.go_on.new.self.now c.go_on.new.image
     (ap result_err (sym c.in-Ok.is) ∙ fault_is) row done
