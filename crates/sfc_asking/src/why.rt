@@ -3,10 +3,11 @@
 use crate::note::{append_named, append_note};
 use crate::operands::append_operands;
 use crate::sfc_core::resource::Resource;
+use crate::sfc_instance::fault_place::FaultPlace;
 use crate::sfc_instance::program_view::ProgramView;
 use crate::sfc_instance::scan_fault::ScanFault;
 use crate::sfc_list::list_expr::list_expr;
-use sfc_base::ids::{ProgId, TransitionId};
+use sfc_base::ids::{ActionNumber, ProgId, TransitionId};
 use sfc_base::references::StepId;
 use sfc_base::ticks::Ticks;
 use sfc_expr::eval::eval;
@@ -209,7 +210,54 @@ fn append_none(out: &mut Vec<u8>, asked: &Asked<'_>) -> Result<(), AllocError> {
     append_initial(out, asked)
 }
 
-// That an instance stands faulted, where it does.
+// In which condition a fault is.
+fn append_condition_place(
+    out: &mut Vec<u8>,
+    asked: &Asked<'_>,
+    transition: TransitionId,
+) -> Result<(), AllocError> {
+    append(out, b" in the condition of TRANSITION ")?;
+    append_number(out, u64::from(transition.0).saturating_add(1))?;
+    let transitions = asked.program_type.chart.transitions.as_slice();
+    match transitions.get(usize::from(transition.0)) {
+        Some(transition) => append_name(out, transition),
+        None => Ok(()),
+    }
+}
+
+// In which control block a fault is.
+fn append_block_place(
+    out: &mut Vec<u8>,
+    asked: &Asked<'_>,
+    action: ActionNumber,
+) -> Result<(), AllocError> {
+    append(out, b" in the control of action ")?;
+    if action.0 < asked.view.actions() {
+        let target = asked.view.tables().target(action);
+        append(out, asked.names.target(target))?;
+    }
+    Ok(())
+}
+
+// Where a fault is.
+fn append_place(
+    out: &mut Vec<u8>,
+    asked: &Asked<'_>,
+    place: FaultPlace,
+) -> Result<(), AllocError> {
+    match place {
+        FaultPlace::Transition(transition) => append_condition_place(out, asked, transition),
+        FaultPlace::Action(action) => append_block_place(out, asked, action),
+        FaultPlace::Statement { action, statement } => {
+            append(out, b" in statement ")?;
+            append_number(out, (statement as u64).saturating_add(1))?;
+            append(out, b" of action ")?;
+            append(out, asked.names.action(action))
+        }
+    }
+}
+
+// That an instance stands faulted, where it does, and where the fault is.
 fn append_fault(out: &mut Vec<u8>, asked: &Asked<'_>) -> Result<(), AllocError> {
     let Some(fault) = asked.view.fault() else {
         return Ok(());
@@ -219,6 +267,9 @@ fn append_fault(out: &mut Vec<u8>, asked: &Asked<'_>) -> Result<(), AllocError> 
     append(out, name)?;
     append(out, b" ended with ")?;
     append(out, fault.name())?;
+    if let Some(place) = asked.view.fault_place() {
+        append_place(out, asked, place)?;
+    }
     append(out, b", and isn't scanned until RESET ")?;
     append(out, name)?;
     append(out, b"\n")
@@ -275,8 +326,8 @@ fn append_one(
 
 /// Puts at the end why transitions aren't cleared: of one of a program instance, by its name or number, or where none is given of each that has
 /// an active step before it, of one instance or of all. Of each it tells which steps before it are active, its condition, what that evaluates
-/// to, and what it reads, with the times of steps as of the latest scan. Of an instance that ended with a fault, had no scan in its life, or
-/// has no such transition, that is told. The one error is that memory was refused.
+/// to, and what it reads, with the times of steps as of the latest scan. Of an instance that ended with a fault it is told where that is; of one
+/// that had no scan in its life, or has no such transition, that. The one error is that memory was refused.
 pub fn append_why(
     alloc: Global,
     out: &mut Vec<u8>,

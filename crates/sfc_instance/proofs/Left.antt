@@ -47,7 +47,7 @@ kept_so plant changes image wanted (Err f) place acted there =
     let kind = acted.1.1.0 in (
       record {
         there = stop.place;
-        place = there refl ∙ ap place_of acted.1.0;
+        kept = there refl ∙ ap place_of acted.1.0;
         fault = acted.1.0 ∙ (λ i. Err (record { fault = kind i; place = stop.place }));
       },
       acted.1.1.1,

@@ -71,7 +71,7 @@ HasActed plant before image answer wanted = Leaves plant before image answer wan
 -- this fault is wanted, at this place
 pub record IsStop (f : ScanFault) (place : Option FaultPlace) (wanted : Result (List Change) PlacedFault) : Type 0 where
   pub there : FaultPlace
-  pub place : place ≡ Some there
+  pub kept : place ≡ Some there
   pub fault : wanted ≡ Err (record { fault = f; place = there })
 
 -- the same, where the place of a fault is kept

@@ -92,7 +92,7 @@ returns-in-Err-clause-program c plant instance_state changes context agrees h =
       scans = agrees.scans ∙ ap scan_count after;
       at = agrees.at ∙ ap (λ (s : InstanceState). latest_instant s.life) after;
       fault = ap (λ (s : InstanceState). s.fault) after;
-      place = done.0.place ∙ ap (λ (s : InstanceState). s.place) after;
+      place = done.0.kept ∙ ap (λ (s : InstanceState). s.place) after;
     }
 
 pub returns-in-Err-clause-image : goal.returns-in-Err-clause-image
